@@ -43,3 +43,6 @@ impl<T: Drop> From<AllocFailed<T>> for NoMemory {
         NoMemory
     }
 }
+
+#[cfg(test)]
+mod tests;
