@@ -1,0 +1,63 @@
+#!/bin/sh
+# Checks the built program as a user meets it: words, exit status, faults of the real streams and files.
+# usage: tests/program.sh [PROGRAM]
+here=$(dirname "$(readlink -f "$0")")
+program=${1:-$here/../saber}
+case $program in /*) ;; *) program=$(pwd)/$program ;; esac
+work=$(mktemp -d) || exit 1
+trap 'rm -rf "$work"' EXIT
+cd "$work" || exit 1
+printf 'int main(void) { return 7; }\n' > m.c
+mkdir d.c
+passed=0
+failed=0
+
+# expect NAME STATUS OUTPUT: the last run ended with this status and wrote this
+expect() {
+    if [ "$code" = "$2" ] && [ "$(cat out)" = "$3" ]; then
+        passed=$((passed + 1))
+    else
+        failed=$((failed + 1))
+        echo "FAIL $1: status $code, wanted $2"
+        diff out - <<TEXT | head -n 5
+$3
+TEXT
+    fi
+}
+
+run() {
+    "$program" "$@" > out 2> err
+    code=$?
+}
+
+printf 'load m\nrun\nquit\nrun\n' | { run; echo "$code" > code; }
+code=$(cat code)
+expect session 0 '> loaded m
+> exit 7
+> bye'
+printf 'load d\nload absent\n\0\nload m\r\n' | { run; echo "$code" > code; }
+code=$(cat code)
+expect 'a directory, a missing file, a NUL byte and CR LF' 0 '> refused C15 d.c
+> refused C8 absent.c
+> refused C1
+> loaded m'
+run --version < /dev/null
+expect version 0 'saber 0.1.0'
+run --nothing < /dev/null
+expect 'bad words' 2 ''
+run --help --version < /dev/null
+expect 'two words' 2 ''
+printf 'run\n' | { "$program" > /dev/full 2> err; echo $? > code; }
+code=$(cat code)
+: > out
+expect 'a full disk' 4 ''
+yes run | head -n 200000 | { "$program" 2> err; echo $? > code; } | head -n 1 > out
+code=$(cat code)
+expect 'a closed pipe' 4 '> refused C13'
+head -c 1048577 /dev/zero | { run; echo "$code" > code; }
+code=$(cat code)
+expect 'a long line' 5 ''
+run --help < /dev/null
+[ "$code" = 0 ] && grep -q '^usage: saber' out && passed=$((passed + 1)) || failed=$((failed + 1))
+echo "$passed passed, $failed failed"
+[ "$failed" = 0 ]
