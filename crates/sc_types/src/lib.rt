@@ -1,6 +1,12 @@
-//! The types of C, their sizes and places, and which of them are compatible.
+//! The types of C, their sizes and places, the types of conversions, and which types are compatible.
 #![tactic(auto)]
 
+mod convert;
 mod ctype;
+mod frame;
+mod layout;
 
+pub use convert::{promote, usual};
 pub use ctype::{CType, Member, Signature, StructDef, Structs};
+pub use frame::{MAX_FRAME, frame_cost};
+pub use layout::Layout;
