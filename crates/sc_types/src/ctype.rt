@@ -40,9 +40,6 @@ pub struct StructDef {
     pub members: Option<Items<Member>>,
 }
 
-/// The structures of a translation unit; the place of each is its number.
-pub type Structs = Items<StructDef>;
-
 impl Duplicate for CType {
     fn copy(&self, _: Global) -> Result<CType, NoMemory> {
         match self {

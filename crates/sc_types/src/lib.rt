@@ -5,8 +5,10 @@ mod convert;
 mod ctype;
 mod frame;
 mod layout;
+mod structs;
 
 pub use convert::{promote, usual};
-pub use ctype::{CType, Member, Signature, StructDef, Structs};
+pub use ctype::{CType, Member, Signature, StructDef};
 pub use frame::{MAX_FRAME, frame_cost};
-pub use layout::Layout;
+pub use layout::{Layout, MAX_OBJECT, int_size};
+pub use structs::Structs;
