@@ -1,2 +1,3 @@
 mod Layouts
 mod Tables
+mod Sizes

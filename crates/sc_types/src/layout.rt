@@ -1,5 +1,5 @@
 // The size and alignment of objects (ANSI 3.3.3.4, 3.5.2.1; ILP32).
-ghost use Rattle.std.specs.Prelude.{◌≡◌, ◌≤◌, ◌<◌, ◌+◌, ◌%◌, ◌*◌, IsTrue, IfSome, ForSome, is_some, length, slice_get, All};
+ghost use Rattle.std.specs.Prelude.{◌≡◌, ◌≤◌, ◌<◌, ◌+◌, ◌%◌, ◌*◌, Some, IsTrue, IfSome, is_some, length, slice_get, All};
 ghost use Rattle.sc_types.specs.Layouts as spec;
 ghost use Rattle.sc_types.specs.Tables as table;
 
@@ -56,7 +56,7 @@ pub(crate) fn within(layout: Layout) -> Option<Layout>
 fn repeated(element: Layout, length: u32) -> Option<Layout>
     requires { table.IsSmall element }
     ensures same { result ≡ table.within (spec.repeated length (Some element)) }
-    ensures small { ForSome result (λ l. table.IsSmall l) }
+    ensures small { IfSome result (λ l. table.IsSmall l) }
 {
     if length == 0 {
         return None;
@@ -66,4 +66,57 @@ fn repeated(element: Layout, length: u32) -> Option<Layout>
         size,
         align: element.align,
     })
+}
+
+/// The layout of an object of type `t`, where the type is complete and its objects are not too large.
+fn sized(t: &CType, s: &Structs) -> Option<Layout>
+    ensures same { result ≡ table.within (spec.layout_in s.now t.now) }
+    ensures small { IfSome result (λ l. table.IsSmall l) }
+{
+    match t {
+        CType::Void(_) | CType::Function(_) => None,
+        CType::Int(kind, _) => Some(scalar(int_size(*kind))),
+        CType::Pointer(_, _) => Some(scalar(4)),
+        CType::Array(element, length) => match sized(element.get(), s) {
+            Some(layout) => repeated(layout, *length),
+            None => None,
+        },
+        CType::Struct(id, _) => s.layout(*id),
+    }
+}
+
+/// Whether `t` is a complete object type (ANSI 3.1.2.5) whose objects have at most `MAX_OBJECT` bytes.
+pub fn is_object(t: &CType, s: &Structs) -> bool
+    ensures { result ≡ table.is_object s.now t.now }
+{
+    sized(t, s).is_some()
+}
+
+/// The layout of a complete object type.
+fn layout_of(t: &CType, s: &Structs) -> Layout
+    requires { IsTrue (table.is_object s.now t.now) }
+    ensures same { spec.layout_in s.now t.now ≡ Some result }
+    ensures small { table.IsSmall result }
+{
+    match sized(t, s) {
+        Some(layout) => layout,
+        None => unreachable!(),
+    }
+}
+
+/// The bytes of an object of type `t` (ANSI 3.3.3.4).
+pub fn size_of(t: &CType, s: &Structs) -> u32
+    requires { IsTrue (table.is_object s.now t.now) }
+    ensures same { result ≡ spec.size_in s.now t.now }
+    ensures few { result ≤ MAX_OBJECT }
+{
+    layout_of(t, s).size
+}
+
+/// The number of which the address of an object of type `t` is a multiple: 1, 2 or 4.
+pub fn align_of(t: &CType, s: &Structs) -> u32
+    requires { IsTrue (table.is_object s.now t.now) }
+    ensures { result ≡ spec.align_in s.now t.now }
+{
+    layout_of(t, s).align
 }

@@ -1,5 +1,6 @@
 // The structures of a translation unit, with their layouts.
-ghost use Rattle.std.specs.Prelude.{◌≡◌, ◌++◌, ◌∷◌, [], None, List, length, slice_get, slice_index_or, OnOk, OnErr};
+ghost use Rattle.std.specs.Prelude.{◌≡◌, ◌++◌, ◌∷◌, [], None, List, length, slice_get, slice_index_or, OnOk, OnErr, IfSome};
+ghost use Rattle.sc_types.specs.Layouts.{structure_layout};
 ghost use Rattle.sc_types.specs.Tables as spec;
 
 use crate::{Layout, StructDef};
@@ -66,5 +67,15 @@ impl Structs {
         self.layouts.push(None)?;
         self.defs.push(StructDef { tag, members: None })?;
         Ok(())
+    }
+}
+
+impl Structs {
+    /// The layout of a structure, where it is complete.
+    pub(crate) fn layout(&self, id: u32) -> Option<Layout>
+        ensures same { result ≡ structure_layout (length self.now) self.now id }
+        ensures small { IfSome result (λ l. spec.IsSmall l) }
+    {
+        entry(self.layouts.as_slice(), id)
     }
 }
