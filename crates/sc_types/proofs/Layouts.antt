@@ -21,7 +21,7 @@ repeated-kept n None p k l e = cc
 repeated-kept n (Some m) p k l e = rw (k m refl) e
 
 -- one level, with the layouts of its parts
-abbrev opened : (ℕ → Option Layout) → CType-F CType Signature → Option Layout
+abbrev pub opened : (ℕ → Option Layout) → CType-F CType Signature → Option Layout
 opened f x = layer f (map-CType CType Signature (Option Layout) (Unit {0}) (layout_by f) (fold-Signature (Option Layout) (Unit {0}) (layer f) (λ _. tt)) x)
 
 module _ (f g : ℕ → Option Layout) (fg : Extends ℕ f g) where

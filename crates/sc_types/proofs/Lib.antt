@@ -1,3 +1,4 @@
 mod Layouts
 mod Tables
 mod Sizes
+mod Members

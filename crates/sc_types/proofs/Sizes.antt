@@ -11,14 +11,14 @@ use Rattle.sc_types.specs.declared.ctype.CType.TheOpen.{CType-F}
 use Rattle.sc_types.specs.Layouts.{repeated, layer, layout_in, structure_layout}
 use Rattle.sc_types.specs.Tables.{largest, within}
 
-kept_or_none : (l : Layout) → ((l.size ≤ largest) × (within (Some l) ≡ Some l)) ⊎ ((largest < l.size) × (within (Some l) ≡ None))
+pub kept_or_none : (l : Layout) → ((l.size ≤ largest) × (within (Some l) ≡ Some l)) ⊎ ((largest < l.size) × (within (Some l) ≡ None))
 kept_or_none l = elim (nat_le l.size largest) as (λ (b : Bool). nat_le l.size largest ≡ b → ((l.size ≤ largest) × ((if b then Some l else None) ≡ Some l)) ⊎ ((largest < l.size) × ((if b then Some l else None) ≡ None)))
     [ true ↦ (λ e. inl (grind (arith, nat_tests), refl)) | false ↦ (λ e. inr (grind (arith, nat_tests), refl)) ] refl
 
 larger : (a n : ℕ) → largest < a → 0 < n → largest < a * n
 larger a n h p = let one : a * 1 ≤ a * n = mul-le-mul_left a (let w : 1 ≤ n = omega arith in w) in omega (arith, one)
 
-too_large : (l : Layout) → largest < l.size → None ≡ within (Some l)
+pub too_large : (l : Layout) → largest < l.size → None ≡ within (Some l)
 too_large l h = ⊎_elim (λ m. absurd (let g = m.0 in omega arith)) (λ m. sym m.1) (kept_or_none l)
 
 -- an array of objects that are too large is too large

@@ -44,3 +44,8 @@ layout_of_members structs ms = within (structure (layout_in structs) (record { t
 
 abbrev pub all_objects : List StructDef → List Member → Bool
 all_objects structs ms = list_all (λ m. is_object structs m.of) ms
+
+-- a structure that is there, and still without members
+abbrev pub IsIncomplete : Option StructDef → Type 0
+IsIncomplete None = ⊥
+IsIncomplete (Some d) = d.members ≡ None

@@ -120,3 +120,46 @@ pub fn align_of(t: &CType, s: &Structs) -> u32
 {
     layout_of(t, s).align
 }
+
+/// Whether `t` is complete (ANSI 3.1.2.5), so that an object of it has a size.
+pub fn is_complete(t: &CType, s: &Structs) -> bool
+    ensures { result ≡ is_some (spec.layout_in s.now t.now) }
+{
+    match t {
+        CType::Void(_) | CType::Function(_) => false,
+        CType::Int(_, _) | CType::Pointer(_, _) => true,
+        CType::Array(element, length) => *length != 0 && is_complete(element.get(), s),
+        CType::Struct(id, _) => s.layout(*id).is_some(),
+    }
+}
+
+/// One more member behind those that end at `before.size`.
+fn joined(before: Layout, own: Layout) -> Layout
+    requires before { table.IsSmall before }
+    requires own { table.IsSmall own }
+    ensures { result ≡ spec.joined before own }
+{
+    Layout {
+        size: rounded(before.size, own.align) + own.size,
+        align: before.align.max(own.align),
+    }
+}
+
+/// The layout of a structure with these members, where it is not too large.
+pub(crate) fn ended(members: &[Member], s: &Structs) -> Option<Layout>
+    requires { IsTrue (table.all_objects s.now members.now) }
+    ensures same { result ≡ table.layout_of_members s.now members.now }
+    ensures small { IfSome result (λ l. table.IsSmall l) }
+{
+    let mut end = Layout { size: 0, align: 1 };
+    for member in members {
+        end = joined(end, layout_of(&member.of, s));
+        if end.size > MAX_OBJECT {
+            return None;
+        }
+    }
+    within(Layout {
+        size: rounded(end.size, end.align),
+        align: end.align,
+    })
+}

@@ -1,9 +1,12 @@
 // The structures of a translation unit, with their layouts.
-ghost use Rattle.std.specs.Prelude.{◌≡◌, ◌++◌, ◌∷◌, [], None, List, length, slice_get, slice_index_or, OnOk, OnErr, IfSome};
+ghost use Rattle.std.specs.Prelude.{◌≡◌, ◌++◌, ◌∷◌, [], None, List, length, slice_get, slice_index_or, slice_set, is_some, Some, IsTrue, OnOk, OnErr, IfSome};
+ghost use Rattle.std.specs.Bool.{OnTrue, OnFalse};
+ghost use Rattle.sc_types.specs.declared.ctype.StructDef.{StructDef};
 ghost use Rattle.sc_types.specs.Layouts.{structure_layout};
 ghost use Rattle.sc_types.specs.Tables as spec;
 
-use crate::{Layout, StructDef};
+use crate::layout::ended;
+use crate::{Layout, Member, StructDef};
 use sc_base::{Items, Name, NoMemory};
 use std::alloc::Global;
 use std::marker::Model;
@@ -11,7 +14,7 @@ use std::marker::Model;
 /// The structures of a translation unit, seen as the list of them; the place of each is its number.
 #[derive(Drop)]
 pub struct Structs {
-    defs: Items<StructDef>,
+    defs: Vec<StructDef>,
     layouts: Vec<Option<Layout>>,
 }
 
@@ -27,9 +30,9 @@ impl Model for Structs {
 
     ghost use Rattle.sc_types.specs.Tables.{IsTable};
 
-    ghost view = { λ s. s.defs };
+    ghost view = { λ s. s.defs.items };
 
-    ghost invariant = { λ s. IsTable s.defs s.layouts.items };
+    ghost invariant = { λ s. IsTable s.defs.items s.layouts.items };
 }
 
 fn entry(layouts: &[Option<Layout>], id: u32) -> Option<Layout>
@@ -47,7 +50,7 @@ impl Structs {
         ensures { result ≡ [] }
     {
         Structs {
-            defs: Items::new(alloc),
+            defs: Vec::new(alloc),
             layouts: Vec::new(alloc),
         }
     }
@@ -77,5 +80,23 @@ impl Structs {
         ensures small { IfSome result (λ l. spec.IsSmall l) }
     {
         entry(self.layouts.as_slice(), id)
+    }
+
+    /// Gives an incomplete structure its members (ANSI 3.5.2.1), whose types are complete object types. Where it would
+    /// be larger than `MAX_OBJECT` bytes the answer is false, and the table stays.
+    pub fn complete(&mut self, id: u32, members: Items<Member>) -> bool
+        requires incomplete { spec.IsIncomplete (slice_get self.old id) }
+        requires objects { IsTrue (spec.all_objects self.old members) }
+        ensures fits { result ≡ is_some (spec.layout_of_members self.old members) }
+        ensures done { OnTrue result ((d : StructDef) → slice_get self.old id ≡ Some d → self.new ≡ slice_set self.old id (record d { members = Some members })) }
+        ensures kept { OnFalse result (self.new ≡ self.old) }
+    {
+        let Some(layout) = ended(members.as_slice(), self) else {
+            return false;
+        };
+        self.layouts[id as usize] = Some(layout);
+        let def = &mut self.defs[id as usize];
+        def.members = Some(members);
+        true
     }
 }

@@ -4,8 +4,8 @@ use Rattle.sc_types.proofs.structs.Structs.declare.Goals as goal
 
 pub invariant_of-self-in_err-push-2 : goal.invariant_of-self-in_err-push-2
 invariant_of-self-in_err-push-2 c =
-    rw (c.in_err-push-2.ensures.err, c.in_ok-push.ensures.items) (table_room c.self.inside.defs c.self.inside.layouts.items c.self.invariant)
+    rw (c.in_err-push-2.ensures.items, c.in_ok-push.ensures.items) (table_room c.self.inside.defs.items c.self.inside.layouts.items c.self.invariant)
 
 pub invariant_of-self-2 : goal.invariant_of-self-2
 invariant_of-self-2 c =
-    rw (c.in_ok-push-2.ensures.ok, c.in_ok-push.ensures.items) (table_declare c.self.inside.defs c.self.inside.layouts.items _ refl c.self.invariant)
+    rw (c.in_ok-push-2.ensures.items, c.in_ok-push.ensures.items) (table_declare c.self.inside.defs.items c.self.inside.layouts.items _ refl c.self.invariant)

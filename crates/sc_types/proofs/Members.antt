@@ -1,0 +1,118 @@
+-- Members one behind another: they end no earlier as more are joined.
+use Rattle.std.proofs.Common.{◌≡◌, ℕ, zero, suc, ◌+◌, ◌-◌, ◌*◌, ◌/◌, ◌%◌, ◌≤◌, ◌<◌, Bool, true, false, cond, List, [], ◌∷◌, length, drop, Option, Some, None, refl, sym, ◌∙◌, ap, subst, arith, get_or}
+use Rattle.std.specs.Prelude.{◌&&◌, max, ◌==◌, nat_le, if◌then◌else◌, option_and_then, option_map, slice_get}
+use Rattle.sc_types.specs.declared.ctype.CType.{CType, fold-CType, fold-roll-CType, ind-CType, roll-CType, map-CType}
+use Rattle.sc_types.specs.declared.ctype.Signature.{Signature, fold-Signature}
+use Rattle.sc_types.specs.declared.ctype.CType.TheOpen.{CType-F}
+use Rattle.sc_types.specs.declared.ctype.Member.{Member}
+use Rattle.sc_types.specs.declared.ctype.StructDef.{StructDef}
+use Rattle.sc_types.specs.declared.layout.Layout.{Layout}
+use Rattle.sc_base.specs.declared.integer.Int.{Int}
+use Rattle.sc_base.specs.declared.integer.Int.TheVariants as int
+use Rattle.sc_types.specs.Layouts.{int_size, layer, layout_by, layout_in, repeated, rounded, members_from, joined, beginning, padded, structure, structure_layout}
+use Rattle.sc_types.specs.Tables.{largest, within, layout_of_members, all_objects, is_object, IsSmall}
+use Rattle.sc_types.proofs.Layouts.{bound, structure-laid, opened}
+use Rattle.std.proofs.Math.Numerals.{add-one}
+use Rattle.std.proofs.Math.Seq.{drop-cons}
+use Rattle.sc_types.proofs.Sizes.{too_large}
+
+pub rounded-above : (place align : ℕ) → 1 ≤ align → place ≤ rounded place align
+rounded-above place align h =
+    let w : align * ((place + (align - 1)) / align) + (place + (align - 1)) % align ≡ place + (align - 1) = omega arith in
+    let v : (place + (align - 1)) % align < align = omega arith in
+    omega (arith, w, v)
+
+-- each layout has an alignment
+abbrev pub Aligned : Option Layout → Type 0
+Aligned o = (l : Layout) → o ≡ Some l → 1 ≤ l.align
+
+int-aligned : (i : Int) → 1 ≤ int_size i
+int-aligned int.Char = omega arith
+int-aligned int.SChar = omega arith
+int-aligned int.UChar = omega arith
+int-aligned int.Short = omega arith
+int-aligned int.UShort = omega arith
+int-aligned _ = omega arith
+
+some-aligned : (m : Layout) → 1 ≤ m.align → Aligned (Some m)
+some-aligned m h l e = let same : m ≡ l = cc in subst (λ (k : Layout). 1 ≤ k.align) same h
+
+repeated-aligned : (n : ℕ) (o : Option Layout) → Aligned o → Aligned (repeated n o)
+repeated-aligned n None h = h
+repeated-aligned n (Some m) h = elim (n == 0) as (λ (b : Bool). Aligned (if b then None else Some (record { size = m.size * n; align = m.align })))
+    [ true ↦ (λ l e. cc) | false ↦ some-aligned (record { size = m.size * n; align = m.align }) (h m refl) ]
+
+module _ (f : ℕ → Option Layout) (fa : (id : ℕ) → Aligned (f id)) where
+  abbrev AlignedType : CType → Type 0
+  AlignedType t = Aligned (layout_by f t)
+
+  abbrev bare : CType-F ((t : CType) × AlignedType t) ((s : Signature) × Unit {0}) → CType-F CType Signature
+  bare y = map-CType ((t : CType) × AlignedType t) ((s : Signature) × Unit {0}) CType Signature (λ e. e.0) (λ e. e.0) y
+
+  opened-aligned : (y : CType-F ((t : CType) × AlignedType t) ((s : Signature) × Unit {0})) → Aligned (opened f (bare y))
+  opened-aligned (CType-F.Void c) = λ l h. cc
+  opened-aligned (CType-F.Int i c) = some-aligned (record { size = int_size i; align = int_size i }) (int-aligned i)
+  opened-aligned (CType-F.Pointer t c) = some-aligned (record { size = 4; align = 4 }) (omega arith)
+  opened-aligned (CType-F.Array e n) = repeated-aligned n (layout_by f e.0) e.1
+  opened-aligned (CType-F.Struct id c) = fa id
+  opened-aligned (CType-F.Function s) = λ l h. cc
+
+  pub layout_by-aligned : (t : CType) → Aligned (layout_by f t)
+  layout_by-aligned = ind-CType AlignedType (λ s. Unit {0})
+      (λ x y is l h. subst (λ (z : CType-F CType Signature). Aligned (opened f z)) is (opened-aligned y) l
+          (sym (fold-roll-CType (Option Layout) (Unit {0}) (layer f) (λ _. tt) x) ∙ h))
+      (λ x y is. tt)
+
+members_from-grows : (f : CType → Option Layout) → ((t : CType) → Aligned (f t)) → (ms : List Member) (b l : Layout) → 1 ≤ b.align → members_from f ms b ≡ Some l → (b.size ≤ l.size) × (1 ≤ l.align)
+members_from-grows f fa [] b l h e = let same : b ≡ l = cc in subst (λ (k : Layout). (b.size ≤ k.size) × (1 ≤ k.align)) same (omega arith, h)
+members_from-grows f fa (m ∷ ms) b l h e =
+    let r = bound (λ (own : Layout). members_from f ms (joined b own)) (f m.of) l e in
+    let own_aligned : 1 ≤ r.0.align = fa m.of r.0 r.1.0 in
+    let q = members_from-grows f fa ms (joined b r.0) l (let g : 1 ≤ max b.align r.0.align = omega arith in g) r.1.1 in
+    let above = rounded-above b.size r.0.align own_aligned in
+    (omega (arith, q.0, above), q.1)
+
+structure-aligned : (f : CType → Option Layout) → ((t : CType) → Aligned (f t)) → (d : StructDef) → Aligned (structure f d)
+structure-aligned f fa d l h =
+    let r = structure-laid f d l h in
+    let g = members_from-grows f fa r.members beginning r.end (omega arith) r.ends in
+    subst (λ (k : Layout). 1 ≤ k.align) r.whole g.1
+
+structure_layout-aligned : (structs : List StructDef) (n id : ℕ) → Aligned (structure_layout n structs id)
+structure_layout-aligned structs zero id l h = cc
+structure_layout-aligned structs (suc n) id l h =
+    let r = bound (structure (layout_by (structure_layout n structs))) (slice_get structs id) l h in
+    structure-aligned (layout_by (structure_layout n structs)) (layout_by-aligned (structure_layout n structs) (structure_layout-aligned structs n)) r.0 l r.1.1
+
+pub layout_in-aligned : (structs : List StructDef) (t : CType) → Aligned (layout_in structs t)
+layout_in-aligned structs = layout_by-aligned (structure_layout (length structs) structs) (structure_layout-aligned structs (length structs))
+
+-- where some members end too late, all do
+pub ends_too_late : (structs : List StructDef) (ms : List Member) (b : Layout) (all : Option Layout) → largest < b.size → 1 ≤ b.align → members_from (layout_in structs) ms b ≡ all → None ≡ within (option_map padded all)
+ends_too_late structs ms b None late al e = refl
+ends_too_late structs ms b (Some l) late al e =
+    let g = members_from-grows (layout_in structs) (layout_in-aligned structs) ms b l al e in
+    too_large (padded l) (omega (arith, g.0, rounded-above l.size l.align g.1))
+
+-- one step of a loop over members
+pub one_more : (structs : List StructDef) (ms : List Member) (i : ℕ) (m : Member) (b own : Layout) (all : Option Layout) → drop i ms ≡ m ∷ drop (i + 1) ms → layout_in structs m.of ≡ Some own
+    → members_from (layout_in structs) (drop i ms) b ≡ all → members_from (layout_in structs) (drop (i + 1) ms) (joined b own) ≡ all
+one_more structs ms i m b own all e o h =
+    let w : members_from (layout_in structs) (m ∷ drop (i + 1) ms) b ≡ all = subst (λ (xs : List Member). members_from (layout_in structs) xs b ≡ all) e h in
+    let v : option_and_then (λ (k : Layout). members_from (layout_in structs) (drop (i + 1) ms) (joined b k)) (Some own) ≡ all = subst (λ (p : Option Layout). option_and_then (λ (k : Layout). members_from (layout_in structs) (drop (i + 1) ms) (joined b k)) p ≡ all) o w in
+    v
+
+pub at_item : (ms : List Member) (i : ℕ) (m : Member) → i < length ms → m ≡ get_or ms i m → drop i ms ≡ m ∷ drop (i + 1) ms
+at_item ms i m h e = rw (add-one, drop-cons ms i m) (ap (λ (x : Member). x ∷ drop (suc i) ms) (sym e))
+
+and_right : (p q : Bool) → (p && q) ≡ true → q ≡ true
+and_right true q h = h
+and_right false q h = cc
+
+pub rest_objects : (structs : List StructDef) (ms : List Member) (i : ℕ) (m : Member) → drop i ms ≡ m ∷ drop (i + 1) ms → all_objects structs (drop i ms) ≡ true → all_objects structs (drop (i + 1) ms) ≡ true
+rest_objects structs ms i m e h = and_right (is_object structs m.of) (all_objects structs (drop (i + 1) ms)) (subst (λ (xs : List Member). all_objects structs xs ≡ true) e h)
+
+pub small_joined : (a b r : Layout) → IsSmall a → IsSmall b → r ≡ joined a b → r.size ≤ largest → IsSmall r
+small_joined a b r sa sb e h =
+    let w : r.align ≡ max a.align b.align = ap (λ (l : Layout). l.align) e in
+    record { size = h; some_align = omega (arith, w, sa.some_align, sb.some_align); align = omega (arith, w, sa.align, sb.align) }
