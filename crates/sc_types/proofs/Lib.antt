@@ -2,3 +2,4 @@ mod Layouts
 mod Tables
 mod Sizes
 mod Members
+mod Offsets

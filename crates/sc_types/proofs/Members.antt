@@ -1,6 +1,6 @@
 -- Members one behind another: they end no earlier as more are joined.
-use Rattle.std.proofs.Common.{◌≡◌, ℕ, zero, suc, ◌+◌, ◌-◌, ◌*◌, ◌/◌, ◌%◌, ◌≤◌, ◌<◌, Bool, true, false, cond, List, [], ◌∷◌, length, drop, Option, Some, None, refl, sym, ◌∙◌, ap, subst, arith, get_or}
-use Rattle.std.specs.Prelude.{◌&&◌, max, ◌==◌, nat_le, if◌then◌else◌, option_and_then, option_map, slice_get}
+use Rattle.std.proofs.Common.{◌≡◌, ℕ, zero, suc, ◌+◌, ◌-◌, ◌*◌, ◌/◌, ◌%◌, ◌≤◌, ◌<◌, Bool, true, false, cond, List, [], ◌∷◌, length, drop, Option, Some, None, refl, sym, ◌∙◌, ap, subst, arith, get_or, take, ◌⊎◌, ⊎_elim}
+use Rattle.std.specs.Prelude.{◌&&◌, is_some, max, ◌==◌, nat_le, if◌then◌else◌, option_and_then, option_map, slice_get}
 use Rattle.sc_types.specs.declared.ctype.CType.{CType, fold-CType, fold-roll-CType, ind-CType, roll-CType, map-CType}
 use Rattle.sc_types.specs.declared.ctype.Signature.{Signature, fold-Signature}
 use Rattle.sc_types.specs.declared.ctype.CType.TheOpen.{CType-F}
@@ -11,10 +11,10 @@ use Rattle.sc_base.specs.declared.integer.Int.{Int}
 use Rattle.sc_base.specs.declared.integer.Int.TheVariants as int
 use Rattle.sc_types.specs.Layouts.{int_size, layer, layout_by, layout_in, repeated, rounded, members_from, joined, beginning, padded, structure, structure_layout}
 use Rattle.sc_types.specs.Tables.{largest, within, layout_of_members, all_objects, is_object, IsSmall}
-use Rattle.sc_types.proofs.Layouts.{bound, structure-laid, opened}
+use Rattle.sc_types.proofs.Layouts.{Extends, Laid, bound, structure-laid, structure-kept, layout_by-kept, structure_layout-kept, opened}
 use Rattle.std.proofs.Math.Numerals.{add-one}
 use Rattle.std.proofs.Math.Seq.{drop-cons}
-use Rattle.sc_types.proofs.Sizes.{too_large}
+use Rattle.sc_types.proofs.Sizes.{too_large, kept_or_none}
 
 pub rounded-above : (place align : ℕ) → 1 ≤ align → place ≤ rounded place align
 rounded-above place align h =
@@ -63,7 +63,7 @@ module _ (f : ℕ → Option Layout) (fa : (id : ℕ) → Aligned (f id)) where
           (sym (fold-roll-CType (Option Layout) (Unit {0}) (layer f) (λ _. tt) x) ∙ h))
       (λ x y is. tt)
 
-members_from-grows : (f : CType → Option Layout) → ((t : CType) → Aligned (f t)) → (ms : List Member) (b l : Layout) → 1 ≤ b.align → members_from f ms b ≡ Some l → (b.size ≤ l.size) × (1 ≤ l.align)
+pub members_from-grows : (f : CType → Option Layout) → ((t : CType) → Aligned (f t)) → (ms : List Member) (b l : Layout) → 1 ≤ b.align → members_from f ms b ≡ Some l → (b.size ≤ l.size) × (1 ≤ l.align)
 members_from-grows f fa [] b l h e = let same : b ≡ l = cc in subst (λ (k : Layout). (b.size ≤ k.size) × (1 ≤ k.align)) same (omega arith, h)
 members_from-grows f fa (m ∷ ms) b l h e =
     let r = bound (λ (own : Layout). members_from f ms (joined b own)) (f m.of) l e in
@@ -88,11 +88,19 @@ pub layout_in-aligned : (structs : List StructDef) (t : CType) → Aligned (layo
 layout_in-aligned structs = layout_by-aligned (structure_layout (length structs) structs) (structure_layout-aligned structs (length structs))
 
 -- where some members end too late, all do
-pub ends_too_late : (structs : List StructDef) (ms : List Member) (b : Layout) (all : Option Layout) → largest < b.size → 1 ≤ b.align → members_from (layout_in structs) ms b ≡ all → None ≡ within (option_map padded all)
+pub ends_too_late : (structs : List StructDef) (ms : List Member) (b : Layout) (all : Option Layout) → largest < b.size → 1 ≤ b.align → members_from (layout_in structs) ms b ≡ all → None ≡ within all
 ends_too_late structs ms b None late al e = refl
 ends_too_late structs ms b (Some l) late al e =
     let g = members_from-grows (layout_in structs) (layout_in-aligned structs) ms b l al e in
-    too_large (padded l) (omega (arith, g.0, rounded-above l.size l.align g.1))
+    too_large l (omega (arith, g.0))
+
+-- what is too large is so with its padding
+pub padded_too_large : (structs : List StructDef) (ms : List Member) → None ≡ within (members_from (layout_in structs) ms beginning) → None ≡ layout_of_members structs ms
+padded_too_large structs ms h = elim (members_from (layout_in structs) ms beginning) as (λ (o : Option Layout). members_from (layout_in structs) ms beginning ≡ o → None ≡ within o → None ≡ within (option_map padded o))
+    [ None ↦ (λ e w. refl)
+    | (Some l) ↦ (λ e w. ⊎_elim (λ k. let v : None ≡ Some l = w ∙ k.1 in cc)
+        (λ k. let g = members_from-grows (layout_in structs) (layout_in-aligned structs) ms beginning l (omega arith) e in
+            too_large (padded l) (let a = rounded-above l.size l.align g.1 in let z = k.0 in omega (arith, a, z))) (kept_or_none l)) ] refl h
 
 -- one step of a loop over members
 pub one_more : (structs : List StructDef) (ms : List Member) (i : ℕ) (m : Member) (b own : Layout) (all : Option Layout) → drop i ms ≡ m ∷ drop (i + 1) ms → layout_in structs m.of ≡ Some own
@@ -105,6 +113,10 @@ one_more structs ms i m b own all e o h =
 pub at_item : (ms : List Member) (i : ℕ) (m : Member) → i < length ms → m ≡ get_or ms i m → drop i ms ≡ m ∷ drop (i + 1) ms
 at_item ms i m h e = rw (add-one, drop-cons ms i m) (ap (λ (x : Member). x ∷ drop (suc i) ms) (sym e))
 
+and_left : (p q : Bool) → (p && q) ≡ true → p ≡ true
+and_left true q h = refl
+and_left false q h = cc
+
 and_right : (p q : Bool) → (p && q) ≡ true → q ≡ true
 and_right true q h = h
 and_right false q h = cc
@@ -116,3 +128,42 @@ pub small_joined : (a b r : Layout) → IsSmall a → IsSmall b → r ≡ joined
 small_joined a b r sa sb e h =
     let w : r.align ≡ max a.align b.align = ap (λ (l : Layout). l.align) e in
     record { size = h; some_align = omega (arith, w, sa.some_align, sb.some_align); align = omega (arith, w, sa.align, sb.align) }
+
+-- a structure's own layout is that of its members in the whole table
+pub structure-members : (structs : List StructDef) (n id : ℕ) (l : Layout) → structure_layout n structs id ≡ Some l
+    → (d : StructDef) × ((slice_get structs id ≡ Some d) × Laid (layout_by (structure_layout n structs)) d l)
+structure-members structs zero id l h = cc
+structure-members structs (suc n) id l h =
+    let r = bound (structure (layout_by (structure_layout n structs))) (slice_get structs id) l h in
+    let more : Extends ℕ (structure_layout n structs) (structure_layout (suc n) structs) = structure_layout-kept structs structs (λ i d ms p q. (d, (p, q))) n (suc n) (omega arith) in
+    let whole = structure-kept (layout_by (structure_layout n structs)) (layout_by (structure_layout (suc n) structs)) (layout_by-kept (structure_layout n structs) (structure_layout (suc n) structs) more) r.0 r.0 l (λ ms e. e) r.1.1 in
+    (r.0, (r.1.0, structure-laid (layout_by (structure_layout (suc n) structs)) r.0 l whole))
+
+-- a front of members ends no later
+pub front : (f : CType → Option Layout) → ((t : CType) → Aligned (f t)) → (ms : List Member) (k : ℕ) (b l : Layout) → 1 ≤ b.align → members_from f ms b ≡ Some l
+    → (p : Layout) × ((members_from f (take k ms) b ≡ Some p) × (p.size ≤ l.size))
+front f fa [] zero b l h e = (b, (refl, let g = members_from-grows f fa [] b l h e in g.0))
+front f fa [] (suc k) b l h e = (b, (refl, let g = members_from-grows f fa [] b l h e in g.0))
+front f fa (m ∷ ms) zero b l h e = (b, (refl, let g = members_from-grows f fa (m ∷ ms) b l h e in g.0))
+front f fa (m ∷ ms) (suc k) b l h e =
+    let r = bound (λ (own : Layout). members_from f ms (joined b own)) (f m.of) l e in
+    let q = front f fa ms k (joined b r.0) l (let g : 1 ≤ max b.align r.0.align = omega (arith, h) in g) r.1.1 in
+    (q.0, (ap (option_and_then (λ (own : Layout). members_from f (take k ms) (joined b own))) r.1.0 ∙ q.1.0, q.1.1))
+
+small_object : (structs : List StructDef) (t : CType) (own : Layout) → layout_in structs t ≡ Some own → own.size ≤ largest → is_object structs t ≡ true
+small_object structs t own e h = ap (λ (o : Option Layout). is_some (within o)) e ∙ ⊎_elim (λ k. ap is_some k.1) (λ k. absurd (let z = k.0 in omega arith)) (kept_or_none own)
+
+-- the members of what is not too large are objects
+pub all_inside : (structs : List StructDef) (ms : List Member) (b l : Layout) → 1 ≤ b.align → members_from (layout_in structs) ms b ≡ Some l → l.size ≤ largest → all_objects structs ms ≡ true
+all_inside structs [] b l h e small = refl
+all_inside structs (m ∷ ms) b l h e small =
+    let r = bound (λ (own : Layout). members_from (layout_in structs) ms (joined b own)) (layout_in structs m.of) l e in
+    let a : 1 ≤ max b.align r.0.align = omega (arith, h) in
+    let g = members_from-grows (layout_in structs) (layout_in-aligned structs) ms (joined b r.0) l a r.1.1 in
+    let g0 = g.0 in
+    ap (λ (v : Bool). v && all_objects structs ms) (small_object structs m.of r.0 r.1.0 (omega (arith, g0, small))) ∙ all_inside structs ms (joined b r.0) l a r.1.1 small
+
+pub object_at : (structs : List StructDef) (ms : List Member) (k : ℕ) (m : Member) → k < length ms → m ≡ get_or ms k m → all_objects structs ms ≡ true → is_object structs m.of ≡ true
+object_at structs [] k m h e a = absurd (omega arith)
+object_at structs (x ∷ ms) zero m h e a = rw e (and_left (is_object structs x.of) (all_objects structs ms) a)
+object_at structs (x ∷ ms) (suc k) m h e a = object_at structs ms k m (omega arith) e (and_right (is_object structs x.of) (all_objects structs ms) a)

@@ -1,5 +1,5 @@
 -- The size and alignment of objects, and where members stand (ANSI 3.1.2.5, 3.3.3.4, 3.5.2.1; ILP32).
-use Rattle.std.specs.Prelude.{ℕ, zero, suc, ◌+◌, ◌-◌, ◌*◌, ◌/◌, ◌==◌, nat_le, max, Bool, if◌then◌else◌, List, [], ◌∷◌, length, slice_get, Option, Some, None, is_some, option_map, option_and_then, unwrap_or}
+use Rattle.std.specs.Prelude.{ℕ, zero, suc, ◌+◌, ◌-◌, ◌*◌, ◌/◌, ◌==◌, nat_le, max, Bool, if◌then◌else◌, List, [], ◌∷◌, length, take, slice_get, Option, Some, None, is_some, option_map, option_and_then, unwrap_or}
 use Rattle.sc_base.specs.declared.integer.Int.{Int}
 use Rattle.sc_base.specs.declared.integer.Int.TheVariants as int
 use Rattle.sc_types.specs.declared.ctype.CType.{CType, fold-CType}
@@ -79,3 +79,16 @@ size_in structs t = unwrap_or (option_map (λ l. l.size) (layout_in structs t)) 
 
 abbrev pub align_in : List StructDef → CType → ℕ
 align_in structs t = unwrap_or (option_map (λ l. l.align) (layout_in structs t)) 0
+
+-- the members of structure `id`, none while it is incomplete
+abbrev pub members_in : List StructDef → ℕ → List Member
+members_in structs id = unwrap_or (option_and_then (λ d. d.members) (slice_get structs id)) []
+
+-- where these members end, if they are the first of a structure
+abbrev pub end_in : List StructDef → List Member → ℕ
+end_in structs ms = unwrap_or (option_map (λ l. l.size) (members_from (layout_in structs) ms beginning)) 0
+
+-- a member stands at the least multiple of its alignment that is not below the end of the one before
+abbrev pub offset_in : List StructDef → ℕ → ℕ → ℕ
+offset_in structs id k =
+    unwrap_or (option_map (λ m. rounded (end_in structs (take k (members_in structs id))) (align_in structs m.of)) (slice_get (members_in structs id) k)) 0

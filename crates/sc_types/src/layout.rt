@@ -1,5 +1,5 @@
 // The size and alignment of objects (ANSI 3.3.3.4, 3.5.2.1; ILP32).
-ghost use Rattle.std.specs.Prelude.{◌≡◌, ◌≤◌, ◌<◌, ◌+◌, ◌%◌, ◌*◌, Some, IsTrue, IfSome, is_some, length, slice_get, All};
+ghost use Rattle.std.specs.Prelude.{◌≡◌, ◌≤◌, ◌<◌, ◌+◌, ◌%◌, ◌*◌, Some, IsTrue, IfSome, is_some, length, false};
 ghost use Rattle.sc_types.specs.Layouts as spec;
 ghost use Rattle.sc_types.specs.Tables as table;
 
@@ -145,10 +145,11 @@ fn joined(before: Layout, own: Layout) -> Layout
     }
 }
 
-/// The layout of a structure with these members, where it is not too large.
-pub(crate) fn ended(members: &[Member], s: &Structs) -> Option<Layout>
+/// Where these members end, if they are the first of a structure, and their greatest alignment; `None` above
+/// `MAX_OBJECT` bytes.
+fn end_of(members: &[Member], s: &Structs) -> Option<Layout>
     requires { IsTrue (table.all_objects s.now members.now) }
-    ensures same { result ≡ table.layout_of_members s.now members.now }
+    ensures same { result ≡ table.within (spec.members_from (spec.layout_in s.now) members.now spec.beginning) }
     ensures small { IfSome result (λ l. table.IsSmall l) }
 {
     let mut end = Layout { size: 0, align: 1 };
@@ -158,8 +159,34 @@ pub(crate) fn ended(members: &[Member], s: &Structs) -> Option<Layout>
             return None;
         }
     }
-    within(Layout {
-        size: rounded(end.size, end.align),
-        align: end.align,
-    })
+    Some(end)
+}
+
+/// The layout of a structure with these members, where it is not too large.
+pub(crate) fn ended(members: &[Member], s: &Structs) -> Option<Layout>
+    requires { IsTrue (table.all_objects s.now members.now) }
+    ensures same { result ≡ table.layout_of_members s.now members.now }
+    ensures small { IfSome result (λ l. table.IsSmall l) }
+{
+    match end_of(members, s) {
+        Some(end) => within(Layout {
+            size: rounded(end.size, end.align),
+            align: end.align,
+        }),
+        None => None,
+    }
+}
+
+/// The bytes of a structure that stand before a member, counted from 0 (ANSI 3.5.2.1).
+pub fn offset_of(s: &Structs, id: u32, member: u32) -> u32
+    requires object { IsTrue (table.is_object s.now (CType.Struct id false)) }
+    requires there { member < length (spec.members_in s.now id) }
+    ensures { result ≡ spec.offset_in s.now id member }
+{
+    let members = s.members(id);
+    let own = layout_of(&members[member as usize].of, s);
+    match end_of(&members[..member as usize], s) {
+        Some(end) => rounded(end.size, own.align),
+        None => unreachable!(),
+    }
 }

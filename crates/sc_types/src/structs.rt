@@ -1,13 +1,13 @@
 // The structures of a translation unit, with their layouts.
-ghost use Rattle.std.specs.Prelude.{◌≡◌, ◌++◌, ◌∷◌, [], None, List, length, slice_get, slice_index_or, slice_set, is_some, Some, IsTrue, OnOk, OnErr, IfSome};
+ghost use Rattle.std.specs.Prelude.{◌≡◌, ◌++◌, ◌∷◌, [], None, List, length, slice_get, slice_index_or, slice_set, is_some, Some, IsTrue, OnOk, OnErr, IfSome, IfOk};
 ghost use Rattle.std.specs.Bool.{OnTrue, OnFalse};
 ghost use Rattle.sc_types.specs.declared.ctype.StructDef.{StructDef};
-ghost use Rattle.sc_types.specs.Layouts.{structure_layout};
+ghost use Rattle.sc_types.specs.Layouts.{structure_layout, members_in};
 ghost use Rattle.sc_types.specs.Tables as spec;
 
 use crate::layout::ended;
 use crate::{Layout, Member, StructDef};
-use sc_base::{Items, Name, NoMemory};
+use sc_base::{Duplicate, Items, Name, NoMemory};
 use std::alloc::Global;
 use std::marker::Model;
 
@@ -82,6 +82,19 @@ impl Structs {
         entry(self.layouts.as_slice(), id)
     }
 
+    /// The members of a structure in their order, none while it is incomplete or where there is no such structure.
+    pub fn members(&self, id: u32) -> &[Member]
+        ensures { result.now ≡ members_in self.now id }
+    {
+        match self.defs.get(id as usize) {
+            Some(def) => match &def.members {
+                Some(members) => members.as_slice(),
+                None => &[],
+            },
+            None => &[],
+        }
+    }
+
     /// Gives an incomplete structure its members (ANSI 3.5.2.1), whose types are complete object types. Where it would
     /// be larger than `MAX_OBJECT` bytes the answer is false, and the table stays.
     pub fn complete(&mut self, id: u32, members: Items<Member>) -> bool
@@ -98,5 +111,24 @@ impl Structs {
         let def = &mut self.defs[id as usize];
         def.members = Some(members);
         true
+    }
+}
+
+fn copied(alloc: Global, defs: &[StructDef]) -> Result<Vec<StructDef>, NoMemory>
+    ensures { IfOk result (λ copy. copy.items ≡ defs.now) }
+{
+    let mut copies = Vec::new(alloc);
+    for def in defs {
+        let copy = def.copy(alloc)?;
+        copies.push(copy)?;
+    }
+    Ok(copies)
+}
+
+impl Duplicate for Structs {
+    fn copy(&self, alloc: Global) -> Result<Structs, NoMemory> {
+        let defs = copied(alloc, self.defs.as_slice())?;
+        let layouts = Vec::from_slice(alloc, self.layouts.as_slice())?;
+        Ok(Structs { defs, layouts })
     }
 }

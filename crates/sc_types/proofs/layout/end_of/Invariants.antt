@@ -1,7 +1,7 @@
 use Rattle.std.proofs.Common.{◌≡◌, drop, true}
 use Rattle.sc_types.specs.Layouts.{layout_in, members_from, beginning}
 use Rattle.sc_types.specs.Tables.{all_objects, IsSmall}
-use Rattle.sc_types.proofs.layout.ended.Given as goal
+use Rattle.sc_types.proofs.layout.end_of.Given as goal
 
 -- the members from here on end where all end, and are objects
 abbrev pub invariant-loop-member : goal.invariant-loop-member
