@@ -3,3 +3,4 @@ mod Tables
 mod Sizes
 mod Members
 mod Offsets
+mod Compatibility

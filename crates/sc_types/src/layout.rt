@@ -69,7 +69,7 @@ fn repeated(element: Layout, length: u32) -> Option<Layout>
 }
 
 /// The layout of an object of type `t`, where the type is complete and its objects are not too large.
-fn sized(t: &CType, s: &Structs) -> Option<Layout>
+pub(crate) fn sized(t: &CType, s: &Structs) -> Option<Layout>
     ensures same { result ≡ table.within (spec.layout_in s.now t.now) }
     ensures small { IfSome result (λ l. table.IsSmall l) }
 {

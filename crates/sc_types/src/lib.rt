@@ -1,6 +1,7 @@
 //! The types of C, their sizes and places, the types of conversions, and which types are compatible.
 #![tactic(auto)]
 
+mod compare;
 mod convert;
 mod ctype;
 mod frame;
