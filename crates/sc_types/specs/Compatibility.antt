@@ -104,6 +104,9 @@ abbrev pub by_members : ℕ → List StructDef → List StructDef → Pairs
 by_members zero s t i j = false
 by_members (suc n) s t i j = definitions (alike (by_tag s t) (by_members n s t) true) (slice_get s i) (slice_get t j)
 
+abbrev pub by_value : ℕ → List StructDef → List StructDef → CType → CType → Bool
+by_value n s t = alike (by_tag s t) (by_members n s t) true
+
 abbrev pub by_number : Pairs
 by_number i j = i == j
 

@@ -1,5 +1,5 @@
 // Which types are compatible (ANSI 3.1.2.6, 3.5.3, 3.5.4.3).
-ghost use Rattle.std.specs.Prelude.{◌≡◌, ◌<◌, ◌+◌, suc, true, length, slice_get};
+ghost use Rattle.std.specs.Prelude.{◌≡◌, ◌<◌, ◌+◌, suc, Some, true, false, length};
 ghost use Rattle.sc_types.specs.Compatibility as spec;
 ghost use Rattle.sc_types.specs.Outcomes.{Settles, Reaches};
 
@@ -179,4 +179,124 @@ fn largest(members: &[Member], s: &Structs) -> usize
         }
     }
     place
+}
+
+/// Whether two structures are compatible, of which at most `levels` are inside one another (ANSI 3.1.2.6). The largest
+/// member is followed here and the others by calls, so that calls are no deeper than a size can be halved.
+#[cycle(structures)]
+fn structures(s: &Structs, i: u32, t: &Structs, j: u32, levels: usize) -> bool
+    ensures { result ≡ spec.by_members levels s.now t.now i j }
+{
+    let (mut i, mut j) = (i, j);
+    let mut left = levels;
+    'inward: while left > 0 {
+        left -= 1;
+        match step(s, i, t, j, left) {
+            Outcome::Answer(answer) => return answer,
+            Outcome::Structures(k, l) => {
+                i = k;
+                j = l;
+            }
+        }
+    }
+    false
+}
+
+/// Compares two structures but for what structures decide in the largest member.
+#[cycle(structures)]
+fn step(s: &Structs, i: u32, t: &Structs, j: u32, left: usize) -> Outcome
+    ensures { Reaches result left s.now t.now (spec.by_members (suc left) s.now t.now i j) }
+{
+    match s.as_slice().get(i as usize) {
+        Some(d) => match t.as_slice().get(j as usize) {
+            Some(e) => definitions(d, s, e, t, left),
+            None => Outcome::Answer(false),
+        },
+        None => Outcome::Answer(false),
+    }
+}
+
+#[cycle(structures)]
+fn definitions(d: &StructDef, s: &Structs, e: &StructDef, t: &Structs, left: usize) -> Outcome
+    ensures { Reaches result left s.now t.now (spec.definitions (spec.by_value left s.now t.now) (Some d.now) (Some e.now)) }
+{
+    if !same_tag(&d.tag, &e.tag) {
+        return Outcome::Answer(false);
+    }
+    match &d.members {
+        Some(ms) => match &e.members {
+            Some(ns) => inside(ms.as_slice(), s, ns.as_slice(), t, left),
+            None => Outcome::Answer(true),
+        },
+        None => Outcome::Answer(true),
+    }
+}
+
+/// Compares two lists of members but for what structures decide in the largest.
+#[cycle(structures)]
+fn inside(ms: &[Member], s: &Structs, ns: &[Member], t: &Structs, left: usize) -> Outcome
+    ensures { Reaches result left s.now t.now (spec.same_members (spec.by_value left s.now t.now) ms.now ns.now) }
+{
+    if ms.len() != ns.len() {
+        return Outcome::Answer(false);
+    }
+    if ms.is_empty() {
+        return Outcome::Answer(true);
+    }
+    let place = largest(ms, s);
+    let m = &ms[place];
+    let n = &ns[place];
+    if m.name != n.name {
+        return Outcome::Answer(false);
+    }
+    if !members(&ms[..place], s, &ns[..place], t, left) {
+        return Outcome::Answer(false);
+    }
+    if !members(&ms[place + 1..], s, &ns[place + 1..], t, left) {
+        return Outcome::Answer(false);
+    }
+    settled(&m.of, s, &n.of, t)
+}
+
+#[cycle(structures)]
+fn members(ms: &[Member], s: &Structs, ns: &[Member], t: &Structs, left: usize) -> bool
+    ensures { result ≡ spec.same_members (spec.by_value left s.now t.now) ms.now ns.now }
+{
+    if ms.len() != ns.len() {
+        return false;
+    }
+    for (k, m) in ms.iter().enumerate() {
+        if !member(m, s, &ns[k], t, left) {
+            return false;
+        }
+    }
+    true
+}
+
+#[cycle(structures)]
+fn member(m: &Member, s: &Structs, n: &Member, t: &Structs, left: usize) -> bool
+    ensures { result ≡ spec.same_member (spec.by_value left s.now t.now) m.now n.now }
+{
+    if m.name != n.name {
+        return false;
+    }
+    match settled(&m.of, s, &n.of, t) {
+        Outcome::Answer(answer) => answer,
+        Outcome::Structures(i, j) => structures(s, i, t, j, left),
+    }
+}
+
+/// Whether two types are compatible, `a` of the table `s` and `b` of the table `t` (ANSI 3.1.2.6). Inside one module a
+/// structure is compatible with itself alone; across modules it is with one of the same tag and the same members, and
+/// the tag alone decides behind a pointer, in a function's type, and where one of the two is incomplete.
+pub fn compatible(a: &CType, s: &Structs, b: &CType, t: &Structs, one_module: bool) -> bool
+    ensures { result ≡ spec.compatible a.now s.now b.now t.now one_module }
+{
+    if one_module {
+        return types(a, s, b, t, true, true);
+    }
+    match settled(a, s, b, t) {
+        Outcome::Answer(answer) => answer,
+        Outcome::Structures(i, j) => structures(s, i, t, j, s.as_slice().len()),
+    }
 }

@@ -8,6 +8,7 @@ mod frame;
 mod layout;
 mod structs;
 
+pub use compare::compatible;
 pub use convert::{promote, usual};
 pub use ctype::{CType, Member, Signature, StructDef};
 pub use frame::{MAX_FRAME, frame_cost};
