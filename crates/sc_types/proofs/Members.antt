@@ -10,10 +10,11 @@ use Rattle.sc_types.specs.declared.layout.Layout.{Layout}
 use Rattle.sc_base.specs.declared.integer.Int.{Int}
 use Rattle.sc_base.specs.declared.integer.Int.TheVariants as int
 use Rattle.sc_types.specs.Layouts.{int_size, layer, layout_by, layout_in, repeated, rounded, members_from, joined, beginning, padded, structure, structure_layout}
-use Rattle.sc_types.specs.Tables.{largest, within, layout_of_members, all_objects, is_object, IsSmall}
+use Rattle.sc_types.specs.Tables.{largest, within, layout_of_members, is_object, IsSmall}
 use Rattle.sc_types.proofs.Layouts.{Extends, Laid, bound, structure-laid, structure-kept, layout_by-kept, structure_layout-kept, opened}
 use Rattle.std.proofs.Math.Numerals.{add-one}
 use Rattle.std.proofs.Math.Seq.{drop-cons}
+use Rattle.std.specs.List.{list_all}
 use Rattle.sc_types.proofs.Sizes.{too_large, kept_or_none}
 
 pub rounded-above : (place align : ℕ) → 1 ≤ align → place ≤ rounded place align
@@ -121,8 +122,17 @@ and_right : (p q : Bool) → (p && q) ≡ true → q ≡ true
 and_right true q h = h
 and_right false q h = cc
 
-pub rest_objects : (structs : List StructDef) (ms : List Member) (i : ℕ) (m : Member) → drop i ms ≡ m ∷ drop (i + 1) ms → all_objects structs (drop i ms) ≡ true → all_objects structs (drop (i + 1) ms) ≡ true
-rest_objects structs ms i m e h = and_right (is_object structs m.of) (all_objects structs (drop (i + 1) ms)) (subst (λ (xs : List Member). all_objects structs xs ≡ true) e h)
+-- a member that is no object, or too large, ends them
+pub stops_at : (structs : List StructDef) (ms : List Member) (i : ℕ) (m : Member) (b : Layout) (all : Option Layout) → drop i ms ≡ m ∷ drop (i + 1) ms → None ≡ within (layout_in structs m.of)
+    → members_from (layout_in structs) (drop i ms) b ≡ all → None ≡ within all
+stops_at structs ms i m b all e none h =
+    elim (layout_in structs m.of) as (λ (o : Option Layout). layout_in structs m.of ≡ o → None ≡ within o → None ≡ within all)
+        [ None ↦ (λ q w. let v : ◌≡◌ {A = Option Layout} None all = sym (ap (option_and_then (λ (own : Layout). members_from (layout_in structs) (drop (i + 1) ms) (joined b own))) q)
+                ∙ sym (ap (λ (xs : List Member). members_from (layout_in structs) xs b) e) ∙ h in ap within v)
+        | (Some own) ↦ (λ q w. ⊎_elim (λ k. let v : None ≡ Some own = w ∙ k.1 in cc)
+            (λ k. let big = k.0 in
+                let al = layout_in-aligned structs m.of own q in
+                ends_too_late structs (drop (i + 1) ms) (joined b own) all (omega (arith, big)) (omega (arith, al)) (one_more structs ms i m b own all e q h)) (kept_or_none own)) ] refl none
 
 pub small_joined : (a b r : Layout) → IsSmall a → IsSmall b → r ≡ joined a b → r.size ≤ largest → IsSmall r
 small_joined a b r sa sb e h =
@@ -152,6 +162,9 @@ front f fa (m ∷ ms) (suc k) b l h e =
 
 small_object : (structs : List StructDef) (t : CType) (own : Layout) → layout_in structs t ≡ Some own → own.size ≤ largest → is_object structs t ≡ true
 small_object structs t own e h = ap (λ (o : Option Layout). is_some (within o)) e ∙ ⊎_elim (λ k. ap is_some k.1) (λ k. absurd (let z = k.0 in omega arith)) (kept_or_none own)
+
+abbrev pub all_objects : List StructDef → List Member → Bool
+all_objects structs ms = list_all (λ m. is_object structs m.of) ms
 
 -- the members of what is not too large are objects
 pub all_inside : (structs : List StructDef) (ms : List Member) (b l : Layout) → 1 ≤ b.align → members_from (layout_in structs) ms b ≡ Some l → l.size ≤ largest → all_objects structs ms ≡ true

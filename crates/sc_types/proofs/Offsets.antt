@@ -8,11 +8,11 @@ use Rattle.sc_types.specs.declared.ctype.Member.{Member}
 use Rattle.sc_types.specs.declared.ctype.StructDef.{StructDef}
 use Rattle.sc_types.specs.declared.layout.Layout.{Layout}
 use Rattle.sc_types.specs.Layouts.{layer, layout_by, layout_in, rounded, members_from, beginning, padded, structure_layout, members_in, end_in, align_in, offset_in}
-use Rattle.sc_types.specs.Tables.{largest, within, is_object, all_objects}
+use Rattle.sc_types.specs.Tables.{largest, within, is_object}
 use Rattle.sc_types.proofs.Layouts.{Laid}
 use Rattle.sc_types.proofs.Sizes.{kept_or_none}
 use Rattle.sc_types.proofs.Tables.{within-some}
-use Rattle.sc_types.proofs.Members.{rounded-above, members_from-grows, layout_in-aligned, structure-members, front, all_inside}
+use Rattle.sc_types.proofs.Members.{rounded-above, members_from-grows, layout_in-aligned, structure-members, front, all_objects, all_inside}
 
 pub layout_in_struct : (structs : List StructDef) (id : ℕ) (c : Bool) → layout_in structs (t.Struct id c) ≡ structure_layout (length structs) structs id
 layout_in_struct structs id c =
@@ -56,9 +56,6 @@ front-ends structs id k e =
     let r = front (layout_in structs) (layout_in-aligned structs) (members_in structs id) k beginning e.end (omega arith) e.is in
     let le = r.1.1 in
     (r.0, (r.1.0, omega (arith, le, e.small)))
-
-pub front-objects : (structs : List StructDef) (id k : ℕ) → Ends structs id → all_objects structs (take k (members_in structs id)) ≡ true
-front-objects structs id k e = let p = front-ends structs id k e in all_inside structs (take k (members_in structs id)) beginning p.0 (omega arith) p.1.0 p.1.1
 
 pub front-within : (structs : List StructDef) (id k : ℕ) → Ends structs id → None ≡ within (members_from (layout_in structs) (take k (members_in structs id)) beginning) → ⊥
 front-within structs id k e h = let p = front-ends structs id k e in

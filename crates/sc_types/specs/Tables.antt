@@ -3,7 +3,6 @@ use Rattle.std.specs.Prelude.{◌≡◌, ℕ, ◌+◌, ◌≤◌, ◌<◌, nat_l
 use Rattle.sc_types.specs.declared.ctype.CType.{CType}
 use Rattle.sc_types.specs.declared.ctype.StructDef.{StructDef}
 use Rattle.sc_types.specs.declared.layout.Layout.{Layout}
-use Rattle.std.specs.List.{list_all}
 use Rattle.sc_types.specs.declared.ctype.Member.{Member}
 use Rattle.sc_types.specs.Layouts.{layout_in, structure, structure_layout}
 
@@ -41,9 +40,6 @@ pub record IsTable (structs : List StructDef) (layouts : List (Option Layout)) :
 -- The layout of a structure with these members, where it is not too large.
 abbrev pub layout_of_members : List StructDef → List Member → Option Layout
 layout_of_members structs ms = within (structure (layout_in structs) (record { tag = None; members = Some ms }))
-
-abbrev pub all_objects : List StructDef → List Member → Bool
-all_objects structs ms = list_all (λ m. is_object structs m.of) ms
 
 -- a structure that is there, and still without members
 abbrev pub IsIncomplete : Option StructDef → Type 0

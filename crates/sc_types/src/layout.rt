@@ -145,16 +145,19 @@ fn joined(before: Layout, own: Layout) -> Layout
     }
 }
 
-/// Where these members end, if they are the first of a structure, and their greatest alignment; `None` above
-/// `MAX_OBJECT` bytes.
+/// Where these members end, if they are the first of a structure, and their greatest alignment; `None` where one of
+/// them is no object, or above `MAX_OBJECT` bytes.
 fn end_of(members: &[Member], s: &Structs) -> Option<Layout>
-    requires { IsTrue (table.all_objects s.now members.now) }
     ensures same { result ≡ table.within (spec.members_from (spec.layout_in s.now) members.now spec.beginning) }
     ensures small { IfSome result (λ l. table.IsSmall l) }
 {
     let mut end = Layout { size: 0, align: 1 };
     for member in members {
-        end = joined(end, layout_of(&member.of, s));
+        let own = match sized(&member.of, s) {
+            Some(own) => own,
+            None => return None,
+        };
+        end = joined(end, own);
         if end.size > MAX_OBJECT {
             return None;
         }
@@ -162,9 +165,8 @@ fn end_of(members: &[Member], s: &Structs) -> Option<Layout>
     Some(end)
 }
 
-/// The layout of a structure with these members, where it is not too large.
+/// The layout of a structure with these members, where they are objects and it is not too large.
 pub(crate) fn ended(members: &[Member], s: &Structs) -> Option<Layout>
-    requires { IsTrue (table.all_objects s.now members.now) }
     ensures same { result ≡ table.layout_of_members s.now members.now }
     ensures small { IfSome result (λ l. table.IsSmall l) }
 {

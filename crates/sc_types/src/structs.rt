@@ -1,5 +1,5 @@
 // The structures of a translation unit, with their layouts.
-ghost use Rattle.std.specs.Prelude.{◌≡◌, ◌++◌, ◌∷◌, [], None, List, length, slice_get, slice_index_or, slice_set, is_some, Some, IsTrue, OnOk, OnErr, IfSome, IfOk};
+ghost use Rattle.std.specs.Prelude.{◌≡◌, ◌++◌, ◌∷◌, [], None, List, length, slice_get, slice_index_or, slice_set, is_some, Some, OnOk, OnErr, IfSome, IfOk};
 ghost use Rattle.std.specs.Bool.{OnTrue, OnFalse};
 ghost use Rattle.sc_types.specs.declared.ctype.StructDef.{StructDef};
 ghost use Rattle.sc_types.specs.Layouts.{structure_layout, members_in};
@@ -95,11 +95,10 @@ impl Structs {
         }
     }
 
-    /// Gives an incomplete structure its members (ANSI 3.5.2.1), whose types are complete object types. Where it would
-    /// be larger than `MAX_OBJECT` bytes the answer is false, and the table stays.
+    /// Gives an incomplete structure its members (ANSI 3.5.2.1). Where one of them has no complete object type, or the
+    /// structure would be larger than `MAX_OBJECT` bytes, the answer is false and the table stays.
     pub fn complete(&mut self, id: u32, members: Items<Member>) -> bool
-        requires incomplete { spec.IsIncomplete (slice_get self.old id) }
-        requires objects { IsTrue (spec.all_objects self.old members) }
+        requires { spec.IsIncomplete (slice_get self.old id) }
         ensures fits { result ≡ is_some (spec.layout_of_members self.old members) }
         ensures done { OnTrue result ((d : StructDef) → slice_get self.old id ≡ Some d → self.new ≡ slice_set self.old id (record d { members = Some members })) }
         ensures kept { OnFalse result (self.new ≡ self.old) }

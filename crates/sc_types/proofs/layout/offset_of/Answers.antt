@@ -4,10 +4,10 @@ use Rattle.std.proofs.lemmas.Option.{slice_get_read}
 use Rattle.sc_types.specs.declared.ctype.Member.{Member}
 use Rattle.sc_types.specs.declared.layout.Layout.{Layout}
 use Rattle.sc_types.specs.Layouts.{layout_in, members_from, beginning, members_in, rounded}
-use Rattle.sc_types.specs.Tables.{within, is_object, all_objects}
+use Rattle.sc_types.specs.Tables.{within, is_object}
 use Rattle.sc_types.proofs.Tables.{within-some}
 use Rattle.sc_types.proofs.Members.{object_at}
-use Rattle.sc_types.proofs.Offsets.{object-ends, ends-objects, front-objects, front-within, offset-is}
+use Rattle.sc_types.proofs.Offsets.{object-ends, ends-objects, front-within, offset-is}
 use Rattle.sc_types.proofs.layout.offset_of.Goals as goal
 
 pub layout_of-own-requires : goal.layout_of-own-requires
@@ -18,11 +18,6 @@ layout_of-own-requires c =
     let is : m ≡ get_or ms c.args.member m = c.index-members-member.is ∙ ap (λ (xs : List Member). get_or xs c.args.member m) c.members-members.ensures in
     let ok : is_object structs m.of ≡ true = object_at structs ms c.args.member m c.requires.there is (ends-objects structs c.args.id (object-ends structs c.args.id c.requires.object)) in
     subst (λ (x : Member). IsTrue (is_object structs x.of)) c.index-members-member.is ok
-
-pub end_of-requires : goal.end_of-requires
-end_of-requires c =
-    let structs = c.args.s.now in
-    ap (λ (xs : List Member). all_objects structs (take c.args.member xs)) c.members-members.ensures ∙ front-objects structs c.args.id c.args.member (object-ends structs c.args.id c.requires.object)
 
 pub unreachable-requires : goal.unreachable-requires
 unreachable-requires c =
