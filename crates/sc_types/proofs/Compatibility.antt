@@ -20,7 +20,7 @@ parameters-length behind [] (q ∷ qs) h = refl
 parameters-length behind (p ∷ ps) [] h = refl
 parameters-length behind (p ∷ ps) (q ∷ qs) h =
     elim (alike behind behind false p q) as (λ (b : Bool). false ≡ (b && same_parameters behind ps qs))
-        [ false ↦ refl | true ↦ parameters-length behind ps qs (λ e. h (ap suc e)) ]
+    [ false ↦ refl | true ↦ parameters-length behind ps qs (λ e. h (ap suc e)) ]
 
 pub alike-function : (behind here : Pairs) (own : Bool) (f g : Signature) → alike behind here own (t.Function f) (t.Function g) ≡ same_signature behind f g
 alike-function behind here own f g =
@@ -39,7 +39,7 @@ members-length test [] (n ∷ ns) h = refl
 members-length test (m ∷ ms) [] h = refl
 members-length test (m ∷ ms) (n ∷ ns) h =
     elim (same_member test m n) as (λ (b : Bool). (b && same_members test ms ns) ≡ false)
-        [ false ↦ refl | true ↦ members-length test ms ns (λ e. h (ap suc e)) ]
+    [ false ↦ refl | true ↦ members-length test ms ns (λ e. h (ap suc e)) ]
 
 and_moves : (x s a m b : Bool) → s ≡ ((a && m) && b) → (x && s) ≡ (((x && a) && m) && b)
 and_moves true s a m b e = e
@@ -53,7 +53,7 @@ split-suc test (x ∷ ms) [] k m n e h p q = absurd (omega (arith, e))
 split-suc test (x ∷ ms) (y ∷ ns) zero m n e h p q = ap (λ (u : Member). same_member test u y && same_members test ms ns) (sym p) ∙ ap (λ (u : Member). same_member test m u && same_members test ms ns) (sym q)
 split-suc test (x ∷ ms) (y ∷ ns) (suc k) m n e h p q =
     and_moves (same_member test x y) (same_members test ms ns) (same_members test (take k ms) (take k ns)) (same_member test m n) (same_members test (drop (suc k) ms) (drop (suc k) ns))
-        (split-suc test ms ns k m n (omega arith) (omega arith) p q)
+    (split-suc test ms ns k m n (omega arith) (omega arith) p q)
 
 pub split-members : (test : CType → CType → Bool) (ms ns : List Member) (k : ℕ) (m n : Member) → length ms ≡ length ns → k < length ms → m ≡ get_or ms k m → n ≡ get_or ns k n
     → same_members test ms ns ≡ ((same_members test (take k ms) (take k ns) && same_member test m n) && same_members test (drop (k + 1) ms) (drop (k + 1) ns))

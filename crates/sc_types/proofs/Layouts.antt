@@ -42,8 +42,8 @@ module _ (f g : ℕ → Option Layout) (fg : Extends ℕ f g) where
   pub layout_by-kept : (t : CType) → Kept (layout_by f t) (layout_by g t)
   layout_by-kept = ind-CType KeptType (λ s. Unit {0})
       (λ x y is l h.
-          let all : Kept (opened f x) (opened g x) = subst (λ (z : CType-F CType Signature). Kept (opened f z) (opened g z)) is (opened-kept y) in
-          fold-roll-CType (Option Layout) (Unit {0}) (layer g) (λ _. tt) x ∙ all l (sym (fold-roll-CType (Option Layout) (Unit {0}) (layer f) (λ _. tt) x) ∙ h))
+      let all : Kept (opened f x) (opened g x) = subst (λ (z : CType-F CType Signature). Kept (opened f z) (opened g z)) is (opened-kept y) in
+      fold-roll-CType (Option Layout) (Unit {0}) (layer g) (λ _. tt) x ∙ all l (sym (fold-roll-CType (Option Layout) (Unit {0}) (layer f) (λ _. tt) x) ∙ h))
       (λ x y is. tt)
 
 members_from-kept : (f g : CType → Option Layout) → Extends CType f g → (ms : List Member) (b : Layout) → Kept (members_from f ms b) (members_from g ms b)
@@ -91,4 +91,4 @@ structure_layout-kept s t st (suc n) (suc m) le id l h =
     let q = structure-laid (layout_by (structure_layout n s)) r.0 l r.1.1 in
     let e = st id r.0 q.members r.1.0 q.is in
     rw e.1.0 (structure-kept (layout_by (structure_layout n s)) (layout_by (structure_layout m t)) (layout_by-kept (structure_layout n s) (structure_layout m t) below) r.0 e.0 l
-        (λ ms w. let same : Some q.members ≡ Some ms = sym q.is ∙ w in e.1.1 ∙ same) r.1.1)
+    (λ ms w. let same : Some q.members ≡ Some ms = sym q.is ∙ w in e.1.1 ∙ same) r.1.1)

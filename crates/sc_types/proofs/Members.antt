@@ -61,7 +61,7 @@ module _ (f : ℕ → Option Layout) (fa : (id : ℕ) → Aligned (f id)) where
   pub layout_by-aligned : (t : CType) → Aligned (layout_by f t)
   layout_by-aligned = ind-CType AlignedType (λ s. Unit {0})
       (λ x y is l h. subst (λ (z : CType-F CType Signature). Aligned (opened f z)) is (opened-aligned y) l
-          (sym (fold-roll-CType (Option Layout) (Unit {0}) (layer f) (λ _. tt) x) ∙ h))
+      (sym (fold-roll-CType (Option Layout) (Unit {0}) (layer f) (λ _. tt) x) ∙ h))
       (λ x y is. tt)
 
 pub members_from-grows : (f : CType → Option Layout) → ((t : CType) → Aligned (f t)) → (ms : List Member) (b l : Layout) → 1 ≤ b.align → members_from f ms b ≡ Some l → (b.size ≤ l.size) × (1 ≤ l.align)
@@ -97,11 +97,12 @@ ends_too_late structs ms b (Some l) late al e =
 
 -- what is too large is so with its padding
 pub padded_too_large : (structs : List StructDef) (ms : List Member) → None ≡ within (members_from (layout_in structs) ms beginning) → None ≡ layout_of_members structs ms
-padded_too_large structs ms h = elim (members_from (layout_in structs) ms beginning) as (λ (o : Option Layout). members_from (layout_in structs) ms beginning ≡ o → None ≡ within o → None ≡ within (option_map padded o))
-    [ None ↦ (λ e w. refl)
-    | (Some l) ↦ (λ e w. ⊎_elim (λ k. let v : None ≡ Some l = w ∙ k.1 in cc)
-        (λ k. let g = members_from-grows (layout_in structs) (layout_in-aligned structs) ms beginning l (omega arith) e in
-            too_large (padded l) (let a = rounded-above l.size l.align g.1 in let z = k.0 in omega (arith, a, z))) (kept_or_none l)) ] refl h
+padded_too_large structs ms h = elim (members_from (layout_in structs) ms beginning) as (λ (o : Option Layout). members_from (layout_in structs) ms beginning ≡ o → None ≡ within o → None ≡ within (option_map padded o)) [
+  | None ↦ (λ e w. refl)
+  | (Some l) ↦ (λ e w. ⊎_elim (λ k. let v : None ≡ Some l = w ∙ k.1 in cc)
+      (λ k. let g = members_from-grows (layout_in structs) (layout_in-aligned structs) ms beginning l (omega arith) e in
+      too_large (padded l) (let a = rounded-above l.size l.align g.1 in let z = k.0 in omega (arith, a, z))) (kept_or_none l))
+] refl h
 
 -- one step of a loop over members
 pub one_more : (structs : List StructDef) (ms : List Member) (i : ℕ) (m : Member) (b own : Layout) (all : Option Layout) → drop i ms ≡ m ∷ drop (i + 1) ms → layout_in structs m.of ≡ Some own
@@ -126,13 +127,14 @@ and_right false q h = cc
 pub stops_at : (structs : List StructDef) (ms : List Member) (i : ℕ) (m : Member) (b : Layout) (all : Option Layout) → drop i ms ≡ m ∷ drop (i + 1) ms → None ≡ within (layout_in structs m.of)
     → members_from (layout_in structs) (drop i ms) b ≡ all → None ≡ within all
 stops_at structs ms i m b all e none h =
-    elim (layout_in structs m.of) as (λ (o : Option Layout). layout_in structs m.of ≡ o → None ≡ within o → None ≡ within all)
-        [ None ↦ (λ q w. let v : ◌≡◌ {A = Option Layout} None all = sym (ap (option_and_then (λ (own : Layout). members_from (layout_in structs) (drop (i + 1) ms) (joined b own))) q)
-                ∙ sym (ap (λ (xs : List Member). members_from (layout_in structs) xs b) e) ∙ h in ap within v)
-        | (Some own) ↦ (λ q w. ⊎_elim (λ k. let v : None ≡ Some own = w ∙ k.1 in cc)
-            (λ k. let big = k.0 in
-                let al = layout_in-aligned structs m.of own q in
-                ends_too_late structs (drop (i + 1) ms) (joined b own) all (omega (arith, big)) (omega (arith, al)) (one_more structs ms i m b own all e q h)) (kept_or_none own)) ] refl none
+    elim (layout_in structs m.of) as (λ (o : Option Layout). layout_in structs m.of ≡ o → None ≡ within o → None ≡ within all) [
+      | None ↦ (λ q w. let v : ◌≡◌ {A = Option Layout} None all = sym (ap (option_and_then (λ (own : Layout). members_from (layout_in structs) (drop (i + 1) ms) (joined b own))) q)
+          ∙ sym (ap (λ (xs : List Member). members_from (layout_in structs) xs b) e) ∙ h in ap within v)
+      | (Some own) ↦ (λ q w. ⊎_elim (λ k. let v : None ≡ Some own = w ∙ k.1 in cc)
+          (λ k. let big = k.0 in
+          let al = layout_in-aligned structs m.of own q in
+          ends_too_late structs (drop (i + 1) ms) (joined b own) all (omega (arith, big)) (omega (arith, al)) (one_more structs ms i m b own all e q h)) (kept_or_none own))
+    ] refl none
 
 pub small_joined : (a b r : Layout) → IsSmall a → IsSmall b → r ≡ joined a b → r.size ≤ largest → IsSmall r
 small_joined a b r sa sb e h =

@@ -39,9 +39,9 @@ object-ends structs id h =
     let e : structure_layout (length structs) structs id ≡ Some whole.0 = sym (layout_in_struct structs id false) ∙ within-some (layout_in structs (t.Struct id false)) whole.0 whole.1 in
     let r = structure-members structs (length structs) id whole.0 e in
     let ms : members_in structs id ≡ r.1.1.members =
-        ap (λ (o : Option StructDef). unwrap_or (option_and_then (λ (d : StructDef). d.members) o) []) r.1.0 ∙ ap (λ (o : Option (List Member)). unwrap_or o []) r.1.1.is in
+    ap (λ (o : Option StructDef). unwrap_or (option_and_then (λ (d : StructDef). d.members) o) []) r.1.0 ∙ ap (λ (o : Option (List Member)). unwrap_or o []) r.1.1.is in
     let ends : members_from (layout_in structs) (members_in structs id) beginning ≡ Some r.1.1.end =
-        ap (λ (xs : List Member). members_from (layout_in structs) xs beginning) ms ∙ r.1.1.ends in
+    ap (λ (xs : List Member). members_from (layout_in structs) xs beginning) ms ∙ r.1.1.ends in
     let g = members_from-grows (layout_in structs) (layout_in-aligned structs) (members_in structs id) beginning r.1.1.end (omega arith) ends in
     let above = rounded-above r.1.1.end.size r.1.1.end.align g.1 in
     let size : rounded r.1.1.end.size r.1.1.end.align ≡ whole.0.size = ap (λ (l : Layout). l.size) r.1.1.whole in
@@ -65,5 +65,5 @@ pub offset-is : (structs : List StructDef) (id k : ℕ) (m : Member) (own p : La
     → members_from (layout_in structs) (take k (members_in structs id)) beginning ≡ Some p → rounded p.size own.align ≡ offset_in structs id k
 offset-is structs id k m own p there e h =
     sym (ap (λ (o : Option Member). unwrap_or (option_map (λ (x : Member). rounded (end_in structs (take k (members_in structs id))) (align_in structs x.of)) o) 0) there
-        ∙ ap (λ (o : Option Layout). rounded (unwrap_or (option_map (λ (l : Layout). l.size) o) 0) (align_in structs m.of)) h
-        ∙ ap (λ (o : Option Layout). rounded p.size (unwrap_or (option_map (λ (l : Layout). l.align) o) 0)) e)
+    ∙ ap (λ (o : Option Layout). rounded (unwrap_or (option_map (λ (l : Layout). l.size) o) 0) (align_in structs m.of)) h
+    ∙ ap (λ (o : Option Layout). rounded p.size (unwrap_or (option_map (λ (l : Layout). l.align) o) 0)) e)

@@ -24,10 +24,11 @@ too_large l h = ⊎_elim (λ m. absurd (let g = m.0 in omega arith)) (λ m. sym 
 -- an array of objects that are too large is too large
 pub within_repeated : (n : ℕ) (o : Option Layout) → None ≡ within o → None ≡ within (repeated n o)
 within_repeated n None h = refl
-within_repeated n (Some l) h = elim (n == 0) as (λ (b : Bool). (n == 0) ≡ b → None ≡ within (if b then None else Some (record { size = l.size * n; align = l.align })))
-    [ true ↦ (λ e. refl)
-    | false ↦ (λ e. ⊎_elim (λ k. let w : None ≡ Some l = h ∙ k.1 in cc)
-        (λ k. too_large (record { size = l.size * n; align = l.align }) (larger l.size n k.0 (grind (arith, nat_tests)))) (kept_or_none l)) ] refl
+within_repeated n (Some l) h = elim (n == 0) as (λ (b : Bool). (n == 0) ≡ b → None ≡ within (if b then None else Some (record { size = l.size * n; align = l.align }))) [
+  | true ↦ (λ e. refl)
+  | false ↦ (λ e. ⊎_elim (λ k. let w : None ≡ Some l = h ∙ k.1 in cc)
+      (λ k. too_large (record { size = l.size * n; align = l.align }) (larger l.size n k.0 (grind (arith, nat_tests)))) (kept_or_none l))
+] refl
 
 pub layout_in_array : (structs : List StructDef) (e : CType) (n : ℕ) → layout_in structs (t.Array e n) ≡ repeated n (layout_in structs e)
 layout_in_array structs e n =

@@ -25,12 +25,14 @@ no_members structs (suc n) id none = elim (slice_get structs id) as (λ (o : Opt
 
 -- at each bound from the number of complete structures on, the layouts are those that the table keeps
 pub entry-is : (structs : List StructDef) (layouts : List (Option Layout)) → IsTable structs layouts → (n : ℕ) → complete_count structs ≤ n → (id : ℕ) → entry layouts id ≡ structure_layout n structs id
-entry-is structs layouts table n le id = elim (entry layouts id) as (λ (o : Option Layout). entry layouts id ≡ o → o ≡ structure_layout n structs id)
-    [ (Some l) ↦ (λ e. sym (structure_layout-kept structs structs (λ i d ms p q. (d, (p, q))) (complete_count structs) n le id l (table.found id l e)))
-    | None ↦ (λ e. sym (no_members structs n id (λ d p. elim d.members as (λ o. d.members ≡ o → o ≡ None)
-        [ None ↦ (λ q. refl)
-        | (Some ms) ↦ (λ q. let w : is_some (entry layouts id) ≡ true = table.whole id d p (ap is_some q) in
-            let v : false ≡ true = sym (ap is_some e) ∙ w in cc) ] refl))) ] refl
+entry-is structs layouts table n le id = elim (entry layouts id) as (λ (o : Option Layout). entry layouts id ≡ o → o ≡ structure_layout n structs id) [
+  | (Some l) ↦ (λ e. sym (structure_layout-kept structs structs (λ i d ms p q. (d, (p, q))) (complete_count structs) n le id l (table.found id l e)))
+  | None ↦ (λ e. sym (no_members structs n id (λ d p. elim d.members as (λ o. d.members ≡ o → o ≡ None) [
+    | None ↦ (λ q. refl)
+    | (Some ms) ↦ (λ q. let w : is_some (entry layouts id) ≡ true = table.whole id d p (ap is_some q) in
+        let v : false ≡ true = sym (ap is_some e) ∙ w in cc)
+  ] refl)))
+] refl
 
 pub entry-length : (structs : List StructDef) (layouts : List (Option Layout)) → IsTable structs layouts → (id : ℕ) → entry layouts id ≡ structure_layout (length structs) structs id
 entry-length structs layouts table id = entry-is structs layouts table (length structs) (count_by-le-length has_members structs) id
@@ -122,7 +124,7 @@ module _ (structs : List StructDef) (layouts : List (Option Layout)) (table : Is
   filled-layout : (l : Layout) → structure (layout_in structs) (record { tag = None; members = Some ms }) ≡ Some l → structure_layout (complete_count after) after id ≡ Some l
   filled-layout l h =
       let g = structure-kept (layout_in structs) (layout_by (structure_layout (complete_count structs) after)) (layout_by-kept (structure_layout (length structs) structs) (structure_layout (complete_count structs) after) extends-after)
-          (record { tag = None; members = Some ms }) filled l (λ ss w. w) h in
+      (record { tag = None; members = Some ms }) filled l (λ ss w. w) h in
       let w : structure_layout (suc (complete_count structs)) after id ≡ Some l = rw (get-set_same structs id d filled there) g in
       subst (λ (n : ℕ). structure_layout n after id ≡ Some l) (sym count-suc) w
 
@@ -135,15 +137,15 @@ module _ (structs : List StructDef) (layouts : List (Option Layout)) (table : Is
       room = omega (arith, table.room, length-set structs id filled, length-set layouts id (Some l));
       found = λ j k e. ⊎_elim
           (λ (w : j ≡ id). let v : Some l ≡ Some k = sym entry-same ∙ ap (entry (set layouts id (Some l))) (sym w) ∙ e in
-              subst (λ (i : ℕ). structure_layout (complete_count after) after i ≡ Some k) (sym w) (filled-layout l h ∙ v))
+          subst (λ (i : ℕ). structure_layout (complete_count after) after i ≡ Some k) (sym w) (filled-layout l h ∙ v))
           (λ (w : j ≢ id). structure_layout-kept structs after grows-after (complete_count structs) (complete_count after) (omega (arith, count-after)) j k
-              (table.found j k (sym (get_or-set_other layouts id j (Some l) None w) ∙ e))) (same_or_not j id);
+          (table.found j k (sym (get_or-set_other layouts id j (Some l) None w) ∙ e))) (same_or_not j id);
       whole = λ j s p m. ⊎_elim
           (λ (w : j ≡ id). ap is_some (ap (entry (set layouts id (Some l))) w ∙ entry-same))
           (λ (w : j ≢ id). ap is_some (get_or-set_other layouts id j (Some l) None w) ∙ table.whole j s (sym (get-set_other structs id j filled w) ∙ p) m) (same_or_not j id);
       small = λ j k e. ⊎_elim
           (λ (w : j ≡ id). let v : Some l ≡ Some k = sym entry-same ∙ ap (entry (set layouts id (Some l))) (sym w) ∙ e in
-              let u : l ≡ k = cc in subst IsSmall u small)
+          let u : l ≡ k = cc in subst IsSmall u small)
           (λ (w : j ≢ id). table.small j k (sym (get_or-set_other layouts id j (Some l) None w) ∙ e)) (same_or_not j id);
     }
 

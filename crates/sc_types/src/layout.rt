@@ -50,7 +50,11 @@ fn scalar(size: u32) -> Layout
 pub(crate) fn within(layout: Layout) -> Option<Layout>
     ensures { result ≡ table.within (Some layout) }
 {
-    if layout.size <= MAX_OBJECT { Some(layout) } else { None }
+    if layout.size <= MAX_OBJECT {
+        Some(layout)
+    } else {
+        None
+    }
 }
 
 fn repeated(element: Layout, length: u32) -> Option<Layout>

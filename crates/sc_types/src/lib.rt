@@ -12,7 +12,9 @@ pub use compare::compatible;
 pub use convert::{promote, usual};
 pub use ctype::{CType, Member, Signature, StructDef};
 pub use frame::{MAX_FRAME, frame_cost};
-pub use layout::{Layout, MAX_OBJECT, align_of, int_size, is_complete, is_object, offset_of, size_of};
+pub use layout::{
+    Layout, MAX_OBJECT, align_of, int_size, is_complete, is_object, offset_of, size_of,
+};
 pub use structs::Structs;
 
 #[cfg(test)]

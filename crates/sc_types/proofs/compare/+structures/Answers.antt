@@ -21,7 +21,7 @@ inside-returns-then-ne t c =
     let whole = split-members test ms ns k m n c.if-ms-ns.false c.largest-place.ensures c.index-ms-place.is c.index-ns-place.is in
     let other : bytes_eq m.name n.name ≡ false = not-true (bytes_eq m.name n.name) (sym c.if-ne.ensures) in
     middle_fails (same_members test (take k ms) (take k ns)) (same_member test m n) (same_members test (drop (k + 1) ms) (drop (k + 1) ns)) (same_members test ms ns) whole
-        (ap (λ (b : Bool). b && test m.of n.of) other)
+    (ap (λ (b : Bool). b && test m.of n.of) other)
 
 pub inside-returns-then-not-members : goal.inside-returns-then-not-members
 inside-returns-then-not-members t c =
@@ -44,8 +44,8 @@ inside-returns-then-not-members-2 t c =
     let n = c.index-ns-place.result in
     let whole = split-members test ms ns k m n c.if-ms-ns.false c.largest-place.ensures c.index-ms-place.is c.index-ns-place.is in
     let back : same_members test (drop (k + 1) ms) (drop (k + 1) ns) ≡ false =
-        sym (ap (λ (xs : List Member). same_members test xs (drop (k + 1) ns)) (rest-is ms (k + 1))) ∙ sym (ap (λ (xs : List Member). same_members test (take (length ms - (k + 1)) (drop (k + 1) ms)) xs) (rest-is ns (k + 1)))
-        ∙ sym c.if-not-members-2.ensures in
+    sym (ap (λ (xs : List Member). same_members test xs (drop (k + 1) ns)) (rest-is ms (k + 1))) ∙ sym (ap (λ (xs : List Member). same_members test (take (length ms - (k + 1)) (drop (k + 1) ms)) xs) (rest-is ns (k + 1)))
+    ∙ sym c.if-not-members-2.ensures in
     last_fails (same_members test (take k ms) (take k ns)) (same_member test m n) (same_members test (drop (k + 1) ms) (drop (k + 1) ns)) (same_members test ms ns) whole back
 
 pub inside-returns : goal.inside-returns
@@ -61,12 +61,12 @@ inside-returns t c =
     let n = c.index-ns-place.result in
     let whole = split-members test ms ns k m n c.if-ms-ns.false c.largest-place.ensures c.index-ms-place.is c.index-ns-place.is in
     let back : same_members test (drop (k + 1) ms) (drop (k + 1) ns) ≡ true =
-        sym (ap (λ (xs : List Member). same_members test xs (drop (k + 1) ns)) (rest-is ms (k + 1))) ∙ sym (ap (λ (xs : List Member). same_members test (take (length ms - (k + 1)) (drop (k + 1) ms)) xs) (rest-is ns (k + 1)))
-        ∙ sym c.if-not-members-2.ensures in
+    sym (ap (λ (xs : List Member). same_members test xs (drop (k + 1) ns)) (rest-is ms (k + 1))) ∙ sym (ap (λ (xs : List Member). same_members test (take (length ms - (k + 1)) (drop (k + 1) ms)) xs) (rest-is ns (k + 1)))
+    ∙ sym c.if-not-members-2.ensures in
     let one = middle_decides (same_members test (take k ms) (take k ns)) (same_member test m n) (same_members test (drop (k + 1) ms) (drop (k + 1) ns)) (same_members test ms ns) whole (sym c.if-not-members.ensures) back in
     let named : bytes_eq m.name n.name ≡ true = not-false (bytes_eq m.name n.name) (sym c.if-ne.ensures) in
     reaches c.settled.result left s u (same_members test ms ns) (test m.of n.of) (one ∙ ap (λ (b : Bool). b && test m.of n.of) named)
-        (settles-reaches c.settled.result left s u (λ (here : Pairs). alike (by_tag s u) here true m.of n.of) c.settled.ensures)
+    (settles-reaches c.settled.result left s u (λ (here : Pairs). alike (by_tag s u) here true m.of n.of) c.settled.ensures)
 
 pub members-returns-then-ms-ns : goal.members-returns-then-ms-ns
 members-returns-then-ms-ns t c = sym (members-length (by_value c.args.left c.args.s.now c.args.t.now) c.args.ms.now c.args.ns.now c.if-ms-ns.true)

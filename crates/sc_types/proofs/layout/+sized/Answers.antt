@@ -13,4 +13,4 @@ returns-in-None-clause-same t c =
     let e = c.in-Array.element in
     let none : None ≡ within (layout_in structs e) = rw c.get.ensures at c.in-None.ensures.same in
     subst (λ (u : CType). None ≡ within (layout_in structs u)) (sym c.in-Array.is)
-        (subst (λ (o : Option Layout). None ≡ within o) (sym (layout_in_array structs e c.in-Array.length)) (within_repeated c.in-Array.length (layout_in structs e) none))
+    (subst (λ (o : Option Layout). None ≡ within o) (sym (layout_in_array structs e c.in-Array.length)) (within_repeated c.in-Array.length (layout_in structs e) none))

@@ -41,6 +41,7 @@ loop-member-preserved c =
     let e : drop i ms ≡ m ∷ drop (i + 1) ms = at_item ms i m c.loop-member-test.true c.member-item.is in
     let all = members_from (layout_in structs) ms beginning in
     let is : layout_in structs m.of ≡ Some own = within-some (layout_in structs m.of) own (sym c.in-Some.ensures.same) in
-    let step = one_more structs ms i m c.loop-member.end own all e is c.loop-member.invariant.0 in
-    ( subst (λ (l : Layout). members_from (layout_in structs) (drop (i + 1) ms) l ≡ all) (sym c.joined-end.ensures) step
-    , small_joined c.loop-member.end own c.joined-end.result c.loop-member.invariant.1 c.in-Some.ensures.small c.joined-end.ensures c.if-end-gt-MAX_OBJECT.false)
+    let step = one_more structs ms i m c.loop-member.end own all e is c.loop-member.invariant.0 in (
+      subst (λ (l : Layout). members_from (layout_in structs) (drop (i + 1) ms) l ≡ all) (sym c.joined-end.ensures) step,
+      small_joined c.loop-member.end own c.joined-end.result c.loop-member.invariant.1 c.in-Some.ensures.small c.joined-end.ensures c.if-end-gt-MAX_OBJECT.false,
+    )

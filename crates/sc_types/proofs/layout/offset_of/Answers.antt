@@ -23,7 +23,7 @@ pub unreachable-requires : goal.unreachable-requires
 unreachable-requires c =
     let structs = c.args.s.now in
     let none : None ≡ within (members_from (layout_in structs) (take c.args.member (members_in structs c.args.id)) beginning) =
-        c.in-None.ensures.same ∙ ap (λ (xs : List Member). within (members_from (layout_in structs) (take c.args.member xs) beginning)) c.members-members.ensures in
+    c.in-None.ensures.same ∙ ap (λ (xs : List Member). within (members_from (layout_in structs) (take c.args.member xs) beginning)) c.members-members.ensures in
     front-within structs c.args.id c.args.member (object-ends structs c.args.id c.requires.object) none
 
 pub returns : goal.returns
@@ -35,5 +35,5 @@ returns c =
     let there : slice_get ms c.args.member ≡ Some m = slice_get_read ms (length ms) c.args.member m refl c.requires.there is in
     let own : layout_in structs m.of ≡ Some c.layout_of-own.result = ap (λ (x : Member). layout_in structs x.of) c.index-members-member.is ∙ c.layout_of-own.ensures.same in
     let some : within (members_from (layout_in structs) (take c.args.member ms) beginning) ≡ Some c.in-Some.end =
-        sym (ap (λ (xs : List Member). within (members_from (layout_in structs) (take c.args.member xs) beginning)) c.members-members.ensures) ∙ sym c.in-Some.ensures.same in
+    sym (ap (λ (xs : List Member). within (members_from (layout_in structs) (take c.args.member xs) beginning)) c.members-members.ensures) ∙ sym c.in-Some.ensures.same in
     c.rounded.ensures.same ∙ offset-is structs c.args.id c.args.member m c.layout_of-own.result c.in-Some.end there own (within-some (members_from (layout_in structs) (take c.args.member ms) beginning) c.in-Some.end some)
