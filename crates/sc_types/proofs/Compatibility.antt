@@ -1,14 +1,14 @@
 -- Lemmas on the comparison of types.
-use Rattle.std.proofs.Common.{◌≡◌, ◌≢◌, ℕ, zero, suc, ◌+◌, ◌-◌, ◌≤◌, ◌<◌, Bool, true, false, List, [], ◌∷◌, length, take, drop, get_or, Option, Some, None, refl, sym, ◌∙◌, ap, subst, arith, rules}
-use Rattle.std.specs.Prelude.{◌&&◌, not, slice_get, map}
+use Rattle.std.proofs.Common.{◌≡◌, ℕ, zero, suc, ◌+◌, ◌-◌, ◌<◌, Bool, true, false, List, [], ◌∷◌, length, take, drop, get_or, refl, sym, ◌∙◌, ap, arith}
+use Rattle.std.specs.Prelude.{◌&&◌, not}
 use Rattle.std.proofs.lemmas.Grind.{common_steps}
-use Rattle.sc_types.specs.declared.ctype.CType.{CType, fold-CType, fold-roll-CType, out-CType, roll-CType, map-CType}
+use Rattle.sc_types.specs.declared.ctype.CType.{CType, fold-roll-CType, out-CType}
 use Rattle.sc_types.specs.declared.ctype.Signature.{Signature, fold-Signature, fold_out-Signature}
 use Rattle.sc_types.specs.declared.ctype.CType.TheVariants as t
 use Rattle.sc_types.specs.declared.ctype.CType.TheOpen.{CType-F}
 use Rattle.sc_types.specs.declared.ctype.Member.{Member}
 use Rattle.sc_types.specs.declared.ctype.StructDef.{StructDef}
-use Rattle.sc_types.specs.Compatibility.{Pairs, Test, level, signature, parameters, alike, same_parameters, same_signature, same_member, same_members, by_members}
+use Rattle.sc_types.specs.Compatibility.{Pairs, Test, level, signature, alike, same_parameters, same_signature, same_member, same_members, by_members}
 use Rattle.sc_types.specs.declared.compare.Outcome.{Outcome}
 use Rattle.sc_types.specs.declared.compare.Outcome.TheVariants.{Answer, Structures}
 use Rattle.sc_types.specs.Outcomes.{Settles, Reaches}

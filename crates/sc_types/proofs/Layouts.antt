@@ -1,7 +1,7 @@
 -- What has a layout keeps it as more structures become complete.
-use Rattle.std.proofs.Common.{◌≡◌, ℕ, zero, suc, ◌+◌, ◌≤◌, List, [], ◌∷◌, length, Option, Some, None, Bool, true, false, cond, refl, sym, ◌∙◌, ap, subst, arith}
-use Rattle.std.specs.Prelude.{slice_get, option_map, option_and_then, ◌==◌}
-use Rattle.sc_types.specs.declared.ctype.CType.{CType, fold-CType, fold-roll-CType, ind-CType, roll-CType, map-CType}
+use Rattle.std.proofs.Common.{◌≡◌, ℕ, zero, suc, ◌≤◌, List, [], ◌∷◌, Option, Some, None, refl, sym, ◌∙◌, ap, subst, arith}
+use Rattle.std.specs.Prelude.{slice_get, option_map, option_and_then}
+use Rattle.sc_types.specs.declared.ctype.CType.{CType, fold-roll-CType, ind-CType, map-CType}
 use Rattle.sc_types.specs.declared.ctype.Signature.{Signature, fold-Signature}
 use Rattle.sc_types.specs.declared.ctype.CType.TheOpen.{CType-F}
 use Rattle.sc_types.specs.declared.ctype.Member.{Member}

@@ -1,8 +1,8 @@
 -- Members one behind another: they end no earlier as more are joined.
-use Rattle.std.proofs.Common.{◌≡◌, ℕ, zero, suc, ◌+◌, ◌-◌, ◌*◌, ◌/◌, ◌%◌, ◌≤◌, ◌<◌, Bool, true, false, cond, List, [], ◌∷◌, length, drop, Option, Some, None, refl, sym, ◌∙◌, ap, subst, arith, get_or, take, ◌⊎◌, ⊎_elim}
-use Rattle.std.specs.Prelude.{◌&&◌, is_some, max, ◌==◌, nat_le, if◌then◌else◌, option_and_then, option_map, slice_get}
-use Rattle.sc_types.specs.declared.ctype.CType.{CType, fold-CType, fold-roll-CType, ind-CType, roll-CType, map-CType}
-use Rattle.sc_types.specs.declared.ctype.Signature.{Signature, fold-Signature}
+use Rattle.std.proofs.Common.{◌≡◌, ℕ, zero, suc, ◌+◌, ◌-◌, ◌*◌, ◌/◌, ◌%◌, ◌≤◌, ◌<◌, Bool, true, false, List, [], ◌∷◌, length, drop, Option, Some, None, refl, sym, ◌∙◌, ap, subst, arith, get_or, take, ⊎_elim}
+use Rattle.std.specs.Prelude.{◌&&◌, is_some, max, ◌==◌, if◌then◌else◌, option_and_then, option_map, slice_get}
+use Rattle.sc_types.specs.declared.ctype.CType.{CType, fold-roll-CType, ind-CType, map-CType}
+use Rattle.sc_types.specs.declared.ctype.Signature.{Signature}
 use Rattle.sc_types.specs.declared.ctype.CType.TheOpen.{CType-F}
 use Rattle.sc_types.specs.declared.ctype.Member.{Member}
 use Rattle.sc_types.specs.declared.ctype.StructDef.{StructDef}

@@ -1,15 +1,14 @@
 -- Where the members of a structure stand that is not too large.
-use Rattle.std.proofs.Common.{◌≡◌, ℕ, zero, suc, ◌+◌, ◌≤◌, ◌<◌, Bool, true, false, List, [], ◌∷◌, length, take, get_or, Option, Some, None, refl, sym, ◌∙◌, ap, subst, arith, ⊎_elim}
+use Rattle.std.proofs.Common.{◌≡◌, ℕ, ◌≤◌, Bool, true, false, List, [], length, take, Option, Some, None, refl, sym, ◌∙◌, ap, arith, ⊎_elim}
 use Rattle.std.specs.Prelude.{IsTrue, is_some, slice_get, option_map, option_and_then, unwrap_or}
-use Rattle.sc_types.specs.declared.ctype.CType.{CType, fold-roll-CType}
+use Rattle.sc_types.specs.declared.ctype.CType.{fold-roll-CType}
 use Rattle.sc_types.specs.declared.ctype.CType.TheVariants as t
 use Rattle.sc_types.specs.declared.ctype.CType.TheOpen.{CType-F}
 use Rattle.sc_types.specs.declared.ctype.Member.{Member}
 use Rattle.sc_types.specs.declared.ctype.StructDef.{StructDef}
 use Rattle.sc_types.specs.declared.layout.Layout.{Layout}
-use Rattle.sc_types.specs.Layouts.{layer, layout_by, layout_in, rounded, members_from, beginning, padded, structure_layout, members_in, end_in, align_in, offset_in}
+use Rattle.sc_types.specs.Layouts.{layer, layout_in, rounded, members_from, beginning, structure_layout, members_in, end_in, align_in, offset_in}
 use Rattle.sc_types.specs.Tables.{largest, within, is_object}
-use Rattle.sc_types.proofs.Layouts.{Laid}
 use Rattle.sc_types.proofs.Sizes.{kept_or_none}
 use Rattle.sc_types.proofs.Tables.{within-some}
 use Rattle.sc_types.proofs.Members.{rounded-above, members_from-grows, layout_in-aligned, structure-members, front, all_objects, all_inside}

@@ -1,21 +1,19 @@
 -- A table stays one as structures are declared and become complete.
-use Rattle.std.proofs.Common.{◌≡◌, ◌≢◌, ℕ, zero, suc, ◌+◌, ◌≤◌, ◌<◌, List, [], ◌∷◌, ◌++◌, length, get_or, set, Option, Some, None, Bool, true, false, cond, refl, sym, ◌∙◌, ap, subst, arith, length-append, ◌⊎◌, inl, inr, ⊎_elim}
-use Rattle.std.specs.Prelude.{slice_get, count_by, is_some}
-use Rattle.std.proofs.lemmas.Option.{slice_get_past, slice_get_within, slice_get-get_or, get_or_from_slice_get}
-use Rattle.std.proofs.lemmas.List.{get_or-set_same, get_or-set_other, get_or_append_left}
+use Rattle.std.proofs.Common.{◌≡◌, ◌≢◌, ℕ, zero, suc, ◌+◌, ◌≤◌, ◌<◌, List, [], ◌∷◌, ◌++◌, length, get_or, set, Option, Some, None, true, false, cond, refl, sym, ◌∙◌, ap, subst, arith, length-append, ◌⊎◌, inl, inr, ⊎_elim}
+use Rattle.std.specs.Prelude.{slice_get, is_some}
+use Rattle.std.proofs.lemmas.Option.{slice_get_within, get_or_from_slice_get}
+use Rattle.std.proofs.lemmas.List.{get_or-set_same, get_or-set_other}
 use Rattle.std.proofs.lemmas.List.Sums.{sum_by_push, sum_by-set, count_by-le-length}
-use Rattle.std.proofs.Math.Seq.{get_or-append_seam}
 use Rattle.std.proofs.lemmas.Bool.{cases_lt}
 use Rattle.std.proofs.Math.Numerals.{add-one}
 use Rattle.std.proofs.Math.ListN.{length-set}
 use Rattle.sc_types.proofs.Sizes.{kept_or_none}
-use Rattle.sc_types.specs.declared.ctype.CType.{CType}
 use Rattle.sc_types.specs.declared.ctype.Member.{Member}
 use Rattle.sc_types.specs.declared.ctype.StructDef.{StructDef}
 use Rattle.sc_types.specs.declared.layout.Layout.{Layout}
 use Rattle.sc_types.specs.Layouts.{layout_by, layout_in, structure, structure_layout}
-use Rattle.sc_types.specs.Tables.{largest, within, has_members, complete_count, IsSmall, entry, IsTable, IsIncomplete}
-use Rattle.sc_types.proofs.Layouts.{Extends, Kept, bound, Laid, structure-laid, structure-kept, Grows, structure_layout-kept, layout_by-kept}
+use Rattle.sc_types.specs.Tables.{within, has_members, complete_count, IsSmall, entry, IsTable, IsIncomplete}
+use Rattle.sc_types.proofs.Layouts.{Extends, structure-kept, Grows, structure_layout-kept, layout_by-kept}
 
 -- a structure without members has no layout
 no_members : (structs : List StructDef) (n id : ℕ) → ((d : StructDef) → slice_get structs id ≡ Some d → d.members ≡ None) → structure_layout n structs id ≡ None

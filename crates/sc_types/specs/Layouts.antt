@@ -1,5 +1,5 @@
 -- The size and alignment of objects, and where members stand (ANSI 3.1.2.5, 3.3.3.4, 3.5.2.1; ILP32).
-use Rattle.std.specs.Prelude.{ℕ, zero, suc, ◌+◌, ◌-◌, ◌*◌, ◌/◌, ◌==◌, nat_le, max, Bool, if◌then◌else◌, List, [], ◌∷◌, length, take, slice_get, Option, Some, None, is_some, option_map, option_and_then, unwrap_or}
+use Rattle.std.specs.Prelude.{ℕ, zero, suc, ◌+◌, ◌-◌, ◌*◌, ◌/◌, ◌==◌, max, if◌then◌else◌, List, [], ◌∷◌, length, take, slice_get, Option, Some, None, option_map, option_and_then, unwrap_or}
 use Rattle.sc_base.specs.declared.integer.Int.{Int}
 use Rattle.sc_base.specs.declared.integer.Int.TheVariants as int
 use Rattle.sc_types.specs.declared.ctype.CType.{CType, fold-CType}

@@ -1,5 +1,5 @@
 -- How far a comparison of two types has come.
-use Rattle.std.specs.Prelude.{◌≡◌, ℕ, suc, Bool, List}
+use Rattle.std.specs.Prelude.{◌≡◌, ℕ, Bool, List}
 use Rattle.sc_types.specs.declared.ctype.StructDef.{StructDef}
 use Rattle.sc_types.specs.declared.compare.Outcome.{Outcome}
 use Rattle.sc_types.specs.declared.compare.Outcome.TheVariants.{Answer, Structures}

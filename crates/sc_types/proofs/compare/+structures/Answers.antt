@@ -1,9 +1,8 @@
-use Rattle.std.proofs.Common.{◌≡◌, ◌+◌, ◌-◌, Bool, true, false, List, take, drop, length, get_or, sym, ◌∙◌, ap}
+use Rattle.std.proofs.Common.{◌≡◌, ◌+◌, ◌-◌, Bool, true, false, List, take, drop, length, sym, ◌∙◌, ap}
 use Rattle.std.specs.Prelude.{◌&&◌}
 use Rattle.std.specs.Str.{bytes_eq}
 use Rattle.sc_types.specs.declared.ctype.Member.{Member}
 use Rattle.sc_types.specs.Compatibility.{Pairs, by_value, by_tag, alike, same_member, same_members}
-use Rattle.sc_types.specs.Outcomes.{Reaches}
 use Rattle.sc_types.proofs.Compatibility.{members-length, split-members, first_fails, middle_fails, last_fails, middle_decides, not-true, not-false, reaches, settles-reaches, rest-is}
 use Rattle.sc_types.proofs.compare.+structures.Goals as goal
 

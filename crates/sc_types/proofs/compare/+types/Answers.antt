@@ -1,4 +1,4 @@
-use Rattle.std.proofs.Common.{◌≡◌, sym, ◌∙◌, ap}
+use Rattle.std.proofs.Common.{sym, ◌∙◌, ap}
 use Rattle.sc_types.specs.declared.ctype.CType.{CType}
 use Rattle.sc_types.specs.declared.ctype.CType.TheVariants as t
 use Rattle.sc_types.specs.declared.ctype.Signature.{Signature}

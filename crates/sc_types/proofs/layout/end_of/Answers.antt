@@ -1,7 +1,7 @@
-use Rattle.std.proofs.Common.{◌≡◌, ◌≤◌, ◌<◌, ◌+◌, ◌∷◌, Option, Some, None, drop, sym, subst, arith}
+use Rattle.std.proofs.Common.{◌≡◌, ◌<◌, ◌+◌, ◌∷◌, Some, drop, sym, subst, arith}
 use Rattle.sc_types.specs.declared.layout.Layout.{Layout}
 use Rattle.sc_types.specs.Layouts.{layout_in, members_from, beginning, joined}
-use Rattle.sc_types.specs.Tables.{largest, within}
+use Rattle.sc_types.specs.Tables.{largest}
 use Rattle.sc_types.proofs.Tables.{within-some}
 use Rattle.sc_types.proofs.Members.{at_item, one_more, small_joined, ends_too_late, stops_at}
 use Rattle.sc_types.proofs.layout.end_of.Goals as goal

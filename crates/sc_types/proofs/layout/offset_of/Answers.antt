@@ -1,9 +1,8 @@
-use Rattle.std.proofs.Common.{◌≡◌, ◌<◌, List, length, take, get_or, Option, Some, None, true, sym, ◌∙◌, ap, subst, refl}
+use Rattle.std.proofs.Common.{◌≡◌, List, length, take, get_or, Some, None, true, sym, ◌∙◌, ap, subst, refl}
 use Rattle.std.specs.Prelude.{IsTrue, slice_get}
 use Rattle.std.proofs.lemmas.Option.{slice_get_read}
 use Rattle.sc_types.specs.declared.ctype.Member.{Member}
-use Rattle.sc_types.specs.declared.layout.Layout.{Layout}
-use Rattle.sc_types.specs.Layouts.{layout_in, members_from, beginning, members_in, rounded}
+use Rattle.sc_types.specs.Layouts.{layout_in, members_from, beginning, members_in}
 use Rattle.sc_types.specs.Tables.{within, is_object}
 use Rattle.sc_types.proofs.Tables.{within-some}
 use Rattle.sc_types.proofs.Members.{object_at}
