@@ -1,0 +1,6 @@
+mod Layouts
+mod Tables
+mod Sizes
+mod Members
+mod Offsets
+mod Compatibility

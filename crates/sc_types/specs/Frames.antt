@@ -1,0 +1,10 @@
+-- How much stack a function's frame takes.
+use Rattle.std.specs.Prelude.{ℕ, ◌+◌, ◌-◌, ◌*◌, ◌/◌}
+
+-- two saved registers, the slots, a temporary for each value kept, and the arguments past the eighth
+abbrev pub frame_bytes : ℕ → ℕ → ℕ → ℕ
+frame_bytes slots room args = 8 + slots + 4 * room + 4 * (args - 8)
+
+-- the next multiple of 16
+abbrev pub frame_cost : ℕ → ℕ → ℕ → ℕ
+frame_cost slots room args = (frame_bytes slots room args + 15) / 16 * 16
