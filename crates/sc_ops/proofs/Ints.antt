@@ -1,5 +1,5 @@
 -- The operators in `int`, from what the code's signed operations give.
-use Rattle.std.proofs.Common.{◌≡◌, ℕ, zero, suc, ◌+◌, ◌-◌, ◌*◌, ◌<◌, ◌≤◌, ◌^◌, ◌%◌, Bool, true, false, not, if◌then◌else◌, ℤ, pos, negsuc, ◌+ℤ◌, ◌-ℤ◌, ◌*ℤ◌, int_div, int_rem, Option, Some, None, Result, Ok, Err, refl, sym, ap, ap₂, ◌∙◌, arith, to_z, of_z, w32, FitsSigned, nat_lt, nat_le, ◌==◌, ⊎_elim}
+use Rattle.std.proofs.Common.{◌≡◌, ℕ, zero, suc, ◌-◌, ◌<◌, ◌≤◌, ◌^◌, ◌%◌, Bool, true, false, not, if◌then◌else◌, ℤ, pos, negsuc, ◌-ℤ◌, ◌*ℤ◌, int_div, int_rem, Some, None, Result, Ok, Err, refl, sym, ap, ap₂, ◌∙◌, arith, to_z, of_z, w32, nat_lt, nat_le, ◌==◌, ⊎_elim}
 use Rattle.std.proofs.lemmas.Int.{ints}
 use Rattle.std.proofs.lemmas.Bool.{cond-true, cond-false, lt-leb, le-leb, le-ltb, ne_eqb, cases_lt}
 use Rattle.std.proofs.Math.Nat.{mod-eq_of_lt}
@@ -8,7 +8,7 @@ use Rattle.sc_base.specs.declared.operator.Op.{Op}
 use Rattle.sc_base.specs.declared.operator.Op.TheVariants.{Sub, Mul, Div, Rem}
 use Rattle.sc_base.specs.declared.report.Rule.{Rule}
 use Rattle.sc_base.specs.declared.report.Rule.TheVariants.{U7, U8}
-use Rattle.sc_ops.specs.Numbers.{number_of, bits_of, is_in_range}
+use Rattle.sc_ops.specs.Numbers.{number_of}
 use Rattle.sc_ops.specs.Operators.{result_of, checked, divided, unless_broken}
 
 -- the number of 32 bits without the sign bit, and with it

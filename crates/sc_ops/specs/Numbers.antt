@@ -1,5 +1,5 @@
 -- Integer types and the numbers that bits stand for (ANSI 3.1.2.5, 3.2.1).
-use Rattle.std.specs.Prelude.{ℕ, ◌+◌, ◌-◌, ◌*◌, ◌/◌, ◌%◌, ◌^◌, Bool, true, false, ◌&&◌, nat_lt, nat_le, if◌then◌else◌, ℤ, pos, negsuc}
+use Rattle.std.specs.Prelude.{ℕ, ◌-◌, ◌%◌, ◌^◌, Bool, true, false, ◌&&◌, nat_lt, nat_le, if◌then◌else◌, ℤ, pos, negsuc}
 use Rattle.sc_base.specs.declared.integer.Int.{Int}
 use Rattle.sc_base.specs.declared.integer.Int.TheVariants.{Char, SChar, UChar, Short, UShort, UInt, Long, ULong}
 use Rattle.sc_base.specs.declared.integer.Int.TheVariants.{Int as PlainInt}

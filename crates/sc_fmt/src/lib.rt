@@ -1,0 +1,8 @@
+//! The pieces of a `printf` format, numbers as its conversions write them, and the classes of characters.
+#![tactic(auto)]
+
+mod conversion;
+mod pieces;
+
+pub use conversion::{Conv, Count, Piece};
+pub use pieces::piece;
