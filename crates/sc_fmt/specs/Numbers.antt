@@ -36,21 +36,17 @@ is_hexadecimal p = p.kind == 120 || p.kind == 88
 abbrev pub base_of : Conv → ℕ
 base_of p = if p.kind == 111 then 8 else if is_hexadecimal p then 16 else 10
 
--- how many bits are converted: those of a short behind an `h`
-abbrev pub bits_taken : Conv → ℕ
-bits_taken p = if p.half then 16 else 32
-
--- the bits that are converted
+-- the bits that are converted: those of a short behind an `h`
 abbrev pub taken : Conv → ℕ → ℕ
-taken p v = v % 2 ^ bits_taken p
+taken p v = if p.half then v % 2 ^ 16 else v % 2 ^ 32
 
--- whether the number is below zero
+-- whether the number is below zero, by its sign bit
 abbrev pub is_negative : Conv → ℕ → Bool
-is_negative p v = is_signed p && nat_le (2 ^ (bits_taken p - 1)) (taken p v)
+is_negative p v = is_signed p && (if p.half then nat_le (2 ^ 15) (taken p v) else nat_le (2 ^ 31) (taken p v))
 
 -- the number without its sign
 abbrev pub magnitude : Conv → ℕ → ℕ
-magnitude p v = if is_negative p v then 2 ^ bits_taken p - taken p v else taken p v
+magnitude p v = if is_negative p v then (if p.half then 2 ^ 16 - taken p v else 2 ^ 32 - taken p v) else taken p v
 
 -- a digit, in capitals for `X`
 abbrev pub digit_char : Conv → ℕ → ℕ

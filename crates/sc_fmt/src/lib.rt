@@ -2,7 +2,9 @@
 #![tactic(auto)]
 
 mod conversion;
+mod numbers;
 mod pieces;
 
 pub use conversion::{Conv, Count, Piece};
+pub use numbers::number;
 pub use pieces::piece;
