@@ -31,7 +31,7 @@ pub capped_more : (ds : List ℕ) (i m n r c : ℕ) → i < length ds → c ≡ 
 capped_more ds i m n r c below item digit was product sum =
     let b = digit_bounds c digit in
     let more : digits_value 10 (take (i + 1) ds) ≡ digits_value 10 (take i ds) * 10 + (c - 48) =
-        digits_value_more 10 ds i below ∙ ap (λ x. digits_value 10 (take i ds) * 10 + x) (ap digit_value (sym item) ∙ digit_value-is c b.0 b.1) in
+    digits_value_more 10 ds i below ∙ ap (λ x. digits_value 10 (take i ds) * 10 + x) (ap digit_value (sym item) ∙ digit_value-is c b.0 b.1) in
     omega (arith, more, was, product, sum)
 
 -- the digits at the front are digits

@@ -73,16 +73,23 @@ abbrev pub conversion_with : ℕ → List ℕ → List ℕ → List ℕ → List
 conversion_with n flags width precision modifier kind =
     if is_kind (first kind)
     then Converts (record {
-        minus = has flags 45; plus = has flags 43; space = has flags 32; alt = has flags 35; zero = has flags 48;
-        width = count_at width; precision = precision_at precision;
-        half = first modifier == 104; kind = first kind }) n
+      minus = has flags 45;
+      plus = has flags 43;
+      space = has flags 32;
+      alt = has flags 35;
+      zero = has flags 48;
+      width = count_at width;
+      precision = precision_at precision;
+      half = first modifier == 104;
+      kind = first kind;
+    }) n
     else Wrong
 
 -- the conversion that begins with the first byte, a `%`
 abbrev pub conversion_of : List ℕ → Piece
 conversion_of bs =
     conversion_with (length bs - length (drop 1 (at_kind bs)))
-        (take_while is_flag (at_flags bs)) (at_width bs) (at_precision bs) (at_modifier bs) (at_kind bs)
+    (take_while is_flag (at_flags bs)) (at_width bs) (at_precision bs) (at_modifier bs) (at_kind bs)
 
 -- the piece at the head of what is left of a format
 abbrev pub piece_of : List ℕ → Piece

@@ -1,4 +1,5 @@
 // What a format is made of (ANSI 4.9.6.1).
+ghost use Rattle.std.specs.Prelude.{◌≡◌};
 
 /// A width or a precision.
 #[derive(Clone, Copy, Debug, PartialEq, Eq)]
@@ -28,6 +29,19 @@ pub struct Conv {
     pub half: bool,
     /// One of `d i o u x X c s %`.
     pub kind: u8,
+}
+
+impl Conv {
+    ghost use Rattle.sc_fmt.specs.Numbers.{is_number};
+
+    /// Whether it writes a number and no `*` is left: its kind is one of `d i o u x X`.
+    pub fn is_number(&self) -> bool
+        ensures { result ≡ is_number self.now }
+    {
+        matches!(self.kind, b'd' | b'i' | b'o' | b'u' | b'x' | b'X')
+            && self.width != Some(Count::Star)
+            && self.precision != Some(Count::Star)
+    }
 }
 
 /// A piece of a format, with the number of bytes read.

@@ -157,7 +157,9 @@ fn prefix(p: &Conv, v: u32) -> &'static [u8]
 fn field(alloc: Global, p: &Conv, prefix: &[u8], body: &[u8]) -> Result<Vec<u8>, NoMemory>
     ensures { IfOk result (λ text. text.items ≡ field_text p.now prefix.now body.now) }
 {
-    let gap = number_or(p.width, 0).saturating_sub(prefix.len()).saturating_sub(body.len());
+    let gap = number_or(p.width, 0)
+        .saturating_sub(prefix.len())
+        .saturating_sub(body.len());
     if p.minus {
         laid_out(alloc, 0, prefix, 0, body, gap)
     } else if p.zero && p.precision.is_none() {
@@ -168,7 +170,14 @@ fn field(alloc: Global, p: &Conv, prefix: &[u8], body: &[u8]) -> Result<Vec<u8>,
 }
 
 // Spaces, a prefix, zeros, digits and spaces.
-fn laid_out(alloc: Global, before: usize, prefix: &[u8], zeros: usize, body: &[u8], after: usize) -> Result<Vec<u8>, NoMemory>
+fn laid_out(
+    alloc: Global,
+    before: usize,
+    prefix: &[u8],
+    zeros: usize,
+    body: &[u8],
+    after: usize,
+) -> Result<Vec<u8>, NoMemory>
     ensures { IfOk result (λ text. text.items ≡ replicate before 32 ++ prefix.now ++ replicate zeros 48 ++ body.now ++ replicate after 32) }
 {
     let mut text = Vec::new(alloc);

@@ -155,5 +155,8 @@ fn is_digit(c: u8) -> bool
 fn is_kind(c: u8) -> bool
     ensures { result ≡ is_kind c }
 {
-    matches!(c, b'd' | b'i' | b'o' | b'u' | b'x' | b'X' | b'c' | b's' | b'%')
+    matches!(
+        c,
+        b'd' | b'i' | b'o' | b'u' | b'x' | b'X' | b'c' | b's' | b'%'
+    )
 }
