@@ -12,9 +12,17 @@ static const char *const precisions[] = {"", ".0", ".", ".3", ".12"};
 static const char *const widths[] = {"", "9", "2", "14"};
 static const char *const modifiers[] = {"", "h", "l"};
 
+static int bits(int c) {
+    int is[] = {isalnum(c), isalpha(c), iscntrl(c), isdigit(c), isgraph(c), islower(c),
+                isprint(c), ispunct(c), isspace(c), isupper(c), isxdigit(c)};
+    int bits = 0;
+    for (int k = 0; k < 11; k++) bits |= (is[k] != 0) << k;
+    return bits;
+}
+
 int main(void) {
     unsigned state = 1;
-    printf("// Made by tests/vectors/number.c: what the C library's printf writes, and what its ctype calls answer.\n\npub const WRITTEN: [(&str, u32, &str); %d] = [\n", ROWS);
+    printf("// Made by tests/vectors/number.c: what the C library's printf writes, and what its ctype calls answer.\n\n// A line for each: the format, the number and the text, between bars.\npub const WRITTEN: &str = \"\\\n");
     for (int row = 0; row < ROWS; row++) {
         char format[32] = "%", text[64];
         /* each flag set and each kind comes ten times with no modifier of the rest, the others by a generator */
@@ -34,15 +42,12 @@ int main(void) {
         char run[32];
         sprintf(run, "%.*s%s%c", head, format, *modifier == 'h' ? "h" : "", "diuoxX"[kind]);
         sprintf(text, run, value);
-        printf("    (\"%s\", %#x, \"%s\"),\n", format, value, text);
+        printf("%s|%u|%s|\n", format, value, text);
     }
-    printf("];\n\npub const CLASSES: [u16; 256] = [");
-    for (int c = 0; c < 256; c++) {
-        int is[] = {isalnum(c), isalpha(c), iscntrl(c), isdigit(c), isgraph(c), islower(c),
-                    isprint(c), ispunct(c), isspace(c), isupper(c), isxdigit(c)};
-        int bits = 0;
-        for (int k = 0; k < 11; k++) bits |= (is[k] != 0) << k;
-        printf("%s%d", c ? ", " : "", bits);
+    printf("\";\n\n// The first and last character of a range, and the bits of its classes.\npub const CLASSES: [(u8, u8, u16); 15] = [\n");
+    for (int c = 0, last; c < 256; c = last + 1) {
+        for (last = c; last < 255 && bits(last + 1) == bits(c); last++) {}
+        printf("    (%d, %d, %d),\n", c, last, bits(c));
     }
     printf("];\n");
     return 0;

@@ -1,5 +1,5 @@
 -- Facts for the reader of formats.
-use Rattle.std.proofs.Common.{Option, drop, ◌==◌, ◌≡◌, ℕ, ◌+◌, ◌-◌, ◌*◌, ◌^◌, ◌<◌, ◌≤◌, ◌&&◌, Bool, true, false, min, List, length, take, get_or, nat_le, nat_lt, cond, refl, sym, ap, ◌∙◌, arith, All, subst}
+use Rattle.std.proofs.Common.{drop, ◌==◌, ◌≡◌, ℕ, ◌+◌, ◌-◌, ◌*◌, ◌^◌, ◌<◌, ◌≤◌, true, min, List, length, take, get_or, nat_le, nat_lt, sym, ap, ◌∙◌, arith, subst}
 use Rattle.std.specs.List.{AllPass, prefix_len, take_while}
 use Rattle.std.specs.Char.{digit_value}
 use Rattle.std.specs.Str.Parse.{digits_value}
@@ -10,8 +10,6 @@ use Rattle.std.proofs.lemmas.List.Sums.{prefix_len_passes}
 use Rattle.std.proofs.lemmas.List.{length-take, length-drop, get_or-take}
 use Rattle.sc_fmt.specs.Format.{first, is_flag, is_digit, is_kind, has, capped, count_len, count_at, precision_len, precision_at, modifier_len, at_flags, at_width, at_precision, at_modifier, at_kind, conversion_with, conversion_of}
 use Rattle.sc_fmt.specs.declared.conversion.Conv.{Conv}
-use Rattle.sc_fmt.specs.declared.conversion.Count.{Count}
-use Rattle.sc_fmt.specs.declared.conversion.Piece.{Piece}
 use Rattle.sc_fmt.specs.declared.conversion.Piece.TheVariants.{Wrong}
 use Rattle.sc_fmt.specs.declared.conversion.Piece.TheVariants.{Conv as Converts}
 

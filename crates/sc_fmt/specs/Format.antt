@@ -1,8 +1,7 @@
 -- The pieces of a format (ANSI 4.9.6.1): text, or a conversion `%[flags][width][.precision][h|l]kind`.
-use Rattle.std.specs.Prelude.{ℕ, ◌+◌, ◌-◌, ◌^◌, min, Bool, true, false, not, ◌||◌, ◌&&◌, nat_le, ◌==◌, if◌then◌else◌, Option, Some, None, unwrap_or, List, [], ◌∷◌, length, take, drop, take_while, slice_index, codes}
+use Rattle.std.specs.Prelude.{ℕ, ◌+◌, ◌-◌, ◌^◌, min, Bool, not, ◌||◌, ◌&&◌, nat_le, ◌==◌, if◌then◌else◌, Option, Some, None, unwrap_or, List, [], ◌∷◌, length, drop, take_while, slice_index}
 use Rattle.std.specs.List.{prefix_len, list_any}
 use Rattle.std.specs.Str.Parse.{digits_value}
-use Rattle.sc_fmt.specs.declared.conversion.Conv.{Conv}
 use Rattle.sc_fmt.specs.declared.conversion.Count.{Count}
 use Rattle.sc_fmt.specs.declared.conversion.Count.TheVariants.{Fixed, Star}
 use Rattle.sc_fmt.specs.declared.conversion.Piece.{Piece}

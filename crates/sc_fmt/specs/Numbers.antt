@@ -1,10 +1,9 @@
 -- How a conversion writes a number (ANSI 4.9.6.1).
-use Rattle.std.specs.Prelude.{ℕ, zero, suc, ◌+◌, ◌-◌, ◌^◌, ◌%◌, max, Bool, true, false, not, ◌&&◌, ◌||◌, nat_lt, nat_le, ◌==◌, if◌then◌else◌, Option, Some, None, is_none, List, [], ◌∷◌, ◌++◌, map, length, replicate}
+use Rattle.std.specs.Prelude.{ℕ, ◌+◌, ◌-◌, ◌^◌, ◌%◌, max, Bool, true, false, not, ◌&&◌, ◌||◌, nat_lt, nat_le, ◌==◌, if◌then◌else◌, Option, Some, None, is_none, List, [], ◌∷◌, ◌++◌, map, length, replicate}
 use Rattle.std.specs.Int.Digits.{digits_of}
 use Rattle.sc_fmt.specs.declared.conversion.Conv.{Conv}
 use Rattle.sc_fmt.specs.declared.conversion.Count.{Count}
 use Rattle.sc_fmt.specs.declared.conversion.Count.TheVariants.{Fixed, Star}
-use Rattle.sc_fmt.specs.Format.{is_kind}
 
 -- one of `d i o u x X`
 abbrev pub is_number_kind : ℕ → Bool

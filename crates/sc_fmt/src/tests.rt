@@ -9,21 +9,49 @@ use table::{CLASSES, WRITTEN};
 // What a format of one conversion writes for a number; nothing where it is none.
 fn written(alloc: Global, format: &[u8], value: u32) -> Result<Option<Bytes>, NoMemory> {
     match piece(format, 0) {
-        Piece::Conv(conv, len) if conv.is_number() && len == format.len() => Ok(Some(number(alloc, &conv, value)?)),
+        Piece::Conv(conv, len) if conv.is_number() && len == format.len() => Ok(Some(number(
+            alloc, &conv, value,
+        )?)),
         _ => Ok(None),
     }
 }
 
+// Whether a line of the table, a format, a number and a text between bars, is what a conversion writes.
+fn agrees(alloc: Global, line: &str) -> Result<bool, NoMemory> {
+    let Some((format, rest)) = line.split_once('|') else {
+        return Ok(false);
+    };
+    let Some((value, rest)) = rest.split_once('|') else {
+        return Ok(false);
+    };
+    let Some((expected, _)) = rest.split_once('|') else {
+        return Ok(false);
+    };
+    let Ok(value) = value.parse::<u32>() else {
+        return Ok(false);
+    };
+    let text = written(alloc, format.as_bytes(), value)?;
+    Ok(text.is_some_and(|text| text.as_slice() == expected.as_bytes()))
+}
+
 #[test]
 fn writes_as_the_library(rt: HostRuntime) -> Result<(), NoMemory> {
-    for (format, value, expected) in &WRITTEN {
-        let text = written(rt.alloc(), format.as_bytes(), *value)?;
-        assert!(rt; text.is_some_and(|text| text.as_slice() == expected.as_bytes()), "{format} of {value}");
+    let mut lines = 0u32;
+    for line in WRITTEN.lines() {
+        assert!(rt; agrees(rt.alloc(), line)?, "{line}");
+        lines = lines.saturating_add(1);
     }
-    for c in 0..=255u8 {
-        assert_eq!(rt; class(c), CLASSES[c as usize], "class of {c}");
-    }
+    assert_eq!(rt; lines, 320);
     Ok(())
+}
+
+#[test]
+fn classifies_as_the_library(rt: HostRuntime) {
+    for (first, last, bits) in &CLASSES {
+        for c in *first..=*last {
+            assert_eq!(rt; class(c), *bits, "class of {c}");
+        }
+    }
 }
 
 #[test]

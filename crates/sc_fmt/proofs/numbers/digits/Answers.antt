@@ -1,4 +1,3 @@
-use Rattle.std.proofs.Common.{rules}
 use Rattle.sc_fmt.proofs.Writing.{digits_text-more}
 use Rattle.sc_fmt.proofs.numbers.digits.Goals as goal
 

@@ -1,5 +1,4 @@
 use Rattle.std.proofs.Common.{rules, get_or, refl}
-use Rattle.std.proofs.lemmas.List.Elements.{All-get_or}
 use Rattle.sc_fmt.proofs.Reading.{capped_more, digit_at}
 use Rattle.sc_fmt.proofs.pieces.capped.Goals as goal
 

@@ -1,4 +1,4 @@
-use Rattle.std.proofs.Common.{◌≡◌, ◌-◌, ◌^◌, min, take}
+use Rattle.std.proofs.Common.{◌≡◌, take}
 use Rattle.sc_fmt.specs.Format.{capped}
 use Rattle.sc_fmt.proofs.pieces.capped.Given as goal
 
