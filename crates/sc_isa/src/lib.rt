@@ -1,0 +1,11 @@
+//! The instructions of RV32IM and their words.
+#![tactic(auto)]
+
+mod encoding;
+mod instruction;
+
+pub use encoding::encode;
+pub use instruction::{BranchOp, ImmOp, Instr, LoadOp, RegOp, StoreOp};
+
+#[cfg(test)]
+mod tests;

@@ -1,0 +1,54 @@
+/* Prints the table crates/sc_fmt/src/tests/table.rt: what the C library's printf
+   writes and its ctype calls answer. All flags, widths, precisions,
+   modifiers and kinds are met in turn at ten values; of all
+   combinations ROWS are taken, in which each set of flags and each kind comes ten times and more. Build: gcc number.c */
+#include <ctype.h>
+#include <stdio.h>
+#include <string.h>
+
+enum { ROWS = 320 };
+static const unsigned values[] = {0, 1, 7, 8, 0xff, 0x8000, 0xffff, 0x7fffffff, 0x80000000, 0xffffffff};
+static const char *const precisions[] = {"", ".0", ".", ".3", ".12"};
+static const char *const widths[] = {"", "9", "2", "14"};
+static const char *const modifiers[] = {"", "h", "l"};
+
+static int bits(int c) {
+    int is[] = {isalnum(c), isalpha(c), iscntrl(c), isdigit(c), isgraph(c), islower(c),
+                isprint(c), ispunct(c), isspace(c), isupper(c), isxdigit(c)};
+    int bits = 0;
+    for (int k = 0; k < 11; k++) bits |= (is[k] != 0) << k;
+    return bits;
+}
+
+int main(void) {
+    unsigned state = 1;
+    printf("// Made by tests/vectors/number.c: what the C library's printf writes, and what its ctype calls answer.\n\n// A line for each: the format, the number and the text, between bars.\npub const WRITTEN: &str = \"\\\n");
+    for (int row = 0; row < ROWS; row++) {
+        char format[32] = "%", text[64];
+        /* each flag set and each kind comes ten times with no modifier of the rest, the others by a generator */
+        int flags = row % 32, kind = row % 6;
+        unsigned v;
+        state = state * 1103515245u + 12345u;
+        v = state / 65536u;
+        for (int f = 0; f < 5; f++)
+            if (flags >> f & 1) strncat(format, &"-+ #0"[f], 1);
+        const char *width = widths[v % 4], *precision = precisions[v / 4 % 5], *modifier = modifiers[v / 20 % 3];
+        unsigned value = values[v / 60 % 10];
+        strcat(strcat(format, width), precision);
+        int head = (int)strlen(format);
+        strcat(format, modifier);
+        strncat(format, &"diuoxX"[kind], 1);
+        /* long has 32 bits in the table: an l is left out of the format that is run here */
+        char run[32];
+        sprintf(run, "%.*s%s%c", head, format, *modifier == 'h' ? "h" : "", "diuoxX"[kind]);
+        sprintf(text, run, value);
+        printf("%s|%u|%s|\n", format, value, text);
+    }
+    printf("\";\n\n// The first and last character of a range, and the bits of its classes.\npub const CLASSES: [(u8, u8, u16); 15] = [\n");
+    for (int c = 0, last; c < 256; c = last + 1) {
+        for (last = c; last < 255 && bits(last + 1) == bits(c); last++) {}
+        printf("    (%d, %d, %d),\n", c, last, bits(c));
+    }
+    printf("];\n");
+    return 0;
+}
