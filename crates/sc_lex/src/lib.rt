@@ -2,6 +2,8 @@
 #![tactic(auto)]
 
 mod automaton;
+mod mark;
+mod phases;
 mod token;
 
 pub use automaton::token_kind;
