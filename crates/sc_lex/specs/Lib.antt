@@ -1,2 +1,4 @@
 pub mod Automaton
 pub mod Phases
+pub mod Pieces
+pub mod Tokens

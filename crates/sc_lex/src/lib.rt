@@ -2,9 +2,12 @@
 #![tactic(auto)]
 
 mod automaton;
+mod lexing;
 mod mark;
 mod phases;
+mod piece;
 mod token;
 
 pub use automaton::token_kind;
+pub use lexing::lex;
 pub use token::{Token, TokenKind};
