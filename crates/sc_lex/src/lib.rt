@@ -11,3 +11,6 @@ mod token;
 pub use automaton::token_kind;
 pub use lexing::lex;
 pub use token::{Token, TokenKind};
+
+#[cfg(test)]
+mod tests;
