@@ -6,6 +6,7 @@ ghost use Rattle.sc_lex.specs.Tokens as spec;
 use crate::mark::Mark;
 use crate::phases::logical;
 use crate::piece::{Piece, first_piece};
+use crate::unclosed::Unclosed;
 use crate::{Token, TokenKind};
 use sc_base::{Bytes, Fault, Items, NoMemory, Refusal, X};
 use std::alloc::Global;
@@ -65,8 +66,9 @@ fn cut(alloc: Global, marks: &[Mark], file: u32) -> Result<Items<Token>, Fault>
     let mut out = Items::new(alloc);
     let mut left = marks;
     let mut space = false;
+    let mut unclosed = Unclosed::new(marks);
     'pieces: while let Some(mark) = left.first() {
-        match first_piece(left) {
+        match first_piece(left, &mut unclosed) {
             Piece::Space(n) => {
                 let (_, rest) = left.split_at(n);
                 space = true;

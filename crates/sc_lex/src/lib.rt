@@ -7,6 +7,7 @@ mod mark;
 mod phases;
 mod piece;
 mod token;
+mod unclosed;
 
 pub use automaton::token_kind;
 pub use lexing::lex;

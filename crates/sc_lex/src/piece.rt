@@ -1,10 +1,14 @@
 // What stands at the head of a text after its first two phases: a token or white space (ANSI 3.1).
-ghost use Rattle.std.specs.Prelude.{◌≡◌, ◌+◌, ◌-◌, ◌≤◌, ◌<◌, [], ◌≢◌, IfSome, length, drop, option_map};
+ghost use Rattle.std.specs.Prelude.{◌≡◌, ◌≤◌, ◌<◌, IfSome, false, length, take, drop};
+ghost use Rattle.sc_lex.specs.Automaton.{run, is_dead};
 ghost use Rattle.sc_lex.specs.Pieces as spec;
+ghost use Rattle.sc_lex.specs.Unclosed.{Holds};
+ghost use Rattle.sc_lex.specs.declared.automaton.State.TheVariants as s;
 
 use crate::TokenKind;
 use crate::automaton::{State, is_dead, kind_of, step};
 use crate::mark::Mark;
+use crate::unclosed::Unclosed;
 
 /// What stands at the head of a text, with its number of bytes. A comment counts as white space; `Open` is a comment
 /// with no end.
@@ -22,23 +26,26 @@ fn is_white(b: u8) -> bool
     b == b' ' || b == b'\t' || b == 11 || b == 12
 }
 
-/// The longest prefix that is a token: its length and its kind.
-fn longest(marks: &[Mark]) -> Option<(usize, TokenKind)>
-    ensures { result ≡ spec.longest (spec.bytes_of marks.now) }
+/// The longest prefix that is a token, with its length and its kind; and the number of bytes that were read for it.
+fn longest(marks: &[Mark]) -> (Option<(usize, TokenKind)>, usize)
+    ensures best { result.0 ≡ spec.longest (spec.bytes_of marks.now) }
+    ensures read { result.1 ≤ length marks.now }
+    ensures alive { is_dead (run s.Start (take result.1 (spec.bytes_of marks.now))) ≡ false }
 {
     let mut state = State::Start;
     let mut best = None;
     for (i, mark) in marks.iter().enumerate() {
-        state = step(state, mark.byte);
-        if is_dead(state) {
-            return best;
+        let next = step(state, mark.byte);
+        if is_dead(next) {
+            return (best, i);
         }
+        state = next;
         match kind_of(state) {
             Some(kind) => best = Some((i + 1, kind)),
             None => {}
         }
     }
-    best
+    (best, marks.len())
 }
 
 fn begins_comment(marks: &[Mark]) -> bool
@@ -87,22 +94,33 @@ fn comment(marks: &[Mark]) -> Piece
     }
 }
 
-fn token(marks: &[Mark]) -> Piece
-    requires { 0 < length marks.now }
+fn token(marks: &[Mark], unclosed: &mut Unclosed) -> Piece
+    requires some { 0 < length marks.now }
+    requires holds { Holds unclosed.old marks.now }
     ensures value { result ≡ spec.token (spec.longest (spec.bytes_of marks.now)) }
     ensures within { spec.IsWithin (length marks.now) result }
+    ensures holds { Holds unclosed.new marks.now }
 {
-    match longest(marks) {
+    if unclosed.begins(marks) {
+        return Piece::Token(TokenKind::Other, 1);
+    }
+    let (best, read) = longest(marks);
+    match best {
         Some((n, kind)) => Piece::Token(kind, n),
-        None => Piece::Token(TokenKind::Other, 1),
+        None => {
+            unclosed.note(marks, read);
+            Piece::Token(TokenKind::Other, 1)
+        }
     }
 }
 
 /// What the text begins with.
-pub(crate) fn first_piece(marks: &[Mark]) -> Piece
-    requires { 0 < length marks.now }
+pub(crate) fn first_piece(marks: &[Mark], unclosed: &mut Unclosed) -> Piece
+    requires some { 0 < length marks.now }
+    requires holds { Holds unclosed.old marks.now }
     ensures value { result ≡ spec.first_piece (spec.bytes_of marks.now) }
     ensures within { spec.IsWithin (length marks.now) result }
+    ensures holds { Holds unclosed.new marks.now }
 {
     let byte = marks[0].byte;
     if is_white(byte) {
@@ -112,6 +130,6 @@ pub(crate) fn first_piece(marks: &[Mark]) -> Piece
     } else if begins_comment(marks) {
         comment(marks)
     } else {
-        token(marks)
+        token(marks, unclosed)
     }
 }
