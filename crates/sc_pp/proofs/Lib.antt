@@ -1,0 +1,4 @@
+pub mod Closing
+pub mod Complete
+pub mod OneValue
+pub mod Sound

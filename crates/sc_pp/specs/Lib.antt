@@ -1,3 +1,6 @@
+pub mod Grammar
+pub mod Machine
 pub mod Numbers
 pub mod Operands
 pub mod Operators
+pub mod Steps

@@ -1,10 +1,14 @@
 //! The preprocessor: the arithmetic of `#if`.
 #![tactic(auto)]
 
+mod condition;
 mod number;
 mod operand;
 mod operator;
+mod reading;
 
+pub use condition::{Term, Trouble};
 pub use number::Value;
 pub use operand::Operand;
 pub use operator::Operator;
+pub use reading::expression;

@@ -1,4 +1,4 @@
-ghost use Rattle.std.specs.Prelude.{◌≡◌, ◌≤◌};
+ghost use Rattle.std.specs.Prelude.{◌≡◌, ◌<◌, ◌≤◌};
 ghost use Rattle.sc_pp.specs.Operators as spec;
 
 /// An operator of `#if`, by its token (ANSI 3.3). `Plus` and `Minus` stand before one operand or between two.
@@ -39,6 +39,7 @@ pub(crate) fn is_prefix(op: Operator) -> bool
 /// How tightly it binds between two operands: 4 to 13; 1 where it stands before one alone.
 pub(crate) fn level_of(op: Operator) -> u8
     ensures value { result ≡ spec.level_of op }
+    ensures positive { 0 < result }
     ensures small { result ≤ 13 }
 {
     match op {
