@@ -1,3 +1,4 @@
+pub mod Constants
 pub mod Grammar
 pub mod Machine
 pub mod Numbers

@@ -2,12 +2,14 @@
 #![tactic(auto)]
 
 mod condition;
+mod constant;
 mod number;
 mod operand;
 mod operator;
 mod reading;
 
 pub use condition::{Term, Trouble};
+pub use constant::number_value;
 pub use number::Value;
 pub use operand::Operand;
 pub use operator::Operator;
