@@ -4,8 +4,8 @@ use Rattle.std.specs.Prelude.{nat_le}
 use Rattle.std.proofs.lemmas.Bool.Decides.{nat_tests}
 use Rattle.std.proofs.lemmas.Bool.{le-leb}
 use Rattle.sc_pp.specs.declared.operand.Operand.{Operand}
-use Rattle.sc_pp.specs.declared.condition.Frame.{Frame}
-use Rattle.sc_pp.specs.declared.condition.Frame.TheVariants as f
+use Rattle.sc_pp.specs.declared.machine.Frame.{Frame}
+use Rattle.sc_pp.specs.declared.machine.Frame.TheVariants as f
 use Rattle.sc_pp.specs.Operators.{level_of}
 use Rattle.sc_pp.specs.Machine.{settle, level_in, level_on, built}
 

@@ -2,15 +2,15 @@
 use Rattle.std.proofs.Common.{◌≡◌, ℕ, suc, ◌+◌, ◌≤◌, ◌<◌, List, [], ◌∷◌, ◌++◌, Option, Some, None, refl, sym, ◌∙◌, ap, arith, append_assoc, length, take, drop, get_or, add-one, ◌⊎◌, inl, inr}
 use Rattle.std.specs.Prelude.{option_and_then, Result, Ok, Err, IfOk, IsErrOf}
 use Rattle.std.proofs.Math.Seq.{take-suc}
-use Rattle.sc_pp.specs.declared.condition.Trouble.{Trouble}
-use Rattle.sc_pp.specs.declared.condition.Trouble.TheVariants as trouble
+use Rattle.sc_pp.specs.declared.machine.Trouble.{Trouble}
+use Rattle.sc_pp.specs.declared.machine.Trouble.TheVariants as trouble
 use Rattle.sc_pp.specs.Steps.{Steps, Finishes}
 use Rattle.std.proofs.lemmas.List.{take-append-drop, take_all}
 use Rattle.sc_pp.specs.declared.operand.Operand.{Operand}
-use Rattle.sc_pp.specs.declared.condition.Term.{Term}
-use Rattle.sc_pp.specs.declared.condition.Term.TheVariants as t
-use Rattle.sc_pp.specs.declared.condition.Frame.{Frame}
-use Rattle.sc_pp.specs.declared.condition.State.TheVariants as s
+use Rattle.sc_pp.specs.declared.machine.Term.{Term}
+use Rattle.sc_pp.specs.declared.machine.Term.TheVariants as t
+use Rattle.sc_pp.specs.declared.machine.Frame.{Frame}
+use Rattle.sc_pp.specs.declared.machine.State.TheVariants as s
 use Rattle.sc_pp.specs.Grammar.{Phrase, IsExpression}
 use Rattle.sc_pp.specs.Machine.{Config, step, run}
 use Rattle.sc_pp.proofs.Complete.{completes}

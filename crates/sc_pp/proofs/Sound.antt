@@ -5,12 +5,12 @@ use Rattle.std.proofs.lemmas.Bool.Decides.{nat_tests}
 use Rattle.std.proofs.lemmas.Bool.{leb-true, ltb-false}
 use Rattle.sc_pp.specs.declared.operand.Operand.{Operand}
 use Rattle.sc_pp.specs.declared.operator.Operator.{Operator}
-use Rattle.sc_pp.specs.declared.condition.Term.{Term}
-use Rattle.sc_pp.specs.declared.condition.Term.TheVariants as t
-use Rattle.sc_pp.specs.declared.condition.Frame.{Frame}
-use Rattle.sc_pp.specs.declared.condition.Frame.TheVariants as f
-use Rattle.sc_pp.specs.declared.condition.State.{State}
-use Rattle.sc_pp.specs.declared.condition.State.TheVariants as s
+use Rattle.sc_pp.specs.declared.machine.Term.{Term}
+use Rattle.sc_pp.specs.declared.machine.Term.TheVariants as t
+use Rattle.sc_pp.specs.declared.machine.Frame.{Frame}
+use Rattle.sc_pp.specs.declared.machine.Frame.TheVariants as f
+use Rattle.sc_pp.specs.declared.machine.State.{State}
+use Rattle.sc_pp.specs.declared.machine.State.TheVariants as s
 use Rattle.sc_pp.specs.Operands.{leaf, prefixed, applied, chosen}
 use Rattle.sc_pp.specs.Operators.{is_prefix, level_of}
 use Rattle.sc_pp.specs.Grammar as g

@@ -1,5 +1,5 @@
 -- The constants of `#if` (ANSI 3.1.3.2, 3.8.1): what a preprocessing number is worth.
-use Rattle.std.specs.Prelude.{ℕ, ◌+◌, ◌-◌, ◌*◌, ◌==◌, nat_lt, nat_le, Bool, true, false, ◌&&◌, ◌||◌, if◌then◌else◌, List, [], ◌∷◌, Option, Some, None}
+use Rattle.std.specs.Prelude.{ℕ, ◌+◌, ◌-◌, ◌*◌, ◌==◌, nat_lt, nat_le, Bool, true, false, ◌&&◌, ◌||◌, if◌then◌else◌, List, [], ◌∷◌, length, Option, Some, None}
 use Rattle.sc_pp.specs.declared.number.Value.{Value}
 
 -- what a digit counts, to 15; or 16
@@ -57,3 +57,53 @@ behind_two bytes = bytes
 -- what the integer constant is worth; None where it is none, or too large
 abbrev pub number_value : List ℕ → Option Value
 number_value bytes = if begins_hex bytes then ended (digits 16 0 (behind_two bytes)) else plain bytes
+
+abbrev pub is_quote : List ℕ → Bool
+is_quote (q ∷ []) = q == 39
+is_quote _ = false
+
+-- a simple escape (ANSI 3.1.3.4)
+abbrev pub simple : ℕ → Option ℕ
+simple e =
+    if e == 39 then Some 39 else
+    if e == 34 then Some 34 else
+    if e == 63 then Some 63 else
+    if e == 92 then Some 92 else
+    if e == 97 then Some 7 else
+    if e == 98 then Some 8 else
+    if e == 102 then Some 12 else
+    if e == 110 then Some 10 else
+    if e == 114 then Some 13 else
+    if e == 116 then Some 9 else
+    if e == 118 then Some 11 else None
+
+-- a byte by its number, where the quote stands behind it
+abbrev pub numbered : ℕ × List ℕ → Option ℕ
+numbered r = if is_quote r.1 && nat_le r.0 255 then Some r.0 else None
+
+abbrev pub begins_digit : List ℕ → Bool
+begins_digit [] = false
+begins_digit (b ∷ bytes) = nat_lt (digit_of b) 16
+
+-- An octal escape has three digits at most.
+abbrev pub escaped_by : ℕ → List ℕ → Option ℕ
+escaped_by e bytes =
+    if e == 120 then (if begins_digit bytes then numbered (digits 16 0 bytes) else None) else
+    if nat_lt (digit_of e) 8 then (if nat_le (length bytes) 3 then numbered (digits 8 0 (e ∷ bytes)) else None) else
+    if is_quote bytes then simple e else None
+
+abbrev pub escaped : List ℕ → Option ℕ
+escaped [] = None
+escaped (e ∷ bytes) = escaped_by e bytes
+
+abbrev pub character : ℕ → List ℕ → Option ℕ
+character b bytes = if b == 92 then escaped bytes else if is_quote bytes then Some b else None
+
+abbrev pub signed : Option ℕ → Option Value
+signed None = None
+signed (Some n) = Some (record { bits = n; is_unsigned = false })
+
+-- what the character constant is worth; None where it has not one character, or a bad escape
+abbrev pub character_value : List ℕ → Option Value
+character_value (q ∷ b ∷ bytes) = signed (character b bytes)
+character_value _ = None

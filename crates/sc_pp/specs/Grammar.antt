@@ -4,8 +4,8 @@ use Rattle.std.specs.Prelude.{◌≡◌, ℕ, suc, ◌≤◌, true, List, [], �
 use Rattle.sc_pp.specs.declared.number.Value.{Value}
 use Rattle.sc_pp.specs.declared.operand.Operand.{Operand}
 use Rattle.sc_pp.specs.declared.operator.Operator.{Operator}
-use Rattle.sc_pp.specs.declared.condition.Term.{Term}
-use Rattle.sc_pp.specs.declared.condition.Term.TheVariants as t
+use Rattle.sc_pp.specs.declared.machine.Term.{Term}
+use Rattle.sc_pp.specs.declared.machine.Term.TheVariants as t
 use Rattle.sc_pp.specs.Operands.{leaf, prefixed, applied, chosen}
 use Rattle.sc_pp.specs.Operators.{is_prefix, level_of}
 

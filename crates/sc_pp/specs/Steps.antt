@@ -1,11 +1,11 @@
 -- What a step of the code does, against a step of the machine.
 use Rattle.std.specs.Prelude.{◌≡◌, List, Option, Some, None, Result, Ok, Err}
-use Rattle.sc_pp.specs.declared.condition.Frame.{Frame}
-use Rattle.sc_pp.specs.declared.condition.State.{State}
-use Rattle.sc_pp.specs.declared.condition.State.TheVariants.{Done}
+use Rattle.sc_pp.specs.declared.machine.Frame.{Frame}
+use Rattle.sc_pp.specs.declared.machine.State.{State}
+use Rattle.sc_pp.specs.declared.machine.State.TheVariants.{Done}
 use Rattle.sc_pp.specs.declared.operand.Operand.{Operand}
-use Rattle.sc_pp.specs.declared.condition.Trouble.{Trouble}
-use Rattle.sc_pp.specs.declared.condition.Trouble.TheVariants as trouble
+use Rattle.sc_pp.specs.declared.machine.Trouble.{Trouble}
+use Rattle.sc_pp.specs.declared.machine.Trouble.TheVariants as trouble
 use Rattle.sc_pp.specs.Machine.{Config}
 
 -- the step, unless memory ran out

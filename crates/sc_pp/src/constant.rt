@@ -4,7 +4,7 @@ ghost use Rattle.sc_pp.specs.Constants as spec;
 
 use crate::number::Value;
 
-fn digit_of(b: u8) -> u64
+pub(crate) fn digit_of(b: u8) -> u64
     ensures value { result ≡ spec.digit_of b }
     ensures small { result ≤ 16 }
 {
@@ -27,7 +27,7 @@ fn capped(n: u64) -> u64
 }
 
 /// The value of the digits of a base at the front, and the bytes behind.
-fn digits(base: u64, text: &[u8]) -> (u64, &[u8])
+pub(crate) fn digits(base: u64, text: &[u8]) -> (u64, &[u8])
     requires { base ≤ 16 }
     ensures { (result.0, result.1.now) ≡ spec.digits base 0 text.now }
 {

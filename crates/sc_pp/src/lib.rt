@@ -1,16 +1,21 @@
-//! The preprocessor: the arithmetic of `#if`.
+//! The preprocessor: the conditions of `#if`.
 #![tactic(auto)]
 
-mod condition;
+mod character;
 mod constant;
+mod machine;
 mod number;
 mod operand;
 mod operator;
 mod reading;
+mod terms;
+mod truth;
 
-pub use condition::{Term, Trouble};
+pub use character::character_value;
 pub use constant::number_value;
+pub use machine::{Term, Trouble};
 pub use number::Value;
 pub use operand::Operand;
 pub use operator::Operator;
 pub use reading::expression;
+pub use truth::{ConditionFault, condition};

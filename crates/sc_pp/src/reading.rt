@@ -2,9 +2,9 @@ ghost use Rattle.std.specs.Prelude.{◌≡◌, ⊤, IfOk, IsErrOf};
 ghost use Rattle.sc_pp.specs.Machine.{step};
 ghost use Rattle.sc_pp.specs.Steps.{Finishes};
 ghost use Rattle.sc_pp.specs.Grammar.{IsExpression};
-ghost use Rattle.sc_pp.specs.declared.condition.Term.TheVariants as t;
+ghost use Rattle.sc_pp.specs.declared.machine.Term.TheVariants as t;
 
-use crate::condition::{self, Frame, State, Term, Trouble};
+use crate::machine::{self, Frame, State, Term, Trouble};
 use crate::operand::Operand;
 use sc_base::Stack;
 use std::alloc::Global;
@@ -12,7 +12,7 @@ use std::alloc::Global;
 fn finish(frames: &mut Stack<Frame>, state: State) -> Result<Operand, Trouble>
     ensures { Finishes (step t.End (frames.old, state)) result }
 {
-    match condition::step(Term::End, frames, state) {
+    match machine::step(Term::End, frames, state) {
         Ok(State::Done(x)) => Ok(x),
         Ok(_) => Err(Trouble::Syntax),
         Err(trouble) => Err(trouble),
@@ -31,7 +31,7 @@ pub fn expression(alloc: Global, terms: &[Term]) -> Result<Operand, Trouble>
     let mut frames = Stack::new(alloc);
     let mut state = State::Need;
     for term in terms {
-        match condition::step(*term, &mut frames, state) {
+        match machine::step(*term, &mut frames, state) {
             Ok(next) => state = next,
             Err(trouble) => return Err(trouble),
         }

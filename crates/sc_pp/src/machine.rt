@@ -47,7 +47,7 @@ pub enum Trouble {
 }
 
 impl From<NoMemory> for Trouble {
-    ghost use Rattle.sc_pp.specs.declared.condition.Trouble.TheVariants as trouble;
+    ghost use Rattle.sc_pp.specs.declared.machine.Trouble.TheVariants as trouble;
 
     ghost from_gives = { λ _ e. e ≡ trouble.NoMemory };
 
