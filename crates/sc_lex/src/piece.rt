@@ -101,7 +101,7 @@ fn token(marks: &[Mark], unclosed: &mut Unclosed) -> Piece
     ensures within { spec.IsWithin (length marks.now) result }
     ensures holds { Holds unclosed.new marks.now }
 {
-    if unclosed.begins(marks) {
+    if unclosed.is_known(marks) {
         return Piece::Token(TokenKind::Other, 1);
     }
     let (best, read) = longest(marks);

@@ -1,5 +1,5 @@
 use super::*;
-use sc_base::{Fault, Items, Refusal, X};
+use sc_base::{Bytes, Duplicate, Fault, Items, Refusal, X};
 use std::alloc::{AllocError, Global};
 use std::test::Fail;
 
@@ -132,6 +132,21 @@ fn texts(rt: HostRuntime) -> Result<(), Fail> {
         let told = told(rt.alloc(), &answer)?;
         assert_eq!(rt; told.as_slice(), *wanted);
     }
+    Ok(())
+}
+
+#[test]
+fn copies(rt: HostRuntime) -> Result<(), Fail> {
+    let token = Token {
+        kind: TokenKind::Name,
+        text: Bytes::from_slice(rt.alloc(), b"ab").ok().ok_or("memory")?,
+        file: 1,
+        line: 2,
+        space: true,
+    };
+    let copy = token.copy(rt.alloc()).ok().ok_or("memory")?;
+    assert_eq!(rt; copy.text.as_slice(), b"ab".as_slice());
+    assert_eq!(rt; copy.line, 2);
     Ok(())
 }
 

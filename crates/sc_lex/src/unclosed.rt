@@ -29,7 +29,7 @@ impl Unclosed {
 
     /// Whether it is known that no literal begins here.
     #[tactic(auto, using(crate::proofs::Quotes::known))]
-    pub(crate) fn begins(&self, marks: &[Mark]) -> bool
+    pub(crate) fn is_known(&self, marks: &[Mark]) -> bool
         requires some { 0 < length marks.now }
         requires holds { Holds self.now marks.now }
         ensures { IsTrue result → longest (bytes_of marks.now) ≡ None }
