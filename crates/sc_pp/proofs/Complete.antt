@@ -1,5 +1,5 @@
 -- The machine reads each expression of the grammar.
-use Rattle.std.proofs.Common.{◌≡◌, ℕ, suc, ◌+◌, ◌≤◌, ◌<◌, Bool, true, false, List, [], ◌∷◌, ◌++◌, Option, Some, None, refl, sym, ◌∙◌, ap, arith, append_assoc}
+use Rattle.std.proofs.Common.{◌≡◌, ℕ, ◌≤◌, true, false, List, [], ◌∷◌, ◌++◌, Option, Some, refl, ◌∙◌, ap, arith, append_assoc}
 use Rattle.std.specs.Prelude.{option_and_then, nat_lt, nat_le}
 use Rattle.std.proofs.lemmas.Bool.Decides.{nat_tests}
 use Rattle.std.proofs.lemmas.Bool.{le-leb}
@@ -10,12 +10,11 @@ use Rattle.sc_pp.specs.declared.machine.Term.{Term}
 use Rattle.sc_pp.specs.declared.machine.Term.TheVariants as t
 use Rattle.sc_pp.specs.declared.machine.Frame.{Frame}
 use Rattle.sc_pp.specs.declared.machine.Frame.TheVariants as f
-use Rattle.sc_pp.specs.declared.machine.State.{State}
 use Rattle.sc_pp.specs.declared.machine.State.TheVariants as s
 use Rattle.sc_pp.specs.Operands.{leaf, prefixed, applied, chosen}
-use Rattle.sc_pp.specs.Operators.{is_prefix, level_of}
+use Rattle.sc_pp.specs.Operators.{level_of}
 use Rattle.sc_pp.specs.Grammar.{Phrase, number, paren, prefix, binary, conditional}
-use Rattle.sc_pp.specs.Machine.{Config, power_of, needs, settle, act, act_on, have, need, step, run}
+use Rattle.sc_pp.specs.Machine.{Config, power_of, needs, settle, act_on, have, step, run}
 
 pub level-small : (op : Operator) → level_of op ≤ 13
 level-small o.Complement = omega arith

@@ -1,5 +1,5 @@
 -- What a condition decides is what its one expression decides.
-use Rattle.std.proofs.Common.{◌≡◌, ℕ, Bool, List, Result, Ok, Err, refl, sym, ◌∙◌, ap, subst}
+use Rattle.std.proofs.Common.{◌≡◌, Bool, List, Result, Ok, Err, sym, ◌∙◌, ap, subst}
 use Rattle.std.specs.Prelude.{IsErrOf}
 use Rattle.sc_pp.specs.declared.operand.Operand.{Operand}
 use Rattle.sc_pp.specs.declared.machine.Term.{Term}

@@ -1,5 +1,5 @@
 -- The machine over all of the terms: what it takes is the one expression that they are, and where it stops they are none.
-use Rattle.std.proofs.Common.{◌≡◌, ℕ, suc, ◌+◌, ◌≤◌, ◌<◌, List, [], ◌∷◌, ◌++◌, Option, Some, None, refl, sym, ◌∙◌, ap, arith, append_assoc, length, take, drop, get_or, add-one, ◌⊎◌, inl, inr}
+use Rattle.std.proofs.Common.{◌≡◌, ℕ, ◌+◌, ◌≤◌, ◌<◌, List, [], ◌∷◌, ◌++◌, Option, Some, None, refl, sym, ◌∙◌, ap, append_assoc, length, take, drop, get_or, add-one, ◌⊎◌, inl, inr}
 use Rattle.std.specs.Prelude.{option_and_then, Result, Ok, Err, IfOk, IsErrOf}
 use Rattle.std.proofs.Math.Seq.{take-suc}
 use Rattle.sc_pp.specs.declared.machine.Trouble.{Trouble}
@@ -11,7 +11,7 @@ use Rattle.sc_pp.specs.declared.machine.Term.{Term}
 use Rattle.sc_pp.specs.declared.machine.Term.TheVariants as t
 use Rattle.sc_pp.specs.declared.machine.Frame.{Frame}
 use Rattle.sc_pp.specs.declared.machine.State.TheVariants as s
-use Rattle.sc_pp.specs.Grammar.{Phrase, IsExpression}
+use Rattle.sc_pp.specs.Grammar.{IsExpression}
 use Rattle.sc_pp.specs.Machine.{Config, step, run}
 use Rattle.sc_pp.proofs.Complete.{completes}
 use Rattle.sc_pp.proofs.Sound.{ended, taken, done_same}

@@ -1,5 +1,5 @@
 -- What the machine takes is in the grammar.
-use Rattle.std.proofs.Common.{◌≡◌, ℕ, suc, ◌+◌, ◌≤◌, ◌<◌, Bool, true, false, cond, List, [], ◌∷◌, ◌++◌, Option, Some, None, refl, sym, ◌∙◌, ap, subst, arith, append_assoc, append-nil, ◌⊎◌, inl, inr}
+use Rattle.std.proofs.Common.{◌≡◌, ℕ, suc, ◌≤◌, Bool, true, false, cond, List, [], ◌∷◌, ◌++◌, Option, Some, None, refl, sym, ◌∙◌, ap, subst, arith, append_assoc, append-nil, ◌⊎◌, inl, inr}
 use Rattle.std.specs.Prelude.{option_and_then, nat_lt, nat_le}
 use Rattle.std.proofs.lemmas.Bool.Decides.{nat_tests}
 use Rattle.std.proofs.lemmas.Bool.{leb-true, ltb-false}
@@ -9,13 +9,12 @@ use Rattle.sc_pp.specs.declared.machine.Term.{Term}
 use Rattle.sc_pp.specs.declared.machine.Term.TheVariants as t
 use Rattle.sc_pp.specs.declared.machine.Frame.{Frame}
 use Rattle.sc_pp.specs.declared.machine.Frame.TheVariants as f
-use Rattle.sc_pp.specs.declared.machine.State.{State}
 use Rattle.sc_pp.specs.declared.machine.State.TheVariants as s
 use Rattle.sc_pp.specs.Operands.{leaf, prefixed, applied, chosen}
 use Rattle.sc_pp.specs.Operators.{is_prefix, level_of}
 use Rattle.sc_pp.specs.Grammar as g
 use Rattle.sc_pp.specs.Grammar.{Phrase}
-use Rattle.sc_pp.specs.Machine.{Config, power_of, needs, settle, act, act_on, have, need, step, run, close_paren, close_then, at_end, before, between}
+use Rattle.sc_pp.specs.Machine.{Config, power_of, needs, settle, act, have, need, step, run, close_paren, close_then, at_end, between}
 use Rattle.sc_pp.proofs.Complete.{level-small, power-small}
 
 -- a choice by a test that is known

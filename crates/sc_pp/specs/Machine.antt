@@ -1,5 +1,5 @@
 -- The steps of the reader, which takes one term at a time.
-use Rattle.std.specs.Prelude.{◌≡◌, ℕ, ◌+◌, Bool, true, false, if◌then◌else◌, nat_lt, nat_le, List, [], ◌∷◌, Option, Some, None, option_and_then}
+use Rattle.std.specs.Prelude.{ℕ, ◌+◌, if◌then◌else◌, nat_lt, nat_le, List, [], ◌∷◌, Option, Some, None, option_and_then}
 use Rattle.sc_pp.specs.declared.operand.Operand.{Operand}
 use Rattle.sc_pp.specs.declared.operator.Operator.{Operator}
 use Rattle.sc_pp.specs.declared.machine.Term.{Term}

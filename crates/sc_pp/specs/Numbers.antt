@@ -1,5 +1,5 @@
 -- Numbers of 32 bits, in two's complement where they are signed; what does not fit wraps (ANSI 3.3.3.3, 3.3.5 to 3.3.8).
-use Rattle.std.specs.Prelude.{ℕ, ◌+◌, ◌-◌, ◌*◌, ◌/◌, ◌%◌, ◌^◌, ◌==◌, nat_lt, nat_le, Bool, true, false, not, ◌||◌, if◌then◌else◌}
+use Rattle.std.specs.Prelude.{ℕ, ◌+◌, ◌-◌, ◌*◌, ◌/◌, ◌%◌, ◌^◌, ◌==◌, nat_lt, nat_le, Bool, not, ◌||◌, if◌then◌else◌}
 
 abbrev pub is_negative : ℕ → Bool
 is_negative a = nat_le 2147483648 a

@@ -1,4 +1,4 @@
-use Rattle.std.proofs.Common.{◌≡◌, ◌∙◌, Err, ap}
+use Rattle.std.proofs.Common.{◌≡◌, ◌∙◌, Err}
 use Rattle.sc_pp.specs.Terms.{terms_of}
 use Rattle.sc_pp.specs.declared.machine.Trouble.TheVariants as trouble
 use Rattle.sc_pp.proofs.Conditions.{by_value, no_value}
