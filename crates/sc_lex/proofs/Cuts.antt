@@ -1,9 +1,7 @@
 -- Cutting a list of marks, one piece at a time.
-use Rattle.std.proofs.Common.{◌≡◌, ℕ, zero, suc, ◌+◌, ◌-◌, ◌≤◌, ◌<◌, Bool, true, false, List, [], ◌∷◌, ◌++◌, length, take, drop, map, codes, slice_get, if◌then◌else◌, Option, Some, None, Result, Ok, Err, refl, sym, ◌∙◌, ap, arith, append_assoc}
+use Rattle.std.proofs.Common.{◌≡◌, ℕ, zero, suc, ◌-◌, ◌≤◌, Bool, true, false, List, [], ◌∷◌, ◌++◌, take, drop, codes, slice_get, if◌then◌else◌, Option, Some, None, Ok, Err, refl, sym, ◌∙◌, ap, arith, append_assoc}
 use Rattle.sc_base.specs.declared.refusal.X.TheVariants as x
-use Rattle.sc_base.specs.declared.refusal.Fault.{Fault}
 use Rattle.sc_lex.specs.declared.mark.Mark.{Mark}
-use Rattle.sc_lex.specs.declared.piece.Piece.{Piece}
 use Rattle.sc_lex.specs.declared.piece.Piece.TheVariants as p
 use Rattle.sc_lex.specs.declared.token.Token.{Token}
 use Rattle.sc_lex.specs.declared.token.TokenKind.{TokenKind}

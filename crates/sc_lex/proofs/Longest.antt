@@ -1,14 +1,13 @@
 -- The longest prefix that is a token, one byte at a time.
-use Rattle.std.proofs.Common.{◌≡◌, ℕ, zero, suc, ◌+◌, ◌-◌, ◌≤◌, ◌<◌, true, List, [], ◌∷◌, ◌++◌, length, take, drop, get_or, map, Option, Some, None, refl, sym, ◌∙◌, ap, arith, add-one, zero-add, add-zero, inl, inr}
+use Rattle.std.proofs.Common.{◌≡◌, ℕ, zero, suc, ◌+◌, ◌-◌, ◌≤◌, ◌<◌, List, [], ◌∷◌, length, take, drop, get_or, Option, Some, None, refl, sym, ◌∙◌, ap, arith, add-one, zero-add, add-zero}
 use Rattle.std.proofs.Math.Seq.{take-add}
-use Rattle.std.proofs.lemmas.Bool.{cases_lt}
 use Rattle.sc_lex.specs.declared.mark.Mark.{Mark}
 use Rattle.sc_lex.specs.declared.token.TokenKind.{TokenKind}
 use Rattle.sc_lex.specs.declared.automaton.State.{State}
 use Rattle.sc_lex.specs.declared.automaton.State.TheVariants as s
-use Rattle.sc_lex.specs.Automaton.{step, run, kind_of, token_kind, is_dead}
+use Rattle.sc_lex.specs.Automaton.{step, run, kind_of, token_kind}
 use Rattle.sc_lex.specs.Pieces.{longest_within, longest, or_shorter, bytes_of}
-use Rattle.sc_lex.proofs.Runs.{run_append, run_dead, run_next, dead}
+use Rattle.sc_lex.proofs.Runs.{run_append, run_dead, run_next}
 
 pub length_bytes : (marks : List Mark) → length (bytes_of marks) ≡ length marks
 length_bytes [] = refl

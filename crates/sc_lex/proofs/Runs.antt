@@ -1,5 +1,5 @@
 -- The automaton, one byte at a time. Nothing here looks into `step`, but that Dead stays.
-use Rattle.std.proofs.Common.{◌≡◌, ℕ, ◌+◌, ◌<◌, List, [], ◌∷◌, ◌++◌, length, take, get_or, refl, sym, ◌∙◌, ap, arith, add-one, true}
+use Rattle.std.proofs.Common.{◌≡◌, ℕ, ◌+◌, ◌<◌, List, [], ◌∷◌, ◌++◌, length, take, get_or, refl, sym, ◌∙◌, ap, add-one, true}
 use Rattle.std.proofs.Math.Seq.{take-suc}
 use Rattle.sc_lex.specs.declared.automaton.State.{State}
 use Rattle.sc_lex.specs.declared.automaton.State.TheVariants as s

@@ -1,5 +1,5 @@
 -- The first two phases of translation (ANSI 2.1.1.2, 2.2.1.1), as functions on lists.
-use Rattle.std.specs.Prelude.{ℕ, zero, suc, ◌+◌, ◌==◌, Bool, true, false, ◌&&◌, if◌then◌else◌, List, [], ◌∷◌, Option, Some, None}
+use Rattle.std.specs.Prelude.{ℕ, zero, suc, ◌+◌, ◌==◌, Bool, false, ◌&&◌, if◌then◌else◌, List, [], ◌∷◌, Option, Some, None}
 use Rattle.sc_lex.specs.declared.mark.Mark.{Mark}
 
 abbrev pub begins_line_end : List ℕ → Bool

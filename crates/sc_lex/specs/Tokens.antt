@@ -1,8 +1,7 @@
 -- The tokens of a text: the first three phases of translation (ANSI 2.1.1.2).
-use Rattle.std.specs.Prelude.{ℕ, zero, suc, ◌+◌, ◌-◌, ◌≡◌, nat_lt, Bool, true, false, ◌&&◌, if◌then◌else◌, List, [], ◌∷◌, ◌++◌, take, codes, Option, Some, None, Result, Ok, Err}
+use Rattle.std.specs.Prelude.{ℕ, zero, suc, ◌-◌, ◌≡◌, nat_lt, Bool, true, false, ◌&&◌, if◌then◌else◌, List, [], ◌∷◌, ◌++◌, take, codes, Result, Ok, Err}
 use Rattle.sc_base.specs.declared.refusal.X.TheVariants as x
 use Rattle.sc_base.specs.declared.refusal.X.{X}
-use Rattle.sc_base.specs.declared.refusal.Refusal.{Refusal}
 use Rattle.sc_base.specs.declared.refusal.Fault.{Fault}
 use Rattle.sc_base.specs.declared.refusal.Fault.TheVariants as f
 use Rattle.sc_lex.specs.declared.mark.Mark.{Mark}

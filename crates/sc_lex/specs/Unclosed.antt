@@ -1,5 +1,5 @@
 -- Quotes of which it is known that no literal begins with them.
-use Rattle.std.specs.Prelude.{ℕ, ◌+◌, ◌<◌, ◌≡◌, List, length, drop, slice_index, Option, Some, None}
+use Rattle.std.specs.Prelude.{ℕ, ◌+◌, ◌<◌, ◌≡◌, List, length, drop, slice_index, None}
 use Rattle.sc_lex.specs.declared.mark.Mark.{Mark}
 use Rattle.sc_lex.specs.declared.unclosed.Unclosed.{Unclosed}
 use Rattle.sc_lex.specs.Pieces.{bytes_of, longest}

@@ -1,4 +1,4 @@
-use Rattle.std.proofs.Common.{◌≡◌, ◌+◌, ◌≤◌, ◌++◌, false, length}
+use Rattle.std.proofs.Common.{◌≡◌, false, length}
 use Rattle.sc_lex.specs.Tokens.{tokens_from, prepend}
 use Rattle.sc_lex.specs.Unclosed.{Holds}
 use Rattle.sc_lex.proofs.lexing.cut.Given as goal
