@@ -1,0 +1,5 @@
+pub mod Closing
+pub mod Complete
+pub mod Conditions
+pub mod OneValue
+pub mod Sound

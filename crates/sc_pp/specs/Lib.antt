@@ -1,0 +1,9 @@
+pub mod Constants
+pub mod Decides
+pub mod Grammar
+pub mod Machine
+pub mod Numbers
+pub mod Operands
+pub mod Operators
+pub mod Steps
+pub mod Terms
