@@ -1,0 +1,5 @@
+pub mod Refusals
+pub mod Tokens
+pub mod Hides
+pub mod Marks
+pub mod Table
