@@ -3,3 +3,4 @@ pub mod Tokens
 pub mod Hides
 pub mod Marks
 pub mod Table
+pub mod Replacement

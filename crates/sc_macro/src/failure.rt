@@ -6,7 +6,7 @@ use sc_base::{Bytes, Fault, NoMemory, Refusal, X};
 use std::alloc::Global;
 
 /// The causes of refusal.
-#[derive(Clone, Copy, Debug, PartialEq, Eq)]
+#[derive(Clone, Copy)]
 pub enum Reason {
     /// A malformed definition (X2).
     Malformed,
@@ -21,14 +21,14 @@ pub enum Reason {
 }
 
 /// A cause, with the line where it stands.
-#[derive(Clone, Copy, Debug, PartialEq, Eq)]
+#[derive(Clone, Copy)]
 pub struct Refused {
     pub reason: Reason,
     pub line: u32,
 }
 
 /// A refusal, or want of memory.
-#[derive(Clone, Copy, Debug, PartialEq, Eq)]
+#[derive(Clone, Copy)]
 pub enum Failure {
     Refused(Refused),
     NoMemory,

@@ -8,7 +8,7 @@ mod hide;
 mod macros;
 mod marked;
 // mod redefine;
-// mod replacement;
+mod replacement;
 // mod string;
 // mod substitute;
 // mod walk;
