@@ -4,3 +4,4 @@ pub mod Hides
 pub mod Marks
 pub mod Table
 pub mod Replacement
+pub mod Define

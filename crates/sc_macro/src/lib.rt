@@ -2,12 +2,13 @@
 #![tactic(auto)]
 
 // mod call;
-// mod define;
+mod define;
 mod failure;
 mod hide;
+mod lists;
 mod macros;
 mod marked;
-// mod redefine;
+mod redefine;
 mod replacement;
 // mod string;
 // mod substitute;

@@ -44,19 +44,24 @@ impl Marked {
     pub fn copy_spaced(&self, alloc: Global, space: bool) -> Result<Marked, NoMemory>
         ensures { IfOk result (λ m. m ≡ marks.spaced_as space self.now) }
     {
-        let text = self.token.text.copy(alloc)?;
+        let token = copy_spaced(alloc, &self.token, space)?;
         let hide = self.hide.share()?;
-        Ok(Marked {
-            token: Token {
-                kind: self.token.kind,
-                text,
-                file: self.token.file,
-                line: self.token.line,
-                space,
-            },
-            hide,
-        })
+        Ok(Marked { token, hide })
     }
+}
+
+/// The same token, with the white space before it set.
+pub fn copy_spaced(alloc: Global, token: &Token, space: bool) -> Result<Token, NoMemory>
+    ensures { IfOk result (λ t. t ≡ marks.spaced space token.now) }
+{
+    let text = token.text.copy(alloc)?;
+    Ok(Token {
+        kind: token.kind,
+        text,
+        file: token.file,
+        line: token.line,
+        space,
+    })
 }
 
 pub fn is_name(token: &Token) -> bool

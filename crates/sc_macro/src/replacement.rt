@@ -41,23 +41,26 @@ fn part_of(alloc: Global, names: &IndexSet<Bytes>, token: &Token) -> Result<Part
     }
 }
 
-fn push_chain(alloc: Global, chains: &mut Items<Items<Part>>, part: Part) -> Result<(), NoMemory>
-    ensures { OnOk result (chains.new ≡ chains.old ++ (part ∷ []) ∷ []) }
+fn push_longer(
+    chains: &mut Items<Items<Part>>,
+    chain: Items<Part>,
+    part: Part,
+) -> Result<(), NoMemory>
+    ensures { OnOk result (chains.new ≡ chains.old ++ (chain ++ part ∷ []) ∷ []) }
 {
-    let mut chain = Items::new(alloc);
+    let mut chain = chain;
     chain.push(part)?;
     chains.push(chain)
 }
 
+#[tactic(auto, using(crate::proofs::Chains::in_last_behind))]
 fn push_in_last(alloc: Global, chains: &mut Items<Items<Part>>, part: Part) -> Result<(), NoMemory>
     ensures { OnOk result (chains.new ≡ spec.in_last chains.old part) }
 {
-    let mut chain = match chains.pop() {
-        Some(last) => last,
-        None => Items::new(alloc),
-    };
-    chain.push(part)?;
-    chains.push(chain)
+    match chains.pop() {
+        Some(last) => push_longer(chains, last, part),
+        None => push_longer(chains, Items::new(alloc), part),
+    }
 }
 
 impl Reader {
@@ -67,7 +70,7 @@ impl Reader {
         if self.joined {
             push_in_last(alloc, &mut self.chains, part)?;
         } else {
-            push_chain(alloc, &mut self.chains, part)?;
+            push_longer(&mut self.chains, Items::new(alloc), part)?;
         }
         self.joined = false;
         self.hash = None;
