@@ -1,1 +1,4 @@
 pub mod Chains
+pub mod Glue
+pub mod Landing
+pub mod Names

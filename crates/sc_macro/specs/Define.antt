@@ -20,15 +20,15 @@ use Rattle.sc_macro.specs.Marks.{spaced}
 use Rattle.sc_macro.specs.Replacement.{and_then, chains_of, wanted}
 use Rattle.sc_macro.specs.Table.{Table, meaning, is_fixed}
 
+abbrev pub is_new : List (List ℕ) → Token → Bool
+is_new names t = is_name t && not (list_any (bytes_eq t.text) names)
+
 -- The list of parameters up to its closing parenthesis, and what stands behind: names that differ, with commas.
 abbrev pub listed : List (List ℕ) → List Token → Option (List (List ℕ) × List Token)
 listed names [] = None
 listed names (t ∷ []) = None
 listed names (t ∷ u ∷ ts) =
-    if not (is_name t) then None
-    else if list_any (bytes_eq t.text) names then None
-    else if is_mark 41 u then Some (names ++ t.text ∷ [], ts)
-    else if is_mark 44 u then listed (names ++ t.text ∷ []) ts
+    if is_new names t then (if is_mark 41 u then Some (names ++ t.text ∷ [], ts) else if is_mark 44 u then listed (names ++ t.text ∷ []) ts else None)
     else None
 
 -- the same, where there may be no parameter

@@ -5,3 +5,5 @@ pub mod Marks
 pub mod Table
 pub mod Replacement
 pub mod Define
+pub mod Strings
+pub mod Substitute

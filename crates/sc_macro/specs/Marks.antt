@@ -1,9 +1,10 @@
 -- Tokens with hide sets.
-use Rattle.std.specs.Prelude.{ℕ, Bool, List, [], ◌∷◌}
+use Rattle.std.specs.Prelude.{ℕ, ◌||◌, Bool, true, false, if◌then◌else◌, List, [], ◌∷◌}
 use Rattle.sc_lex.specs.declared.token.TokenKind.{TokenKind}
 use Rattle.sc_lex.specs.declared.token.Token.{Token}
 use Rattle.sc_macro.specs.declared.marked.Marked.{Marked}
 use Rattle.sc_macro.specs.Hides.{united}
+use Rattle.sc_macro.specs.Tokens.{is_newline}
 
 abbrev pub bare : Token → Marked
 bare t = record { token = t; hide = [] }
@@ -29,3 +30,13 @@ landed name hide m = record {
   token = record { kind = m.token.kind; text = m.token.text; file = name.file; line = name.line; space = m.token.space };
   hide = united m.hide hide;
 }
+
+-- the same, where the first token takes the white space of the name
+abbrev pub landed_as : Token → List ℕ → Bool → Marked → Marked
+landed_as name hide true m = landed name hide (spaced_as name.space m)
+landed_as name hide false m = landed name hide m
+
+-- without new-lines, which are white space before the next token
+abbrev pub without_lines : Bool → List Token → List Marked
+without_lines space [] = []
+without_lines space (t ∷ ts) = if is_newline t then without_lines true ts else bare (spaced (space || t.space) t) ∷ without_lines false ts

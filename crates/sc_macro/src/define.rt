@@ -1,9 +1,7 @@
 // Reading of definitions.
-ghost use Rattle.std.specs.Prelude.{◌≡◌, Some, None, List, [], ◌∷◌, IfOk, if◌then◌else◌};
+ghost use Rattle.std.specs.Prelude.{◌≡◌, Some, None, List, [], ◌∷◌, ◌++◌, true, IfOk};
 ghost use Rattle.std.specs.Option.{option_map};
 ghost use Rattle.sc_macro.specs.Define as spec;
-ghost use Rattle.sc_macro.specs.Replacement as chain;
-ghost use Rattle.sc_macro.specs.Marks.{spaced};
 
 use crate::lists::{copied, push_each};
 use crate::macros::{Macro, MacroKind, Part, is_fixed};
@@ -13,6 +11,18 @@ use indexmap::IndexSet;
 use sc_base::{Bytes, Duplicate, Items, NoMemory};
 use sc_lex::Token;
 use std::alloc::Global;
+
+/// Takes one more parameter; false for a token that is no name, and for a name that is there.
+fn add_name(alloc: Global, names: &mut IndexSet<Bytes>, name: &Token) -> Result<bool, NoMemory>
+    ensures new { IfOk result (λ added. added ≡ spec.is_new names.old.keys name.now) }
+    ensures names { IfOk result (λ added. added ≡ true → names.new.keys ≡ names.old.keys ++ name.now.text ∷ []) }
+{
+    if !is_name(name) {
+        return Ok(false);
+    }
+    let added = names.insert(name.text.copy(alloc)?)?;
+    Ok(added)
+}
 
 /// A list of parameters up to its closing parenthesis, and what stands behind.
 fn listed<'a>(
@@ -27,10 +37,7 @@ fn listed<'a>(
         let Some((mark, more)) = behind.split_first() else {
             return Ok(None);
         };
-        if !is_name(name) {
-            return Ok(None);
-        }
-        if !names.insert(name.text.copy(alloc)?)? {
+        if !add_name(alloc, &mut names, name)? {
             return Ok(None);
         }
         if is_mark(mark, b')') {

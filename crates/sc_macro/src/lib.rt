@@ -10,8 +10,8 @@ mod macros;
 mod marked;
 mod redefine;
 mod replacement;
-// mod string;
-// mod substitute;
+mod string;
+mod substitute;
 // mod walk;
 
 pub use macros::{Macro, MacroKind, Macros, Part, is_fixed};
