@@ -7,3 +7,5 @@ pub mod Replacement
 pub mod Define
 pub mod Strings
 pub mod Substitute
+pub mod Calls
+pub mod Expansion

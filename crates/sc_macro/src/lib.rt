@@ -1,7 +1,7 @@
 //! The table of macros, and expansion by hide sets (ANSI 3.8.3).
 #![tactic(auto)]
 
-// mod call;
+mod call;
 mod define;
 mod failure;
 mod hide;
@@ -12,7 +12,10 @@ mod redefine;
 mod replacement;
 mod string;
 mod substitute;
-// mod walk;
+mod walk;
 
 pub use macros::{Macro, MacroKind, Macros, Part, is_fixed};
-// pub use walk::expand;
+pub use walk::expand;
+
+#[cfg(test)]
+mod tests;
