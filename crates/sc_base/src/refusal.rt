@@ -1,5 +1,7 @@
 // Why a text is refused.
 
+ghost use Rattle.std.specs.Prelude.{◌≡◌};
+
 use crate::{Bytes, NoMemory};
 
 /// The kinds of refusals of translation. `X9` carries the word of a construct that is left out, `X10` that of a
@@ -42,6 +44,10 @@ pub enum Fault {
 }
 
 impl From<NoMemory> for Fault {
+    ghost use Rattle.sc_base.specs.declared.refusal.Fault.TheVariants as f;
+
+    ghost from_gives = { λ _ e. e ≡ f.NoMemory };
+
     fn from(_: NoMemory) -> Fault {
         Fault::NoMemory
     }

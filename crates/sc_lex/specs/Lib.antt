@@ -1,2 +1,5 @@
 pub mod Automaton
 pub mod Phases
+pub mod Pieces
+pub mod Tokens
+pub mod Unclosed
