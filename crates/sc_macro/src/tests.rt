@@ -1,55 +1,18 @@
 use super::*;
-use sc_base::{Bytes, Fault, Items, Name, NameFault, NoMemory, X};
-use sc_lex::{Token, TokenKind, token_kind};
+use sc_base::{Bytes, Fault, Items, Name, X};
+use sc_lex::{Token, lex};
 use std::alloc::{AllocError, Global};
 use std::test::Fail;
 
-// The length of the longest token that a text begins with, and its kind; one byte where none begins there.
-fn longest(text: &[u8]) -> (usize, TokenKind) {
-    let mut best = (1, TokenKind::Other);
-    for n in 0..text.len().min(80) {
-        if let Some((token, _)) = text.split_at_checked(n + 1) {
-            if let Some(kind) = token_kind(token) {
-                best = (n + 1, kind);
-            }
-        }
+// The tokens of a text; none for one that the lexer does not take.
+fn split(alloc: Global, text: &str) -> Items<Token> {
+    if text.len() > 1048576 {
+        return Items::new(alloc);
     }
-    best
-}
-
-// A text as tokens, with blanks and new-lines between them.
-fn split(alloc: Global, text: &str) -> Result<Vec<Token>, AllocError> {
-    let mut tokens = Vec::new(alloc);
-    let mut rest = text.as_bytes();
-    let mut line: u32 = 1;
-    let mut space = false;
-    for _ in 0..text.len() {
-        let (length, kind) = match rest.first() {
-            None => break,
-            Some(b' ') => (0, TokenKind::Other),
-            Some(b'\n') => (1, TokenKind::Newline),
-            Some(_) => longest(rest),
-        };
-        if length == 0 {
-            space = true;
-            rest = rest.get(1..).unwrap_or(&[]);
-            continue;
-        }
-        let (bytes, more) = rest.split_at_checked(length).unwrap_or((rest, &[]));
-        tokens.push(Token {
-            kind,
-            text: Bytes::from_vec(bytes.to_vec(alloc)?),
-            file: 1,
-            line,
-            space,
-        })?;
-        if let TokenKind::Newline = kind {
-            line = line.saturating_add(1);
-        }
-        space = false;
-        rest = more;
+    match lex(alloc, text.as_bytes(), 1) {
+        Ok(tokens) => tokens,
+        Err(_) => Items::new(alloc),
     }
-    Ok(tokens)
 }
 
 // A refusal by its kind and line.
@@ -92,7 +55,7 @@ fn spelled(alloc: Global, tokens: &[Token]) -> Result<String, AllocError> {
 
 // A list, expanded, with the replacements that are left where they are few.
 fn expanded(alloc: Global, macros: &Macros, text: &str, left: u32) -> Result<String, AllocError> {
-    let tokens = split(alloc, text)?;
+    let tokens = split(alloc, text);
     match expand(alloc, tokens.as_slice(), macros, left) {
         Ok((done, rest)) => {
             let text = spelled(alloc, done.as_slice())?;
@@ -114,7 +77,7 @@ fn directive(alloc: Global, macros: &mut Macros, line: &str) -> Result<String, A
         }
         return Ok(String::new(alloc));
     }
-    let tokens = split(alloc, line)?;
+    let tokens = split(alloc, line);
     match macros.define(alloc, tokens.as_slice()) {
         Ok(()) => Ok(String::new(alloc)),
         Err(fault) => refusal(alloc, &fault),
@@ -150,6 +113,9 @@ const LINES: &[(&str, &str)] = &[
     ("#-m", ""),
     ("#-z", ""),
     ("#str(s) # s", ""),
+    ("#twice(a) a*again", ""),
+    ("#again(a) twice(a)", ""),
+    ("twice(2)(9)", "2 * 9 * again"),
     ("#xstr(s) str(s)", ""),
     (
         "#debug(s, t) printf(\"x\" # s \"= %d, x\" # t \"= %s\", x ## s, x ## t)",
@@ -179,7 +145,7 @@ const LINES: &[(&str, &str)] = &[
         "printf ( \"x\" \"1\" \"= %d, x\" \"2\" \"= %s\" , x1 , x2 ) ;",
     ),
     (
-        "fputs(str(strncmp(\"abc\\0d\", \"abc\", '\\4')\n == 0) str(: @\\n), s);",
+        "fputs(str(strncmp(\"abc\\0d\", \"abc\", '\\4') /* this goes away */\n == 0) str(: @\\n), s);",
         "fputs ( \"strncmp(\\\"abc\\\\0d\\\", \\\"abc\\\", '\\\\4') == 0\" \": @\\n\" , s ) ;",
     ),
     ("xstr(INCFILE(2).h)", "\"vers2.h\""),
@@ -244,9 +210,12 @@ fn lists_expand_as_the_standard_prints(rt: HostRuntime) -> Result<(), Fail> {
 
 const DEFINITIONS: &[(&str, &str)] = &[
     ("OBJ_LIKE (1-1)", ""),
-    ("OBJ_LIKE   (1-1)  ", ""),
+    ("OBJ_LIKE /* white space */ (1-1) /* other */", ""),
     ("FTN_LIKE(a) ( a )", ""),
-    ("FTN_LIKE( a )( a )", ""),
+    (
+        "FTN_LIKE( a )( /* note the white space */ a /* other stuff on this line */ )",
+        "",
+    ),
     ("OBJ_LIKE (0)", "X3 1"),
     ("OBJ_LIKE (1 - 1)", "X3 1"),
     ("FTN_LIKE(b) ( a )", "X3 1"),
