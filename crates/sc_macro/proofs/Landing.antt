@@ -1,5 +1,5 @@
 -- Tokens of a replacement are placed from the last to the first.
-use Rattle.std.proofs.Common.{◌≡◌, ℕ, Bool, true, false, List, [], ◌∷◌, ◌++◌, map, refl, sym, ◌∙◌, ap, append_assoc}
+use Rattle.std.proofs.Common.{◌≡◌, ℕ, Bool, true, false, List, [], ◌∷◌, ◌++◌, map, refl, ap}
 use Rattle.sc_lex.specs.declared.token.Token.{Token}
 use Rattle.sc_macro.specs.declared.marked.Marked.{Marked}
 use Rattle.sc_macro.specs.Marks.{landed, landed_as, respaced, spaced_as}

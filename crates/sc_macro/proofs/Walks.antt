@@ -1,5 +1,5 @@
 -- The walk over a list, one replacement at a time.
-use Rattle.std.proofs.Common.{◌≡◌, ℕ, zero, suc, ◌-◌, ◌<◌, Bool, false, List, [], ◌∷◌, ◌++◌, length, get_or, Result, Ok, Err, refl, sym, ◌∙◌, ap, arith, append_assoc, append-nil}
+use Rattle.std.proofs.Common.{◌≡◌, ℕ, zero, suc, ◌-◌, ◌<◌, Bool, false, List, [], ◌∷◌, ◌++◌, length, get_or, Ok, Err, refl, sym, ◌∙◌, ap, arith, append_assoc, append-nil}
 use Rattle.sc_macro.specs.declared.marked.Marked.{Marked}
 use Rattle.sc_macro.specs.declared.macros.Macros.{Macros}
 use Rattle.sc_macro.specs.declared.failure.Reason.TheVariants as reason

@@ -12,7 +12,7 @@ use Rattle.sc_macro.specs.declared.failure.Failure.TheVariants as failure
 use Rattle.sc_macro.specs.Refusals.{Outcome, refuse, after, told}
 use Rattle.sc_macro.specs.Hides.{common}
 use Rattle.sc_macro.specs.Marks.{landed, respaced, without_lines}
-use Rattle.sc_macro.specs.Table.{Table, Files, table, files}
+use Rattle.sc_macro.specs.Table.{table, files}
 use Rattle.sc_macro.specs.Define.{is_function}
 use Rattle.sc_macro.specs.Calls.{Collected, use_at, front, behind, collect, fits}
 use Rattle.sc_macro.specs.Substitute.{filled, alone}

@@ -1,5 +1,5 @@
 -- Outcomes: a value, or a refusal.
-use Rattle.std.specs.Prelude.{ℕ, ◌≡◌, ⊤, List, [], Result, Ok, Err, codes}
+use Rattle.std.specs.Prelude.{ℕ, ◌≡◌, ⊤, [], Result, Ok, Err, codes}
 use Rattle.sc_base.specs.declared.refusal.X.{X}
 use Rattle.sc_base.specs.declared.refusal.X.TheVariants as x
 use Rattle.sc_base.specs.declared.refusal.Refusal.{Refusal}

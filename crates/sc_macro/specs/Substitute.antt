@@ -1,5 +1,5 @@
 -- A replacement list filled with arguments (ANSI 3.8.3.1 to 3.8.3.3).
-use Rattle.std.specs.Prelude.{ℕ, ◌≡◌, ◌&&◌, nat_lt, Bool, if◌then◌else◌, List, [], ◌∷◌, ◌++◌, length, get_or, Option, Some, None, Ok, decimal}
+use Rattle.std.specs.Prelude.{ℕ, ◌&&◌, nat_lt, Bool, if◌then◌else◌, List, [], ◌∷◌, ◌++◌, length, get_or, Option, Some, None, Ok, decimal}
 use Rattle.sc_lex.specs.Automaton.{token_kind}
 use Rattle.sc_lex.specs.declared.token.TokenKind.{TokenKind}
 use Rattle.sc_lex.specs.declared.token.TokenKind.TheVariants as token
@@ -7,7 +7,6 @@ use Rattle.sc_lex.specs.declared.token.Token.{Token}
 use Rattle.sc_macro.specs.declared.marked.Marked.{Marked}
 use Rattle.sc_macro.specs.declared.macros.MacroKind.{MacroKind}
 use Rattle.sc_macro.specs.declared.macros.MacroKind.TheVariants as kind
-use Rattle.sc_macro.specs.declared.macros.Macro.{Macro}
 use Rattle.sc_macro.specs.declared.macros.Part.{Part}
 use Rattle.sc_macro.specs.declared.macros.Part.TheVariants as part
 use Rattle.sc_macro.specs.declared.failure.Reason.TheVariants as reason

@@ -1,5 +1,5 @@
 -- The table of macros, and the names of the files.
-use Rattle.std.specs.Prelude.{ℕ, ◌≡◌, ⊤, ◌||◌, Bool, true, false, nat_eq, if◌then◌else◌, List, [], ◌∷◌, Option, Some, None, slice_get, map, codes}
+use Rattle.std.specs.Prelude.{ℕ, ◌||◌, Bool, false, nat_eq, if◌then◌else◌, List, [], ◌∷◌, Option, Some, None, slice_get, map, codes}
 use Rattle.std.specs.List.{position}
 use Rattle.std.specs.Option.{unwrap_or}
 use Rattle.std.specs.Str.{bytes_eq}

@@ -1,4 +1,4 @@
-use Rattle.std.proofs.Common.{◌≡◌, rules, true, false, arith, ◌∷◌, ◌++◌, []}
+use Rattle.std.proofs.Common.{◌≡◌, rules, true, false, ◌∷◌, ◌++◌, []}
 use Rattle.sc_macro.specs.Tokens.{is_mark}
 use Rattle.sc_macro.specs.Define.{is_new}
 use Rattle.sc_macro.proofs.Names.{listed_next}
