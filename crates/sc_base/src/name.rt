@@ -5,7 +5,7 @@ ghost use Rattle.std.proofs.Common.{rules};
 ghost use Rattle.std.specs.Cmp.Rules.{comparing, hashing};
 ghost use Rattle.std.specs.Hash as fed;
 
-use crate::{Duplicate, NoMemory};
+use crate::{Bytes, Duplicate, NoMemory};
 use std::alloc::Global;
 use std::hash::{Hash, Hasher};
 use std::marker::Model;
@@ -21,15 +21,15 @@ pub enum NameFault {
 /// A name of 1 to 255 bytes, seen as the list of them.
 #[derive(Debug, Drop)]
 pub struct Name {
-    bytes: Vec<u8>,
+    bytes: Bytes,
 }
 
 impl Model for Name {
     ghost Value = { List ℕ };
 
-    ghost view = { λ n. n.bytes.items };
+    ghost view = { λ n. n.bytes };
 
-    ghost invariant = { λ n. (0 < length n.bytes.items) × (length n.bytes.items ≤ 255) };
+    ghost invariant = { λ n. (0 < length n.bytes) × (length n.bytes ≤ 255) };
 }
 
 impl PartialEq for Name {
@@ -72,7 +72,7 @@ impl Name {
         if bytes.len() > Self::MAX_LEN {
             return Err(NameFault::TooLong);
         }
-        match Vec::from_slice(alloc, bytes) {
+        match Bytes::from_slice(alloc, bytes) {
             Ok(bytes) => Ok(Name { bytes }),
             Err(_) => Err(NameFault::NoMemory),
         }
@@ -85,11 +85,18 @@ impl Name {
     {
         self.bytes.as_slice()
     }
+
+    /// The same bytes as a text, for a table whose keys are texts.
+    pub fn as_bytes(&self) -> &Bytes
+        ensures { result.now ≡ self.now }
+    {
+        &self.bytes
+    }
 }
 
 impl Duplicate for Name {
     fn copy(&self, alloc: Global) -> Result<Name, NoMemory> {
-        let bytes = Vec::from_slice(alloc, self.bytes.as_slice())?;
+        let bytes = self.bytes.copy(alloc)?;
         Ok(Name { bytes })
     }
 }

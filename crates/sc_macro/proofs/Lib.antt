@@ -1,0 +1,5 @@
+pub mod Chains
+pub mod Glue
+pub mod Landing
+pub mod Names
+pub mod Walks

@@ -1,0 +1,11 @@
+pub mod Refusals
+pub mod Tokens
+pub mod Hides
+pub mod Marks
+pub mod Table
+pub mod Replacement
+pub mod Define
+pub mod Strings
+pub mod Substitute
+pub mod Calls
+pub mod Expansion

@@ -1,0 +1,21 @@
+//! The table of macros, and expansion by hide sets (ANSI 3.8.3).
+#![tactic(auto)]
+
+mod call;
+mod define;
+mod failure;
+mod hide;
+mod lists;
+mod macros;
+mod marked;
+mod redefine;
+mod replacement;
+mod string;
+mod substitute;
+mod walk;
+
+pub use macros::{Macro, MacroKind, Macros, Part, is_fixed};
+pub use walk::expand;
+
+#[cfg(test)]
+mod tests;

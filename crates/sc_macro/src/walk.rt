@@ -1,0 +1,276 @@
+// Expansion of a list, one replacement after the other.
+ghost use Rattle.std.specs.Prelude.{◌≡◌, [], ◌∷◌, ◌++◌, ◌≤◌, ◌<◌, ◌-◌, ◌||◌, false, get_or, IfOk, OnOk, map};
+ghost use Rattle.sc_macro.specs.Expansion as spec;
+ghost use Rattle.sc_macro.specs.Expansion.{Expands, Replaces};
+ghost use Rattle.sc_macro.specs.Marks.{without_lines};
+ghost use Rattle.sc_macro.specs.Refusals.{Gives};
+
+use crate::call::{Call, collect, fits};
+use crate::failure::{Failure, Reason, Refused, fault};
+use crate::hide::Hide;
+use crate::macros::{Macro, Macros};
+use crate::marked::{Marked, copy_spaced, is_newline};
+use crate::redefine::is_function;
+use crate::substitute::{alone, filled, place};
+use sc_base::{Duplicate, Fault, Items, NoMemory, Stack};
+use sc_lex::Token;
+use std::alloc::Global;
+
+fn is_wanted(wanted: &[bool], number: usize) -> bool
+    ensures { result ≡ get_or wanted.now number false }
+{
+    match wanted.get(number) {
+        Some(flag) => *flag,
+        None => false,
+    }
+}
+
+fn refused(reason: Reason, line: u32) -> Failure
+    ensures { result ≡ spec.refused reason line }
+{
+    Failure::Refused(Refused { reason, line })
+}
+
+/// A list with at most `left` replacements, in which arguments stand inside each other less than `depth` deep.
+#[cycle(expansion)]
+fn expand_at(
+    alloc: Global,
+    macros: &Macros,
+    depth: u32,
+    line: u32,
+    left: &mut u32,
+    tokens: Items<Marked>,
+) -> Result<Items<Marked>, Failure>
+    ensures gives { Expands (spec.expand macros.now depth line left.old tokens) result left.new }
+    ensures falls { left.new ≤ left.old }
+{
+    if depth == 0 {
+        return Err(refused(Reason::Macros, line));
+    }
+    let mut rest = Stack::new(alloc);
+    rest.push_all(tokens)?;
+    let mut out = Items::new(alloc);
+    let mut fuel = *left;
+    'walking: while let Some(name) = macros.skip(&mut rest, &mut out)? {
+        match replace(alloc, macros, depth - 1, left, &name, &mut rest) {
+            Ok(()) => fuel -= 1,
+            Err(failure) => return Err(failure),
+        }
+    }
+    Ok(out)
+}
+
+/// Puts what a name stands for in its place.
+#[cycle(expansion)]
+fn replace(
+    alloc: Global,
+    macros: &Macros,
+    depth: u32,
+    left: &mut u32,
+    name: &Marked,
+    rest: &mut Stack<Marked>,
+) -> Result<(), Failure>
+    ensures gives { Replaces (spec.replaced macros.now (spec.expand macros.now depth) left.old name.now rest.old) result left.new rest.new }
+    ensures falls { left.new ≤ left.old }
+    ensures counts { OnOk result (left.new < left.old) }
+{
+    let line = name.token.line;
+    let Some((number, definition)) = macros.use_at(name, rest) else {
+        return Err(refused(Reason::Macros, line));
+    };
+    if !is_function(definition.kind) {
+        return replace_alone(alloc, macros, left, name, number, definition, rest);
+    }
+    drop(rest.pop());
+    let Some(call) = collect(alloc, rest)? else {
+        return Err(refused(Reason::Misuse, line));
+    };
+    if !fits(definition.parameters.len(), &call.arguments) {
+        return Err(refused(Reason::Misuse, line));
+    }
+    if *left == 0 {
+        return Err(refused(Reason::Macros, line));
+    }
+    *left -= 1;
+    replace_call(
+        alloc, macros, depth, left, name, number, definition, &call, rest,
+    )
+}
+
+/// Puts what a name without arguments stands for in its place.
+fn replace_alone(
+    alloc: Global,
+    macros: &Macros,
+    left: &mut u32,
+    name: &Marked,
+    number: usize,
+    definition: &Macro,
+    rest: &mut Stack<Marked>,
+) -> Result<(), Failure>
+    ensures gives { Replaces (spec.replaced_alone macros.now left.old name.now number definition.now rest.old) result left.new rest.new }
+    ensures falls { left.new ≤ left.old }
+    ensures counts { OnOk result (left.new < left.old) }
+{
+    if *left == 0 {
+        return Err(refused(Reason::Macros, name.token.line));
+    }
+    *left -= 1;
+    let tokens = alone(alloc, macros, definition, &name.token)?;
+    let hide = name.hide.with(alloc, number)?;
+    place(alloc, &name.token, &hide, tokens, rest)?;
+    Ok(())
+}
+
+/// Puts what a call stands for in its place.
+#[cycle(expansion)]
+fn replace_call(
+    alloc: Global,
+    macros: &Macros,
+    depth: u32,
+    left: &mut u32,
+    name: &Marked,
+    number: usize,
+    definition: &Macro,
+    call: &Call,
+    rest: &mut Stack<Marked>,
+) -> Result<(), Failure>
+    ensures gives { Replaces (spec.called (spec.expand macros.now depth name.now.token.line) left.old name.now number definition.now (call.now.arguments, call.now.hide, rest.old)) result left.new rest.new }
+    ensures falls { left.new ≤ left.old }
+{
+    let whole = expand_arguments(
+        alloc,
+        macros,
+        depth,
+        name.token.line,
+        left,
+        definition.wanted.as_slice(),
+        call.arguments.as_slice(),
+    )?;
+    let tokens = filled(
+        alloc,
+        &name.token,
+        call.arguments.as_slice(),
+        whole.as_slice(),
+        definition.chains.as_slice(),
+    )?;
+    let hide = name.hide.common(alloc, &call.hide)?.with(alloc, number)?;
+    place(alloc, &name.token, &hide, tokens, rest)?;
+    Ok(())
+}
+
+/// The arguments that are wanted expanded; an empty list for each other.
+#[cycle(expansion)]
+fn expand_arguments(
+    alloc: Global,
+    macros: &Macros,
+    depth: u32,
+    line: u32,
+    left: &mut u32,
+    wanted: &[bool],
+    arguments: &[Items<Marked>],
+) -> Result<Items<Items<Marked>>, Failure>
+    ensures gives { Expands (spec.arguments (spec.expand macros.now depth line) wanted.now left.old [] arguments.now) result left.new }
+    ensures falls { left.new ≤ left.old }
+{
+    let mut done = Items::new(alloc);
+    let mut waiting = arguments;
+    'expanding: while let Some((argument, more)) = waiting.split_first() {
+        let needed = is_wanted(wanted, done.as_slice().len());
+        match expand_argument(alloc, macros, depth, line, left, argument, needed) {
+            Ok(whole) => done.push(whole)?,
+            Err(failure) => return Err(failure),
+        }
+        waiting = more;
+    }
+    Ok(done)
+}
+
+#[cycle(expansion)]
+fn expand_argument(
+    alloc: Global,
+    macros: &Macros,
+    depth: u32,
+    line: u32,
+    left: &mut u32,
+    argument: &Items<Marked>,
+    needed: bool,
+) -> Result<Items<Marked>, Failure>
+    ensures gives { Expands (spec.argument (spec.expand macros.now depth line) left.old argument.now needed) result left.new }
+    ensures falls { left.new ≤ left.old }
+{
+    if needed {
+        let tokens = argument.copy(alloc)?;
+        expand_at(alloc, macros, depth, line, left, tokens)
+    } else {
+        Ok(Items::new(alloc))
+    }
+}
+
+/// The tokens with empty hide sets, and without new-lines.
+fn marked(alloc: Global, tokens: &[Token]) -> Result<Items<Marked>, NoMemory>
+    ensures { IfOk result (λ ms. ms ≡ without_lines false tokens.now) }
+{
+    let mut out = Items::new(alloc);
+    let mut space = false;
+    let mut tokens = tokens;
+    'marking: while let Some((token, rest)) = tokens.split_first() {
+        if is_newline(token) {
+            space = true;
+        } else {
+            out.push(Marked {
+                token: copy_spaced(alloc, token, space || token.space)?,
+                hide: Hide::new(),
+            })?;
+            space = false;
+        }
+        tokens = rest;
+    }
+    Ok(out)
+}
+
+fn unmarked(alloc: Global, tokens: &[Marked]) -> Result<Items<Token>, NoMemory>
+    ensures { IfOk result (λ ts. ts ≡ map (λ m. m.token) tokens.now) }
+{
+    let mut items = Items::new(alloc);
+    for marked in tokens {
+        items.push(marked.token.copy(alloc)?)?;
+    }
+    Ok(items)
+}
+
+/// How many lists are expanded at once at most: the list itself, and 200 arguments inside each other.
+const DEPTH: u32 = 201;
+
+fn expand_list(
+    alloc: Global,
+    tokens: &[Token],
+    macros: &Macros,
+    left: &mut u32,
+) -> Result<Items<Token>, Failure>
+    ensures { Expands (spec.expanded 201 macros.now left.old tokens.now) result left.new }
+{
+    let tokens = marked(alloc, tokens)?;
+    match expand_at(alloc, macros, DEPTH, 0, left, tokens) {
+        Ok(done) => Ok(unmarked(alloc, done.as_slice())?),
+        Err(failure) => Err(failure),
+    }
+}
+
+/// The list after all replacements, and how many more may be made of the `left` that might be. New-lines in the list are
+/// white space. X3 for an unclosed call and for a wrong number of arguments, X9 `paste` where `##` makes no token, X10
+/// `identifier` where it makes an identifier above 63 bytes, X10 `macros` where no replacement is left or more than
+/// 200 arguments stand inside each other; each at the line of the macro's name, in an empty file.
+pub fn expand(
+    alloc: Global,
+    tokens: &[Token],
+    macros: &Macros,
+    left: u32,
+) -> Result<(Items<Token>, u32), Fault>
+    ensures { Gives (spec.expansion 201 macros.now left tokens.now) result }
+{
+    let mut left = left;
+    match expand_list(alloc, tokens, macros, &mut left) {
+        Ok(done) => Ok((done, left)),
+        Err(failure) => Err(fault(alloc, failure)),
+    }
+}
