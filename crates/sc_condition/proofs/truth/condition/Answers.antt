@@ -1,0 +1,13 @@
+use Rattle.std.proofs.Common.{◌≡◌, ◌∙◌, Err}
+use Rattle.sc_condition.specs.Terms.{terms_of}
+use Rattle.sc_condition.specs.declared.machine.Trouble.TheVariants as trouble
+use Rattle.sc_condition.proofs.Conditions.{by_value, no_value}
+use Rattle.sc_condition.proofs.truth.condition.Goals as goal
+
+pub returns-in-Ok-clause-value : goal.returns-in-Ok-clause-value
+returns-in-Ok-clause-value c = by_value (terms_of c.args.tokens.now) c.as_slice.result.now c.as_slice-in-Ok.result.now c.in-Ok.x c.is_deep.result c.decided.result (c.as_slice.ensures ∙ c.in_ok-terms.ensures) (c.as_slice-in-Ok.ensures ∙ c.in_ok-terms.ensures) c.in-Ok.ensures.only c.is_deep.ensures c.decided.ensures
+
+pub returns-in-Err-Syntax-clause-value : goal.returns-in-Err-Syntax-clause-value
+returns-in-Err-Syntax-clause-value c =
+    let syntax : c.expression.result ≡ Err trouble.Syntax = cc in
+    λ x d. absurd (no_value (terms_of c.args.tokens.now) c.as_slice.result.now c.expression.result (c.as_slice.ensures ∙ c.in_ok-terms.ensures) c.expression.ensures.syntax syntax x d)
