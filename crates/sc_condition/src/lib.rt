@@ -1,4 +1,4 @@
-//! The preprocessor: the conditions of `#if`.
+//! The conditions of `#if`: from tokens in which `defined` and macros are replaced, to true or false.
 #![tactic(auto)]
 
 mod character;
