@@ -1,5 +1,5 @@
 // Instructions as words (RISC-V unprivileged manual, 2.2 and 2.3).
-ghost use Rattle.std.specs.Prelude.{◌≡◌, ◌+◌, ◌*◌, ◌^◌, ◌<◌, ◌≤◌};
+ghost use Rattle.std.specs.Prelude.{◌≡◌, ◌+◌, ◌*◌, ◌^◌, ◌<◌};
 ghost use Rattle.sc_isa.specs.Table.{word_of, IsSound, IsImmediate, r_word, i_word, s_word, b_word, u_word, j_word, low_bits, branch_code, load_code, store_code, imm_code, imm_upper, reg_code, reg_upper};
 
 use crate::{BranchOp, ImmOp, Instr, LoadOp, RegOp, StoreOp};

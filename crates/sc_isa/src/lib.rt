@@ -6,6 +6,3 @@ mod instruction;
 
 pub use encoding::encode;
 pub use instruction::{BranchOp, ImmOp, Instr, LoadOp, RegOp, StoreOp};
-
-#[cfg(test)]
-mod tests;
