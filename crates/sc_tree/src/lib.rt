@@ -1,0 +1,15 @@
+//! The tree of a unit: one struct or variant for each production of the grammar of C (ANSI 3.3 to 3.7), and its sizes.
+#![tactic(auto)]
+
+mod declaration;
+mod expression;
+mod operator;
+mod statement;
+
+pub use declaration::{Declaration, InitDeclarator, Initializer};
+pub use expression::{
+    Constant, Declarator, Derivation, Enumerator, Expr, Identifier, Member, Parameter, Specifiers,
+    Storage, TypeName, TypeWord,
+};
+pub use operator::{Binary, Postfix, Unary};
+pub use statement::{Block, External, Function, Statement, Unit};
