@@ -22,6 +22,6 @@ pub struct InitDeclarator {
 #[derive(Drop)]
 pub struct Declaration {
     pub line: u32,
-    pub specifiers: Shared<Specifiers>,
+    pub specifiers: Specifiers,
     pub declarators: Items<InitDeclarator>,
 }

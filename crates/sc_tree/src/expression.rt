@@ -68,18 +68,17 @@ pub enum Expr {
 #[derive(Drop)]
 pub struct TypeName {
     pub line: u32,
-    pub specifiers: Shared<Specifiers>,
-    pub declarator: Option<Shared<Declarator>>,
+    pub specifiers: Specifiers,
+    pub declarator: Option<Declarator>,
 }
 
 /// A list of specifiers (ANSI 3.5): the storage class, whether `const` is there, and the type words in order.
-#[cycle(tree)]
 #[derive(Drop)]
-pub struct Specifiers {
+pub struct Specifiers<W = TypeWord> {
     pub line: u32,
     pub storage: Option<Storage>,
     pub constant: bool,
-    pub words: Items<TypeWord>,
+    pub words: Items<W>,
 }
 
 /// A type word (ANSI 3.5.2).
@@ -110,27 +109,25 @@ pub enum TypeWord {
 #[derive(Drop)]
 pub struct Member {
     pub line: u32,
-    pub specifiers: Shared<Specifiers>,
+    pub specifiers: Specifiers,
     pub declarators: Items<Declarator>,
 }
 
 /// An enumeration constant, with its value where one is written (ANSI 3.5.2.2).
-#[cycle(tree)]
 #[derive(Drop)]
-pub struct Enumerator {
+pub struct Enumerator<E = Shared<Expr>> {
     pub line: u32,
     pub name: Name,
-    pub value: Option<Shared<Expr>>,
+    pub value: Option<E>,
 }
 
 /// A declarator (ANSI 3.5.4): its name, which an abstract one lacks, and what the name is, from the name outwards.
 /// `*a[2]` is an array of pointers.
-#[cycle(tree)]
 #[derive(Drop)]
-pub struct Declarator {
+pub struct Declarator<D = Derivation> {
     pub line: u32,
     pub identifier: Option<Identifier>,
-    pub derivations: Items<Derivation>,
+    pub derivations: Items<D>,
 }
 
 /// One step of a declarator (ANSI 3.5.4.1 to 3.5.4.3).
@@ -152,6 +149,6 @@ pub enum Derivation {
 #[derive(Drop)]
 pub struct Parameter {
     pub line: u32,
-    pub specifiers: Shared<Specifiers>,
-    pub declarator: Option<Shared<Declarator>>,
+    pub specifiers: Specifiers,
+    pub declarator: Option<Declarator>,
 }

@@ -40,7 +40,7 @@ pub struct Block {
 #[derive(Drop)]
 pub struct Function {
     pub line: u32,
-    pub specifiers: Shared<Specifiers>,
+    pub specifiers: Specifiers,
     pub declarator: Declarator,
     pub body: Block,
 }
