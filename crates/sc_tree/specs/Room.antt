@@ -30,4 +30,4 @@ room_in (Expr-F.Comma l a b) = in_order 0 (a ∷ b ∷ [])
 
 -- The room of an expression: a leaf has 1, and `sizeof` is one.
 abbrev pub room_of : Expr → ℕ
-room_of = fold-Expr ℕ ℕ ℕ ℕ ℕ ℕ (λ _. 0) room_in (λ _. 0) (λ _. 0) (λ _. 0) (λ _. 0)
+room_of = fold-Expr ℕ ℕ ℕ ℕ ℕ ℕ ℕ (λ _. 0) room_in (λ _. 0) (λ _. 0) (λ _. 0) (λ _. 0) (λ _. 0)

@@ -123,11 +123,12 @@ pub struct Enumerator<E = Shared<Expr>> {
 
 /// A declarator (ANSI 3.5.4): its name, which an abstract one lacks, and what the name is, from the name outwards.
 /// `*a[2]` is an array of pointers.
+#[cycle(tree)]
 #[derive(Drop)]
-pub struct Declarator<D = Derivation> {
+pub struct Declarator {
     pub line: u32,
     pub identifier: Option<Identifier>,
-    pub derivations: Items<D>,
+    pub derivations: Items<Derivation>,
 }
 
 /// One step of a declarator (ANSI 3.5.4.1 to 3.5.4.3).
