@@ -18,3 +18,6 @@ pub use nodes::node_count;
 pub use operator::{Binary, Postfix, Unary};
 pub use evaluation::room;
 pub use statement::{Block, External, Function, Statement, Unit};
+
+#[cfg(test)]
+mod tests;
