@@ -15,7 +15,7 @@ use Rattle.sc_parse_expr.specs.declared.frame.Frame.TheVariants as f
 use Rattle.sc_parse_expr.specs.declared.frame.State.{State}
 use Rattle.sc_parse_expr.specs.declared.frame.State.TheVariants as s
 use Rattle.sc_parse_expr.specs.Kinds.{word_of, power_of}
-use Rattle.sc_parse_expr.specs.Grammar.{Names, is_type, text_with, has_words, no_words, with_word, with_const, type_of, pointer_to, starts_at, Specified, none, simple, const, typedef, struct_tag, enum_tag, Pointed, first, star, const_star, TypeTokens, plain, pointer, Strings, one, more}
+use Rattle.sc_parse_expr.specs.Grammar.{Names, is_type, text_with, has_words, no_words, with_word, with_const, type_of, pointer_to, starts_at, Specified, none, simple, const, typedef, struct_tag, enum_tag, Pointed, a_star, more_star, const_star, TypeTokens, plain, pointer, Strings, a_text, more_text}
 use Rattle.sc_parse_expr.specs.Machine.{Config, begins_type, typed, at_word, words, texts, have, step, run}
 
 abbrev pub line_of : List Symbol → ℕ
@@ -106,8 +106,8 @@ module _ (names : Names) where
 
   reads_stars : {l : ℕ} {ts : List Symbol} {c : Bool} {cs : List Bool} → Pointed l ts c cs → (fs : List Frame) (v : Specifiers TypeWord) (us : List Symbol) →
       has_words v.words ≡ true → run names (fs, s.Words v) (ts ++ us) ≡ run names (fs, s.Pointers v l cs c) us
-  reads_stars {l} (first t h at) fs v us w = steps (fs, s.Words v) (fs, s.Pointers v l [] false) t us (rw (h, w, at) refl)
-  reads_stars {l} (star {ts} {c} {cs} t d h) fs v us w =
+  reads_stars {l} (a_star t h at) fs v us w = steps (fs, s.Words v) (fs, s.Pointers v l [] false) t us (rw (h, w, at) refl)
+  reads_stars {l} (more_star {ts} {c} {cs} t d h) fs v us w =
       ap (run names (fs, s.Words v)) (append_assoc ts (t ∷ []) us) ∙ reads_stars d fs v (t ∷ us) w ∙
       steps (fs, s.Pointers v l cs c) (fs, s.Pointers v l (c ∷ cs) false) t us (rw h refl)
   reads_stars {l} (const_star {ts} {c} {cs} t d h) fs v us w =
@@ -133,8 +133,8 @@ module _ (names : Names) where
 
   reads_strings : {l : ℕ} {ts : List Symbol} {text : Option (List ℕ)} → Strings l ts text → (fs : List Frame) (us : List Symbol) →
       run names (fs, s.Need) (ts ++ us) ≡ run names (fs, s.Texts l text) us
-  reads_strings (one {fits} t h) fs us = steps (fs, s.Need) (fs, s.Texts t.line (text_with (Some []) fits t.text)) t us (rw h refl)
-  reads_strings {l} (more {ts = ts} {text} {fits} t d h) fs us =
+  reads_strings (a_text {fits} t h) fs us = steps (fs, s.Need) (fs, s.Texts t.line (text_with (Some []) fits t.text)) t us (rw h refl)
+  reads_strings {l} (more_text {ts = ts} {text} {fits} t d h) fs us =
       ap (run names (fs, s.Need)) (append_assoc ts (t ∷ []) us) ∙ reads_strings d fs (t ∷ us) ∙
       steps (fs, s.Texts l text) (fs, s.Texts l (text_with text fits t.text)) t us (rw h refl)
 

@@ -93,8 +93,8 @@ pub data Specified (names : Names) (l : ℕ) : List Symbol → Specifiers TypeWo
 
 -- These tokens are stars: whether the last one is const, and the same of the earlier ones from the last back. The first is on line l.
 pub data Pointed (l : ℕ) : List Symbol → Bool → List Bool → Type 0 where
-  first : (t : Symbol) → t.kind ≡ k.Star → t.line ≡ l → Pointed l (t ∷ []) false []
-  star : {ts : List Symbol} {c : Bool} {cs : List Bool} (t : Symbol) → Pointed l ts c cs → t.kind ≡ k.Star → Pointed l (ts ++ t ∷ []) false (c ∷ cs)
+  a_star : (t : Symbol) → t.kind ≡ k.Star → t.line ≡ l → Pointed l (t ∷ []) false []
+  more_star : {ts : List Symbol} {c : Bool} {cs : List Bool} (t : Symbol) → Pointed l ts c cs → t.kind ≡ k.Star → Pointed l (ts ++ t ∷ []) false (c ∷ cs)
   const_star : {ts : List Symbol} {c : Bool} {cs : List Bool} (t : Symbol) → Pointed l ts c cs → t.kind ≡ k.Const → Pointed l (ts ++ t ∷ []) true cs
 
 -- the line of the first token
@@ -112,8 +112,8 @@ pub data TypeTokens (names : Names) : List Symbol → TypeName → Type 0 where
 
 -- The tokens are strings side by side, the first on line l.
 pub data Strings : ℕ → List Symbol → Option (List ℕ) → Type 0 where
-  one : {fits : Bool} (t : Symbol) → t.kind ≡ k.Text fits → Strings t.line (t ∷ []) (text_with (Some []) fits t.text)
-  more : {l : ℕ} {ts : List Symbol} {text : Option (List ℕ)} {fits : Bool} (t : Symbol) →
+  a_text : {fits : Bool} (t : Symbol) → t.kind ≡ k.Text fits → Strings t.line (t ∷ []) (text_with (Some []) fits t.text)
+  more_text : {l : ℕ} {ts : List Symbol} {text : Option (List ℕ)} {fits : Bool} (t : Symbol) →
       Strings l ts text → t.kind ≡ k.Text fits → Strings l (ts ++ t ∷ []) (text_with text fits t.text)
 
 -- The levels: comma 1, assignment 2, conditional 3, binary 4 to 13, cast 14, unary 15, postfix 16, primary 17.
