@@ -1,5 +1,5 @@
 -- The room of the first operands, and of each one.
-use Rattle.std.proofs.Common.{◌≡◌, ℕ, zero, suc, ◌+◌, ◌≤◌, ◌<◌, List, [], ◌∷◌, map, take, length, slice_index_or, arith, add-one, sym, subst, refl}
+use Rattle.std.proofs.Common.{◌≡◌, ℕ, zero, suc, ◌+◌, ◌≤◌, ◌<◌, List, [], ◌∷◌, map, take, length, slice_index_or, arith, add-one, sym, subst}
 use Rattle.std.specs.Prelude.{max}
 use Rattle.sc_tree.specs.declared.expression.Expr.{Expr}
 use Rattle.sc_tree.specs.Room.{room_of, in_order}

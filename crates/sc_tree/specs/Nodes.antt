@@ -1,5 +1,5 @@
 -- How many nodes a tree has: one for each expression, statement, declarator, list of specifiers and initialiser.
-use Rattle.std.specs.Prelude.{ℕ, suc, ◌+◌, List, [], ◌∷◌, Option, Some, None, sum, map, sum_by, length}
+use Rattle.std.specs.Prelude.{ℕ, ◌+◌, Option, Some, None, sum, sum_by, length}
 use Rattle.sc_tree.specs.declared.expression.Expr.{Expr, fold-Expr, out-Expr}
 use Rattle.sc_tree.specs.declared.expression.TypeWord.{TypeWord, fold-TypeWord}
 use Rattle.sc_tree.specs.declared.expression.Derivation.{Derivation, fold-Derivation}

@@ -1,5 +1,5 @@
 -- How many words the evaluation of an expression keeps at once.
-use Rattle.std.specs.Prelude.{ℕ, suc, ◌+◌, max, List, [], ◌∷◌}
+use Rattle.std.specs.Prelude.{ℕ, ◌+◌, max, List, [], ◌∷◌}
 use Rattle.sc_tree.specs.declared.expression.Expr.{Expr, fold-Expr}
 use Rattle.sc_tree.specs.declared.expression.Derivation.TheOpen.{Expr-F}
 use Rattle.sc_tree.specs.Nodes.{Numbers}

@@ -6,17 +6,16 @@ mod evaluation;
 mod expression;
 mod nodes;
 mod operator;
-
 mod statement;
 
 pub use declaration::{Declaration, InitDeclarator, Initializer};
+pub use evaluation::room;
 pub use expression::{
     Constant, Declarator, Derivation, Enumerator, Expr, Identifier, Member, Parameter, Specifiers,
     Storage, TypeName, TypeWord,
 };
 pub use nodes::node_count;
 pub use operator::{Binary, Postfix, Unary};
-pub use evaluation::room;
 pub use statement::{Block, External, Function, Statement, Unit};
 
 #[cfg(test)]

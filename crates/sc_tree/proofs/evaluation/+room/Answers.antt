@@ -10,9 +10,10 @@ arguments-overflow_add-before t c =
     omega (arith, within_at c.args.args.now c.loop-arg.arg-index c.arg-item.result c.arg-item.result c.loop-arg-test.true c.arg-item.is refl, c.requires, c.loop-arg.invariant.0)
 
 pub arguments-room-requires : goal.arguments-room-requires
-arguments-room-requires t c =
-    (search (rules, the_lemmas),
-    omega (arith, within_at c.args.args.now c.loop-arg.arg-index c.arg-item.result c.get.result.now c.loop-arg-test.true c.arg-item.is c.get.ensures, c.requires))
+arguments-room-requires t c = (
+  search (rules, the_lemmas),
+  omega (arith, within_at c.args.args.now c.loop-arg.arg-index c.arg-item.result c.get.result.now c.loop-arg-test.true c.arg-item.is c.get.ensures, c.requires),
+)
 
 pub arguments-overflow_add-room : goal.arguments-overflow_add-room
 arguments-overflow_add-room t c =
