@@ -1,6 +1,7 @@
 -- The grammar of expressions and type names: which tokens are which tree.
 use Rattle.std.specs.Prelude.{◌≡◌, ℕ, zero, suc, ◌+◌, ◌≤◌, Bool, true, false, if◌then◌else◌, ◌&&◌, List, [], ◌∷◌, ◌++◌, Option, Some, None, map}
 use Rattle.std.specs.Str.{bytes_eq}
+use Rattle.std.specs.List.{list_any}
 use Rattle.sc_tree.specs.declared.operator.Unary.{Unary}
 use Rattle.sc_tree.specs.declared.operator.Postfix.{Postfix}
 use Rattle.sc_tree.specs.declared.operator.Binary.{Binary}
@@ -19,30 +20,12 @@ use Rattle.sc_parse_expr.specs.declared.kind.Kind.{Kind}
 use Rattle.sc_parse_expr.specs.declared.kind.Kind.TheVariants as k
 use Rattle.sc_parse_expr.specs.Kinds.{unary_of, operand_of, postfix_of, binary_of, level_of, assign_of, word_of}
 
--- The scopes, innermost first: each name with whether it is a typedef, the last one declared last.
+-- The names of types that are visible: those whose innermost declaration in scope is a typedef.
 abbrev pub Names : Type 0
-Names = List (List (List ℕ × Bool))
+Names = List (List ℕ)
 
-abbrev pub or_else : Option Bool → Option Bool → Option Bool
-or_else None b = b
-or_else (Some a) b = Some a
-
--- what a scope says of a name
-abbrev pub in_scope : List (List ℕ × Bool) → List ℕ → Option Bool
-in_scope [] name = None
-in_scope (entry ∷ entries) name = or_else (in_scope entries name) (if bytes_eq entry.0 name then Some entry.1 else None)
-
-abbrev pub found_in : Names → List ℕ → Option Bool
-found_in [] name = None
-found_in (scope ∷ scopes) name = or_else (in_scope scope name) (found_in scopes name)
-
-abbrev pub is_yes : Option Bool → Bool
-is_yes None = false
-is_yes (Some b) = b
-
--- whether the innermost declaration of a name is a typedef
 abbrev pub is_type : Names → List ℕ → Bool
-is_type names name = is_yes (found_in names name)
+is_type names name = list_any (λ n. bytes_eq n name) names
 
 -- Strings side by side are one, which is nothing where an escape is above 255.
 abbrev pub text_with : Option (List ℕ) → Bool → List ℕ → Option (List ℕ)

@@ -6,12 +6,10 @@ mod close;
 mod frame;
 mod kind;
 mod machine;
-mod names;
 mod trouble;
 mod words;
 
 pub use frame::{Frame, State};
 pub use kind::{Kind, Symbol};
 pub use machine::step;
-pub use names::TypeNames;
 pub use trouble::Trouble;

@@ -9,10 +9,9 @@ use crate::classes::{binary_of, postfix_of, power_of, unary_of};
 use crate::close::{at_comma, close_bracket, close_paren, close_then, needs, settle};
 use crate::frame::{Frame, State};
 use crate::kind::{Kind, Symbol};
-use crate::names::TypeNames;
 use crate::trouble::Trouble;
-use crate::words::{begins_type, enum_tag, name_of, pointers, struct_tag, words};
-use sc_base::{Bytes, Items, NoMemory, Shared, Stack};
+use crate::words::{begins_type, enum_tag, name_of, names_type, pointers, struct_tag, words};
+use sc_base::{Bytes, Items, Name, NoMemory, Shared, Stack};
 use sc_tree::{Binary, Constant, Expr, Specifiers};
 use std::alloc::Global;
 
@@ -229,16 +228,16 @@ fn appended(bytes: Bytes, more: &Bytes) -> Result<Bytes, NoMemory>
 /// A token where an operand is due.
 fn need(
     alloc: Global,
-    names: &TypeNames,
+    names: &Items<Name>,
     token: &Symbol,
     frames: &mut Stack<Frame>,
 ) -> Result<State, Trouble>
     requires { IsSymbol token.now }
-    ensures { Steps (spec.need names.now.scopes token.now frames.old token.now.kind) result frames.new }
+    ensures { Steps (spec.need names.now token.now frames.old token.now.kind) result frames.new }
 {
     match token.kind {
         Kind::Name => {
-            if names.is_typedef(&token.text) {
+            if names_type(names, &token.text) {
                 Err(Trouble::Syntax)
             } else {
                 named(alloc, token)
@@ -260,13 +259,13 @@ fn need(
 /// A token behind `(` where an operand is due.
 fn opened(
     alloc: Global,
-    names: &TypeNames,
+    names: &Items<Name>,
     token: &Symbol,
     frames: &mut Stack<Frame>,
     line: u32,
 ) -> Result<State, Trouble>
     requires { IsSymbol token.now }
-    ensures { Steps (spec.opened names.now.scopes token.now frames.old line) result frames.new }
+    ensures { Steps (spec.opened names.now token.now frames.old line) result frames.new }
 {
     if begins_type(names, token) {
         frames.push(Frame::CastType(line))?;
@@ -278,12 +277,12 @@ fn opened(
 
 fn first_word(
     alloc: Global,
-    names: &TypeNames,
+    names: &Items<Name>,
     token: &Symbol,
     frames: &mut Stack<Frame>,
 ) -> Result<State, Trouble>
     requires { IsSymbol token.now }
-    ensures { Steps (spec.words names.now.scopes token.now frames.old (no_words token.now.line) token.now.kind) result frames.new }
+    ensures { Steps (spec.words names.now token.now frames.old (no_words token.now.line) token.now.kind) result frames.new }
 {
     let specifiers = Specifiers {
         line: token.line,
@@ -297,13 +296,13 @@ fn first_word(
 /// A token behind `sizeof`.
 fn sized(
     alloc: Global,
-    names: &TypeNames,
+    names: &Items<Name>,
     token: &Symbol,
     frames: &mut Stack<Frame>,
     line: u32,
 ) -> Result<State, Trouble>
     requires { IsSymbol token.now }
-    ensures { Steps (spec.sized names.now.scopes token.now frames.old line token.now.kind) result frames.new }
+    ensures { Steps (spec.sized names.now token.now frames.old line token.now.kind) result frames.new }
 {
     match token.kind {
         Kind::LeftParen => Ok(State::SizedOpened(line, token.line)),
@@ -317,14 +316,14 @@ fn sized(
 /// A token behind `sizeof (`.
 fn sized_opened(
     alloc: Global,
-    names: &TypeNames,
+    names: &Items<Name>,
     token: &Symbol,
     frames: &mut Stack<Frame>,
     line: u32,
     paren: u32,
 ) -> Result<State, Trouble>
     requires { IsSymbol token.now }
-    ensures { Steps (spec.sized_opened names.now.scopes token.now frames.old line paren) result frames.new }
+    ensures { Steps (spec.sized_opened names.now token.now frames.old line paren) result frames.new }
 {
     if begins_type(names, token) {
         frames.push(Frame::SizeType(line))?;
@@ -385,16 +384,17 @@ fn arrowed(alloc: Global, token: &Symbol, line: u32, x: Shared<Expr>) -> Result<
     }
 }
 
-/// Takes the next token: the state behind it, or `Syntax` where no expression goes on with it.
+/// Takes the next token: the state behind it, or `Syntax` where the machine stops. `names` are the names of types that
+/// are visible. A token of the kind `Name` has 1 to 255 bytes.
 pub fn step(
     alloc: Global,
-    names: &TypeNames,
+    names: &Items<Name>,
     token: &Symbol,
     frames: &mut Stack<Frame>,
     state: State,
 ) -> Result<State, Trouble>
     requires { IsSymbol token.now }
-    ensures { Steps (spec.step names.now.scopes token.now (frames.old, state)) result frames.new }
+    ensures { Steps (spec.step names.now token.now (frames.old, state)) result frames.new }
 {
     match state {
         State::Need => need(alloc, names, token, frames),

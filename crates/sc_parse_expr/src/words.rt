@@ -1,7 +1,7 @@
 // The words of a type name.
-ghost use Rattle.std.specs.Prelude.{◌≡◌, ◌<◌, ◌≤◌, List, [], ◌∷◌, ◌++◌, Some, length, map, IfOk, IsOkUnless, if◌then◌else◌};
+ghost use Rattle.std.specs.Prelude.{◌≡◌, ◌<◌, ◌≤◌, List, [], ◌∷◌, ◌++◌, Some, false, length, map, IfOk, IsOkUnless};
 ghost use Rattle.sc_parse_expr.specs.Machine as spec;
-ghost use Rattle.sc_parse_expr.specs.Grammar.{has_words, with_word, with_const, type_of, abstract_of};
+ghost use Rattle.sc_parse_expr.specs.Grammar.{is_type, with_word, with_const, type_of, abstract_of};
 ghost use Rattle.sc_parse_expr.specs.Kinds.{word_of as word_in};
 ghost use Rattle.sc_parse_expr.specs.Steps.{Steps, IsSymbol};
 
@@ -9,7 +9,6 @@ use crate::classes::word_of;
 use crate::close::needs;
 use crate::frame::{Frame, State};
 use crate::kind::{Kind, Symbol};
-use crate::names::TypeNames;
 use crate::trouble::Trouble;
 use sc_base::{Bytes, Items, Name, NoMemory, Shared, Stack};
 use sc_tree::{Declarator, Derivation, Expr, Specifiers, TypeName, TypeWord};
@@ -27,12 +26,22 @@ pub fn name_of(alloc: Global, text: &Bytes) -> Result<Name, NoMemory>
     }
 }
 
+/// Whether a type has this name.
+pub fn names_type(names: &Items<Name>, text: &Bytes) -> bool
+    ensures { result ≡ is_type names.now text.now }
+{
+    names
+        .as_slice()
+        .iter()
+        .any(|n| n.as_slice() == text.as_slice())
+}
+
 /// Whether a type name begins with the token.
-pub fn begins_type(names: &TypeNames, token: &Symbol) -> bool
-    ensures { result ≡ spec.begins_type names.now.scopes token.now.text token.now.kind }
+pub fn begins_type(names: &Items<Name>, token: &Symbol) -> bool
+    ensures { result ≡ spec.begins_type names.now token.now.text token.now.kind }
 {
     match token.kind {
-        Kind::Name => names.is_typedef(&token.text),
+        Kind::Name => names_type(names, &token.text),
         Kind::Void | Kind::Char | Kind::Short | Kind::Int | Kind::Long => true,
         Kind::Signed | Kind::Unsigned | Kind::Const | Kind::Struct | Kind::Enum => true,
         _ => false,
@@ -157,18 +166,18 @@ fn at_word(
 
 fn typedef(
     alloc: Global,
-    names: &TypeNames,
+    names: &Items<Name>,
     token: &Symbol,
     specifiers: Specifiers,
 ) -> Result<State, Trouble>
     requires some { 0 < length token.now.text }
     requires few { length token.now.text ≤ 255 }
-    ensures { (fs : List Frame) → Steps (spec.words names.now.scopes token.now fs specifiers Kind.Name) result fs }
+    ensures { (fs : List Frame) → Steps (spec.words names.now token.now fs specifiers Kind.Name) result fs }
 {
     if !specifiers.words.is_empty() {
         return Err(Trouble::Syntax);
     }
-    if !names.is_typedef(&token.text) {
+    if !names_type(names, &token.text) {
         return Err(Trouble::Syntax);
     }
     let name = name_of(alloc, &token.text)?;
@@ -186,13 +195,13 @@ fn constant(specifiers: Specifiers) -> Specifiers
 /// A token among the words of specifiers.
 pub fn words(
     alloc: Global,
-    names: &TypeNames,
+    names: &Items<Name>,
     token: &Symbol,
     frames: &mut Stack<Frame>,
     specifiers: Specifiers,
 ) -> Result<State, Trouble>
     requires { IsSymbol token.now }
-    ensures { Steps (spec.words names.now.scopes token.now frames.old specifiers token.now.kind) result frames.new }
+    ensures { Steps (spec.words names.now token.now frames.old specifiers token.now.kind) result frames.new }
 {
     match token.kind {
         Kind::Const => Ok(State::Words(constant(specifiers))),
