@@ -13,3 +13,6 @@ pub use frame::{Frame, State};
 pub use kind::{Kind, Symbol};
 pub use machine::step;
 pub use trouble::Trouble;
+
+#[cfg(test)]
+mod tests;
