@@ -1,5 +1,5 @@
 -- The machine reads each expression of the grammar.
-use Rattle.std.proofs.Common.{◌≡◌, ℕ, suc, ◌+◌, ◌≤◌, ◌<◌, Bool, true, false, List, [], ◌∷◌, ◌++◌, Option, Some, None, refl, sym, ◌∙◌, ap, subst, arith, append_assoc, ◌⊎◌, inl, inr}
+use Rattle.std.proofs.Common.{◌≡◌, ℕ, ◌≤◌, Bool, true, false, List, [], ◌∷◌, ◌++◌, Option, Some, refl, sym, ◌∙◌, ap, arith, append_assoc, ◌⊎◌, inl, inr}
 use Rattle.std.specs.Prelude.{option_and_then, nat_lt, nat_le}
 use Rattle.std.proofs.lemmas.Bool.Decides.{nat_tests}
 use Rattle.std.proofs.lemmas.Bool.{le-leb}
@@ -14,12 +14,11 @@ use Rattle.sc_parse_expr.specs.declared.kind.Kind.{Kind}
 use Rattle.sc_parse_expr.specs.declared.kind.Kind.TheVariants as k
 use Rattle.sc_parse_expr.specs.declared.frame.Frame.{Frame}
 use Rattle.sc_parse_expr.specs.declared.frame.Frame.TheVariants as f
-use Rattle.sc_parse_expr.specs.declared.frame.State.{State}
 use Rattle.sc_parse_expr.specs.declared.frame.State.TheVariants as s
-use Rattle.sc_parse_expr.specs.Kinds.{unary_of, operand_of, postfix_of, binary_of, level_of, assign_of, power_of, level_at}
-use Rattle.sc_parse_expr.specs.Grammar.{Names, is_type, no_words, TypeTokens, Strings, a_text, more_text, Phrase, name, constant, string, paren, index, call, call_none, member, arrow, postfix, unary, size_of, size_of_type, cast, binary, conditional, assign, comma, Arguments, first, more}
-use Rattle.sc_parse_expr.specs.Machine.{Config, Operand, needs, settle, act, act_on, have, need, behind, at_operator, at_comma, at_postfix, at_unary, begins_type, opened, sized, sized_opened, words, step, run, typed, close_paren}
-use Rattle.sc_parse_expr.proofs.Levels.{level-small, level-positive, operand-tight, operand-loose, power-binary, power-assign, not_between}
+use Rattle.sc_parse_expr.specs.Kinds.{unary_of, postfix_of, binary_of, level_of, assign_of, power_of}
+use Rattle.sc_parse_expr.specs.Grammar.{Names, no_words, Strings, a_text, more_text, Phrase, name, constant, string, paren, index, call, call_none, member, arrow, postfix, unary, size_of, size_of_type, cast, binary, conditional, assign, comma, Arguments, first, more}
+use Rattle.sc_parse_expr.specs.Machine.{Config, needs, settle, act, act_on, have, need, at_operator, at_comma, at_postfix, at_unary, begins_type, sized, run, typed}
+use Rattle.sc_parse_expr.proofs.Levels.{level-small, level-positive, operand-tight, power-binary, power-assign, not_between}
 use Rattle.sc_parse_expr.proofs.Types.{steps, line_of, Begins, begin_type, reads_type, reads_text}
 
 -- what is not settled where an operand of a level q is due, and the token binds at p

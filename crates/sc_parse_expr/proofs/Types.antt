@@ -1,7 +1,6 @@
 -- The machine reads the type names and strings of the grammar.
-use Rattle.std.proofs.Common.{◌≡◌, ℕ, suc, ◌+◌, ◌≤◌, ◌<◌, Bool, true, false, List, [], ◌∷◌, ◌++◌, Option, Some, None, refl, sym, ◌∙◌, ap, subst, arith, append_assoc, ◌⊎◌, inl, inr}
-use Rattle.std.specs.Prelude.{option_and_then, nat_lt, nat_le}
-use Rattle.sc_tree.specs.declared.expression.Expr.{Expr}
+use Rattle.std.proofs.Common.{◌≡◌, ℕ, ◌≤◌, Bool, true, false, List, [], ◌∷◌, ◌++◌, Option, Some, refl, sym, ◌∙◌, ap, subst, arith, append_assoc, ◌⊎◌, inl, inr}
+use Rattle.std.specs.Prelude.{option_and_then}
 use Rattle.sc_tree.specs.declared.expression.Expr.TheVariants as e
 use Rattle.sc_tree.specs.declared.expression.TypeWord.{TypeWord}
 use Rattle.sc_tree.specs.declared.expression.TypeWord.TheVariants as word
@@ -11,11 +10,9 @@ use Rattle.sc_parse_expr.specs.declared.kind.Symbol.{Symbol}
 use Rattle.sc_parse_expr.specs.declared.kind.Kind.{Kind}
 use Rattle.sc_parse_expr.specs.declared.kind.Kind.TheVariants as k
 use Rattle.sc_parse_expr.specs.declared.frame.Frame.{Frame}
-use Rattle.sc_parse_expr.specs.declared.frame.Frame.TheVariants as f
-use Rattle.sc_parse_expr.specs.declared.frame.State.{State}
 use Rattle.sc_parse_expr.specs.declared.frame.State.TheVariants as s
 use Rattle.sc_parse_expr.specs.Kinds.{word_of, power_of}
-use Rattle.sc_parse_expr.specs.Grammar.{Names, is_type, text_with, has_words, no_words, with_word, with_const, type_of, pointer_to, starts_at, Specified, none, simple, const, typedef, struct_tag, enum_tag, Pointed, a_star, more_star, const_star, TypeTokens, plain, pointer, Strings, a_text, more_text}
+use Rattle.sc_parse_expr.specs.Grammar.{Names, text_with, has_words, no_words, with_word, with_const, starts_at, Specified, none, simple, const, typedef, struct_tag, enum_tag, Pointed, a_star, more_star, const_star, TypeTokens, plain, pointer, Strings, a_text, more_text}
 use Rattle.sc_parse_expr.specs.Machine.{Config, begins_type, typed, at_word, words, texts, have, step, run}
 
 abbrev pub line_of : List Symbol → ℕ

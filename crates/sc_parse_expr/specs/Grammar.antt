@@ -1,5 +1,5 @@
 -- The grammar of expressions and type names: which tokens are which tree.
-use Rattle.std.specs.Prelude.{◌≡◌, ℕ, zero, suc, ◌+◌, ◌≤◌, Bool, true, false, if◌then◌else◌, ◌&&◌, List, [], ◌∷◌, ◌++◌, Option, Some, None, map}
+use Rattle.std.specs.Prelude.{◌≡◌, ℕ, suc, ◌≤◌, Bool, true, false, List, [], ◌∷◌, ◌++◌, Option, Some, None, map}
 use Rattle.std.specs.Str.{bytes_eq}
 use Rattle.std.specs.List.{list_any}
 use Rattle.sc_tree.specs.declared.operator.Unary.{Unary}
@@ -16,7 +16,6 @@ use Rattle.sc_tree.specs.declared.expression.Derivation.TheVariants as d
 use Rattle.sc_tree.specs.declared.expression.Declarator.{Declarator, roll-Declarator}
 use Rattle.sc_tree.specs.declared.expression.TypeName.{TypeName, roll-TypeName}
 use Rattle.sc_parse_expr.specs.declared.kind.Symbol.{Symbol}
-use Rattle.sc_parse_expr.specs.declared.kind.Kind.{Kind}
 use Rattle.sc_parse_expr.specs.declared.kind.Kind.TheVariants as k
 use Rattle.sc_parse_expr.specs.Kinds.{unary_of, operand_of, postfix_of, binary_of, level_of, assign_of, word_of}
 

@@ -1,5 +1,5 @@
 -- The classes of tokens.
-use Rattle.std.specs.Prelude.{ℕ, Bool, true, false, Option, Some, None}
+use Rattle.std.specs.Prelude.{ℕ, Option, Some, None}
 use Rattle.sc_parse_expr.specs.declared.kind.Kind.{Kind}
 use Rattle.sc_parse_expr.specs.declared.kind.Kind.TheVariants as k
 use Rattle.sc_tree.specs.declared.operator.Unary.{Unary}

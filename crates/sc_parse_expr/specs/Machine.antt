@@ -1,5 +1,5 @@
 -- The steps of the machine that reads expressions, one token at a time.
-use Rattle.std.specs.Prelude.{◌≡◌, ℕ, ◌+◌, Bool, true, false, not, if◌then◌else◌, nat_lt, nat_le, List, [], ◌∷◌, ◌++◌, Option, Some, None, option_and_then}
+use Rattle.std.specs.Prelude.{ℕ, ◌+◌, Bool, true, false, if◌then◌else◌, nat_lt, nat_le, List, [], ◌∷◌, ◌++◌, Option, Some, None, option_and_then}
 use Rattle.sc_tree.specs.declared.operator.Unary.{Unary}
 use Rattle.sc_tree.specs.declared.operator.Postfix.{Postfix}
 use Rattle.sc_tree.specs.declared.operator.Binary.{Binary}
@@ -8,8 +8,6 @@ use Rattle.sc_tree.specs.declared.expression.Expr.TheVariants as e
 use Rattle.sc_tree.specs.declared.expression.TypeWord.{TypeWord}
 use Rattle.sc_tree.specs.declared.expression.TypeWord.TheVariants as word
 use Rattle.sc_tree.specs.declared.expression.Specifiers.{Specifiers}
-use Rattle.sc_tree.specs.declared.expression.Derivation.{Derivation}
-use Rattle.sc_tree.specs.declared.expression.Derivation.TheVariants as d
 use Rattle.sc_tree.specs.declared.expression.TypeName.{TypeName}
 use Rattle.sc_parse_expr.specs.declared.kind.Symbol.{Symbol}
 use Rattle.sc_parse_expr.specs.declared.kind.Kind.{Kind}
@@ -18,7 +16,7 @@ use Rattle.sc_parse_expr.specs.declared.frame.Frame.{Frame}
 use Rattle.sc_parse_expr.specs.declared.frame.Frame.TheVariants as f
 use Rattle.sc_parse_expr.specs.declared.frame.State.{State}
 use Rattle.sc_parse_expr.specs.declared.frame.State.TheVariants as s
-use Rattle.sc_parse_expr.specs.Kinds.{unary_of, operand_of, postfix_of, binary_of, level_of, assign_of, word_of, power_of}
+use Rattle.sc_parse_expr.specs.Kinds.{unary_of, operand_of, postfix_of, binary_of, level_of, word_of, power_of}
 use Rattle.sc_parse_expr.specs.Grammar.{Names, is_type, text_with, has_words, no_words, with_word, with_const, type_of, pointer_to}
 
 abbrev pub Config : Type 0

@@ -122,12 +122,7 @@ pub fn close_paren(
     }
 }
 
-fn indexed(
-    alloc: Global,
-    line: u32,
-    a: Shared<Expr>,
-    x: Shared<Expr>,
-) -> Result<State, Trouble>
+fn indexed(alloc: Global, line: u32, a: Shared<Expr>, x: Shared<Expr>) -> Result<State, Trouble>
     ensures made { IfOk result (λ state. state ≡ State.Have line (Expr.Index line a x) 16) }
     ensures err { IsOkUnless result Trouble.NoMemory }
 {

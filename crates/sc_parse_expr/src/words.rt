@@ -67,11 +67,7 @@ fn added(specifiers: Specifiers, word: TypeWord) -> Result<Specifiers, NoMemory>
 }
 
 /// The end of a type name.
-fn typed(
-    alloc: Global,
-    frames: &mut Stack<Frame>,
-    of: TypeName,
-) -> Result<State, Trouble>
+fn typed(alloc: Global, frames: &mut Stack<Frame>, of: TypeName) -> Result<State, Trouble>
     ensures { Steps (spec.typed frames.old of) result frames.new }
 {
     match frames.pop() {
@@ -85,12 +81,7 @@ fn typed(
     }
 }
 
-fn cast(
-    alloc: Global,
-    frames: &mut Stack<Frame>,
-    line: u32,
-    of: TypeName,
-) -> Result<State, Trouble>
+fn cast(alloc: Global, frames: &mut Stack<Frame>, line: u32, of: TypeName) -> Result<State, Trouble>
     ensures { Steps (spec.typed (Frame.CastType line ∷ frames.old) of) result frames.new }
 {
     if needs(frames) > 14 {
@@ -129,12 +120,7 @@ fn specified(
     ensures { Steps (spec.specified token.now frames.old specifiers token.now.kind) result frames.new }
 {
     match token.kind {
-        Kind::Star => Ok(State::Pointers(
-            specifiers,
-            token.line,
-            Stack::new(alloc),
-            false,
-        )),
+        Kind::Star => Ok(State::Pointers(specifiers, token.line, Stack::new(alloc), false)),
         Kind::RightParen => typed(alloc, frames, type_name(specifiers, None)),
         _ => {
             drop(specifiers);
@@ -284,7 +270,13 @@ pub fn pointers(
     match kind {
         Kind::Star => one_more(specifiers, line, earlier, last),
         Kind::Const => Ok(State::Pointers(specifiers, line, earlier, true)),
-        Kind::RightParen => pointed(alloc, frames, specifiers, line, steps(alloc, earlier, last)?),
+        Kind::RightParen => pointed(
+            alloc,
+            frames,
+            specifiers,
+            line,
+            steps(alloc, earlier, last)?,
+        ),
         _ => {
             drop(specifiers);
             drop(earlier);
