@@ -1,0 +1,4 @@
+pub mod Levels
+pub mod Types
+pub mod Complete
+pub mod Closing
