@@ -50,8 +50,8 @@ upward-step {A} first now to from k d l below e =
     let n : length (range_of first from k) ≡ k = length-range_of first from k (omega arith) in
     let read : get_or now (from + k) d ≡ get_or first (from + k) d = rw e (with_range-after first to (range_of first from k) (from + k) d (rw n (omega arith)) (rw n (omega arith))) in
     rw (read, e, range_of-more first from k d l)
-      (subst (λ (j : ℕ). set (with_range first to (range_of first from k)) (to + j) (get_or first (from + k) d) ≡ with_range first to (range_of first from k ++ get_or first (from + k) d ∷ [])) n
-        (with_range-push first to (range_of first from k) (get_or first (from + k) d) (rw n (omega arith))))
+    (subst (λ (j : ℕ). set (with_range first to (range_of first from k)) (to + j) (get_or first (from + k) d) ≡ with_range first to (range_of first from k ++ get_or first (from + k) d ∷ [])) n
+    (with_range-push first to (range_of first from k) (get_or first (from + k) d) (rw n (omega arith))))
 
 pub downward-step : {A : Type 0} (first now : List A) (to from n k : ℕ) (d : A) → 0 < k → (k ≤ n) × (to + n ≤ length first) → from ≤ to → now ≡ with_range first (to + k) (range_of first (from + k) (n - k)) → set now (to + (k - 1)) (get_or now (from + (k - 1)) d) ≡ with_range first (to + (k - 1)) (range_of first (from + (k - 1)) (n - (k - 1)))
 downward-step {A} first now to from n k d some (most, fits) above e =
@@ -63,5 +63,5 @@ downward-step {A} first now to from n k d some (most, fits) above e =
     let read : get_or now (from + (k - 1)) d ≡ get_or first (from + (k - 1)) d = rw e (with_range-before first (to + k) part (from + (k - 1)) d (rw size (omega arith)) (omega arith)) in
     let whole : range_of first (from + (k - 1)) (n - (k - 1)) ≡ get_or first (from + (k - 1)) d ∷ part = rw (count, source) (range_of-cons first (from + (k - 1)) (n - k) d (omega arith)) in
     rw (read, e, whole)
-      (subst (λ (j : ℕ). set (with_range first j part) (to + (k - 1)) (get_or first (from + (k - 1)) d) ≡ with_range first (to + (k - 1)) (get_or first (from + (k - 1)) d ∷ part)) (sym at)
-        (with_range-cons first (to + (k - 1)) part (get_or first (from + (k - 1)) d) (rw size (omega arith))))
+    (subst (λ (j : ℕ). set (with_range first j part) (to + (k - 1)) (get_or first (from + (k - 1)) d) ≡ with_range first (to + (k - 1)) (get_or first (from + (k - 1)) d ∷ part)) (sym at)
+    (with_range-cons first (to + (k - 1)) part (get_or first (from + (k - 1)) d) (rw size (omega arith))))
