@@ -1,0 +1,8 @@
+//! One memory: cells by address, objects by number and the heap, with checked and raw accesses.
+#![tactic(auto)]
+
+mod areas;
+mod memory;
+mod words;
+
+pub use memory::Memory;
