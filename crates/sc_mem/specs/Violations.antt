@@ -99,3 +99,11 @@ leaves_object objects p n size =
 -- the rule that pointer plus n breaks
 abbrev pub shift_rule : Flat → Word → ℤ → ℕ → Option Rule
 shift_rule m p n size = first_rule ((is_number p, U15) ∷ (is_dead m.objects p, U3) ∷ (leaves_object m.objects p n size, U5) ∷ [])
+
+-- the rules that an access breaks by its pointer alone
+abbrev pub reach_rule : List Obj → Word → ℕ → Option Rule
+reach_rule objects p n = first_rule ((is_null p, U4) ∷ (is_dead objects p, U3) ∷ (is_outside objects p n, U2) ∷ [])
+
+-- the rules that a load breaks by the cells that it reads
+abbrev pub cells_rule : Bool → List Cell → Option Rule
+cells_rule pointer cells = first_rule ((reads_unwritten cells, U1) ∷ (is_mixed pointer cells, U15) ∷ [])

@@ -1,6 +1,7 @@
 // One memory: its cells by address, its objects by number, and its heap.
 ghost use Rattle.std.specs.Prelude.{◌≡◌, ◌+◌, ◌≤◌, ◌⊎◌, [], replicate, IfOk, MatchOption, MatchResult, IsSome, Some, None};
 ghost use Rattle.sc_base.specs.declared.note.Note.TheVariants.{Put, Copy};
+ghost use Rattle.sc_base.specs.declared.memory.Cell.TheVariants.{Unwritten};
 ghost use Rattle.sc_mem.specs.Words.{IsSize};
 
 use crate::areas::{STATIC_BYTES, place};
@@ -43,7 +44,7 @@ impl Memory {
     pub fn new(alloc: Global, stack: u32, heap: u32) -> Result<Memory, NoMemory>
         requires stack { stack ≤ 16777216 }
         requires heap { heap ≤ 67108864 }
-        ensures flat { IfOk result (λ m. m.flat ≡ record { heap = heap; stack = stack; cells = replicate (1048576 + heap + stack) Cell.Unwritten; objects = [] }) }
+        ensures flat { IfOk result (λ m. m.flat ≡ record { heap = heap; stack = stack; cells = replicate (1048576 + heap + stack) Unwritten; objects = [] }) }
         ensures blocks { IfOk result (λ m. m.blocks ≡ record { bytes = heap; used = 0; taken = []; free = replicate 29 [] }) }
     {
         let cells = Cells::new(alloc, STATIC_BYTES + heap + stack)?;

@@ -65,7 +65,8 @@ fn word_of_one(a: Cell) -> Word
 }
 
 fn word_of_two(a: Cell, b: Cell) -> Word
-    ensures { result ≡ word_of (a ∷ b ∷ []) }
+    ensures word { result ≡ word_of (a ∷ b ∷ []) }
+    ensures small { result.bits < 65536 }
 {
     Word {
         bits: u32::from(byte_of_cell(a)) + 256 * u32::from(byte_of_cell(b)),

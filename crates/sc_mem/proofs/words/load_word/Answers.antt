@@ -8,7 +8,7 @@ pub returns-then-n-eq1 : goal.returns-then-n-eq1
 returns-then-n-eq1 c = rw (c.if-n-eq1.true, run-one c.args.cells.now c.args.i c.read-a.result c.read-a.ensures) c.word_of_one.ensures
 
 pub returns-then-n-eq2 : goal.returns-then-n-eq2
-returns-then-n-eq2 c = rw (c.if-n-eq2.true, run-two c.args.cells.now c.args.i c.read-a.result c.read-b.result c.read-a.ensures c.read-b.ensures) c.word_of_two.ensures
+returns-then-n-eq2 c = rw (c.if-n-eq2.true, run-two c.args.cells.now c.args.i c.read-a.result c.read-b.result c.read-a.ensures c.read-b.ensures) c.word_of_two.ensures.word
 
 pub returns : goal.returns
 returns c =
