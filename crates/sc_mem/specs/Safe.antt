@@ -1,11 +1,11 @@
 -- What holds of memory at every moment.
-use Rattle.std.specs.Prelude.{◌≡◌, ◌⊎◌, ℕ, ◌+◌, ◌-◌, ◌<◌, ◌≤◌, List, length, IsSome, Option, Some}
+use Rattle.std.specs.Prelude.{◌≡◌, ◌⊎◌, ℕ, ◌+◌, ◌-◌, ◌<◌, ◌≤◌, List, length, IsSome, Option, Some, option_map}
 use Rattle.sc_base.specs.declared.memory.Cell.{Cell}
 use Rattle.sc_base.specs.declared.memory.Kind.{Kind}
 use Rattle.sc_base.specs.declared.memory.Kind.TheVariants.{Static, Const, Literal, Auto, Heap}
 use Rattle.sc_objects.specs.declared.objects.Obj.{Obj}
 use Rattle.sc_objects.specs.Numbered.{IsLive, AreApart}
-use Rattle.sc_objects.specs.Blocks.{Blocks, IsTiled, block_size, class_at}
+use Rattle.sc_objects.specs.Blocks.{Blocks, IsClass, IsTiled, Takes, block_size, class_at}
 use Rattle.sc_mem.specs.Flat.{Flat, place}
 
 -- the flat state, and the heap's blocks by places counted from 0
@@ -34,3 +34,11 @@ pub record IsSafe (s : Store) : Type 0 where
 -- what the fields of memory stand for
 abbrev pub store_of : ℕ → ℕ → List Cell → List Obj → Blocks → Store
 store_of heap stack cells objects blocks = record { flat = record { heap = heap; stack = stack; cells = cells; objects = objects }; blocks = blocks }
+
+-- what a request of n bytes gives: the block's address, where there is one
+abbrev pub TakesAt : Blocks → ℕ → Option ℕ → Blocks → Type 0
+TakesAt old n got new = (k : ℕ) × (block : Option ℕ) × IsClass n k × Takes old k block new × (got ≡ option_map (λ place. 0x10000000 + place) block)
+
+-- no live object is in the taken block at an address
+abbrev pub IsBare : Store → ℕ → Type 0
+IsBare s base = (k id : ℕ) (o : Obj) → class_at s.blocks (base - 0x10000000) ≡ Some k → IsLive s.flat.objects id o → (o.base + o.size < base) ⊎ (base + block_size k ≤ o.base)

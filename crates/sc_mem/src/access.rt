@@ -2,10 +2,10 @@
 ghost use Rattle.std.specs.Prelude.{◌≡◌, ◌+◌, ◌^◌, ◌<◌, ◌≤◌, ◌∷◌, [], length};
 ghost use Rattle.sc_cells.specs.Range.{range_of};
 ghost use Rattle.sc_mem.specs.Words.{IsSize};
-ghost use Rattle.sc_mem.specs.Violations.{cells_rule, is_fragment, is_unwritten, is_zero, reach_rule};
+ghost use Rattle.sc_mem.specs.Violations.{cells_rule, is_constant, is_fragment, is_unwritten, is_zero, reach_rule};
 
 use crate::words::tag_of_cells;
-use sc_base::{Cell, Rule, Word};
+use sc_base::{Cell, Kind, Rule, Word};
 use sc_cells::Cells;
 use sc_objects::Objects;
 
@@ -28,6 +28,19 @@ pub fn reach(objects: &Objects, p: Word, n: u32) -> Option<Rule>
                 None
             }
         }
+    }
+}
+
+/// Whether the object of a pointer is constant or a literal.
+pub fn constant(objects: &Objects, p: Word) -> bool
+    ensures { result ≡ is_constant objects.now p }
+{
+    match objects.find(p.tag) {
+        None => false,
+        Some(object) => match object.kind {
+            Kind::Const | Kind::Literal => true,
+            Kind::Static | Kind::Auto | Kind::Heap => false,
+        },
     }
 }
 
