@@ -26,10 +26,10 @@ is_inside from size at n = nat_le from at && nat_le (at + n) (from + size)
 -- where the n bytes from an address on stand among the cells, if they lie in one area
 abbrev pub place_in : ℕ → ℕ → ℕ → ℕ → Option ℕ
 place_in heap stack at n =
-  if is_inside 0x08000000 1048576 at n then Some (at - 0x08000000)
-  else if is_inside 0x10000000 heap at n then Some (1048576 + (at - 0x10000000))
-  else if is_inside (0x20000000 - stack) stack at n then Some (1048576 + heap + (at - (0x20000000 - stack)))
-  else None
+    if is_inside 0x08000000 1048576 at n then Some (at - 0x08000000)
+    else if is_inside 0x10000000 heap at n then Some (1048576 + (at - 0x10000000))
+    else if is_inside (0x20000000 - stack) stack at n then Some (1048576 + heap + (at - (0x20000000 - stack)))
+    else None
 
 abbrev pub place : Flat → ℕ → ℕ → Option ℕ
 place m at n = place_in m.heap m.stack at n
@@ -67,8 +67,8 @@ copied m to from n = copied_at m (place m to n) (place m from n) n
 -- an object is born, its cells unwritten
 abbrev pub with_birth : Flat → Obj → Flat
 with_birth m o =
-  let cleared : Flat = written_at m (place m o.base o.size) (replicate o.size Unwritten) in
-  record { heap = m.heap; stack = m.stack; cells = cleared.cells; objects = born m.objects o }
+    let cleared : Flat = written_at m (place m o.base o.size) (replicate o.size Unwritten) in
+    record { heap = m.heap; stack = m.stack; cells = cleared.cells; objects = born m.objects o }
 
 abbrev pub with_death : Flat → ℕ → Flat
 with_death m id = record { heap = m.heap; stack = m.stack; cells = m.cells; objects = ended m.objects id }

@@ -1,5 +1,6 @@
 -- The tests of undefined steps on pointers and accesses, each by its rule, over the cells and the objects by number.
 use Rattle.std.specs.Prelude.{ℕ, ◌+◌, ◌-◌, ◌%◌, ◌==◌, ◌&&◌, ◌||◌, Bool, true, false, not, nat_lt, nat_le, if◌then◌else◌, List, [], ◌∷◌, length, Option, None, Some, ℤ, pos, ◌+ℤ◌, ◌*ℤ◌, int_lt}
+use Rattle.std.specs.Ordering.{int_eq}
 use Rattle.std.specs.List.{list_any, list_all}
 use Rattle.sc_base.specs.declared.memory.Cell.{Cell}
 use Rattle.sc_base.specs.declared.memory.Cell.TheVariants.{Unwritten, Byte, Frag}
@@ -93,8 +94,8 @@ target p n size = pos p.bits +ℤ n *ℤ pos size
 -- U5: pointer plus n is below its object or past its end, or n is not 0 and the pointer null
 abbrev pub leaves_object : List Obj → Word → ℤ → ℕ → Bool
 leaves_object objects p n size =
-  if is_null p then not (int_lt n (pos 1) && int_lt (pos 0) (n +ℤ pos 1))
-  else of_object true (λ o. int_lt (target p n size) (pos o.base) || int_lt (pos (o.base + o.size)) (target p n size)) (object_of objects p.tag)
+    if is_null p then not (int_eq n (pos 0))
+    else of_object true (λ o. int_lt (target p n size) (pos o.base) || int_lt (pos (o.base + o.size)) (target p n size)) (object_of objects p.tag)
 
 -- the rule that pointer plus n breaks
 abbrev pub shift_rule : Flat → Word → ℤ → ℕ → Option Rule

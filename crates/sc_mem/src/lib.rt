@@ -7,3 +7,6 @@ mod memory;
 mod words;
 
 pub use memory::Memory;
+
+#[cfg(test)]
+mod tests;

@@ -38,7 +38,11 @@ pub fn tag_of_cells(a: Cell, b: Cell, c: Cell, d: Cell) -> u32
     let Cell::Frag { whole, tag, k } = a else {
         return 0;
     };
-    if k == 0 && is_piece(b, whole, tag, 1) && is_piece(c, whole, tag, 2) && is_piece(d, whole, tag, 3) {
+    if k == 0
+        && is_piece(b, whole, tag, 1)
+        && is_piece(c, whole, tag, 2)
+        && is_piece(d, whole, tag, 3)
+    {
         tag
     } else {
         0
@@ -114,9 +118,23 @@ pub fn store_word(cells: &mut Cells, i: u32, n: u8, w: Word)
 {
     let Word { bits, tag } = w;
     if n == 4 && tag != 0 {
-        put_four(cells, i, piece_of(w, 0), piece_of(w, 1), piece_of(w, 2), piece_of(w, 3));
+        put_four(
+            cells,
+            i,
+            piece_of(w, 0),
+            piece_of(w, 1),
+            piece_of(w, 2),
+            piece_of(w, 3),
+        );
     } else if n == 4 {
-        put_four(cells, i, byte_cell(bits, 0), byte_cell(bits, 1), byte_cell(bits, 2), byte_cell(bits, 3));
+        put_four(
+            cells,
+            i,
+            byte_cell(bits, 0),
+            byte_cell(bits, 1),
+            byte_cell(bits, 2),
+            byte_cell(bits, 3),
+        );
     } else if n == 2 {
         put_two(cells, i, byte_cell(bits, 0), byte_cell(bits, 1));
     } else {

@@ -12,5 +12,5 @@ returns-in-Some-reach-clause-rule c =
     let p = c.args.from in
     let q = c.args.to in
     subst (λ (v : Store). copy_rule v.flat q p n ≡ Some c.in-Some-reach.rule) c.self.view_is
-      (first-rest ((is_null p, U4) ∷ (is_dead os p, U3) ∷ (is_outside os p n, U2) ∷ []) ((is_null q, U4) ∷ (is_dead os q, U3) ∷ (is_outside os q n, U2) ∷ (is_constant os q, U11) ∷ []) (sym c.reach.ensures ∙ c.in_default.is)
-      ∙ first-front ((is_null q, U4) ∷ (is_dead os q, U3) ∷ (is_outside os q n, U2) ∷ []) ((is_constant os q, U11) ∷ []) c.in-Some-reach.rule (sym c.reach-2.ensures ∙ c.in-Some-reach.is))
+    (first-rest ((is_null p, U4) ∷ (is_dead os p, U3) ∷ (is_outside os p n, U2) ∷ []) ((is_null q, U4) ∷ (is_dead os q, U3) ∷ (is_outside os q n, U2) ∷ (is_constant os q, U11) ∷ []) (sym c.reach.ensures ∙ c.in_default.is)
+    ∙ first-front ((is_null q, U4) ∷ (is_dead os q, U3) ∷ (is_outside os q n, U2) ∷ []) ((is_constant os q, U11) ∷ []) c.in-Some-reach.rule (sym c.reach-2.ensures ∙ c.in-Some-reach.is))

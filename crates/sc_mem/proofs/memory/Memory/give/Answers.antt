@@ -11,7 +11,7 @@ invariant_of-self c =
     let bare = subst (λ (v : Store). IsBare v c.args.base) (sym c.self.view_is) c.requires.bare in
     let g = c.give.ensures.given in
     safe-blocks s.heap_bytes s.stack s.cells s.objects s.heap c.give.new.self c.self.invariant c.give.ensures.tiled.1
-      (ap (λ (b : Blocks). b.bytes) g.2)
-      (λ id o k h kind low there.
-        let apart : o.base - 0x10000000 ≢ c.args.base - 0x10000000 = λ e. (let some = size_above g.0 in elim (bare g.0 id o g.1 h) [ inl l ↦ omega arith | inr l ↦ omega arith ]) in
-        c.give.ensures.keeps (o.base - 0x10000000) k apart there)
+    (ap (λ (b : Blocks). b.bytes) g.2)
+    (λ id o k h kind low there.
+    let apart : o.base - 0x10000000 ≢ c.args.base - 0x10000000 = λ e. (let some = size_above g.0 in elim (bare g.0 id o g.1 h) [ inl l ↦ omega arith | inr l ↦ omega arith ]) in
+    c.give.ensures.keeps (o.base - 0x10000000) k apart there)
