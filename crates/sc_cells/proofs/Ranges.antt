@@ -1,6 +1,6 @@
 -- Runs of a list that is written from one end to the other.
-use Rattle.std.proofs.Common.{◌≡◌, ◌≢◌, ◌⊎◌, ℕ, ◌+◌, ◌-◌, ◌<◌, ◌≤◌, List, [], ◌∷◌, ◌++◌, length, take, drop, set, get_or, refl, sym, ap, ◌∙◌, subst, arith, add-one}
-use Rattle.std.proofs.lemmas.List.{same_lists, places, take_more, drop_more, get_or-set_same, length-take, length-drop, length-append, length-set, get_or-drop, get_or-append_right, get_or_append_left, get_or-take, get_or-set_other, length_push, set_at, append_assoc, take_more_set, set-append_left}
+use Rattle.std.proofs.Common.{◌≡◌, ℕ, ◌+◌, ◌-◌, ◌<◌, ◌≤◌, List, [], ◌∷◌, ◌++◌, length, take, drop, set, get_or, refl, sym, ap, ◌∙◌, subst, arith, add-one}
+use Rattle.std.proofs.lemmas.List.{places, take_more, drop_more, length-take, length-drop, length-append, length_push, set_at, append_assoc, take_more_set, set-append_left}
 use Rattle.std.proofs.Math.Seq.{take-set-lt}
 use Rattle.sc_cells.specs.Range.{range_of, with_range}
 

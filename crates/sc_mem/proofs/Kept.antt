@@ -1,5 +1,5 @@
 -- How memory stays safe.
-use Rattle.std.proofs.Common.{◌≡◌, ◌≢◌, ◌⊎◌, inl, inr, ℕ, zero, suc, ◌+◌, ◌-◌, ◌<◌, ◌≤◌, true, List, [], ◌∷◌, ◌++◌, length, refl, sym, ap, subst, ◌∙◌, Option, Some, None, Result, Ok, Err, arith}
+use Rattle.std.proofs.Common.{◌≡◌, inl, inr, ℕ, zero, suc, ◌-◌, ◌≤◌, List, [], length, refl, ap, ◌∙◌, Option, Some, None, Result, Ok, Err}
 use Rattle.std.specs.Option.{IsSome}
 use Rattle.std.specs.Prelude.{MatchResult}
 use Rattle.sc_base.specs.declared.NoMemory.{NoMemory}
@@ -7,12 +7,11 @@ use Rattle.sc_base.specs.declared.memory.Cell.{Cell}
 use Rattle.sc_base.specs.declared.memory.Kind.{Kind}
 use Rattle.sc_base.specs.declared.memory.Kind.TheVariants.{Static, Const, Literal, Auto, Heap}
 use Rattle.sc_objects.specs.declared.objects.Obj.{Obj}
-use Rattle.sc_objects.specs.Numbered.{object_of, IsLive, AreApart, IsClear, born, ended}
+use Rattle.sc_objects.specs.Numbered.{IsLive, IsClear, born, ended}
 use Rattle.sc_objects.specs.Blocks.{Blocks, IsClass, IsTiled, Takes, class_at}
 use Rattle.sc_objects.proofs.Births.{object-born, apart-born, live-ended, apart-ended}
-use Rattle.sc_objects.proofs.Tiles.{size_above}
-use Rattle.sc_mem.specs.Flat.{Flat, place, place_in}
-use Rattle.sc_mem.specs.Safe.{Store, Stands, IsSafe, store_of}
+use Rattle.sc_mem.specs.Flat.{place_in}
+use Rattle.sc_mem.specs.Safe.{Stands, IsSafe, store_of}
 
 pub safe-born : (heap stack : ℕ) (cells now : List Cell) (objects : List Obj) (b : Blocks) (o : Obj) → IsSafe (store_of heap stack cells objects b) → length now ≡ length cells → IsClear objects o.base o.size → IsSome (place_in heap stack o.base o.size) → Stands b o.kind o.base o.size → IsSafe (store_of heap stack now (born objects o) b)
 safe-born heap stack cells now objects b o s size clear area stands = record {

@@ -1,9 +1,8 @@
 -- Lists of tests in two parts, and parts of an object.
-use Rattle.std.proofs.Common.{◌≡◌, ℕ, ◌+◌, ◌-◌, ◌<◌, ◌≤◌, ◌&&◌, Bool, true, false, List, [], ◌∷◌, ◌++◌, refl, sym, ap, ◌∙◌, Option, Some, None, arith, cond}
-use Rattle.std.specs.Option.{IsSome}
+use Rattle.std.proofs.Common.{◌≡◌, ℕ, ◌+◌, ◌≤◌, Bool, true, false, List, [], ◌∷◌, ◌++◌, refl, Some, None, arith}
 use Rattle.std.proofs.lemmas.Bool.Decides.{nat_tests}
 use Rattle.sc_base.specs.declared.report.Rule.{Rule}
-use Rattle.sc_mem.specs.Flat.{is_inside, place_in}
+use Rattle.sc_mem.specs.Flat.{is_inside}
 use Rattle.sc_mem.specs.Violations.{first_rule}
 
 pub first-front : (xs ys : List (Bool × Rule)) (r : Rule) → first_rule xs ≡ Some r → first_rule (xs ++ ys) ≡ Some r

@@ -1,14 +1,14 @@
 -- The flat state of memory: the cells of the three areas, and all objects by number. Each change of it is the effect
 -- of a note.
-use Rattle.std.specs.Prelude.{ℕ, ◌+◌, ◌-◌, ◌*◌, ◌%◌, ◌==◌, ◌&&◌, Bool, true, nat_le, if◌then◌else◌, List, [], ◌∷◌, ◌++◌, length, replicate, Option, None, Some, option_map}
+use Rattle.std.specs.Prelude.{ℕ, ◌+◌, ◌-◌, ◌%◌, ◌==◌, ◌&&◌, Bool, true, nat_le, if◌then◌else◌, List, [], replicate, Option, None, Some, option_map}
 use Rattle.sc_base.specs.declared.memory.Cell.{Cell}
 use Rattle.sc_base.specs.declared.memory.Cell.TheVariants.{Unwritten}
 use Rattle.sc_base.specs.declared.memory.Word.{Word}
 use Rattle.sc_base.specs.declared.note.Note.{Note}
-use Rattle.sc_base.specs.declared.note.Note.TheVariants.{Start, Call, Back, Enter, Leave, At, Lib, Exec, Put, Birth, Death, Copy, SetReg, Tag}
+use Rattle.sc_base.specs.declared.note.Note.TheVariants.{Put, Birth, Death, Copy}
 use Rattle.sc_cells.specs.Range.{range_of, with_range}
 use Rattle.sc_objects.specs.declared.objects.Obj.{Obj}
-use Rattle.sc_objects.specs.Numbered.{object_of, born, ended}
+use Rattle.sc_objects.specs.Numbered.{born, ended}
 use Rattle.sc_mem.specs.Words.{cells_of, word_of}
 
 -- The bytes of the heap and of the stack; the cells of the static area, then the heap's, then the stack's; and the

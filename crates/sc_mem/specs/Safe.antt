@@ -2,7 +2,7 @@
 use Rattle.std.specs.Prelude.{◌≡◌, ◌⊎◌, ℕ, ◌+◌, ◌-◌, ◌<◌, ◌≤◌, List, length, IsSome, Option, Some, option_map}
 use Rattle.sc_base.specs.declared.memory.Cell.{Cell}
 use Rattle.sc_base.specs.declared.memory.Kind.{Kind}
-use Rattle.sc_base.specs.declared.memory.Kind.TheVariants.{Static, Const, Literal, Auto, Heap}
+use Rattle.sc_base.specs.declared.memory.Kind.TheVariants.{Heap}
 use Rattle.sc_objects.specs.declared.objects.Obj.{Obj}
 use Rattle.sc_objects.specs.Numbered.{IsLive, AreApart}
 use Rattle.sc_objects.specs.Blocks.{Blocks, IsClass, IsTiled, Takes, block_size, class_at}

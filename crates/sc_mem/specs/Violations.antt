@@ -1,11 +1,11 @@
 -- The tests of undefined steps on pointers and accesses, each by its rule, over the cells and the objects by number.
-use Rattle.std.specs.Prelude.{ℕ, ◌+◌, ◌-◌, ◌%◌, ◌==◌, ◌&&◌, ◌||◌, Bool, true, false, not, nat_lt, nat_le, if◌then◌else◌, List, [], ◌∷◌, length, Option, None, Some, ℤ, pos, ◌+ℤ◌, ◌*ℤ◌, int_lt}
+use Rattle.std.specs.Prelude.{ℕ, ◌+◌, ◌%◌, ◌==◌, ◌&&◌, ◌||◌, Bool, true, false, not, nat_lt, if◌then◌else◌, List, [], ◌∷◌, Option, None, Some, ℤ, pos, ◌+ℤ◌, ◌*ℤ◌, int_lt}
 use Rattle.std.specs.Ordering.{int_eq}
 use Rattle.std.specs.List.{list_any, list_all}
 use Rattle.sc_base.specs.declared.memory.Cell.{Cell}
 use Rattle.sc_base.specs.declared.memory.Cell.TheVariants.{Unwritten, Byte, Frag}
 use Rattle.sc_base.specs.declared.memory.Kind.{Kind}
-use Rattle.sc_base.specs.declared.memory.Kind.TheVariants.{Static, Const, Literal, Auto, Heap}
+use Rattle.sc_base.specs.declared.memory.Kind.TheVariants.{Const, Literal}
 use Rattle.sc_base.specs.declared.memory.Word.{Word}
 use Rattle.sc_base.specs.declared.report.Rule.{Rule}
 use Rattle.sc_base.specs.declared.report.Rule.TheVariants.{U1, U2, U3, U4, U5, U10, U11, U15}

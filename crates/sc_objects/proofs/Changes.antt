@@ -1,8 +1,7 @@
 -- The heap's fields after a block is taken or given back.
-use Rattle.std.proofs.Common.{◌≡◌, ◌≢◌, ◌⊎◌, inl, inr, ℕ, zero, suc, cond, ◌+◌, ◌<◌, ◌≤◌, List, [], ◌∷◌, ◌++◌, length, set, get_or, map, refl, sym, ap, subst, ◌∙◌, Option, None, Some, Result, Ok, Err, arith, vec_capacity}
+use Rattle.std.proofs.Common.{◌≡◌, ◌≢◌, inl, inr, ℕ, cond, ◌+◌, ◌<◌, ◌≤◌, List, [], ◌∷◌, ◌++◌, length, set, get_or, map, refl, sym, ap, subst, ◌∙◌, Option, None, Some, Result, Ok, Err, arith, vec_capacity}
 use Rattle.std.specs.List.{slice_get}
 use Rattle.std.specs.Prelude.{MatchResult, IfOk, IfSome, IsSome}
-use Rattle.std.proofs.lemmas.Bool.{cases_eq}
 use Rattle.std.specs.Map.{remove_entry, lookup}
 use Rattle.std.specs.BTreeMap.{BTreeMap, get, Updates, insert_entry, is_at}
 use Rattle.std.specs.Ordering.{nat_cmp}
@@ -11,8 +10,8 @@ use Rattle.std.specs.declared.vec.Vec.{Vec}
 use Rattle.std.proofs.lemmas.Option.{slice_get_read}
 use Rattle.std.proofs.lemmas.List.{map-set, set-get_or, length-map, length_push}
 use Rattle.sc_base.specs.declared.NoMemory.{NoMemory}
-use Rattle.sc_objects.specs.Blocks.{Blocks, IsClass, IsTiled, Takes, KeepsTaken, KeepsOthers, block_size, class_at, free_of, given, taken_block, taken_fresh}
-use Rattle.sc_objects.specs.Roomy.{blocks_of, IsKept, Stays, Moves, one_if, taken_of_class}
+use Rattle.sc_objects.specs.Blocks.{Blocks, IsClass, IsTiled, Takes, block_size, free_of, given}
+use Rattle.sc_objects.specs.Roomy.{blocks_of, IsKept, Stays, Moves, taken_of_class}
 use Rattle.sc_objects.proofs.Lists.{slice_get-last, is_at-apart}
 use Rattle.sc_objects.proofs.Tiles.{Disjoint-apart, size_above, tiled-taken, tiled-fresh, tiled-given}
 use Rattle.sc_objects.proofs.Rooms.{room-change, items-at, taken-insert, taken-remove, taken-most, one_if-same, one_if-other}

@@ -1,4 +1,4 @@
-use Rattle.std.proofs.Common.{◌≡◌, ◌+◌, arith}
+use Rattle.std.proofs.Common.{arith}
 use Rattle.sc_base.specs.declared.memory.Cell.TheVariants.{Unwritten}
 use Rattle.sc_cells.proofs.Ranges.{upward-step}
 use Rattle.sc_cells.proofs.cells.copy_upward.Goals as goal

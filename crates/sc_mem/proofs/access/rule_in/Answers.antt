@@ -1,6 +1,4 @@
-use Rattle.std.proofs.Common.{◌≡◌, ◌∙◌, inl, inr, ap, sym}
-use Rattle.sc_cells.specs.Range.{range_of}
-use Rattle.sc_mem.specs.Violations.{cells_rule}
+use Rattle.std.proofs.Common.{◌≡◌, inl, inr}
 use Rattle.sc_mem.proofs.Runs.{run-one, run-two, run-four}
 use Rattle.sc_mem.proofs.access.rule_in.Goals as goal
 

@@ -1,4 +1,4 @@
-use Rattle.std.proofs.Common.{◌≡◌, List, subst, sym}
+use Rattle.std.proofs.Common.{List, subst, sym}
 use Rattle.sc_objects.specs.declared.objects.Obj.{Obj}
 use Rattle.sc_objects.specs.Numbered.{IsClear}
 use Rattle.sc_mem.proofs.Kept.{clear-none}

@@ -1,6 +1,4 @@
-use Rattle.std.proofs.Common.{◌≡◌, ◌∙◌, inl, inr, ap, sym}
-use Rattle.sc_cells.specs.Range.{range_of}
-use Rattle.sc_mem.specs.Words.{word_of}
+use Rattle.std.proofs.Common.{◌≡◌, inl, inr}
 use Rattle.sc_mem.proofs.Runs.{run-one, run-two, run-four}
 use Rattle.sc_mem.proofs.words.load_word.Goals as goal
 

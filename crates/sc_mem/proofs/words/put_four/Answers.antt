@@ -1,4 +1,3 @@
-use Rattle.std.proofs.Common.{◌≡◌, ◌∙◌, ◌+◌, set, ap}
 use Rattle.sc_mem.proofs.Runs.{put-four}
 use Rattle.sc_mem.proofs.words.put_four.Goals as goal
 

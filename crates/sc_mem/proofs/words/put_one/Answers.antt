@@ -1,4 +1,4 @@
-use Rattle.std.proofs.Common.{◌≡◌, ◌∙◌}
+use Rattle.std.proofs.Common.{◌∙◌}
 use Rattle.sc_mem.proofs.Runs.{put-one}
 use Rattle.sc_mem.proofs.words.put_one.Goals as goal
 

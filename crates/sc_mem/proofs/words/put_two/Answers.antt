@@ -1,4 +1,4 @@
-use Rattle.std.proofs.Common.{◌≡◌, ◌∙◌, ◌+◌, set, ap}
+use Rattle.std.proofs.Common.{◌∙◌, ◌+◌, set, ap}
 use Rattle.sc_mem.proofs.Runs.{put-two}
 use Rattle.sc_mem.proofs.words.put_two.Goals as goal
 

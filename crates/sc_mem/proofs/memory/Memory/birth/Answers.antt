@@ -1,4 +1,4 @@
-use Rattle.std.proofs.Common.{◌≡◌, ℕ, sym, subst, true}
+use Rattle.std.proofs.Common.{sym, subst, true}
 use Rattle.std.specs.Option.{IsSome}
 use Rattle.sc_objects.specs.declared.objects.Obj.{Obj}
 use Rattle.sc_objects.specs.Numbered.{IsClear}

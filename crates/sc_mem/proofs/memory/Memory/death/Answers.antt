@@ -1,4 +1,4 @@
-use Rattle.std.proofs.Common.{◌≡◌, sym, subst}
+use Rattle.std.proofs.Common.{sym, subst}
 use Rattle.sc_objects.specs.Numbered.{IsLive}
 use Rattle.sc_mem.specs.Safe.{Store}
 use Rattle.sc_mem.proofs.Kept.{safe-ended}

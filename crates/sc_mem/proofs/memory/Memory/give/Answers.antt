@@ -1,4 +1,4 @@
-use Rattle.std.proofs.Common.{◌≡◌, ◌≢◌, ◌-◌, inl, inr, sym, ap, subst, arith}
+use Rattle.std.proofs.Common.{◌≢◌, ◌-◌, inl, inr, sym, ap, subst, arith}
 use Rattle.sc_objects.specs.Blocks.{Blocks}
 use Rattle.sc_objects.proofs.Tiles.{size_above}
 use Rattle.sc_mem.specs.Safe.{Store, IsBare}

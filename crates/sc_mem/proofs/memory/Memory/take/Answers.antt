@@ -1,4 +1,4 @@
-use Rattle.std.proofs.Common.{◌≡◌, ◌-◌}
+use Rattle.std.proofs.Common.{◌-◌}
 use Rattle.sc_mem.proofs.Kept.{safe-blocks, taken-bytes}
 use Rattle.sc_mem.proofs.memory.Memory.take.Goals as goal
 

@@ -1,9 +1,6 @@
-use Rattle.std.proofs.Common.{◌≡◌, ◌+◌, ◌<◌, ◌≤◌, ℕ, List, [], ◌++◌, ◌∷◌, length, set, map, subst, arith, sym, ◌∙◌, ap, Some, None, refl, vec_capacity}
+use Rattle.std.proofs.Common.{◌≡◌, subst, arith, sym, ◌∙◌, ap, Some}
 use Rattle.std.specs.List.{slice_get}
-use Rattle.std.specs.Ordering.{nat_cmp}
-use Rattle.std.specs.BTreeMap.{is_at, get}
 use Rattle.std.proofs.lemmas.List.{length-map}
-use Rattle.std.proofs.lemmas.Option.{slice_get_read}
 use Rattle.sc_objects.specs.Blocks.{Blocks, IsTiled, class_at, given}
 use Rattle.sc_objects.proofs.Changes.{slot-at, kept-given, given-view, room-for-one, given-keeps}
 use Rattle.sc_objects.proofs.heap.Heap.give.Goals as goal

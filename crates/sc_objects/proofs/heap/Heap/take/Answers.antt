@@ -1,4 +1,4 @@
-use Rattle.std.proofs.Common.{◌≡◌, ℕ, Some, subst, ap, ◌∙◌}
+use Rattle.std.proofs.Common.{◌≡◌, Some, subst, ap, ◌∙◌}
 use Rattle.std.specs.List.{slice_get}
 use Rattle.sc_objects.specs.Blocks.{Blocks, IsTiled, class_at}
 use Rattle.sc_objects.proofs.Changes.{slot-at, kept-moves, takes, moved-found, moved-keeps}

@@ -1,10 +1,8 @@
-use Rattle.std.proofs.Common.{◌≡◌, ◌-◌, ◌<◌, ◌≤◌, ℕ, List, length, subst, arith, sym, ◌∙◌, ap, Some, None, refl}
+use Rattle.std.proofs.Common.{◌≡◌, ◌-◌, List, length, subst, arith, ◌∙◌, Some, None, refl}
 use Rattle.std.specs.List.{slice_get}
-use Rattle.std.specs.Ordering.{nat_cmp}
-use Rattle.std.proofs.lemmas.Grind.{common_steps}
 use Rattle.std.proofs.lemmas.Option.{slice_get_read}
 use Rattle.std.proofs.lemmas.Map.Keys.{ge_from_not_lt, le_from_not_gt}
-use Rattle.sc_objects.specs.Numbered.{object_of, IsLive, IsObjectAt, AreApart}
+use Rattle.sc_objects.specs.Numbered.{object_of, IsObjectAt, AreApart}
 use Rattle.sc_objects.proofs.Lists.{not_gt-le}
 use Rattle.sc_objects.proofs.Births.{object_of-at, object-within, at-found, at-far, at-nothing}
 use Rattle.sc_objects.proofs.objects.Objects.at.Goals as goal

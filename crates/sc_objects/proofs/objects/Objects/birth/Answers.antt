@@ -1,4 +1,4 @@
-use Rattle.std.proofs.Common.{◌≡◌, ◌-◌, ◌+◌, ◌<◌, ◌≤◌, ℕ, List, subst, arith, sym, ◌∙◌, ap, Some, true, refl, length}
+use Rattle.std.proofs.Common.{◌≡◌, ◌<◌, List, subst, arith, sym, true, refl, length}
 use Rattle.std.proofs.lemmas.Grind.{common_steps}
 use Rattle.sc_objects.specs.declared.objects.Obj.{Obj}
 use Rattle.sc_objects.specs.Numbered.{IsClear, born}

@@ -1,10 +1,8 @@
-use Rattle.std.proofs.Common.{◌≡◌, ◌-◌, ◌<◌, ◌≤◌, ℕ, List, subst, arith, sym, ◌∙◌, ap, Some, set, get_or}
+use Rattle.std.proofs.Common.{◌≡◌, ◌-◌, List, subst, sym, ◌∙◌, Some}
 use Rattle.std.specs.List.{slice_get}
-use Rattle.std.specs.BTreeMap.{BTreeMap}
 use Rattle.std.proofs.lemmas.Option.{get_or_from_slice_get}
 use Rattle.sc_objects.specs.declared.objects.Obj.{Obj}
-use Rattle.sc_objects.specs.Numbered.{object_of, IsLive, ended}
-use Rattle.sc_objects.specs.Kept.{Kept}
+use Rattle.sc_objects.specs.Numbered.{IsLive}
 use Rattle.sc_objects.proofs.Births.{object_of-at, object-within, ended-is, kept-ended}
 use Rattle.sc_objects.proofs.objects.Objects.death.Goals as goal
 

@@ -1,7 +1,6 @@
-use Rattle.std.proofs.Common.{rules, ◌≡◌, ◌-◌, length, refl, subst, arith, sym, ◌∙◌, ap}
-use Rattle.std.specs.List.{slice_get}
+use Rattle.std.proofs.Common.{◌-◌, length, refl, subst, arith, sym, ◌∙◌}
 use Rattle.std.proofs.lemmas.Option.{slice_get_read, slice_get_past}
-use Rattle.sc_objects.specs.Numbered.{object_of, IsLive, AreApart}
+use Rattle.sc_objects.specs.Numbered.{AreApart}
 use Rattle.sc_objects.proofs.Births.{object_of-at}
 use Rattle.sc_objects.proofs.objects.Objects.find.Goals as goal
 
