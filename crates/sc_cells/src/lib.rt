@@ -1,0 +1,8 @@
+//! The cells of a memory: a list of cells of which runs are read, written, copied and cleared.
+#![tactic(auto)]
+
+mod cells;
+#[cfg(test)]
+mod tests;
+
+pub use cells::Cells;

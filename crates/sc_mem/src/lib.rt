@@ -1,0 +1,12 @@
+//! One memory: cells by address, objects by number and the heap, with checked and raw accesses.
+#![tactic(auto)]
+
+mod access;
+mod areas;
+mod memory;
+mod words;
+
+pub use memory::Memory;
+
+#[cfg(test)]
+mod tests;

@@ -1,0 +1,280 @@
+// One memory: its cells by address, its objects by number, and its heap.
+ghost use Rattle.std.specs.Prelude.{◌≡◌, ◌⊎◌, ◌↔◌, ℕ, ◌+◌, ◌-◌, ◌<◌, ◌≤◌, length, OnErr, Err, [], replicate, IfOk, MatchOption, MatchResult, IsSome, Some, None};
+ghost use Rattle.sc_base.specs.declared.note.Note.TheVariants.{Put, Birth, Death, Copy};
+ghost use Rattle.sc_base.specs.declared.memory.Cell.TheVariants.{Unwritten};
+ghost use Rattle.sc_mem.specs.Words.{IsSize};
+ghost use Rattle.sc_objects.specs.declared.objects.Obj.{Obj};
+ghost use Rattle.sc_objects.specs.Numbered.{IsLive};
+
+use crate::access::{constant, reach, rule_in};
+use crate::areas::{HEAP, STATIC_BYTES, place};
+use crate::words::{load_word, store_word};
+use sc_base::{Kind, NoMemory, Rule, Word};
+use sc_cells::Cells;
+use sc_objects::{BirthFault, Heap, Obj, Objects};
+use std::alloc::Global;
+use std::marker::Model;
+
+/// The memory of a run: the cells of the static area, the heap and the stack, all objects by number, and the heap's
+/// blocks. Each live object lies in an area, with a byte between any two, and each allocated one in a taken block.
+#[derive(Drop)]
+pub struct Memory {
+    heap_bytes: u32,
+    stack: u32,
+    cells: Cells,
+    objects: Objects,
+    heap: Heap,
+}
+
+impl Model for Memory {
+    ghost use Rattle.sc_mem.specs.Safe.{Store};
+
+    ghost Value = { Store };
+
+    ghost use Rattle.sc_mem.specs.Safe.{store_of, IsSafe};
+
+    ghost view = { λ m. store_of m.heap_bytes m.stack m.cells m.objects m.heap };
+
+    ghost invariant = { λ m. IsSafe (store_of m.heap_bytes m.stack m.cells m.objects m.heap) };
+}
+
+impl Memory {
+    ghost use Rattle.sc_objects.specs.Numbered.{IsObjectAt, object_of};
+    ghost use Rattle.sc_mem.specs.Flat.{Flat, aligned_place, apply, place as place_of, raw_read};
+    ghost use Rattle.sc_mem.specs.Safe.{IsSafe};
+
+    /// A memory with stack and heap of these sizes in bytes, in which nothing lives and no cell is written.
+    pub fn new(alloc: Global, stack: u32, heap: u32) -> Result<Memory, NoMemory>
+        requires stack { stack ≤ 16777216 }
+        requires heap { heap ≤ 67108864 }
+        ensures flat { IfOk result (λ m. m.flat ≡ record { heap = heap; stack = stack; cells = replicate (1048576 + heap + stack) Unwritten; objects = [] }) }
+        ensures blocks { IfOk result (λ m. m.blocks ≡ record { bytes = heap; used = 0; taken = []; free = replicate 29 [] }) }
+    {
+        let cells = Cells::new(alloc, STATIC_BYTES + heap + stack)?;
+        let objects = Objects::new(alloc)?;
+        let blocks = Heap::new(alloc, heap)?;
+        Ok(Memory {
+            heap_bytes: heap,
+            stack,
+            cells,
+            objects,
+            heap: blocks,
+        })
+    }
+
+    /// What the `size` bytes at an address hold, without a test: `None` exactly outside the areas and where the
+    /// address is no multiple of the size. An unwritten cell reads as 0, a pointer's piece as its byte, and only the
+    /// four pieces of one pointer have a tag.
+    pub fn raw_load(&self, at: u32, size: u8) -> Option<Word>
+        requires { IsSize size }
+        ensures { result ≡ raw_read self.now.flat at size }
+    {
+        let cells = &self.cells;
+        if at % u32::from(size) != 0 {
+            return None;
+        }
+        match place(self.heap_bytes, self.stack, at, u32::from(size)) {
+            None => None,
+            Some(i) => Some(load_word(cells, i, size)),
+        }
+    }
+
+    /// Writes the `size` bytes at an address, without a test, as the note `Put` does: `None` exactly outside the
+    /// areas and where the address is no multiple of the size, and nothing is changed then.
+    pub fn raw_store(&mut self, at: u32, size: u8, w: Word) -> Option<()>
+        requires { IsSize size }
+        ensures { MatchOption result ((aligned_place self.old.flat at size ≡ None) × (self.new ≡ self.old)) (λ _. (self.new.flat ≡ apply self.old.flat (Put at size w)) × (self.new.blocks ≡ self.old.blocks)) }
+    {
+        if at % u32::from(size) != 0 {
+            return None;
+        }
+        let i = place(self.heap_bytes, self.stack, at, u32::from(size))?;
+        store_word(&mut self.cells, i, size, w);
+        Some(())
+    }
+
+    /// Copies `n` cells as they are, without a test and as if by way of another place, as the note `Copy` does:
+    /// `None` exactly where one of the two ranges is outside the areas, and nothing is changed then.
+    pub fn raw_copy(&mut self, to: u32, from: u32, n: u32) -> Option<()>
+        ensures none { MatchOption result ((place_of self.old.flat to n ≡ None) ⊎ (place_of self.old.flat from n ≡ None)) (λ _. IsSome (place_of self.old.flat to n) × IsSome (place_of self.old.flat from n)) }
+        ensures copy { MatchOption result (self.new ≡ self.old) (λ _. (self.new.flat ≡ apply self.old.flat (Copy to from n)) × (self.new.blocks ≡ self.old.blocks)) }
+    {
+        let to = place(self.heap_bytes, self.stack, to, n)?;
+        let from = place(self.heap_bytes, self.stack, from, n)?;
+        self.cells.copy(to, from, n);
+        Some(())
+    }
+
+    /// The object with a number: `None` exactly for a number that is not born.
+    pub fn find(&self, id: u32) -> Option<Obj>
+        ensures object { result ≡ object_of self.now.flat.objects id }
+        ensures safe { IsSafe self.now }
+    {
+        self.objects.find(id)
+    }
+
+    /// The number of the one live object with `base <= address <= base + size`.
+    pub fn at(&self, address: u32) -> Option<u32>
+        ensures { IsObjectAt self.now.flat.objects address result }
+    {
+        self.objects.at(address)
+    }
+}
+
+impl Memory {
+    ghost use Rattle.sc_mem.specs.Flat.{Flat, apply, cells_at};
+    ghost use Rattle.sc_mem.specs.Words.{word_of};
+    ghost use Rattle.sc_mem.specs.Violations.{copy_rule, load_rule, store_rule};
+
+    /// A checked load of 1, 2 or 4 bytes through a pointer, of a pointer or of a number: the first of U4, U3, U2,
+    /// U10, U1 and U15 that it breaks, else what the bytes hold.
+    pub fn load(&self, p: Word, size: u8, pointer: bool) -> Result<Word, Rule>
+        requires { IsSize size }
+        ensures { MatchResult result (λ w. (load_rule self.now.flat p size pointer ≡ None) × (w ≡ word_of (cells_at self.now.flat p.bits size))) (λ rule. load_rule self.now.flat p size pointer ≡ Some rule) }
+    {
+        let n = u32::from(size);
+        if let Some(rule) = reach(&self.objects, p, n) {
+            return Err(rule);
+        }
+        if p.bits % n != 0 {
+            return Err(Rule::U10);
+        }
+        // An object lies in an area, so its bytes have a place.
+        let Some(i) = place(self.heap_bytes, self.stack, p.bits, n) else {
+            return Ok(Word { bits: 0, tag: 0 });
+        };
+        match rule_in(&self.cells, i, size, pointer) {
+            Some(rule) => Err(rule),
+            None => Ok(load_word(&self.cells, i, size)),
+        }
+    }
+
+    /// A checked store of 1, 2 or 4 bytes through a pointer, as the note `Put` does it: the first of U4, U3, U2, U10
+    /// and U11 that it breaks, and nothing is changed then.
+    pub fn store(&mut self, p: Word, size: u8, w: Word) -> Result<(), Rule>
+        requires { IsSize size }
+        ensures rule { MatchResult result (λ _. store_rule self.old.flat p size ≡ None) (λ rule. store_rule self.old.flat p size ≡ Some rule) }
+        ensures put { MatchResult result (λ _. (self.new.flat ≡ apply self.old.flat (Put p.bits size w)) × (self.new.blocks ≡ self.old.blocks)) (λ _. self.new ≡ self.old) }
+    {
+        let n = u32::from(size);
+        if let Some(rule) = reach(&self.objects, p, n) {
+            return Err(rule);
+        }
+        if p.bits % n != 0 {
+            return Err(Rule::U10);
+        }
+        if constant(&self.objects, p) {
+            return Err(Rule::U11);
+        }
+        self.put(p.bits, size, w);
+        Ok(())
+    }
+
+    /// Writes an initial value where nothing is tested, as the note `Put` does it.
+    pub fn init(&mut self, at: u32, size: u8, w: Word)
+        requires size { IsSize size }
+        requires live { (id : ℕ) × (o : Obj) × IsLive self.old.flat.objects id o × (o.base ≤ at) × (at + size ≤ o.base + o.size) }
+        ensures flat { self.new.flat ≡ apply self.old.flat (Put at size w) }
+        ensures blocks { self.new.blocks ≡ self.old.blocks }
+    {
+        self.put(at, size, w);
+    }
+
+    // The effect of `Put`, aligned or not.
+    fn put(&mut self, at: u32, size: u8, w: Word)
+        requires { IsSize size }
+        ensures flat { self.new.flat ≡ apply self.old.flat (Put at size w) }
+        ensures blocks { self.new.blocks ≡ self.old.blocks }
+    {
+        if let Some(i) = place(self.heap_bytes, self.stack, at, u32::from(size)) {
+            store_word(&mut self.cells, i, size, w);
+        }
+    }
+
+    /// A checked copy of `n` cells from one pointer to another, as the note `Copy` does it: the first of U4, U3 and U2
+    /// that the source breaks, then of U4, U3, U2 and U11 that the target breaks, and nothing is changed then.
+    pub fn copy(&mut self, to: Word, from: Word, n: u32) -> Result<(), Rule>
+        ensures rule { MatchResult result (λ _. copy_rule self.old.flat to from n ≡ None) (λ rule. copy_rule self.old.flat to from n ≡ Some rule) }
+        ensures copy { MatchResult result (λ _. (self.new.flat ≡ apply self.old.flat (Copy to.bits from.bits n)) × (self.new.blocks ≡ self.old.blocks)) (λ _. self.new ≡ self.old) }
+    {
+        if let Some(rule) = reach(&self.objects, from, n) {
+            return Err(rule);
+        }
+        if let Some(rule) = reach(&self.objects, to, n) {
+            return Err(rule);
+        }
+        if constant(&self.objects, to) {
+            return Err(Rule::U11);
+        }
+        let source = place(self.heap_bytes, self.stack, from.bits, n);
+        let target = place(self.heap_bytes, self.stack, to.bits, n);
+        if let (Some(target), Some(source)) = (target, source) {
+            self.cells.copy(target, source, n);
+        }
+        Ok(())
+    }
+}
+
+impl Memory {
+    ghost use Rattle.sc_objects.specs.Numbered.{IsClear};
+    ghost use Rattle.sc_objects.specs.Blocks.{class_at, given};
+    ghost use Rattle.sc_mem.specs.Flat.{Flat, apply, place as place_of};
+    ghost use Rattle.sc_mem.specs.Safe.{IsBare, IsSafe, Stands, TakesAt};
+
+    /// A new live object, by its number, as the note `Birth` does it: its cells are unwritten. It lies in an area with
+    /// a byte between it and every live object, an allocated one at the start of a taken block and with a byte of the
+    /// block to spare, every other one outside the heap. After a fault memory is as before.
+    pub fn birth(&mut self, size: u32, kind: Kind, base: u32) -> Result<u32, BirthFault>
+        requires clear { IsClear self.old.flat.objects base size }
+        requires area { IsSome (place_of self.old.flat base size) }
+        requires stands { Stands self.old.blocks kind base size }
+        ensures id { IfOk result (λ id. id ≡ length self.old.flat.objects + 1) }
+        ensures birth { IfOk result (λ id. (self.new.flat ≡ apply self.old.flat (Birth id size kind base)) × (self.new.blocks ≡ self.old.blocks)) }
+        ensures fault { OnErr result (self.new ≡ self.old) }
+        ensures limit { (result ≡ Err BirthFault.Limit) ↔ (length self.old.flat.objects ≡ 4000000000) }
+    {
+        match self.objects.birth(size, kind, base) {
+            Ok(id) => {
+                if let Some(i) = place(self.heap_bytes, self.stack, base, size) {
+                    self.cells.clear(i, size);
+                }
+                Ok(id)
+            }
+            Err(fault) => Err(fault),
+        }
+    }
+
+    /// Ends the life of a live object, as the note `Death` does it. It takes no memory.
+    pub fn death(&mut self, id: u32)
+        requires { (o : Obj) × IsLive self.old.flat.objects id o }
+        ensures flat { self.new.flat ≡ apply self.old.flat (Death id) }
+        ensures blocks { self.new.blocks ≡ self.old.blocks }
+    {
+        self.objects.death(id);
+    }
+
+    /// The address of a heap block for `n` bytes: `None` exactly where the heap has none. Where memory runs out
+    /// all is as before.
+    pub fn take(&mut self, n: u32) -> Result<Option<u32>, NoMemory>
+        requires { 0 < n }
+        ensures taken { MatchResult result (λ got. TakesAt self.old.blocks n got self.new.blocks) (λ _. self.new.blocks ≡ self.old.blocks) }
+        ensures flat { self.new.flat ≡ self.old.flat }
+    {
+        match self.heap.take(n) {
+            Ok(Some(block)) => Ok(Some(HEAP + block)),
+            Ok(None) => Ok(None),
+            Err(fault) => Err(fault),
+        }
+    }
+
+    /// Gives back the taken block at an address, in which no live object is. It takes no memory.
+    pub fn give(&mut self, base: u32)
+        requires heap { 0x10000000 ≤ base }
+        requires taken { IsSome (class_at self.old.blocks (base - 0x10000000)) }
+        requires bare { IsBare self.old base }
+        ensures given { (k : ℕ) × (class_at self.old.blocks (base - 0x10000000) ≡ Some k) × (self.new.blocks ≡ given self.old.blocks (base - 0x10000000) k) }
+        ensures flat { self.new.flat ≡ self.old.flat }
+    {
+        self.heap.give(base - HEAP);
+    }
+}

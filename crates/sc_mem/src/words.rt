@@ -1,0 +1,187 @@
+// Words as cells, and cells as words.
+ghost use Rattle.std.specs.Prelude.{◌≡◌, ◌+◌, ◌^◌, ◌<◌, ◌≤◌, ◌∷◌, [], length, slice_index};
+ghost use Rattle.sc_mem.specs.Words.{IsSize, byte_of, bytes_of, cells_of, tag_of, word_of};
+ghost use Rattle.sc_mem.specs.Words.{is_piece as piece};
+ghost use Rattle.sc_cells.specs.Range.{range_of, with_range};
+
+use sc_base::{Cell, Word};
+use sc_cells::Cells;
+
+/// A cell as a byte.
+pub fn byte_of_cell(cell: Cell) -> u8
+    ensures { result ≡ byte_of cell }
+{
+    match cell {
+        Cell::Unwritten => 0,
+        Cell::Byte(byte) => byte,
+        Cell::Frag { whole, k, .. } => byte_of_number(whole, k),
+    }
+}
+
+// Byte k of a number, the lowest first.
+fn byte_of_number(bits: u32, k: u8) -> u8
+    ensures { result ≡ slice_index (bytes_of bits) k }
+{
+    match k {
+        0 => (bits % 256) as u8,
+        1 => (bits / 256 % 256) as u8,
+        2 => (bits / 65536 % 256) as u8,
+        3 => (bits / 16777216 % 256) as u8,
+        _ => 0,
+    }
+}
+
+/// The tag of four cells: that of the pointer whose pieces they are in order, else 0.
+pub fn tag_of_cells(a: Cell, b: Cell, c: Cell, d: Cell) -> u32
+    ensures { result ≡ tag_of (a ∷ b ∷ c ∷ d ∷ []) }
+{
+    let Cell::Frag { whole, tag, k } = a else {
+        return 0;
+    };
+    if k == 0
+        && is_piece(b, whole, tag, 1)
+        && is_piece(c, whole, tag, 2)
+        && is_piece(d, whole, tag, 3)
+    {
+        tag
+    } else {
+        0
+    }
+}
+
+// Whether a cell is this piece of this pointer.
+fn is_piece(cell: Cell, bits: u32, of: u32, j: u8) -> bool
+    ensures { result ≡ piece bits of j cell }
+{
+    match cell {
+        Cell::Frag { whole, tag, k } => whole == bits && tag == of && k == j,
+        _ => false,
+    }
+}
+
+fn word_of_one(a: Cell) -> Word
+    ensures { result ≡ word_of (a ∷ []) }
+{
+    Word {
+        bits: u32::from(byte_of_cell(a)),
+        tag: 0,
+    }
+}
+
+fn word_of_two(a: Cell, b: Cell) -> Word
+    ensures word { result ≡ word_of (a ∷ b ∷ []) }
+    ensures small { result.bits < 65536 }
+{
+    Word {
+        bits: u32::from(byte_of_cell(a)) + 256 * u32::from(byte_of_cell(b)),
+        tag: 0,
+    }
+}
+
+fn word_of_four(a: Cell, b: Cell, c: Cell, d: Cell) -> Word
+    ensures { result ≡ word_of (a ∷ b ∷ c ∷ d ∷ []) }
+{
+    let low = word_of_two(a, b).bits;
+    let high = word_of_two(c, d).bits;
+    Word {
+        bits: low + 65536 * high,
+        tag: tag_of_cells(a, b, c, d),
+    }
+}
+
+/// The word in the `n` cells from a place on.
+pub fn load_word(cells: &Cells, i: u32, n: u8) -> Word
+    requires size { IsSize n }
+    requires inside { i + n ≤ length cells.now }
+    requires fits { i < 2 ^ 31 }
+    ensures { result ≡ word_of (range_of cells.now i n) }
+{
+    let a = cells.read(i);
+    if n == 1 {
+        return word_of_one(a);
+    }
+    let b = cells.read(i + 1);
+    if n == 2 {
+        return word_of_two(a, b);
+    }
+    let c = cells.read(i + 2);
+    let d = cells.read(i + 3);
+    word_of_four(a, b, c, d)
+}
+
+/// Writes a word to the `n` cells from a place on: a whole pointer as its pieces, all else as bytes.
+pub fn store_word(cells: &mut Cells, i: u32, n: u8, w: Word)
+    requires size { IsSize n }
+    requires inside { i + n ≤ length cells.old }
+    requires fits { i < 2 ^ 31 }
+    ensures { cells.new ≡ with_range cells.old i (cells_of n w) }
+{
+    let Word { bits, tag } = w;
+    if n == 4 && tag != 0 {
+        put_four(
+            cells,
+            i,
+            piece_of(w, 0),
+            piece_of(w, 1),
+            piece_of(w, 2),
+            piece_of(w, 3),
+        );
+    } else if n == 4 {
+        put_four(
+            cells,
+            i,
+            byte_cell(bits, 0),
+            byte_cell(bits, 1),
+            byte_cell(bits, 2),
+            byte_cell(bits, 3),
+        );
+    } else if n == 2 {
+        put_two(cells, i, byte_cell(bits, 0), byte_cell(bits, 1));
+    } else {
+        put_one(cells, i, byte_cell(bits, 0));
+    }
+}
+
+fn piece_of(w: Word, k: u8) -> Cell
+    ensures { result ≡ Cell.Frag w.bits w.tag k }
+{
+    Cell::Frag {
+        whole: w.bits,
+        tag: w.tag,
+        k,
+    }
+}
+
+fn byte_cell(bits: u32, k: u8) -> Cell
+    ensures { result ≡ Cell.Byte (slice_index (bytes_of bits) k) }
+{
+    Cell::Byte(byte_of_number(bits, k))
+}
+
+fn put_one(cells: &mut Cells, i: u32, a: Cell)
+    requires inside { i < length cells.old }
+    requires fits { i < 2 ^ 31 }
+    ensures { cells.new ≡ with_range cells.old i (a ∷ []) }
+{
+    cells.write(i, a);
+}
+
+fn put_two(cells: &mut Cells, i: u32, a: Cell, b: Cell)
+    requires inside { i + 1 < length cells.old }
+    requires fits { i < 2 ^ 31 }
+    ensures { cells.new ≡ with_range cells.old i (a ∷ b ∷ []) }
+{
+    cells.write(i, a);
+    cells.write(i + 1, b);
+}
+
+fn put_four(cells: &mut Cells, i: u32, a: Cell, b: Cell, c: Cell, d: Cell)
+    requires inside { i + 3 < length cells.old }
+    requires fits { i < 2 ^ 31 }
+    ensures { cells.new ≡ with_range cells.old i (a ∷ b ∷ c ∷ d ∷ []) }
+{
+    cells.write(i, a);
+    cells.write(i + 1, b);
+    cells.write(i + 2, c);
+    cells.write(i + 3, d);
+}

@@ -1,0 +1,5 @@
+pub mod Lists
+pub mod Births
+pub mod Tiles
+pub mod Rooms
+pub mod Changes

@@ -1,0 +1,4 @@
+pub mod Numbered
+pub mod Kept
+pub mod Blocks
+pub mod Roomy

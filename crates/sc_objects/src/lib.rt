@@ -1,0 +1,10 @@
+//! The objects of a run by their numbers, and the blocks of the heap.
+#![tactic(auto)]
+
+mod heap;
+mod objects;
+#[cfg(test)]
+mod tests;
+
+pub use heap::Heap;
+pub use objects::{BirthFault, Obj, Objects};
