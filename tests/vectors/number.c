@@ -1,7 +1,6 @@
 /* Prints the table crates/sc_fmt/src/tests/table.rt: what the C library's printf
-   writes and its ctype calls answer. All flags, widths, precisions,
-   modifiers and kinds are met in turn at ten values; of all
-   combinations ROWS are taken, in which each set of flags and each kind comes ten times and more. Build: gcc number.c */
+   writes and its ctype calls answer. Each of the 32 sets of flags stands at each of ten values; kinds go round, and
+   widths, precisions and modifiers are taken by a generator. Build: gcc number.c */
 #include <ctype.h>
 #include <stdio.h>
 #include <string.h>
@@ -25,15 +24,14 @@ int main(void) {
     printf("// Made by tests/vectors/number.c: what the C library's printf writes, and what its ctype calls answer.\n\n// A line for each: the format, the number and the text, between bars.\npub const WRITTEN: &str = \"\\\n");
     for (int row = 0; row < ROWS; row++) {
         char format[32] = "%", text[64];
-        /* each flag set and each kind comes ten times with no modifier of the rest, the others by a generator */
-        int flags = row % 32, kind = row % 6;
+        int flags = row % 32, kind = (row % 32 + row / 32) % 6;
         unsigned v;
         state = state * 1103515245u + 12345u;
         v = state / 65536u;
         for (int f = 0; f < 5; f++)
             if (flags >> f & 1) strncat(format, &"-+ #0"[f], 1);
         const char *width = widths[v % 4], *precision = precisions[v / 4 % 5], *modifier = modifiers[v / 20 % 3];
-        unsigned value = values[v / 60 % 10];
+        unsigned value = values[row / 32];
         strcat(strcat(format, width), precision);
         int head = (int)strlen(format);
         strcat(format, modifier);
