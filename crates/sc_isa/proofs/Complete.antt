@@ -1,5 +1,5 @@
 -- The word of a sound instruction is read as that instruction.
-use Rattle.std.proofs.Common.{◌≡◌, ◌≢◌, ℕ, ◌+◌, ◌*◌, ◌/◌, ◌%◌, ◌<◌, ◌^◌, ◌==◌, if◌then◌else◌, ℤ, pos, negsuc, Option, Some, None, refl, sym, ap, ◌∙◌, arith, w32}
+use Rattle.std.proofs.Common.{◌≡◌, ◌≢◌, ℕ, ◌+◌, ◌*◌, ◌/◌, ◌%◌, ◌<◌, ◌^◌, ◌==◌, if◌then◌else◌, ℤ, pos, negsuc, Option, Some, refl, sym, ap, ◌∙◌, arith}
 use Rattle.std.proofs.lemmas.Int.{ints}
 use Rattle.sc_isa.specs.declared.instruction.Instr.{Instr}
 use Rattle.sc_isa.specs.declared.instruction.Instr.TheVariants.{Lui, Auipc, Jal, Jalr, Branch, Load, Store, Imm, Reg, Ecall, Fence}
@@ -13,9 +13,9 @@ use Rattle.sc_isa.specs.declared.instruction.ImmOp.{ImmOp}
 use Rattle.sc_isa.specs.declared.instruction.ImmOp.TheVariants.{Addi, Slli, Slti, Sltiu, Xori, Srli, Srai, Ori, Andi}
 use Rattle.sc_isa.specs.declared.instruction.RegOp.{RegOp}
 use Rattle.sc_isa.specs.declared.instruction.RegOp.TheVariants.{Add, Sub, Sll, Slt, Sltu, Xor, Srl, Sra, Or, And, Mul, Mulh, Mulhsu, Mulhu, Div, Divu, Rem, Remu}
-use Rattle.sc_isa.specs.Table.{word_of, IsSound, IsShort, IsBetween, IsImmediate, r_word, i_word, s_word, b_word, u_word, j_word, low_bits, branch_code, load_code, store_code, imm_code, imm_upper, reg_code, reg_upper}
-use Rattle.sc_isa.specs.Reading.{rd_of, funct3_of, rs1_of, rs2_of, funct7_of, extend, branch_bits, jump_bits, branch_op, load_op, store_op, shift_op, short_op, reg_op, read_jalr, read_branch, read_load, read_store, read_shift, read_short, read_imm, read_reg, by_opcode}
-use Rattle.sc_isa.proofs.Fields.{opcode_is, rd_is, funct3_is, rs1_is, rs2_is, funct7_is, short_is, branch_bits_is, jump_bits_is, extend_short, extend_branch, extend_jump}
+use Rattle.sc_isa.specs.Table.{word_of, IsSound, IsShort, IsBetween, IsImmediate, r_word, i_word, u_word, j_word, low_bits, branch_code, load_code, store_code, imm_code, imm_upper, reg_code, reg_upper}
+use Rattle.sc_isa.specs.Reading.{rd_of, funct3_of, rs1_of, rs2_of, funct7_of, extend, branch_bits, jump_bits, branch_op, load_op, store_op, shift_op, short_op, reg_op, read_shift, read_short, read_imm, by_opcode}
+use Rattle.sc_isa.proofs.Fields.{opcode_is, rd_is, funct3_is, rs1_is, rs2_is, funct7_is, branch_bits_is, jump_bits_is, extend_short, extend_branch, extend_jump}
 
 -- the codes of the operations and back
 branch_op_of : (op : BranchOp) → (branch_code op < 8) × (branch_op (branch_code op) ≡ Some op)
@@ -105,19 +105,19 @@ module _ (w d f a b g : ℕ) (hd : d < 32) (hf : f < 8) (ha : a < 32) (hb : b < 
   from_reg op e r =
       let o : 0x33 < 128 = omega arith in
       reg w d f a b g (rd_is w 0x33 d f a b g (sym e) o hd hf ha hb hg) (funct3_is w 0x33 d f a b g (sym e) o hd hf ha hb hg) (rs1_is w 0x33 d f a b g (sym e) o hd hf ha hb hg)
-          (rs2_is w 0x33 d f a b g (sym e) o hd hf ha hb hg) (funct7_is w 0x33 d f a b g (sym e) o hd hf ha hb hg) (pos 0) op (opcode_is w 0x33 d f a b g (sym e) o hd hf ha hb hg) r
+      (rs2_is w 0x33 d f a b g (sym e) o hd hf ha hb hg) (funct7_is w 0x33 d f a b g (sym e) o hd hf ha hb hg) (pos 0) op (opcode_is w 0x33 d f a b g (sym e) o hd hf ha hb hg) r
 
   from_store : (op : StoreOp) (z : ℤ) → r_word 0x23 d f a b g ≡ w → store_op f ≡ Some op → extend (2 ^ 11) (d + g * 2 ^ 5) ≡ z → by_opcode (w % 2 ^ 7) w ≡ Some (Store op b a z)
   from_store op z e r x =
       let o : 0x23 < 128 = omega arith in
       store w d f a b g (rd_is w 0x23 d f a b g (sym e) o hd hf ha hb hg) (funct3_is w 0x23 d f a b g (sym e) o hd hf ha hb hg) (rs1_is w 0x23 d f a b g (sym e) o hd hf ha hb hg)
-          (rs2_is w 0x23 d f a b g (sym e) o hd hf ha hb hg) (funct7_is w 0x23 d f a b g (sym e) o hd hf ha hb hg) z op (opcode_is w 0x23 d f a b g (sym e) o hd hf ha hb hg) r x
+      (rs2_is w 0x23 d f a b g (sym e) o hd hf ha hb hg) (funct7_is w 0x23 d f a b g (sym e) o hd hf ha hb hg) z op (opcode_is w 0x23 d f a b g (sym e) o hd hf ha hb hg) r x
 
   from_branch : (op : BranchOp) (z : ℤ) → r_word 0x63 d f a b g ≡ w → branch_op f ≡ Some op → extend (2 ^ 12) (branch_bits d g) ≡ z → by_opcode (w % 2 ^ 7) w ≡ Some (Branch op a b z)
   from_branch op z e r x =
       let o : 0x63 < 128 = omega arith in
       branch w d f a b g (rd_is w 0x63 d f a b g (sym e) o hd hf ha hb hg) (funct3_is w 0x63 d f a b g (sym e) o hd hf ha hb hg) (rs1_is w 0x63 d f a b g (sym e) o hd hf ha hb hg)
-          (rs2_is w 0x63 d f a b g (sym e) o hd hf ha hb hg) (funct7_is w 0x63 d f a b g (sym e) o hd hf ha hb hg) z op (opcode_is w 0x63 d f a b g (sym e) o hd hf ha hb hg) r x
+      (rs2_is w 0x63 d f a b g (sym e) o hd hf ha hb hg) (funct7_is w 0x63 d f a b g (sym e) o hd hf ha hb hg) z op (opcode_is w 0x63 d f a b g (sym e) o hd hf ha hb hg) r x
 
 -- a constant of 12 bits at the top
 module _ (w d f a v : ℕ) (hd : d < 32) (hf : f < 8) (ha : a < 32) (hv : v < 2 ^ 12) where
@@ -176,6 +176,7 @@ complete (Imm op rd rs1 z) w s e n m = imm op s.2 e
   where
     short : (op : ImmOp) → IsShort z → imm_code op < 8 → imm_upper op ≡ 0 → i_word 0x13 rd (imm_code op) rs1 (imm_upper op * 2 ^ 5 + low_bits 12 z) ≡ w → ((x y : Option Instr) → (if imm_code op == 1 then x else if imm_code op == 5 then x else y) ≡ y) → short_op (imm_code op) ≡ Some op → by_opcode (w % 2 ^ 7) w ≡ Some (Imm op rd rs1 z)
     short op h small u e q r = from_short w rd (imm_code op) rs1 (low_bits 12 z) s.0 small s.1 (omega arith) op z (omega arith) q r (extend_short z h)
+
     imm : (op : ImmOp) → IsImmediate op z → i_word 0x13 rd (imm_code op) rs1 (imm_upper op * 2 ^ 5 + low_bits 12 z) ≡ w → by_opcode (w % 2 ^ 7) w ≡ Some (Imm op rd rs1 z)
     imm Addi h e = short Addi h (omega arith) refl e (λ x y. refl) refl
     imm Slti h e = short Slti h (omega arith) refl e (λ x y. refl) refl

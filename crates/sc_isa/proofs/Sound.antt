@@ -1,25 +1,17 @@
 -- A word that is read as an instruction is the word of that instruction, which is sound.
-use Rattle.std.proofs.Common.{◌≡◌, ◌≢◌, ℕ, zero, suc, ◌+◌, ◌*◌, ◌/◌, ◌%◌, ◌<◌, ◌^◌, ◌==◌, if◌then◌else◌, Bool, true, false, ℤ, pos, negsuc, Option, Some, None, refl, sym, ap, ◌∙◌, arith, rules, w32}
+use Rattle.std.proofs.Common.{◌≡◌, ℕ, zero, suc, ◌+◌, ◌*◌, ◌/◌, ◌%◌, ◌<◌, ◌^◌, ◌==◌, if◌then◌else◌, Bool, true, false, ℤ, pos, Option, Some, None, refl, sym, ap, ◌∙◌, arith, rules}
 use Rattle.std.proofs.lemmas.Bool.{eqb-true}
 use Rattle.std.specs.Prelude.{IfSome}
 use Rattle.std.specs.Option.{option_map}
 use Rattle.std.proofs.lemmas.Int.{ints}
 use Rattle.sc_isa.specs.declared.instruction.Instr.{Instr}
-use Rattle.sc_isa.specs.declared.instruction.Instr.TheVariants.{Lui, Auipc, Jal, Jalr, Branch, Load, Store, Imm, Reg, Ecall, Fence}
-use Rattle.sc_isa.specs.declared.instruction.BranchOp.{BranchOp}
-use Rattle.sc_isa.specs.declared.instruction.BranchOp.TheVariants.{Beq, Bne, Blt, Bge, Bltu, Bgeu}
-use Rattle.sc_isa.specs.declared.instruction.LoadOp.{LoadOp}
-use Rattle.sc_isa.specs.declared.instruction.LoadOp.TheVariants.{Lb, Lh, Lw, Lbu, Lhu}
-use Rattle.sc_isa.specs.declared.instruction.StoreOp.{StoreOp}
-use Rattle.sc_isa.specs.declared.instruction.StoreOp.TheVariants.{Sb, Sh, Sw}
+use Rattle.sc_isa.specs.declared.instruction.Instr.TheVariants.{Lui, Auipc, Jal, Branch, Load, Store, Imm, Reg}
 use Rattle.sc_isa.specs.declared.instruction.ImmOp.{ImmOp}
-use Rattle.sc_isa.specs.declared.instruction.ImmOp.TheVariants.{Addi, Slli, Slti, Sltiu, Xori, Srli, Srai, Ori, Andi}
+use Rattle.sc_isa.specs.declared.instruction.ImmOp.TheVariants.{Slli, Srli, Srai}
 use Rattle.sc_isa.specs.declared.instruction.RegOp.{RegOp}
-use Rattle.sc_isa.specs.declared.instruction.RegOp.TheVariants.{Add, Sub, Sll, Slt, Sltu, Xor, Srl, Sra, Or, And, Mul, Mulh, Mulhsu, Mulhu, Div, Divu, Rem, Remu}
-use Rattle.sc_isa.specs.Table.{word_of, IsSound, IsShort, IsBetween, IsImmediate, r_word, i_word, s_word, b_word, u_word, j_word, low_bits, branch_code, load_code, store_code, imm_code, imm_upper, reg_code, reg_upper}
+use Rattle.sc_isa.specs.Table.{word_of, IsSound, IsShort, IsBetween, IsImmediate, i_word, s_word, b_word, u_word, j_word, low_bits, branch_code, load_code, store_code, imm_code, imm_upper, reg_code, reg_upper}
 use Rattle.sc_isa.specs.Reading.{rd_of, funct3_of, rs1_of, rs2_of, funct7_of, extend, branch_bits, jump_bits, branch_op, load_op, store_op, shift_op, short_op, base_op, other_op, multiply_op, reg_op, read_jalr, read_branch, read_load, read_store, read_shift, read_short, read_imm, read_reg, by_opcode}
-use Rattle.std.proofs.lemmas.Bool.Decides.{nat_tests}
-use Rattle.sc_isa.proofs.Fields.{whole, rebuilt, branch_low, branch_high, jump_upper, short_fits, branch_fits, jump_fits, low_short, low_branch, low_jump, even_branch, even_jump}
+use Rattle.sc_isa.proofs.Fields.{rebuilt, branch_low, branch_high, jump_upper, short_fits, branch_fits, jump_fits, low_short, low_branch, low_jump, even_branch, even_jump}
 
 -- a sound instruction with this word
 abbrev IsOf : ℕ → Instr → Type 0
@@ -163,14 +155,14 @@ module _ (w : ℕ) (h : w < 2 ^ 32) where
   jalr : w % 2 ^ 7 ≡ 0x67 → IfSome (read_jalr w) (IsOf w)
   jalr o = chosen (funct3_of w == 0) _ None (IsOf w)
       (λ t. let e = eqb-true (funct3_of w) 0 t in
-          let back : i_word 0x67 (rd_of w) 0 (rs1_of w) (w / 2 ^ 20) ≡ w = omega arith in
-          ((rd_small, rs1_small, short_fits _ short_small), ap (i_word 0x67 (rd_of w) 0 (rs1_of w)) (low_short _ short_small) ∙ back))
+      let back : i_word 0x67 (rd_of w) 0 (rs1_of w) (w / 2 ^ 20) ≡ w = omega arith in
+      ((rd_small, rs1_small, short_fits _ short_small), ap (i_word 0x67 (rd_of w) 0 (rs1_of w)) (low_short _ short_small) ∙ back))
       (λ _. search rules)
 
   load : w % 2 ^ 7 ≡ 0x03 → IfSome (read_load w) (IsOf w)
   load o = mapped (load_op (funct3_of w)) (λ op. Load op (rd_of w) (rs1_of w) (extend (2 ^ 11) (w / 2 ^ 20))) (λ op. load_code op ≡ funct3_of w) (IsOf w) (load_op_is (funct3_of w))
       (λ op c. let back : i_word 0x03 (rd_of w) (load_code op) (rs1_of w) (w / 2 ^ 20) ≡ w = omega arith in
-          ((rd_small, rs1_small, short_fits _ short_small), ap (i_word 0x03 (rd_of w) (load_code op) (rs1_of w)) (low_short _ short_small) ∙ back))
+      ((rd_small, rs1_small, short_fits _ short_small), ap (i_word 0x03 (rd_of w) (load_code op) (rs1_of w)) (low_short _ short_small) ∙ back))
 
   store : w % 2 ^ 7 ≡ 0x23 → IfSome (read_store w) (IsOf w)
   store o =
@@ -188,8 +180,10 @@ module _ (w : ℕ) (h : w < 2 ^ 32) where
       let low = branch_low (rd_of w) (funct7_of w) rd_small funct7_small in
       let high = branch_high (rd_of w) (funct7_of w) rd_small funct7_small in
       mapped (branch_op (funct3_of w)) (λ op. Branch op (rs1_of w) (rs2_of w) (extend (2 ^ 12) (branch_bits (rd_of w) (funct7_of w)))) (λ op. branch_code op ≡ funct3_of w) (IsOf w) (branch_op_is (funct3_of w))
-      (λ op c. ((rs1_small, rs2_small, branch_fits _ small even, even_branch (extend (2 ^ 12) (branch_bits (rd_of w) (funct7_of w))) _ bits even),
-          ap (b_word 0x63 (branch_code op) (rs1_of w) (rs2_of w)) bits ∙ rebuilt w 0x63 _ (branch_code op) _ _ _ h o (sym low) (sym c) refl refl (sym high)))
+      (λ op c. (
+        (rs1_small, rs2_small, branch_fits _ small even, even_branch (extend (2 ^ 12) (branch_bits (rd_of w) (funct7_of w))) _ bits even),
+        ap (b_word 0x63 (branch_code op) (rs1_of w) (rs2_of w)) bits ∙ rebuilt w 0x63 _ (branch_code op) _ _ _ h o (sym low) (sym c) refl refl (sym high),
+      ))
 
   reg : w % 2 ^ 7 ≡ 0x33 → IfSome (read_reg w) (IsOf w)
   reg o = mapped (reg_op (funct7_of w) (funct3_of w)) (λ op. Reg op (rd_of w) (rs1_of w) (rs2_of w)) (λ op. (reg_code op ≡ funct3_of w) × (reg_upper op ≡ funct7_of w)) (IsOf w) (reg_op_is (funct7_of w) (funct3_of w))
@@ -198,14 +192,14 @@ module _ (w : ℕ) (h : w < 2 ^ 32) where
   short : w % 2 ^ 7 ≡ 0x13 → IfSome (read_short w) (IsOf w)
   short o = mapped (short_op (funct3_of w)) (λ op. Imm op (rd_of w) (rs1_of w) (extend (2 ^ 11) (w / 2 ^ 20))) (IsImmOf 0 (funct3_of w) IsShort) (IsOf w) (short_op_is (funct3_of w))
       (λ op c. let back : i_word 0x13 (rd_of w) (imm_code op) (rs1_of w) (imm_upper op * 2 ^ 5 + w / 2 ^ 20) ≡ w = let n = c.0 in let u = c.1 in omega arith in
-          ((rd_small, rs1_small, c.2 _ (short_fits _ short_small)), ap (λ k. i_word 0x13 (rd_of w) (imm_code op) (rs1_of w) (imm_upper op * 2 ^ 5 + k)) (low_short _ short_small) ∙ back))
+      ((rd_small, rs1_small, c.2 _ (short_fits _ short_small)), ap (λ k. i_word 0x13 (rd_of w) (imm_code op) (rs1_of w) (imm_upper op * 2 ^ 5 + k)) (low_short _ short_small) ∙ back))
 
   shift : w % 2 ^ 7 ≡ 0x13 → IfSome (shift_op (funct7_of w) (funct3_of w)) (IsImmOf (funct7_of w) (funct3_of w) (IsBetween (pos 0) (pos 31))) → IfSome (read_shift w) (IsOf w)
   shift o found = mapped (shift_op (funct7_of w) (funct3_of w)) (λ op. Imm op (rd_of w) (rs1_of w) (pos (rs2_of w))) (IsImmOf (funct7_of w) (funct3_of w) (IsBetween (pos 0) (pos 31))) (IsOf w) found
       (λ op c. let low : low_bits 12 (pos (rs2_of w)) ≡ rs2_of w = omega (arith, ints) in
-          let between : IsBetween (pos 0) (pos 31) (pos (rs2_of w)) = (omega (arith, ints), omega (arith, ints)) in
-          let back : i_word 0x13 (rd_of w) (imm_code op) (rs1_of w) (imm_upper op * 2 ^ 5 + rs2_of w) ≡ w = let n = c.0 in let u = c.1 in omega arith in
-          ((rd_small, rs1_small, c.2 _ between), ap (λ k. i_word 0x13 (rd_of w) (imm_code op) (rs1_of w) (imm_upper op * 2 ^ 5 + k)) low ∙ back))
+      let between : IsBetween (pos 0) (pos 31) (pos (rs2_of w)) = (omega (arith, ints), omega (arith, ints)) in
+      let back : i_word 0x13 (rd_of w) (imm_code op) (rs1_of w) (imm_upper op * 2 ^ 5 + rs2_of w) ≡ w = let n = c.0 in let u = c.1 in omega arith in
+      ((rd_small, rs1_small, c.2 _ between), ap (λ k. i_word 0x13 (rd_of w) (imm_code op) (rs1_of w) (imm_upper op * 2 ^ 5 + k)) low ∙ back))
 
   imm : w % 2 ^ 7 ≡ 0x13 → IfSome (read_imm w) (IsOf w)
   imm o =

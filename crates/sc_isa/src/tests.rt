@@ -37,9 +37,21 @@ fn reads_as_an_assembler_writes(rt: HostRuntime) -> Result<(), NoMemory> {
 // The order of the bytes, and the first two words of a stub.
 #[test]
 fn has_these_bytes(rt: HostRuntime) {
-    assert_eq!(rt; encode(Instr::Imm(ImmOp::Addi, 5, 0, 1)).to_le_bytes(), [0x93, 0x02, 0x10, 0x00]);
-    assert_eq!(rt; encode(Instr::Ecall).to_le_bytes(), [0x73, 0x00, 0x00, 0x00]);
-    assert_eq!(rt; encode(Instr::Lui(6, 257)).to_le_bytes(), [0x37, 0x13, 0x10, 0x00]);
-    assert_eq!(rt; encode(Instr::Jalr(0, 6, -2016)).to_le_bytes(), [0x67, 0x00, 0x03, 0x82]);
+    assert_eq!(rt;
+        encode(Instr::Imm(ImmOp::Addi, 5, 0, 1)).to_le_bytes(),
+        [0x93, 0x02, 0x10, 0x00]
+    );
+    assert_eq!(rt;
+        encode(Instr::Ecall).to_le_bytes(),
+        [0x73, 0x00, 0x00, 0x00]
+    );
+    assert_eq!(rt;
+        encode(Instr::Lui(6, 257)).to_le_bytes(),
+        [0x37, 0x13, 0x10, 0x00]
+    );
+    assert_eq!(rt;
+        encode(Instr::Jalr(0, 6, -2016)).to_le_bytes(),
+        [0x67, 0x00, 0x03, 0x82]
+    );
     assert!(rt; decode(0).is_none());
 }

@@ -1,5 +1,5 @@
 -- What the opcode tells of all words but two.
-use Rattle.std.proofs.Common.{◌≡◌, ℕ, ◌∙◌, sym, arith}
+use Rattle.std.proofs.Common.{◌∙◌, arith}
 use Rattle.sc_isa.proofs.Complete.{complete}
 use Rattle.sc_isa.proofs.Sound.{sound}
 use Rattle.sc_isa.proofs.decoding.decode.Goals as goal
