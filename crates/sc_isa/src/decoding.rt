@@ -6,7 +6,8 @@ ghost use Rattle.sc_isa.specs.Reading.{rd_of, funct3_of, rs1_of, rs2_of, funct7_
 
 use crate::{BranchOp, ImmOp, Instr, LoadOp, RegOp, StoreOp};
 
-/// The instruction of a word, or `None` where the table has no such word.
+/// The instruction of a word (RISC-V unprivileged manual, 2.2 and 2.3). `None` says that no instruction of `Instr` has this word,
+/// as for other fences, the system's instructions and other extensions. Undoes `encode`, and `encode` undoes it.
 pub fn decode(w: u32) -> Option<Instr>
     ensures sound { IfSome result (λ i. IsSound i × (word_of i ≡ w)) }
     ensures complete { (i : Instruction) → IsSound i → word_of i ≡ w → result ≡ Some i }
