@@ -163,7 +163,6 @@ complete (Jal rd z) w s e n m = jal w rd (low_bits 21 z) z e s.0 (omega arith) (
 complete (Jalr rd rs1 z) w s e n m = from_jalr w rd 0 rs1 (low_bits 12 z) s.0 (omega arith) s.1 (omega arith) z e refl (extend_short z s.2)
 complete (Branch op rs1 rs2 z) w s e n m =
     let c = branch_op_of op in
-    let v : ℕ = low_bits 13 z in
     from_branch w _ (branch_code op) rs1 rs2 _ (omega arith) c.0 s.0 s.1 (omega arith) op z e c.1 (ap (extend (2 ^ 12)) (branch_bits_is (low_bits 13 z) (omega arith) (omega arith)) ∙ extend_branch z s.2)
 complete (Load op rd rs1 z) w s e n m =
     let c = load_op_of op in

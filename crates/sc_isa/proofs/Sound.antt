@@ -145,7 +145,6 @@ module _ (w : ℕ) (h : w < 2 ^ 32) where
 
   jal : w % 2 ^ 7 ≡ 0x6f → IsOf w (Jal (rd_of w) (extend (2 ^ 20) (jump_bits (w / 2 ^ 12))))
   jal o =
-      let n : ℕ = jump_bits (w / 2 ^ 12) in
       let small : jump_bits (w / 2 ^ 12) < 2 ^ 21 = omega arith in
       let even : jump_bits (w / 2 ^ 12) % 2 ≡ 0 = omega arith in
       let low = low_jump (jump_bits (w / 2 ^ 12)) small in

@@ -1,4 +1,4 @@
-// Words that an assembler gives, and the words of the manual's own kind that the table does not have.
+// Words that an assembler gives, some of them of instructions that the table does not have.
 mod table;
 
 use crate::{ImmOp, Instr, decode, encode};
