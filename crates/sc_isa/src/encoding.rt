@@ -4,7 +4,8 @@ ghost use Rattle.sc_isa.specs.Table.{word_of, IsSound, IsImmediate, r_word, i_wo
 
 use crate::{BranchOp, ImmOp, Instr, LoadOp, RegOp, StoreOp};
 
-/// The word of an instruction whose numbers fit their fields.
+/// The word of an instruction whose numbers fit their fields (RISC-V unprivileged manual, 2.2 and 2.3): registers below 32,
+/// an upper number below 2^20, even offsets of 13 bits in a branch and 21 in a jump, counts of shifts from 0 to 31, else 12 bits.
 pub fn encode(i: Instr) -> u32
     requires { IsSound i }
     ensures { result ≡ word_of i }

@@ -1,5 +1,6 @@
 // The instructions (RISC-V unprivileged manual: RV32I and the extension M).
 
+/// The conditions of a branch: equal, not equal, less, not less, and the last two on unsigned numbers (RV32I, conditional branches).
 #[derive(Clone, Copy, Debug, PartialEq, Eq)]
 pub enum BranchOp {
     Beq,
@@ -10,6 +11,7 @@ pub enum BranchOp {
     Bgeu,
 }
 
+/// What a load reads: a byte, a half word or a word with its sign, and a byte or a half word without (RV32I, load and store).
 #[derive(Clone, Copy, Debug, PartialEq, Eq)]
 pub enum LoadOp {
     Lb,
@@ -19,6 +21,7 @@ pub enum LoadOp {
     Lhu,
 }
 
+/// What a store writes: a byte, a half word or a word (RV32I, load and store).
 #[derive(Clone, Copy, Debug, PartialEq, Eq)]
 pub enum StoreOp {
     Sb,
@@ -26,6 +29,7 @@ pub enum StoreOp {
     Sw,
 }
 
+/// Operations with a constant: 12 bits with their sign, and for the three shifts a count from 0 to 31 (RV32I, register-immediate).
 #[derive(Clone, Copy, Debug, PartialEq, Eq)]
 pub enum ImmOp {
     Addi,
@@ -39,6 +43,7 @@ pub enum ImmOp {
     Andi,
 }
 
+/// Operations on two registers (RV32I, register-register), the last eight of them of the extension M.
 #[derive(Clone, Copy, Debug, PartialEq, Eq)]
 pub enum RegOp {
     Add,
