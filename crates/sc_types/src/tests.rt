@@ -29,7 +29,8 @@ fn function(
         params,
         variadic,
     };
-    Ok(CType::Function(Shared::new(alloc, signature)?))
+    let copy = signature.copy(alloc)?;
+    Ok(CType::Function(Shared::new(alloc, copy)?))
 }
 
 // A function that gives int.
