@@ -1,5 +1,5 @@
 // One memory: its cells by address, its objects by number, and its heap.
-ghost use Rattle.std.specs.Prelude.{◌≡◌, ◌⊎◌, ◌↔◌, ℕ, ◌+◌, ◌-◌, ◌<◌, ◌≤◌, length, OnErr, Err, [], replicate, IfOk, MatchOption, MatchResult, IsSome, Some, None};
+ghost use Rattle.std.specs.Prelude.{◌≡◌, ◌⊎◌, ◌↔◌, ℕ, ◌+◌, ◌-◌, ◌<◌, ◌≤◌, length, OnErr, Err, [], replicate, IfOk, MatchOption, MatchResult, IsSome, Some, None, pos};
 ghost use Rattle.sc_base.specs.declared.note.Note.TheVariants.{Put, Birth, Death, Copy};
 ghost use Rattle.sc_base.specs.declared.memory.Cell.TheVariants.{Unwritten};
 ghost use Rattle.sc_mem.specs.Words.{IsSize};
@@ -8,6 +8,7 @@ ghost use Rattle.sc_objects.specs.Numbered.{IsLive};
 
 use crate::access::{constant, reach, rule_in};
 use crate::areas::{HEAP, STATIC_BYTES, place};
+use crate::arithmetic::moved;
 use crate::words::{load_word, store_word};
 use sc_base::{Kind, NoMemory, Rule, Word};
 use sc_cells::Cells;
@@ -124,7 +125,7 @@ impl Memory {
 impl Memory {
     ghost use Rattle.sc_mem.specs.Flat.{Flat, apply, cells_at};
     ghost use Rattle.sc_mem.specs.Words.{word_of};
-    ghost use Rattle.sc_mem.specs.Violations.{copy_rule, load_rule, store_rule};
+    ghost use Rattle.sc_mem.specs.Violations.{copy_rule, load_rule, shift_rule, store_rule, target};
 
     /// A checked load of 1, 2 or 4 bytes through a pointer, of a pointer or of a number: the first of U4, U3, U2,
     /// U10, U1 and U15 that it breaks, else what the bytes hold.
@@ -146,6 +147,33 @@ impl Memory {
         match rule_in(&self.cells, i, size, pointer) {
             Some(rule) => Err(rule),
             None => Ok(load_word(&self.cells, i, size)),
+        }
+    }
+
+    /// A pointer plus `n` elements of `size` bytes: the first of U15, U3 and U5 that it breaks, else the pointer to
+    /// that place, in the same object. Null plus 0 is null.
+    pub fn shift(&self, p: Word, n: i64, size: u32) -> Result<Word, Rule>
+        ensures { MatchResult result (λ w. (shift_rule self.now.flat p n size ≡ None) × (pos w.bits ≡ target p n size) × (w.tag ≡ p.tag)) (λ rule. shift_rule self.now.flat p n size ≡ Some rule) }
+    {
+        let objects = &self.objects;
+        if p.tag == 0 {
+            return if p.bits != 0 {
+                Err(Rule::U15)
+            } else if n != 0 {
+                Err(Rule::U5)
+            } else {
+                Ok(p)
+            };
+        }
+        let Some(object) = objects.find(p.tag) else {
+            return Err(Rule::U5);
+        };
+        if !object.live {
+            return Err(Rule::U3);
+        }
+        match moved(p, n, size, object.base, object.size) {
+            Some(bits) => Ok(Word { bits, tag: p.tag }),
+            None => Err(Rule::U5),
         }
     }
 
