@@ -1,5 +1,5 @@
 // One memory: its cells by address, its objects by number, and its heap.
-ghost use Rattle.std.specs.Prelude.{◌≡◌, ◌⊎◌, ◌↔◌, ℕ, ◌+◌, ◌-◌, ◌<◌, ◌≤◌, length, OnErr, Err, [], replicate, IfOk, MatchOption, MatchResult, IsSome, Some, None, pos};
+ghost use Rattle.std.specs.Prelude.{◌≡◌, ◌⊎◌, ◌↔◌, ℕ, ◌+◌, ◌-◌, ◌<◌, ◌≤◌, length, OnErr, Err, [], replicate, IfOk, MatchOption, MatchResult, IfSome, IsSome, Some, None, pos};
 ghost use Rattle.sc_base.specs.declared.note.Note.TheVariants.{Put, Birth, Death, Copy};
 ghost use Rattle.sc_base.specs.declared.memory.Cell.TheVariants.{Unwritten};
 ghost use Rattle.sc_mem.specs.Words.{IsSize};
@@ -116,7 +116,8 @@ impl Memory {
 
     /// The number of the one live object with `base <= address <= base + size`.
     pub fn at(&self, address: u32) -> Option<u32>
-        ensures { IsObjectAt self.now.flat.objects address result }
+        ensures object { IsObjectAt self.now.flat.objects address result }
+        ensures safe { IsSafe self.now }
     {
         self.objects.at(address)
     }
@@ -244,10 +245,10 @@ impl Memory {
 }
 
 impl Memory {
-    ghost use Rattle.sc_objects.specs.Numbered.{IsClear};
-    ghost use Rattle.sc_objects.specs.Blocks.{class_at, given};
+    ghost use Rattle.sc_objects.specs.Numbered.{IsClear, object_of};
+    ghost use Rattle.sc_objects.specs.Blocks.{KeepsTaken, class_at, given};
     ghost use Rattle.sc_mem.specs.Flat.{Flat, apply, place as place_of};
-    ghost use Rattle.sc_mem.specs.Safe.{IsBare, IsSafe, Stands, TakesAt};
+    ghost use Rattle.sc_mem.specs.Safe.{IsAllocated, IsBare, IsReady, IsReleased, IsSafe, Stands, TakesAt};
 
     /// A new live object, by its number, as the note `Birth` does it: its cells are unwritten. It lies in an area with
     /// a byte between it and every live object, an allocated one at the start of a taken block and with a byte of the
@@ -272,20 +273,24 @@ impl Memory {
         }
     }
 
-    /// Ends the life of a live object, as the note `Death` does it. It takes no memory.
+    /// Ends the life of a live object, as the note `Death` does it. The block of an allocated one can be given back
+    /// then. It takes no memory.
     pub fn death(&mut self, id: u32)
         requires { (o : Obj) × IsLive self.old.flat.objects id o }
         ensures flat { self.new.flat ≡ apply self.old.flat (Death id) }
         ensures blocks { self.new.blocks ≡ self.old.blocks }
+        ensures released { (o : Obj) → object_of self.old.flat.objects id ≡ Some o → IsAllocated o → IsReleased self.new o.base }
     {
         self.objects.death(id);
     }
 
-    /// The address of a heap block for `n` bytes: `None` exactly where the heap has none. Where memory runs out
-    /// all is as before.
+    /// The address of a heap block for `n` bytes, in which an allocated object of `n` bytes can be born: `None` exactly
+    /// where the heap has none. All blocks that were taken still are. Where memory runs out all is as before.
     pub fn take(&mut self, n: u32) -> Result<Option<u32>, NoMemory>
         requires { 0 < n }
         ensures taken { MatchResult result (λ got. TakesAt self.old.blocks n got self.new.blocks) (λ _. self.new.blocks ≡ self.old.blocks) }
+        ensures ready { IfOk result (λ got. IfSome got (λ base. IsReady self.new base n)) }
+        ensures keeps { KeepsTaken self.old.blocks self.new.blocks }
         ensures flat { self.new.flat ≡ self.old.flat }
     {
         match self.heap.take(n) {
