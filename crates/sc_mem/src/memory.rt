@@ -248,7 +248,7 @@ impl Memory {
     ghost use Rattle.sc_objects.specs.Numbered.{IsClear, object_of};
     ghost use Rattle.sc_objects.specs.Blocks.{KeepsTaken, class_at, given};
     ghost use Rattle.sc_mem.specs.Flat.{Flat, apply, place as place_of};
-    ghost use Rattle.sc_mem.specs.Safe.{IsAllocated, IsBare, IsReady, IsReleased, IsSafe, Stands, TakesAt};
+    ghost use Rattle.sc_mem.specs.Safe.{IsAllocated, IsReady, IsReleased, IsSafe, Stands, TakesAt};
 
     /// A new live object, by its number, as the note `Birth` does it: its cells are unwritten. It lies in an area with
     /// a byte between it and every live object, an allocated one at the start of a taken block and with a byte of the
@@ -302,9 +302,7 @@ impl Memory {
 
     /// Gives back the taken block at an address, in which no live object is. It takes no memory.
     pub fn give(&mut self, base: u32)
-        requires heap { 0x10000000 ≤ base }
-        requires taken { IsSome (class_at self.old.blocks (base - 0x10000000)) }
-        requires bare { IsBare self.old base }
+        requires { IsReleased self.old base }
         ensures given { (k : ℕ) × (class_at self.old.blocks (base - 0x10000000) ≡ Some k) × (self.new.blocks ≡ given self.old.blocks (base - 0x10000000) k) }
         ensures flat { self.new.flat ≡ self.old.flat }
     {
