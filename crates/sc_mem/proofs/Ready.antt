@@ -54,7 +54,7 @@ ready-taken heap stack cells objects old new n k place s t class takes here =
     let there : class_at new (0x10000000 + place - 0x10000000) ≡ Some k = rw at here in
     let inside : place + block_size k ≤ old.bytes = omega arith in
     let out : (id : ℕ) (o : Obj) → IsLive objects id o → (o.base + o.size < 0x10000000 + place) ⊎ (0x10000000 + place + block_size k ≤ o.base) =
-        λ id o live. outside-block old o.kind o.base o.size place k inside (λ j other kind low. apart-taken old new k place (o.base - 0x10000000) j s.tiled takes other) (s.stands id o live) in
+    λ id o live. outside-block old o.kind o.base o.size place k inside (λ j other kind low. apart-taken old new k place (o.base - 0x10000000) j s.tiled takes other) (s.stands id o live) in
     record {
       clear = λ id o live. elim (out id o live) [ inl l ↦ inl l | inr l ↦ inr (omega arith) ];
       area = heap-place heap stack place n most (omega arith);
@@ -77,10 +77,10 @@ released-ended heap stack cells objects b id o s live kind =
           let u = s.tiled.within in
           let inside : place + block_size k ≤ b.bytes = omega arith in
           let out = outside-block b p.kind p.base p.size place k inside
-              (λ j here heap low. elim (s.tiled.taken_apart (p.base - 0x10000000) place j k here there) [
-                | inl e ↦ absurd (let high = stands.0 in let e' : p.base - 0x10000000 ≡ o.base - 0x10000000 = e in elim clash [ inl l ↦ omega arith | inr l ↦ omega arith ])
-                | inr l ↦ l
-              ]) (s.stands other p old.1) in
+          (λ j here heap low. elim (s.tiled.taken_apart (p.base - 0x10000000) place j k here there) [
+            | inl e ↦ absurd (let high = stands.0 in let e' : p.base - 0x10000000 ≡ o.base - 0x10000000 = e in elim clash [ inl l ↦ omega arith | inr l ↦ omega arith ])
+            | inr l ↦ l
+          ]) (s.stands other p old.1) in
           subst (λ (x : ℕ). (p.base + p.size < x) ⊎ (x + block_size k ≤ p.base)) at out;
     }
 

@@ -16,7 +16,7 @@ pub returns-clause-released : goal.returns-clause-released
 returns-clause-released c =
     let s = c.self.inside in
     λ o there heap.
-        let live = subst (λ (v : Store). IsLive v.flat.objects c.args.id c.requires.0) (sym c.self.view_is) c.requires.1 in
-        let here : object_of s.objects c.args.id ≡ Some o = subst (λ (v : Store). object_of v.flat.objects c.args.id ≡ Some o) (sym c.self.view_is) there in
-        let same : c.requires.0 ≡ o = (let e : Some c.requires.0 ≡ Some o = sym live.0 ∙ here in cc) in
-        rw c.death.ensures (released-ended s.heap_bytes s.stack s.cells s.objects s.heap c.args.id o c.self.invariant (subst (λ (p : Obj). IsLive s.objects c.args.id p) same live) heap)
+    let live = subst (λ (v : Store). IsLive v.flat.objects c.args.id c.requires.0) (sym c.self.view_is) c.requires.1 in
+    let here : object_of s.objects c.args.id ≡ Some o = subst (λ (v : Store). object_of v.flat.objects c.args.id ≡ Some o) (sym c.self.view_is) there in
+    let same : c.requires.0 ≡ o = (let e : Some c.requires.0 ≡ Some o = sym live.0 ∙ here in cc) in
+    rw c.death.ensures (released-ended s.heap_bytes s.stack s.cells s.objects s.heap c.args.id o c.self.invariant (subst (λ (p : Obj). IsLive s.objects c.args.id p) same live) heap)
