@@ -1,21 +1,19 @@
 -- Blocks in which an object can be born, and blocks that can be given back.
-use Rattle.std.proofs.Common.{◌≡◌, ◌≢◌, ◌⊎◌, inl, inr, ℕ, ◌+◌, ◌-◌, ◌<◌, ◌≤◌, List, ◌++◌, ◌∷◌, [], length, refl, sym, ap, subst, ◌∙◌, Option, Some, None, Result, Ok, Err, true, arith}
+use Rattle.std.proofs.Common.{◌≡◌, ◌⊎◌, inl, inr, ℕ, ◌+◌, ◌-◌, ◌<◌, ◌≤◌, List, length, refl, sym, ap, subst, ◌∙◌, Option, Some, None, Result, Ok, Err, arith}
 use Rattle.std.proofs.lemmas.Bool.Decides.{nat_tests}
 use Rattle.std.specs.Option.{IsSome}
-use Rattle.std.specs.List.{slice_get}
 use Rattle.std.specs.Prelude.{MatchResult, IfOk, IfSome}
 use Rattle.sc_base.specs.declared.NoMemory.{NoMemory}
 use Rattle.sc_base.specs.declared.memory.Cell.{Cell}
 use Rattle.sc_base.specs.declared.memory.Kind.{Kind}
 use Rattle.sc_base.specs.declared.memory.Kind.TheVariants.{Static, Const, Literal, Auto, Heap}
 use Rattle.sc_objects.specs.declared.objects.Obj.{Obj}
-use Rattle.sc_objects.specs.Numbered.{IsLive, IsClear, Apart, ended}
-use Rattle.sc_objects.specs.Blocks.{Blocks, Disjoint, IsClass, IsTiled, Takes, block_size, class_at, free_of}
+use Rattle.sc_objects.specs.Numbered.{IsLive, ended}
+use Rattle.sc_objects.specs.Blocks.{Blocks, Disjoint, IsClass, IsTiled, Takes, block_size, class_at}
 use Rattle.sc_objects.proofs.Births.{live-ended}
 use Rattle.sc_objects.proofs.Lists.{slice_get-last}
-use Rattle.sc_objects.proofs.Tiles.{size_above}
 use Rattle.sc_mem.specs.Flat.{place_in}
-use Rattle.sc_mem.specs.Safe.{Stands, IsSafe, IsBare, IsReady, IsReleased, store_of}
+use Rattle.sc_mem.specs.Safe.{Stands, IsSafe, IsReady, IsReleased, store_of}
 use Rattle.sc_mem.proofs.Kept.{takes-bytes}
 
 -- where the start of one block of the heap is, of another's, and an object's end

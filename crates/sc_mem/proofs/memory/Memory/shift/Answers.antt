@@ -1,4 +1,4 @@
-use Rattle.std.proofs.Common.{◌≡◌, true, rules, arith}
+use Rattle.std.proofs.Common.{rules, arith}
 use Rattle.sc_objects.specs.Numbered.{IsLive}
 use Rattle.sc_mem.proofs.Rules.{place-end}
 use Rattle.sc_mem.proofs.memory.Memory.shift.Goals as goal
