@@ -39,11 +39,14 @@ fn raw_accesses(rt: HostRuntime) -> Result<(), Fail> {
     ] {
         assert_eq!(rt; m.raw_load(at, 1), Some(word(want, 0)), "{at}");
     }
-    assert_eq!(rt; m.raw_load(0x1FFFFFFA, 2), Some(word(0x1020, 0)));
-    assert_eq!(rt; m.raw_copy(0x10000001, 0x1FFFFFF8, 4), Some(()));
-    assert_eq!(rt; m.raw_copy(0x10000010, 0x10000001, 4), Some(()));
+    for (to, from, want) in [
+        (0x10000001, 0x1FFFFFF8, Some(())),
+        (0x10000010, 0x10000001, Some(())),
+        (0x10000010, 0x1000007D, None),
+    ] {
+        assert_eq!(rt; m.raw_copy(to, from, 4), want, "{to} {from}");
+    }
     assert_eq!(rt; m.raw_load(0x10000010, 4), Some(word(0x10203040, 3)));
-    assert_eq!(rt; m.raw_copy(0x10000004, 0x1000007D, 4), None);
     assert_eq!(rt; m.raw_store(0x10000010, 1, word(7, 3)), Some(()));
     assert_eq!(rt; m.raw_load(0x10000010, 4), Some(word(0x10203007, 0)));
     Ok(())
@@ -84,12 +87,7 @@ fn free(m: &mut Memory, id: u32) -> bool {
 #[test]
 fn the_heap_by_addresses(rt: HostRuntime) -> Result<(), Fail> {
     let mut m = small(rt.alloc())?;
-    for (freed, want) in [
-        (false, Some(1)),
-        (false, None),
-        (true, Some(2)),
-        (true, None),
-    ] {
+    for (freed, want) in [(false, Some(1)), (true, Some(2)), (false, None)] {
         assert_eq!(rt; free(&mut m, 1), freed);
         assert_eq!(rt; allocate(&mut m, 100)?, want);
     }
