@@ -4,7 +4,7 @@ use Rattle.sc_base.specs.declared.memory.Cell.{Cell}
 use Rattle.sc_base.specs.declared.memory.Kind.{Kind}
 use Rattle.sc_base.specs.declared.memory.Kind.TheVariants.{Heap}
 use Rattle.sc_objects.specs.declared.objects.Obj.{Obj}
-use Rattle.sc_objects.specs.Numbered.{IsLive, AreApart}
+use Rattle.sc_objects.specs.Numbered.{IsLive, IsClear, AreApart}
 use Rattle.sc_objects.specs.Blocks.{Blocks, IsClass, IsTiled, Takes, block_size, class_at}
 use Rattle.sc_mem.specs.Flat.{Flat, place}
 
@@ -42,3 +42,19 @@ TakesAt old n got new = (k : ℕ) × (block : Option ℕ) × IsClass n k × Take
 -- no live object is in the taken block at an address
 abbrev pub IsBare : Store → ℕ → Type 0
 IsBare s base = (k id : ℕ) (o : Obj) → class_at s.blocks (base - 0x10000000) ≡ Some k → IsLive s.flat.objects id o → (o.base + o.size < base) ⊎ (base + block_size k ≤ o.base)
+
+-- an allocated object of n bytes can be born at an address, at the start of a taken block in which no live object is
+pub record IsReady (s : Store) (base n : ℕ) : Type 0 where
+  pub clear : IsClear s.flat.objects base n
+  pub area : IsSome (place s.flat base n)
+  pub stands : Stands s.blocks Heap base n
+  pub bare : IsBare s base
+
+abbrev pub IsAllocated : Obj → Type 0
+IsAllocated o = o.kind ≡ Heap
+
+-- the block at an address can be given back: it is taken, and no live object is in it
+pub record IsReleased (s : Store) (base : ℕ) : Type 0 where
+  pub heap : 0x10000000 ≤ base
+  pub taken : IsSome (class_at s.blocks (base - 0x10000000))
+  pub bare : IsBare s base

@@ -91,11 +91,16 @@ is_number p = (p.tag == 0) && not (p.bits == 0)
 abbrev pub target : Word → ℤ → ℕ → ℤ
 target p n size = pos p.bits +ℤ n *ℤ pos size
 
--- U5: pointer plus n is below its object or past its end, or n is not 0 and the pointer null
+-- a place is below an object's base or past its end
+abbrev pub is_beyond : ℕ → ℕ → ℤ → Bool
+is_beyond base size place = int_lt place (pos base) || int_lt (pos (base + size)) place
+
+-- U5: pointer plus n is below its object or past its end, or n is not 0 and the pointer null. A function's pointer
+-- has no object that the result could be in
 abbrev pub leaves_object : List Obj → Word → ℤ → ℕ → Bool
 leaves_object objects p n size =
     if is_null p then not (int_eq n (pos 0))
-    else of_object true (λ o. int_lt (target p n size) (pos o.base) || int_lt (pos (o.base + o.size)) (target p n size)) (object_of objects p.tag)
+    else of_object true (λ o. is_beyond o.base o.size (target p n size)) (object_of objects p.tag)
 
 -- the rule that pointer plus n breaks
 abbrev pub shift_rule : Flat → Word → ℤ → ℕ → Option Rule

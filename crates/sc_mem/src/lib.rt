@@ -3,6 +3,7 @@
 
 mod access;
 mod areas;
+mod arithmetic;
 mod memory;
 mod words;
 

@@ -1,5 +1,5 @@
 // One memory: its cells by address, its objects by number, and its heap.
-ghost use Rattle.std.specs.Prelude.{◌≡◌, ◌⊎◌, ◌↔◌, ℕ, ◌+◌, ◌-◌, ◌<◌, ◌≤◌, length, OnErr, Err, [], replicate, IfOk, MatchOption, MatchResult, IsSome, Some, None};
+ghost use Rattle.std.specs.Prelude.{◌≡◌, ◌⊎◌, ◌↔◌, ℕ, ◌+◌, ◌-◌, ◌<◌, ◌≤◌, length, OnErr, Err, [], replicate, IfOk, MatchOption, MatchResult, IfSome, IsSome, Some, None, pos};
 ghost use Rattle.sc_base.specs.declared.note.Note.TheVariants.{Put, Birth, Death, Copy};
 ghost use Rattle.sc_base.specs.declared.memory.Cell.TheVariants.{Unwritten};
 ghost use Rattle.sc_mem.specs.Words.{IsSize};
@@ -8,6 +8,7 @@ ghost use Rattle.sc_objects.specs.Numbered.{IsLive};
 
 use crate::access::{constant, reach, rule_in};
 use crate::areas::{HEAP, STATIC_BYTES, place};
+use crate::arithmetic::moved;
 use crate::words::{load_word, store_word};
 use sc_base::{Kind, NoMemory, Rule, Word};
 use sc_cells::Cells;
@@ -115,7 +116,8 @@ impl Memory {
 
     /// The number of the one live object with `base <= address <= base + size`.
     pub fn at(&self, address: u32) -> Option<u32>
-        ensures { IsObjectAt self.now.flat.objects address result }
+        ensures object { IsObjectAt self.now.flat.objects address result }
+        ensures safe { IsSafe self.now }
     {
         self.objects.at(address)
     }
@@ -124,7 +126,7 @@ impl Memory {
 impl Memory {
     ghost use Rattle.sc_mem.specs.Flat.{Flat, apply, cells_at};
     ghost use Rattle.sc_mem.specs.Words.{word_of};
-    ghost use Rattle.sc_mem.specs.Violations.{copy_rule, load_rule, store_rule};
+    ghost use Rattle.sc_mem.specs.Violations.{copy_rule, load_rule, shift_rule, store_rule, target};
 
     /// A checked load of 1, 2 or 4 bytes through a pointer, of a pointer or of a number: the first of U4, U3, U2,
     /// U10, U1 and U15 that it breaks, else what the bytes hold.
@@ -146,6 +148,33 @@ impl Memory {
         match rule_in(&self.cells, i, size, pointer) {
             Some(rule) => Err(rule),
             None => Ok(load_word(&self.cells, i, size)),
+        }
+    }
+
+    /// A pointer plus `n` elements of `size` bytes: the first of U15, U3 and U5 that it breaks, else the pointer to
+    /// that place, in the same object. Null plus 0 is null.
+    pub fn shift(&self, p: Word, n: i64, size: u32) -> Result<Word, Rule>
+        ensures { MatchResult result (λ w. (shift_rule self.now.flat p n size ≡ None) × (pos w.bits ≡ target p n size) × (w.tag ≡ p.tag)) (λ rule. shift_rule self.now.flat p n size ≡ Some rule) }
+    {
+        let objects = &self.objects;
+        if p.tag == 0 {
+            return if p.bits != 0 {
+                Err(Rule::U15)
+            } else if n != 0 {
+                Err(Rule::U5)
+            } else {
+                Ok(p)
+            };
+        }
+        let Some(object) = objects.find(p.tag) else {
+            return Err(Rule::U5);
+        };
+        if !object.live {
+            return Err(Rule::U3);
+        }
+        match moved(p, n, size, object.base, object.size) {
+            Some(bits) => Ok(Word { bits, tag: p.tag }),
+            None => Err(Rule::U5),
         }
     }
 
@@ -216,10 +245,10 @@ impl Memory {
 }
 
 impl Memory {
-    ghost use Rattle.sc_objects.specs.Numbered.{IsClear};
-    ghost use Rattle.sc_objects.specs.Blocks.{class_at, given};
+    ghost use Rattle.sc_objects.specs.Numbered.{IsClear, object_of};
+    ghost use Rattle.sc_objects.specs.Blocks.{KeepsTaken, class_at, given};
     ghost use Rattle.sc_mem.specs.Flat.{Flat, apply, place as place_of};
-    ghost use Rattle.sc_mem.specs.Safe.{IsBare, IsSafe, Stands, TakesAt};
+    ghost use Rattle.sc_mem.specs.Safe.{IsAllocated, IsReady, IsReleased, IsSafe, Stands, TakesAt};
 
     /// A new live object, by its number, as the note `Birth` does it: its cells are unwritten. It lies in an area with
     /// a byte between it and every live object, an allocated one at the start of a taken block and with a byte of the
@@ -244,20 +273,24 @@ impl Memory {
         }
     }
 
-    /// Ends the life of a live object, as the note `Death` does it. It takes no memory.
+    /// Ends the life of a live object, as the note `Death` does it. The block of an allocated one can be given back
+    /// then. It takes no memory.
     pub fn death(&mut self, id: u32)
         requires { (o : Obj) × IsLive self.old.flat.objects id o }
         ensures flat { self.new.flat ≡ apply self.old.flat (Death id) }
         ensures blocks { self.new.blocks ≡ self.old.blocks }
+        ensures released { (o : Obj) → object_of self.old.flat.objects id ≡ Some o → IsAllocated o → IsReleased self.new o.base }
     {
         self.objects.death(id);
     }
 
-    /// The address of a heap block for `n` bytes: `None` exactly where the heap has none. Where memory runs out
-    /// all is as before.
+    /// The address of a heap block for `n` bytes, in which an allocated object of `n` bytes can be born: `None` exactly
+    /// where the heap has none. All blocks that were taken still are. Where memory runs out all is as before.
     pub fn take(&mut self, n: u32) -> Result<Option<u32>, NoMemory>
         requires { 0 < n }
         ensures taken { MatchResult result (λ got. TakesAt self.old.blocks n got self.new.blocks) (λ _. self.new.blocks ≡ self.old.blocks) }
+        ensures ready { IfOk result (λ got. IfSome got (λ base. IsReady self.new base n)) }
+        ensures keeps { KeepsTaken self.old.blocks self.new.blocks }
         ensures flat { self.new.flat ≡ self.old.flat }
     {
         match self.heap.take(n) {
@@ -269,9 +302,7 @@ impl Memory {
 
     /// Gives back the taken block at an address, in which no live object is. It takes no memory.
     pub fn give(&mut self, base: u32)
-        requires heap { 0x10000000 ≤ base }
-        requires taken { IsSome (class_at self.old.blocks (base - 0x10000000)) }
-        requires bare { IsBare self.old base }
+        requires { IsReleased self.old base }
         ensures given { (k : ℕ) × (class_at self.old.blocks (base - 0x10000000) ≡ Some k) × (self.new.blocks ≡ given self.old.blocks (base - 0x10000000) k) }
         ensures flat { self.new.flat ≡ self.old.flat }
     {

@@ -1,9 +1,6 @@
 // Accesses to a memory with 4,096 bytes of stack and 128 of heap, against values worked out by hand.
-ghost use Rattle.std.specs.Prelude.{◌≡◌, [], IfOk};
-
 use crate::Memory;
 use sc_base::{Kind, NoMemory, Rule, Word};
-use sc_objects::BirthFault;
 use std::alloc::Global;
 use std::test::Fail;
 
@@ -11,9 +8,7 @@ fn word(bits: u32, tag: u32) -> Word {
     Word { bits, tag }
 }
 
-fn small(alloc: Global) -> Result<Memory, NoMemory>
-    ensures { IfOk result (λ m. m.flat.objects ≡ []) }
-{
+fn small(alloc: Global) -> Result<Memory, NoMemory> {
     Memory::new(alloc, 4096, 128)
 }
 
@@ -44,55 +39,126 @@ fn raw_accesses(rt: HostRuntime) -> Result<(), Fail> {
     ] {
         assert_eq!(rt; m.raw_load(at, 1), Some(word(want, 0)), "{at}");
     }
-    assert_eq!(rt; m.raw_load(0x1FFFFFFA, 2), Some(word(0x1020, 0)));
-    assert_eq!(rt; m.raw_copy(0x10000001, 0x1FFFFFF8, 4), Some(()));
-    assert_eq!(rt; m.raw_copy(0x10000010, 0x10000001, 4), Some(()));
+    for (to, from, want) in [
+        (0x10000001, 0x1FFFFFF8, Some(())),
+        (0x10000010, 0x10000001, Some(())),
+        (0x10000010, 0x1000007D, None),
+    ] {
+        assert_eq!(rt; m.raw_copy(to, from, 4), want, "{to} {from}");
+    }
     assert_eq!(rt; m.raw_load(0x10000010, 4), Some(word(0x10203040, 3)));
-    assert_eq!(rt; m.raw_copy(0x10000004, 0x1000007D, 4), None);
     assert_eq!(rt; m.raw_store(0x10000010, 1, word(7, 3)), Some(()));
     assert_eq!(rt; m.raw_load(0x10000010, 4), Some(word(0x10203007, 0)));
     Ok(())
 }
 
+// Allocates an object of at least four bytes, the first four of which are 5, 0, 0 and 0: its number, or none where the
+// heap has no block for it.
+fn allocate(m: &mut Memory, n: u32) -> Result<Option<u32>, Fail> {
+    if n < 4 {
+        return Ok(None);
+    }
+    let Some(base) = m.take(n)? else {
+        return Ok(None);
+    };
+    let Ok(id) = m.birth(n, Kind::Heap, base) else {
+        return Err(Fail::from("no memory"));
+    };
+    m.init(base, 4, word(5, 0));
+    Ok(Some(id))
+}
+
+// Frees an allocated object, if it lives.
+fn free(m: &mut Memory, id: u32) -> bool {
+    let Some(object) = m.find(id) else {
+        return false;
+    };
+    let Kind::Heap = object.kind else {
+        return false;
+    };
+    if !object.live {
+        return false;
+    }
+    m.death(id);
+    m.give(object.base);
+    true
+}
+
 #[test]
 fn the_heap_by_addresses(rt: HostRuntime) -> Result<(), Fail> {
     let mut m = small(rt.alloc())?;
-    assert_eq!(rt; m.take(100)?, Some(0x10000000));
-    assert_eq!(rt; m.take(100)?, None);
-    assert_eq!(rt; m.find(1), None);
-    assert_eq!(rt; m.at(0x10000000), None);
-    Ok(())
-}
-
-// Bears an object of 8 bytes at 0x08000000, of which only the first is written, without a test.
-fn bear_constant(m: &mut Memory) -> Result<(), BirthFault>
-    requires { m.old.flat.objects ≡ [] }
-{
-    let _ = m.birth(8, Kind::Const, 0x08000000)?;
-    let _ = m.raw_store(0x08000000, 1, word(5, 0));
+    for (freed, want) in [(false, Some(1)), (true, Some(2)), (false, None)] {
+        assert_eq!(rt; free(&mut m, 1), freed);
+        assert_eq!(rt; allocate(&mut m, 100)?, want);
+    }
+    for (address, want) in [
+        (0x0FFFFFFF, None),
+        (0x10000000, Some(2)),
+        (0x10000064, Some(2)),
+        (0x10000065, None),
+    ] {
+        assert_eq!(rt; m.at(address), want, "{address}");
+    }
+    assert_eq!(rt; m.find(3), None);
     Ok(())
 }
 
 #[test]
-fn checked_accesses(rt: HostRuntime) -> Result<(), Fail> {
+fn checked_loads(rt: HostRuntime) -> Result<(), Fail> {
     let mut m = small(rt.alloc())?;
-    bear_constant(&mut m)?;
-    for (bits, tag, size, want) in [
-        (0x08000000, 1, 1, Ok(word(5, 0))),
-        (0x08000001, 1, 1, Err(Rule::U1)),
-        (0x08000000, 1, 4, Err(Rule::U1)),
-        (0x08000002, 1, 4, Err(Rule::U10)),
-        (0x08000006, 1, 4, Err(Rule::U2)),
-        (0x07FFFFFF, 1, 1, Err(Rule::U2)),
-        (0x08000000, 0, 1, Err(Rule::U2)),
-        (0, 0, 1, Err(Rule::U4)),
+    assert_eq!(rt; allocate(&mut m, 8)?, Some(1));
+    for (bits, tag, want) in [
+        (0x10000000, 1, Ok(word(5, 0))),
+        (0x10000004, 1, Err(Rule::U1)),
+        (0x10000002, 1, Err(Rule::U10)),
+        (0x10000006, 1, Err(Rule::U2)),
+        (0x0FFFFFFF, 1, Err(Rule::U2)),
+        (0x10000000, 0, Err(Rule::U2)),
+        (0, 0, Err(Rule::U4)),
     ] {
-        let got = if size == 1 {
-            m.load(word(bits, tag), 1, false)
-        } else {
-            m.load(word(bits, tag), 4, false)
-        };
-        assert_eq!(rt; got, want, "{bits} {size}");
+        assert_eq!(rt; m.load(word(bits, tag), 4, false), want, "{bits} {tag}");
     }
+    Ok(())
+}
+
+#[test]
+fn stores_and_copies(rt: HostRuntime) -> Result<(), Fail> {
+    let mut m = small(rt.alloc())?;
+    let pointer = word(0x10000000, 1);
+    assert_eq!(rt; allocate(&mut m, 8)?, Some(1));
+    for (bits, want) in [
+        (0x10000004, Ok(())),
+        (0x10000006, Err(Rule::U2)),
+        (0x10000002, Err(Rule::U10)),
+    ] {
+        assert_eq!(rt; m.store(word(bits, 1), 4, pointer), want, "{bits}");
+    }
+    for (to, want) in [(0x10000000, Ok(())), (0x10000006, Err(Rule::U2))] {
+        assert_eq!(rt; m.copy(word(to, 1), word(0x10000004, 1), 4), want, "{to}");
+    }
+    for (as_pointer, want) in [(true, Ok(pointer)), (false, Err(Rule::U15))] {
+        assert_eq!(rt; m.load(pointer, 4, as_pointer), want);
+    }
+    Ok(())
+}
+
+#[test]
+fn pointer_arithmetic(rt: HostRuntime) -> Result<(), Fail> {
+    let mut m = small(rt.alloc())?;
+    assert_eq!(rt; allocate(&mut m, 8)?, Some(1));
+    for (bits, tag, n, size, want) in [
+        (0x10000000, 1, 2, 4, Ok(word(0x10000008, 1))),
+        (0x10000008, 1, -2, 4, Ok(word(0x10000000, 1))),
+        (0x10000000, 1, 9, 1, Err(Rule::U5)),
+        (0x10000000, 1, -1, 1, Err(Rule::U5)),
+        (0x10000000, 1, i64::MAX, u32::MAX, Err(Rule::U5)),
+        (0, 0, 0, 4, Ok(word(0, 0))),
+        (0, 0, 1, 4, Err(Rule::U5)),
+        (7, 0, 0, 4, Err(Rule::U15)),
+    ] {
+        assert_eq!(rt; m.shift(word(bits, tag), n, size), want, "{bits} {n}");
+    }
+    assert!(rt; free(&mut m, 1));
+    assert_eq!(rt; m.shift(word(0x10000000, 1), 0, 1), Err(Rule::U3));
     Ok(())
 }

@@ -132,6 +132,11 @@ moved-found bytes k used used' v w m now (Err e) h = tt
 moved-found bytes k used used' v w m now (Ok None) h = tt
 moved-found bytes k used used' v w m now (Ok (Some base)) h = rw h.1.1 refl
 
+pub moved-class : (bytes k n used used' : ℕ) (v w : Vec ℕ Global) (m now : BTreeMap ℕ ℕ) (got : Result (Option ℕ) NoMemory) → IsClass n k → Moves bytes k used v m used' w now got → IfOk got (λ (g : Option ℕ). IfSome g (λ base. (j : ℕ) × IsClass n j × (get nat_cmp now base ≡ Some j)))
+moved-class bytes k n used used' v w m now (Err e) class h = tt
+moved-class bytes k n used used' v w m now (Ok None) class h = tt
+moved-class bytes k n used used' v w m now (Ok (Some base)) class h = (k, class, h.1.1)
+
 pub moved-keeps : (bytes k used used' : ℕ) (v w : Vec ℕ Global) (m now : BTreeMap ℕ ℕ) (free : List (Vec ℕ Global)) (got : Result (Option ℕ) NoMemory) → IsKept bytes used m free → slice_get free k ≡ Some v → Moves bytes k used v m used' w now got → (q j : ℕ) → get nat_cmp m q ≡ Some j → get nat_cmp now q ≡ Some j
 moved-keeps bytes k used used' v w m now free (Err e) kept at h q j there = ap (λ (es : List (ℕ × ℕ)). lookup (is_at (nat_cmp q)) es) h.3 ∙ there
 moved-keeps bytes k used used' v w m now free (Ok None) kept at h q j there = ap (λ (es : List (ℕ × ℕ)). lookup (is_at (nat_cmp q)) es) h.0.3 ∙ there

@@ -60,6 +60,7 @@ impl Heap {
         requires { 0 < n }
         ensures taken { MatchResult result (λ got. (k : ℕ) × IsClass n k × Takes self.old k got self.new) (λ _. self.new ≡ self.old) }
         ensures found { IfOk result (λ got. IfSome got (λ base. IsSome (class_at self.new base))) }
+        ensures class { IfOk result (λ got. IfSome got (λ base. (k : ℕ) × IsClass n k × (class_at self.new base ≡ Some k))) }
         ensures keeps { KeepsTaken self.old self.new }
         ensures tiled { IsTiled self.old × IsTiled self.new }
     {
