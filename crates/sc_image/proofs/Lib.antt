@@ -1,2 +1,4 @@
 pub mod Find
+pub mod Indexed
+pub mod Listed
 pub mod Order
