@@ -1,5 +1,5 @@
 -- The look-ups of an image.
-use Rattle.std.specs.Prelude.{◌≡◌, ℕ, ◌+◌, ◌≤◌, ◌&&◌, Bool, nat_lt, if◌then◌else◌, List, length, Option, None, Some}
+use Rattle.std.specs.Prelude.{◌≡◌, ℕ, ◌+◌, ◌≤◌, ◌&&◌, Bool, nat_lt, if◌then◌else◌, List, [], length, Option, None, Some}
 use Rattle.std.specs.Option.{option_eq}
 use Rattle.std.specs.Str.{bytes_eq}
 use Rattle.std.specs.Map.{lookup}
@@ -34,9 +34,9 @@ function_of i k = lookup (key_eq k) (functions_of i)
 abbrev pub word_at : Image → ℕ → Option ℕ
 word_at i pc = if nat_lt pc 0x00100000 then stub_word (functions_of i) pc else text_word (texts_of i) pc
 
--- the text that holds an address
+-- the text that holds an address of the text area
 abbrev pub text_at : Image → ℕ → Option TextAt
-text_at i pc = place_of (text_holding (texts_of i) pc)
+text_at i pc = if nat_lt pc 0x00100000 then None else place_of (text_holding (texts_of i) pc)
 
 -- the function whose stub begins at an address
 abbrev pub key_of : Image → ℕ → Option Key
@@ -92,3 +92,11 @@ SameValues old new = (k : Key) → value_of new k ≡ value_of old k
 
 abbrev pub SameLiterals : Image → Image → Type 0
 SameLiterals old new = (at : ℕ) → literal_in new at ≡ literal_in old at
+
+-- nothing is found
+pub record IsBlank (i : Image) : Type 0 where
+  pub words : (pc : ℕ) → word_at i pc ≡ None
+  pub texts : (pc : ℕ) → text_at i pc ≡ None
+  pub functions : functions_of i ≡ []
+  pub values : (k : Key) → value_of i k ≡ None
+  pub literals : (at : ℕ) → literal_in i at ≡ None

@@ -1,5 +1,5 @@
 -- Stubs of functions, and addresses in two parts.
-use Rattle.std.specs.Prelude.{ℕ, ◌+◌, ◌-◌, ◌*◌, ◌/◌, ◌%◌, ◌^◌, ◌==◌, ◌&&◌, nat_lt, not, if◌then◌else◌, List, [], ◌∷◌, slice_get, Option, Some, None, ℤ, pos}
+use Rattle.std.specs.Prelude.{ℕ, zero, suc, Bool, true, false, ◌+◌, ◌-◌, ◌*◌, ◌/◌, ◌%◌, ◌^◌, ◌==◌, ◌&&◌, nat_lt, not, if◌then◌else◌, List, [], ◌∷◌, slice_get, Option, Some, None, ℤ, pos}
 use Rattle.std.specs.Option.{option_map}
 use Rattle.sc_base.specs.declared.key.Key.{Key}
 use Rattle.sc_isa.specs.declared.instruction.Instr.TheVariants.{Lui, Jalr, Imm, Ecall}
@@ -50,3 +50,22 @@ stub_word functions pc = option_map (λ e. half pc e.1) (function_at functions (
 -- the function whose stub begins at an address
 abbrev pub key_at : Functions → ℕ → Option Key
 key_at functions at = if at % 8 == 0 then option_map (λ e. e.0) (function_at functions (stub_of_word at)) else None
+
+-- the stub of a new function
+abbrev pub new_stub : ℕ → Stub
+new_stub n = record { value = Some (stub_address n); first = word_of (Imm Addi 5 0 (pos 1)); second = word_of Ecall }
+
+-- what is seen of a function by its number: its key, and the words of its stub
+abbrev pub face : Key × Stub → Key × (ℕ × ℕ)
+face e = (e.0, (e.1.first, e.1.second))
+
+-- a stub with another word in one of its halves
+abbrev pub with_half : Bool → ℕ → Stub → Stub
+with_half true word stub = record stub { first = word }
+with_half false word stub = record stub { second = word }
+
+-- the functions with another word in the stub of one
+abbrev pub set_at : Functions → ℕ → Bool → ℕ → Functions
+set_at [] n first word = []
+set_at (e ∷ es) zero first word = (e.0, with_half first word e.1) ∷ es
+set_at (e ∷ es) (suc n) first word = e ∷ set_at es n first word

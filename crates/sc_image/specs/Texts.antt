@@ -1,5 +1,5 @@
 -- Placed texts in the order of their addresses.
-use Rattle.std.specs.Prelude.{◌≡◌, ◌⊎◌, ℕ, ◌+◌, ◌-◌, ◌*◌, ◌/◌, ◌%◌, ◌==◌, ◌&&◌, ◌<◌, ◌≤◌, Bool, nat_lt, nat_le, if◌then◌else◌, List, length, slice_get, slice_set, find, Option, None, Some}
+use Rattle.std.specs.Prelude.{◌≡◌, ◌⊎◌, ℕ, ◌+◌, ◌-◌, ◌*◌, ◌/◌, ◌%◌, ◌==◌, ◌&&◌, ◌<◌, ◌≤◌, Bool, false, nat_lt, nat_le, if◌then◌else◌, List, length, slice_get, slice_set, find, Option, None, Some}
 use Rattle.std.specs.Option.{option_map}
 use Rattle.sc_image.specs.declared.text.Text.{Text}
 use Rattle.sc_image.specs.declared.text.TextAt.{TextAt}
@@ -61,3 +61,11 @@ without start (Some t) = if t.at.start == start then None else Some t
 -- the text with another word at an address
 abbrev pub with_word : Text → ℕ → ℕ → Text
 with_word t pc word = record { at = t.at; words = slice_set t.words ((pc - t.at.start) / 4) word }
+
+abbrev pub text_with : TextAt → List ℕ → Text
+text_with at words = record { at = at; words = words }
+
+-- what was found begins there
+abbrev pub starts_at : ℕ → Option TextAt → Bool
+starts_at start None = false
+starts_at start (Some t) = t.start == start
