@@ -100,14 +100,18 @@ stub_word-push fs k stub pc = by (find-where pc)
   where
     late : (r : Option ℕ) → pc ≢ stub_address (length fs) → pc ≢ stub_address (length fs) + 4 → r ≡ cond (pc == stub_address (length fs)) (Some stub.first) (cond (pc == stub_address (length fs) + 4) (Some stub.second) r)
     late r a b = sym (λ i. cond (false-eq pc (stub_address (length fs)) a i) (Some stub.first) (cond (false-eq pc (stub_address (length fs) + 4) b i) (Some stub.second) r))
+
     neither : stub_of_word pc ≡ None → pc ≢ stub_address (length fs) → pc ≢ stub_address (length fs) + 4 → stub_word (fs ++ (k, stub) ∷ []) pc ≡ cond (pc == stub_address (length fs)) (Some stub.first) (cond (pc == stub_address (length fs) + 4) (Some stub.second) (stub_word fs pc))
     neither e a b =
         ap (λ r. option_map (λ (x : Key × Stub). half pc x.1) (function_at (fs ++ (k, stub) ∷ []) r)) e
         ∙ (sym (ap (λ r. option_map (λ (x : Key × Stub). half pc x.1) (function_at fs r)) e) ∙ late (stub_word fs pc) a b)
+
     pushed : stub_of_word pc ≡ Some ((pc - 0x00010000) / 8) → stub_word (fs ++ (k, stub) ∷ []) pc ≡ option_map (λ (x : Key × Stub). half pc x.1) (cond (((pc - 0x00010000) / 8) == (length fs)) (Some (k, stub)) (slice_get fs ((pc - 0x00010000) / 8)))
     pushed e = ap (λ r. option_map (λ (x : Key × Stub). half pc x.1) (function_at (fs ++ (k, stub) ∷ []) r)) e ∙ ap (option_map (λ (x : Key × Stub). half pc x.1)) (get-push fs (k, stub) ((pc - 0x00010000) / 8))
+
     old : stub_of_word pc ≡ Some ((pc - 0x00010000) / 8) → (((pc - 0x00010000) / 8) == (length fs)) ≡ false → option_map (λ (x : Key × Stub). half pc x.1) (cond (((pc - 0x00010000) / 8) == (length fs)) (Some (k, stub)) (slice_get fs ((pc - 0x00010000) / 8))) ≡ stub_word fs pc
     old e f = ap (λ b. option_map (λ (x : Key × Stub). half pc x.1) (cond b (Some (k, stub)) (slice_get fs ((pc - 0x00010000) / 8)))) f ∙ sym (ap (λ r. option_map (λ (x : Key × Stub). half pc x.1) (function_at fs r)) e)
+
     by : Where pc → stub_word (fs ++ (k, stub) ∷ []) pc ≡ cond (pc == stub_address (length fs)) (Some stub.first) (cond (pc == stub_address (length fs) + 4) (Some stub.second) (stub_word fs pc))
     by (is_below l e) = neither e (λ s. absurd (omega arith)) (λ s. absurd (omega arith))
     by (is_between l ne e) = neither e (λ s. ne (omega arith)) (λ s. ne (omega arith))
@@ -132,9 +136,11 @@ key_at-push fs k stub pc = by (pc % 8 == 0) refl (find-where pc)
   where
     late : (r : Option Key) → pc ≢ stub_address (length fs) → r ≡ cond (pc == stub_address (length fs)) (Some k) r
     late r a = sym (ap (λ b. cond b (Some k) r) (false-eq pc (stub_address (length fs)) a))
+
     none : stub_of_word pc ≡ None → pc ≢ stub_address (length fs) → key_at (fs ++ (k, stub) ∷ []) pc ≡ cond (pc == stub_address (length fs)) (Some k) (key_at fs pc)
     none e a = ap (λ r. cond (pc % 8 == 0) (option_map (λ (x : Key × Stub). x.0) (function_at (fs ++ (k, stub) ∷ []) r)) None) e
         ∙ (sym (ap (λ r. cond (pc % 8 == 0) (option_map (λ (x : Key × Stub). x.0) (function_at fs r)) None) e) ∙ late (key_at fs pc) a)
+
     by : (b : Bool) → (pc % 8 == 0) ≡ b → Where pc → key_at (fs ++ (k, stub) ∷ []) pc ≡ cond (pc == stub_address (length fs)) (Some k) (key_at fs pc)
     by b g (is_below l e) = none e (λ s. absurd (omega arith))
     by b g (is_between l ne e) = none e (λ s. ne (omega arith))
@@ -353,6 +359,7 @@ value-push k q vs fs gs s at is none found = ap (λ r. value_or (lookup (key_eq 
     no-value : (r o : Option ℕ) → value_or r o ≡ None → r ≡ None
     no-value None o h = refl
     no-value (Some x) o h = absurd (cc (h))
+
     by : (b : Bool) → key_eq k q ≡ b → value_or (lookup (key_eq q) vs) (stub_value (cond b (Some s) (lookup (key_eq q) fs))) ≡ cond b (Some at) (value_or (lookup (key_eq q) vs) (stub_value (lookup (key_eq q) fs)))
     by false e = refl
     by true e =
@@ -375,6 +382,7 @@ word-set_at fs n pc w q r s low at some = by (nat_lt q 0x00100000) refl
   where
     there : IsSome (stub_word fs pc)
     there = subst (λ b. IsSome (cond b (stub_word fs pc) s)) (true-lt pc 0x00100000 low) some
+
     by : (b : Bool) → nat_lt q 0x00100000 ≡ b → cond b (stub_word (set_at fs n (pc % 8 == 0) w) q) r ≡ cond (q == pc) (Some w) (cond b (stub_word fs q) r)
     by true e = stub_word-set_at fs n pc w q at there
     by false e = let high = lt-false q 0x00100000 e in sym (ap (λ b. cond b (Some w) r) (false-eq q pc (λ t. absurd (omega arith))))

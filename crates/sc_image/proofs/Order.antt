@@ -5,7 +5,8 @@ use Rattle.std.specs.Prelude.{IsSome, nat_le, nat_lt}
 use Rattle.std.proofs.Math.ListN.{length-set}
 use Rattle.std.specs.List.{slice_get, insert, remove}
 use Rattle.sc_image.specs.declared.text.Text.{Text}
-use Rattle.sc_image.specs.Texts.{Before, IsFree, IsOrdered, end_of, holds, place_of, text_holding, text_word, with_word, without, word_in, word_in_found}
+use Rattle.sc_image.specs.declared.text.TextAt.{TextAt}
+use Rattle.sc_image.specs.Texts.{Before, IsFree, IsOrdered, StartsAt, end_of, holds, place_of, text_holding, text_word, with_word, without, word_in, word_in_found}
 use Rattle.sc_image.proofs.Find.{Fails, FailsBut, Pairwise-insert, Pairwise-remove, find-insert, find-none, find-only, find-remove, find-set, get-set}
 
 three : (k i : ℕ) → (k < i) ⊎ ((k ≡ i) ⊎ (i < k))
@@ -27,6 +28,7 @@ differ m n h = elim h [ inl a ↦ differ_low m n a | inr a ↦ differ_high m n a
   where
     differ_low : (m n : ℕ) → m < n → (m == n) ≡ false
     differ_low m n h = grind (arith, nat_tests)
+
     differ_high : (m n : ℕ) → n < m → (m == n) ≡ false
     differ_high m n h = grind (arith, nat_tests)
 
@@ -79,9 +81,9 @@ some-same xs i j x y e h g = let f : slice_get xs i ≡ Some y = rw e g in cc
 -- a search that went right has passed all texts up to one that begins low enough
 pub passed-low : (texts : List Text) (m : ℕ) (x : Text) (pc : ℕ) → IsOrdered texts → slice_get texts m ≡ Some x → x.at.start ≤ pc → (k : ℕ) (t : Text) → slice_get texts k ≡ Some t → k < m + 1 → t.at.start ≤ pc
 passed-low texts m x pc o h l k t at lt = elim (compared k m lt) [
-    | inl less ↦ let b = (o.pairs k m t x at h less).0 in omega arith
-    | inr same ↦ let e = some-same texts k m t x same at h in rw e l
-  ]
+  | inl less ↦ let b = (o.pairs k m t x at h less).0 in omega arith
+  | inr same ↦ let e = some-same texts k m t x same at h in rw e l
+]
   where
     compared : (k m : ℕ) → k < m + 1 → (k < m) ⊎ (k ≡ m)
     compared zero zero lt = inr refl
@@ -91,9 +93,9 @@ passed-low texts m x pc o h l k t at lt = elim (compared k m lt) [
 
 pub passed-high : (texts : List Text) (m : ℕ) (x : Text) (pc : ℕ) → IsOrdered texts → slice_get texts m ≡ Some x → pc < x.at.start → (k : ℕ) (t : Text) → slice_get texts k ≡ Some t → m ≤ k → pc < t.at.start
 passed-high texts m x pc o h l k t at le = elim (compared m k le) [
-    | inl less ↦ let b = (o.pairs m k x t h at less).0 in omega arith
-    | inr same ↦ let e = some-same texts m k x t same h at in rw (← e) l
-  ]
+  | inl less ↦ let b = (o.pairs m k x t h at less).0 in omega arith
+  | inr same ↦ let e = some-same texts m k x t same h at in rw (← e) l
+]
   where
     compared : (m k : ℕ) → m ≤ k → (m < k) ⊎ (m ≡ k)
     compared zero zero le = inr refl
@@ -144,6 +146,7 @@ found-at texts i t pc o h l above = by (holds pc t) refl
       | inl less ↦ ended-fails pc u (let b = (o.pairs k i u t at h less).1 in omega arith)
       | inr r ↦ elim r [ inl same ↦ ap (holds pc) (some-same texts k i u t same at h) ∙ g | inr more ↦ later-fails pc u (above k u at more) ]
     ]
+
     by : (b : Bool) → holds pc t ≡ b → text_holding texts pc ≡ cond b (Some t) None
     by true g = find-only (holds pc) texts i t h g (others-fail texts i t pc o h g)
     by false g = find-none (holds pc) texts (one g)
@@ -155,8 +158,8 @@ none-found texts pc above = find-none (holds pc) texts (λ k u at. later-fails p
 pub ordered-insert : (texts : List Text) (r : ℕ) (t : Text) → r ≤ length texts → IsOrdered texts → IsFree texts t.at.start (end_of t) → ((k : ℕ) (u : Text) → slice_get texts k ≡ Some u → k < r → u.at.start ≤ t.at.start) → ((k : ℕ) (u : Text) → slice_get texts k ≡ Some u → r ≤ k → t.at.start < u.at.start) → IsOrdered (insert texts r t)
 ordered-insert texts r t l o free below above = record {
   pairs = Pairwise-insert (λ (x y : Text). Before x.at.start (end_of x) y.at.start) texts r t l o.pairs
-  (λ k u at lt. elim (free.clear k u at) [ inl b ↦ b | inr b ↦ absurd (let low = below k u at lt in let high = b.0 in omega arith) ])
-  (λ k u at le. elim (free.clear k u at) [ inl b ↦ absurd (let high = above k u at le in let low = b.0 in omega arith) | inr b ↦ b ]);
+      (λ k u at lt. elim (free.clear k u at) [ inl b ↦ b | inr b ↦ absurd (let low = below k u at lt in let high = b.0 in omega arith) ])
+      (λ k u at le. elim (free.clear k u at) [ inl b ↦ absurd (let high = above k u at le in let low = b.0 in omega arith) | inr b ↦ b ]);
 }
 
 pub holding-insert : (texts : List Text) (r : ℕ) (t : Text) (pc : ℕ) → IsFree texts t.at.start (end_of t) → text_holding (insert texts r t) pc ≡ cond (holds pc t) (Some t) (text_holding texts pc)
@@ -168,12 +171,12 @@ ordered-remove texts i o = record { pairs = Pairwise-remove (λ (x y : Text). Be
 -- the text that begins at an address is the last of those that begin low enough
 pub last-low : (texts : List Text) (r i : ℕ) (t : Text) → IsOrdered texts → slice_get texts i ≡ Some t → ((k : ℕ) (u : Text) → slice_get texts k ≡ Some u → k < r → u.at.start ≤ t.at.start) → ((k : ℕ) (u : Text) → slice_get texts k ≡ Some u → r ≤ k → t.at.start < u.at.start) → r ≤ length texts → r ≡ i + 1
 last-low texts r i t o h below above l = elim (three r (i + 1)) [
-    | inl less ↦ absurd (let high = above i t h (omega arith) in omega arith)
-    | inr e ↦ elim e [
-      | inl same ↦ same
-      | inr more ↦ absurd (let s = there texts (i + 1) (omega arith) in let b = (o.pairs i (i + 1) t s.0 h s.1 (omega arith)).0 in let low = below (i + 1) s.0 s.1 more in omega arith)
-    ]
+  | inl less ↦ absurd (let high = above i t h (omega arith) in omega arith)
+  | inr e ↦ elim e [
+    | inl same ↦ same
+    | inr more ↦ absurd (let s = there texts (i + 1) (omega arith) in let b = (o.pairs i (i + 1) t s.0 h s.1 (omega arith)).0 in let low = below (i + 1) s.0 s.1 more in omega arith)
   ]
+]
 
 pub holding-remove : (texts : List Text) (i : ℕ) (t : Text) (pc : ℕ) → IsOrdered texts → slice_get texts i ≡ Some t → text_holding (remove texts i) pc ≡ without t.at.start (text_holding texts pc)
 holding-remove texts i t pc o h = find-remove (holds pc) texts i t h (others-fail texts i t pc o h) ∙ by (holds pc t) refl
@@ -189,6 +192,7 @@ holding-remove texts i t pc o h = find-remove (holds pc) texts i t h (others-fai
             | inr more ↦ let b = (o.pairs i f.0 t u h f.1 more).0 in inr b
           ]
         ])))
+
     by : (b : Bool) → holds pc t ≡ b → cond b None (text_holding texts pc) ≡ without t.at.start (text_holding texts pc)
     by true g = sym (ap (without t.at.start) (find-only (holds pc) texts i t h g (others-fail texts i t pc o h g)) ∙ ap (λ b. cond b None (Some t)) (same_eq t.at.start))
     by false g = other (text_holding texts pc) refl g
@@ -263,6 +267,7 @@ word-with q pc w t has l = by (q == pc) refl
   where
     j : ℕ
     j = (pc - t.at.start) / 4
+
     by : (b : Bool) → (q == pc) ≡ b → word_in q (with_word t pc w) ≡ cond b (Some w) (word_in q t)
     by true e = let s : q ≡ pc = eq-true q pc e in rw s (ap (λ b. cond b (slice_get (set t.words j w) j) None) has.aligned ∙ get-set-same t.words j w has.within)
     by false e = aligned ((q - t.at.start) % 4 == 0) refl
@@ -286,3 +291,14 @@ place-set texts i t pc w q o h = ap place_of (find-set (holds q) texts i t (with
     by : (b : Bool) → holds q t ≡ b → place_of (cond b (Some (with_word t pc w)) (text_holding texts q)) ≡ place_of (text_holding texts q)
     by true g = sym (ap place_of (find-only (holds q) texts i t h g (others-fail texts i t q o h g)))
     by false g = refl
+
+-- a text that is found begins at its start
+pub starts-found : (texts : List Text) (pc : ℕ) (t : TextAt) → place_of (text_holding texts pc) ≡ Some t → StartsAt texts t.start
+starts-found texts pc t h = by (text_holding texts pc) refl h
+  where
+    by : (r : Option Text) → text_holding texts pc ≡ r → place_of r ≡ Some t → StartsAt texts t.start
+    by None e g = absurd (cc (g))
+    by (Some u) e g = let same : u.at ≡ t = cc in let f = find-some (holds pc) texts u e in (f.0, u, f.1, ap (λ (x : TextAt). x.start) same)
+
+pub free-none : (start end : ℕ) → IsFree [] start end
+free-none start end = record { clear = λ i t h. absurd (cc (h)) }

@@ -1,5 +1,5 @@
 // The image of a program.
-ghost use Rattle.std.specs.Prelude.{◌≡◌, ◌≢◌, ◌↔◌, ℕ, ◌+◌, ◌*◌, ◌<◌, ◌≤◌, ◌==◌, [], ◌∷◌, ◌++◌, true, false, length, map, slice_get, if◌then◌else◌, nat_eq, IsSome, None, Some, OnOk};
+ghost use Rattle.std.specs.Prelude.{◌≡◌, ◌≢◌, ◌↔◌, ℕ, ◌+◌, ◌*◌, ◌<◌, ◌≤◌, ◌==◌, [], ◌∷◌, ◌++◌, true, false, length, map, slice_get, if◌then◌else◌, nat_eq, IsSome, is_some, None, Some, OnOk};
 ghost use Rattle.std.specs.Option.{option_copied};
 ghost use Rattle.sc_base.specs.declared.key.Key.{Key as Named};
 ghost use Rattle.sc_image.specs.Literals.{literal_of};
@@ -70,6 +70,20 @@ impl Image {
         let n = stub_at(stub)?;
         let (key, _) = self.functions.get_index(n as usize)?;
         Some(key)
+    }
+
+    /// How many functions have a number.
+    pub fn functions(&self) -> usize
+        ensures { result ≡ length (functions_of self.now) }
+    {
+        self.functions.len()
+    }
+
+    /// Whether a key has a function number.
+    pub fn is_function(&self, k: &Key) -> bool
+        ensures { result ≡ is_some (function_of self.now k.now) }
+    {
+        self.functions.contains_key(k)
     }
 
     /// The placed text that holds an address.

@@ -10,3 +10,6 @@ mod texts;
 pub use image::Image;
 pub use stub::{call_stub, jump_stub, lower, upper};
 pub use text::{FrameTable, Slot, TextAt};
+
+#[cfg(test)]
+mod tests;

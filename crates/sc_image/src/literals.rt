@@ -92,13 +92,7 @@ impl Literals {
         ensures { (p : ℕ) → (result ≡ Some p) ↔ (literal_at self.now.places p ≡ Some (literal_of «module».now bytes.now)) }
     {
         let print = fingerprint(module.as_slice(), bytes);
-        match indexed(
-            &self.index,
-            &self.places,
-            print,
-            module.as_slice(),
-            bytes,
-        ) {
+        match indexed(&self.index, &self.places, print, module.as_slice(), bytes) {
             Some(at) => Some(at),
             None => search(
                 &self.places,

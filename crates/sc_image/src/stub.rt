@@ -23,7 +23,10 @@ pub struct Stub {
 pub fn call_stub() -> [u32; 2]
     ensures { result ≡ call_words }
 {
-    [encode(Instr::Imm(ImmOp::Addi, 5, 0, 1)), encode(Instr::Ecall)]
+    [
+        encode(Instr::Imm(ImmOp::Addi, 5, 0, 1)),
+        encode(Instr::Ecall),
+    ]
 }
 
 /// The stub of a function in object form whose text begins at an address: `lui t1` and `jalr x0` with the two parts of
