@@ -1,13 +1,13 @@
 -- Texts in the order of their addresses.
 use Rattle.std.proofs.Common.{◌≡◌, ◌≢◌, ◌⊎◌, inl, inr, ℕ, zero, suc, ◌+◌, ◌-◌, ◌*◌, ◌/◌, ◌%◌, ◌<◌, ◌≤◌, ◌==◌, Bool, true, false, cond, List, [], ◌∷◌, length, get_or, set, refl, sym, ap, ◌∙◌, subst, Option, Some, None, find, arith, true≢false, ◌&&◌}
 use Rattle.std.proofs.lemmas.Bool.Decides.{nat_tests}
-use Rattle.std.specs.Prelude.{IsSome, nat_le, nat_lt}
+use Rattle.std.specs.Prelude.{IsSome, IsTrue, nat_le, nat_lt}
 use Rattle.std.proofs.Math.ListN.{length-set}
 use Rattle.std.specs.List.{slice_get, insert, remove}
 use Rattle.sc_image.specs.declared.text.Text.{Text}
 use Rattle.sc_image.specs.declared.text.TextAt.{TextAt}
-use Rattle.sc_image.specs.Texts.{Before, IsFree, IsOrdered, StartsAt, end_of, holds, place_of, text_holding, text_word, with_word, without, word_in, word_in_found}
-use Rattle.sc_image.proofs.Find.{Fails, FailsBut, Pairwise-insert, Pairwise-remove, find-insert, find-none, find-only, find-remove, find-set, get-set}
+use Rattle.sc_image.specs.Texts.{Before, IsFree, IsOrdered, end_of, holds, place_of, starts_at, text_holding, text_word, with_word, without, word_in, word_in_found}
+use Rattle.sc_image.proofs.Find.{Fails, FailsBut, Pairwise-insert, Pairwise-remove, find-insert, find-none, find-only, find-remove, find-set, get-insert, get-remove, get-set}
 
 three : (k i : ℕ) → (k < i) ⊎ ((k ≡ i) ⊎ (i < k))
 three zero zero = inr (inl refl)
@@ -128,8 +128,47 @@ others-fail texts i t pc o h g k u at ne =
     apart (suc k) zero ne = inr (omega arith)
     apart (suc k) (suc i) ne = elim (apart k i (λ e. ne (ap suc e))) [ inl a ↦ inl (omega arith) | inr a ↦ inr (omega arith) ]
 
+none-some : {A : Type 0} (r : Option A) (w : A) → r ≡ None → r ≡ Some w → ⊥
+none-some r w e h = let f = sym e ∙ h in cc
+
+in-range : (pc : ℕ) (t : Text) → t.at.start ≤ pc → pc < end_of t → holds pc t ≡ true
+in-range pc t l m = both t.at.start (end_of t) pc l m
+  where
+    both : (a b pc : ℕ) → a ≤ pc → pc < b → nat_le a pc && nat_lt pc b ≡ true
+    both a b pc l g = grind (arith, nat_tests)
+
+-- no text begins where the range does, or has a byte in it
+pub record IsClear (texts : List Text) (start end : ℕ) : Type 0 where
+  pub clear : (i : ℕ) (t : Text) → slice_get texts i ≡ Some t → Before t.at.start (end_of t) start ⊎ Before start end t.at.start
+
+apart-ranges : (a b c d : ℕ) → a < b → c < d → (a < c × b ≤ c) ⊎ ((c < a × d ≤ a) ⊎ ((pc : ℕ) × (a ≤ pc) × (pc < b) × (c ≤ pc) × (pc < d)))
+apart-ranges a b c d l m = by (three a c) (three b c) (three d a)
+  where
+    by : (a < c) ⊎ ((a ≡ c) ⊎ (c < a)) → (b < c) ⊎ ((b ≡ c) ⊎ (c < b)) → (d < a) ⊎ ((d ≡ a) ⊎ (a < d)) → (a < c × b ≤ c) ⊎ ((c < a × d ≤ a) ⊎ ((pc : ℕ) × (a ≤ pc) × (pc < b) × (c ≤ pc) × (pc < d)))
+    by x (inl y) z = inl (omega arith, omega arith)
+    by x (inr (inl y)) z = inl (omega arith, omega arith)
+    by x (inr (inr y)) (inl z) = inr (inl (omega arith, omega arith))
+    by x (inr (inr y)) (inr (inl z)) = inr (inl (omega arith, omega arith))
+    by (inl x) (inr (inr y)) (inr (inr z)) = inr (inr (c, omega arith, y, omega arith, m))
+    by (inr (inl x)) (inr (inr y)) (inr (inr z)) = inr (inr (c, omega arith, y, omega arith, m))
+    by (inr (inr x)) (inr (inr y)) (inr (inr z)) = inr (inr (a, omega arith, l, omega arith, z))
+
+-- a range of which no text holds an address
+pub clear-free : (texts : List Text) (start end : ℕ) → IsOrdered texts → start < end → IsFree texts start end → IsClear texts start end
+clear-free texts start end o l free = record {
+  clear = λ i u h.
+      let size : u.at.start < end_of u = (let some = o.some i u h in omega arith) in
+      elim (apart-ranges u.at.start (end_of u) start end size l) [
+        | inl a ↦ inl (a.0, a.1)
+        | inr b ↦ elim b [
+          | inl a ↦ inr (a.0, a.1)
+          | inr c ↦ absurd (none-some (text_holding texts c.0) u (free c.0 c.3 c.4) (find-only (holds c.0) texts i u h (in-range c.0 u c.1 c.2) (others-fail texts i u c.0 o h (in-range c.0 u c.1 c.2))))
+        ]
+      ];
+}
+
 -- nothing in a free range is held
-pub free-fails : (texts : List Text) (t : Text) (pc : ℕ) → IsFree texts t.at.start (end_of t) → holds pc t ≡ true → Fails (holds pc) texts
+pub free-fails : (texts : List Text) (t : Text) (pc : ℕ) → IsClear texts t.at.start (end_of t) → holds pc t ≡ true → Fails (holds pc) texts
 free-fails texts t pc free g k u at =
     let in_t = held pc t g in
     elim (free.clear k u at) [
@@ -155,18 +194,25 @@ pub none-found : (texts : List Text) (pc : ℕ) → ((k : ℕ) (u : Text) → sl
 none-found texts pc above = find-none (holds pc) texts (λ k u at. later-fails pc u (above k u at))
 
 -- putting a text at its place among the others
-pub ordered-insert : (texts : List Text) (r : ℕ) (t : Text) → r ≤ length texts → IsOrdered texts → IsFree texts t.at.start (end_of t) → ((k : ℕ) (u : Text) → slice_get texts k ≡ Some u → k < r → u.at.start ≤ t.at.start) → ((k : ℕ) (u : Text) → slice_get texts k ≡ Some u → r ≤ k → t.at.start < u.at.start) → IsOrdered (insert texts r t)
-ordered-insert texts r t l o free below above = record {
+pub ordered-insert : (texts : List Text) (r : ℕ) (t : Text) → r ≤ length texts → IsOrdered texts → 0 < length t.words → IsClear texts t.at.start (end_of t) → ((k : ℕ) (u : Text) → slice_get texts k ≡ Some u → k < r → u.at.start ≤ t.at.start) → ((k : ℕ) (u : Text) → slice_get texts k ≡ Some u → r ≤ k → t.at.start < u.at.start) → IsOrdered (insert texts r t)
+ordered-insert texts r t l o words free below above = record {
+  some = λ k u h. elim (get-insert texts r t k u l h) [
+    | inl a ↦ o.some k u a.1
+    | inr b ↦ elim b [ inl c ↦ rw c.1 words | inr c ↦ o.some c.0 u c.3 ]
+  ];
   pairs = Pairwise-insert (λ (x y : Text). Before x.at.start (end_of x) y.at.start) texts r t l o.pairs
       (λ k u at lt. elim (free.clear k u at) [ inl b ↦ b | inr b ↦ absurd (let low = below k u at lt in let high = b.0 in omega arith) ])
       (λ k u at le. elim (free.clear k u at) [ inl b ↦ absurd (let high = above k u at le in let low = b.0 in omega arith) | inr b ↦ b ]);
 }
 
-pub holding-insert : (texts : List Text) (r : ℕ) (t : Text) (pc : ℕ) → IsFree texts t.at.start (end_of t) → text_holding (insert texts r t) pc ≡ cond (holds pc t) (Some t) (text_holding texts pc)
+pub holding-insert : (texts : List Text) (r : ℕ) (t : Text) (pc : ℕ) → IsClear texts t.at.start (end_of t) → text_holding (insert texts r t) pc ≡ cond (holds pc t) (Some t) (text_holding texts pc)
 holding-insert texts r t pc free = find-insert (holds pc) texts r t (free-fails texts t pc free)
 
 pub ordered-remove : (texts : List Text) (i : ℕ) → IsOrdered texts → IsOrdered (remove texts i)
-ordered-remove texts i o = record { pairs = Pairwise-remove (λ (x y : Text). Before x.at.start (end_of x) y.at.start) texts i o.pairs }
+ordered-remove texts i o = record {
+  some = λ k u h. elim (get-remove texts i k u h) [ inl a ↦ o.some k u a.1 | inr a ↦ o.some (suc k) u a.1 ];
+  pairs = Pairwise-remove (λ (x y : Text). Before x.at.start (end_of x) y.at.start) texts i o.pairs;
+}
 
 -- the text that begins at an address is the last of those that begin low enough
 pub last-low : (texts : List Text) (r i : ℕ) (t : Text) → IsOrdered texts → slice_get texts i ≡ Some t → ((k : ℕ) (u : Text) → slice_get texts k ≡ Some u → k < r → u.at.start ≤ t.at.start) → ((k : ℕ) (u : Text) → slice_get texts k ≡ Some u → r ≤ k → t.at.start < u.at.start) → r ≤ length texts → r ≡ i + 1
@@ -207,8 +253,6 @@ within-holds pc t l h = both (t.at.start) (end_of t) pc l (omega arith)
     both : (a b pc : ℕ) → a ≤ pc → pc < b → nat_le a pc && nat_lt pc b ≡ true
     both a b pc l g = grind (arith, nat_tests)
 
-none-some : {A : Type 0} (r : Option A) (w : A) → r ≡ None → r ≡ Some w → ⊥
-none-some r w e h = let f = sym e ∙ h in cc
 
 pub is-some : {A : Type 0} (r : Option A) → IsSome r → (w : A) × (r ≡ Some w)
 is-some None h = absurd (true≢false (sym h))
@@ -247,6 +291,12 @@ holds-with q pc w t = ap (λ n. nat_le t.at.start q && nat_lt q (t.at.start + 4 
 
 pub ordered-set : (texts : List Text) (i : ℕ) (t : Text) (pc w : ℕ) → IsOrdered texts → slice_get texts i ≡ Some t → IsOrdered (set texts i (with_word t pc w))
 ordered-set texts i t pc w o h = record {
+  some = λ k u at.
+      let size = length-set t.words ((pc - t.at.start) / 4) w in
+      elim (get-set texts i (with_word t pc w) k u at) [
+        | inl a ↦ let some = o.some i t h in rw a.1 (omega arith)
+        | inr a ↦ o.some k u a.1
+      ];
   pairs = λ j k x y hj hk lt.
       let size = length-set t.words ((pc - t.at.start) / 4) w in
       elim (get-set texts i (with_word t pc w) j x hj) [
@@ -292,13 +342,25 @@ place-set texts i t pc w q o h = ap place_of (find-set (holds q) texts i t (with
     by true g = sym (ap place_of (find-only (holds q) texts i t h g (others-fail texts i t q o h g)))
     by false g = refl
 
--- a text that is found begins at its start
-pub starts-found : (texts : List Text) (pc : ℕ) (t : TextAt) → place_of (text_holding texts pc) ≡ Some t → StartsAt texts t.start
-starts-found texts pc t h = by (text_holding texts pc) refl h
-  where
-    by : (r : Option Text) → text_holding texts pc ≡ r → place_of r ≡ Some t → StartsAt texts t.start
-    by None e g = absurd (cc (g))
-    by (Some u) e g = let same : u.at ≡ t = cc in let f = find-some (holds pc) texts u e in (f.0, u, f.1, ap (λ (x : TextAt). x.start) same)
+-- one of the texts begins there
+abbrev pub StartsAt : List Text → ℕ → Type 0
+StartsAt texts start = (i : ℕ) × (t : Text) × (slice_get texts i ≡ Some t) × (t.at.start ≡ start)
 
-pub free-none : (start end : ℕ) → IsFree [] start end
-free-none start end = record { clear = λ i t h. absurd (cc (h)) }
+-- a text that is found, and begins there
+pub starts-found : (texts : List Text) (pc start : ℕ) → IsTrue (starts_at start (place_of (text_holding texts pc))) → StartsAt texts start
+starts-found texts pc start h = by (text_holding texts pc) refl h
+  where
+    by : (r : Option Text) → text_holding texts pc ≡ r → IsTrue (starts_at start (place_of r)) → StartsAt texts start
+    by None e g = absurd (true≢false (sym g))
+    by (Some u) e g = let f = find-some (holds pc) texts u e in (f.0, u, f.1, eq-true u.at.start start g)
+
+pub starts-first : (texts : List Text) (r start : ℕ) → StartsAt texts start → ((k : ℕ) (u : Text) → slice_get texts k ≡ Some u → r ≤ k → start < u.at.start) → 0 < r
+starts-first texts zero start s above = let high = above s.0 s.1 s.2 (omega arith) in let same = s.3 in omega arith
+starts-first texts (suc r) start s above = omega arith
+
+-- the last text that begins low enough is the one that begins there
+pub holding-taken : (texts : List Text) (r start pc : ℕ) → IsOrdered texts → StartsAt texts start → ((k : ℕ) (u : Text) → slice_get texts k ≡ Some u → k < r → u.at.start ≤ start) → ((k : ℕ) (u : Text) → slice_get texts k ≡ Some u → r ≤ k → start < u.at.start) → r ≤ length texts → text_holding (remove texts (r - 1)) pc ≡ without start (text_holding texts pc)
+holding-taken texts r start pc o s below above l =
+    let last = last-low texts r s.0 s.1 o s.2 (rw (← s.3) at below) (rw (← s.3) at above) l in
+    let i : r - 1 ≡ s.0 = omega arith in
+    rw (i, ← s.3) (holding-remove texts s.0 s.1 pc o s.2)

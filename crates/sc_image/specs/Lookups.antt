@@ -97,7 +97,6 @@ SameLiterals old new = (at : ℕ) → literal_in new at ≡ literal_in old at
 pub record IsBlank (i : Image) : Type 0 where
   pub words : (pc : ℕ) → word_at i pc ≡ None
   pub texts : (pc : ℕ) → text_at i pc ≡ None
-  pub placed : texts_of i ≡ []
   pub functions : functions_of i ≡ []
   pub values : (k : Key) → value_of i k ≡ None
   pub literals : (at : ℕ) → literal_in i at ≡ None

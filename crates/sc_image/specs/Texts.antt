@@ -25,17 +25,14 @@ text_holding texts pc = find (holds pc) texts
 abbrev pub Before : ℕ → ℕ → ℕ → Type 0
 Before start end other = (start < other) × (end ≤ other)
 
--- each text begins and ends before the next one begins
+-- each text has words, and begins and ends before the next one begins
 pub record IsOrdered (texts : List Text) : Type 0 where
+  pub some : (i : ℕ) (t : Text) → slice_get texts i ≡ Some t → 0 < length t.words
   pub pairs : (i j : ℕ) (t u : Text) → slice_get texts i ≡ Some t → slice_get texts j ≡ Some u → i < j → Before t.at.start (end_of t) u.at.start
 
--- no text begins where the range does, or has a byte in it
-pub record IsFree (texts : List Text) (start end : ℕ) : Type 0 where
-  pub clear : (i : ℕ) (t : Text) → slice_get texts i ≡ Some t → Before t.at.start (end_of t) start ⊎ Before start end t.at.start
-
--- one of the texts begins there
-abbrev pub StartsAt : List Text → ℕ → Type 0
-StartsAt texts start = (i : ℕ) × (t : Text) × (slice_get texts i ≡ Some t) × (t.at.start ≡ start)
+-- no text holds an address of the range
+abbrev pub IsFree : List Text → ℕ → ℕ → Type 0
+IsFree texts start end = (pc : ℕ) → start ≤ pc → pc < end → text_holding texts pc ≡ None
 
 -- the word at an address of a text, at each fourth byte from its start on
 abbrev pub word_in : ℕ → Text → Option ℕ

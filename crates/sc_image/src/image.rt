@@ -1,13 +1,13 @@
 // The image of a program.
-ghost use Rattle.std.specs.Prelude.{◌≡◌, ◌≢◌, ◌↔◌, ℕ, ◌+◌, ◌*◌, ◌<◌, ◌≤◌, ◌==◌, [], ◌∷◌, ◌++◌, true, false, length, map, slice_get, if◌then◌else◌, nat_eq, IsSome, is_some, None, Some, OnOk};
+ghost use Rattle.std.specs.Prelude.{◌≡◌, ◌≢◌, ◌↔◌, ℕ, ◌+◌, ◌*◌, ◌<◌, ◌≤◌, ◌==◌, [], ◌∷◌, ◌++◌, true, false, length, map, slice_get, if◌then◌else◌, nat_eq, IsSome, IsTrue, is_some, None, Some, OnOk};
 ghost use Rattle.std.specs.Option.{option_copied};
 ghost use Rattle.sc_base.specs.declared.key.Key.{Key as Named};
 ghost use Rattle.sc_image.specs.Literals.{literal_of};
 ghost use Rattle.sc_image.specs.Stubs.{face, new_stub, set_at, stub_address, stub_word};
 ghost use Rattle.std.specs.Map.{lookup};
 ghost use Rattle.indexmap.specs.IndexMap.{spare};
-ghost use Rattle.sc_image.specs.Texts.{IsFree, StartsAt, holds, starts_at, text_with, word_in};
-ghost use Rattle.sc_image.specs.Lookups.{SameKeys, SameLiterals, SameTexts, SameValues, SameWords, Spends, function_of, function_room, functions_of, key_eq, key_of, literal_in, literal_room, stub_value, text_at, text_room, texts_of, value_of, value_room, word_at};
+ghost use Rattle.sc_image.specs.Texts.{holds, starts_at, text_with, word_in};
+ghost use Rattle.sc_image.specs.Lookups.{SameKeys, SameLiterals, SameTexts, SameValues, SameWords, Spends, function_of, function_room, functions_of, key_eq, key_of, literal_in, literal_room, stub_value, text_at, text_room, value_of, value_room, word_at};
 
 use crate::literals::{Literal, Literals};
 use crate::stub::{STUBS, Stub, TEXTS, call_stub, stub_at};
@@ -145,7 +145,8 @@ impl Image {
         requires room { 0 < text_room self.old }
         requires low { 0x00100000 ≤ t.start }
         requires high { t.start + 4 * length words.items ≤ 0x04100000 }
-        requires free { IsFree (texts_of self.old) t.start (t.start + 4 * length words.items) }
+        requires some { 0 < length words.items }
+        requires free { (pc : ℕ) → t.start ≤ pc → pc < t.start + 4 * length words.items → text_at self.old pc ≡ None }
         ensures words { (pc : ℕ) → word_at self.new pc ≡ (if holds pc (text_with t words.items) then word_in pc (text_with t words.items) else word_at self.old pc) }
         ensures texts { (pc : ℕ) → text_at self.new pc ≡ (if holds pc (text_with t words.items) then Some t else text_at self.old pc) }
         ensures keys { SameKeys self.old self.new }
@@ -159,7 +160,7 @@ impl Image {
 
     /// Takes away the text that begins at an address.
     pub fn take_text(&mut self, start: u32)
-        requires { StartsAt (texts_of self.old) start }
+        requires { IsTrue (starts_at start (text_at self.old start)) }
         ensures words { (pc : ℕ) → word_at self.new pc ≡ (if starts_at start (text_at self.old pc) then None else word_at self.old pc) }
         ensures texts { (pc : ℕ) → text_at self.new pc ≡ (if starts_at start (text_at self.old pc) then None else text_at self.old pc) }
         ensures keys { SameKeys self.old self.new }

@@ -1,5 +1,7 @@
 // An image with two functions, a text, a value and two literals, and the words of stubs.
 ghost use Rattle.std.specs.Prelude.{◌≡◌, IfOk};
+ghost use Rattle.sc_image.specs.Lookups.{text_at};
+ghost use Rattle.sc_image.specs.Texts.{starts_at};
 
 use crate::{FrameTable, Image, Slot, TextAt, call_stub, jump_stub, lower, upper};
 use sc_base::{Bytes, Duplicate, Items, Key, Name, NoMemory};
@@ -169,19 +171,28 @@ fn texts(rt: HostRuntime) -> Result<(), Fail> {
     ] {
         assert_eq!(rt; image.text_at(pc).map(|t| t.frame.cost), cost, "{pc}");
     }
-    assert!(rt; take_text(&mut image, 0x00100028));
+    assert!(rt; !take_text(&mut image, 0x00100024));
+    assert!(rt; take_text(&mut image, 0x00100020));
     assert_eq!(rt; image.word(0x00100020), None);
     Ok(())
 }
 
-// Takes away the text that holds an address.
-fn take_text(image: &mut Image, pc: u32) -> bool {
-    let start = match image.text_at(pc) {
-        Some(t) => t.start,
-        None => return false,
-    };
+// Takes away the text that begins at an address, if there is one.
+fn take_text(image: &mut Image, start: u32) -> bool {
+    if !begins(image, start) {
+        return false;
+    }
     image.take_text(start);
     true
+}
+
+fn begins(image: &Image, start: u32) -> bool
+    ensures { result ≡ starts_at start (text_at image.now start) }
+{
+    match image.text_at(start) {
+        Some(t) => t.start == start,
+        None => false,
+    }
 }
 
 #[test]

@@ -1,5 +1,5 @@
 // The placed texts, in the order of their addresses.
-ghost use Rattle.std.specs.Prelude.{◌≡◌, ◌+◌, ◌*◌, ◌/◌, ◌<◌, ◌≤◌, ◌==◌, ◌-◌, ℕ, [], length, if◌then◌else◌, IfSome, IsSome, None, Some, OnOk, OnErr, insert, slice_get, vec_capacity, vec_len};
+ghost use Rattle.std.specs.Prelude.{◌≡◌, ◌+◌, ◌*◌, ◌/◌, ◌<◌, ◌≤◌, ◌==◌, ◌-◌, ℕ, [], length, if◌then◌else◌, IfSome, IsSome, IsTrue, None, Some, OnOk, OnErr, insert, slice_get, vec_capacity, vec_len};
 ghost use Rattle.std.specs.Option.{option_copied};
 ghost use Rattle.sc_image.specs.declared.text.Text.{Text as Placed};
 ghost use Rattle.sc_image.specs.Texts.{IsOrdered, with_word, word_in};
@@ -27,7 +27,7 @@ impl Model for Texts {
 }
 
 impl Texts {
-    ghost use Rattle.sc_image.specs.Texts.{IsFree, StartsAt, holds, place_of, text_holding, text_word, without};
+    ghost use Rattle.sc_image.specs.Texts.{IsFree, holds, place_of, starts_at, text_holding, text_word, without};
 
     /// No text.
     pub fn new(alloc: Global) -> Texts
@@ -51,6 +51,7 @@ impl Texts {
     /// Puts a text at a range that is free. There is room for it.
     pub fn put(&mut self, t: Text)
         requires room { 0 < self.old.room }
+        requires some { 0 < length t.words }
         requires free { IsFree self.old.texts t.at.start (t.at.start + 4 * length t.words) }
         ensures texts { (pc : ℕ) → text_holding self.new.texts pc ≡ (if holds pc t then Some t else text_holding self.old.texts pc) }
         ensures room { self.new.room + 1 ≡ self.old.room }
@@ -61,7 +62,7 @@ impl Texts {
 
     /// Takes away the text that begins at an address.
     pub fn take(&mut self, start: u32)
-        requires { StartsAt self.old.texts start }
+        requires { IsTrue (starts_at start (place_of (text_holding self.old.texts start))) }
         ensures texts { (pc : ℕ) → text_holding self.new.texts pc ≡ without start (text_holding self.old.texts pc) }
         ensures room { self.old.room + 1 ≡ self.new.room }
     {
