@@ -1,7 +1,7 @@
 -- Functions by their numbers and by their keys.
 use Rattle.std.proofs.Common.{◌≡◌, ◌≢◌, ◌⊎◌, inl, inr, ℕ, zero, suc, ◌+◌, ◌-◌, ◌*◌, ◌/◌, ◌%◌, ◌<◌, ◌≤◌, ◌==◌, ◌&&◌, Bool, true, false, cond, List, [], ◌∷◌, ◌++◌, length, map, refl, sym, ap, ◌∙◌, subst, Option, Some, None, Result, Ok, Err, arith, true≢false}
 use Rattle.std.proofs.lemmas.Bool.Decides.{nat_tests}
-use Rattle.std.specs.Prelude.{IsOk, IsSome, OnOk, nat_lt}
+use Rattle.std.specs.Prelude.{IsOk, IsSome, MatchBool, OnOk, is_some, nat_lt}
 use Rattle.std.specs.List.{slice_get}
 use Rattle.std.specs.Map.{lookup, set_value, values_of}
 use Rattle.std.specs.Option.{option_eq, option_map}
@@ -390,3 +390,80 @@ word-set_at fs n pc w q r s low at some = by (nat_lt q 0x00100000) refl
 pub on-ok : {T E : Type 0} (r : Result T E) (P : Type 0) → IsOk r → OnOk r P → P
 on-ok (Ok x) P i h = h
 on-ok (Err e) P i h = absurd (true≢false (sym i))
+
+-- keys by the stubs of their functions
+stub-of-address : (n : ℕ) → stub_of_word (stub_address n) ≡ Some n
+stub-of-address n = by (find-where (stub_address n))
+  where
+    by : Where (stub_address n) → stub_of_word (stub_address n) ≡ Some n
+    by (is_below l e) = absurd (omega arith)
+    by (is_between l ne e) = absurd (ne (omega arith))
+    by (in_first l a t e) = e ∙ ap Some (omega arith)
+    by (in_second l a ne t e) = absurd (ne (omega arith))
+
+key-at-address : (fs : Functions) (n : ℕ) (e : Key × Stub) → slice_get fs n ≡ Some e → key_at fs (stub_address n) ≡ Some e.0
+key-at-address fs n e h = (λ i. cond (true-eq (stub_address n % 8) 0 (omega arith) i) (option_map (λ (x : Key × Stub). x.0) (function_at fs (stub-of-address n i))) None) ∙ ap (option_map (λ (x : Key × Stub). x.0)) h
+
+bytes-refl : (xs : List ℕ) → bytes_eq xs xs ≡ true
+bytes-refl [] = refl
+bytes-refl (x ∷ xs) = ap (λ b. b && bytes_eq xs xs) (true-eq x x refl) ∙ bytes-refl xs
+
+option-refl : (a : Option (List ℕ)) → option_eq bytes_eq a a ≡ true
+option-refl None = refl
+option-refl (Some x) = bytes-refl x
+
+pub key-refl : (k : Key) → key_eq k k ≡ true
+key-refl k = ap (λ b. b && bytes_eq k.name k.name) (option-refl k.«module») ∙ bytes-refl k.name
+
+found-key : (k : Key) (fs : Functions) (s : Stub) → lookup (key_eq k) fs ≡ Some s → (n : ℕ) × (e : Key × Stub) × (slice_get fs n ≡ Some e) × (k ≡ e.0)
+found-key k [] s h = absurd (cc (h))
+found-key k (e ∷ fs) s h = by (key_eq k e.0) refl (found-key k fs s) h
+  where
+    by : (b : Bool) → key_eq k e.0 ≡ b → (lookup (key_eq k) fs ≡ Some s → (n : ℕ) × (x : Key × Stub) × (slice_get fs n ≡ Some x) × (k ≡ x.0)) → cond b (Some e.1) (lookup (key_eq k) fs) ≡ Some s → (n : ℕ) × (x : Key × Stub) × (slice_get (e ∷ fs) n ≡ Some x) × (k ≡ x.0)
+    by true t rest g = (zero, e, refl, key-same k e.0 t)
+    by false t rest g = let r = rest g in (suc r.0, r.1, r.2, r.3)
+
+pub known : (k : Key) (fs : Functions) (s : Stub) → lookup (key_eq k) fs ≡ Some s → (at : ℕ) × (key_at fs at ≡ Some k)
+known k fs s h = let f = found-key k fs s h in (stub_address f.0, key-at-address fs f.0 f.1 f.2 ∙ ap Some (sym f.3))
+
+there-key : (k : Key) (fs : Functions) (n : ℕ) (e : Key × Stub) → slice_get fs n ≡ Some e → e.0 ≡ k → lookup (key_eq k) fs ≡ None → ⊥
+there-key k [] n e h g none = absurd (cc (h))
+there-key k (x ∷ fs) zero e h g none = by (key_eq k x.0) refl none
+  where
+    same : x.0 ≡ k
+    same = (let s : x ≡ e = cc in ap (λ (y : Key × Stub). y.0) s) ∙ g
+
+    by : (b : Bool) → key_eq k x.0 ≡ b → cond b (Some x.1) (lookup (key_eq k) fs) ≡ None → ⊥
+    by true t m = absurd (cc (m))
+    by false t m = true≢false (sym (key-refl k) ∙ (ap (key_eq k) (sym same) ∙ t))
+there-key k (x ∷ fs) (suc n) e h g none = by (key_eq k x.0) (there-key k fs n e h g) none
+  where
+    by : (b : Bool) → (lookup (key_eq k) fs ≡ None → ⊥) → cond b (Some x.1) (lookup (key_eq k) fs) ≡ None → ⊥
+    by true rest m = absurd (cc (m))
+    by false rest m = rest m
+
+pub unknown : (k : Key) (fs : Functions) → lookup (key_eq k) fs ≡ None → (at : ℕ) → key_at fs at ≢ Some k
+unknown k fs none at h = by (at % 8 == 0) (stub_of_word at) h
+  where
+    in_function : (r : Option (Key × Stub)) → ((e : Key × Stub) → r ≡ Some e → e.0 ≡ k → ⊥) → option_map (λ (e : Key × Stub). e.0) r ≡ Some k → ⊥
+    in_function None f g = absurd (cc (g))
+    in_function (Some e) f g = f e refl (let s : e.0 ≡ k = cc in s)
+
+    by : (b : Bool) (r : Option ℕ) → cond b (option_map (λ (e : Key × Stub). e.0) (function_at fs r)) None ≡ Some k → ⊥
+    by false r g = absurd (cc (g))
+    by true None g = absurd (cc (g))
+    by true (Some n) g = in_function (slice_get fs n) (λ e i s. there-key k fs n e i s none) g
+
+pub absent-key : (k : Key) (fs : Functions) → ((at : ℕ) → key_at fs at ≢ Some k) → lookup (key_eq k) fs ≡ None
+absent-key k fs h = by (lookup (key_eq k) fs) refl
+  where
+    by : (r : Option Stub) → lookup (key_eq k) fs ≡ r → r ≡ None
+    by None e = refl
+    by (Some s) e = let f = known k fs s e in absurd (h f.0 f.1)
+
+pub is-known : (k : Key) (fs : Functions) (b : Bool) → b ≡ is_some (lookup (key_eq k) fs) → MatchBool b ((at : ℕ) × (key_at fs at ≡ Some k)) ((at : ℕ) → key_at fs at ≢ Some k)
+is-known k fs b h = rw h (by (lookup (key_eq k) fs) refl)
+  where
+    by : (r : Option Stub) → lookup (key_eq k) fs ≡ r → MatchBool (is_some r) ((at : ℕ) × (key_at fs at ≡ Some k)) ((at : ℕ) → key_at fs at ≢ Some k)
+    by None e = unknown k fs e
+    by (Some s) e = known k fs s e

@@ -253,7 +253,6 @@ within-holds pc t l h = both (t.at.start) (end_of t) pc l (omega arith)
     both : (a b pc : ℕ) → a ≤ pc → pc < b → nat_le a pc && nat_lt pc b ≡ true
     both a b pc l g = grind (arith, nat_tests)
 
-
 pub is-some : {A : Type 0} (r : Option A) → IsSome r → (w : A) × (r ≡ Some w)
 is-some None h = absurd (true≢false (sym h))
 is-some (Some w) h = (w, refl)

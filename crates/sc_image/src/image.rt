@@ -1,5 +1,5 @@
 // The image of a program.
-ghost use Rattle.std.specs.Prelude.{◌≡◌, ◌≢◌, ◌↔◌, ℕ, ◌+◌, ◌*◌, ◌<◌, ◌≤◌, ◌==◌, [], ◌∷◌, ◌++◌, true, false, length, map, slice_get, if◌then◌else◌, nat_eq, IsSome, IsTrue, is_some, None, Some, OnOk};
+ghost use Rattle.std.specs.Prelude.{◌≡◌, ◌≢◌, ◌↔◌, ℕ, ◌+◌, ◌*◌, ◌<◌, ◌≤◌, ◌==◌, [], ◌∷◌, ◌++◌, true, false, length, map, slice_get, if◌then◌else◌, nat_eq, IsSome, IsTrue, MatchBool, None, Some, OnOk};
 ghost use Rattle.std.specs.Option.{option_copied};
 ghost use Rattle.sc_base.specs.declared.key.Key.{Key as Named};
 ghost use Rattle.sc_image.specs.Literals.{literal_of};
@@ -7,7 +7,7 @@ ghost use Rattle.sc_image.specs.Stubs.{face, new_stub, set_at, stub_address, stu
 ghost use Rattle.std.specs.Map.{lookup};
 ghost use Rattle.indexmap.specs.IndexMap.{spare};
 ghost use Rattle.sc_image.specs.Texts.{holds, starts_at, text_with, word_in};
-ghost use Rattle.sc_image.specs.Lookups.{SameKeys, SameLiterals, SameTexts, SameValues, SameWords, Spends, function_of, function_room, functions_of, key_eq, key_of, literal_in, literal_room, stub_value, text_at, text_room, value_of, value_room, word_at};
+ghost use Rattle.sc_image.specs.Lookups.{SameKeys, SameLiterals, SameTexts, SameValues, SameWords, Spends, function_room, functions_of, key_eq, key_of, literal_in, literal_room, stub_value, text_at, text_room, value_of, value_room, word_at};
 
 use crate::literals::{Literal, Literals};
 use crate::stub::{STUBS, Stub, TEXTS, call_stub, stub_at};
@@ -81,7 +81,7 @@ impl Image {
 
     /// Whether a key has a function number.
     pub fn is_function(&self, k: &Key) -> bool
-        ensures { result ≡ is_some (function_of self.now k.now) }
+        ensures { MatchBool result ((at : ℕ) × (key_of self.now at ≡ Some k.now)) ((at : ℕ) → key_of self.now at ≢ Some k.now) }
     {
         self.functions.contains_key(k)
     }
@@ -222,7 +222,7 @@ impl Image {
     pub fn put_fun(&mut self, k: Key)
         requires room { 0 < function_room self.old }
         requires few { length (functions_of self.old) < 65536 }
-        requires new { function_of self.old k ≡ None }
+        requires new { (at : ℕ) → key_of self.old at ≢ Some k }
         requires absent { value_of self.old k ≡ None }
         ensures count { length (functions_of self.new) ≡ length (functions_of self.old) + 1 }
         ensures keys { (at : ℕ) → key_of self.new at ≡ (if at == stub_address (length (functions_of self.old)) then Some k else key_of self.old at) }

@@ -3,7 +3,7 @@ use Rattle.std.specs.Prelude.{nat_lt}
 use Rattle.sc_image.specs.Lookups.{texts_of}
 use Rattle.sc_image.specs.Stubs.{key_at, new_stub, stub_address, stub_word}
 use Rattle.sc_image.specs.Texts.{text_word}
-use Rattle.sc_image.proofs.Functions.{key_at-push, value-push, word-push}
+use Rattle.sc_image.proofs.Functions.{absent-key, key_at-push, value-push, word-push}
 use Rattle.sc_image.proofs.image.Image.put_fun.Goals as goal
 
 pub returns-clause-keys : goal.returns-clause-keys
@@ -21,3 +21,6 @@ returns-clause-words c = λ pc.
     let fs = c.args.self.now.functions.entries in
     let r = text_word (texts_of c.args.self.now) pc in
     ap (λ xs. cond (nat_lt pc 0x00100000) (stub_word xs pc) r) c.add_function.ensures.entries ∙ word-push fs c.args.k (new_stub (length fs)) pc r c.requires.few
+
+pub add_function-requires-clause-new : goal.add_function-requires-clause-new
+add_function-requires-clause-new c = absent-key c.args.k c.args.self.now.functions.entries c.requires.new
