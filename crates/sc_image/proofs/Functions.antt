@@ -1,5 +1,5 @@
 -- Functions by their numbers and by their keys.
-use Rattle.std.proofs.Common.{◌≡◌, ◌≢◌, ◌⊎◌, inl, inr, ℕ, zero, suc, ◌+◌, ◌-◌, ◌*◌, ◌/◌, ◌%◌, ◌<◌, ◌≤◌, ◌==◌, ◌&&◌, Bool, true, false, cond, List, [], ◌∷◌, ◌++◌, length, map, refl, sym, ap, ◌∙◌, subst, Option, Some, None, Result, Ok, Err, arith, true≢false}
+use Rattle.std.proofs.Common.{◌≡◌, ◌≢◌, ℕ, zero, suc, ◌+◌, ◌-◌, ◌/◌, ◌%◌, ◌<◌, ◌≤◌, ◌==◌, ◌&&◌, Bool, true, false, cond, List, [], ◌∷◌, ◌++◌, length, map, refl, sym, ap, ◌∙◌, subst, Option, Some, None, Result, Ok, Err, arith, true≢false}
 use Rattle.std.proofs.lemmas.Bool.Decides.{nat_tests}
 use Rattle.std.specs.Prelude.{IsOk, IsSome, MatchBool, OnOk, is_some, nat_lt}
 use Rattle.std.specs.List.{slice_get}
@@ -9,7 +9,7 @@ use Rattle.std.specs.Str.{bytes_eq}
 use Rattle.indexmap.specs.IndexMap.{set_value_at}
 use Rattle.sc_base.specs.declared.key.Key.{Key}
 use Rattle.sc_image.specs.declared.stub.Stub.{Stub}
-use Rattle.sc_image.specs.Stubs.{Functions, face, function_at, half, key_at, new_stub, set_at, stub_address, stub_of_word, stub_word, with_half}
+use Rattle.sc_image.specs.Stubs.{Functions, face, function_at, half, key_at, set_at, stub_address, stub_of_word, stub_word, with_half}
 use Rattle.sc_image.specs.Lookups.{key_eq, stub_value, value_or}
 
 eq-true : (m n : ℕ) → (m == n) ≡ true → m ≡ n

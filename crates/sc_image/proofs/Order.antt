@@ -1,11 +1,10 @@
 -- Texts in the order of their addresses.
-use Rattle.std.proofs.Common.{◌≡◌, ◌≢◌, ◌⊎◌, inl, inr, ℕ, zero, suc, ◌+◌, ◌-◌, ◌*◌, ◌/◌, ◌%◌, ◌<◌, ◌≤◌, ◌==◌, Bool, true, false, cond, List, [], ◌∷◌, length, get_or, set, refl, sym, ap, ◌∙◌, subst, Option, Some, None, find, arith, true≢false, ◌&&◌}
+use Rattle.std.proofs.Common.{◌≡◌, ◌≢◌, ◌⊎◌, inl, inr, ℕ, zero, suc, ◌+◌, ◌-◌, ◌*◌, ◌/◌, ◌%◌, ◌<◌, ◌≤◌, ◌==◌, Bool, true, false, cond, List, [], ◌∷◌, length, get_or, set, refl, sym, ap, ◌∙◌, Option, Some, None, find, arith, true≢false, ◌&&◌}
 use Rattle.std.proofs.lemmas.Bool.Decides.{nat_tests}
 use Rattle.std.specs.Prelude.{IsSome, IsTrue, nat_le, nat_lt}
 use Rattle.std.proofs.Math.ListN.{length-set}
 use Rattle.std.specs.List.{slice_get, insert, remove}
 use Rattle.sc_image.specs.declared.text.Text.{Text}
-use Rattle.sc_image.specs.declared.text.TextAt.{TextAt}
 use Rattle.sc_image.specs.Texts.{Before, IsFree, IsOrdered, end_of, holds, place_of, starts_at, text_holding, text_word, with_word, without, word_in, word_in_found}
 use Rattle.sc_image.proofs.Find.{Fails, FailsBut, Pairwise-insert, Pairwise-remove, find-insert, find-none, find-only, find-remove, find-set, get-insert, get-remove, get-set}
 

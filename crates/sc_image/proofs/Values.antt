@@ -1,5 +1,5 @@
 -- The values of keys.
-use Rattle.std.proofs.Common.{◌≡◌, ℕ, List, Option, Some, None}
+use Rattle.std.proofs.Common.{◌≡◌, ℕ, List}
 use Rattle.std.specs.Map.{lookup}
 use Rattle.sc_base.specs.declared.key.Key.{Key}
 use Rattle.sc_image.specs.declared.stub.Stub.{Stub}

@@ -1,5 +1,5 @@
 -- Stubs of functions, and addresses in two parts.
-use Rattle.std.specs.Prelude.{ℕ, zero, suc, Bool, true, false, ◌+◌, ◌-◌, ◌*◌, ◌/◌, ◌%◌, ◌^◌, ◌==◌, ◌&&◌, nat_lt, not, if◌then◌else◌, List, [], ◌∷◌, slice_get, Option, Some, None, ℤ, pos}
+use Rattle.std.specs.Prelude.{ℕ, zero, suc, Bool, true, false, ◌+◌, ◌-◌, ◌*◌, ◌/◌, ◌%◌, ◌^◌, ◌==◌, nat_lt, if◌then◌else◌, List, [], ◌∷◌, slice_get, Option, Some, None, ℤ, pos}
 use Rattle.std.specs.Option.{option_map}
 use Rattle.sc_base.specs.declared.key.Key.{Key}
 use Rattle.sc_isa.specs.declared.instruction.Instr.TheVariants.{Lui, Jalr, Imm, Ecall}

@@ -1,5 +1,5 @@
 -- Placed texts in the order of their addresses.
-use Rattle.std.specs.Prelude.{◌≡◌, ◌⊎◌, ℕ, ◌+◌, ◌-◌, ◌*◌, ◌/◌, ◌%◌, ◌==◌, ◌&&◌, ◌<◌, ◌≤◌, Bool, false, nat_lt, nat_le, if◌then◌else◌, List, length, slice_get, slice_set, find, Option, None, Some}
+use Rattle.std.specs.Prelude.{◌≡◌, ℕ, ◌+◌, ◌-◌, ◌*◌, ◌/◌, ◌%◌, ◌==◌, ◌&&◌, ◌<◌, ◌≤◌, Bool, false, nat_lt, nat_le, if◌then◌else◌, List, length, slice_get, slice_set, find, Option, None, Some}
 use Rattle.std.specs.Option.{option_map}
 use Rattle.sc_image.specs.declared.text.Text.{Text}
 use Rattle.sc_image.specs.declared.text.TextAt.{TextAt}

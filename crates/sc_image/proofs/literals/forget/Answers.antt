@@ -1,4 +1,4 @@
-use Rattle.std.proofs.Common.{◌∙◌, ap, sym, arith}
+use Rattle.std.proofs.Common.{arith}
 use Rattle.sc_image.proofs.Listed.{listed-without}
 use Rattle.sc_image.proofs.literals.forget.Goals as goal
 

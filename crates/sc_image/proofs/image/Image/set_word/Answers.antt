@@ -1,4 +1,4 @@
-use Rattle.std.proofs.Common.{◌≡◌, ◌∙◌, ◌==◌, ◌%◌, ap, cond, length, sym}
+use Rattle.std.proofs.Common.{◌∙◌, ◌==◌, ◌%◌, ap, cond, length, sym}
 use Rattle.std.specs.Prelude.{nat_lt}
 use Rattle.std.specs.Map.{lookup}
 use Rattle.sc_image.specs.Lookups.{key_eq, stub_value, texts_of, value_or}

@@ -1,4 +1,4 @@
-use Rattle.std.proofs.Common.{◌≡◌, ◌≢◌, ℕ, Some, sym, subst}
+use Rattle.std.proofs.Common.{◌≢◌, ℕ, Some, sym, subst}
 use Rattle.sc_image.specs.Literals.{Placed, literal_at}
 use Rattle.sc_image.proofs.Indexed.{indexed-put}
 use Rattle.sc_image.proofs.literals.Literals.put.Goals as goal

@@ -1,6 +1,5 @@
-use Rattle.std.proofs.Common.{◌≡◌, ◌∙◌, ◌+◌, ◌-◌, ◌<◌, ◌≤◌, ap, sym, subst, length, Some, None, arith}
+use Rattle.std.proofs.Common.{◌≡◌, ◌-◌, sym, Some, arith}
 use Rattle.std.specs.List.{slice_get}
-use Rattle.sc_image.specs.Texts.{Table, holds, text_holding}
 use Rattle.sc_image.proofs.Order.{found-at, get-index, none-found, past-fails, within-holds}
 use Rattle.sc_image.proofs.texts.Texts.find.Goals as goal
 

@@ -1,5 +1,5 @@
-use Rattle.std.proofs.Common.{◌≡◌, ◌∙◌, ap, sym, subst, arith}
-use Rattle.sc_image.specs.Texts.{IsFree, IsOrdered, Table, end_of, text_holding}
+use Rattle.std.proofs.Common.{sym, subst, arith}
+use Rattle.sc_image.specs.Texts.{IsFree, Table, end_of}
 use Rattle.sc_image.proofs.Order.{clear-free, holding-insert, ordered-insert}
 use Rattle.sc_image.proofs.texts.Texts.put.Goals as goal
 

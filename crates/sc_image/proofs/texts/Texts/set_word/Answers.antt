@@ -1,7 +1,7 @@
-use Rattle.std.proofs.Common.{◌≡◌, ◌∙◌, ◌+◌, ◌-◌, ◌<◌, ◌≤◌, ap, sym, subst, length, Some, None, arith}
+use Rattle.std.proofs.Common.{◌≡◌, ◌-◌, sym, subst, Some, arith}
 use Rattle.std.specs.Prelude.{IsSome}
 use Rattle.std.specs.List.{slice_get}
-use Rattle.sc_image.specs.Texts.{Table, holds, text_holding, text_word}
+use Rattle.sc_image.specs.Texts.{Table, text_word}
 use Rattle.sc_image.proofs.Order.{get-index, is-some, ordered-set, place-set, some-first, text_word-set, word-at}
 use Rattle.sc_image.proofs.texts.Texts.set_word.Goals as goal
 
