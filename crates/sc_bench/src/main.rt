@@ -8,7 +8,8 @@ use sc_image::Image;
 use sc_mem::Memory;
 use std::alloc::Global;
 
-const USAGE: &str = "words: load, store, at, births or value; how many objects or keys; how many steps\n";
+const USAGE: &str =
+    "words: load, store, at, births or value; how many objects or keys; how many steps\n";
 
 fn main(rt: HostRuntime) -> Result<(), std::io::Error> {
     match run(&rt) {
