@@ -4,9 +4,11 @@
 mod access;
 mod areas;
 mod arithmetic;
+mod comparison;
 mod memory;
 mod words;
 
+pub use comparison::overlap;
 pub use memory::Memory;
 
 #[cfg(test)]

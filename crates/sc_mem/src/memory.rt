@@ -9,11 +9,13 @@ ghost use Rattle.sc_objects.specs.Numbered.{IsLive};
 use crate::access::{constant, reach, rule_in};
 use crate::areas::{HEAP, STATIC_BYTES, place};
 use crate::arithmetic::moved;
+use crate::comparison::{difference, equality, freeing, order, truth};
 use crate::words::{load_word, store_word};
 use sc_base::{Kind, NoMemory, Rule, Word};
 use sc_cells::Cells;
 use sc_objects::{BirthFault, Heap, Obj, Objects};
 use std::alloc::Global;
+use std::cmp::Ordering;
 use std::marker::Model;
 
 /// The memory of a run: the cells of the static area, the heap and the stack, all objects by number, and the heap's
@@ -241,6 +243,78 @@ impl Memory {
             self.cells.copy(target, source, n);
         }
         Ok(())
+    }
+}
+
+impl Memory {
+    ghost use Rattle.sc_mem.specs.Violations.{reach_rule};
+    ghost use Rattle.sc_mem.specs.Comparisons.{difference_rule, elements_of, equality_rule, free_rule, is_same, order_of, order_rule, truth_of, truth_rule, write_rule};
+
+    /// Whether a pointer is not null, or the first of U15 and U3 that the test breaks.
+    pub fn truth(&self, p: Word) -> Result<bool, Rule>
+        ensures { MatchResult result (λ is. (truth_rule self.now.flat.objects p ≡ None) × (is ≡ truth_of p)) (λ rule. truth_rule self.now.flat.objects p ≡ Some rule) }
+    {
+        match truth(&self.objects, p) {
+            Some(rule) => Err(rule),
+            None => Ok(p.bits != 0 || p.tag != 0),
+        }
+    }
+
+    /// Whether two pointers are equal, or the first of U15 and U3 that the test breaks. Two pointers into different
+    /// objects are never equal.
+    pub fn equal(&self, p: Word, q: Word) -> Result<bool, Rule>
+        ensures { MatchResult result (λ is. (equality_rule self.now.flat.objects p q ≡ None) × (is ≡ is_same p q)) (λ rule. equality_rule self.now.flat.objects p q ≡ Some rule) }
+    {
+        match equality(&self.objects, p, q) {
+            Some(rule) => Err(rule),
+            None => Ok(p.bits == q.bits && p.tag == q.tag),
+        }
+    }
+
+    /// The order of two pointers into one object, or of null and null, or the first of U15, U3 and U6 that it breaks.
+    pub fn order(&self, p: Word, q: Word) -> Result<Ordering, Rule>
+        ensures { MatchResult result (λ is. (order_rule self.now.flat.objects p q ≡ None) × (is ≡ order_of p q)) (λ rule. order_rule self.now.flat.objects p q ≡ Some rule) }
+    {
+        match order(&self.objects, p, q) {
+            Some(rule) => Err(rule),
+            None => Ok(p.bits.cmp(&q.bits)),
+        }
+    }
+
+    /// How many elements of `size` bytes lie from `q` to `p`, or the first of U15, U3, U6 and U5 that the difference
+    /// breaks. Null minus null is 0.
+    pub fn difference(&self, p: Word, q: Word, size: u32) -> Result<i64, Rule>
+        requires { 0 < size }
+        ensures { MatchResult result (λ n. (difference_rule self.now.flat.objects p q size ≡ None) × (n ≡ elements_of p q size)) (λ rule. difference_rule self.now.flat.objects p q size ≡ Some rule) }
+    {
+        difference(&self.objects, p, q, size)
+    }
+
+    /// The first of U4, U3 and U2 that a read of `n` bytes breaks which tests neither alignment nor bytes.
+    pub fn reads(&self, p: Word, n: u32) -> Option<Rule>
+        ensures { result ≡ reach_rule self.now.flat.objects p n }
+    {
+        reach(&self.objects, p, n)
+    }
+
+    /// The first of U4, U3, U2 and U11 that a write of `n` bytes breaks which tests no alignment.
+    pub fn writes(&self, p: Word, n: u32) -> Option<Rule>
+        ensures { result ≡ write_rule self.now.flat.objects p n }
+    {
+        if let Some(rule) = reach(&self.objects, p, n) {
+            return Some(rule);
+        }
+        if constant(&self.objects, p) {
+            return Some(Rule::U11);
+        }
+        None
+    }
+
+    /// U14, where a pointer is neither null nor the start of a live allocated object, so that it cannot be freed.
+    pub fn frees(&self, p: Word) -> Option<Rule>
+        ensures { result ≡ free_rule self.now.flat.objects p }
+    {
+        freeing(&self.objects, p)
     }
 }
 

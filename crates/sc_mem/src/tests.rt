@@ -1,7 +1,8 @@
 // Accesses to a memory with 4,096 bytes of stack and 128 of heap, against values worked out by hand.
-use crate::Memory;
+use crate::{Memory, overlap};
 use sc_base::{Kind, NoMemory, Rule, Word};
 use std::alloc::Global;
+use std::cmp::Ordering;
 use std::test::Fail;
 
 fn word(bits: u32, tag: u32) -> Word {
@@ -160,5 +161,154 @@ fn pointer_arithmetic(rt: HostRuntime) -> Result<(), Fail> {
     }
     assert!(rt; free(&mut m, 1));
     assert_eq!(rt; m.shift(word(0x10000000, 1), 0, 1), Err(Rule::U3));
+    Ok(())
+}
+
+// A memory with one object, a constant one of 8 bytes at the start of the static area, the first four of which are 5,
+// 0, 0 and 0.
+fn constant(alloc: Global) -> Result<Memory, Fail> {
+    let mut m = Memory::new(alloc, 4096, 128)?;
+    if m.birth(8, Kind::Const, 0x08000000).is_err() {
+        return Err(Fail::from("no memory"));
+    }
+    let _ = m.raw_store(0x08000000, 4, word(5, 0));
+    Ok(m)
+}
+
+#[test]
+fn a_constant_object_is_only_read(rt: HostRuntime) -> Result<(), Fail> {
+    let mut m = constant(rt.alloc())?;
+    let first = word(0x08000000, 1);
+    for (bits, want) in [
+        (0x08000000, Err(Rule::U11)),
+        (0x08000002, Err(Rule::U10)),
+        (0x08000008, Err(Rule::U2)),
+    ] {
+        assert_eq!(rt; m.store(word(bits, 1), 4, word(6, 0)), want, "{bits}");
+    }
+    assert_eq!(rt; m.copy(word(0x08000004, 1), first, 4), Err(Rule::U11));
+    assert_eq!(rt; m.writes(word(0x08000003, 1), 4), Some(Rule::U11));
+    assert_eq!(rt; m.reads(word(0x08000003, 1), 4), None);
+    assert_eq!(rt; m.load(first, 4, false), Ok(word(5, 0)));
+    Ok(())
+}
+
+// Three allocated objects of 8 bytes, at 0x10000000, 0x10000010 and 0x10000020. The third is freed, and a fourth stands
+// in its place.
+fn four(alloc: Global) -> Result<Memory, Fail> {
+    let mut m = small(alloc)?;
+    for _ in 0..3 {
+        allocate(&mut m, 8)?;
+    }
+    free(&mut m, 3);
+    allocate(&mut m, 8)?;
+    Ok(m)
+}
+
+#[test]
+fn pointers_compared(rt: HostRuntime) -> Result<(), Fail> {
+    let m = four(rt.alloc())?;
+    let first = word(0x10000000, 1);
+    for (p, q, equal, order, difference) in [
+        (
+            word(0x10000004, 1),
+            first,
+            Ok(false),
+            Ok(Ordering::Greater),
+            Ok(1),
+        ),
+        (first, first, Ok(true), Ok(Ordering::Equal), Ok(0)),
+        (
+            first,
+            word(0x10000008, 1),
+            Ok(false),
+            Ok(Ordering::Less),
+            Ok(-2),
+        ),
+        (
+            word(0x10000001, 1),
+            first,
+            Ok(false),
+            Ok(Ordering::Greater),
+            Err(Rule::U5),
+        ),
+        (
+            first,
+            word(0x10000001, 1),
+            Ok(false),
+            Ok(Ordering::Less),
+            Err(Rule::U5),
+        ),
+        (
+            first,
+            word(0x10000010, 2),
+            Ok(false),
+            Err(Rule::U6),
+            Err(Rule::U6),
+        ),
+        (word(0, 0), word(0, 0), Ok(true), Ok(Ordering::Equal), Ok(0)),
+        (word(0, 0), first, Ok(false), Err(Rule::U6), Err(Rule::U6)),
+        (first, word(0, 0), Ok(false), Err(Rule::U6), Err(Rule::U6)),
+        (
+            word(7, 0),
+            first,
+            Err(Rule::U15),
+            Err(Rule::U15),
+            Err(Rule::U15),
+        ),
+        (
+            word(0x10000020, 3),
+            word(7, 0),
+            Err(Rule::U15),
+            Err(Rule::U15),
+            Err(Rule::U15),
+        ),
+        (
+            word(0x10000020, 4),
+            word(0x10000020, 3),
+            Err(Rule::U3),
+            Err(Rule::U3),
+            Err(Rule::U3),
+        ),
+    ] {
+        assert_eq!(rt; m.equal(p, q), equal, "{p:?} {q:?}");
+        assert_eq!(rt; m.order(p, q), order, "{p:?} {q:?}");
+        assert_eq!(rt; m.difference(p, q, 4), difference, "{p:?} {q:?}");
+    }
+    Ok(())
+}
+
+#[test]
+fn pointers_by_number(rt: HostRuntime) -> Result<(), Fail> {
+    let m = four(rt.alloc())?;
+    for (bits, tag, load, truth, frees) in [
+        (0x10000020, 4, Ok(word(5, 0)), Ok(true), None),
+        (0x10000020, 3, Err(Rule::U3), Err(Rule::U3), Some(Rule::U14)),
+        (0x10000000, 1, Ok(word(5, 0)), Ok(true), None),
+        (0x10000004, 1, Err(Rule::U1), Ok(true), Some(Rule::U14)),
+        (
+            0x10000000,
+            0,
+            Err(Rule::U2),
+            Err(Rule::U15),
+            Some(Rule::U14),
+        ),
+        (0, 0, Err(Rule::U4), Ok(false), None),
+    ] {
+        let p = word(bits, tag);
+        assert_eq!(rt; m.load(p, 4, false), load, "{bits} {tag}");
+        assert_eq!(rt; m.truth(p), truth, "{bits} {tag}");
+        assert_eq!(rt; m.frees(p), frees, "{bits} {tag}");
+    }
+    for (p, n, q, m, want) in [
+        (word(100, 1), 4, word(104, 1), 4, false),
+        (word(100, 1), 5, word(104, 1), 4, true),
+        (word(104, 1), 4, word(100, 1), 4, false),
+        (word(104, 1), 4, word(100, 1), 5, true),
+        (word(100, 1), 4, word(100, 2), 4, false),
+        (word(100, 1), 8, word(104, 1), 0, false),
+    ] {
+        assert_eq!(rt; overlap(p, n, q, m), want, "{p:?} {n} {q:?} {m}");
+    }
     Ok(())
 }

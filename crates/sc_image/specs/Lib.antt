@@ -1,0 +1,4 @@
+pub mod Texts
+pub mod Literals
+pub mod Stubs
+pub mod Lookups

@@ -1,0 +1,121 @@
+// The tests of steps that look at pointers and access nothing.
+ghost use Rattle.std.specs.Prelude.{◌≡◌, ◌<◌, None, Some, MatchResult};
+ghost use Rattle.sc_mem.specs.Violations.{is_dead, is_number};
+ghost use Rattle.sc_mem.specs.Comparisons.{are_unrelated, difference_rule, elements_of, equality_rule, free_rule, is_overlapping, order_rule, truth_rule};
+
+use sc_base::{Kind, Rule, Word};
+use sc_objects::Objects;
+
+/// The first of U15 and U3 that a truth test breaks.
+pub fn truth(objects: &Objects, p: Word) -> Option<Rule>
+    ensures { result ≡ truth_rule objects.now p }
+{
+    if number(p) {
+        Some(Rule::U15)
+    } else if dead(objects, p) {
+        Some(Rule::U3)
+    } else {
+        None
+    }
+}
+
+/// The first of U15 and U3 that a test for equality breaks.
+pub fn equality(objects: &Objects, p: Word, q: Word) -> Option<Rule>
+    ensures { result ≡ equality_rule objects.now p q }
+{
+    if number(p) || number(q) {
+        Some(Rule::U15)
+    } else if dead(objects, p) || dead(objects, q) {
+        Some(Rule::U3)
+    } else {
+        None
+    }
+}
+
+/// The first of U15, U3 and U6 that an order breaks.
+pub fn order(objects: &Objects, p: Word, q: Word) -> Option<Rule>
+    ensures { result ≡ order_rule objects.now p q }
+{
+    if number(p) || number(q) {
+        Some(Rule::U15)
+    } else if dead(objects, p) || dead(objects, q) {
+        Some(Rule::U3)
+    } else if unrelated(objects, p, q) {
+        Some(Rule::U6)
+    } else {
+        None
+    }
+}
+
+/// The elements of `size` bytes from `q` to `p`, or the first of U15, U3, U6 and U5 that their difference breaks.
+pub fn difference(objects: &Objects, p: Word, q: Word, size: u32) -> Result<i64, Rule>
+    requires { 0 < size }
+    ensures { MatchResult result (λ n. (difference_rule objects.now p q size ≡ None) × (n ≡ elements_of p q size)) (λ rule. difference_rule objects.now p q size ≡ Some rule) }
+{
+    if number(p) || number(q) {
+        return Err(Rule::U15);
+    }
+    if dead(objects, p) || dead(objects, q) {
+        return Err(Rule::U3);
+    }
+    if unrelated(objects, p, q) {
+        return Err(Rule::U6);
+    }
+    let bytes = i64::from(p.bits) - i64::from(q.bits);
+    if bytes % i64::from(size) != 0 {
+        return Err(Rule::U5);
+    }
+    Ok(bytes / i64::from(size))
+}
+
+/// U14, where a pointer cannot be freed.
+pub fn freeing(objects: &Objects, p: Word) -> Option<Rule>
+    ensures { result ≡ free_rule objects.now p }
+{
+    if p.bits == 0 && p.tag == 0 {
+        return None;
+    }
+    let Some(object) = objects.find(p.tag) else {
+        return Some(Rule::U14);
+    };
+    match object.kind {
+        Kind::Heap if object.live && p.bits == object.base => None,
+        _ => Some(Rule::U14),
+    }
+}
+
+/// Whether `n` bytes from `p` on and `m` bytes from `q` on have a byte in common (U18).
+pub fn overlap(p: Word, n: u32, q: Word, m: u32) -> bool
+    ensures { result ≡ is_overlapping p n q m }
+{
+    let end = u64::from(p.bits) + u64::from(n);
+    let other = u64::from(q.bits) + u64::from(m);
+    p.tag == q.tag && u64::from(p.bits.max(q.bits)) < end.min(other)
+}
+
+// U15: a number that is not null.
+fn number(p: Word) -> bool
+    ensures { result ≡ is_number p }
+{
+    p.tag == 0 && p.bits != 0
+}
+
+// U3: the object has died.
+fn dead(objects: &Objects, p: Word) -> bool
+    ensures { result ≡ is_dead objects.now p }
+{
+    match objects.find(p.tag) {
+        None => false,
+        Some(object) => !object.live,
+    }
+}
+
+// U6, behind the other two tests.
+fn unrelated(objects: &Objects, p: Word, q: Word) -> bool
+    ensures { result ≡ are_unrelated objects.now p q }
+{
+    if p.bits == 0 && p.tag == 0 && q.bits == 0 && q.tag == 0 {
+        return false;
+    }
+    p.tag != q.tag || objects.find(p.tag).is_none()
+}
