@@ -16,3 +16,4 @@ pub mod Printf
 pub mod Functions
 pub mod Calls
 pub mod Behaviour
+pub mod Laws
