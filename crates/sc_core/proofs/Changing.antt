@@ -1,11 +1,11 @@
 -- Births of static objects, changes of the version, and events are related to themselves.
-use Rattle.std.proofs.Common.{ℕ, ◌+◌, ◌==◌, Bool, true, false, if◌then◌else◌, List, [], ◌∷◌, ◌++◌, Option, Some, None}
+use Rattle.std.proofs.Common.{ℕ, ◌+◌, ◌==◌, nat_lt, Bool, true, false, if◌then◌else◌, List, [], ◌∷◌, ◌++◌, Option, Some, None}
 use Rattle.sc_program.specs.declared.storage.StaticId.{StaticId}
 use Rattle.sc_program.specs.declared.storage.StaticId.TheVariants.{Named, Literal}
 use Rattle.sc_core.specs.World.{World, Event, pass, Name, Unname, Death, Happens, named_in}
 use Rattle.sc_core.specs.Outcomes.{Outcome, Done, Over, went, and_then}
 use Rattle.sc_core.specs.Versions.{Text, Version, History, Definition, object_in, births_of, is_kept}
-use Rattle.sc_core.specs.Changes.{born_as, born_static, born_unless, born_all, unnamed, filled, filled_all, born_and_filled, statics_born, dead, dead_unless_kept, deaths, changed, settled_from, settled, happened}
+use Rattle.sc_core.specs.Changes.{born_as, born_static, born_unless, born_all, unnamed, filled, filled_all, born_and_filled, statics_born, dead, dead_unless_kept, deaths, changed, changed_if, settled_from, settled_at, settled, happened}
 use Rattle.sc_core.specs.Laws.{Leads}
 use Rattle.sc_core.proofs.Relation.{Relation}
 use Rattle.sc_core.proofs.Steps.{here, on, one_more, and_more, same_done, passes, after_one, if_goes}
@@ -72,15 +72,22 @@ module _ (R : Relation) where
       let v : World = deaths old new (births_of old) w in
       R.earlier w v (statics_born new v) (statics_born new v) (deaths_lead old new (births_of old) w) (statics_go new v)
 
-  from_goes : (old : List Text) (vs : List Version) (w : World) → R.Rel w (settled_from old vs w) (settled_from old vs w)
-  from_goes old [] w = same_done R tt w
-  from_goes old (v ∷ vs) w =
-      let r : Outcome (Unit {0}) = changed old v.texts w in
-      if_goes R (v.count == w.count) w _ _ _ _ (R.bind w r r _ _ (changed_goes old v.texts w) (λ u x. from_goes v.texts vs x)) (from_goes v.texts vs w)
+  if_changed : (b : Bool) (old new : List Text) (w : World) → R.Rel w (changed_if b old new w) (changed_if b old new w)
+  if_changed true old new w = changed_goes old new w
+  if_changed false old new w = same_done R tt w
+
+  from_goes : (n : ℕ) (old : List Text) (vs : List Version) (w : World) → R.Rel w (settled_from n old vs w) (settled_from n old vs w)
+  from_goes n old [] w = same_done R tt w
+  from_goes n old (v ∷ vs) w =
+      let r : Outcome (Unit {0}) = changed_if (v.count == n) old v.texts w in
+      if_goes R (nat_lt n v.count) w _ _ _ _ (same_done R tt w) (R.bind w r r _ _ (if_changed (v.count == n) old v.texts w) (λ u x. from_goes n v.texts vs x))
+
+  at_goes : (n : ℕ) (h : History) (w : World) → R.Rel w (settled_at n h w) (settled_at n h w)
+  at_goes n [] w = same_done R tt w
+  at_goes n (v ∷ vs) w = from_goes n v.texts vs w
 
   pub settled_goes : (h : History) (w : World) → R.Rel w (settled h w) (settled h w)
-  settled_goes [] w = same_done R tt w
-  settled_goes (v ∷ vs) w = from_goes v.texts vs w
+  settled_goes h w = at_goes w.count h w
 
   pub happened_goes : (h : History) (e : Event) (w : World) → R.Rel w (happened h e w) (happened h e w)
   happened_goes h e w =

@@ -4,3 +4,8 @@ pub mod Leaves
 pub mod Changing
 pub mod ExpressionsGo
 pub mod StatementsGo
+pub mod LibraryGo
+pub mod FunctionsGo
+pub mod CallsGo
+pub mod Growing
+pub mod Deeper

@@ -1,5 +1,5 @@
 -- Births, the change from one version to the next, and events (ANSI 3.1.2.4, 3.5.7).
-use Rattle.std.specs.Prelude.{ℕ, ◌+◌, ◌==◌, Bool, true, false, nat_le, if◌then◌else◌, List, [], ◌∷◌, ◌++◌, length, map, replicate, Option, Some, None}
+use Rattle.std.specs.Prelude.{ℕ, ◌+◌, ◌==◌, Bool, true, false, nat_le, nat_lt, if◌then◌else◌, List, [], ◌∷◌, ◌++◌, length, map, replicate, Option, Some, None}
 use Rattle.sc_base.specs.declared.key.Key.{Key}
 use Rattle.sc_base.specs.declared.memory.Kind.{Kind}
 use Rattle.sc_base.specs.declared.memory.Kind.TheVariants as kind
@@ -128,16 +128,24 @@ deaths old new (id ∷ ids) w = deaths old new ids (dead_unless_kept old new id 
 abbrev pub changed : List Text → List Text → Step
 changed old new w = statics_born new (deaths old new (births_of old) w)
 
--- the changes that stand at the present count of events
-abbrev pub settled_from : List Text → List Version → Step
-settled_from old [] w = went w
-settled_from old (v ∷ vs) w =
-    if v.count == w.count then and_then (changed old v.texts w) (λ _ w. settled_from v.texts vs w)
-    else settled_from v.texts vs w
+abbrev pub changed_if : Bool → List Text → List Text → Step
+changed_if true old new w = changed old new w
+changed_if false old new w = went w
 
+-- the changes to the versions that come as n events have passed
+abbrev pub settled_from : ℕ → List Text → List Version → Step
+settled_from n old [] w = went w
+settled_from n old (v ∷ vs) w =
+    if nat_lt n v.count then went w
+    else and_then (changed_if (v.count == n) old v.texts w) (λ _ w. settled_from n v.texts vs w)
+
+abbrev pub settled_at : ℕ → History → Step
+settled_at n [] w = went w
+settled_at n (v ∷ vs) w = settled_from n v.texts vs w
+
+-- the changes that stand at the present count of events
 abbrev pub settled : History → Step
-settled [] w = went w
-settled (v ∷ vs) w = settled_from v.texts vs w
+settled h w = settled_at w.count h w
 
 -- an event passes, and the changes that stand behind it are made
 abbrev pub happened : History → Event → Step
