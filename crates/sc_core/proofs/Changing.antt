@@ -5,7 +5,7 @@ use Rattle.sc_program.specs.declared.storage.StaticId.TheVariants.{Named, Litera
 use Rattle.sc_core.specs.World.{World, Event, pass, Name, Unname, Death, Happens, named_in}
 use Rattle.sc_core.specs.Outcomes.{Outcome, Done, Over, went, and_then}
 use Rattle.sc_core.specs.Versions.{Text, Version, History, Definition, object_in, births_of, is_kept}
-use Rattle.sc_core.specs.Changes.{born_as, born_static, born_unless, born_all, unnamed, filled, filled_all, born_and_filled, statics_born, dead, dead_unless_kept, deaths, changed, changed_if, settled_from, settled_at, settled, happened}
+use Rattle.sc_core.specs.Changes.{born_as, born_static, born_unless, born_all, unnamed, filled, filled_all, born_and_filled, statics_born, dead, dead_unless_kept, deaths, changed, changed_if, settled_from, settled, happened}
 use Rattle.sc_core.specs.Laws.{Leads}
 use Rattle.sc_core.proofs.Relation.{Relation}
 use Rattle.sc_core.proofs.Steps.{here, on, one_more, and_more, same_done, passes, after_one, if_goes}
@@ -82,12 +82,8 @@ module _ (R : Relation) where
       let r : Outcome (Unit {0}) = changed_if (v.count == n) old v.texts w in
       if_goes R (nat_lt n v.count) w _ _ _ _ (same_done R tt w) (R.bind w r r _ _ (if_changed (v.count == n) old v.texts w) (λ u x. from_goes n v.texts vs x))
 
-  at_goes : (n : ℕ) (h : History) (w : World) → R.Rel w (settled_at n h w) (settled_at n h w)
-  at_goes n [] w = same_done R tt w
-  at_goes n (v ∷ vs) w = from_goes n v.texts vs w
-
   pub settled_goes : (h : History) (w : World) → R.Rel w (settled h w) (settled h w)
-  settled_goes h w = at_goes w.count h w
+  settled_goes h w = from_goes w.count [] h w
 
   pub happened_goes : (h : History) (e : Event) (w : World) → R.Rel w (happened h e w) (happened h e w)
   happened_goes h e w =

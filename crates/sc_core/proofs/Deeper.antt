@@ -7,7 +7,7 @@ use Rattle.sc_core.specs.Values.{Value}
 use Rattle.sc_core.specs.World.{World, tick, Work, pass}
 use Rattle.sc_core.specs.Outcomes.{Outcome, Done, Over, Ending, Undefined, Exit, StackFull, BirthLimit, OutOfFuel, and_then, world_at, world_after}
 use Rattle.sc_core.specs.Versions.{Text, History, version_at, callee_of}
-use Rattle.sc_core.specs.Changes.{statics_born}
+use Rattle.sc_core.specs.Changes.{settled}
 use Rattle.sc_core.specs.Expressions.{Env, Answer, expr_of}
 use Rattle.sc_core.specs.Statements.{stmt_of, turn_of}
 use Rattle.sc_core.specs.Calls.{eval, exec, turn, call, call_of}
@@ -15,7 +15,7 @@ use Rattle.sc_core.specs.Behaviour.{Start, first_world, main_key, main_called, s
 use Rattle.sc_core.specs.Laws.{Leads, EndsAs}
 use Rattle.sc_core.proofs.Relation.{Relation, Histories}
 use Rattle.sc_core.proofs.Steps.{here, on, passes, after_one}
-use Rattle.sc_core.proofs.Changing.{statics_go}
+use Rattle.sc_core.proofs.Changing.{settled_goes}
 use Rattle.sc_core.proofs.ExpressionsGo.{expr_goes}
 use Rattle.sc_core.proofs.StatementsGo.{stmt_goes, turn_goes}
 use Rattle.sc_core.proofs.CallsGo.{begun_goes, statement_goes, call_goes}
@@ -101,7 +101,8 @@ main_more n m le h w =
 
 started_more : (n m : ℕ) → n ≤ m → (s : Start) → Extending.Rel (first_world s) (started n s) (started m s)
 started_more n m le s =
-    Extending.bind (first_world s) (statics_born (version_at s.history 0) (first_world s)) (statics_born (version_at s.history 0) (first_world s)) _ _ (statics_go Extending (version_at s.history 0) (first_world s)) (λ x w. main_more n m le s.history w)
+    let r : Outcome (Unit {0}) = settled s.history (first_world s) in
+    Extending.bind (first_world s) r r _ _ (settled_goes Extending s.history (first_world s)) (λ x w. main_more n m le s.history w)
 
 pub ending_world : (r : Outcome Answer) → world_at (ending_of r) ≡ world_after r
 ending_world (Done a w) = refl

@@ -9,3 +9,6 @@ pub mod FunctionsGo
 pub mod CallsGo
 pub mod Growing
 pub mod Deeper
+pub mod Objects
+pub mod Trails
+pub mod Sooner

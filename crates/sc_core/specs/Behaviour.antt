@@ -4,8 +4,8 @@ use Rattle.sc_base.specs.declared.key.Key.{Key}
 use Rattle.sc_core.specs.World.{World, Event, events, tick}
 use Rattle.sc_core.specs.Outcomes.{Outcome, Done, Over, Ending, Exit, and_then, world_at}
 use Rattle.sc_core.specs.Violations.{bits}
-use Rattle.sc_core.specs.Versions.{History, version_at}
-use Rattle.sc_core.specs.Changes.{statics_born}
+use Rattle.sc_core.specs.Versions.{History}
+use Rattle.sc_core.specs.Changes.{settled}
 use Rattle.sc_core.specs.Expressions.{Answer, Plain, Place, Part, Nothing}
 use Rattle.sc_core.specs.Calls.{call}
 
@@ -50,9 +50,9 @@ status_of Nothing = 0
 abbrev pub main_called : ℕ → History → World → Outcome Answer
 main_called n h w = and_then (call n h main_key [] (tick w)) (λ a w. Done a (tick w))
 
--- the objects of static storage duration and the literals are born, and `main` is called
+-- The objects of static storage duration and the literals are born, as the first version comes, and `main` is called.
 abbrev pub started : ℕ → Start → Outcome Answer
-started n s = and_then (statics_born (version_at s.history 0) (first_world s)) (λ _ w. main_called n s.history w)
+started n s = and_then (settled s.history (first_world s)) (λ _ w. main_called n s.history w)
 
 abbrev pub ending_of : Outcome Answer → Ending
 ending_of (Done a w) = Exit (status_of a) w

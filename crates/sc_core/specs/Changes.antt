@@ -139,13 +139,9 @@ settled_from n old (v ∷ vs) w =
     if nat_lt n v.count then went w
     else and_then (changed_if (v.count == n) old v.texts w) (λ _ w. settled_from n v.texts vs w)
 
-abbrev pub settled_at : ℕ → History → Step
-settled_at n [] w = went w
-settled_at n (v ∷ vs) w = settled_from n v.texts vs w
-
--- the changes that stand at the present count of events
+-- the changes that stand at the present count of events; from no text to the first version that is all births
 abbrev pub settled : History → Step
-settled h w = settled_at w.count h w
+settled h w = settled_from w.count [] h w
 
 -- an event passes, and the changes that stand behind it are made
 abbrev pub happened : History → Event → Step

@@ -98,7 +98,8 @@ object_at objects (suc k) = slice_get objects k
 
 -- the objects, of which the one with this number is another
 abbrev pub with_object : List Object → ℕ → Object → List Object
-with_object objects id o = slice_set objects (id - 1) o
+with_object objects zero o = objects
+with_object objects (suc k) o = slice_set objects k o
 
 abbrev pub fresh : ℕ → Kind → Object
 fresh size kind = record { size = size; kind = kind; live = true; cells = replicate size Unwritten }
