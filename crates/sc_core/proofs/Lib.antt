@@ -12,3 +12,4 @@ pub mod Deeper
 pub mod Objects
 pub mod Trails
 pub mod Sooner
+pub mod Runs
