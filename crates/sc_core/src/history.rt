@@ -1,6 +1,7 @@
 // What a run shows, and the versions that it has (ANSI 2.1.2.3).
 
-use sc_base::{Form, Items, Key, Name};
+use crate::module::Core;
+use sc_base::{Form, Items, Key, Name, Shared};
 
 /// An event at which a run may be stopped: a function is entered, and the module that defines it; a function is left; a
 /// line of a module is reached, in a frame of this form.
@@ -16,4 +17,19 @@ pub enum Event {
 pub struct Past {
     pub events: u64,
     pub present: Items<u32>,
+}
+
+/// A module's text with the form in which it runs; two texts with one number are the same text.
+#[derive(Drop)]
+pub struct Text {
+    pub number: u32,
+    pub core: Shared<Core>,
+    pub form: Form,
+}
+
+/// The texts that are present, in their order, from the moment on at which this many events have passed.
+#[derive(Drop)]
+pub struct Version {
+    pub count: u64,
+    pub texts: Items<Text>,
 }
