@@ -7,22 +7,14 @@ use Rattle.sc_core.specs.declared.statement.CoreStmt.{CoreStmt}
 use Rattle.sc_core.specs.declared.statement.CoreStmt.TheOpen.{CoreStmt-F}
 use Rattle.sc_core.specs.declared.module.Fun.{Fun}
 use Rattle.sc_core.specs.declared.module.Auto.{Auto}
-use Rattle.sc_core.specs.declared.meaning.Born.{Born}
-use Rattle.sc_core.specs.declared.meaning.Ending.TheVariants.{StackFull}
-use Rattle.sc_core.specs.declared.meaning.Happening.TheVariants.{Enter, Leave}
-use Rattle.sc_core.specs.declared.meaning.Item.TheVariants.{Begin, Work, Push, Pop, Stack, OpenBlock}
-use Rattle.sc_core.specs.declared.meaning.Outcome.{Outcome}
-use Rattle.sc_core.specs.declared.meaning.Value.{Value}
-use Rattle.sc_core.specs.declared.meaning.Value.TheVariants.{Pointer}
-use Rattle.sc_core.specs.declared.meaning.Way.{Way}
-use Rattle.sc_core.specs.declared.meaning.World.{World}
-use Rattle.sc_core.specs.World.{pass}
+use Rattle.sc_core.specs.Values.{Value, Pointer}
+use Rattle.sc_core.specs.World.{World, Born, Enter, Leave, Begin, Work, pass, Push, Pop, Stack, OpenBlock}
+use Rattle.sc_core.specs.Outcomes.{Outcome, StackFull}
 use Rattle.sc_core.specs.Accesses.{set_at}
-use Rattle.sc_core.specs.declared.history.Text.{Text}
-use Rattle.sc_core.specs.Versions.{History, Callee, Missing, InText, InLibrary}
+use Rattle.sc_core.specs.Versions.{Text, History, Callee, Missing, InText, InLibrary}
 use Rattle.sc_core.specs.Changes.{born, happened}
 use Rattle.sc_core.specs.Expressions.{Env, begun}
-use Rattle.sc_core.specs.Statements.{Exec, stmt_begun, all_dead, auto_kind}
+use Rattle.sc_core.specs.Statements.{Way, Exec, stmt_begun, all_dead, auto_kind}
 use Rattle.sc_core.specs.Calls.{parameters, frame_of, answer_of, left, body_of, entered, call_of}
 use Rattle.sc_core.proofs.Relation.{Relation, Histories}
 use Rattle.sc_core.proofs.Steps.{here, one_more, and_more, same_done, after_one, stops, either_goes}

@@ -2,14 +2,9 @@
 use Rattle.std.proofs.Common.{ℕ, ◌==◌, nat_lt, Bool, true, false, if◌then◌else◌, List, [], ◌∷◌, Option, Some, None}
 use Rattle.sc_program.specs.declared.storage.StaticId.{StaticId}
 use Rattle.sc_program.specs.declared.storage.StaticId.TheVariants.{Named, Literal}
-use Rattle.sc_core.specs.World.{pass, named_in}
-use Rattle.sc_core.specs.declared.meaning.Happening.{Happening}
-use Rattle.sc_core.specs.declared.meaning.Item.TheVariants.{Name, Unname, Death, Happens}
-use Rattle.sc_core.specs.declared.meaning.Outcome.{Outcome}
-use Rattle.sc_core.specs.declared.meaning.World.{World}
-use Rattle.sc_core.specs.declared.history.Text.{Text}
-use Rattle.sc_core.specs.declared.history.Version.{Version}
-use Rattle.sc_core.specs.Versions.{History, Definition, object_in, births_of, is_kept}
+use Rattle.sc_core.specs.World.{World, Event, pass, Name, Unname, Death, Happens, named_in}
+use Rattle.sc_core.specs.Outcomes.{Outcome}
+use Rattle.sc_core.specs.Versions.{Text, Version, History, Definition, object_in, births_of, is_kept}
 use Rattle.sc_core.specs.Changes.{born_as, born_static, born_unless, born_all, unnamed, filled, filled_all, born_and_filled, statics_born, dead, dead_unless_kept, deaths, changed, changed_if, settled_from, settled, happened}
 use Rattle.sc_core.specs.Laws.{Leads}
 use Rattle.sc_core.proofs.Relation.{Relation}
@@ -90,7 +85,7 @@ module _ (R : Relation) where
   pub settled_goes : (h : History) (w : World) → R.Rel w (settled h w) (settled h w)
   settled_goes h w = from_goes w.count [] h w
 
-  pub happened_goes : (h : History) (e : Happening) (w : World) → R.Rel w (happened h e w) (happened h e w)
+  pub happened_goes : (h : History) (e : Event) (w : World) → R.Rel w (happened h e w) (happened h e w)
   happened_goes h e w =
       let v : World = pass (Happens e) w in
       after_one R (Happens e) w (settled h v) (settled h v) (settled_goes h v)

@@ -3,20 +3,12 @@ use Rattle.std.proofs.Common.{◌≡◌, ℕ, zero, suc, ◌≤◌, List, [], re
 use Rattle.sc_base.specs.declared.key.Key.{Key}
 use Rattle.sc_core.specs.declared.expression.CoreExpr.{CoreExpr, out-CoreExpr}
 use Rattle.sc_core.specs.declared.statement.CoreStmt.{CoreStmt, out-CoreStmt}
-use Rattle.sc_core.specs.declared.meaning.Answer.{Answer}
-use Rattle.sc_core.specs.declared.meaning.Breach.{Breach}
-use Rattle.sc_core.specs.declared.meaning.Ending.{Ending}
-use Rattle.sc_core.specs.declared.meaning.Ending.TheVariants.{Undefined, Exit, StackFull, BirthLimit, OutOfFuel}
-use Rattle.sc_core.specs.declared.meaning.Item.TheVariants.{Work}
-use Rattle.sc_core.specs.declared.meaning.Outcome.{Outcome}
-use Rattle.sc_core.specs.declared.meaning.Outcome.TheVariants.{Done, Over}
-use Rattle.sc_core.specs.declared.meaning.Value.{Value}
-use Rattle.sc_core.specs.declared.meaning.World.{World}
-use Rattle.sc_core.specs.World.{tick}
-use Rattle.sc_core.specs.Outcomes.{and_then, world_at, world_after}
+use Rattle.sc_core.specs.Values.{Value}
+use Rattle.sc_core.specs.World.{World, tick, Work}
+use Rattle.sc_core.specs.Outcomes.{Outcome, Done, Over, Breach, Ending, Undefined, Exit, StackFull, BirthLimit, OutOfFuel, and_then, world_at, world_after}
 use Rattle.sc_core.specs.Versions.{History, version_at, callee_of}
 use Rattle.sc_core.specs.Changes.{settled}
-use Rattle.sc_core.specs.Expressions.{Env, expr_of}
+use Rattle.sc_core.specs.Expressions.{Env, Answer, expr_of}
 use Rattle.sc_core.specs.Statements.{stmt_of}
 use Rattle.sc_core.specs.Calls.{eval, exec, turn, call}
 use Rattle.sc_core.specs.Behaviour.{Start, first_world, main_key, main_called, started, ending_of, ending}

@@ -14,20 +14,12 @@ use Rattle.sc_core.specs.declared.expression.Step.{Step}
 use Rattle.sc_core.specs.declared.expression.UnaryOperator.{UnaryOperator}
 use Rattle.sc_core.specs.declared.expression.UnaryOperator.TheVariants.{Plus, Minus, Complement, Not}
 use Rattle.sc_core.specs.Types.{type_of}
-use Rattle.sc_core.specs.Values.{null, is_pointer_type, int_of}
-use Rattle.sc_core.specs.declared.meaning.Answer.{Answer}
-use Rattle.sc_core.specs.declared.meaning.Answer.TheVariants.{Plain, Place, Part, Nothing}
-use Rattle.sc_core.specs.declared.meaning.Item.TheVariants.{Work}
-use Rattle.sc_core.specs.declared.meaning.Outcome.{Outcome}
-use Rattle.sc_core.specs.declared.meaning.Value.{Value}
-use Rattle.sc_core.specs.declared.meaning.Value.TheVariants.{Number, FunctionAt, Pointer}
-use Rattle.sc_core.specs.declared.meaning.World.{World}
-use Rattle.sc_core.specs.World.{tick}
-use Rattle.sc_core.specs.Outcomes.{and_then, unless}
+use Rattle.sc_core.specs.Values.{Value, Number, FunctionAt, Pointer, null, is_pointer_type, int_of}
+use Rattle.sc_core.specs.World.{World, Work, tick}
+use Rattle.sc_core.specs.Outcomes.{Outcome, and_then, unless}
 use Rattle.sc_core.specs.Accesses.{as_type, converted_value, loaded, stored, copied, computed, shifted, tested}
-use Rattle.sc_core.specs.declared.history.Text.{Text}
-use Rattle.sc_core.specs.Versions.{History}
-use Rattle.sc_core.specs.Expressions.{Env, Eval, Call, finished, plain, at_place, used, valued, base_of, further_of, static_at, address, read, decayed, layer_read, conversion, is_void, cast, next_value, operator_of, stepped, unary, truth, assigned_structure, compounded, moved_by, value_rule, call_breach, call_value, called, args_then, one, two, expr_of}
+use Rattle.sc_core.specs.Versions.{Text, History}
+use Rattle.sc_core.specs.Expressions.{Env, Answer, Plain, Place, Part, Nothing, Eval, Call, finished, plain, at_place, used, valued, base_of, further_of, static_at, address, read, decayed, layer_read, conversion, is_void, cast, next_value, operator_of, stepped, unary, truth, assigned_structure, compounded, moved_by, value_rule, call_breach, call_value, called, args_then, one, two, expr_of}
 use Rattle.sc_core.proofs.Relation.{Relation, Histories}
 use Rattle.sc_core.proofs.Steps.{same_done, passes, passes_two, after_one, stops, unless_goes, either_goes, if_goes}
 use Rattle.sc_core.proofs.Leaves.{loaded_goes, stored_goes, copied_goes, computed_goes, shifted_goes, member_goes, difference_goes, compared_goes, tested_goes}

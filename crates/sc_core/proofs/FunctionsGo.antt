@@ -7,19 +7,13 @@ use Rattle.sc_fmt.specs.Classes.{is_alpha, is_alnum, is_upper, is_lower, is_xdig
 use Rattle.sc_ops.specs.Numbers.{number_of, is_in_range}
 use Rattle.sc_core.specs.declared.library.LibFun.{LibFun}
 use Rattle.sc_core.specs.declared.library.LibFun.TheVariants as lib
-use Rattle.sc_core.specs.Values.{null}
-use Rattle.sc_core.specs.declared.meaning.Answer.TheVariants.{Plain, Nothing}
-use Rattle.sc_core.specs.declared.meaning.Cell.TheVariants.{Byte}
-use Rattle.sc_core.specs.declared.meaning.Ending.TheVariants.{Exit}
-use Rattle.sc_core.specs.declared.meaning.Item.TheVariants.{Work, Put, Read, Seed}
-use Rattle.sc_core.specs.declared.meaning.Value.{Value}
-use Rattle.sc_core.specs.declared.meaning.Value.TheVariants.{Number, FunctionAt, Pointer}
-use Rattle.sc_core.specs.declared.meaning.World.{World}
-use Rattle.sc_core.specs.World.{pass}
-use Rattle.sc_core.specs.Outcomes.{moved}
+use Rattle.sc_core.specs.Values.{Value, Number, FunctionAt, Pointer, Byte, null}
+use Rattle.sc_core.specs.World.{World, pass, Work, Put, Read, Seed}
+use Rattle.sc_core.specs.Outcomes.{Exit, moved}
 use Rattle.sc_core.specs.Violations.{bits, is_null, reach_rule, write_rule}
 use Rattle.sc_core.specs.Accesses.{copy_at}
 use Rattle.sc_core.specs.Versions.{History}
+use Rattle.sc_core.specs.Expressions.{Plain, Nothing}
 use Rattle.sc_core.specs.Library.{value_at, byte_read, text_upto, past, text_at, bytes_written, apart, shown, taken, given_back, block_size_at, block_tested}
 use Rattle.sc_core.specs.Functions.{is_character, on_character, in_class, lower, upper, putchar, puts, got, malloc, zeroed, calloc, free, enlarged, reallocated, realloc, copied_bytes, memmove, memcpy, set_all, memset, bytes_compared, text_written, strcpy, strcat, read_count, strncpy, strlen, first_found, last_found, Seen, after_space, digits_from, is_sign, signed_value, in_range, unsigned_from, signed_from, atoi, next_seed, exit, assertion_text, assert_fail, library_call}
 use Rattle.sc_core.specs.Laws.{Leads}

@@ -3,12 +3,9 @@ use Rattle.std.proofs.Common.{ℕ, zero, suc, List}
 use Rattle.sc_base.specs.declared.key.Key.{Key}
 use Rattle.sc_core.specs.declared.expression.CoreExpr.{CoreExpr, out-CoreExpr}
 use Rattle.sc_core.specs.declared.statement.CoreStmt.{CoreStmt, out-CoreStmt}
-use Rattle.sc_core.specs.declared.meaning.Ending.TheVariants.{OutOfFuel}
-use Rattle.sc_core.specs.declared.meaning.Outcome.{Outcome}
-use Rattle.sc_core.specs.declared.meaning.Outcome.TheVariants.{Done, Over}
-use Rattle.sc_core.specs.declared.meaning.Value.{Value}
-use Rattle.sc_core.specs.declared.meaning.World.{World}
-use Rattle.sc_core.specs.Outcomes.{and_then, world_after}
+use Rattle.sc_core.specs.Values.{Value}
+use Rattle.sc_core.specs.World.{World}
+use Rattle.sc_core.specs.Outcomes.{Outcome, Done, Over, OutOfFuel, and_then, world_after}
 use Rattle.sc_core.specs.Versions.{History, version_at, callee_of}
 use Rattle.sc_core.specs.Expressions.{Env, expr_of}
 use Rattle.sc_core.specs.Statements.{stmt_of}

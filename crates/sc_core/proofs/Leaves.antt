@@ -4,12 +4,9 @@ use Rattle.sc_base.specs.declared.integer.Int.{Int}
 use Rattle.sc_base.specs.declared.memory.Kind.{Kind}
 use Rattle.sc_base.specs.declared.operator.Op.{Op}
 use Rattle.sc_types.specs.declared.ctype.CType.{CType}
-use Rattle.sc_core.specs.Values.{scalar_size, is_pointer_type}
-use Rattle.sc_core.specs.declared.meaning.Ending.TheVariants.{BirthLimit}
-use Rattle.sc_core.specs.declared.meaning.Item.TheVariants.{Birth}
-use Rattle.sc_core.specs.declared.meaning.Value.{Value}
-use Rattle.sc_core.specs.declared.meaning.Value.TheVariants.{Number, FunctionAt, Pointer}
-use Rattle.sc_core.specs.declared.meaning.World.{World}
+use Rattle.sc_core.specs.Values.{Value, Number, FunctionAt, Pointer, scalar_size, is_pointer_type}
+use Rattle.sc_core.specs.World.{World, Birth}
+use Rattle.sc_core.specs.Outcomes.{BirthLimit}
 use Rattle.sc_base.specs.declared.integer.Int.TheVariants.{UInt}
 use Rattle.sc_base.specs.declared.operator.Op.TheVariants.{Add}
 use Rattle.sc_core.specs.Violations.{load_rule, store_rule, reach_rule, write_rule, integer_rule, shift_rule, difference_rule, truth_rule}

@@ -8,18 +8,14 @@ use Rattle.sc_fmt.specs.declared.conversion.Count.TheVariants.{Fixed, Star}
 use Rattle.sc_fmt.specs.declared.conversion.Piece.{Piece}
 use Rattle.sc_fmt.specs.declared.conversion.Piece.TheVariants as piece
 use Rattle.sc_fmt.specs.Format.{piece_of}
-use Rattle.sc_core.specs.declared.meaning.Answer.TheVariants.{Plain}
-use Rattle.sc_core.specs.declared.meaning.Happening.TheVariants.{Out}
-use Rattle.sc_core.specs.declared.meaning.Item.TheVariants.{Work, TakeFree, TakeNew, Death}
-use Rattle.sc_core.specs.declared.meaning.Outcome.{Outcome}
-use Rattle.sc_core.specs.declared.meaning.Value.{Value}
-use Rattle.sc_core.specs.declared.meaning.Value.TheVariants.{Number, FunctionAt, Pointer}
-use Rattle.sc_core.specs.declared.meaning.World.{World}
-use Rattle.sc_core.specs.World.{pass, tick, free_of}
+use Rattle.sc_core.specs.Values.{Value, Number, FunctionAt, Pointer}
+use Rattle.sc_core.specs.World.{World, pass, Work, Out, TakeFree, TakeNew, Death, tick, free_of}
+use Rattle.sc_core.specs.Outcomes.{Outcome}
 use Rattle.sc_core.specs.Violations.{load_rule, store_rule, free_rule, is_overlapping}
 use Rattle.sc_core.specs.Accesses.{set_at}
 use Rattle.sc_core.specs.Versions.{History}
 use Rattle.sc_core.specs.Changes.{born, happened}
+use Rattle.sc_core.specs.Expressions.{Plain}
 use Rattle.sc_core.specs.Library.{gives, value_at, out_of_range, byte_read, text_upto, past, text_at, writable, bytes_set, bytes_written, apart, shown, class_of, block_size, allocated, taken, given, given_back, block_size_at, block_tested}
 use Rattle.sc_core.specs.Printf.{Printed, argument_in, argument, is_wrong, refused, greatest, signed, width_of, precision_of, counts_of, text_of, conversion_text, converted, piece_text, formatted, printf}
 use Rattle.sc_core.specs.Laws.{Leads}

@@ -1,13 +1,8 @@
 -- What it takes to compare two runs, part by part.
 use Rattle.std.specs.Prelude.{List}
-use Rattle.sc_core.specs.declared.meaning.Ending.{Ending}
-use Rattle.sc_core.specs.declared.meaning.Happening.{Happening}
-use Rattle.sc_core.specs.declared.meaning.Outcome.{Outcome}
-use Rattle.sc_core.specs.declared.meaning.Outcome.TheVariants.{Done, Over}
-use Rattle.sc_core.specs.declared.meaning.World.{World}
-use Rattle.sc_core.specs.Outcomes.{and_then, world_at}
-use Rattle.sc_core.specs.declared.history.Text.{Text}
-use Rattle.sc_core.specs.Versions.{History, version_at}
+use Rattle.sc_core.specs.World.{World, Event}
+use Rattle.sc_core.specs.Outcomes.{Outcome, Done, Over, Ending, and_then, world_at}
+use Rattle.sc_core.specs.Versions.{Text, History, version_at}
 use Rattle.sc_core.specs.Changes.{happened}
 use Rattle.sc_core.specs.Laws.{Leads}
 
@@ -21,5 +16,5 @@ pub record Relation : Type 1 where
 
 -- two histories, under which events and look-ups are related
 pub record Histories (R : Relation) (h k : History) : Type 1 where
-  pub happens : (e : Happening) (w : World) → R.Rel w (happened h e w) (happened k e w)
+  pub happens : (e : Event) (w : World) → R.Rel w (happened h e w) (happened k e w)
   pub versions : {A : Type 0} (w : World) (f g : List Text → Outcome A) → ((t : List Text) → R.Rel w (f t) (g t)) → R.Rel w (f (version_at h w.count)) (g (version_at k w.count))

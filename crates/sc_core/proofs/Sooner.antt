@@ -2,17 +2,11 @@
 use Rattle.std.proofs.Common.{◌≡◌, ◌⊎◌, inl, inr, ℕ, ◌+◌, ◌<◌, ◌≤◌, ◌==◌, nat_lt, nat_le, Bool, true, false, if◌then◌else◌, List, [], ◌∷◌, length, take, refl, sym, ap, ◌∙◌, subst, arith}
 use Rattle.std.proofs.lemmas.Bool.{cases_lt}
 use Rattle.std.proofs.lemmas.List.{take-append-le}
-use Rattle.sc_core.specs.World.{pass, events, tick}
-use Rattle.sc_core.specs.declared.meaning.Answer.{Answer}
-use Rattle.sc_core.specs.declared.meaning.Happening.{Happening}
-use Rattle.sc_core.specs.declared.meaning.Item.TheVariants.{Happens, Work}
-use Rattle.sc_core.specs.declared.meaning.Outcome.{Outcome}
-use Rattle.sc_core.specs.declared.meaning.Outcome.TheVariants.{Done, Over}
-use Rattle.sc_core.specs.declared.meaning.World.{World}
-use Rattle.sc_core.specs.Outcomes.{and_then, world_after, went}
-use Rattle.sc_core.specs.declared.history.Text.{Text}
-use Rattle.sc_core.specs.Versions.{History, latest, version_at}
+use Rattle.sc_core.specs.World.{World, Event, Happens, Work, pass, events, tick}
+use Rattle.sc_core.specs.Outcomes.{Outcome, Done, Over, and_then, world_after, went}
+use Rattle.sc_core.specs.Versions.{Text, History, latest, version_at}
 use Rattle.sc_core.specs.Changes.{changed_if, settled_from, settled, happened}
+use Rattle.sc_core.specs.Expressions.{Answer}
 use Rattle.sc_core.specs.Calls.{call}
 use Rattle.sc_core.specs.Behaviour.{Start, first_world, main_key, main_called, started, events_upto}
 use Rattle.sc_core.specs.Laws.{Leads, upto, with_history}
@@ -111,7 +105,7 @@ module _ (c : ℕ) (h k : History) (same : upto c h ≡ upto c k) where
   pub settled_shares : (w : World) → (Sharing c).Rel w (settled h w) (settled k w)
   settled_shares w = (settled_alike w, h-settled w, k-settled w)
 
-  happened_shares : (e : Happening) (w : World) → (Sharing c).Rel w (happened h e w) (happened k e w)
+  happened_shares : (e : Event) (w : World) → (Sharing c).Rel w (happened h e w) (happened k e w)
   happened_shares e w =
       let v : World = pass (Happens e) w in
       after_one (Sharing c) (Happens e) w (settled h v) (settled k v) (settled_shares v)

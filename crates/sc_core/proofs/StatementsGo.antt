@@ -9,26 +9,15 @@ use Rattle.sc_core.specs.declared.statement.CoreStmt.{CoreStmt, out-CoreStmt}
 use Rattle.sc_core.specs.declared.statement.CoreStmt.TheOpen.{CoreStmt-F}
 use Rattle.sc_core.specs.declared.statement.SwitchLabel.{SwitchLabel}
 use Rattle.sc_core.specs.Types.{type_of}
-use Rattle.sc_core.specs.Values.{scalar_size}
-use Rattle.sc_core.specs.declared.meaning.Answer.{Answer}
-use Rattle.sc_core.specs.declared.meaning.Answer.TheVariants.{Plain, Nothing}
-use Rattle.sc_core.specs.declared.meaning.Born.{Born}
-use Rattle.sc_core.specs.declared.meaning.Cell.TheVariants.{Byte}
-use Rattle.sc_core.specs.declared.meaning.Item.TheVariants.{Work, Begin, End, Death, Put, OpenBlock, CloseBlock}
-use Rattle.sc_core.specs.declared.meaning.Outcome.{Outcome}
-use Rattle.sc_core.specs.declared.meaning.Outcome.TheVariants.{Done}
-use Rattle.sc_core.specs.declared.meaning.Value.{Value}
-use Rattle.sc_core.specs.declared.meaning.Way.{Way}
-use Rattle.sc_core.specs.declared.meaning.Way.TheVariants.{Normal, Broke, Continued, Returned}
-use Rattle.sc_core.specs.declared.meaning.World.{World}
-use Rattle.sc_core.specs.World.{pass, tick}
-use Rattle.sc_core.specs.Outcomes.{and_then}
+use Rattle.sc_core.specs.Values.{Value, Byte, scalar_size}
+use Rattle.sc_core.specs.World.{World, Born, pass, Work, Begin, End, Death, Put, OpenBlock, CloseBlock, tick}
+use Rattle.sc_core.specs.Outcomes.{Outcome, Done, and_then}
 use Rattle.sc_core.specs.Violations.{bits, reach_rule}
 use Rattle.sc_core.specs.Accesses.{set_at, copy_at}
 use Rattle.sc_core.specs.Versions.{History}
 use Rattle.sc_core.specs.Changes.{born, at_line, reached}
-use Rattle.sc_core.specs.Expressions.{Env, Eval, Call, valued, base_of, further_of, automatic_in}
-use Rattle.sc_core.specs.Statements.{Exec, ended, auto_kind, born_autos, all_dead, block_autos, with_block, after_stmt, stmts_of, block_ended, block_with, block_of, set_bytes, id_of, initial_structure, initial, initials, condition, condition_at, optional, label_next, label_of, body_from, landed, after_switch, after_turn, discarded, discarded_if, first_of, holds, turn_of, returned, stmt_of}
+use Rattle.sc_core.specs.Expressions.{Env, Answer, Plain, Nothing, Eval, Call, valued, base_of, further_of, automatic_in}
+use Rattle.sc_core.specs.Statements.{Way, Normal, Broke, Continued, Returned, Exec, ended, auto_kind, born_autos, all_dead, block_autos, with_block, after_stmt, stmts_of, block_ended, block_with, block_of, set_bytes, id_of, initial_structure, initial, initials, condition, condition_at, optional, label_next, label_of, body_from, landed, after_switch, after_turn, discarded, discarded_if, first_of, holds, turn_of, returned, stmt_of}
 use Rattle.sc_core.specs.Laws.{Leads}
 use Rattle.sc_core.proofs.Relation.{Relation, Histories}
 use Rattle.sc_core.proofs.Steps.{here, on, one_more, and_more, same_done, passes, after_one, unless_goes, either_goes}

@@ -1,14 +1,8 @@
 -- Every step of the meaning is related to itself.
 use Rattle.std.proofs.Common.{◌≡◌, Bool, true, false, if◌then◌else◌, List, [], ◌∷◌, ◌++◌, Option, Some, None, refl, sym, ap, ◌∙◌}
 use Rattle.sc_base.specs.declared.report.Rule.{Rule}
-use Rattle.sc_core.specs.World.{pass, passed}
-use Rattle.sc_core.specs.declared.meaning.Breach.{Breach}
-use Rattle.sc_core.specs.declared.meaning.Ending.TheVariants.{Undefined}
-use Rattle.sc_core.specs.declared.meaning.Item.{Item}
-use Rattle.sc_core.specs.declared.meaning.Outcome.{Outcome}
-use Rattle.sc_core.specs.declared.meaning.Outcome.TheVariants.{Done}
-use Rattle.sc_core.specs.declared.meaning.World.{World}
-use Rattle.sc_core.specs.Outcomes.{undefined, unless}
+use Rattle.sc_core.specs.World.{World, Item, pass, passed}
+use Rattle.sc_core.specs.Outcomes.{Outcome, Done, Undefined, Breach, undefined, unless}
 use Rattle.sc_core.specs.Expressions.{either}
 use Rattle.sc_core.specs.Laws.{Leads}
 use Rattle.sc_core.proofs.Relation.{Relation}

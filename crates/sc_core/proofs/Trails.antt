@@ -1,11 +1,7 @@
 -- The trail tells all that happened, and a run's events are counted.
 use Rattle.std.proofs.Common.{◌≡◌, ◌+◌, List, [], ◌∷◌, ◌++◌, length, refl, sym, ap, ◌∙◌, subst, arith, append_assoc}
 use Rattle.std.proofs.lemmas.List.{append-nil, length-append}
-use Rattle.sc_core.specs.World.{effect, pass, passed, events, events_of}
-use Rattle.sc_core.specs.declared.meaning.Happening.TheVariants.{Enter, Leave, At, Out}
-use Rattle.sc_core.specs.declared.meaning.Item.{Item}
-use Rattle.sc_core.specs.declared.meaning.Item.TheVariants.{Work, Begin, End, Happens, Birth, Death, Put, Copy, TakeFree, TakeNew, Give, Stack, Read, Seed, Push, Pop, OpenBlock, CloseBlock, Name, Unname}
-use Rattle.sc_core.specs.declared.meaning.World.{World}
+use Rattle.sc_core.specs.World.{World, Item, Work, Begin, End, Happens, Birth, Death, Put, Copy, TakeFree, TakeNew, Give, Stack, Read, Seed, Push, Pop, OpenBlock, CloseBlock, Name, Unname, Enter, Leave, At, Out, effect, pass, passed, events, events_of}
 use Rattle.sc_core.specs.Laws.{Leads}
 
 pub trail-passed : (is : List Item) (w : World) → (passed is w).trail ≡ w.trail ++ is

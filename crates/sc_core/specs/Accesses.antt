@@ -8,16 +8,9 @@ use Rattle.sc_base.specs.declared.report.Rule.{Rule}
 use Rattle.sc_types.specs.declared.ctype.CType.{CType}
 use Rattle.sc_ops.specs.Numbers.{converted, promoted, number_of, bits_of}
 use Rattle.sc_ops.specs.Operators.{value_of, truth_of}
-use Rattle.sc_core.specs.Values.{scalar_size, is_pointer_type, int_of, cells_of, value_of_cells, natural, null, same_value}
-use Rattle.sc_core.specs.declared.meaning.Breach.{Breach}
-use Rattle.sc_core.specs.declared.meaning.Item.TheVariants.{Put, Copy}
-use Rattle.sc_core.specs.declared.meaning.Outcome.{Outcome}
-use Rattle.sc_core.specs.declared.meaning.Outcome.TheVariants.{Done}
-use Rattle.sc_core.specs.declared.meaning.Value.{Value}
-use Rattle.sc_core.specs.declared.meaning.Value.TheVariants.{Number, FunctionAt, Pointer}
-use Rattle.sc_core.specs.declared.meaning.World.{World}
-use Rattle.sc_core.specs.World.{pass}
-use Rattle.sc_core.specs.Outcomes.{Step, went, unless, access_breach, operand_breach}
+use Rattle.sc_core.specs.Values.{Value, Number, FunctionAt, Pointer, scalar_size, is_pointer_type, int_of, cells_of, value_of_cells, natural, null, same_value}
+use Rattle.sc_core.specs.World.{World, pass, Put, Copy}
+use Rattle.sc_core.specs.Outcomes.{Breach, Outcome, Done, Step, went, unless, access_breach, operand_breach}
 use Rattle.sc_core.specs.Violations.{load_rule, store_rule, reach_rule, write_rule, shift_rule, difference_rule, equality_rule, order_rule, truth_rule, integer_rule, cells_read, target, bits, offset_of}
 
 -- a number as a value of an integer type; what is no number stays

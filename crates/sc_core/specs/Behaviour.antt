@@ -1,19 +1,12 @@
 -- What a program does from its start on (ANSI 2.1.2.2, 2.1.2.3).
 use Rattle.std.specs.Prelude.{ℕ, List, [], ◌∷◌, replicate, None}
 use Rattle.sc_base.specs.declared.key.Key.{Key}
-use Rattle.sc_core.specs.World.{events, tick}
-use Rattle.sc_core.specs.declared.meaning.Answer.{Answer}
-use Rattle.sc_core.specs.declared.meaning.Answer.TheVariants.{Plain, Place, Part, Nothing}
-use Rattle.sc_core.specs.declared.meaning.Ending.{Ending}
-use Rattle.sc_core.specs.declared.meaning.Ending.TheVariants.{Exit}
-use Rattle.sc_core.specs.declared.meaning.Happening.{Happening}
-use Rattle.sc_core.specs.declared.meaning.Outcome.{Outcome}
-use Rattle.sc_core.specs.declared.meaning.Outcome.TheVariants.{Done, Over}
-use Rattle.sc_core.specs.declared.meaning.World.{World}
-use Rattle.sc_core.specs.Outcomes.{and_then, world_at}
+use Rattle.sc_core.specs.World.{World, Event, events, tick}
+use Rattle.sc_core.specs.Outcomes.{Outcome, Done, Over, Ending, Exit, and_then, world_at}
 use Rattle.sc_core.specs.Violations.{bits}
 use Rattle.sc_core.specs.Versions.{History}
 use Rattle.sc_core.specs.Changes.{settled}
+use Rattle.sc_core.specs.Expressions.{Answer, Plain, Place, Part, Nothing}
 use Rattle.sc_core.specs.Calls.{call}
 
 -- how a run starts: the bytes of stack and heap, the input, and the versions that the run has
@@ -70,5 +63,5 @@ abbrev pub ending : ℕ → Start → Ending
 ending n s = ending_of (started n s)
 
 -- the events of a run, at most n deep
-abbrev pub events_upto : ℕ → Start → List Happening
+abbrev pub events_upto : ℕ → Start → List Event
 events_upto n s = events (world_at (ending n s)).trail

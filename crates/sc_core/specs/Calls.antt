@@ -6,28 +6,14 @@ use Rattle.sc_core.specs.declared.expression.CoreExpr.{out-CoreExpr}
 use Rattle.sc_core.specs.declared.statement.CoreStmt.{out-CoreStmt}
 use Rattle.sc_core.specs.declared.module.Fun.{Fun}
 use Rattle.sc_core.specs.declared.module.Auto.{Auto}
-use Rattle.sc_core.specs.declared.meaning.Answer.{Answer}
-use Rattle.sc_core.specs.declared.meaning.Answer.TheVariants.{Nothing}
-use Rattle.sc_core.specs.declared.meaning.Born.{Born}
-use Rattle.sc_core.specs.declared.meaning.Ending.TheVariants.{StackFull, OutOfFuel}
-use Rattle.sc_core.specs.declared.meaning.Frame.{Frame}
-use Rattle.sc_core.specs.declared.meaning.Happening.TheVariants.{Enter, Leave}
-use Rattle.sc_core.specs.declared.meaning.Item.TheVariants.{Push, Pop, Stack, OpenBlock}
-use Rattle.sc_core.specs.declared.meaning.Outcome.{Outcome}
-use Rattle.sc_core.specs.declared.meaning.Outcome.TheVariants.{Done, Over}
-use Rattle.sc_core.specs.declared.meaning.Value.{Value}
-use Rattle.sc_core.specs.declared.meaning.Value.TheVariants.{Pointer}
-use Rattle.sc_core.specs.declared.meaning.Way.{Way}
-use Rattle.sc_core.specs.declared.meaning.Way.TheVariants.{Normal, Broke, Continued, Returned}
-use Rattle.sc_core.specs.declared.meaning.World.{World}
-use Rattle.sc_core.specs.World.{pass}
-use Rattle.sc_core.specs.Outcomes.{and_then, undefined}
+use Rattle.sc_core.specs.Values.{Value, Pointer}
+use Rattle.sc_core.specs.World.{World, Frame, Born, Enter, Leave, pass, Push, Pop, Stack, OpenBlock}
+use Rattle.sc_core.specs.Outcomes.{Outcome, Done, Over, StackFull, OutOfFuel, and_then, undefined}
 use Rattle.sc_core.specs.Accesses.{set_at}
-use Rattle.sc_core.specs.declared.history.Text.{Text}
-use Rattle.sc_core.specs.Versions.{History, Callee, Missing, InText, InLibrary, callee_of, version_at}
+use Rattle.sc_core.specs.Versions.{Text, History, Callee, Missing, InText, InLibrary, callee_of, version_at}
 use Rattle.sc_core.specs.Changes.{born, happened}
-use Rattle.sc_core.specs.Expressions.{Eval, Call, expr_of, begun, undefined_name, either}
-use Rattle.sc_core.specs.Statements.{Exec, stmt_of, turn_of, stmt_begun, all_dead, auto_kind}
+use Rattle.sc_core.specs.Expressions.{Answer, Nothing, Eval, Call, expr_of, begun, undefined_name, either}
+use Rattle.sc_core.specs.Statements.{Way, Normal, Broke, Continued, Returned, Exec, stmt_of, turn_of, stmt_begun, all_dead, auto_kind}
 use Rattle.sc_core.specs.Functions.{library_call}
 
 -- parameters are born and set, in their order

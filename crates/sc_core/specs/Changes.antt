@@ -7,25 +7,10 @@ use Rattle.sc_program.specs.declared.storage.StaticId.{StaticId}
 use Rattle.sc_program.specs.declared.storage.StaticId.TheVariants.{Named, Literal}
 use Rattle.sc_core.specs.declared.module.Init.{Init}
 use Rattle.sc_core.specs.declared.module.Init.TheVariants as init
-use Rattle.sc_core.specs.Values.{pieces_of}
-use Rattle.sc_core.specs.declared.meaning.Cell.{Cell}
-use Rattle.sc_core.specs.declared.meaning.Cell.TheVariants.{Unwritten, Byte}
-use Rattle.sc_core.specs.declared.meaning.Ending.TheVariants.{BirthLimit}
-use Rattle.sc_core.specs.declared.meaning.Frame.{Frame}
-use Rattle.sc_core.specs.declared.meaning.Happening.{Happening}
-use Rattle.sc_core.specs.declared.meaning.Happening.TheVariants.{At}
-use Rattle.sc_core.specs.declared.meaning.Item.TheVariants.{Birth, Death, Put, Name, Unname, Happens}
-use Rattle.sc_core.specs.declared.meaning.Object.{Object}
-use Rattle.sc_core.specs.declared.meaning.Outcome.{Outcome}
-use Rattle.sc_core.specs.declared.meaning.Outcome.TheVariants.{Done, Over}
-use Rattle.sc_core.specs.declared.meaning.Value.{Value}
-use Rattle.sc_core.specs.declared.meaning.Value.TheVariants.{FunctionAt, Pointer}
-use Rattle.sc_core.specs.declared.meaning.World.{World}
-use Rattle.sc_core.specs.World.{pass, named_in, object_at}
-use Rattle.sc_core.specs.Outcomes.{and_then, Step, went}
-use Rattle.sc_core.specs.declared.history.Text.{Text}
-use Rattle.sc_core.specs.declared.history.Version.{Version}
-use Rattle.sc_core.specs.Versions.{History, Definition, Callee, Missing, InText, InLibrary, callee_of, object_in, is_kept, births_of}
+use Rattle.sc_core.specs.Values.{Value, FunctionAt, Pointer, Cell, Unwritten, Byte, pieces_of}
+use Rattle.sc_core.specs.World.{World, Object, Event, At, pass, Birth, Death, Put, Name, Unname, Happens, Frame, named_in, object_at}
+use Rattle.sc_core.specs.Outcomes.{Outcome, Done, Over, BirthLimit, and_then, Step, went}
+use Rattle.sc_core.specs.Versions.{Text, Version, History, Definition, Callee, Missing, InText, InLibrary, callee_of, object_in, is_kept, births_of}
 
 -- an object is born, and gets the next number; a run has at most so many
 abbrev pub born : ℕ → Kind → World → Outcome ℕ
@@ -159,10 +144,10 @@ abbrev pub settled : History → Step
 settled h w = settled_from w.count [] h w
 
 -- an event passes, and the changes that stand behind it are made
-abbrev pub happened : History → Happening → Step
+abbrev pub happened : History → Event → Step
 happened h e w = settled h (pass (Happens e) w)
 
-abbrev pub at_line : List Frame → ℕ → Happening
+abbrev pub at_line : List Frame → ℕ → Event
 at_line [] line = At [] line 0
 at_line (f ∷ fs) line = At f.home line f.enter
 

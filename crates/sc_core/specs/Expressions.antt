@@ -23,29 +23,27 @@ use Rattle.sc_core.specs.declared.expression.UnaryOperator.{UnaryOperator}
 use Rattle.sc_core.specs.declared.expression.UnaryOperator.TheVariants.{Plus, Minus, Complement, Not}
 use Rattle.sc_core.specs.declared.module.Fun.{Fun}
 use Rattle.sc_core.specs.Types.{type_of}
-use Rattle.sc_core.specs.Values.{null, is_pointer_type, int_of}
-use Rattle.sc_core.specs.declared.meaning.Born.{Born}
-use Rattle.sc_core.specs.declared.meaning.Breach.{Breach}
-use Rattle.sc_core.specs.declared.meaning.Item.TheVariants.{Work}
-use Rattle.sc_core.specs.declared.meaning.Outcome.{Outcome}
-use Rattle.sc_core.specs.declared.meaning.Outcome.TheVariants.{Done}
-use Rattle.sc_core.specs.declared.meaning.Value.{Value}
-use Rattle.sc_core.specs.declared.meaning.Value.TheVariants.{Number, FunctionAt, Pointer}
-use Rattle.sc_core.specs.declared.meaning.World.{World}
-use Rattle.sc_core.specs.World.{pass, tick, named_in}
-use Rattle.sc_core.specs.Outcomes.{and_then, breach, undefined, unless}
+use Rattle.sc_core.specs.Values.{Value, Number, FunctionAt, Pointer, null, is_pointer_type, int_of}
+use Rattle.sc_core.specs.World.{World, Born, pass, Work, tick, named_in}
+use Rattle.sc_core.specs.Outcomes.{Outcome, Done, and_then, breach, undefined, unless, Breach}
 use Rattle.sc_core.specs.Accesses.{as_type, converted_value, loaded, stored, copied, computed, shifted, member_address, difference, compared, tested}
-use Rattle.sc_core.specs.declared.history.Text.{Text}
-use Rattle.sc_core.specs.Versions.{History, Callee, Missing, InText, InLibrary, callee_of, version_at}
+use Rattle.sc_core.specs.Versions.{Text, History, Callee, Missing, InText, InLibrary, callee_of, version_at}
 use Rattle.sc_core.specs.Signatures.{takes}
-use Rattle.sc_core.specs.declared.meaning.Answer.{Answer}
-use Rattle.sc_core.specs.declared.meaning.Answer.TheVariants.{Plain, Place, Part, Nothing}
 
 -- what a running call's names stand for: its text, its function, and its entered blocks, outermost first
 pub record Env : Type 0 where
   pub text : Text
   pub fun : Fun
   pub blocks : List Born
+
+-- What an expression gives: a value; a place, as the pointer to it, or to the structure of which it is the member at an
+-- offset; or nothing, as a call that gave no value, and what is cast to void. A function is the place of itself, and a
+-- structure's value is its place.
+pub data Answer : Type 0 where
+  Plain : Value → Answer
+  Place : Value → Answer
+  Part : Value → ℕ → Answer
+  Nothing : Answer
 
 abbrev pub Eval : Type 0
 Eval = Env → CoreExpr → World → Outcome Answer

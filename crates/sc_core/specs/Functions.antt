@@ -8,23 +8,13 @@ use Rattle.sc_ops.specs.Numbers.{number_of, bits_of, is_in_range}
 use Rattle.sc_ops.specs.Operators.{truth_of}
 use Rattle.sc_core.specs.declared.library.LibFun.{LibFun}
 use Rattle.sc_core.specs.declared.library.LibFun.TheVariants as lib
-use Rattle.sc_core.specs.Values.{null}
-use Rattle.sc_core.specs.declared.meaning.Answer.{Answer}
-use Rattle.sc_core.specs.declared.meaning.Answer.TheVariants.{Nothing}
-use Rattle.sc_core.specs.declared.meaning.Cell.TheVariants.{Byte}
-use Rattle.sc_core.specs.declared.meaning.Ending.TheVariants.{Exit}
-use Rattle.sc_core.specs.declared.meaning.Item.TheVariants.{Work, Put, Read, Seed}
-use Rattle.sc_core.specs.declared.meaning.Outcome.{Outcome}
-use Rattle.sc_core.specs.declared.meaning.Outcome.TheVariants.{Done, Over}
-use Rattle.sc_core.specs.declared.meaning.Value.{Value}
-use Rattle.sc_core.specs.declared.meaning.Value.TheVariants.{Number, Pointer}
-use Rattle.sc_core.specs.declared.meaning.World.{World}
-use Rattle.sc_core.specs.World.{pass, tick}
-use Rattle.sc_core.specs.Outcomes.{and_then, unless, access_breach, moved}
+use Rattle.sc_core.specs.Values.{Value, Number, Pointer, Byte, null}
+use Rattle.sc_core.specs.World.{World, pass, Work, Put, Read, Seed, tick}
+use Rattle.sc_core.specs.Outcomes.{Outcome, Done, Over, Exit, and_then, unless, access_breach, moved}
 use Rattle.sc_core.specs.Violations.{reach_rule, write_rule, bits, is_null}
 use Rattle.sc_core.specs.Accesses.{copy_at}
 use Rattle.sc_core.specs.Versions.{History}
-use Rattle.sc_core.specs.Expressions.{either}
+use Rattle.sc_core.specs.Expressions.{Answer, Nothing, either}
 use Rattle.sc_core.specs.Library.{gives, value_at, out_of_range, byte_read, text_upto, text_at, past, bytes_written, apart, shown, taken, address_or_null, block_tested, given_back, block_size_at}
 use Rattle.sc_core.specs.Printf.{printf}
 

@@ -1,14 +1,7 @@
 -- What holds of every run.
 use Rattle.std.specs.Prelude.{◌≡◌, ℕ, nat_le, false, if◌then◌else◌, List, [], ◌∷◌, Some}
-use Rattle.sc_core.specs.World.{object_at, passed}
-use Rattle.sc_core.specs.declared.meaning.Ending.{Ending}
-use Rattle.sc_core.specs.declared.meaning.Ending.TheVariants.{Undefined, Exit, StackFull, BirthLimit, OutOfFuel}
-use Rattle.sc_core.specs.declared.meaning.Item.{Item}
-use Rattle.sc_core.specs.declared.meaning.Object.{Object}
-use Rattle.sc_core.specs.declared.meaning.Outcome.{Outcome}
-use Rattle.sc_core.specs.declared.meaning.Outcome.TheVariants.{Done, Over}
-use Rattle.sc_core.specs.declared.meaning.World.{World}
-use Rattle.sc_core.specs.Outcomes.{world_at, world_after}
+use Rattle.sc_core.specs.World.{World, Item, Object, object_at, passed}
+use Rattle.sc_core.specs.Outcomes.{Outcome, Done, Over, Ending, Undefined, Exit, StackFull, BirthLimit, OutOfFuel, world_at, world_after}
 use Rattle.sc_core.specs.Versions.{History}
 use Rattle.sc_core.specs.Behaviour.{Start}
 

@@ -4,25 +4,14 @@ use Rattle.sc_base.specs.declared.key.Key.{Key}
 use Rattle.sc_base.specs.declared.memory.Kind.TheVariants.{Heap}
 use Rattle.sc_base.specs.declared.report.Rule.{Rule}
 use Rattle.sc_base.specs.declared.report.Rule.TheVariants.{U16, U18}
-use Rattle.sc_core.specs.Values.{null, number_of_cells}
-use Rattle.sc_core.specs.declared.meaning.Answer.{Answer}
-use Rattle.sc_core.specs.declared.meaning.Answer.TheVariants.{Plain}
-use Rattle.sc_core.specs.declared.meaning.Breach.{Breach}
-use Rattle.sc_core.specs.declared.meaning.Happening.TheVariants.{Out}
-use Rattle.sc_core.specs.declared.meaning.Item.TheVariants.{Give, TakeFree, TakeNew, Death}
-use Rattle.sc_core.specs.declared.meaning.Object.{Object}
-use Rattle.sc_core.specs.declared.meaning.Outcome.{Outcome}
-use Rattle.sc_core.specs.declared.meaning.Outcome.TheVariants.{Done}
-use Rattle.sc_core.specs.declared.meaning.Value.{Value}
-use Rattle.sc_core.specs.declared.meaning.Value.TheVariants.{Number, Pointer}
-use Rattle.sc_core.specs.declared.meaning.World.{World}
-use Rattle.sc_core.specs.World.{pass, tick, free_of}
-use Rattle.sc_core.specs.Outcomes.{and_then, Step, went, breach, undefined, unless, access_breach}
+use Rattle.sc_core.specs.Values.{Value, Number, Pointer, null, number_of_cells}
+use Rattle.sc_core.specs.World.{World, Object, pass, Out, Give, TakeFree, TakeNew, Death, tick, free_of}
+use Rattle.sc_core.specs.Outcomes.{Outcome, Done, and_then, Step, went, breach, undefined, unless, access_breach, Breach}
 use Rattle.sc_core.specs.Violations.{load_rule, store_rule, cells_read, object_of, is_overlapping, free_rule}
 use Rattle.sc_core.specs.Accesses.{set_at}
 use Rattle.sc_core.specs.Versions.{History}
 use Rattle.sc_core.specs.Changes.{born, happened}
-use Rattle.sc_core.specs.Expressions.{either}
+use Rattle.sc_core.specs.Expressions.{Answer, Plain, either}
 
 -- a result
 abbrev pub gives : Value → World → Outcome Answer

@@ -8,16 +8,37 @@ use Rattle.sc_base.specs.declared.memory.Form.TheVariants as form
 use Rattle.sc_base.specs.declared.operator.Op.{Op}
 use Rattle.sc_base.specs.declared.operator.Op.TheVariants.{Truth}
 use Rattle.sc_base.specs.declared.report.Rule.{Rule}
-use Rattle.sc_core.specs.Values.{null}
-use Rattle.sc_core.specs.declared.meaning.Frame.{Frame}
-use Rattle.sc_core.specs.declared.meaning.Value.{Value}
-use Rattle.sc_core.specs.declared.meaning.Value.TheVariants.{Number, FunctionAt, Pointer}
-use Rattle.sc_core.specs.declared.meaning.World.{World}
-use Rattle.sc_core.specs.declared.meaning.Breach.{Breach}
-use Rattle.sc_core.specs.declared.meaning.Ending.{Ending}
-use Rattle.sc_core.specs.declared.meaning.Ending.TheVariants.{Undefined, Exit, StackFull, BirthLimit, OutOfFuel}
-use Rattle.sc_core.specs.declared.meaning.Outcome.{Outcome}
-use Rattle.sc_core.specs.declared.meaning.Outcome.TheVariants.{Done, Over}
+use Rattle.sc_core.specs.Values.{Value, Number, FunctionAt, Pointer, null}
+use Rattle.sc_core.specs.World.{World, Frame}
+
+-- An undefined step: the rule; the access of `size` bytes at `at`; the operands of `op` with the type of each; the
+-- function and line in which it stands; and for some rules a name, or the number of an argument, counted from 1.
+pub record Breach : Type 0 where
+  pub rule : Rule
+  pub op : Op
+  pub at : Value
+  pub size : ℕ
+  pub left : Value
+  pub right : Value
+  pub int : Int
+  pub right_int : Int
+  pub fun : Key
+  pub line : ℕ
+  pub name : Option Key
+  pub argument : ℕ
+
+-- how a run ends: at an undefined step; with a status; as a call finds no room on the stack; as one object too many
+-- is born; or only since the bound on its depth is used up
+pub data Ending : Type 0 where
+  Undefined : Breach → World → Ending
+  Exit : ℕ → World → Ending
+  StackFull : Key → World → Ending
+  BirthLimit : World → Ending
+  OutOfFuel : World → Ending
+
+pub data Outcome (A : Type 0) : Type 0 where
+  Done : A → World → Outcome A
+  Over : Ending → Outcome A
 
 -- goes on from where a part is done; an end stays the end
 abbrev pub and_then : {A B : Type 0} → Outcome A → (A → World → Outcome B) → Outcome B

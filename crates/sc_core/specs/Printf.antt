@@ -10,17 +10,12 @@ use Rattle.sc_fmt.specs.declared.conversion.Piece.TheVariants as piece
 use Rattle.sc_fmt.specs.Format.{piece_of}
 use Rattle.sc_fmt.specs.Numbers.{number_or, number_text}
 use Rattle.sc_ops.specs.Numbers.{number_of}
-use Rattle.sc_core.specs.declared.meaning.Answer.{Answer}
-use Rattle.sc_core.specs.declared.meaning.Breach.{Breach}
-use Rattle.sc_core.specs.declared.meaning.Outcome.{Outcome}
-use Rattle.sc_core.specs.declared.meaning.Outcome.TheVariants.{Done}
-use Rattle.sc_core.specs.declared.meaning.Value.{Value}
-use Rattle.sc_core.specs.declared.meaning.Value.TheVariants.{Number}
-use Rattle.sc_core.specs.declared.meaning.World.{World}
-use Rattle.sc_core.specs.Outcomes.{and_then, undefined}
+use Rattle.sc_core.specs.Values.{Value, Number}
+use Rattle.sc_core.specs.World.{World}
+use Rattle.sc_core.specs.Outcomes.{Outcome, Done, and_then, undefined, Breach}
 use Rattle.sc_core.specs.Violations.{is_number, is_pointer, bits}
 use Rattle.sc_core.specs.Versions.{History}
-use Rattle.sc_core.specs.Expressions.{either}
+use Rattle.sc_core.specs.Expressions.{Answer, either}
 use Rattle.sc_core.specs.Library.{gives, value_at, argument_breach, text_at, text_upto, shown}
 
 -- The call: its key, and the arguments, of which the first is the format.

@@ -11,26 +11,21 @@ use Rattle.sc_core.specs.declared.statement.CoreStmt.{CoreStmt, out-CoreStmt}
 use Rattle.sc_core.specs.declared.statement.CoreStmt.TheOpen.{CoreStmt-F}
 use Rattle.sc_core.specs.declared.statement.SwitchLabel.{SwitchLabel}
 use Rattle.sc_core.specs.Types.{type_of}
-use Rattle.sc_core.specs.Values.{scalar_size}
-use Rattle.sc_core.specs.declared.meaning.Answer.{Answer}
-use Rattle.sc_core.specs.declared.meaning.Answer.TheVariants.{Plain, Nothing}
-use Rattle.sc_core.specs.declared.meaning.Born.{Born}
-use Rattle.sc_core.specs.declared.meaning.Cell.TheVariants.{Byte}
-use Rattle.sc_core.specs.declared.meaning.Item.TheVariants.{Work, Begin, End, Death, Put, OpenBlock, CloseBlock}
-use Rattle.sc_core.specs.declared.meaning.Outcome.{Outcome}
-use Rattle.sc_core.specs.declared.meaning.Outcome.TheVariants.{Done}
-use Rattle.sc_core.specs.declared.meaning.Value.{Value}
-use Rattle.sc_core.specs.declared.meaning.Value.TheVariants.{Pointer}
-use Rattle.sc_core.specs.declared.meaning.World.{World}
-use Rattle.sc_core.specs.World.{pass, tick}
-use Rattle.sc_core.specs.Outcomes.{and_then, Step, went, unless, access_breach}
+use Rattle.sc_core.specs.Values.{Value, Pointer, Byte, scalar_size}
+use Rattle.sc_core.specs.World.{World, Born, pass, Work, Begin, End, Death, Put, OpenBlock, CloseBlock, tick}
+use Rattle.sc_core.specs.Outcomes.{Outcome, Done, and_then, Step, went, unless, access_breach}
 use Rattle.sc_core.specs.Violations.{bits, reach_rule}
 use Rattle.sc_core.specs.Accesses.{tested, set_at, copy_at}
 use Rattle.sc_core.specs.Versions.{History}
 use Rattle.sc_core.specs.Changes.{born, reached}
-use Rattle.sc_core.specs.Expressions.{Env, Eval, valued, base_of, further_of, automatic_in, either}
-use Rattle.sc_core.specs.declared.meaning.Way.{Way}
-use Rattle.sc_core.specs.declared.meaning.Way.TheVariants.{Normal, Broke, Continued, Returned}
+use Rattle.sc_core.specs.Expressions.{Env, Answer, Plain, Nothing, Eval, valued, base_of, further_of, automatic_in, either}
+
+-- how a statement is left: at its end, by `break`, by `continue`, or by `return` with its value
+pub data Way : Type 0 where
+  Normal : Way
+  Broke : Way
+  Continued : Way
+  Returned : Answer → Way
 
 abbrev pub Exec : Type 0
 Exec = Env → CoreStmt → World → Outcome Way

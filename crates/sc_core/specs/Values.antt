@@ -8,10 +8,19 @@ use Rattle.sc_types.specs.declared.ctype.CType.{CType, out-CType}
 use Rattle.sc_types.specs.declared.ctype.CType.TheOpen.{CType-F}
 use Rattle.sc_types.specs.declared.ctype.Signature.{Signature}
 use Rattle.sc_types.specs.Layouts.{int_size}
-use Rattle.sc_core.specs.declared.meaning.Value.{Value}
-use Rattle.sc_core.specs.declared.meaning.Value.TheVariants.{Number, FunctionAt, Pointer}
-use Rattle.sc_core.specs.declared.meaning.Cell.{Cell}
-use Rattle.sc_core.specs.declared.meaning.Cell.TheVariants.{Unwritten, Byte, Piece}
+
+-- A number of 32 bits, a function by its key, or a place in an object: the object's number and an offset in bytes.
+-- Null is the number 0. The numbers of objects count from 1.
+pub data Value : Type 0 where
+  Number : ℕ → Value
+  FunctionAt : Key → Value
+  Pointer : ℕ → ℕ → Value
+
+-- a byte that was never written, a byte of a number, or piece k of a pointer
+pub data Cell : Type 0 where
+  Unwritten : Cell
+  Byte : ℕ → Cell
+  Piece : Value → ℕ → Cell
 
 abbrev pub null : Value
 null = Number 0

@@ -2,6 +2,7 @@
 use Rattle.std.specs.Prelude.{ℕ, ◌==◌, ◌&&◌, ◌||◌, Bool, true, false, not, nat_le, if◌then◌else◌, List, [], ◌∷◌, ◌++◌, Option, Some, None}
 use Rattle.std.specs.Str.{bytes_eq}
 use Rattle.sc_base.specs.declared.key.Key.{Key}
+use Rattle.sc_base.specs.declared.memory.Form.{Form}
 use Rattle.sc_program.specs.declared.storage.StaticId.{StaticId}
 use Rattle.sc_types.specs.Compatibility.{compatible}
 use Rattle.sc_core.specs.declared.module.Core.{Core}
@@ -14,8 +15,17 @@ use Rattle.sc_core.specs.Values.{same_key}
 use Rattle.sc_core.specs.World.{same_id}
 use Rattle.sc_core.specs.Modules.{function_of}
 use Rattle.sc_core.specs.Names.{library_fun}
-use Rattle.sc_core.specs.declared.history.Text.{Text}
-use Rattle.sc_core.specs.declared.history.Version.{Version}
+
+-- a module's text with the form in which it runs; two texts with one number are the same text
+pub record Text : Type 0 where
+  pub number : ℕ
+  pub core : Core
+  pub form : Form
+
+-- the texts that are present, in their order, from the moment on at which this many events have passed
+pub record Version : Type 0 where
+  pub count : ℕ
+  pub texts : List Text
 
 -- the versions of a run, in the order of their counts; more than one may come at the same count
 abbrev pub History : Type 0

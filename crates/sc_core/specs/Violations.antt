@@ -9,13 +9,8 @@ use Rattle.sc_base.specs.declared.operator.Op.{Op}
 use Rattle.sc_base.specs.declared.report.Rule.{Rule}
 use Rattle.sc_base.specs.declared.report.Rule.TheVariants.{U1, U2, U3, U4, U5, U6, U10, U11, U14, U15}
 use Rattle.sc_ops.specs.Operators.{rule_of}
-use Rattle.sc_core.specs.Values.{pointer_of}
-use Rattle.sc_core.specs.declared.meaning.Cell.{Cell}
-use Rattle.sc_core.specs.declared.meaning.Cell.TheVariants.{Unwritten, Byte, Piece}
-use Rattle.sc_core.specs.declared.meaning.Object.{Object}
-use Rattle.sc_core.specs.declared.meaning.Value.{Value}
-use Rattle.sc_core.specs.declared.meaning.Value.TheVariants.{Number, FunctionAt, Pointer}
-use Rattle.sc_core.specs.World.{object_at, cells_at}
+use Rattle.sc_core.specs.Values.{Value, Number, FunctionAt, Pointer, Cell, Unwritten, Byte, Piece, pointer_of}
+use Rattle.sc_core.specs.World.{Object, object_at, cells_at}
 
 -- the object into which a pointer points
 abbrev pub object_of : List Object → Value → Option Object

@@ -2,19 +2,94 @@
 use Rattle.std.specs.Prelude.{ℕ, zero, suc, ◌+◌, ◌-◌, ◌&&◌, Bool, true, false, if◌then◌else◌, List, [], ◌∷◌, ◌++◌, length, take, drop, replicate, slice_get, slice_set, slice_index, Option, Some, None}
 use Rattle.std.specs.Str.{bytes_eq}
 use Rattle.sc_base.specs.declared.memory.Kind.{Kind}
+use Rattle.sc_base.specs.declared.memory.Form.{Form}
+use Rattle.sc_base.specs.declared.key.Key.{Key}
 use Rattle.sc_program.specs.declared.storage.StaticId.{StaticId}
 use Rattle.sc_program.specs.declared.storage.StaticId.TheVariants.{Named, Literal}
-use Rattle.sc_core.specs.Values.{same_key}
-use Rattle.sc_core.specs.declared.meaning.Cell.{Cell}
-use Rattle.sc_core.specs.declared.meaning.Cell.TheVariants.{Unwritten}
-use Rattle.sc_core.specs.declared.meaning.Object.{Object}
-use Rattle.sc_core.specs.declared.meaning.Born.{Born}
-use Rattle.sc_core.specs.declared.meaning.Frame.{Frame}
-use Rattle.sc_core.specs.declared.meaning.Happening.{Happening}
-use Rattle.sc_core.specs.declared.meaning.Happening.TheVariants.{Enter, Leave, At, Out}
-use Rattle.sc_core.specs.declared.meaning.Item.{Item}
-use Rattle.sc_core.specs.declared.meaning.Item.TheVariants.{Work, Begin, End, Happens, Birth, Death, Put, Copy, TakeFree, TakeNew, Give, Stack, Read, Seed, Push, Pop, OpenBlock, CloseBlock, Name, Unname}
-use Rattle.sc_core.specs.declared.meaning.World.{World}
+use Rattle.sc_core.specs.Values.{Cell, Unwritten, same_key}
+
+-- an object: its size in bytes, its kind, whether it lives, and its bytes
+pub record Object : Type 0 where
+  pub size : ℕ
+  pub kind : Kind
+  pub live : Bool
+  pub cells : List Cell
+
+-- an entered block, and its objects by their numbers
+pub record Born : Type 0 where
+  pub block : ℕ
+  pub ids : List ℕ
+
+-- An active call: its function; the number of the text that it runs, the text's module, and the form; how many calls
+-- were entered up to it, itself counted; the line of its last At event, or 0; and its entered blocks, outermost first.
+pub record Frame : Type 0 where
+  pub key : Key
+  pub text : ℕ
+  pub home : List ℕ
+  pub form : Form
+  pub enter : ℕ
+  pub line : ℕ
+  pub blocks : List Born
+
+-- what a run shows: a function of a module is entered; one is left; a line of a module is reached, in the call with
+-- this count; a byte is written
+pub data Event : Type 0 where
+  Enter : Key → List ℕ → Event
+  Leave : Event
+  At : List ℕ → ℕ → ℕ → Event
+  Out : ℕ → Event
+
+-- One thing that happens, and the only ways in which a world changes.
+pub data Item : Type 0 where
+  -- units of work; a statement begins, and ends, each of which is a unit of work
+  Work : ℕ → Item
+  Begin : Item
+  End : Item
+  Happens : Event → Item
+  -- an object of this size and kind is born, its bytes unwritten; the object with this number dies
+  Birth : ℕ → Kind → Item
+  Death : ℕ → Item
+  -- bytes are written into an object from an offset on
+  Put : ℕ → ℕ → List Cell → Item
+  -- so many bytes go to an object and offset from an object and offset, as if by way of another place
+  Copy : ℕ → ℕ → ℕ → ℕ → ℕ → Item
+  -- a free heap block of this class is taken; one of this class and size is made and taken; one is given back
+  TakeFree : ℕ → Item
+  TakeNew : ℕ → Item
+  Give : ℕ → Item
+  -- so many bytes of the stack are used from here on
+  Stack : ℕ → Item
+  -- a byte of the input is read; the next random number comes from this one
+  Read : Item
+  Seed : ℕ → Item
+  -- a call becomes active, or is no longer; in the innermost one a block is entered, or the last one left
+  Push : Frame → Item
+  Pop : Item
+  OpenBlock : Born → Item
+  CloseBlock : Item
+  -- an object has this name from here on, or none has
+  Name : StaticId → ℕ → Item
+  Unname : StaticId → Item
+
+-- The bytes that stack and heap may have; the objects, of which the first has number 1; the stack used; by class, how
+-- many heap blocks are free; the heap's bytes that were made blocks; the input that is left; the last random number;
+-- the active calls, innermost first; the objects with names; how many calls were entered, how many events passed, and
+-- how many statements have begun and not ended; and all that happened so far.
+pub record World : Type 0 where
+  pub stack : ℕ
+  pub heap : ℕ
+  pub objects : List Object
+  pub used : ℕ
+  pub free : List ℕ
+  pub made : ℕ
+  pub input : List ℕ
+  pub seed : ℕ
+  pub frames : List Frame
+  pub names : List (StaticId × ℕ)
+  pub enters : ℕ
+  pub count : ℕ
+  pub begun : ℕ
+  pub trail : List Item
 
 -- the object with a number
 abbrev pub object_at : List Object → ℕ → Option Object
@@ -80,7 +155,7 @@ abbrev pub without_last : List Born → List Born
 without_last blocks = take (length blocks - 1) blocks
 
 -- an event is counted; an At is its frame's last
-abbrev pub counted : Happening → World → World
+abbrev pub counted : Event → World → World
 counted (Enter key home) w = record w { count = w.count + 1; enters = w.enters + 1 }
 counted Leave w = record w { count = w.count + 1 }
 counted (At home line enter) w = record w { count = w.count + 1; frames = on_innermost (λ f. record f { line = line }) w.frames }
@@ -122,7 +197,7 @@ abbrev pub tick : World → World
 tick w = pass (Work 1) w
 
 -- the work of an item
-abbrev pub event_work : Happening → ℕ
+abbrev pub event_work : Event → ℕ
 event_work (Enter key home) = 1
 event_work Leave = 1
 event_work (At home line enter) = 0
@@ -141,11 +216,11 @@ abbrev pub work : List Item → ℕ
 work [] = 0
 work (i ∷ is) = work_of i + work is
 
-abbrev pub events_of : Item → List Happening
+abbrev pub events_of : Item → List Event
 events_of (Happens e) = e ∷ []
 events_of _ = []
 
-abbrev pub events : List Item → List Happening
+abbrev pub events : List Item → List Event
 events [] = []
 events (i ∷ is) = events_of i ++ events is
 

@@ -1,7 +1,6 @@
 // What a run shows, and the versions that it has (ANSI 2.1.2.3).
 
-use crate::module::Core;
-use sc_base::{Form, Items, Key, Name, Shared};
+use sc_base::{Form, Items, Key, Name};
 
 /// An event at which a run may be stopped: a function is entered, and the module that defines it; a function is left; a
 /// line of a module is reached, in a frame of this form.
@@ -17,19 +16,4 @@ pub enum Event {
 pub struct Past {
     pub events: u64,
     pub present: Items<u32>,
-}
-
-/// A module's text with the form in which it runs; two texts with one number are the same text.
-#[derive(Drop)]
-pub struct Text {
-    pub number: u32,
-    pub core: Shared<Core>,
-    pub form: Form,
-}
-
-/// The texts that are present, in their order, from the moment on at which this many events have passed.
-#[derive(Drop)]
-pub struct Version {
-    pub count: u64,
-    pub texts: Items<Text>,
 }

@@ -5,19 +5,15 @@ mod expression;
 mod history;
 mod laws;
 mod library;
-mod meaning;
 mod module;
 mod statement;
 
 pub use expression::{CoreExpr, Step, UnaryOperator, type_of};
-pub use history::{Event, Past, Text, Version};
+pub use history::{Event, Past};
 pub use laws::{
     greater_bounds_extend, later_versions_change_nothing, objects_keep_their_numbers,
     parts_only_pass_items, trail_tells_the_run, undefined_steps_end_runs,
 };
 pub use library::LibFun;
-pub use meaning::{
-    Answer, Born, Breach, Cell, Ending, Frame, Happening, Item, Object, Outcome, Value, Way, World,
-};
 pub use module::{Auto, Core, Declared, Fun, Init, StaticObj};
 pub use statement::{AutoInit, CoreStmt, SwitchLabel};
