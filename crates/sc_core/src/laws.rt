@@ -11,6 +11,7 @@ ghost use Rattle.sc_core.specs.Versions.{History};
 ghost use Rattle.sc_core.specs.Expressions.{Env};
 ghost use Rattle.sc_core.specs.Calls.{call, eval, exec};
 ghost use Rattle.sc_core.specs.Behaviour.{Start, ending, events_upto, first_world};
+ghost use Rattle.sc_core.specs.Integers.{AreWhole, Gives, IsInteger, IsWhole};
 ghost use Rattle.sc_core.specs.Laws.{EndsAs, Extends, KeepsObjects, Leads, upto, with_history};
 
 /// Every part of a run, from the world in which it begins to the one in which it ends, is a list of things that happen
@@ -55,4 +56,11 @@ pub fn later_versions_change_nothing()
 pub fn objects_keep_their_numbers()
     ensures kept { (w v : World) → Leads w v → KeepsObjects w.objects v.objects }
     ensures new { (size : ℕ) (kind : Kind) (w : World) → (object_at w.objects (length w.objects + 1) ≡ None) × (object_at (pass (Birth size kind) w).objects (length w.objects + 1) ≡ Some (fresh size kind)) }
+{}
+
+/// Where the types of the tree are right, an expression of integer type gives a number and never a pointer, unless it gives
+/// nothing at all; and using nothing is an undefined step.
+#[tactic(auto, using(crate::proofs::Returning::integer_gives))]
+pub fn integers_are_never_pointers()
+    ensures { (n : ℕ) (h : History) (env : Env) (e : CoreExpr) (w : World) → AreWhole h → IsWhole e → Gives IsInteger (eval n h env e w) }
 {}
