@@ -1,0 +1,3 @@
+pub mod Binary
+pub mod Conditional
+pub mod Assignment
