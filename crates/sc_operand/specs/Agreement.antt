@@ -1,9 +1,7 @@
 -- What an assignment takes (ANSI 3.3.16.1, 3.2.2.3), and which pointers go together (3.3.9, 3.3.15).
-use Rattle.std.specs.Prelude.{ℕ, ◌==◌, Bool, true, false, not, ◌&&◌, ◌||◌, if◌then◌else◌, List, [], ◌∷◌, Result, Ok, Err}
-use Rattle.sc_types.specs.declared.ctype.CType.{CType, out-CType, fold-CType}
-use Rattle.sc_types.specs.declared.ctype.CType.TheVariants as t
-use Rattle.sc_types.specs.declared.ctype.CType.TheOpen.{CType-F, Signature-F}
-use Rattle.sc_types.specs.declared.ctype.Signature.{Signature}
+use Rattle.std.specs.Prelude.{ℕ, ◌==◌, Bool, true, false, not, ◌&&◌, ◌||◌, if◌then◌else◌, List, Ok}
+use Rattle.sc_types.specs.declared.ctype.CType.{CType, out-CType}
+use Rattle.sc_types.specs.declared.ctype.CType.TheOpen.{CType-F}
 use Rattle.sc_types.specs.declared.ctype.StructDef.{StructDef}
 use Rattle.sc_types.specs.Compatibility.{compatible}
 use Rattle.sc_core.specs.declared.expression.CoreExpr.{CoreExpr}

@@ -1,11 +1,11 @@
 -- Integer constant expressions (ANSI 3.4) and null pointer constants (3.2.2.3), on typed trees.
-use Rattle.std.specs.Prelude.{ℕ, zero, suc, ◌==◌, Bool, true, false, ◌&&◌, ◌||◌, Result, Ok, Err}
+use Rattle.std.specs.Prelude.{ℕ, ◌==◌, Bool, true, false, ◌&&◌, ◌||◌, Result, Ok, Err}
 use Rattle.sc_base.specs.declared.integer.Int.{Int}
 use Rattle.sc_base.specs.declared.integer.Int.TheVariants as i
 use Rattle.sc_base.specs.declared.operator.Op.{Op}
 use Rattle.sc_base.specs.declared.operator.Op.TheVariants as op
 use Rattle.sc_base.specs.declared.report.Rule.{Rule}
-use Rattle.sc_types.specs.declared.ctype.CType.{CType, out-CType}
+use Rattle.sc_types.specs.declared.ctype.CType.{out-CType}
 use Rattle.sc_types.specs.declared.ctype.CType.TheOpen.{CType-F}
 use Rattle.sc_ops.specs.Numbers.{converted}
 use Rattle.sc_ops.specs.Operators.{result_of}

@@ -9,7 +9,7 @@ use Rattle.sc_core.specs.declared.expression.CoreExpr.{CoreExpr, out-CoreExpr, f
 use Rattle.sc_core.specs.declared.expression.CoreExpr.TheVariants as c
 use Rattle.sc_core.specs.declared.expression.CoreExpr.TheOpen.{CoreExpr-F}
 use Rattle.sc_core.specs.Types.{type_of}
-use Rattle.sc_operand.specs.Types.{Level, is_function, requalified_level}
+use Rattle.sc_operand.specs.Types.{Level, is_function}
 
 abbrev pub lvalue_layer : CoreExpr-F Bool → Bool
 lvalue_layer (CoreExpr-F.Automatic l of block at) = true

@@ -1,7 +1,6 @@
 -- What a type is good for (ANSI 3.1.2.5, 3.5.3).
-use Rattle.std.specs.Prelude.{ℕ, Bool, true, false, not, ◌&&◌, ◌||◌, if◌then◌else◌, List, slice_index_or, Option, Some, None}
+use Rattle.std.specs.Prelude.{ℕ, Bool, true, false, ◌||◌, if◌then◌else◌, List, slice_index_or, Option, Some, None}
 use Rattle.std.specs.List.{list_any}
-use Rattle.sc_base.specs.declared.integer.Int.{Int}
 use Rattle.sc_base.specs.declared.integer.Int.TheVariants as i
 use Rattle.sc_types.specs.declared.ctype.CType.{CType, out-CType, fold-CType}
 use Rattle.sc_types.specs.declared.ctype.CType.TheVariants as t

@@ -1,5 +1,5 @@
 // Operators before one operand, and casts (ANSI 3.3.3, 3.3.4).
-ghost use Rattle.std.specs.Prelude.{◌≡◌, IfOk, Ok};
+ghost use Rattle.std.specs.Prelude.{◌≡◌, IfOk, Ok, false};
 ghost use Rattle.sc_primary.specs.Unary as spec;
 ghost use Rattle.sc_operand.specs.Types.{int, plain};
 ghost use Rattle.sc_operand.specs.Steps.{Says};
@@ -272,7 +272,7 @@ fn to_integer(from: Shape) -> Casting
     }
 }
 
-fn casting(to: Shape, from: Shape, a: &CoreExpr) -> Casting
+fn casting_of(to: Shape, from: Shape, a: &CoreExpr) -> Casting
     ensures { result ≡ spec.casting to from a.now }
 {
     match to {
@@ -309,7 +309,7 @@ fn cast_value(
 ) -> Result<Shared<CoreExpr>, TypeFault>
     ensures { Says (spec.cast_value structs.now line of.now a) result }
 {
-    match casting(
+    match casting_of(
         shape_of(structs, of),
         shape_of(structs, type_of(a.get())),
         a.get(),

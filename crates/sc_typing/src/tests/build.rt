@@ -317,7 +317,7 @@ fn chosen(alloc: Global, structs: &Structs, stack: &mut Stack) -> Made {
     conditional(alloc, structs, LINE, a, b, d)
 }
 
-fn made(alloc: Global, types: &Types, stack: &mut Stack, first: u8, rest: &[u8]) -> Made {
+fn built(alloc: Global, types: &Types, stack: &mut Stack, first: u8, rest: &[u8]) -> Made {
     match first {
         b':' | b'$' | b'@' | b'P' | b'Q' | b'#' | b'U' | b'C' | b'"' | b'T' | b'O' => {
             leaf(alloc, &types.structs, first, rest)
@@ -338,7 +338,7 @@ fn made(alloc: Global, types: &Types, stack: &mut Stack, first: u8, rest: &[u8])
 
 fn word(alloc: Global, types: &Types, stack: &mut Stack, text: &[u8]) -> Result<(), TypeFault> {
     if let [first, rest @ ..] = text {
-        let e = made(alloc, types, stack, *first, rest)?;
+        let e = built(alloc, types, stack, *first, rest)?;
         stack.push(e).map_err(NoMemory::from)?;
     }
     Ok(())
