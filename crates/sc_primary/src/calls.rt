@@ -1,5 +1,5 @@
 // Calls of functions (ANSI 3.3.2.2).
-ghost use Rattle.std.specs.Prelude.{◌≡◌, IfOk, Ok, []};
+ghost use Rattle.std.specs.Prelude.{◌≡◌, Ok, [], slice_get};
 ghost use Rattle.std.specs.Option.{option_copied};
 ghost use Rattle.sc_primary.specs.Calls as spec;
 ghost use Rattle.sc_operand.specs.Steps.{Says};
@@ -64,12 +64,13 @@ fn argument(
     alloc: Global,
     structs: &Structs,
     line: u32,
-    param: Option<&CType>,
+    params: &[CType],
+    i: usize,
     e: Shared<CoreExpr>,
 ) -> Result<Shared<CoreExpr>, TypeFault>
-    ensures { Says (spec.argument structs.now line (option_copied param.entry) e) result }
+    ensures { Says (spec.argument structs.now line (slice_get params.now i) e) result }
 {
-    match param {
+    match params.get(i) {
         Some(p) => assigned(alloc, structs, line, p, e),
         None => further(alloc, structs, line, e),
     }
@@ -93,7 +94,7 @@ fn arguments(
     let mut done = Items::new(alloc);
     for (i, e) in args.iter().enumerate() {
         let e = e.share()?;
-        let value = argument(alloc, structs, line, params.get(i), e)?;
+        let value = argument(alloc, structs, line, params, i, e)?;
         done.push(value)?;
     }
     Ok(done)

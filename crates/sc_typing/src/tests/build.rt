@@ -22,6 +22,7 @@ type Stack = Vec<Shared<CoreExpr>>;
 type Made = Result<Shared<CoreExpr>, TypeFault>;
 
 // The structures x, with the members `int m; char n[3]; const short r`, y, which is incomplete, and z, with `int m`.
+#[derive(Drop)]
 pub struct Types {
     structs: Structs,
     known: Vec<bool>,
