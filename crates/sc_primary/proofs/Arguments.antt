@@ -1,12 +1,11 @@
 -- Lemmas on the arguments of a call.
-use Rattle.std.proofs.Common.{◌≡◌, ℕ, suc, ◌+◌, ◌<◌, ◌≤◌, List, [], ◌∷◌, ◌++◌, drop, length, get_or, sym, ◌∙◌, ap, subst}
-use Rattle.std.specs.Prelude.{Option, Result, Ok, Err, IsErrAnd, slice_get}
+use Rattle.std.proofs.Common.{◌≡◌, ℕ, suc, ◌+◌, ◌<◌, List, [], ◌∷◌, ◌++◌, drop, length, get_or, sym, ◌∙◌, ap, subst}
+use Rattle.std.specs.Prelude.{Result, Ok, Err, IsErrAnd, slice_get}
 use Rattle.std.proofs.Math.Seq.{drop-cons}
 use Rattle.std.proofs.Math.Numerals.{add-one}
 use Rattle.sc_types.specs.declared.ctype.CType.{CType}
 use Rattle.sc_types.specs.declared.ctype.StructDef.{StructDef}
 use Rattle.sc_core.specs.declared.expression.CoreExpr.{CoreExpr}
-use Rattle.sc_operand.specs.declared.fault.Diagnostic.{Diagnostic}
 use Rattle.sc_operand.specs.declared.fault.TypeFault.{TypeFault}
 use Rattle.sc_operand.specs.declared.fault.TypeFault.TheVariants as fault
 use Rattle.sc_operand.specs.Steps.{Checked, Says, and_then}

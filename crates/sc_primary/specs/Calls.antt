@@ -1,8 +1,6 @@
 -- Calls of functions (ANSI 3.3.2.2).
-use Rattle.std.specs.Prelude.{ℕ, ◌+◌, ◌==◌, nat_lt, Bool, true, false, ◌&&◌, ◌||◌, if◌then◌else◌, List, [], ◌∷◌, ◌++◌, length, slice_get, Option, Some, None, Result, Ok, Err}
-use Rattle.sc_base.specs.declared.integer.Int.{Int}
+use Rattle.std.specs.Prelude.{ℕ, ◌+◌, ◌==◌, nat_lt, Bool, ◌&&◌, ◌||◌, if◌then◌else◌, List, [], ◌∷◌, ◌++◌, length, slice_get, Option, Some, None, Ok}
 use Rattle.sc_types.specs.declared.ctype.CType.{CType, out-CType}
-use Rattle.sc_types.specs.declared.ctype.CType.TheVariants as t
 use Rattle.sc_types.specs.declared.ctype.CType.TheOpen.{CType-F}
 use Rattle.sc_types.specs.declared.ctype.Signature.{Signature}
 use Rattle.sc_types.specs.declared.ctype.StructDef.{StructDef}

@@ -1,5 +1,5 @@
 -- Names, constants, strings, `sizeof` and `__offsetof` (ANSI 3.1.3, 3.1.4, 3.3.1, 3.3.3.4).
-use Rattle.std.specs.Prelude.{ℕ, ◌+◌, ◌^◌, nat_lt, nat_le, Bool, true, false, not, ◌&&◌, if◌then◌else◌, List, length, position, slice_get, Option, Some, None, is_none, option_map, option_and_then, Result, Ok, Err, codes}
+use Rattle.std.specs.Prelude.{ℕ, ◌+◌, ◌^◌, nat_lt, nat_le, Bool, false, not, ◌&&◌, if◌then◌else◌, List, length, position, slice_get, Option, Some, None, is_none, option_map, option_and_then, Ok, codes}
 use Rattle.std.specs.Str.{bytes_eq}
 use Rattle.sc_base.specs.declared.integer.Int.{Int}
 use Rattle.sc_base.specs.declared.integer.Int.TheVariants as i
@@ -16,7 +16,7 @@ use Rattle.sc_core.specs.declared.expression.CoreExpr.{CoreExpr}
 use Rattle.sc_core.specs.declared.expression.CoreExpr.TheVariants as c
 use Rattle.sc_operand.specs.declared.fault.Cause.TheVariants as cause
 use Rattle.sc_operand.specs.Steps.{Checked, refused, mismatch}
-use Rattle.sc_operand.specs.Types.{Level, unsigned, object_size, member_type}
+use Rattle.sc_operand.specs.Types.{Level, object_size, member_type}
 
 -- a number of an integer type
 abbrev pub number : ℕ → ℕ → Int → CoreExpr

@@ -4,7 +4,6 @@ ghost use Rattle.std.specs.Str.{bytes_eq};
 ghost use Rattle.sc_primary.specs.Leaves as spec;
 ghost use Rattle.sc_operand.specs.Steps.{Says};
 ghost use Rattle.sc_types.specs.Tables.{is_object};
-ghost use Rattle.sc_types.specs.Layouts.{members_in};
 ghost use Rattle.sc_types.specs.declared.ctype.CType.TheVariants as t;
 
 use sc_base::{Bytes, Duplicate, Int, Key, Name, NoMemory, Shared};

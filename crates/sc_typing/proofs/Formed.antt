@@ -200,9 +200,10 @@ AllGiven (Err d) = Unit {0}
 arguments-formed : (structs : List StructDef) (l : ℕ) (ps : List CType) (i : ℕ) (done es : List CoreExpr) → AllFormed done → AllFormed es → AllGiven (calls.arguments structs l ps i done es)
 arguments-formed structs l ps i done [] hs gs = hs
 arguments-formed structs l ps i done (e ∷ es) hs gs =
-    elim (calls.argument structs l (slice_get ps i) e) as (λ (r : Checked CoreExpr). GivesFormed r → AllGiven (and_then r (λ v. calls.arguments structs l ps (i + 1) (done ++ v ∷ []) es)))
-    [ Ok v ↦ λ h. arguments-formed structs l ps (i + 1) (done ++ v ∷ []) es (λ n. append-all (FormedTo n) done v (hs n) (h n)) (λ n. (gs n).1)
-    | Err d ↦ λ h. tt ]
+    elim (calls.argument structs l (slice_get ps i) e) as (λ (r : Checked CoreExpr). GivesFormed r → AllGiven (and_then r (λ v. calls.arguments structs l ps (i + 1) (done ++ v ∷ []) es))) [
+      | Ok v ↦ λ h. arguments-formed structs l ps (i + 1) (done ++ v ∷ []) es (λ n. append-all (FormedTo n) done v (hs n) (h n)) (λ n. (gs n).1)
+      | Err d ↦ λ h. tt
+    ]
     (argument-formed structs l (slice_get ps i) e (λ n. (gs n).0))
 
 all-formed : (structs : List StructDef) (l : ℕ) (g : Signature) (args : List CoreExpr) → AllFormed args → AllGiven (calls.all_arguments structs l g args)
@@ -334,8 +335,8 @@ stored-formed l x a (Err d) h g = tt
 pub assignment-formed : (structs : List StructDef) (known : List Bool) (l : ℕ) (a b : CoreExpr) → Formed a → Formed b → GivesFormed (assignment.assignment structs known l a b)
 assignment-formed structs known l a b f g =
     stored-formed l (assignment.modified structs known a) a (taken structs l (type_of a) (valued l b))
-        (λ v h. stored-guarded l (is_lvalue a) (not (holds_const known (type_of a))) (assignment.target_of structs (type_of a)) a v refl f h)
-        (taken-formed structs l (type_of a) (valued l b) (valued-formed l b g))
+    (λ v h. stored-guarded l (is_lvalue a) (not (holds_const known (type_of a))) (assignment.target_of structs (type_of a)) a v refl f h)
+    (taken-formed structs l (type_of a) (valued l b) (valued-formed l b g))
 
 changed-guarded : (l : ℕ) (lvalue rest : Bool) (x : Change) (a b : CoreExpr) → is_lvalue a ≡ lvalue → Formed a → Formed b → GivesFormed (assignment.changed l (if lvalue && rest then x else change.Wrong) a b)
 changed-guarded l true true (change.Integers o j k) a b is f g =

@@ -4,24 +4,24 @@ mod show;
 mod table;
 
 use build::{Types, run};
-use sc_base::NoMemory;
-use sc_operand::{Cause, TypeFault};
+use sc_base::{NoMemory, X};
+use sc_operand::{TypeFault, kind_of};
 use show::show;
 use std::alloc::Global;
-use std::process::Abort;
 use std::test::Fail;
 use table::TABLE;
 
-fn cause_of(cause: Cause) -> &'static str {
-    match cause {
-        Cause::Undeclared => "X6",
-        Cause::Mismatch => "X7",
-        Cause::NotConstant => "X8",
-        Cause::PointerInteger => "X9 ptrint",
-        Cause::FunctionPointer => "X9 funptr",
-        Cause::Printf => "X9 printf",
-        Cause::Size => "X10 size",
-    }
+fn refusal(out: &mut Vec<u8>, kind: &X) -> Result<(), NoMemory> {
+    let (name, word) = match kind {
+        X::X7 => ("X7", b"".as_slice()),
+        X::X8 => ("X8", b"".as_slice()),
+        X::X9(word) => ("X9 ", word.as_slice()),
+        X::X10(word) => ("X10 ", word.as_slice()),
+        _ => ("X", b"".as_slice()),
+    };
+    out.extend_from_slice(name.as_bytes())?;
+    out.extend_from_slice(word)?;
+    Ok(())
 }
 
 // The tree that the words make, or the refusal, which stands on line 7.
@@ -29,9 +29,10 @@ fn answer(alloc: Global, types: &Types, words: &str) -> Result<Vec<u8>, NoMemory
     let mut out = Vec::new(alloc);
     match run(alloc, types, words) {
         Ok(e) => show(&mut out, e.get())?,
-        Err(TypeFault::Diagnosed(d)) if d.line == 7 => out.extend_from_slice(cause_of(
-            d.cause,
-        ).as_bytes())?,
+        Err(TypeFault::Diagnosed(d)) if d.line == 7 => refusal(
+            &mut out,
+            &kind_of(alloc, d.cause)?,
+        )?,
         Err(_) => out.extend_from_slice(b"no answer")?,
     }
     Ok(out)

@@ -182,6 +182,11 @@ fn operator(letter: Option<&u8>) -> Binary {
     }
 }
 
+fn long_text(alloc: Global, n: usize) -> Made {
+    let text = vec![in alloc; b'a'; n].map_err(NoMemory::from)?;
+    literal(alloc, LINE, 3, &Bytes::from_vec(text))
+}
+
 fn leaf(alloc: Global, structs: &Structs, first: u8, rest: &[u8]) -> Made {
     match first {
         b':' => Ok(automatic(alloc, LINE, &read(alloc, rest)?, 1, 2)?),
@@ -212,6 +217,8 @@ fn leaf(alloc: Global, structs: &Structs, first: u8, rest: &[u8]) -> Made {
         ),
         b'C' => constant(alloc, LINE, None),
         b'"' => literal(alloc, LINE, 3, &Bytes::from_slice(alloc, rest)?),
+        b'Z' => long_text(alloc, 1_048_576),
+        b'Y' => long_text(alloc, 1_048_575),
         b'T' => size_of_type(alloc, structs, LINE, &read(alloc, rest)?),
         _ => offset_of_member(
             alloc,
@@ -320,9 +327,8 @@ fn chosen(alloc: Global, structs: &Structs, stack: &mut Stack) -> Made {
 
 fn built(alloc: Global, types: &Types, stack: &mut Stack, first: u8, rest: &[u8]) -> Made {
     match first {
-        b':' | b'$' | b'@' | b'P' | b'Q' | b'#' | b'U' | b'C' | b'"' | b'T' | b'O' => {
-            leaf(alloc, &types.structs, first, rest)
-        }
+        b':' | b'$' | b'@' | b'P' | b'Q' | b'#' | b'U' | b'C' | b'"' | b'T' | b'O' | b'Z' | b'Y' =>
+            { leaf(alloc, &types.structs, first, rest) }
         b'b' | b'=' | b'a' | b'[' | b',' => {
             let b = pop(stack)?;
             let a = pop(stack)?;
