@@ -2,10 +2,12 @@
 #![tactic(auto)]
 
 mod choice;
+mod law;
 mod operators;
 mod storing;
 
 pub use choice::{Choice, conditional};
+pub use law::makes_formed;
 pub use operators::{Class, Plan, binary, class_of, comma};
 pub use storing::{Change, Target, assignment, compound};
 
