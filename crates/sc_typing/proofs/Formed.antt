@@ -1,6 +1,6 @@
 -- Every production makes a formed tree of formed operands.
 use Rattle.std.proofs.Common.{◌≡◌, ℕ, zero, suc, ◌+◌, Bool, true, false, List, [], ◌∷◌, ◌++◌, refl, sym, subst}
-use Rattle.std.specs.Prelude.{Option, Some, None, Result, Ok, Err, not, ◌&&◌, if◌then◌else◌, slice_get, length, nat_le}
+use Rattle.std.specs.Prelude.{Option, Some, None, Ok, Err, not, ◌&&◌, if◌then◌else◌, slice_get, length, nat_le}
 use Rattle.sc_base.specs.declared.integer.Int.{Int}
 use Rattle.sc_base.specs.declared.key.Key.{Key}
 use Rattle.sc_base.specs.declared.operator.Op.{Op}
@@ -22,7 +22,6 @@ use Rattle.sc_core.specs.declared.expression.CoreExpr.TheOpen.{CoreExpr-F}
 use Rattle.sc_core.specs.Types.{type_of}
 use Rattle.sc_operand.specs.declared.shape.Shape.{Shape}
 use Rattle.sc_operand.specs.declared.shape.Shape.TheVariants as s
-use Rattle.sc_operand.specs.declared.fault.Diagnostic.{Diagnostic}
 use Rattle.sc_operand.specs.declared.fault.Cause.TheVariants as cause
 use Rattle.sc_operand.specs.Steps.{Checked, and_then, refused, mismatch}
 use Rattle.sc_operand.specs.Types.{Level, int, unsigned, object_size, shape, is_scalar, plain, holds_const}

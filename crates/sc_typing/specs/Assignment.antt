@@ -1,11 +1,8 @@
 -- Assignments (ANSI 3.3.16).
-use Rattle.std.specs.Prelude.{ℕ, Bool, true, false, ◌&&◌, if◌then◌else◌, List, Option, Some, None, Result, Ok, Err}
-use Rattle.sc_base.specs.declared.integer.Int.{Int}
+use Rattle.std.specs.Prelude.{ℕ, Bool, if◌then◌else◌, List, Option, Some, None, Ok}
 use Rattle.sc_base.specs.declared.operator.Op.{Op}
 use Rattle.sc_base.specs.declared.operator.Op.TheVariants as op
-use Rattle.sc_types.specs.declared.ctype.CType.{CType, out-CType}
-use Rattle.sc_types.specs.declared.ctype.CType.TheVariants as t
-use Rattle.sc_types.specs.declared.ctype.CType.TheOpen.{CType-F}
+use Rattle.sc_types.specs.declared.ctype.CType.{CType}
 use Rattle.sc_types.specs.declared.ctype.StructDef.{StructDef}
 use Rattle.sc_types.specs.Conversions.{promote, usual}
 use Rattle.sc_tree.specs.declared.operator.Binary.{Binary}
@@ -21,7 +18,7 @@ use Rattle.sc_typing.specs.declared.storing.Target.TheVariants as target
 use Rattle.sc_typing.specs.declared.storing.Change.{Change}
 use Rattle.sc_typing.specs.declared.storing.Change.TheVariants as change
 use Rattle.sc_operand.specs.Steps.{Checked, and_then, mismatch}
-use Rattle.sc_operand.specs.Types.{Level, shape, object_size, is_pointer, plain}
+use Rattle.sc_operand.specs.Types.{shape, object_size, is_pointer, plain}
 use Rattle.sc_operand.specs.Operands.{valued, to_int}
 use Rattle.sc_operand.specs.Agreement.{taken}
 use Rattle.sc_primary.specs.Parts.{is_modifiable}

@@ -1,10 +1,10 @@
 -- Operators between two operands, and the comma (ANSI 3.3.5 to 3.3.14, 3.3.17).
-use Rattle.std.specs.Prelude.{ℕ, Bool, true, false, ◌&&◌, ◌||◌, if◌then◌else◌, List, Option, Some, None, Result, Ok, Err}
+use Rattle.std.specs.Prelude.{ℕ, Bool, true, false, ◌&&◌, ◌||◌, if◌then◌else◌, List, Ok}
 use Rattle.sc_base.specs.declared.integer.Int.{Int}
 use Rattle.sc_base.specs.declared.integer.Int.TheVariants as i
 use Rattle.sc_base.specs.declared.operator.Op.{Op}
 use Rattle.sc_base.specs.declared.operator.Op.TheVariants as op
-use Rattle.sc_types.specs.declared.ctype.CType.{CType, out-CType}
+use Rattle.sc_types.specs.declared.ctype.CType.{out-CType}
 use Rattle.sc_types.specs.declared.ctype.CType.TheVariants as t
 use Rattle.sc_types.specs.declared.ctype.StructDef.{StructDef}
 use Rattle.sc_types.specs.Conversions.{promote, usual}

@@ -5,5 +5,4 @@ ghost use Rattle.sc_typing.specs.Formed.{MakesFormed};
 /// lvalue. A law of the definitions; there is nothing to run.
 pub fn makes_formed()
     ensures { MakesFormed }
-{
-}
+{}

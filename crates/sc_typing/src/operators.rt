@@ -1,5 +1,5 @@
 // Operators between two operands, and the comma (ANSI 3.3.5 to 3.3.14, 3.3.17).
-ghost use Rattle.std.specs.Prelude.{◌≡◌, IfOk, Ok, true, false};
+ghost use Rattle.std.specs.Prelude.{◌≡◌, IfOk, Ok, false};
 ghost use Rattle.sc_typing.specs.Binary as spec;
 ghost use Rattle.sc_operand.specs.Types.{int, plain};
 ghost use Rattle.sc_operand.specs.Steps.{Says};

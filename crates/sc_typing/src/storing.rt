@@ -1,5 +1,5 @@
 // Assignments (ANSI 3.3.16).
-ghost use Rattle.std.specs.Prelude.{◌≡◌, IfOk, Ok};
+ghost use Rattle.std.specs.Prelude.{◌≡◌, Ok};
 ghost use Rattle.sc_typing.specs.Assignment as spec;
 ghost use Rattle.sc_operand.specs.Operands.{to_int};
 ghost use Rattle.sc_operand.specs.Types.{plain};
