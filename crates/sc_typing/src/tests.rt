@@ -28,7 +28,7 @@ fn refusal(out: &mut Vec<u8>, kind: &X) -> Result<(), NoMemory> {
 fn answer(alloc: Global, types: &Types, words: &str) -> Result<Vec<u8>, NoMemory> {
     let mut out = Vec::new(alloc);
     match run(alloc, types, words) {
-        Ok(e) => show(&mut out, e.get())?,
+        Ok(e) => show(&mut out, e.get(), 20)?,
         Err(TypeFault::Diagnosed(d)) if d.line == 7 => refusal(
             &mut out,
             &kind_of(alloc, d.cause)?,

@@ -9,17 +9,15 @@ fn put(out: &mut Vec<u8>, text: &str) -> Result<(), NoMemory> {
 }
 
 fn digits(out: &mut Vec<u8>, n: u32) -> Result<(), NoMemory> {
-    let mut power = 1_000_000_000;
+    let mut power: u32 = 1_000_000_000;
     let mut begun = false;
     for _ in 0..10 {
-        let digit = (n / power % 10) as u8;
+        let digit = (n.checked_div(power).unwrap_or(0) % 10) as u8;
         if digit != 0 || begun || power == 1 {
-            out.push(b'0' + digit)?;
+            out.push(b'0'.wrapping_add(digit))?;
             begun = true;
         }
-        if power >= 10 {
-            power /= 10;
-        }
+        power /= 10;
     }
     Ok(())
 }
@@ -216,7 +214,11 @@ fn head(out: &mut Vec<u8>, e: &CoreExpr) -> Result<(), NoMemory> {
     show_type(out, type_of(e))
 }
 
-pub fn show(out: &mut Vec<u8>, e: &CoreExpr) -> Result<(), NoMemory> {
+// The tree, so many levels deep.
+pub fn show(out: &mut Vec<u8>, e: &CoreExpr, depth: u32) -> Result<(), NoMemory> {
+    let Some(rest) = depth.checked_sub(1) else {
+        return put(out, "..");
+    };
     match e {
         CoreExpr::Number(_, of, n) => {
             digits(out, *n)?;
@@ -229,7 +231,7 @@ pub fn show(out: &mut Vec<u8>, e: &CoreExpr) -> Result<(), NoMemory> {
         CoreExpr::Convert(_, of, a) => {
             leaf(out, "<", of)?;
             put(out, " ")?;
-            show(out, a.get())?;
+            show(out, a.get(), rest)?;
             put(out, ">")
         }
         _ => {
@@ -237,7 +239,7 @@ pub fn show(out: &mut Vec<u8>, e: &CoreExpr) -> Result<(), NoMemory> {
             for k in 0..4 {
                 if let Some(a) = operand(e, k) {
                     put(out, " ")?;
-                    show(out, a.get())?;
+                    show(out, a.get(), rest)?;
                 }
             }
             put(out, ")")
