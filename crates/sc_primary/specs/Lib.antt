@@ -1,0 +1,4 @@
+pub mod Leaves
+pub mod Parts
+pub mod Calls
+pub mod Unary

@@ -1,0 +1,4 @@
+pub mod Binary
+pub mod Conditional
+pub mod Assignment
+pub mod Formed
