@@ -40,6 +40,11 @@ abbrev pub Gives : {A : Type 0} → Outcome A → Result (Unit {0}) Failure → 
 Gives outcome (Ok u) new = outcome ≡ Ok new
 Gives outcome (Err f) new = Fails outcome f
 
+-- the same of what answers a value and changes its place
+abbrev pub GivesWith : {A S : Type 0} → Outcome (A × S) → Result A Failure → S → Type 0
+GivesWith outcome (Ok a) new = outcome ≡ Ok (a, new)
+GivesWith outcome (Err f) new = Fails outcome f
+
 -- the kind that is told
 abbrev pub word : Reason → X
 word reason.Rule = x.X7

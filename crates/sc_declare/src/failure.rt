@@ -53,7 +53,7 @@ impl From<NoMemory> for Failure {
 }
 
 /// The refusal for this cause.
-pub(crate) fn refusal(reason: Reason, line: u32) -> Failure
+pub fn refusal(reason: Reason, line: u32) -> Failure
     ensures { result ≡ spec.refusal reason line }
 {
     Failure::Refused(Refused { reason, line })

@@ -18,8 +18,11 @@ pub use content::{
 pub use derivation::{
     DeclaredType, Derived, MAX_DEPTH, Parameters, array_size, declarator, defined_parameter, derive, parameter,
 };
-pub use failure::{Failure, Reason, Refused, told};
+pub use failure::{Failure, Reason, Refused, refusal, told};
 pub use qualify::{is_constant, qualified, unqualified, with_const};
 pub use space::NameSpace;
 pub use storage::{Place, may_stand};
 pub use words::{BasicType, Word, named_type, type_words, words_type};
+
+#[cfg(test)]
+mod tests;

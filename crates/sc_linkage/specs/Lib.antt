@@ -1,0 +1,5 @@
+pub mod Library
+pub mod Signatures
+pub mod Linkage
+pub mod Births
+pub mod Frames
