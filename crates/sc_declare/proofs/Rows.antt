@@ -38,13 +38,14 @@ row-found name [] k e = none-some k e
 row-found {T} name (x ∷ outer) k e =
     ap (λ (xs : List (List ℕ × T)). option_map (λ (e : List ℕ × T). e.1) (slice_get xs k)) (reverse-append (x ∷ []) outer)
     ∙ elim (bytes_eq x.0 name) as (λ (b : Bool). (if b then Some (length outer) else place_of name outer) ≡ Some k
-        → option_map (λ (e : List ℕ × T). e.1) (slice_get (reverse outer ++ x ∷ []) k) ≡ (if b then Some x.1 else find name outer))
-    [ true ↦ λ h.
-        ap (λ (n : ℕ). option_map (λ (e : List ℕ × T). e.1) (slice_get (reverse outer ++ x ∷ []) n)) (sym (some-inj (length outer) k h) ∙ sym (length-reverse outer))
-        ∙ ap (option_map (λ (e : List ℕ × T). e.1)) (slice_get-seam (reverse outer) x)
-    | false ↦ λ h.
-        ap (option_map (λ (e : List ℕ × T). e.1)) (slice_get-left (reverse outer) (x ∷ []) k (let inside : k < length outer = place-within name outer k h in omega (arith, inside, length-reverse outer)))
-        ∙ row-found name outer k h ]
+    → option_map (λ (e : List ℕ × T). e.1) (slice_get (reverse outer ++ x ∷ []) k) ≡ (if b then Some x.1 else find name outer)) [
+      | true ↦ λ h.
+          ap (λ (n : ℕ). option_map (λ (e : List ℕ × T). e.1) (slice_get (reverse outer ++ x ∷ []) n)) (sym (some-inj (length outer) k h) ∙ sym (length-reverse outer))
+          ∙ ap (option_map (λ (e : List ℕ × T). e.1)) (slice_get-seam (reverse outer) x)
+      | false ↦ λ h.
+          ap (option_map (λ (e : List ℕ × T). e.1)) (slice_get-left (reverse outer) (x ∷ []) k (let inside : k < length outer = place-within name outer k h in omega (arith, inside, length-reverse outer)))
+          ∙ row-found name outer k h
+    ]
     e
 
 pub row-at : {T : Type 0} (name : List ℕ) (rows slice : List (List ℕ × T)) (k : ℕ) → place_of name rows ≡ Some k → reverse slice ≡ rows

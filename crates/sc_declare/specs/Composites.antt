@@ -1,5 +1,5 @@
 -- The composite of two compatible types (ANSI 3.1.2.6).
-use Rattle.std.specs.Prelude.{ℕ, Bool, max, List, [], ◌∷◌, map}
+use Rattle.std.specs.Prelude.{max, List, [], ◌∷◌, map}
 use Rattle.sc_types.specs.declared.ctype.CType.{CType, fold-CType, out-CType}
 use Rattle.sc_types.specs.declared.ctype.CType.TheVariants as t
 use Rattle.sc_types.specs.declared.ctype.CType.TheOpen.{CType-F, Signature-F}

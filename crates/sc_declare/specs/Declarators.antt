@@ -1,5 +1,5 @@
 -- The types that declarators give (ANSI 3.5.4).
-use Rattle.std.specs.Prelude.{ℕ, ◌+◌, ◌==◌, max, nat_lt, Bool, true, false, ◌&&◌, ◌||◌, if◌then◌else◌, List, [], ◌∷◌, ◌++◌, Option, Some, None, is_some, Result, Ok, Err, ℤ, pos, negsuc}
+use Rattle.std.specs.Prelude.{ℕ, ◌+◌, ◌==◌, max, nat_lt, Bool, false, ◌&&◌, ◌||◌, if◌then◌else◌, List, [], ◌∷◌, ◌++◌, Option, Some, None, is_some, Ok, ℤ, pos, negsuc}
 use Rattle.sc_base.specs.declared.integer.Int.{Int}
 use Rattle.sc_tree.specs.declared.expression.Storage.{Storage}
 use Rattle.sc_types.specs.declared.ctype.CType.{CType, out-CType}

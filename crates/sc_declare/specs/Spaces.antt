@@ -1,5 +1,5 @@
 -- Name spaces and scopes (ANSI 3.1.2.1, 3.1.2.3).
-use Rattle.std.specs.Prelude.{◌≡◌, ℕ, ◌-◌, Bool, if◌then◌else◌, List, [], ◌∷◌, length, take, Option, Some, None, is_some, Result, Ok}
+use Rattle.std.specs.Prelude.{ℕ, ◌-◌, if◌then◌else◌, List, [], ◌∷◌, length, take, Option, Some, None, is_some, Ok}
 use Rattle.std.specs.Str.{bytes_eq}
 use Rattle.sc_declare.specs.declared.failure.Reason.TheVariants as r
 use Rattle.sc_declare.specs.Outcomes.{Outcome, refuse}

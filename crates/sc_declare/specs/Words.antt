@@ -1,6 +1,5 @@
 -- The types that lists of type words stand for (ANSI 3.5.2).
-use Rattle.std.specs.Prelude.{ℕ, Bool, true, false, ◌&&◌, map, Result, Ok, Err, ◌==◌, if◌then◌else◌, List, [], ◌∷◌, count_by, Option, Some, None}
-use Rattle.sc_base.specs.declared.integer.Int.{Int}
+use Rattle.std.specs.Prelude.{ℕ, Bool, false, ◌&&◌, map, Ok, ◌==◌, if◌then◌else◌, List, [], ◌∷◌, count_by, Option, Some, None}
 use Rattle.sc_base.specs.declared.integer.Int.TheVariants as i
 use Rattle.sc_declare.specs.declared.words.Word.{Word}
 use Rattle.sc_declare.specs.declared.words.Word.TheVariants as w

@@ -98,7 +98,12 @@ fn counted(alloc: Global, of: CType, length: u32) -> Result<CType, NoMemory> {
 
 fn one_parameter(alloc: Global) -> Result<Parameters, Failure> {
     let of = counted(alloc, CType::Int(Int::Int, true), 3)?;
-    let p = parameter(alloc, 1, Some(Storage::Register), DeclaredType { of, depth: 1 })?;
+    let p = parameter(
+        alloc,
+        1,
+        Some(Storage::Register),
+        DeclaredType { of, depth: 1 },
+    )?;
     let mut all = Parameters::new(alloc);
     all.push(p)?;
     Ok(all)
@@ -205,16 +210,23 @@ fn taken(answer: Result<(), Failure>) -> &'static str {
     }
 }
 
+// The answers to a member, the same again, and the end of the structure.
+fn completed(
+    alloc: Global,
+    s: &mut Structs,
+) -> Result<(&'static str, &'static str, &'static str), Fail> {
+    let mut members = MemberList::new(alloc);
+    let one = taken(members.push(alloc, s, 1, member(alloc, "a")?));
+    let again = taken(members.push(alloc, s, 1, member(alloc, "a")?));
+    Ok((one, again, taken(complete(s, 1, 0, members.into_items()))))
+}
+
 // One structure with a member, and one that is incomplete.
 fn unit(alloc: Global, rt: &impl Abort) -> Result<Structs, Fail> {
     let mut s = Structs::new(alloc);
     s.declare(None)?;
     s.declare(None)?;
-    let mut members = MemberList::new(alloc);
-    let one = taken(members.push(alloc, &s, 1, member(alloc, "a")?));
-    let again = taken(members.push(alloc, &s, 1, member(alloc, "a")?));
-    let answers = (one, again, taken(complete(&mut s, 1, 0, members.into_items())));
-    assert_eq!(rt; answers, ("taken", "X7", "taken"));
+    assert_eq!(rt; completed(alloc, &mut s)?, ("taken", "X7", "taken"));
     Ok(s)
 }
 
@@ -238,4 +250,145 @@ fn declarations(rt: HostRuntime) -> Result<(), Fail> {
         }
     }
     Ok(())
+}
+
+// What is done with a name space: `+a1` declares a as 1 in the innermost scope and is taken, `!a1` is refused, `?a1` finds a as 1, `?a0`
+// does not find it, `.a1` and `.a0` look in the innermost scope alone, `{` begins a scope and `}` ends it.
+const SCOPES: &str =
+    "+a1 +b2 !a3 ?a1 { .a0 +a3 !a4 ?a3 .a3 ?b2 .b0 { +b5 ?b5 ?a3 } ?b2 } ?a1 .a1 ?c0";
+
+fn once(
+    alloc: Global,
+    space: &mut NameSpace<u32>,
+    began: usize,
+    text: &str,
+    value: u32,
+) -> Result<bool, Fail> {
+    let name = name(alloc, text)?;
+    match space.declare_once(alloc, 1, began, name, value) {
+        Ok(()) => Ok(true),
+        Err(_) => Ok(false),
+    }
+}
+
+fn found(
+    alloc: Global,
+    space: &NameSpace<u32>,
+    began: Option<usize>,
+    text: &str,
+) -> Result<u32, Fail> {
+    let name = name(alloc, text)?;
+    let meaning = match began {
+        Some(began) => space.find_innermost(began, &name),
+        None => space.find(&name),
+    };
+    Ok(meaning.copied().unwrap_or(0))
+}
+
+// Whether a step goes as it says.
+fn act(alloc: Global, space: &mut NameSpace<u32>, began: usize, text: &str) -> Result<bool, Fail> {
+    let Some((what, value)) = text.split_at_checked(2) else {
+        return Ok(false);
+    };
+    let Some((what, letter)) = what.split_at_checked(1) else {
+        return Ok(false);
+    };
+    let value = value.parse::<u32>()?;
+    match what {
+        "+" => once(alloc, space, began, letter, value),
+        "!" => Ok(!once(alloc, space, began, letter, value)?),
+        "?" => Ok(found(alloc, space, None, letter)? == value),
+        _ => Ok(found(alloc, space, Some(began), letter)? == value),
+    }
+}
+
+#[test]
+fn name_spaces(rt: HostRuntime) -> Result<(), Fail> {
+    let alloc = rt.alloc();
+    let mut space = NameSpace::new(alloc);
+    let mut scopes = Vec::new(alloc);
+    let mut began = 0;
+    for text in SCOPES.split(' ') {
+        match text {
+            "{" => {
+                scopes.push(began)?;
+                began = space.len();
+            }
+            "}" => {
+                space.leave(began);
+                began = scopes.pop().unwrap_or(0);
+            }
+            _ => assert!(rt; act(alloc, &mut space, began, text)?, "{text}"),
+        }
+    }
+    Ok(())
+}
+
+#[test]
+fn numbers(rt: HostRuntime) {
+    assert_eq!(rt; next_enumerator(1, None), Ok(0));
+    assert_eq!(rt; next_enumerator(1, Some(4)), Ok(5));
+    assert_eq!(rt; next_enumerator(1, Some(u32::MAX)), Ok(0));
+    assert!(rt; next_enumerator(1, Some(0x7fff_ffff)).is_err());
+    assert_eq!(rt; enumerator(1, Int::Int, u32::MAX), Ok(u32::MAX));
+    assert!(rt; enumerator(1, Int::UInt, u32::MAX).is_err());
+    assert_eq!(rt; array_size(1, Int::UInt, 3), Ok(3));
+    assert!(rt; array_size(1, Int::Long, u32::MAX).is_err());
+    assert!(rt; array_size(1, Int::Int, 0).is_err());
+}
+
+#[test]
+fn tags_and_places(rt: HostRuntime) {
+    assert_eq!(rt; structure_tag(None), StructureTag::New);
+    assert_eq!(rt;
+        structure_tag(Some(Tag::Structure(3))),
+        StructureTag::Known(3)
+    );
+    assert_eq!(rt; structure_tag(Some(Tag::Enumeration)), StructureTag::Other);
+    assert_eq!(rt; taken(enumeration_tag(1, Some(Tag::Enumeration))), "taken");
+    assert_eq!(rt; taken(enumeration_tag(1, None)), "X7");
+    assert!(rt; may_stand(Place::Block, Some(Storage::Auto)));
+    assert!(rt; !may_stand(Place::File, Some(Storage::Auto)));
+    assert!(rt; !may_stand(Place::Definition, Some(Storage::Typedef)));
+}
+
+fn joined(alloc: Global) -> Result<CType, NoMemory> {
+    let unknown = read(alloc, b"i0")?;
+    let known = read(alloc, b"i3")?;
+    composite(alloc, &unknown, &known)
+}
+
+#[test]
+fn composite_types(rt: HostRuntime) -> Result<(), Fail> {
+    let alloc = rt.alloc();
+    let s = Structs::new(alloc);
+    let both = joined(alloc)?;
+    let unknown = read(alloc, b"i0")?;
+    assert_eq!(rt; taken(defined_parameter(&s, 1, true, &both)), "taken");
+    assert_eq!(rt; taken(defined_parameter(&s, 1, false, &both)), "X7");
+    assert_eq!(rt; taken(defined_parameter(&s, 1, true, &unknown)), "X7");
+    Ok(())
+}
+
+#[test]
+fn qualifiers(rt: HostRuntime) -> Result<(), Fail> {
+    let alloc = rt.alloc();
+    let constant = with_const(alloc, true, read(alloc, b"i3")?)?;
+    assert!(rt; is_constant(&constant));
+    assert!(rt; !is_constant(&unqualified(read(alloc, b"iK")?)));
+    Ok(())
+}
+
+#[test]
+fn refusals(rt: HostRuntime) {
+    match told(rt.alloc(), refusal(Reason::Size, 7)) {
+        Fault::Refused(refused) => {
+            assert_eq!(rt; refused.line, 7);
+            match refused.kind {
+                X::X10(word) => assert_eq!(rt; word.as_slice(), b"size".as_slice()),
+                _ => panic!(rt; "another kind"),
+            }
+        }
+        Fault::NoMemory => panic!(rt; "no memory"),
+    }
 }

@@ -74,7 +74,10 @@ fn rank(word: Word) -> u8
 fn count(word: Word, words: &[Word]) -> usize
     ensures { result ≡ spec.count word words.now }
 {
-    words.iter().filter(|other| rank(**other) == rank(word)).count()
+    words
+        .iter()
+        .filter(|other| rank(**other) == rank(word))
+        .count()
 }
 
 fn tally(words: &[Word]) -> Counts
@@ -94,13 +97,7 @@ fn tally(words: &[Word]) -> Counts
 fn same(a: Counts, b: Counts) -> bool
     ensures { result ≡ spec.same a b }
 {
-    a.0 == b.0
-        && a.1 == b.1
-        && a.2 == b.2
-        && a.3 == b.3
-        && a.4 == b.4
-        && a.5 == b.5
-        && a.6 == b.6
+    a.0 == b.0 && a.1 == b.1 && a.2 == b.2 && a.3 == b.3 && a.4 == b.4 && a.5 == b.5 && a.6 == b.6
 }
 
 fn first_of(lists: &[(Counts, BasicType)], counts: Counts) -> Option<BasicType>

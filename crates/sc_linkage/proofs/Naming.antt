@@ -1,19 +1,16 @@
 -- The names of links, in order.
-use Rattle.std.proofs.Common.{◌≡◌, ℕ, ◌+◌, Bool, true, false, List, [], ◌∷◌, ◌++◌, map, get_or, set, length, cond, Some, None, Option, refl, sym, ◌∙◌, ap, Ok, Err}
-use Rattle.std.specs.Prelude.{if◌then◌else◌, ◌||◌, not, nat_lt, position, slice_get}
+use Rattle.std.proofs.Common.{◌≡◌, ℕ, ◌+◌, Bool, true, false, List, [], ◌∷◌, ◌++◌, map, get_or, set, length, cond, Some, None, refl, sym, ◌∙◌, ap, Ok, Err}
+use Rattle.std.specs.Prelude.{if◌then◌else◌, ◌||◌, not, nat_lt, position}
 use Rattle.std.specs.Str.{bytes_eq}
 use Rattle.std.specs.List.{list_any, prefix_len}
 use Rattle.std.proofs.Math.Seq.{map-set_same}
 use Rattle.std.proofs.lemmas.List.{map-append, length-map}
-use Rattle.std.proofs.lemmas.Option.{get_or_from_slice_get}
 use Rattle.indexmap.specs.IndexSet.{insert_key}
-use Rattle.sc_types.specs.declared.ctype.CType.{CType}
 use Rattle.sc_declare.specs.declared.failure.Refused.{Refused}
 use Rattle.sc_declare.specs.declared.failure.Reason.TheVariants as r
 use Rattle.sc_declare.specs.Outcomes.{Outcome, refuse}
 use Rattle.sc_linkage.specs.declared.link.Link.{Link}
 use Rattle.sc_linkage.specs.declared.link.Declaration.{Declaration}
-use Rattle.sc_linkage.specs.declared.link.Definition.{Definition}
 use Rattle.sc_linkage.specs.Linkage.{place_of, is_declared, first, is_wrong_main, new_link, is_internal}
 use Rattle.sc_linkage.specs.Signatures.{is_function}
 

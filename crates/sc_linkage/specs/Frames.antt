@@ -1,5 +1,5 @@
 -- The frame of a function: where its objects stand, and what it costs.
-use Rattle.std.specs.Prelude.{ℕ, ◌+◌, ◌-◌, ◌*◌, ◌/◌, nat_le, if◌then◌else◌, List, [], ◌∷◌, sum_by, Result, Ok}
+use Rattle.std.specs.Prelude.{ℕ, ◌+◌, ◌-◌, ◌*◌, ◌/◌, nat_le, if◌then◌else◌, List, [], ◌∷◌, sum_by, Ok}
 use Rattle.sc_core.specs.declared.module.Auto.{Auto}
 use Rattle.sc_types.specs.Frames.{frame_cost}
 use Rattle.sc_declare.specs.declared.failure.Reason.TheVariants as r

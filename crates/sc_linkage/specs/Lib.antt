@@ -3,3 +3,4 @@ pub mod Signatures
 pub mod Linkage
 pub mod Births
 pub mod Frames
+pub mod Keys

@@ -63,7 +63,8 @@ fn slots(blocks: &[Items<Local>]) -> Option<u64>
 /// The bytes of a function's frame (X10 `frame` where they are more than a frame may have): `room` is the greatest room of an
 /// expression of it, `args` the most arguments of a call in it.
 pub fn cost(line: u32, blocks: &[Items<Local>], room: u32, args: u32) -> Result<u32, Failure>
-    ensures { Meets (spec.cost line (spec.slots blocks.now) room args) result }
+    ensures same { Meets (spec.cost line (spec.slots blocks.now) room args) result }
+    ensures fits { IfOk result (λ n. bytes_of_frame (spec.slots blocks.now) room args ≤ MAX_FRAME) }
 {
     let Some(bytes) = slots(blocks) else {
         return Err(refusal(Reason::Frame, line));

@@ -3,12 +3,17 @@
 #![tactic(auto)]
 
 mod births;
+mod block;
 mod frame;
 mod library;
 mod link;
 mod signature;
 
 pub use births::{Birth, born};
+pub use block::block_key;
 pub use frame::{Local, cost, place};
 pub use library::is_library_name;
 pub use link::{Declaration, Definition, Link, Links};
+
+#[cfg(test)]
+mod tests;

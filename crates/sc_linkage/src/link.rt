@@ -136,12 +136,7 @@ fn first(alloc: Global, home: &Name, x: &Declaration) -> Result<Link, Failure>
 }
 
 /// The type that a name has after a further declaration.
-fn further(
-    alloc: Global,
-    structs: &Structs,
-    x: &Declaration,
-    l: &Link,
-) -> Result<CType, Failure>
+fn further(alloc: Global, structs: &Structs, x: &Declaration, l: &Link) -> Result<CType, Failure>
     ensures { Meets (spec.further structs.now x.now l.now) result }
 {
     let internal = is_internal(x.storage, is_function(&x.of), has_internal(l));
@@ -209,12 +204,7 @@ fn type_at_end(alloc: Global, l: &Link) -> Result<CType, NoMemory>
     }
 }
 
-fn declared(
-    alloc: Global,
-    l: &Link,
-    defined: bool,
-    of: CType,
-) -> Result<Declared, NoMemory>
+fn declared(alloc: Global, l: &Link, defined: bool, of: CType) -> Result<Declared, NoMemory>
     ensures { IfOk result (λ x. x ≡ spec.declared l.now defined of) }
 {
     let key = l.key.copy(alloc)?;
@@ -226,7 +216,13 @@ fn declared(
     })
 }
 
-fn sized(alloc: Global, structs: &Structs, line: u32, l: &Link, of: CType) -> Result<Declared, Failure>
+fn sized(
+    alloc: Global,
+    structs: &Structs,
+    line: u32,
+    l: &Link,
+    of: CType,
+) -> Result<Declared, Failure>
     ensures { Meets (spec.sized structs.now line l.now of) result }
 {
     if !is_complete(&of, structs) {

@@ -1,4 +1,4 @@
-use Rattle.std.proofs.Common.{◌≡◌, ℕ, length}
+use Rattle.std.proofs.Common.{◌≡◌, length}
 use Rattle.sc_declare.specs.Declarators.{declarator}
 use Rattle.sc_declare.proofs.derivation.declarator.Given as goal
 

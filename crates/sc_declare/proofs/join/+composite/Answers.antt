@@ -12,9 +12,9 @@ composite-returns-in_ok-signatures-in-Function-b t' c =
     let g = c.in-Function-b.g in
     still_ok c.function.result (t.Function c.in_ok-signatures-in-Function-b.field-0) (composite c.args.a.now c.args.b.now) c.function.ensures
     (ap (λ (s : Signature). t.Function s) (
-        c.in_ok-signatures-in-Function-b.ensures
-        ∙ ap (λ (x : Signature). signature x c.get-in-Function-b-2.result.now) c.get-in-Function-b.ensures
-        ∙ ap (λ (x : Signature). signature f x) c.get-in-Function-b-2.ensures)
+    c.in_ok-signatures-in-Function-b.ensures
+    ∙ ap (λ (x : Signature). signature x c.get-in-Function-b-2.result.now) c.get-in-Function-b.ensures
+    ∙ ap (λ (x : Signature). signature f x) c.get-in-Function-b-2.ensures)
     ∙ sym (composite-function f g)
     ∙ ap (λ (x : CType). composite x (t.Function g)) (sym c.in-Function.is)
     ∙ ap (λ (x : CType). composite c.args.a.now x) (sym c.in-Function-b.is))

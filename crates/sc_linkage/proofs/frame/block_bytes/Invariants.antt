@@ -1,5 +1,5 @@
 use Rattle.std.proofs.Common.{◌≡◌, ◌+◌, ◌≤◌, drop}
-use Rattle.sc_linkage.specs.Frames.{block_bytes, largest}
+use Rattle.sc_linkage.specs.Frames.{block_bytes}
 use Rattle.sc_linkage.proofs.frame.block_bytes.Given as goal
 
 abbrev pub invariant-loop-local : goal.invariant-loop-local

@@ -1,4 +1,4 @@
-use Rattle.std.proofs.Common.{◌≡◌, ◌-◌, length, drop, ◌∙◌, ap, arith}
+use Rattle.std.proofs.Common.{◌-◌, length, drop, ◌∙◌, ap, arith}
 use Rattle.sc_declare.proofs.Rows.{one-less}
 use Rattle.sc_declare.proofs.space.NameSpace.leave.Goals as goal
 

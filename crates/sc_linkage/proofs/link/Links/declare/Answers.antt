@@ -1,4 +1,4 @@
-use Rattle.std.proofs.Common.{◌≡◌, ◌∙◌, ap, sym}
+use Rattle.std.proofs.Common.{◌∙◌, ap, sym}
 use Rattle.sc_linkage.specs.Linkage.{is_declared}
 use Rattle.sc_linkage.proofs.Naming.{first-name}
 use Rattle.sc_linkage.proofs.link.Links.declare.Goals as goal

@@ -1,4 +1,4 @@
-use Rattle.std.proofs.Common.{◌≡◌, ◌∙◌, ap}
+use Rattle.std.proofs.Common.{◌∙◌, ap}
 use Rattle.sc_linkage.specs.Linkage.{place_of, is_declared}
 use Rattle.sc_linkage.proofs.Naming.{place-is, declared-is}
 use Rattle.sc_linkage.proofs.link.Links.place_of.Goals as goal
