@@ -1,5 +1,5 @@
 -- A string that initialises an array of characters (ANSI 3.5.7).
-use Rattle.std.specs.Prelude.{ℕ, ◌-◌, ◌==◌, nat_lt, nat_le, Bool, not, ◌&&◌, if◌then◌else◌, List, [], ◌∷◌, ◌++◌, length, take, Result, Ok}
+use Rattle.std.specs.Prelude.{ℕ, ◌-◌, ◌==◌, nat_lt, nat_le, not, ◌&&◌, if◌then◌else◌, List, [], ◌∷◌, ◌++◌, length, take, Ok}
 use Rattle.sc_types.specs.Tables.{largest}
 use Rattle.sc_declare.specs.declared.failure.Reason.TheVariants as r
 use Rattle.sc_declare.specs.Outcomes.{Outcome, refuse}

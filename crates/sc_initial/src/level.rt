@@ -1,29 +1,30 @@
 // The places of one aggregate (ANSI 3.5.7).
-ghost use Rattle.std.specs.Prelude.{◌≡◌, ◌+◌, ◌≤◌, ◌<◌, IfOk, option_to_list};
+ghost use Rattle.std.specs.Prelude.{◌≡◌, ◌+◌, ◌<◌, IfOk, option_to_list};
 ghost use Rattle.sc_declare.specs.Outcomes.{Meets};
 ghost use Rattle.sc_initial.specs.Places as spec;
 
-use sc_base::Duplicate;
+use sc_base::{Duplicate, Int};
 use sc_declare::{Failure, Reason, refusal};
 use sc_types::{CType, MAX_OBJECT, Structs, is_object, offset_of, size_of};
 use std::alloc::Global;
 
-/// A place of an object: its type, its offset and its size, in bytes.
+/// A place of an object: its type, its offset and the offset behind it, in bytes. Of an array of unknown size both offsets are
+/// that of its beginning.
 #[derive(Drop)]
 pub struct Place {
     pub of: CType,
     pub at: u32,
-    pub size: u32,
+    pub end: u32,
 }
 
-/// An aggregate that a list is filling: the line of the list, its type, its offset and size (0 while it is not known), how many
-/// of its places have items, the offset behind the last one, and whether it has a brace of its own.
+/// An aggregate that a list is filling: the line of the list, its type, its offset and the offset behind it, how many of its places
+/// have items, the offset behind the last of these, and whether it has a brace of its own.
 #[derive(Drop)]
 pub struct Level {
     pub line: u32,
     pub of: CType,
     pub at: u32,
-    pub size: u32,
+    pub limit: u32,
     pub next: u32,
     pub end: u32,
     pub braced: bool,
@@ -47,6 +48,29 @@ pub(crate) fn is_full(structs: &Structs, l: &Level) -> bool
     }
 }
 
+fn is_character(of: &CType) -> bool
+    ensures { result ≡ spec.is_character of.now }
+{
+    match of {
+        CType::Int(kind, _) => match kind {
+            Int::Char | Int::SChar | Int::UChar => true,
+            Int::Short | Int::UShort | Int::Int | Int::UInt | Int::Long | Int::ULong => false,
+        },
+        _ => false,
+    }
+}
+
+/// Whether an item that is no list stands for a place of this type itself: a scalar, or a string for an array of characters.
+pub fn takes(string: bool, of: &CType) -> bool
+    ensures { result ≡ spec.takes string of.now }
+{
+    match of {
+        CType::Array(u, _) => string && is_character(u.get()),
+        CType::Struct(_, _) => false,
+        CType::Void(_) | CType::Int(_, _) | CType::Pointer(_, _) | CType::Function(_) => true,
+    }
+}
+
 fn placed(
     alloc: Global,
     line: u32,
@@ -55,24 +79,23 @@ fn placed(
     base: u32,
     offset: u32,
 ) -> Result<Place, Failure>
-    ensures same { Meets (spec.placed line size of.now (base + offset)) result }
-    ensures few { IfOk result (λ p. p.at + p.size ≤ MAX_OBJECT) }
+    ensures { Meets (spec.placed line size of.now (base + offset)) result }
 {
     let at = u64::from(base) + u64::from(offset);
-    if at + u64::from(size) > u64::from(MAX_OBJECT) {
+    let end = at + u64::from(size);
+    if end > u64::from(MAX_OBJECT) {
         return Err(refusal(Reason::Size, line));
     }
     let of = of.copy(alloc)?;
     Ok(Place {
         of,
         at: at as u32,
-        size,
+        end: end as u32,
     })
 }
 
 fn element(alloc: Global, structs: &Structs, l: &Level, u: &CType) -> Result<Place, Failure>
-    ensures same { Meets (spec.element structs.now l.now u.now) result }
-    ensures few { IfOk result (λ p. p.at + p.size ≤ MAX_OBJECT) }
+    ensures { Meets (spec.element structs.now l.now u.now) result }
 {
     if !is_object(u, structs) {
         return Err(refusal(Reason::Rule, l.line));
@@ -85,8 +108,7 @@ fn element(alloc: Global, structs: &Structs, l: &Level, u: &CType) -> Result<Pla
 }
 
 fn member(alloc: Global, structs: &Structs, l: &Level, id: u32) -> Result<Place, Failure>
-    ensures same { Meets (spec.member structs.now l.now id) result }
-    ensures few { IfOk result (λ p. p.at + p.size ≤ MAX_OBJECT) }
+    ensures { Meets (spec.member structs.now l.now id) result }
 {
     if !is_object(&CType::Struct(id, false), structs) {
         return Err(refusal(Reason::Rule, l.line));
@@ -104,7 +126,6 @@ fn member(alloc: Global, structs: &Structs, l: &Level, id: u32) -> Result<Place,
 /// The next place of an aggregate.
 pub(crate) fn next_place(alloc: Global, structs: &Structs, l: &Level) -> Result<Place, Failure>
     ensures same { Meets (spec.place structs.now l.now) result }
-    ensures few { IfOk result (λ p. p.at + p.size ≤ MAX_OBJECT) }
     ensures more { IfOk result (λ p. l.now.next < 4294967295) }
 {
     if l.next == u32::MAX {
@@ -119,15 +140,14 @@ pub(crate) fn next_place(alloc: Global, structs: &Structs, l: &Level) -> Result<
     }
 }
 
-/// The aggregate, when a place of it has its item.
-pub(crate) fn filled(l: Level, at: u32, size: u32) -> Level
-    requires next { l.next < 4294967295 }
-    requires end { at + size ≤ MAX_OBJECT }
-    ensures { result ≡ record l { next = l.next + 1; end = at + size } }
+/// The aggregate, when a place of it that ends here has its item.
+pub(crate) fn filled(l: Level, end: u32) -> Level
+    requires { l.next < 4294967295 }
+    ensures { result ≡ record l { next = l.next + 1; end = end } }
 {
     let mut l = l;
     l.next += 1;
-    l.end = at + size;
+    l.end = end;
     l
 }
 
@@ -139,7 +159,7 @@ pub(crate) fn begun(line: u32, braced: bool, p: Place) -> Level
         line,
         of: p.of,
         at: p.at,
-        size: p.size,
+        limit: p.end,
         next: 0,
         end: p.at,
         braced,
@@ -150,12 +170,11 @@ pub(crate) fn begun(line: u32, braced: bool, p: Place) -> Level
 pub(crate) fn missing(structs: &Structs, l: &Level) -> Option<Zeros>
     ensures { option_to_list result ≡ spec.missing structs.now l.now }
 {
-    let end = u64::from(l.at) + u64::from(l.size);
-    if is_full(structs, l) || end <= u64::from(l.end) {
+    if is_full(structs, l) || l.limit <= l.end {
         return None;
     }
     Some(Zeros {
         at: l.end,
-        count: (end - u64::from(l.end)) as u32,
+        count: l.limit - l.end,
     })
 }

@@ -6,6 +6,9 @@ mod level;
 mod text;
 mod walk;
 
-pub use level::{Level, Place, Zeros};
+pub use level::{Level, Place, Zeros, takes};
 pub use text::{Text, text_for};
 pub use walk::{Closed, Walk};
+
+#[cfg(test)]
+mod tests;

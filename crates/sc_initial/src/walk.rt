@@ -3,7 +3,7 @@ ghost use Rattle.std.specs.Prelude.{◌≡◌, [], ◌∷◌, IfOk, OnOk};
 ghost use Rattle.sc_declare.specs.Outcomes.{GivesWith};
 ghost use Rattle.sc_initial.specs.Places as spec;
 
-use crate::level::{Level, Place, Zeros, begun, filled, is_full, missing, next_place};
+use crate::level::{Level, Place, Zeros, begun, filled, is_full, missing, next_place, takes};
 use sc_base::{Items, NoMemory, Stack};
 use sc_declare::{Failure, Reason, refusal};
 use sc_types::Structs;
@@ -48,12 +48,37 @@ impl Walk {
         while let Some(level) = self.levels.pop() {
             if !is_full(structs, &level) {
                 let p = next_place(alloc, structs, &level)?;
-                self.levels.push(filled(level, p.at, p.size))?;
+                self.levels.push(filled(level, p.end))?;
                 return Ok(p);
             }
             if level.braced {
                 return Err(refusal(Reason::Rule, level.line));
             }
+        }
+        Err(refusal(Reason::Rule, line))
+    }
+
+    /// The place of the next item where that is no list: an aggregate that does not take it begins without a brace, and gives its first
+    /// place. `depth` is one more than the aggregates that may be inside one another: no structure is inside itself, and a type has at
+    /// most 32 arrays. Refusals as of `next`.
+    pub fn reach(
+        &mut self,
+        alloc: Global,
+        structs: &Structs,
+        line: u32,
+        string: bool,
+        depth: u32,
+    ) -> Result<Place, Failure>
+        ensures { GivesWith (spec.reach depth structs.now string self.old.levels line) result self.new.levels }
+    {
+        let mut left = depth;
+        'inward: while left > 0 {
+            left -= 1;
+            let p = self.next(alloc, structs, line)?;
+            if takes(string, &p.of) {
+                return Ok(p);
+            }
+            self.begin(line, false, p)?;
         }
         Err(refusal(Reason::Rule, line))
     }
