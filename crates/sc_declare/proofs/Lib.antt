@@ -1,0 +1,4 @@
+pub mod Joining
+pub mod Steps
+pub mod Rows
+pub mod Listed

@@ -1,0 +1,9 @@
+pub mod Outcomes
+pub mod Words
+pub mod Storages
+pub mod Qualifiers
+pub mod Composites
+pub mod Declarators
+pub mod Contents
+pub mod Spaces
+pub mod Places
