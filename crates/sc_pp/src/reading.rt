@@ -1,0 +1,119 @@
+// The lines of a file are read, and those of the files that it includes.
+ghost use Rattle.std.specs.Prelude.{◌≡◌, ◌≤◌, ◌<◌, ◌-◌};
+ghost use Rattle.sc_pp.specs.Closed.{Ready};
+ghost use Rattle.sc_pp.specs.Preprocessing as spec;
+ghost use Rattle.sc_pp.specs.Answers.{Known, Blames, Steps, Reads, one};
+
+use crate::failure::{Failure, raised};
+use crate::frame::{Frame, turn};
+use crate::include::{File, Wanted};
+use crate::line::{Directive, Line};
+use crate::open::{fetch, open};
+use crate::state::{Place, State};
+use crate::directive::simple;
+use sc_base::Stack;
+use sc_outside::Files;
+use std::alloc::Global;
+
+/// Reads the lines of a file, the first on top. `depth` is the number of files that may be included inside each other
+/// from here.
+#[cycle(reading)]
+#[tactic(none)]
+pub fn read_lines<F: Files>(
+    alloc: Global,
+    depth: u32,
+    files: &mut F,
+    state: &mut State,
+    place: &Place,
+    lines: Stack<Line>,
+) -> Result<(), Failure>
+    requires { Ready lines }
+    ensures gives { Known (F.held files.old) (λ t map. Reads (spec.file_done t (spec.reading t map depth) place.now lines state.old) result state.new) }
+    ensures held { F.held files.new ≡ F.held files.old }
+    ensures later { F.faults files.old ≤ F.faults files.new }
+    ensures blames { Blames (F.faults files.old) (F.faults files.new) result }
+{
+    let mut lines = lines;
+    let mut frames = Stack::new(alloc);
+    'lines: while let Some(line) = lines.pop() {
+        match take_line(alloc, depth, files, state, place, &mut frames, line) {
+            Ok(()) => {}
+            Err(failure) => return Err(failure),
+        }
+    }
+    Ok(())
+}
+
+#[cycle(reading)]
+#[tactic(none)]
+fn take_line<F: Files>(
+    alloc: Global,
+    depth: u32,
+    files: &mut F,
+    state: &mut State,
+    place: &Place,
+    frames: &mut Stack<Frame>,
+    line: Line,
+) -> Result<(), Failure>
+    ensures gives { Known (F.held files.old) (λ t map. Steps (one t (spec.reading t map depth) place.now state.old frames.old line) result state.new frames.new) }
+    ensures held { F.held files.new ≡ F.held files.old }
+    ensures later { F.faults files.old ≤ F.faults files.new }
+    ensures blames { Blames (F.faults files.old) (F.faults files.new) result }
+{
+    match turn(alloc, state, place, frames, line) {
+        Ok(None) => Ok(()),
+        Ok(Some(directive)) => read_line(alloc, depth, files, state, place, &directive),
+        Err(fault) => Err(raised(fault)),
+    }
+}
+
+/// Does a line that is of no conditional.
+#[cycle(reading)]
+#[tactic(none)]
+fn read_line<F: Files>(
+    alloc: Global,
+    depth: u32,
+    files: &mut F,
+    state: &mut State,
+    place: &Place,
+    directive: &Directive,
+) -> Result<(), Failure>
+    ensures gives { Known (F.held files.old) (λ t map. Reads (spec.reading t map depth place.now state.old directive.now) result state.new) }
+    ensures held { F.held files.new ≡ F.held files.old }
+    ensures later { F.faults files.old ≤ F.faults files.new }
+    ensures blames { Blames (F.faults files.old) (F.faults files.new) result }
+{
+    match simple(alloc, depth, place, state, directive) {
+        Ok(None) => Ok(()),
+        Ok(Some(wanted)) => include(alloc, depth, files, state, place, &wanted),
+        Err(fault) => Err(raised(fault)),
+    }
+}
+
+/// Reads a file that an `#include` names.
+#[cycle(reading)]
+#[tactic(none)]
+fn include<F: Files>(
+    alloc: Global,
+    depth: u32,
+    files: &mut F,
+    state: &mut State,
+    place: &Place,
+    wanted: &Wanted,
+) -> Result<(), Failure>
+    requires { 0 < depth }
+    ensures gives { Known (F.held files.old) (λ t map. Reads (spec.included t map (spec.reading t map (depth - 1)) place.now state.old wanted.now) result state.new) }
+    ensures held { F.held files.new ≡ F.held files.old }
+    ensures later { F.faults files.old ≤ F.faults files.new }
+    ensures blames { Blames (F.faults files.old) (F.faults files.new) result }
+{
+    let text = match fetch(alloc, files, wanted) {
+        Ok(text) => text,
+        Err(failure) => return Err(failure),
+    };
+    match open(alloc, place, state, wanted, text) {
+        Ok(None) => Ok(()),
+        Ok(Some(File { place, lines })) => read_lines(alloc, depth - 1, files, state, &place, lines),
+        Err(fault) => Err(raised(fault)),
+    }
+}
