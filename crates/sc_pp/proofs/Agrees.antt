@@ -26,6 +26,10 @@ pub ends : {A : Type 0} (o : Outcome A) → after o (λ x. Ok x) ≡ o
 ends (Err r) = refl
 ends (Ok x) = refl
 
+-- a part, and what follows it
+passed_by : {A B C : Type 0} (first : Outcome A) (behind : A → Outcome B) (g : A → Outcome C) (h : B → Outcome C) (start : Outcome C) → start ≡ after first g → ((x : A) → g x ≡ after (behind x) h) → start ≡ after (after first behind) h
+passed_by first behind g h start e k = e ∙ under first g (λ x. after (behind x) h) k ∙ sym (nested first behind h)
+
 -- a refusal where a test holds
 by_flag : {A B C : Type 0} (b : Bool) (r : Refusal) (x : Outcome A) (y : Outcome B) (f : A → Outcome C) (g : B → Outcome C) → after x f ≡ after y g → after (if b then Err r else x) f ≡ after (if b then Err r else y) g
 by_flag true r x y f g h = refl
@@ -56,21 +60,15 @@ module _ (S : Type 0) (file : List ℕ) (read : S → Directive → Outcome S) (
     overs : (l e : Bool) (t : Tail) (s : S) (fs : List Frame) (us : List Line) → IsClosed t → runs (spelled_tail t us) (frame.Pass l e ∷ fs) s ≡ after (over S file read test l e t s) (runs us fs)
     overs l e Tail.unclosed s fs us c = absurd c
     overs l e (Tail.closing d) s fs us c = by_flag (l && has_more d) (malformed file d) (Ok (s, fs, None)) (Ok s) (next us) (runs us fs) refl
-    overs l e (Tail.elif d inside tail) s fs us c = by_flag e (malformed file d) (Ok (s, frame.Pass l false ∷ fs, None)) (after (skip S file read test inside s) (over S file read test l false tail)) (next (spelled inside (spelled_tail tail us))) (runs us fs) (passed l false inside tail s fs us c)
-    overs l e (Tail.other d inside tail) s fs us c = by_flag (e || (l && has_more d)) (malformed file d) (Ok (s, frame.Pass l true ∷ fs, None)) (after (skip S file read test inside s) (over S file read test l true tail)) (next (spelled inside (spelled_tail tail us))) (runs us fs) (passed l true inside tail s fs us c)
-
-    passed : (l e : Bool) (inside : Lines) (tail : Tail) (s : S) (fs : List Frame) (us : List Line) → AreClosed inside × IsClosed tail → runs (spelled inside (spelled_tail tail us)) (frame.Pass l e ∷ fs) s ≡ after (after (skip S file read test inside s) (over S file read test l e tail)) (runs us fs)
-    passed l e inside tail s fs us c =
-        skips inside s (frame.Pass l e ∷ fs) (spelled_tail tail us) c.0 refl
-        ∙ under (skip S file read test inside s) (runs (spelled_tail tail us) (frame.Pass l e ∷ fs)) (λ t. after (over S file read test l e tail t) (runs us fs)) (λ t. overs l e tail t fs us c.1)
-        ∙ sym (nested (skip S file read test inside s) (over S file read test l e tail) (runs us fs))
+    overs l e (Tail.elif d inside tail) s fs us c = by_flag e (malformed file d) (Ok (s, frame.Pass l false ∷ fs, None)) (after (skip S file read test inside s) (over S file read test l false tail)) (next (spelled inside (spelled_tail tail us))) (runs us fs) (passed_by (skip S file read test inside s) (over S file read test l false tail) (runs (spelled_tail tail us) (frame.Pass l false ∷ fs)) (runs us fs) (runs (spelled inside (spelled_tail tail us)) (frame.Pass l false ∷ fs) s) (skips inside s (frame.Pass l false ∷ fs) (spelled_tail tail us) c.0 refl) (λ x. overs l false tail x fs us c.1))
+    overs l e (Tail.other d inside tail) s fs us c = by_flag (e || (l && has_more d)) (malformed file d) (Ok (s, frame.Pass l true ∷ fs, None)) (after (skip S file read test inside s) (over S file read test l true tail)) (next (spelled inside (spelled_tail tail us))) (runs us fs) (passed_by (skip S file read test inside s) (over S file read test l true tail) (runs (spelled_tail tail us) (frame.Pass l true ∷ fs)) (runs us fs) (runs (spelled inside (spelled_tail tail us)) (frame.Pass l true ∷ fs) s) (skips inside s (frame.Pass l true ∷ fs) (spelled_tail tail us) c.0 refl) (λ x. overs l true tail x fs us c.1))
 
   -- what follows the group that was read
   takes : (e : Bool) (t : Tail) (s : S) (fs : List Frame) (us : List Line) → IsClosed t → runs (spelled_tail t us) (frame.Read e ∷ fs) s ≡ after (over S file read test true e t s) (runs us fs)
   takes e Tail.unclosed s fs us c = absurd c
   takes e (Tail.closing d) s fs us c = by_flag (has_more d) (malformed file d) (Ok (s, fs, None)) (Ok s) (next us) (runs us fs) refl
-  takes e (Tail.elif d inside tail) s fs us c = by_flag e (malformed file d) (Ok (s, frame.Pass true false ∷ fs, None)) (after (skip S file read test inside s) (over S file read test true false tail)) (next (spelled inside (spelled_tail tail us))) (runs us fs) (passed true false inside tail s fs us c)
-  takes e (Tail.other d inside tail) s fs us c = by_flag (e || has_more d) (malformed file d) (Ok (s, frame.Pass true true ∷ fs, None)) (after (skip S file read test inside s) (over S file read test true true tail)) (next (spelled inside (spelled_tail tail us))) (runs us fs) (passed true true inside tail s fs us c)
+  takes e (Tail.elif d inside tail) s fs us c = by_flag e (malformed file d) (Ok (s, frame.Pass true false ∷ fs, None)) (after (skip S file read test inside s) (over S file read test true false tail)) (next (spelled inside (spelled_tail tail us))) (runs us fs) (passed_by (skip S file read test inside s) (over S file read test true false tail) (runs (spelled_tail tail us) (frame.Pass true false ∷ fs)) (runs us fs) (runs (spelled inside (spelled_tail tail us)) (frame.Pass true false ∷ fs) s) (skips inside s (frame.Pass true false ∷ fs) (spelled_tail tail us) c.0 refl) (λ x. overs true false tail x fs us c.1))
+  takes e (Tail.other d inside tail) s fs us c = by_flag (e || has_more d) (malformed file d) (Ok (s, frame.Pass true true ∷ fs, None)) (after (skip S file read test inside s) (over S file read test true true tail)) (next (spelled inside (spelled_tail tail us))) (runs us fs) (passed_by (skip S file read test inside s) (over S file read test true true tail) (runs (spelled_tail tail us) (frame.Pass true true ∷ fs)) (runs us fs) (runs (spelled inside (spelled_tail tail us)) (frame.Pass true true ∷ fs) s) (skips inside s (frame.Pass true true ∷ fs) (spelled_tail tail us) c.0 refl) (λ x. overs true true tail x fs us c.1))
 
   -- where a condition is tested
   at_test : (o : Outcome (S × Bool)) (fs : List Frame) (us vs : List Line) (x y : S → Outcome S) →
@@ -91,25 +89,12 @@ module _ (S : Type 0) (file : List ℕ) (read : S → Directive → Outcome S) (
     reads (Lines.group d true inside tail ls) s fs us c h = rw h (
         at_test (test s d) fs (spelled inside (spelled_tail tail (spelled ls us))) (spelled ls us)
             (λ t. after (eval S file read test inside t) (over S file read test true false tail)) (λ t. after (skip S file read test inside t) (waits S file read test tail))
-            (λ t. chosen false inside tail t fs (spelled ls us) c.0 c.1) (λ t. refused inside tail t fs (spelled ls us) c.0 c.1)
+            (λ x. passed_by (eval S file read test inside x) (over S file read test true false tail) (runs (spelled_tail tail (spelled ls us)) (frame.Read false ∷ fs)) (runs (spelled ls us) fs) (runs (spelled inside (spelled_tail tail (spelled ls us))) (frame.Read false ∷ fs) x) (reads inside x (frame.Read false ∷ fs) (spelled_tail tail (spelled ls us)) c.0 refl) (λ y. takes false tail y fs (spelled ls us) c.1))
+            (λ x. passed_by (skip S file read test inside x) (waits S file read test tail) (runs (spelled_tail tail (spelled ls us)) (frame.Wait ∷ fs)) (runs (spelled ls us) fs) (runs (spelled inside (spelled_tail tail (spelled ls us))) (frame.Wait ∷ fs) x) (skips inside x (frame.Wait ∷ fs) (spelled_tail tail (spelled ls us)) c.0 refl) (λ y. awaits tail y fs (spelled ls us) c.1))
         ∙ under (after (test s d) (λ r. if r.1 then after (eval S file read test inside r.0) (over S file read test true false tail) else after (skip S file read test inside r.0) (waits S file read test tail)))
             (runs (spelled ls us) fs) (λ t. after (eval S file read test ls t) (runs us fs)) (λ t. reads ls t fs us c.2 h)
         ∙ sym (nested (after (test s d) (λ r. if r.1 then after (eval S file read test inside r.0) (over S file read test true false tail) else after (skip S file read test inside r.0) (waits S file read test tail)))
             (eval S file read test ls) (runs us fs)))
-
-    -- a group that is read, and what follows it
-    chosen : (e : Bool) (inside : Lines) (tail : Tail) (s : S) (fs : List Frame) (us : List Line) → AreClosed inside → IsClosed tail → runs (spelled inside (spelled_tail tail us)) (frame.Read e ∷ fs) s ≡ after (after (eval S file read test inside s) (over S file read test true e tail)) (runs us fs)
-    chosen e inside tail s fs us c d =
-        reads inside s (frame.Read e ∷ fs) (spelled_tail tail us) c refl
-        ∙ under (eval S file read test inside s) (runs (spelled_tail tail us) (frame.Read e ∷ fs)) (λ t. after (over S file read test true e tail t) (runs us fs)) (λ t. takes e tail t fs us d)
-        ∙ sym (nested (eval S file read test inside s) (over S file read test true e tail) (runs us fs))
-
-    -- a group that is not, and what follows it
-    refused : (inside : Lines) (tail : Tail) (s : S) (fs : List Frame) (us : List Line) → AreClosed inside → IsClosed tail → runs (spelled inside (spelled_tail tail us)) (frame.Wait ∷ fs) s ≡ after (after (skip S file read test inside s) (waits S file read test tail)) (runs us fs)
-    refused inside tail s fs us c d =
-        skips inside s (frame.Wait ∷ fs) (spelled_tail tail us) c refl
-        ∙ under (skip S file read test inside s) (runs (spelled_tail tail us) (frame.Wait ∷ fs)) (λ t. after (waits S file read test tail t) (runs us fs)) (λ t. awaits tail t fs us d)
-        ∙ sym (nested (skip S file read test inside s) (waits S file read test tail) (runs us fs))
 
     awaits : (t : Tail) (s : S) (fs : List Frame) (us : List Line) → IsClosed t → runs (spelled_tail t us) (frame.Wait ∷ fs) s ≡ after (waits S file read test t s) (runs us fs)
     awaits Tail.unclosed s fs us c = absurd c
@@ -117,8 +102,9 @@ module _ (S : Type 0) (file : List ℕ) (read : S → Directive → Outcome S) (
     awaits (Tail.elif d inside tail) s fs us c =
         at_test (test s d) fs (spelled inside (spelled_tail tail us)) us
             (λ t. after (eval S file read test inside t) (over S file read test true false tail)) (λ t. after (skip S file read test inside t) (waits S file read test tail))
-            (λ t. chosen false inside tail t fs us c.0 c.1) (λ t. refused inside tail t fs us c.0 c.1)
-    awaits (Tail.other d inside tail) s fs us c = by_flag (has_more d) (malformed file d) (Ok (s, frame.Read true ∷ fs, None)) (after (eval S file read test inside s) (over S file read test true true tail)) (next (spelled inside (spelled_tail tail us))) (runs us fs) (chosen true inside tail s fs us c.0 c.1)
+            (λ x. passed_by (eval S file read test inside x) (over S file read test true false tail) (runs (spelled_tail tail us) (frame.Read false ∷ fs)) (runs us fs) (runs (spelled inside (spelled_tail tail us)) (frame.Read false ∷ fs) x) (reads inside x (frame.Read false ∷ fs) (spelled_tail tail us) c.0 refl) (λ y. takes false tail y fs us c.1))
+            (λ x. passed_by (skip S file read test inside x) (waits S file read test tail) (runs (spelled_tail tail us) (frame.Wait ∷ fs)) (runs us fs) (runs (spelled inside (spelled_tail tail us)) (frame.Wait ∷ fs) x) (skips inside x (frame.Wait ∷ fs) (spelled_tail tail us) c.0 refl) (λ y. awaits tail y fs us c.1))
+    awaits (Tail.other d inside tail) s fs us c = by_flag (has_more d) (malformed file d) (Ok (s, frame.Read true ∷ fs, None)) (after (eval S file read test inside s) (over S file read test true true tail)) (next (spelled inside (spelled_tail tail us))) (runs us fs) (passed_by (eval S file read test inside s) (over S file read test true true tail) (runs (spelled_tail tail us) (frame.Read true ∷ fs)) (runs us fs) (runs (spelled inside (spelled_tail tail us)) (frame.Read true ∷ fs) s) (reads inside s (frame.Read true ∷ fs) (spelled_tail tail us) c.0 refl) (λ y. takes true tail y fs us c.1))
 
   -- a line that ends a group where none is open
   strays : (ps : List (Tail × Lines)) (s : S) → Begin ps → runs (spelled_all ps) [] s ≡ behind S file read test ps s

@@ -3,6 +3,8 @@ use Rattle.std.specs.Prelude.{ℕ, ◌≡◌, List, Option, Some, None, Result, 
 use Rattle.sc_base.specs.declared.refusal.Refusal.{Refusal}
 use Rattle.sc_outside.specs.Causes.{Rose}
 use Rattle.sc_outside.specs.Stored.{FileMap}
+use Rattle.sc_outside.specs.declared.files.FileGot.{FileGot}
+use Rattle.sc_outside.specs.declared.files.FileGot.TheVariants as files
 use Rattle.sc_lex.specs.declared.token.Token.{Token}
 use Rattle.sc_pp.specs.declared.line.Line.{Line}
 use Rattle.sc_pp.specs.declared.frame.Frame.{Frame}
@@ -69,6 +71,10 @@ Answers outcome (Err fault.NoMemory) = ⊤
 -- what holds where an object tells its files
 abbrev pub Known : Option FileMap → (Truth → FileMap → Type 0) → Type 0
 Known held P = (t : Truth) (map : FileMap) → held ≡ Some map → P t map
+
+-- a file is blamed only where reading it failed
+abbrev pub BlamesRead : {A : Type 0} → FileGot → Result A Failure → Type 0
+BlamesRead got result = (name : List ℕ) → result ≡ Err (failure.File name) → got ≡ files.Failed
 
 -- a file is blamed only where the count of faults has risen
 abbrev pub Blames : {A : Type 0} → ℕ → ℕ → Result A Failure → Type 0

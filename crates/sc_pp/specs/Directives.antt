@@ -184,9 +184,12 @@ abbrev pub with_state : State → Outcome Bool → Outcome (State × Bool)
 with_state s o = after o (λ b. Ok (s, b))
 
 -- `#if` and `#elif`: macros are replaced behind `defined`
+abbrev pub tests_tokens : Truth → Place → State → ℕ → List Token → Outcome (State × Bool)
+tests_tokens t place s line ts = after (expanded place s ts) (λ r. with_state r.0 (told place.name line (t.decide r.1)))
+
 abbrev pub tests_value : Truth → Place → State → ℕ → Option (List Token) → Outcome (State × Bool)
 tests_value t place s line None = refuse x.X2 place.name line
-tests_value t place s line (Some ts) = after (expanded place s ts) (λ r. with_state r.0 (told place.name line (t.decide r.1)))
+tests_value t place s line (Some ts) = tests_tokens t place s line ts
 
 abbrev pub test_by : Word → Truth → Place → State → Directive → Outcome (State × Bool)
 test_by word.Ifdef t place s d = tests_name true place s d.line (only_name d.tokens)

@@ -63,6 +63,21 @@ fn truth(alloc: Global, place: &Place, line: u32, tokens: &[Token]) -> Result<bo
     }
 }
 
+fn tests_tokens(
+    alloc: Global,
+    place: &Place,
+    state: &mut State,
+    line: u32,
+    tokens: &[Token],
+) -> Result<bool, Fault>
+    ensures { (t : Truth) → Yields (spec.tests_tokens t place.now state.old line tokens.now) result state.new }
+{
+    match expanded(alloc, place, state, tokens) {
+        Ok(tokens) => truth(alloc, place, line, tokens.as_slice()),
+        Err(fault) => Err(fault),
+    }
+}
+
 fn tests_value(
     alloc: Global,
     place: &Place,
@@ -71,11 +86,15 @@ fn tests_value(
 ) -> Result<bool, Fault>
     ensures { (t : Truth) → Yields (spec.tests_value t place.now state.old directive.now.line (conditions.answered state.old.env asking.Nothing [] directive.now.tokens)) result state.new }
 {
-    let Some(tokens) = answered(alloc, &state.env, directive.tokens.as_slice())? else {
-        return Err(refused(alloc, X::X2, &place.name, directive.line));
-    };
-    let tokens = expanded(alloc, place, state, tokens.as_slice())?;
-    truth(alloc, place, directive.line, tokens.as_slice())
+    match answered(alloc, &state.env, directive.tokens.as_slice()) {
+        Ok(answer) => match answer {
+            None => Err(refused(alloc, X::X2, &place.name, directive.line)),
+            Some(tokens) => {
+                tests_tokens(alloc, place, state, directive.line, tokens.as_slice())
+            }
+        },
+        Err(_) => Err(Fault::NoMemory),
+    }
 }
 
 /// Whether the group behind a directive is read.

@@ -74,9 +74,13 @@ fn enter_tested(
 ) -> Result<Option<Directive>, Fault>
     ensures { (t : Truth) → Turns (spec.tested TheState place.now.name (tested t place.now) state.old frames.old directive.now) result state.new frames.new }
 {
-    let holds = test(alloc, place, state, directive)?;
-    frames.push(entered(holds))?;
-    Ok(None)
+    match test(alloc, place, state, directive) {
+        Ok(holds) => {
+            frames.push(entered(holds))?;
+            Ok(None)
+        }
+        Err(fault) => Err(fault),
+    }
 }
 
 fn at_if(

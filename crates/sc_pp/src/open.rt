@@ -4,7 +4,10 @@ ghost use Rattle.sc_pp.specs.Outcomes.{Yields, refusal};
 ghost use Rattle.sc_pp.specs.Closed.{Ready};
 ghost use Rattle.sc_pp.specs.Directives as spec;
 ghost use Rattle.sc_pp.specs.Preprocessing as whole;
-ghost use Rattle.sc_pp.specs.Answers.{Known, Blames, Fetches, RefusesFile};
+ghost use Rattle.std.specs.Prelude.{is_some};
+ghost use Rattle.std.specs.Str.{is_utf8};
+ghost use Rattle.sc_outside.specs.Stored.{FileMap, Finds, IsWithinFileLimit};
+ghost use Rattle.sc_pp.specs.Answers.{Known, Blames, BlamesRead, Fetches, RefusesFile};
 ghost use Rattle.sc_base.specs.declared.refusal.X.TheVariants as x;
 
 use crate::failure::{Failure, beyond, raised, refused, unread};
@@ -18,6 +21,38 @@ use std::alloc::Global;
 
 /// The most bytes of a source file.
 pub const MAX_SOURCE: usize = 1048576;
+
+/// A file's name, where it is text.
+fn text_of(name: &Bytes) -> Option<&str>
+    ensures some { IfSome result (λ text. text.now ≡ name.now) }
+    ensures text { is_some result ≡ is_utf8 name.now }
+{
+    match str::from_utf8(name.as_slice()) {
+        Ok(text) => Some(text),
+        Err(_) => None,
+    }
+}
+
+/// What was read, where it is no longer than a source may be.
+fn sized(alloc: Global, name: &Bytes, got: FileGot) -> Result<Option<Bytes>, Failure>
+    requires { IsWithinFileLimit got }
+    ensures gives { (map : FileMap) → Finds map name.now got → Fetches (whole.sized name.now (map name.now)) result }
+    ensures limit { IfOk result (λ text. IfSome text (λ v. length v ≤ 1048576)) }
+    ensures blames { BlamesRead got result }
+{
+    match got {
+        FileGot::Bytes(text) => {
+            if text.len() > MAX_SOURCE {
+                return Err(too_long(alloc, name));
+            }
+            Ok(Some(Bytes::from_vec(text)))
+        }
+        FileGot::Missing => Ok(None),
+        FileGot::TooLong => Err(too_long(alloc, name)),
+        FileGot::Failed => Err(unread(alloc, name.as_slice())),
+        FileGot::NoMemory => Err(Failure::NoMemory),
+    }
+}
 
 /// The text of a file of the folder that an `#include` may mean.
 pub fn fetch<F: Files>(
@@ -34,20 +69,12 @@ pub fn fetch<F: Files>(
     if !wanted.quoted {
         return Ok(None);
     }
-    let Ok(name) = str::from_utf8(wanted.name.as_slice()) else {
-        return Ok(None);
-    };
-    match files.read(name) {
-        FileGot::Bytes(text) => {
-            if text.len() > MAX_SOURCE {
-                return Err(too_long(alloc, &wanted.name));
-            }
-            Ok(Some(Bytes::from_vec(text)))
+    match text_of(&wanted.name) {
+        None => Ok(None),
+        Some(name) => {
+            let got = files.read(name);
+            sized(alloc, &wanted.name, got)
         }
-        FileGot::Missing => Ok(None),
-        FileGot::TooLong => Err(too_long(alloc, &wanted.name)),
-        FileGot::Failed => Err(unread(alloc, wanted.name.as_slice())),
-        FileGot::NoMemory => Err(Failure::NoMemory),
     }
 }
 

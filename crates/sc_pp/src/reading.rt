@@ -18,7 +18,6 @@ use std::alloc::Global;
 /// Reads the lines of a file, the first on top. `depth` is the number of files that may be included inside each other
 /// from here.
 #[cycle(reading)]
-#[tactic(none)]
 pub fn read_lines<F: Files>(
     alloc: Global,
     depth: u32,
@@ -45,7 +44,6 @@ pub fn read_lines<F: Files>(
 }
 
 #[cycle(reading)]
-#[tactic(none)]
 fn take_line<F: Files>(
     alloc: Global,
     depth: u32,
@@ -60,16 +58,18 @@ fn take_line<F: Files>(
     ensures later { F.faults files.old ≤ F.faults files.new }
     ensures blames { Blames (F.faults files.old) (F.faults files.new) result }
 {
-    match turn(alloc, state, place, frames, line) {
-        Ok(None) => Ok(()),
-        Ok(Some(directive)) => read_line(alloc, depth, files, state, place, &directive),
-        Err(fault) => Err(raised(fault)),
+    let turned = match turn(alloc, state, place, frames, line) {
+        Ok(turned) => turned,
+        Err(fault) => return Err(raised(fault)),
+    };
+    match turned {
+        None => Ok(()),
+        Some(directive) => read_line(alloc, depth, files, state, place, &directive),
     }
 }
 
 /// Does a line that is of no conditional.
 #[cycle(reading)]
-#[tactic(none)]
 fn read_line<F: Files>(
     alloc: Global,
     depth: u32,
@@ -83,16 +83,18 @@ fn read_line<F: Files>(
     ensures later { F.faults files.old ≤ F.faults files.new }
     ensures blames { Blames (F.faults files.old) (F.faults files.new) result }
 {
-    match simple(alloc, depth, place, state, directive) {
-        Ok(None) => Ok(()),
-        Ok(Some(wanted)) => include(alloc, depth, files, state, place, &wanted),
-        Err(fault) => Err(raised(fault)),
+    let wanted = match simple(alloc, depth, place, state, directive) {
+        Ok(wanted) => wanted,
+        Err(fault) => return Err(raised(fault)),
+    };
+    match wanted {
+        None => Ok(()),
+        Some(wanted) => include(alloc, depth, files, state, place, &wanted),
     }
 }
 
 /// Reads a file that an `#include` names.
 #[cycle(reading)]
-#[tactic(none)]
 fn include<F: Files>(
     alloc: Global,
     depth: u32,
@@ -111,9 +113,15 @@ fn include<F: Files>(
         Ok(text) => text,
         Err(failure) => return Err(failure),
     };
-    match open(alloc, place, state, wanted, text) {
-        Ok(None) => Ok(()),
-        Ok(Some(File { place, lines })) => read_lines(alloc, depth - 1, files, state, &place, lines),
-        Err(fault) => Err(raised(fault)),
+    let opened = match open(alloc, place, state, wanted, text) {
+        Ok(opened) => opened,
+        Err(fault) => return Err(raised(fault)),
+    };
+    match opened {
+        None => Ok(()),
+        Some(file) => {
+            let File { place, lines } = file;
+            read_lines(alloc, depth - 1, files, state, &place, lines)
+        }
     }
 }
