@@ -88,22 +88,22 @@ module _ (S : Type 0) (file : List ℕ) (read : S → Directive → Outcome S) (
     reads (Lines.group d false inside tail ls) s fs us c h = refl
     reads (Lines.group d true inside tail ls) s fs us c h = rw h (
         at_test (test s d) fs (spelled inside (spelled_tail tail (spelled ls us))) (spelled ls us)
-            (λ t. after (eval S file read test inside t) (over S file read test true false tail)) (λ t. after (skip S file read test inside t) (waits S file read test tail))
-            (λ x. passed_by (eval S file read test inside x) (over S file read test true false tail) (runs (spelled_tail tail (spelled ls us)) (frame.Read false ∷ fs)) (runs (spelled ls us) fs) (runs (spelled inside (spelled_tail tail (spelled ls us))) (frame.Read false ∷ fs) x) (reads inside x (frame.Read false ∷ fs) (spelled_tail tail (spelled ls us)) c.0 refl) (λ y. takes false tail y fs (spelled ls us) c.1))
-            (λ x. passed_by (skip S file read test inside x) (waits S file read test tail) (runs (spelled_tail tail (spelled ls us)) (frame.Wait ∷ fs)) (runs (spelled ls us) fs) (runs (spelled inside (spelled_tail tail (spelled ls us))) (frame.Wait ∷ fs) x) (skips inside x (frame.Wait ∷ fs) (spelled_tail tail (spelled ls us)) c.0 refl) (λ y. awaits tail y fs (spelled ls us) c.1))
+        (λ t. after (eval S file read test inside t) (over S file read test true false tail)) (λ t. after (skip S file read test inside t) (waits S file read test tail))
+        (λ x. passed_by (eval S file read test inside x) (over S file read test true false tail) (runs (spelled_tail tail (spelled ls us)) (frame.Read false ∷ fs)) (runs (spelled ls us) fs) (runs (spelled inside (spelled_tail tail (spelled ls us))) (frame.Read false ∷ fs) x) (reads inside x (frame.Read false ∷ fs) (spelled_tail tail (spelled ls us)) c.0 refl) (λ y. takes false tail y fs (spelled ls us) c.1))
+        (λ x. passed_by (skip S file read test inside x) (waits S file read test tail) (runs (spelled_tail tail (spelled ls us)) (frame.Wait ∷ fs)) (runs (spelled ls us) fs) (runs (spelled inside (spelled_tail tail (spelled ls us))) (frame.Wait ∷ fs) x) (skips inside x (frame.Wait ∷ fs) (spelled_tail tail (spelled ls us)) c.0 refl) (λ y. awaits tail y fs (spelled ls us) c.1))
         ∙ under (after (test s d) (λ r. if r.1 then after (eval S file read test inside r.0) (over S file read test true false tail) else after (skip S file read test inside r.0) (waits S file read test tail)))
-            (runs (spelled ls us) fs) (λ t. after (eval S file read test ls t) (runs us fs)) (λ t. reads ls t fs us c.2 h)
+        (runs (spelled ls us) fs) (λ t. after (eval S file read test ls t) (runs us fs)) (λ t. reads ls t fs us c.2 h)
         ∙ sym (nested (after (test s d) (λ r. if r.1 then after (eval S file read test inside r.0) (over S file read test true false tail) else after (skip S file read test inside r.0) (waits S file read test tail)))
-            (eval S file read test ls) (runs us fs)))
+        (eval S file read test ls) (runs us fs)))
 
     awaits : (t : Tail) (s : S) (fs : List Frame) (us : List Line) → IsClosed t → runs (spelled_tail t us) (frame.Wait ∷ fs) s ≡ after (waits S file read test t s) (runs us fs)
     awaits Tail.unclosed s fs us c = absurd c
     awaits (Tail.closing d) s fs us c = by_flag (has_more d) (malformed file d) (Ok (s, fs, None)) (Ok s) (next us) (runs us fs) refl
     awaits (Tail.elif d inside tail) s fs us c =
         at_test (test s d) fs (spelled inside (spelled_tail tail us)) us
-            (λ t. after (eval S file read test inside t) (over S file read test true false tail)) (λ t. after (skip S file read test inside t) (waits S file read test tail))
-            (λ x. passed_by (eval S file read test inside x) (over S file read test true false tail) (runs (spelled_tail tail us) (frame.Read false ∷ fs)) (runs us fs) (runs (spelled inside (spelled_tail tail us)) (frame.Read false ∷ fs) x) (reads inside x (frame.Read false ∷ fs) (spelled_tail tail us) c.0 refl) (λ y. takes false tail y fs us c.1))
-            (λ x. passed_by (skip S file read test inside x) (waits S file read test tail) (runs (spelled_tail tail us) (frame.Wait ∷ fs)) (runs us fs) (runs (spelled inside (spelled_tail tail us)) (frame.Wait ∷ fs) x) (skips inside x (frame.Wait ∷ fs) (spelled_tail tail us) c.0 refl) (λ y. awaits tail y fs us c.1))
+        (λ t. after (eval S file read test inside t) (over S file read test true false tail)) (λ t. after (skip S file read test inside t) (waits S file read test tail))
+        (λ x. passed_by (eval S file read test inside x) (over S file read test true false tail) (runs (spelled_tail tail us) (frame.Read false ∷ fs)) (runs us fs) (runs (spelled inside (spelled_tail tail us)) (frame.Read false ∷ fs) x) (reads inside x (frame.Read false ∷ fs) (spelled_tail tail us) c.0 refl) (λ y. takes false tail y fs us c.1))
+        (λ x. passed_by (skip S file read test inside x) (waits S file read test tail) (runs (spelled_tail tail us) (frame.Wait ∷ fs)) (runs us fs) (runs (spelled inside (spelled_tail tail us)) (frame.Wait ∷ fs) x) (skips inside x (frame.Wait ∷ fs) (spelled_tail tail us) c.0 refl) (λ y. awaits tail y fs us c.1))
     awaits (Tail.other d inside tail) s fs us c = by_flag (has_more d) (malformed file d) (Ok (s, frame.Read true ∷ fs, None)) (after (eval S file read test inside s) (over S file read test true true tail)) (next (spelled inside (spelled_tail tail us))) (runs us fs) (passed_by (eval S file read test inside s) (over S file read test true true tail) (runs (spelled_tail tail us) (frame.Read true ∷ fs)) (runs us fs) (runs (spelled inside (spelled_tail tail us)) (frame.Read true ∷ fs) s) (reads inside s (frame.Read true ∷ fs) (spelled_tail tail us) c.0 refl) (λ y. takes true tail y fs us c.1))
 
   -- a line that ends a group where none is open

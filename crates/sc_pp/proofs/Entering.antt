@@ -35,16 +35,8 @@ pub stops : {A : Type 0} (o : Outcome A) (f : Fault) → Fails o f → Stops o (
 stops o (fault.Refused r) h = λ q e. h q cc
 stops o fault.NoMemory h = λ q e. cc
 
-pub blames_none : (f : Fault) (name : List ℕ) → ◌≡◌ {A = Failure} (raised f) (failure.File name) → ⊥
-blames_none (fault.Refused r) name e = cc
-blames_none fault.NoMemory name e = cc
-
 pub unraised : {A : Type 0} (o : Outcome A) (f : Fault) (x : Failure) → Fails o f → x ≡ raised f → Stops o x
 unraised o f x h e r q = stops o f h r (sym e ∙ q)
-
--- a refusal goes through what comes behind it
-pub passes : {A B : Type 0} (o : Outcome A) (k : A → Outcome B) (f : Failure) → Stops o f → Stops (after o k) f
-passes o k f h r e = ap (λ p. after p k) (h r e)
 
 -- one line, and then those behind it
 after_done : (x : Outcome State) (fs : List Frame) (k : List Frame → State → Outcome State) → after x (k fs) ≡ after {A = State × List Frame} (after x (λ s2. Ok (s2, fs))) (λ p. k p.1 p.0)

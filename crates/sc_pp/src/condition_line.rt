@@ -89,9 +89,7 @@ fn tests_value(
     match answered(alloc, &state.env, directive.tokens.as_slice()) {
         Ok(answer) => match answer {
             None => Err(refused(alloc, X::X2, &place.name, directive.line)),
-            Some(tokens) => {
-                tests_tokens(alloc, place, state, directive.line, tokens.as_slice())
-            }
+            Some(tokens) => { tests_tokens(alloc, place, state, directive.line, tokens.as_slice()) }
         },
         Err(_) => Err(Fault::NoMemory),
     }

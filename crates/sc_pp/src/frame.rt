@@ -9,7 +9,7 @@ ghost use Rattle.sc_pp.specs.Directives.{test as tested};
 ghost use Rattle.sc_pp.specs.declared.state.State.{State as TheState};
 
 use crate::condition_line::test;
-use crate::failure::{refused};
+use crate::failure::refused;
 use crate::line::{Directive, Line};
 use crate::state::{Place, State};
 use crate::token::are_some;
@@ -49,7 +49,11 @@ fn looks(frame: Frame) -> bool
 fn entered(holds: bool) -> Frame
     ensures { result ≡ spec.entered holds }
 {
-    if holds { Frame::Read(false) } else { Frame::Wait }
+    if holds {
+        Frame::Read(false)
+    } else {
+        Frame::Wait
+    }
 }
 
 fn has_more_tokens(directive: &Directive) -> bool

@@ -12,7 +12,6 @@ mod include;
 mod line;
 mod matching;
 mod open;
-
 mod reading;
 mod scan;
 mod splitter;
@@ -21,3 +20,6 @@ mod token;
 mod unit;
 
 pub use unit::{PpFault, preprocess};
+
+#[cfg(test)]
+mod tests;

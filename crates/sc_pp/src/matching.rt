@@ -34,7 +34,6 @@ fn matched(count: usize, line: Line) -> Line
     }
 }
 
-
 /// Lines with the last on top, turned round: the first is on top then.
 #[tactic(auto, using(crate::proofs::Matched::done_ready))]
 pub fn matching(alloc: Global, lines: Stack<Line>) -> Result<Stack<Line>, NoMemory>

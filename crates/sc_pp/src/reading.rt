@@ -4,13 +4,13 @@ ghost use Rattle.sc_pp.specs.Closed.{Ready};
 ghost use Rattle.sc_pp.specs.Preprocessing as spec;
 ghost use Rattle.sc_pp.specs.Answers.{Known, Blames, Steps, Reads, one};
 
+use crate::directive::simple;
 use crate::failure::{Failure, raised};
 use crate::frame::{Frame, turn};
 use crate::include::{File, Wanted};
 use crate::line::{Directive, Line};
 use crate::open::{fetch, open};
 use crate::state::{Place, State};
-use crate::directive::simple;
 use sc_base::Stack;
 use sc_outside::Files;
 use std::alloc::Global;

@@ -25,7 +25,9 @@ fn end_line(alloc: Global, splitter: &mut Splitter) -> Result<(), NoMemory>
     if begins_directive(line.as_slice()) {
         let run = mem::replace(&mut splitter.run, Items::new(alloc));
         splitter.lines.push(text(run))?;
-        splitter.lines.push(directive_line(alloc, line.as_slice())?)?;
+        splitter
+            .lines
+            .push(directive_line(alloc, line.as_slice())?)?;
         Ok(())
     } else {
         splitter.run.append(line)?;
@@ -68,9 +70,7 @@ pub fn lines_of(alloc: Global, tokens: Items<Token>) -> Result<Stack<Line>, NoMe
 {
     let mut splitter = split(alloc, tokens)?;
     end_line(alloc, &mut splitter)?;
-    let Splitter {
-        mut lines, run, ..
-    } = splitter;
+    let Splitter { mut lines, run, .. } = splitter;
     lines.push(text(run))?;
     Ok(lines)
 }
