@@ -1,17 +1,16 @@
 -- The reader does what the groups say.
-use Rattle.std.proofs.Common.{◌≡◌, ℕ, Bool, true, false, ◌&&◌, ◌||◌, if◌then◌else◌, List, [], ◌∷◌, Option, Some, None, refl, sym, ◌∙◌, ap}
-use Rattle.std.specs.Prelude.{Result, Ok, Err}
+use Rattle.std.proofs.Common.{◌≡◌, ℕ, Bool, true, false, ◌&&◌, ◌||◌, if◌then◌else◌, List, [], ◌∷◌, None, refl, sym, ◌∙◌, ap}
+use Rattle.std.specs.Prelude.{Ok, Err}
 use Rattle.sc_base.specs.declared.refusal.Refusal.{Refusal}
 use Rattle.sc_pp.specs.declared.line.Directive.{Directive}
 use Rattle.sc_pp.specs.declared.line.Line.{Line}
-use Rattle.sc_pp.specs.declared.line.Line.TheVariants as line
 use Rattle.sc_pp.specs.declared.frame.Frame.{Frame}
 use Rattle.sc_pp.specs.declared.frame.Frame.TheVariants as frame
 use Rattle.sc_pp.specs.Outcomes.{Outcome, after}
-use Rattle.sc_pp.specs.Groups.{Lines, Tail, Nested, grouped, eval, waits, skip, over, behind, whole, has_more, malformed}
-use Rattle.sc_pp.specs.Reader.{active, looks, entered, Turn, tested, turn, done, run}
-use Rattle.sc_pp.specs.Closed.{AreClosed, IsClosed, Begins, Begin, Ready}
-use Rattle.sc_pp.proofs.Written.{spelled, spelled_tail, spelled_all, spelled_nested, written}
+use Rattle.sc_pp.specs.Groups.{Lines, Tail, grouped, eval, waits, skip, over, behind, whole, has_more, malformed}
+use Rattle.sc_pp.specs.Reader.{active, entered, Turn, done, run}
+use Rattle.sc_pp.specs.Closed.{AreClosed, IsClosed, Begin, Ready}
+use Rattle.sc_pp.proofs.Written.{spelled, spelled_tail, spelled_all, written}
 
 -- outcomes that go on alike
 under : {A B : Type 0} (o : Outcome A) (f g : A → Outcome B) → ((x : A) → f x ≡ g x) → after o f ≡ after o g

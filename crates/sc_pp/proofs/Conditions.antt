@@ -1,6 +1,5 @@
 -- What a condition decides.
 use Rattle.std.proofs.Common.{◌≡◌, Bool, List, Result, Ok, Err, refl, sym, ◌∙◌}
-use Rattle.std.specs.Prelude.{IfOk, IsErrOf}
 use Rattle.sc_lex.specs.declared.token.Token.{Token}
 use Rattle.sc_condition.specs.declared.operand.Operand.{Operand}
 use Rattle.sc_condition.specs.declared.truth.ConditionFault.{ConditionFault}

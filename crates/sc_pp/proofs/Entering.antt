@@ -26,7 +26,7 @@ use Rattle.sc_pp.specs.Conditionals.{Truth, told}
 use Rattle.sc_pp.specs.Directives.{test, simple, opened, expanded, tests_tokens, tests_value, with_state}
 use Rattle.sc_pp.specs.Reader.{Turn, turn, done, run}
 use Rattle.sc_pp.specs.Closed.{Ready}
-use Rattle.sc_pp.specs.Preprocessing.{Reading, reading, reading_in, inner_reading, no_file, supplied, included, entered, fetched, sized, file_done}
+use Rattle.sc_pp.specs.Preprocessing.{Reading, reading, reading_in, inner_reading, supplied, included, entered, fetched, sized, file_done}
 use Rattle.sc_pp.specs.Answers.{Stops, Reads, Steps, Fetches, Blames, one}
 use Rattle.sc_pp.proofs.Agrees.{agrees}
 

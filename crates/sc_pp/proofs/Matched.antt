@@ -1,5 +1,5 @@
 -- Lines in which each `#if` was told whether it is closed can be read.
-use Rattle.std.proofs.Common.{◌≡◌, ℕ, zero, suc, ◌+◌, ◌-◌, Bool, true, false, List, [], ◌∷◌, refl, sym, ◌∙◌, ap, arith, subst}
+use Rattle.std.proofs.Common.{◌≡◌, ℕ, zero, suc, ◌+◌, ◌-◌, Bool, true, List, [], ◌∷◌, sym, ◌∙◌, ap, arith, subst}
 use Rattle.std.specs.Prelude.{⊤, nat_lt}
 use Rattle.std.proofs.lemmas.Bool.Decides.{nat_tests}
 use Rattle.sc_pp.specs.declared.line.Directive.{Directive}
@@ -7,7 +7,7 @@ use Rattle.sc_pp.specs.declared.line.Line.{Line}
 use Rattle.sc_pp.specs.declared.line.Line.TheVariants as line
 use Rattle.sc_pp.specs.Groups.{Lines, Tail, Nested, with_line, grouped}
 use Rattle.sc_pp.specs.Lines.{matching, matched, unmatched}
-use Rattle.sc_pp.specs.Closed.{AreClosed, IsClosed, Begins, Begin, Ready}
+use Rattle.sc_pp.specs.Closed.{AreClosed, IsClosed, Begin, Ready}
 
 -- so many groups around a place are closed
 abbrev Good : ℕ → List (Tail × Lines) → Type 0

@@ -1,5 +1,5 @@
 -- Expansion sees of macros their table and the names that they give to files.
-use Rattle.std.proofs.Common.{◌≡◌, ℕ, zero, suc, ◌+◌, Bool, true, false, if◌then◌else◌, List, [], ◌∷◌, Option, Some, None, get_or, refl, sym, ◌∙◌, ap, subst, arith}
+use Rattle.std.proofs.Common.{◌≡◌, ℕ, zero, suc, ◌+◌, true, false, if◌then◌else◌, List, [], ◌∷◌, Option, Some, None, get_or, refl, sym, ◌∙◌, ap, subst, arith}
 use Rattle.std.specs.Prelude.{nat_eq, cond, drop}
 use Rattle.std.proofs.lemmas.Bool.Decides.{nat_tests}
 use Rattle.std.specs.Map.{lookup}
@@ -17,7 +17,7 @@ use Rattle.sc_macro.specs.Marks.{without_lines}
 use Rattle.sc_macro.specs.Substitute.{alone}
 use Rattle.sc_macro.specs.Refusals.{after, told}
 use Rattle.sc_macro.specs.Expansion as spec
-use Rattle.sc_pp.specs.Environments.{Env, numbered, macros_of, expanded_in, IsNamed}
+use Rattle.sc_pp.specs.Environments.{numbered, macros_of, expanded_in, IsNamed}
 
 -- the name of each file in a list of names
 pub named_at : (n f : ℕ) (names : List (List ℕ)) → file_name (numbered n names) (n + f) ≡ get_or names f []

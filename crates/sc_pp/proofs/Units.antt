@@ -1,25 +1,19 @@
 -- A whole unit.
-use Rattle.std.proofs.Common.{◌≡◌, ℕ, ◌<◌, ◌≤◌, Bool, true, false, List, Option, Some, None, length, refl, sym, ◌∙◌, ap, subst, arith}
-use Rattle.std.specs.Prelude.{Result, Ok, Err, nat_lt, if◌then◌else◌, IsSomeAnd, codes}
+use Rattle.std.proofs.Common.{◌≡◌, ℕ, ◌≤◌, false, List, length, refl, sym, ◌∙◌, ap, arith}
+use Rattle.std.specs.Prelude.{Result, Ok, Err, nat_lt}
 use Rattle.std.proofs.lemmas.Bool.Decides.{nat_tests}
-use Rattle.sc_base.specs.declared.refusal.X.TheVariants as x
 use Rattle.sc_base.specs.declared.refusal.Refusal.{Refusal}
-use Rattle.sc_outside.specs.Causes.{Rose}
 use Rattle.sc_outside.specs.Stored.{FileMap}
 use Rattle.sc_lex.specs.declared.token.Token.{Token}
 use Rattle.sc_pp.specs.declared.failure.Failure.{Failure}
-use Rattle.sc_pp.specs.declared.failure.Failure.TheVariants as failure
-use Rattle.sc_pp.specs.declared.unit.PpFault.{PpFault}
-use Rattle.sc_pp.specs.declared.unit.PpFault.TheVariants as fault
 use Rattle.sc_pp.specs.declared.line.Line.{Line}
 use Rattle.sc_pp.specs.declared.state.State.{State}
 use Rattle.sc_pp.specs.declared.state.Place.{Place}
-use Rattle.sc_pp.specs.Outcomes.{Outcome, after, refuse, refusal, IsNoRefusal}
+use Rattle.sc_pp.specs.Outcomes.{Outcome}
 use Rattle.sc_pp.specs.Conditionals.{Truth}
 use Rattle.sc_pp.specs.Scans.{scanned}
-use Rattle.sc_pp.specs.Preprocessing.{reading, file_done, own_place, start, tokens_of, read_unit, unit, told, by_text, preprocessed}
-use Rattle.sc_pp.specs.Answers.{Stops, Answers, Finds, Blames, BlamesFile, RefusesFile, failed}
-use Rattle.sc_pp.proofs.Entering.{rose_later}
+use Rattle.sc_pp.specs.Preprocessing.{reading, file_done, own_place, start, tokens_of, read_unit, unit}
+use Rattle.sc_pp.specs.Answers.{Finds}
 
 module _ (t : Truth) (map : FileMap) (name text : List ℕ) where
   by_parts : (place : Place) (lines : List Line) (s : State) (o : Outcome State) → s ≡ start name → place ≡ own_place name → lines ≡ scanned 0 text → file_done t (reading t map 15) place lines s ≡ o → read_unit t map name text ≡ tokens_of o

@@ -1,5 +1,5 @@
 -- Lines as they are written again from their groups.
-use Rattle.std.proofs.Common.{◌≡◌, List, [], ◌∷◌, refl, ap}
+use Rattle.std.proofs.Common.{◌≡◌, List, [], ◌∷◌, refl}
 use Rattle.sc_pp.specs.declared.line.Line.{Line}
 use Rattle.sc_pp.specs.declared.line.Line.TheVariants as line
 use Rattle.sc_pp.specs.Groups.{Lines, Tail, Nested, with_line, grouped}

@@ -1,7 +1,7 @@
 -- Lines whose conditionals know whether they are closed.
-use Rattle.std.specs.Prelude.{ℕ, zero, suc, ⊤, Bool, true, false, List, [], ◌∷◌}
+use Rattle.std.specs.Prelude.{⊤, true, false, List, [], ◌∷◌}
 use Rattle.sc_pp.specs.declared.line.Line.{Line}
-use Rattle.sc_pp.specs.Groups.{Lines, Tail, Nested, grouped}
+use Rattle.sc_pp.specs.Groups.{Lines, Tail, grouped}
 
 abbrev mutual
   -- each `#if` that is marked as closed is closed

@@ -1,7 +1,6 @@
 -- What directives and text do (ANSI 3.8.1 to 3.8.7).
-use Rattle.std.specs.Prelude.{◌≡◌, ℕ, ◌+◌, ◌-◌, ◌==◌, ◌&&◌, ◌||◌, nat_lt, nat_le, Bool, true, false, not, if◌then◌else◌, List, [], ◌∷◌, ◌++◌, length, map, take, drop, Option, Some, None, Result, Ok, Err, codes}
+use Rattle.std.specs.Prelude.{◌≡◌, ℕ, ◌+◌, ◌-◌, ◌==◌, ◌&&◌, ◌||◌, nat_lt, nat_le, Bool, true, false, not, if◌then◌else◌, List, [], ◌∷◌, ◌++◌, length, map, take, drop, Option, Some, None, Ok, Err, codes}
 use Rattle.std.specs.List.{list_any}
-use Rattle.sc_base.specs.declared.refusal.X.{X}
 use Rattle.sc_base.specs.declared.refusal.X.TheVariants as x
 use Rattle.sc_base.specs.declared.refusal.Refusal.{Refusal}
 use Rattle.sc_lex.specs.declared.token.Token.{Token}
@@ -14,7 +13,6 @@ use Rattle.sc_macro.specs.Refusals as macros
 use Rattle.sc_pp.specs.declared.line.Word.{Word}
 use Rattle.sc_pp.specs.declared.line.Word.TheVariants as word
 use Rattle.sc_pp.specs.declared.line.Directive.{Directive}
-use Rattle.sc_pp.specs.declared.line.Line.{Line}
 use Rattle.sc_pp.specs.declared.header.Header.{Header}
 use Rattle.sc_pp.specs.declared.state.State.{State}
 use Rattle.sc_pp.specs.declared.state.Place.{Place}
@@ -26,7 +24,7 @@ use Rattle.sc_pp.specs.Outcomes.{Outcome, after, refuse, refusal, told_in}
 use Rattle.sc_pp.specs.Environments.{Env, expanded_in, with_file, with_table, is_defined}
 use Rattle.sc_pp.specs.Conditionals.{Truth, answered, told, only_name}
 use Rattle.sc_pp.specs.declared.asking.Asking.TheVariants as asking
-use Rattle.sc_pp.specs.Groups.{malformed, some_tokens}
+use Rattle.sc_pp.specs.Groups.{some_tokens}
 use Rattle.sc_pp.specs.Headers.{header_named, is_fresh, added_text}
 use Rattle.sc_pp.specs.Scans.{scanned}
 

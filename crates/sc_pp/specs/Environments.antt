@@ -1,12 +1,10 @@
 -- What names stand for in a unit: the table of macros, and the names of its files by their numbers.
 use Rattle.std.specs.Prelude.{◌≡◌, ℕ, suc, List, [], ◌∷◌, ◌++◌, Bool, is_some, get_or, Result}
-use Rattle.indexmap.specs.IndexMap.{IndexMap}
 use Rattle.indexmap.specs.Layout.{hash_map}
 use Rattle.std.specs.declared.hash.BuildHasherDefault.{BuildHasherDefault}
 use Rattle.std.specs.declared.hash.FoldHasher.{FoldHasher}
 use Rattle.sc_base.specs.declared.refusal.Refusal.{Refusal}
 use Rattle.sc_lex.specs.declared.token.Token.{Token}
-use Rattle.sc_macro.specs.declared.macros.Macro.{Macro}
 use Rattle.sc_macro.specs.declared.macros.Macros.{Macros}
 use Rattle.sc_macro.specs.Table.{Table, Files, meaning, files, file_name}
 use Rattle.sc_macro.specs.Expansion.{expansion}

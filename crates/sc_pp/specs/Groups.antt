@@ -1,5 +1,5 @@
 -- Conditionals as nested groups (ANSI 3.8.1), and what they make of a state.
-use Rattle.std.specs.Prelude.{ℕ, ⊤, Bool, true, false, ◌&&◌, ◌||◌, if◌then◌else◌, List, [], ◌∷◌, Result, Ok, Err}
+use Rattle.std.specs.Prelude.{ℕ, Bool, true, false, ◌&&◌, ◌||◌, if◌then◌else◌, List, [], ◌∷◌, Ok, Err}
 use Rattle.sc_base.specs.declared.refusal.Refusal.{Refusal}
 use Rattle.sc_base.specs.declared.refusal.X.TheVariants as x
 use Rattle.sc_lex.specs.declared.token.Token.{Token}

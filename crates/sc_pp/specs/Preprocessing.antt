@@ -2,7 +2,6 @@
 use Rattle.std.specs.Prelude.{ℕ, zero, suc, nat_lt, if◌then◌else◌, List, [], ◌∷◌, length, Option, Some, None, Result, Ok, Err, codes}
 use Rattle.std.specs.Str.{is_utf8}
 use Rattle.sc_base.specs.declared.refusal.X.TheVariants as x
-use Rattle.sc_base.specs.declared.refusal.Refusal.{Refusal}
 use Rattle.sc_outside.specs.Stored.{FileMap}
 use Rattle.sc_lex.specs.declared.token.Token.{Token}
 use Rattle.sc_macro.specs.Table as macros

@@ -1,5 +1,5 @@
 -- The lines of a text.
-use Rattle.std.specs.Prelude.{ℕ, zero, suc, ◌-◌, ◌==◌, if◌then◌else◌, List, [], ◌∷◌, Result, Ok, Err}
+use Rattle.std.specs.Prelude.{ℕ, zero, suc, ◌-◌, ◌==◌, if◌then◌else◌, List, [], ◌∷◌, Ok, Err}
 use Rattle.sc_base.specs.declared.refusal.Refusal.{Refusal}
 use Rattle.sc_base.specs.declared.refusal.Fault.TheVariants as fault
 use Rattle.sc_lex.specs.declared.token.Token.{Token}

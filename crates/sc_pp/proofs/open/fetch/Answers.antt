@@ -1,4 +1,4 @@
-use Rattle.std.proofs.Common.{subst, sym}
+use Rattle.std.proofs.Common.{subst}
 use Rattle.sc_outside.specs.Stored.{FindsTold}
 use Rattle.sc_pp.proofs.Entering.{no_text, as_text, found_as}
 use Rattle.sc_pp.proofs.open.fetch.Goals as goal

@@ -1,4 +1,4 @@
-use Rattle.std.proofs.Common.{◌-◌, sym, ◌∙◌, arith, rules}
+use Rattle.std.proofs.Common.{◌-◌, ◌∙◌, arith, rules}
 use Rattle.sc_pp.specs.Preprocessing.{reading}
 use Rattle.sc_pp.proofs.Entering as entering
 use Rattle.sc_pp.proofs.reading.+reading.Goals as goal
