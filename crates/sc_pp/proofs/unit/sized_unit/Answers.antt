@@ -1,0 +1,6 @@
+use Rattle.std.proofs.Common.{arith}
+use Rattle.sc_pp.proofs.Units.{finds_short}
+use Rattle.sc_pp.proofs.unit.sized_unit.Goals as goal
+
+pub returns-clause-gives : goal.returns-clause-gives
+returns-clause-gives g c t map k = finds_short t map c.args.name.now c.args.text.now c.read_unit.result (omega arith) (c.read_unit.ensures.gives t map k)

@@ -1,0 +1,12 @@
+pub mod Outcomes
+pub mod Environments
+pub mod Lines
+pub mod Scans
+pub mod Groups
+pub mod Reader
+pub mod Conditionals
+pub mod Headers
+pub mod Directives
+pub mod Preprocessing
+pub mod Closed
+pub mod Answers
