@@ -1,0 +1,67 @@
+-- What a program does from its start on (ANSI 2.1.2.2, 2.1.2.3).
+use Rattle.std.specs.Prelude.{ℕ, List, [], ◌∷◌, replicate, None}
+use Rattle.sc_base.specs.declared.key.Key.{Key}
+use Rattle.sc_meaning.specs.World.{World, Event, events, tick}
+use Rattle.sc_meaning.specs.Outcomes.{Outcome, Done, Over, Ending, Exit, and_then, world_at}
+use Rattle.sc_meaning.specs.Violations.{bits}
+use Rattle.sc_meaning.specs.Versions.{History}
+use Rattle.sc_meaning.specs.Changes.{settled}
+use Rattle.sc_meaning.specs.Expressions.{Answer, Plain, Place, Part, Nothing}
+use Rattle.sc_meaning.specs.Calls.{call}
+
+-- how a run starts: the bytes of stack and heap, the input, and the versions that the run has
+pub record Start : Type 0 where
+  pub stack : ℕ
+  pub heap : ℕ
+  pub input : List ℕ
+  pub history : History
+
+-- nothing is there yet; the heap has 29 classes of blocks
+abbrev pub first_world : Start → World
+first_world s = record {
+  stack = s.stack;
+  heap = s.heap;
+  objects = [];
+  used = 0;
+  free = replicate 29 0;
+  made = 0;
+  input = s.input;
+  seed = 1;
+  frames = [];
+  names = [];
+  enters = 0;
+  count = 0;
+  begun = 0;
+  trail = [];
+}
+
+-- the bytes of `main`
+abbrev pub main_key : Key
+main_key = record { «module» = None; name = 109 ∷ 97 ∷ 105 ∷ 110 ∷ [] }
+
+-- the status with which the first call of `main` ends the run: 0 where it gives no value
+abbrev pub status_of : Answer → ℕ
+status_of (Plain v) = bits v
+status_of (Place v) = 0
+status_of (Part v n) = 0
+status_of Nothing = 0
+
+-- the call of `main` goes out, and comes back
+abbrev pub main_called : ℕ → History → World → Outcome Answer
+main_called n h w = and_then (call n h main_key [] (tick w)) (λ a w. Done a (tick w))
+
+-- The objects of static storage duration and the literals are born, as the first version comes, and `main` is called.
+abbrev pub started : ℕ → Start → Outcome Answer
+started n s = and_then (settled s.history (first_world s)) (λ _ w. main_called n s.history w)
+
+abbrev pub ending_of : Outcome Answer → Ending
+ending_of (Done a w) = Exit (status_of a) w
+ending_of (Over e) = e
+
+-- the end of a run, at most n deep
+abbrev pub ending : ℕ → Start → Ending
+ending n s = ending_of (started n s)
+
+-- the events of a run, at most n deep
+abbrev pub events_upto : ℕ → Start → List Event
+events_upto n s = events (world_at (ending n s)).trail
