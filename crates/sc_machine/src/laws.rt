@@ -1,0 +1,26 @@
+// What holds of the machine. Each function here does nothing: its contract is the law.
+ghost use Rattle.std.specs.Prelude.{◌≡◌, ◌≤◌, List, [], suc, ℕ};
+ghost use Rattle.sc_core.specs.declared.expression.CoreExpr.{CoreExpr};
+ghost use Rattle.sc_meaning.specs.World.{World};
+ghost use Rattle.sc_meaning.specs.Outcomes.{Done, Ending, Outcome, Over};
+ghost use Rattle.sc_meaning.specs.Versions.{History};
+ghost use Rattle.sc_meaning.specs.Expressions.{Answer, Env};
+ghost use Rattle.sc_meaning.specs.Calls.{eval};
+ghost use Rattle.sc_machine.specs.Machine.{Advanced, Breaks, Eval, Gives, GoesOn, Item, Mode, advance, ran};
+ghost use Rattle.sc_machine.specs.Means.{Comes, Means};
+
+/// An expression begins as its meaning, and each step keeps what the whole expression gives: what is pending goes at
+/// least n + 1 deep before the step, and at least n deep after it, whether it goes on, calls, answers, or ends the run.
+#[tactic(auto, using(crate::proofs::Follows::follows, crate::proofs::Follows::begins))]
+pub fn expression_steps_keep_the_meaning()
+    ensures begins { (h : History) (env : Env) (n k : ℕ) (e : CoreExpr) (w : World) → n ≤ k → Means h env n (Eval e) [] w (eval k h env e w) }
+    ensures steps { (h : History) (env : Env) (n : ℕ) (mode : Mode) (is : List Item) (w : World) (out : Outcome Answer) → Means h env (suc n) mode is w out → Comes h env n (advance env mode is w) out }
+{}
+
+/// Where k steps bring an expression to its answer, or to the end of the run, and no call goes out, the meaning gives just that
+/// at every bound of at least k.
+#[tactic(auto, using(crate::proofs::Follows::gives_meaning, crate::proofs::Follows::breaks_meaning))]
+pub fn expressions_give_their_meaning()
+    ensures answers { (h : History) (env : Env) (k n : ℕ) (e : CoreExpr) (w v : World) (a : Answer) → k ≤ n → ran k env (GoesOn (Eval e) [] w) ≡ Gives a v → eval n h env e w ≡ Done a v }
+    ensures ends { (h : History) (env : Env) (k n : ℕ) (e : CoreExpr) (w : World) (end : Ending) → k ≤ n → ran k env (GoesOn (Eval e) [] w) ≡ Breaks end → eval n h env e w ≡ Over end }
+{}

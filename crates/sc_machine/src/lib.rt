@@ -1,0 +1,7 @@
+//! The checking interpreter as a machine of small steps over the meaning of C: what is pending, one step, and the law that
+//! a step keeps what the meaning gives.
+#![tactic(auto)]
+
+mod laws;
+
+pub use laws::{expression_steps_keep_the_meaning, expressions_give_their_meaning};
