@@ -29,7 +29,7 @@ over h env n [] e out p = p
 over h env n (i ∷ is) e out p = over h env n is e out p.2
 
 -- one after another, either way they are put together
-regroup : {A B C : Type 0} (P : Outcome C → Type 0) (r : Outcome A) (f : A → World → Outcome B) (g : B → World → Outcome C) → P (and_then (and_then r f) g) → P (and_then r (λ a w. and_then (f a w) g))
+pub regroup : {A B C : Type 0} (P : Outcome C → Type 0) (r : Outcome A) (f : A → World → Outcome B) (g : B → World → Outcome C) → P (and_then (and_then r f) g) → P (and_then r (λ a w. and_then (f a w) g))
 regroup P (Done a w) f g p = p
 regroup P (Over e) f g p = p
 

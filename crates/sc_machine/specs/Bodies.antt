@@ -1,6 +1,6 @@
 -- One small step of the checking interpreter on a function's body, with the statements that are pending innermost first
 -- (ANSI 3.6). A line is answered, and its event is made outside: an event is the last thing of a step.
-use Rattle.std.specs.Prelude.{ℕ, ◌==◌, Bool, true, false, List, [], ◌∷◌, ◌++◌, length, take, drop, replicate, Option, Some, None}
+use Rattle.std.specs.Prelude.{ℕ, zero, suc, ◌==◌, Bool, true, false, List, [], ◌∷◌, ◌++◌, length, take, drop, replicate, Option, Some, None}
 use Rattle.sc_types.specs.declared.ctype.CType.{CType}
 use Rattle.sc_core.specs.declared.expression.CoreExpr.{CoreExpr}
 use Rattle.sc_core.specs.declared.statement.AutoInit.{AutoInit}
@@ -14,6 +14,8 @@ use Rattle.sc_meaning.specs.World.{World, Born, pass, Work, Begin, End as Ends, 
 use Rattle.sc_meaning.specs.Outcomes.{Outcome, Done, Over, Ending, and_then}
 use Rattle.sc_meaning.specs.Violations.{bits}
 use Rattle.sc_meaning.specs.Accesses.{tested, set_at}
+use Rattle.sc_meaning.specs.Versions.{History}
+use Rattle.sc_meaning.specs.Changes.{reached}
 use Rattle.sc_meaning.specs.Expressions.{Env, Answer, Plain, Nothing, used, automatic_in}
 use Rattle.sc_meaning.specs.Statements.{Way, Normal, Broke, Continued, Returned, born_autos, all_dead, block_autos, with_block, set_bytes, id_of, initial_structure, stmt_begun}
 
@@ -246,3 +248,17 @@ advance (Turn s) ss env w = turn_next s (out-CoreStmt s) ss env w
 advance (Leave way) ss env w = way_next ss way env w
 advance (Pieces p is) ss env w = pieces_next p is ss env w
 advance (Labels ls n default s) ss env w = labels_next ls n default s ss env w
+
+-- A line's event, and the changes that stand behind it, as the world outside makes them.
+abbrev pub goes_on : Outcome (Unit {0}) → Mode → List Item → Env → Advanced
+goes_on (Done _ w) mode ss env = GoesOn mode ss env w
+goes_on (Over e) mode ss env = Breaks e
+
+-- so many steps, up to a call that goes out, the end of the body, or the end of the run; a line counts as a step
+abbrev pub ran : ℕ → History → Advanced → Advanced
+ran zero h a = a
+ran (suc k) h (GoesOn mode ss env w) = ran k h (advance mode ss env w)
+ran (suc k) h (Lines l mode ss env w) = ran k h (goes_on (reached h l w) mode ss env)
+ran (suc k) h (CallsOut t v vs is u ss env w) = CallsOut t v vs is u ss env w
+ran (suc k) h (Leaves way w) = Leaves way w
+ran (suc k) h (Breaks e) = Breaks e

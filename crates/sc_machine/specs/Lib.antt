@@ -1,3 +1,4 @@
 pub mod Machine
 pub mod Means
 pub mod Bodies
+pub mod BodyMeans

@@ -1,13 +1,17 @@
 // What holds of the machine. Each function here does nothing: its contract is the law.
 ghost use Rattle.std.specs.Prelude.{◌≡◌, ◌≤◌, List, [], suc, ℕ};
 ghost use Rattle.sc_core.specs.declared.expression.CoreExpr.{CoreExpr};
+ghost use Rattle.sc_core.specs.declared.statement.CoreStmt.{CoreStmt};
 ghost use Rattle.sc_meaning.specs.World.{World};
 ghost use Rattle.sc_meaning.specs.Outcomes.{Done, Ending, Outcome, Over};
 ghost use Rattle.sc_meaning.specs.Versions.{History};
 ghost use Rattle.sc_meaning.specs.Expressions.{Answer, Env};
-ghost use Rattle.sc_meaning.specs.Calls.{eval};
+ghost use Rattle.sc_meaning.specs.Statements.{Way};
+ghost use Rattle.sc_meaning.specs.Calls.{eval, exec};
 ghost use Rattle.sc_machine.specs.Machine.{Advanced, Breaks, Eval, Gives, GoesOn, Item, Mode, advance, ran};
 ghost use Rattle.sc_machine.specs.Means.{Comes, Means};
+ghost use Rattle.sc_machine.specs.Bodies as body;
+ghost use Rattle.sc_machine.specs.BodyMeans as rest;
 
 /// An expression begins as its meaning, and each step keeps what the whole expression gives: what is pending goes at
 /// least n + 1 deep before the step, and at least n deep after it, whether it goes on, calls, answers, or ends the run.
@@ -23,4 +27,21 @@ pub fn expression_steps_keep_the_meaning()
 pub fn expressions_give_their_meaning()
     ensures answers { (h : History) (env : Env) (k n : ℕ) (e : CoreExpr) (w v : World) (a : Answer) → k ≤ n → ran k env (GoesOn (Eval e) [] w) ≡ Gives a v → eval n h env e w ≡ Done a v }
     ensures ends { (h : History) (env : Env) (k n : ℕ) (e : CoreExpr) (w : World) (end : Ending) → k ≤ n → ran k env (GoesOn (Eval e) [] w) ≡ Breaks end → eval n h env e w ≡ Over end }
+{}
+
+/// A statement begins as its meaning, and each step keeps what the whole body gives: what is pending goes at least n + 1
+/// deep before the step, and at least n deep after it. A line that a step answers becomes an event outside, with the changes of
+/// the program that stand behind it, and then the body goes on.
+#[tactic(auto, using(crate::proofs::BodyFollows::follows, crate::proofs::BodyFollows::begins))]
+pub fn body_steps_keep_the_meaning()
+    ensures begins { (h : History) (env : Env) (n k : ℕ) (s : CoreStmt) (w : World) → n ≤ k → rest.Means h n (body.Exec s) [] env w (exec k h env s w) }
+    ensures steps { (h : History) (n : ℕ) (mode : body.Mode) (ss : List body.Item) (env : Env) (w : World) (out : Outcome Way) → rest.Means h (suc n) mode ss env w out → rest.Comes h n (body.advance mode ss env w) out }
+{}
+
+/// Where k steps, each line being one more, bring a statement to the way in which it is left, or to the end of the run, and no
+/// call goes out, the meaning gives just that at every bound of at least k.
+#[tactic(auto, using(crate::proofs::BodyFollows::leaves_meaning, crate::proofs::BodyFollows::breaks_meaning))]
+pub fn bodies_give_their_meaning()
+    ensures ways { (h : History) (env : Env) (k n : ℕ) (s : CoreStmt) (w v : World) (way : Way) → k ≤ n → body.ran k h (body.GoesOn (body.Exec s) [] env w) ≡ body.Leaves way v → exec n h env s w ≡ Done way v }
+    ensures ends { (h : History) (env : Env) (k n : ℕ) (s : CoreStmt) (w : World) (end : Ending) → k ≤ n → body.ran k h (body.GoesOn (body.Exec s) [] env w) ≡ body.Breaks end → exec n h env s w ≡ Over end }
 {}

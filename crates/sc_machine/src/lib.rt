@@ -4,4 +4,7 @@
 
 mod laws;
 
-pub use laws::{expression_steps_keep_the_meaning, expressions_give_their_meaning};
+pub use laws::{
+    bodies_give_their_meaning, body_steps_keep_the_meaning, expression_steps_keep_the_meaning,
+    expressions_give_their_meaning,
+};
