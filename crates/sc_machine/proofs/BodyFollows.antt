@@ -306,7 +306,7 @@ pub begins : (h : History) (env : Env) (n k : ℕ) (s : CoreStmt) (w : World) �
 begins h env n k s w le = (k, le, refl)
 
 -- less depth is asked of what is pending
-after_use_weaker : (h : History) (n : ℕ) (u : Use) (ss : List Item) (env : Env) (r : Outcome Answer) (out : Outcome Way) → AfterUse h (suc n) u ss env r out → AfterUse h n u ss env r out
+pub after_use_weaker : (h : History) (n : ℕ) (u : Use) (ss : List Item) (env : Env) (r : Outcome Answer) (out : Outcome Way) → AfterUse h (suc n) u ss env r out → AfterUse h n u ss env r out
 after_use_weaker h n u ss env r out p = (p.0, omega (arith, p.1), weaker h n ss env _ out p.2)
 
 pub means_weaker : (h : History) (n : ℕ) (mode : Mode) (ss : List Item) (env : Env) (w : World) (out : Outcome Way) → Means h (suc n) mode ss env w out → Means h n mode ss env w out

@@ -2,3 +2,5 @@ pub mod Machine
 pub mod Means
 pub mod Bodies
 pub mod BodyMeans
+pub mod Runs
+pub mod RunMeans

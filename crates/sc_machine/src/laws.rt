@@ -1,17 +1,21 @@
 // What holds of the machine. Each function here does nothing: its contract is the law.
 ghost use Rattle.std.specs.Prelude.{◌≡◌, ◌≤◌, List, [], suc, ℕ};
+ghost use Rattle.sc_base.specs.declared.key.Key.{Key};
 ghost use Rattle.sc_core.specs.declared.expression.CoreExpr.{CoreExpr};
 ghost use Rattle.sc_core.specs.declared.statement.CoreStmt.{CoreStmt};
+ghost use Rattle.sc_meaning.specs.Values.{Value};
 ghost use Rattle.sc_meaning.specs.World.{World};
 ghost use Rattle.sc_meaning.specs.Outcomes.{Done, Ending, Outcome, Over};
-ghost use Rattle.sc_meaning.specs.Versions.{History};
+ghost use Rattle.sc_meaning.specs.Versions.{History, callee_of, version_at};
 ghost use Rattle.sc_meaning.specs.Expressions.{Answer, Env};
 ghost use Rattle.sc_meaning.specs.Statements.{Way};
-ghost use Rattle.sc_meaning.specs.Calls.{eval, exec};
+ghost use Rattle.sc_meaning.specs.Calls.{call, eval, exec};
 ghost use Rattle.sc_machine.specs.Machine.{Advanced, Breaks, Eval, Gives, GoesOn, Item, Mode, advance, ran};
 ghost use Rattle.sc_machine.specs.Means.{Comes, Means};
 ghost use Rattle.sc_machine.specs.Bodies as body;
 ghost use Rattle.sc_machine.specs.BodyMeans as rest;
+ghost use Rattle.sc_machine.specs.Runs as whole;
+ghost use Rattle.sc_machine.specs.RunMeans as left;
 
 /// An expression begins as its meaning, and each step keeps what the whole expression gives: what is pending goes at
 /// least n + 1 deep before the step, and at least n deep after it, whether it goes on, calls, answers, or ends the run.
@@ -44,4 +48,20 @@ pub fn body_steps_keep_the_meaning()
 pub fn bodies_give_their_meaning()
     ensures ways { (h : History) (env : Env) (k n : ℕ) (s : CoreStmt) (w v : World) (way : Way) → k ≤ n → body.ran k h (body.GoesOn (body.Exec s) [] env w) ≡ body.Leaves way v → exec n h env s w ≡ Done way v }
     ensures ends { (h : History) (env : Env) (k n : ℕ) (s : CoreStmt) (w : World) (end : Ending) → k ≤ n → body.ran k h (body.GoesOn (body.Exec s) [] env w) ≡ body.Breaks end → exec n h env s w ≡ Over end }
+{}
+
+/// A call of a key begins as its meaning, and each step of the run keeps what the outermost call gives: whatever is pending in
+/// the innermost body and in all callers goes at least n + 1 deep before the step, and at least n deep after it.
+#[tactic(auto, using(crate::proofs::RunFollows::follows, crate::proofs::RunFollows::call_means))]
+pub fn run_steps_keep_the_meaning()
+    ensures begins { (h : History) (n k : ℕ) (key : Key) (vs : List Value) (w : World) → suc n ≤ k → left.Means h n (whole.callee_next h key vs (callee_of (version_at h w.count) key) [] w) (call k h key vs w) }
+    ensures steps { (h : History) (n : ℕ) (s : whole.State) (out : Outcome Answer) → left.Means h (suc n) s out → left.Means h n (whole.advance h s) out }
+{}
+
+/// Where k steps bring a call of a key to its answer, or to the end of the run, calls inside it included, the meaning gives just
+/// that at every bound that is greater than k.
+#[tactic(auto, using(crate::proofs::RunFollows::answers_meaning, crate::proofs::RunFollows::ends_meaning))]
+pub fn runs_give_their_meaning()
+    ensures answers { (h : History) (k n : ℕ) (key : Key) (vs : List Value) (w v : World) (a : Answer) → suc k ≤ n → whole.ran k h (whole.callee_next h key vs (callee_of (version_at h w.count) key) [] w) ≡ whole.Answers a [] v → call n h key vs w ≡ Done a v }
+    ensures ends { (h : History) (k n : ℕ) (key : Key) (vs : List Value) (w : World) (e : Ending) → suc k ≤ n → whole.ran k h (whole.callee_next h key vs (callee_of (version_at h w.count) key) [] w) ≡ whole.Ends e → call n h key vs w ≡ Over e }
 {}

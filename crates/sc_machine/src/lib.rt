@@ -6,5 +6,5 @@ mod laws;
 
 pub use laws::{
     bodies_give_their_meaning, body_steps_keep_the_meaning, expression_steps_keep_the_meaning,
-    expressions_give_their_meaning,
+    expressions_give_their_meaning, run_steps_keep_the_meaning, runs_give_their_meaning,
 };
