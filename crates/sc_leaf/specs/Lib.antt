@@ -1,0 +1,5 @@
+pub mod Shapes
+pub mod Cells
+pub mod Showings
+pub mod Happenings
+pub mod Gives

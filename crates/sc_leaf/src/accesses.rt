@@ -1,0 +1,122 @@
+// Loads, stores, copies, and operators: what each gives, or the rule that it breaks (ANSI 3.2.2.1, 3.3).
+ghost use Rattle.std.specs.Prelude.{◌≡◌, ◌+◌, ◌*◌, ℕ, IfOk, MatchResult, None, Some, map, take};
+ghost use Rattle.sc_core.specs.Accesses as spec;
+ghost use Rattle.sc_core.specs.Values as value;
+ghost use Rattle.sc_core.specs.World as world;
+ghost use Rattle.sc_leaf.specs.Gives.{Gives};
+ghost use Rattle.sc_ops.specs.Operators as operators;
+ghost use Rattle.sc_ops.specs.Numbers as numbers;
+
+use crate::breaches::{access_breach, operand_breach, sum};
+use crate::object::{Cell, Content};
+use crate::stop::Stop;
+use crate::value::{Shape, Value};
+use crate::violations::{
+    bits, cells_read, is_pointer, load_rule, pointer_of, reach_rule, store_rule, truth_rule,
+    write_rule,
+};
+use crate::world::World;
+use sc_base::{Duplicate, Int, Items, NoMemory, Op, Rule};
+use sc_ops::{arith, convert};
+use sc_types::{CType, int_size};
+use std::alloc::Global;
+
+/// How many bytes a scalar of the type has; 0 where the type is no scalar.
+pub fn scalar_size(t: &CType) -> u32
+    ensures { result ≡ value.scalar_size t.now }
+{
+    match t {
+        CType::Int(i, _) => int_size(*i),
+        CType::Pointer(_, _) => 4,
+        CType::Void(_) | CType::Array(_, _) | CType::Struct(_, _) | CType::Function(_) => 0,
+    }
+}
+
+/// Whether the type is a pointer type.
+pub fn is_pointer_type(t: &CType) -> bool
+    ensures { result ≡ value.is_pointer_type t.now }
+{
+    match t {
+        CType::Pointer(_, _) => true,
+        CType::Int(_, _) | CType::Void(_) | CType::Array(_, _) | CType::Struct(_, _) | CType::Function(_) => false,
+    }
+}
+
+/// The integer type that a type is.
+pub fn int_of(t: &CType) -> Int
+    ensures { result ≡ value.int_of t.now }
+{
+    match t {
+        CType::Int(i, _) => *i,
+        CType::Pointer(_, _) | CType::Void(_) | CType::Array(_, _) | CType::Struct(_, _) | CType::Function(_) => Int::UInt,
+    }
+}
+
+fn byte_of(c: &Cell) -> u32
+    ensures { result ≡ value.byte_of c.now }
+{
+    match &c.content {
+        Content::Unwritten => 0,
+        Content::Byte(b) => u32::from(*b),
+        Content::Piece(_, _) => 0,
+    }
+}
+
+/// The number of some bytes, the lowest first.
+pub fn number_of_cells(cells: &[Cell]) -> Result<u32, NoMemory>
+    ensures { IfOk result (λ n. n ≡ value.number_of_cells cells.now) }
+{
+    match cells {
+        [] => Ok(0),
+        [c, rest @ ..] => {
+            let high = number_of_cells(rest)?;
+            let Some(high) = high.checked_mul(256) else { return Err(NoMemory) };
+            sum(byte_of(c), high)
+        }
+    }
+}
+
+/// The value of some bytes.
+pub fn value_of_cells(alloc: Global, cells: &[Cell]) -> Result<Value, NoMemory>
+    ensures { IfOk result (λ v. v ≡ value.value_of_cells cells.now) }
+{
+    match pointer_of(cells) {
+        Some(p) => p.copy(alloc),
+        None => Ok(Value::number(number_of_cells(cells)?)),
+    }
+}
+
+/// A number as a value of an integer type.
+pub fn converted_value(i: Int, v: Value) -> Value
+    ensures { result ≡ spec.converted_value i v }
+{
+    match v.shape {
+        Shape::Number(n) => Value::number(convert(n, i)),
+        Shape::FunctionAt(k) => Value::function(k),
+        Shape::Pointer(o, at) => Value::pointer(o, at),
+    }
+}
+
+/// A value as one of a scalar type.
+pub fn as_type(t: &CType, v: Value) -> Value
+    ensures { result ≡ spec.as_type t.now v }
+{
+    if is_pointer_type(t) { v } else { converted_value(int_of(t), v) }
+}
+
+/// The value of a scalar type that stands `further` bytes from where `p` points (3.2.2.1).
+///
+/// # Errors
+///
+/// The rule that the load breaks.
+pub fn loaded(t: &CType, p: &Value, further: u32, world: &World) -> Result<Value, Stop>
+    ensures { Gives (spec.loaded t.now p.now further world.now) result world.now }
+{
+    let n = scalar_size(t);
+    if let Some(rule) = load_rule(world.objects(), p, further, n, is_pointer_type(t)) {
+        let told = access_breach(p, further, n, world, rule)?;
+        return Err(Stop::Undefined(told));
+    }
+    let found = value_of_cells(world.alloc(), cells_read(world.objects(), p, further, n))?;
+    Ok(as_type(t, found))
+}

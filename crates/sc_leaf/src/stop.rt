@@ -1,0 +1,52 @@
+// Ends of a run.
+ghost use Rattle.std.specs.Prelude.{◌≡◌};
+ghost use Rattle.sc_leaf.specs.declared.stop.Stop.TheVariants as stop;
+
+use crate::value::Value;
+use sc_base::{Int, Key, NoMemory, Op, Rule};
+use std::marker::Model;
+
+/// An undefined step: the rule; the access of `size` bytes at `at`; the operands of `op` with the type of each; the
+/// function and line in which it stands; and for some rules a name, or the number of an argument, counted from 1.
+#[derive(Drop)]
+pub struct Breach {
+    pub rule: Rule,
+    pub op: Op,
+    pub at: Value,
+    pub size: u32,
+    pub left: Value,
+    pub right: Value,
+    pub int: Int,
+    pub right_int: Int,
+    pub fun: Key,
+    pub line: u32,
+    pub name: Option<Key>,
+    pub argument: u32,
+}
+
+impl Model for Breach {
+    ghost use Rattle.sc_core.specs.Outcomes as spec;
+
+    ghost Value = { spec.Breach };
+
+    ghost view = { λ b. record { rule = b.rule; op = b.op; at = b.at; size = b.size; left = b.left; right = b.right; int = b.int; right_int = b.right_int; fun = b.fun; line = b.line; name = b.name; argument = b.argument } };
+}
+
+/// Why a part of a program is not done. `NoRoom`: no memory was left, or a number is above 2^32 - 1.
+#[derive(Drop)]
+pub enum Stop {
+    NoRoom,
+    Undefined(Breach),
+    Exit(u32),
+    StackFull(Key),
+    BirthLimit,
+    OutOfFuel,
+}
+
+impl From<NoMemory> for Stop {
+    ghost from_gives = { λ _ s. s ≡ stop.NoRoom };
+
+    fn from(_: NoMemory) -> Stop {
+        Stop::NoRoom
+    }
+}
