@@ -23,7 +23,6 @@ pub struct Value {
 
 impl Model for Value {
     ghost use Rattle.sc_plain_world.specs.Shapes.{value_of};
-
     ghost use Rattle.sc_core.specs.Values as spec;
 
     ghost Value = { spec.Value };

@@ -48,7 +48,9 @@ impl Model for World {
 fn more(n: u64) -> Result<u64, NoMemory>
     ensures { IfOk result (λ m. m ≡ n + 1) }
 {
-    let Some(m) = n.checked_add(1) else { return Err(NoMemory) };
+    let Some(m) = n.checked_add(1) else {
+        return Err(NoMemory)
+    };
     Ok(m)
 }
 
@@ -316,17 +318,13 @@ impl World {
     }
 
     /// So many bytes go to an object and offset from an object and offset.
-    pub fn copy(
-        &mut self,
-        to: u32,
-        at: u32,
-        from: u32,
-        off: u32,
-        n: u32,
-    ) -> Result<(), NoMemory>
+    pub fn copy(&mut self, to: u32, at: u32, from: u32, off: u32, n: u32) -> Result<(), NoMemory>
         ensures { IfOk result (λ _. self.new ≡ spec.pass (spec.Copy to at from off n) self.old) }
     {
-        let moved = copy_cells(self.alloc, cells_at(self.objects.as_slice(), from, u64::from(off), n))?;
+        let moved = copy_cells(
+            self.alloc,
+            cells_at(self.objects.as_slice(), from, u64::from(off), n),
+        )?;
         write_object(self.alloc, &mut self.objects, to, at, moved.as_slice())?;
         self.keep(Change::Copy(to, at, from, off, n))
     }
@@ -344,7 +342,9 @@ impl World {
     pub fn take_new(&mut self, size: u64) -> Result<(), NoMemory>
         ensures { IfOk result (λ _. self.new ≡ spec.pass (spec.TakeNew size) self.old) }
     {
-        let Some(made) = self.made.checked_add(size) else { return Err(NoMemory) };
+        let Some(made) = self.made.checked_add(size) else {
+            return Err(NoMemory)
+        };
         self.made = made;
         self.keep(Change::TakeNew(size))
     }
@@ -425,7 +425,9 @@ impl World {
 fn end_object(alloc: Global, objects: &mut Items<Object>, id: u32) -> Result<(), NoMemory>
     ensures { IfOk result (λ _. objects.new ≡ spec.ended objects.old id (spec.object_at objects.old id)) }
 {
-    let Some(old) = object_at(objects.as_slice(), id) else { return Ok(()) };
+    let Some(old) = object_at(objects.as_slice(), id) else {
+        return Ok(())
+    };
     let new = Object {
         size: old.size,
         kind: old.kind,
@@ -446,7 +448,9 @@ fn write_object(
 ) -> Result<(), NoMemory>
     ensures { IfOk result (λ _. objects.new ≡ spec.written objects.old id at new.now (spec.object_at objects.old id)) }
 {
-    let Some(old) = object_at(objects.as_slice(), id) else { return Ok(()) };
+    let Some(old) = object_at(objects.as_slice(), id) else {
+        return Ok(())
+    };
     let new = Object {
         size: old.size,
         kind: old.kind,
