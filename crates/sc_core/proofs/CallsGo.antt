@@ -1,24 +1,23 @@
 -- Calls, and with them the whole meaning, are related.
-use Rattle.std.proofs.Common.{ℕ, zero, suc, ◌+◌, ◌-◌, nat_lt, Bool, true, false, if◌then◌else◌, List, [], ◌∷◌, ◌++◌, slice_index_or, Option, Some, None}
+use Rattle.std.proofs.Common.{ℕ, ◌+◌, ◌-◌, nat_lt, List, [], ◌∷◌, ◌++◌, slice_index_or}
 use Rattle.sc_base.specs.declared.key.Key.{Key}
-use Rattle.sc_core.specs.declared.expression.CoreExpr.{CoreExpr, out-CoreExpr}
+use Rattle.sc_core.specs.declared.expression.CoreExpr.{CoreExpr}
 use Rattle.sc_core.specs.declared.expression.CoreExpr.TheOpen.{CoreExpr-F}
-use Rattle.sc_core.specs.declared.statement.CoreStmt.{CoreStmt, out-CoreStmt}
+use Rattle.sc_core.specs.declared.statement.CoreStmt.{CoreStmt}
 use Rattle.sc_core.specs.declared.statement.CoreStmt.TheOpen.{CoreStmt-F}
 use Rattle.sc_core.specs.declared.module.Fun.{Fun}
 use Rattle.sc_core.specs.declared.module.Auto.{Auto}
 use Rattle.sc_core.specs.Values.{Value, Pointer}
-use Rattle.sc_core.specs.World.{World, Frame, Born, Enter, Leave, Begin, Work, pass, Push, Pop, Stack, OpenBlock}
-use Rattle.sc_core.specs.Outcomes.{Outcome, Done, Over, StackFull, and_then}
+use Rattle.sc_core.specs.World.{World, Born, Enter, Leave, Begin, Work, pass, Push, Pop, Stack, OpenBlock}
+use Rattle.sc_core.specs.Outcomes.{Outcome, StackFull}
 use Rattle.sc_core.specs.Accesses.{set_at}
-use Rattle.sc_core.specs.Versions.{Text, History, Callee, Missing, InText, InLibrary, callee_of}
+use Rattle.sc_core.specs.Versions.{Text, History, Callee, Missing, InText, InLibrary}
 use Rattle.sc_core.specs.Changes.{born, happened}
-use Rattle.sc_core.specs.Expressions.{Env, Answer, begun, either}
+use Rattle.sc_core.specs.Expressions.{Env, begun}
 use Rattle.sc_core.specs.Statements.{Way, Exec, stmt_begun, all_dead, auto_kind}
-use Rattle.sc_core.specs.Calls.{parameters, frame_of, answer_of, left, body_of, entered, full, call_of}
-use Rattle.sc_core.specs.Laws.{Leads}
+use Rattle.sc_core.specs.Calls.{parameters, frame_of, answer_of, left, body_of, entered, call_of}
 use Rattle.sc_core.proofs.Relation.{Relation, Histories}
-use Rattle.sc_core.proofs.Steps.{here, on, one_more, and_more, same_done, after_one, stops, either_goes}
+use Rattle.sc_core.proofs.Steps.{here, one_more, and_more, same_done, after_one, stops, either_goes}
 use Rattle.sc_core.proofs.Leaves.{born_goes, set_leads}
 use Rattle.sc_core.proofs.StatementsGo.{deaths_lead}
 use Rattle.sc_core.proofs.FunctionsGo.{library_goes}

@@ -1,9 +1,9 @@
 -- Births of static objects, changes of the version, and events are related to themselves.
-use Rattle.std.proofs.Common.{ℕ, ◌+◌, ◌==◌, nat_lt, Bool, true, false, if◌then◌else◌, List, [], ◌∷◌, ◌++◌, Option, Some, None}
+use Rattle.std.proofs.Common.{ℕ, ◌==◌, nat_lt, Bool, true, false, if◌then◌else◌, List, [], ◌∷◌, Option, Some, None}
 use Rattle.sc_program.specs.declared.storage.StaticId.{StaticId}
 use Rattle.sc_program.specs.declared.storage.StaticId.TheVariants.{Named, Literal}
 use Rattle.sc_core.specs.World.{World, Event, pass, Name, Unname, Death, Happens, named_in}
-use Rattle.sc_core.specs.Outcomes.{Outcome, Done, Over, went, and_then}
+use Rattle.sc_core.specs.Outcomes.{Outcome}
 use Rattle.sc_core.specs.Versions.{Text, Version, History, Definition, object_in, births_of, is_kept}
 use Rattle.sc_core.specs.Changes.{born_as, born_static, born_unless, born_all, unnamed, filled, filled_all, born_and_filled, statics_born, dead, dead_unless_kept, deaths, changed, changed_if, settled_from, settled, happened}
 use Rattle.sc_core.specs.Laws.{Leads}

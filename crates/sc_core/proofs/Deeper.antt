@@ -1,18 +1,18 @@
 -- A greater bound only extends a run.
-use Rattle.std.proofs.Common.{◌≡◌, ℕ, zero, suc, ◌≤◌, List, [], ◌∷◌, refl, sym, ap, subst, arith}
+use Rattle.std.proofs.Common.{◌≡◌, ℕ, zero, suc, ◌≤◌, List, [], refl, sym, ap, subst, arith}
 use Rattle.sc_base.specs.declared.key.Key.{Key}
 use Rattle.sc_core.specs.declared.expression.CoreExpr.{CoreExpr, out-CoreExpr}
 use Rattle.sc_core.specs.declared.statement.CoreStmt.{CoreStmt, out-CoreStmt}
 use Rattle.sc_core.specs.Values.{Value}
-use Rattle.sc_core.specs.World.{World, tick, Work, pass}
-use Rattle.sc_core.specs.Outcomes.{Outcome, Done, Over, Ending, Undefined, Exit, StackFull, BirthLimit, OutOfFuel, and_then, world_at, world_after}
-use Rattle.sc_core.specs.Versions.{Text, History, version_at, callee_of}
+use Rattle.sc_core.specs.World.{World, tick, Work}
+use Rattle.sc_core.specs.Outcomes.{Outcome, Done, Over, Breach, Ending, Undefined, Exit, StackFull, BirthLimit, OutOfFuel, and_then, world_at, world_after}
+use Rattle.sc_core.specs.Versions.{History, version_at, callee_of}
 use Rattle.sc_core.specs.Changes.{settled}
 use Rattle.sc_core.specs.Expressions.{Env, Answer, expr_of}
-use Rattle.sc_core.specs.Statements.{stmt_of, turn_of}
-use Rattle.sc_core.specs.Calls.{eval, exec, turn, call, call_of}
+use Rattle.sc_core.specs.Statements.{stmt_of}
+use Rattle.sc_core.specs.Calls.{eval, exec, turn, call}
 use Rattle.sc_core.specs.Behaviour.{Start, first_world, main_key, main_called, started, ending_of, ending}
-use Rattle.sc_core.specs.Laws.{Leads, EndsAs}
+use Rattle.sc_core.specs.Laws.{Leads, Extends, EndsAs}
 use Rattle.sc_core.proofs.Relation.{Relation, Histories}
 use Rattle.sc_core.proofs.Steps.{here, on, passes, after_one}
 use Rattle.sc_core.proofs.Changing.{settled_goes}
@@ -20,15 +20,6 @@ use Rattle.sc_core.proofs.ExpressionsGo.{expr_goes}
 use Rattle.sc_core.proofs.StatementsGo.{stmt_goes, turn_goes}
 use Rattle.sc_core.proofs.CallsGo.{begun_goes, statement_goes, call_goes}
 use Rattle.sc_core.proofs.Growing.{own, leads_then, eval_leads, exec_leads, turn_leads, call_leads}
-
--- s is r, or goes on from where the bound of r was used up
-abbrev pub Extends : {A : Type 0} → Outcome A → Outcome A → Type 0
-Extends (Done a w) s = s ≡ Done a w
-Extends (Over (Undefined b w)) s = s ≡ Over (Undefined b w)
-Extends (Over (Exit n w)) s = s ≡ Over (Exit n w)
-Extends (Over (StackFull key w)) s = s ≡ Over (StackFull key w)
-Extends (Over (BirthLimit w)) s = s ≡ Over (BirthLimit w)
-Extends (Over (OutOfFuel w)) s = Leads w (world_after s)
 
 pub same_end : (A : Type 0) (e : Ending) → Extends {A = A} (Over e) (Over e)
 same_end A (Undefined b w) = refl
@@ -64,6 +55,7 @@ module _ (h : History) where
 
   mutual
     unfolding eval
+
     pub eval_more : (n m : ℕ) → n ≤ m → (env : Env) (e : CoreExpr) (w : World) → Extending.Rel w (eval n h env e w) (eval m h env e w)
     eval_more zero m le env e w = ran_out w (eval m h env e w) (eval_leads m h env e w)
     eval_more (suc n) zero le env e w = absurd (omega arith)
@@ -104,6 +96,9 @@ started_more n m le s =
     let r : Outcome (Unit {0}) = settled s.history (first_world s) in
     Extending.bind (first_world s) r r _ _ (settled_goes Extending s.history (first_world s)) (λ x w. main_more n m le s.history w)
 
+pub started_leads : (n : ℕ) (s : Start) → Leads (first_world s) (world_after (started n s))
+started_leads n s = (started_more n n (omega arith) s).1
+
 pub ending_world : (r : Outcome Answer) → world_at (ending_of r) ≡ world_after r
 ending_world (Done a w) = refl
 ending_world (Over e) = refl
@@ -118,3 +113,17 @@ ends_as (Over (OutOfFuel w)) s x = subst (Leads w) (sym (ending_world s)) x
 
 pub ending_more : (n m : ℕ) (s : Start) → n ≤ m → EndsAs (ending n s) (ending m s)
 ending_more n m s le = ends_as (started n s) (started m s) (started_more n m le s).0
+
+-- an end that is not for want of depth is the end
+pub undefined_stays : (n m : ℕ) (s : Start) (b : Breach) (w : World) → n ≤ m → ending n s ≡ Undefined b w → ending m s ≡ Undefined b w
+undefined_stays n m s b w le e = subst (λ f. EndsAs f (ending m s)) e (ending_more n m s le)
+
+-- the same, of each part
+pub eval_extends : (n m : ℕ) (h : History) (env : Env) (e : CoreExpr) (w : World) → n ≤ m → Extends (eval n h env e w) (eval m h env e w)
+eval_extends n m h env e w le = (eval_more h n m le env e w).0
+
+pub exec_extends : (n m : ℕ) (h : History) (env : Env) (s : CoreStmt) (w : World) → n ≤ m → Extends (exec n h env s w) (exec m h env s w)
+exec_extends n m h env s w le = (exec_more h n m le env s w).0
+
+pub call_extends : (n m : ℕ) (h : History) (key : Key) (vs : List Value) (w : World) → n ≤ m → Extends (call n h key vs w) (call m h key vs w)
+call_extends n m h key vs w le = (calls_more h n m le key vs w).0

@@ -1,5 +1,5 @@
 -- Expressions are related, where their parts are.
-use Rattle.std.proofs.Common.{ℕ, ◌+◌, ◌==◌, Bool, true, false, not, if◌then◌else◌, List, [], ◌∷◌, ◌++◌, Option, Some, None}
+use Rattle.std.proofs.Common.{ℕ, Bool, true, false, if◌then◌else◌, List, [], ◌∷◌, ◌++◌, Option, Some, None}
 use Rattle.sc_base.specs.declared.integer.Int.{Int}
 use Rattle.sc_base.specs.declared.key.Key.{Key}
 use Rattle.sc_base.specs.declared.integer.Int.TheVariants.{Int as PlainInt}
@@ -15,13 +15,13 @@ use Rattle.sc_core.specs.declared.expression.UnaryOperator.{UnaryOperator}
 use Rattle.sc_core.specs.declared.expression.UnaryOperator.TheVariants.{Plus, Minus, Complement, Not}
 use Rattle.sc_core.specs.Types.{type_of}
 use Rattle.sc_core.specs.Values.{Value, Number, FunctionAt, Pointer, null, is_pointer_type, int_of}
-use Rattle.sc_core.specs.World.{World, pass, Work, tick, named_in}
-use Rattle.sc_core.specs.Outcomes.{Outcome, Done, Over, and_then, went, unless}
-use Rattle.sc_core.specs.Accesses.{as_type, converted_value, loaded, stored, copied, computed, shifted, difference, compared, tested}
-use Rattle.sc_core.specs.Versions.{Text, History, version_at}
-use Rattle.sc_core.specs.Expressions.{Env, Answer, Plain, Place, Part, Nothing, Eval, Call, finished, plain, at_place, used, valued, base_of, further_of, static_at, address, read, decayed, layer_read, conversion, is_void, either, cast, offset_by, part_of, next_value, operator_of, stepped, unary, truth, assigned_structure, compounded, moved_by, value_rule, call_breach, call_value, called, args_then, one, two, expr_of}
+use Rattle.sc_core.specs.World.{World, Work, tick}
+use Rattle.sc_core.specs.Outcomes.{Outcome, and_then, unless}
+use Rattle.sc_core.specs.Accesses.{as_type, converted_value, loaded, stored, copied, computed, shifted, tested}
+use Rattle.sc_core.specs.Versions.{Text, History}
+use Rattle.sc_core.specs.Expressions.{Env, Answer, Plain, Place, Part, Nothing, Eval, Call, finished, plain, at_place, used, valued, base_of, further_of, static_at, address, read, decayed, layer_read, conversion, is_void, cast, next_value, operator_of, stepped, unary, truth, assigned_structure, compounded, moved_by, value_rule, call_breach, call_value, called, args_then, one, two, expr_of}
 use Rattle.sc_core.proofs.Relation.{Relation, Histories}
-use Rattle.sc_core.proofs.Steps.{here, one_more, and_more, same_done, passes, passes_two, after_one, stops, unless_goes, either_goes, if_goes}
+use Rattle.sc_core.proofs.Steps.{same_done, passes, passes_two, after_one, stops, unless_goes, either_goes, if_goes}
 use Rattle.sc_core.proofs.Leaves.{loaded_goes, stored_goes, copied_goes, computed_goes, shifted_goes, member_goes, difference_goes, compared_goes, tested_goes}
 
 module _ (R : Relation) where

@@ -1,5 +1,5 @@
 -- The library's functions are related.
-use Rattle.std.proofs.Common.{ℕ, zero, suc, ◌+◌, ◌-◌, ◌*◌, ◌^◌, ◌==◌, ◌%◌, ◌&&◌, ◌||◌, Bool, true, false, not, min, nat_lt, nat_le, if◌then◌else◌, List, [], ◌∷◌, ◌++◌, length, replicate, Option, Some, None, ℤ, pos, nat_abs}
+use Rattle.std.proofs.Common.{ℕ, zero, suc, ◌+◌, ◌-◌, ◌*◌, ◌^◌, ◌==◌, ◌%◌, ◌&&◌, ◌||◌, Bool, true, false, not, min, nat_le, if◌then◌else◌, List, [], ◌∷◌, ◌++◌, length, replicate, Option, Some, None, ℤ, pos, nat_abs}
 use Rattle.sc_base.specs.declared.key.Key.{Key}
 use Rattle.sc_base.specs.declared.integer.Int.TheVariants.{Int as PlainInt}
 use Rattle.sc_fmt.specs.Format.{is_digit}
@@ -8,17 +8,17 @@ use Rattle.sc_ops.specs.Numbers.{number_of, is_in_range}
 use Rattle.sc_core.specs.declared.library.LibFun.{LibFun}
 use Rattle.sc_core.specs.declared.library.LibFun.TheVariants as lib
 use Rattle.sc_core.specs.Values.{Value, Number, FunctionAt, Pointer, Byte, null}
-use Rattle.sc_core.specs.World.{World, pass, Work, Put, Read, Seed, tick}
-use Rattle.sc_core.specs.Outcomes.{Outcome, Done, Over, Exit, went, and_then, unless, moved}
+use Rattle.sc_core.specs.World.{World, pass, Work, Put, Read, Seed}
+use Rattle.sc_core.specs.Outcomes.{Exit, moved}
 use Rattle.sc_core.specs.Violations.{bits, is_null, reach_rule, write_rule}
 use Rattle.sc_core.specs.Accesses.{copy_at}
 use Rattle.sc_core.specs.Versions.{History}
-use Rattle.sc_core.specs.Expressions.{Answer, Plain, Nothing, either}
-use Rattle.sc_core.specs.Library.{gives, value_at, out_of_range, byte_read, text_upto, past, text_at, bytes_written, apart, shown, taken, given_back, block_size_at, block_tested}
-use Rattle.sc_core.specs.Functions.{is_character, on_character, in_class, lower, upper, putchar, puts, got, malloc, zeroed, calloc, free, enlarged, reallocated, realloc, copied_bytes, memmove, memcpy, set_all, memset, order_of, bytes_compared, strcmp, text_written, strcpy, strcat, read_count, strncpy, strlen, first_found, last_found, Seen, after_space, digits_from, is_sign, signed_value, in_range, unsigned_from, signed_from, atoi, abs, rand, next_seed, exit, assertion_text, assert_fail, library_call}
+use Rattle.sc_core.specs.Expressions.{Plain, Nothing}
+use Rattle.sc_core.specs.Library.{value_at, byte_read, text_upto, past, text_at, bytes_written, apart, shown, taken, given_back, block_size_at, block_tested}
+use Rattle.sc_core.specs.Functions.{is_character, on_character, in_class, lower, upper, putchar, puts, got, malloc, zeroed, calloc, free, enlarged, reallocated, realloc, copied_bytes, memmove, memcpy, set_all, memset, bytes_compared, text_written, strcpy, strcat, read_count, strncpy, strlen, first_found, last_found, Seen, after_space, digits_from, is_sign, signed_value, in_range, unsigned_from, signed_from, atoi, next_seed, exit, assertion_text, assert_fail, library_call}
 use Rattle.sc_core.specs.Laws.{Leads}
 use Rattle.sc_core.proofs.Relation.{Relation, Histories}
-use Rattle.sc_core.proofs.Steps.{here, on, one_more, and_more, same_done, passes, passes_two, after_one, stops, unless_goes, either_goes}
+use Rattle.sc_core.proofs.Steps.{here, on, one_more, and_more, same_done, passes, passes_two, unless_goes, either_goes}
 use Rattle.sc_core.proofs.Leaves.{copy_leads}
 use Rattle.sc_core.proofs.LibraryGo.{back_leads, gives_goes, range_goes, byte_goes, upto_goes, text_goes, written_goes, apart_goes, taken_goes, block_goes, shown_goes, printf_goes}
 

@@ -1,14 +1,14 @@
 -- A run is a list of things that happen: every part leads from the world in which it begins to the one in which it ends.
-use Rattle.std.proofs.Common.{◌≡◌, ℕ, zero, suc, List, [], ◌∷◌, ◌++◌, refl, sym, ap}
+use Rattle.std.proofs.Common.{ℕ, zero, suc, List}
 use Rattle.sc_base.specs.declared.key.Key.{Key}
 use Rattle.sc_core.specs.declared.expression.CoreExpr.{CoreExpr, out-CoreExpr}
 use Rattle.sc_core.specs.declared.statement.CoreStmt.{CoreStmt, out-CoreStmt}
 use Rattle.sc_core.specs.Values.{Value}
 use Rattle.sc_core.specs.World.{World}
-use Rattle.sc_core.specs.Outcomes.{Outcome, Done, Over, OutOfFuel, Ending, and_then, world_at, world_after}
-use Rattle.sc_core.specs.Versions.{Text, History, version_at, callee_of}
-use Rattle.sc_core.specs.Expressions.{Env, Answer, Eval, Call, expr_of}
-use Rattle.sc_core.specs.Statements.{Exec, stmt_of, turn_of}
+use Rattle.sc_core.specs.Outcomes.{Outcome, Done, Over, OutOfFuel, and_then, world_after}
+use Rattle.sc_core.specs.Versions.{History, version_at, callee_of}
+use Rattle.sc_core.specs.Expressions.{Env, expr_of}
+use Rattle.sc_core.specs.Statements.{stmt_of}
 use Rattle.sc_core.specs.Calls.{eval, exec, turn, call, call_of}
 use Rattle.sc_core.specs.Laws.{Leads}
 use Rattle.sc_core.proofs.Relation.{Relation, Histories}
@@ -22,6 +22,7 @@ use Rattle.sc_core.proofs.CallsGo.{begun_goes, statement_goes, call_goes}
 module _ (R : Relation) (h k : History) (H : Histories R h k) where
   mutual
     unfolding eval
+
     pub eval_goes : (n : ℕ) (env : Env) (e : CoreExpr) (w : World) → R.Rel w (eval n h env e w) (eval n k env e w)
     eval_goes zero env e w = R.over (OutOfFuel w) w (here w)
     eval_goes (suc n) env e w =

@@ -1,20 +1,20 @@
 -- Loads, stores, operators and births are related to themselves.
-use Rattle.std.proofs.Common.{ℕ, ◌+◌, nat_le, length, Bool, true, false, if◌then◌else◌, List, [], ◌∷◌, ◌++◌, Option, Some, None}
+use Rattle.std.proofs.Common.{ℕ, nat_le, length, Bool, true}
 use Rattle.sc_base.specs.declared.integer.Int.{Int}
 use Rattle.sc_base.specs.declared.memory.Kind.{Kind}
 use Rattle.sc_base.specs.declared.operator.Op.{Op}
 use Rattle.sc_types.specs.declared.ctype.CType.{CType}
 use Rattle.sc_core.specs.Values.{Value, Number, FunctionAt, Pointer, scalar_size, is_pointer_type}
-use Rattle.sc_core.specs.World.{World, pass, Birth}
-use Rattle.sc_core.specs.Outcomes.{Outcome, Done, Over, BirthLimit, went, and_then, unless}
+use Rattle.sc_core.specs.World.{World, Birth}
+use Rattle.sc_core.specs.Outcomes.{BirthLimit}
 use Rattle.sc_base.specs.declared.integer.Int.TheVariants.{UInt}
 use Rattle.sc_base.specs.declared.operator.Op.TheVariants.{Add}
 use Rattle.sc_core.specs.Violations.{load_rule, store_rule, reach_rule, write_rule, integer_rule, shift_rule, difference_rule, truth_rule}
-use Rattle.sc_core.specs.Accesses.{steps_of, compare_rule, loaded, stored, copied, computed, shifted, member_address, difference, compared, tested, set_at, copy_at, as_type, is_true}
+use Rattle.sc_core.specs.Accesses.{steps_of, compare_rule, loaded, stored, copied, computed, shifted, member_address, difference, compared, tested, set_at, copy_at}
 use Rattle.sc_core.specs.Changes.{born}
 use Rattle.sc_core.specs.Laws.{Leads}
 use Rattle.sc_core.proofs.Relation.{Relation}
-use Rattle.sc_core.proofs.Steps.{here, one_more, and_more, same_done, passes, stops, unless_goes, if_goes}
+use Rattle.sc_core.proofs.Steps.{here, one_more, same_done, passes, unless_goes, if_goes}
 
 pub set_leads : (p : Value) (further n : ℕ) (v : Value) (w : World) → Leads w (set_at p further n v w)
 set_leads (Number m) further n v w = here w

@@ -12,3 +12,9 @@ pub mod Deeper
 pub mod Objects
 pub mod Trails
 pub mod Sooner
+pub mod Runs
+pub mod Numbers
+pub mod LibraryNumbers
+pub mod Alike
+pub mod Whole
+pub mod Returning

@@ -1,5 +1,5 @@
 -- What library functions share, and `printf`, are related.
-use Rattle.std.proofs.Common.{ℕ, zero, suc, ◌+◌, ◌*◌, ◌==◌, ◌%◌, ◌&&◌, ◌||◌, Bool, true, false, not, nat_lt, if◌then◌else◌, List, [], ◌∷◌, ◌++◌, length, take, drop, slice_get, Option, Some, None, nat_abs, int_lt, pos}
+use Rattle.std.proofs.Common.{ℕ, zero, suc, ◌+◌, ◌==◌, Bool, true, false, not, nat_lt, List, [], ◌∷◌, length, drop, slice_get, Option, Some, None, nat_abs, int_lt, pos}
 use Rattle.sc_base.specs.declared.key.Key.{Key}
 use Rattle.sc_base.specs.declared.memory.Kind.TheVariants.{Heap}
 use Rattle.sc_fmt.specs.declared.conversion.Conv.{Conv}
@@ -9,15 +9,15 @@ use Rattle.sc_fmt.specs.declared.conversion.Piece.{Piece}
 use Rattle.sc_fmt.specs.declared.conversion.Piece.TheVariants as piece
 use Rattle.sc_fmt.specs.Format.{piece_of}
 use Rattle.sc_core.specs.Values.{Value, Number, FunctionAt, Pointer}
-use Rattle.sc_core.specs.World.{World, pass, Work, Out, Give, TakeFree, TakeNew, Death, tick, free_of}
-use Rattle.sc_core.specs.Outcomes.{Outcome, Done, Over, went, and_then, unless}
+use Rattle.sc_core.specs.World.{World, pass, Work, Out, TakeFree, TakeNew, Death, tick, free_of}
+use Rattle.sc_core.specs.Outcomes.{Outcome}
 use Rattle.sc_core.specs.Violations.{load_rule, store_rule, free_rule, is_overlapping}
 use Rattle.sc_core.specs.Accesses.{set_at}
 use Rattle.sc_core.specs.Versions.{History}
 use Rattle.sc_core.specs.Changes.{born, happened}
-use Rattle.sc_core.specs.Expressions.{Answer, Plain, either}
-use Rattle.sc_core.specs.Library.{gives, value_at, out_of_range, byte_read, put_before, text_upto, past, text_at, writable, bytes_set, bytes_written, apart, shown, class_of, block_size, allocated, taken, given, given_back, block_size_at, block_tested}
-use Rattle.sc_core.specs.Printf.{Printed, Fitted, Written, argument_in, argument, is_wrong, refused, greatest, fitted, signed, with_width, with_precision, width_of, precision_of, counts_of, padded, written, text_of, conversion_text, converted, put_in_front, piece_text, formatted, printf}
+use Rattle.sc_core.specs.Expressions.{Plain}
+use Rattle.sc_core.specs.Library.{gives, value_at, out_of_range, byte_read, text_upto, past, text_at, writable, bytes_set, bytes_written, apart, shown, class_of, block_size, allocated, taken, given, given_back, block_size_at, block_tested}
+use Rattle.sc_core.specs.Printf.{Printed, argument_in, argument, is_wrong, refused, greatest, signed, width_of, precision_of, counts_of, text_of, conversion_text, converted, piece_text, formatted, printf}
 use Rattle.sc_core.specs.Laws.{Leads}
 use Rattle.sc_core.proofs.Relation.{Relation, Histories}
 use Rattle.sc_core.proofs.Steps.{here, on, one_more, and_more, same_done, passes, after_one, stops, unless_goes, either_goes}

@@ -1,10 +1,10 @@
 -- Objects keep their numbers, sizes and kinds, and the dead stay dead.
-use Rattle.std.proofs.Common.{◌≡◌, ◌⊎◌, inl, inr, ℕ, zero, suc, ◌+◌, ◌≤◌, Bool, true, false, List, [], ◌∷◌, ◌++◌, length, Option, Some, None, refl, sym, ap, ◌∙◌, subst, arith, add-one}
+use Rattle.std.proofs.Common.{◌≡◌, ◌⊎◌, inl, inr, ℕ, zero, suc, ◌+◌, false, List, [], ◌∷◌, ◌++◌, length, Option, Some, None, refl, sym, ap, ◌∙◌, subst, arith, add-one}
 use Rattle.std.specs.Prelude.{slice_get, slice_set}
 use Rattle.std.proofs.lemmas.Option.{slice_get_past}
 use Rattle.sc_base.specs.declared.memory.Kind.{Kind}
 use Rattle.sc_core.specs.Values.{Cell}
-use Rattle.sc_core.specs.World.{World, Item, Work, Begin, End, Happens, Birth, Death, Put, Copy, TakeFree, TakeNew, Give, Stack, Read, Seed, Push, Pop, OpenBlock, CloseBlock, Name, Unname, Event, Enter, Leave, At, Out, Object, object_at, with_object, fresh, ended, overwritten, written, cells_at, effect, counted, pass, passed}
+use Rattle.sc_core.specs.World.{World, Item, Work, Begin, End, Happens, Birth, Death, Put, Copy, TakeFree, TakeNew, Give, Stack, Read, Seed, Push, Pop, OpenBlock, CloseBlock, Name, Unname, Enter, Leave, At, Out, Object, object_at, with_object, fresh, ended, overwritten, written, cells_at, effect, pass, passed}
 use Rattle.sc_core.specs.Laws.{Leads, IsKept, KeepsObjects}
 
 get-front : {X : Type 0} (xs ys : List X) (i : ℕ) (x : X) → slice_get xs i ≡ Some x → slice_get (xs ++ ys) i ≡ Some x

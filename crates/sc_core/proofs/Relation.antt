@@ -1,5 +1,5 @@
 -- What it takes to compare two runs, part by part.
-use Rattle.std.specs.Prelude.{◌≡◌, ℕ, List}
+use Rattle.std.specs.Prelude.{List}
 use Rattle.sc_core.specs.World.{World, Event}
 use Rattle.sc_core.specs.Outcomes.{Outcome, Done, Over, Ending, and_then, world_at}
 use Rattle.sc_core.specs.Versions.{Text, History, version_at}

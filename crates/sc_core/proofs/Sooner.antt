@@ -1,17 +1,17 @@
 -- What has passed depends on no version that comes later.
-use Rattle.std.proofs.Common.{◌≡◌, ◌⊎◌, inl, inr, ℕ, zero, suc, ◌+◌, ◌<◌, ◌≤◌, ◌==◌, nat_lt, nat_le, Bool, true, false, if◌then◌else◌, List, [], ◌∷◌, ◌++◌, length, take, refl, sym, ap, ◌∙◌, subst, arith}
+use Rattle.std.proofs.Common.{◌≡◌, ◌⊎◌, inl, inr, ℕ, ◌+◌, ◌<◌, ◌≤◌, ◌==◌, nat_lt, nat_le, Bool, true, false, if◌then◌else◌, List, [], ◌∷◌, length, take, refl, sym, ap, ◌∙◌, subst, arith}
 use Rattle.std.proofs.lemmas.Bool.{cases_lt}
 use Rattle.std.proofs.lemmas.List.{take-append-le}
 use Rattle.sc_core.specs.World.{World, Event, Happens, Work, pass, events, tick}
-use Rattle.sc_core.specs.Outcomes.{Outcome, Done, Over, Ending, Step, and_then, world_at, world_after, went}
-use Rattle.sc_core.specs.Versions.{Text, Version, History, latest, version_at}
+use Rattle.sc_core.specs.Outcomes.{Outcome, Done, Over, and_then, world_after, went}
+use Rattle.sc_core.specs.Versions.{Text, History, latest, version_at}
 use Rattle.sc_core.specs.Changes.{changed_if, settled_from, settled, happened}
 use Rattle.sc_core.specs.Expressions.{Answer}
 use Rattle.sc_core.specs.Calls.{call}
-use Rattle.sc_core.specs.Behaviour.{Start, first_world, main_key, main_called, started, ending_of, ending, events_upto}
+use Rattle.sc_core.specs.Behaviour.{Start, first_world, main_key, main_called, started, events_upto}
 use Rattle.sc_core.specs.Laws.{Leads, upto, with_history}
 use Rattle.sc_core.proofs.Relation.{Relation, Histories}
-use Rattle.sc_core.proofs.Steps.{here, on, one_more, passes, after_one}
+use Rattle.sc_core.proofs.Steps.{here, on, passes, after_one}
 use Rattle.sc_core.proofs.Changing.{settled_goes}
 use Rattle.sc_core.proofs.Growing.{Going, leads_then, calls_go}
 use Rattle.sc_core.proofs.Deeper.{ending_world}

@@ -1,5 +1,5 @@
 -- Statements are related, where their parts are.
-use Rattle.std.proofs.Common.{ℕ, ◌+◌, ◌==◌, Bool, true, false, if◌then◌else◌, List, [], ◌∷◌, ◌++◌, drop, replicate, Option, Some, None}
+use Rattle.std.proofs.Common.{ℕ, ◌+◌, ◌==◌, true, List, [], ◌∷◌, ◌++◌, drop, replicate, Option, Some, None}
 use Rattle.sc_base.specs.declared.key.Key.{Key}
 use Rattle.sc_core.specs.declared.expression.CoreExpr.{CoreExpr}
 use Rattle.sc_core.specs.declared.module.Auto.{Auto}
@@ -11,12 +11,12 @@ use Rattle.sc_core.specs.declared.statement.SwitchLabel.{SwitchLabel}
 use Rattle.sc_core.specs.Types.{type_of}
 use Rattle.sc_core.specs.Values.{Value, Byte, scalar_size}
 use Rattle.sc_core.specs.World.{World, Born, pass, Work, Begin, End, Death, Put, OpenBlock, CloseBlock, tick}
-use Rattle.sc_core.specs.Outcomes.{Outcome, Done, Over, and_then, went, unless}
+use Rattle.sc_core.specs.Outcomes.{Outcome, Done, and_then}
 use Rattle.sc_core.specs.Violations.{bits, reach_rule}
-use Rattle.sc_core.specs.Accesses.{tested, set_at, copy_at}
+use Rattle.sc_core.specs.Accesses.{set_at, copy_at}
 use Rattle.sc_core.specs.Versions.{History}
 use Rattle.sc_core.specs.Changes.{born, at_line, reached}
-use Rattle.sc_core.specs.Expressions.{Env, Answer, Plain, Nothing, Eval, Call, valued, base_of, further_of, automatic_in, either}
+use Rattle.sc_core.specs.Expressions.{Env, Answer, Plain, Nothing, Eval, Call, valued, base_of, further_of, automatic_in}
 use Rattle.sc_core.specs.Statements.{Way, Normal, Broke, Continued, Returned, Exec, ended, auto_kind, born_autos, all_dead, block_autos, with_block, after_stmt, stmts_of, block_ended, block_with, block_of, set_bytes, id_of, initial_structure, initial, initials, condition, condition_at, optional, label_next, label_of, body_from, landed, after_switch, after_turn, discarded, discarded_if, first_of, holds, turn_of, returned, stmt_of}
 use Rattle.sc_core.specs.Laws.{Leads}
 use Rattle.sc_core.proofs.Relation.{Relation, Histories}

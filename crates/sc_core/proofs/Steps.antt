@@ -1,9 +1,8 @@
 -- Every step of the meaning is related to itself.
-use Rattle.std.proofs.Common.{◌≡◌, ℕ, zero, suc, ◌+◌, ◌==◌, Bool, true, false, if◌then◌else◌, List, [], ◌∷◌, ◌++◌, Option, Some, None, length, map, refl, sym, ap, ◌∙◌, append_assoc}
-use Rattle.std.proofs.lemmas.List.{append-nil}
+use Rattle.std.proofs.Common.{◌≡◌, Bool, true, false, if◌then◌else◌, List, [], ◌∷◌, ◌++◌, Option, Some, None, refl, sym, ap, ◌∙◌}
 use Rattle.sc_base.specs.declared.report.Rule.{Rule}
-use Rattle.sc_core.specs.World.{World, Item, Event, pass, passed, tick, Work}
-use Rattle.sc_core.specs.Outcomes.{Outcome, Done, Over, Ending, Undefined, BirthLimit, Breach, Step, went, and_then, undefined, unless, world_at}
+use Rattle.sc_core.specs.World.{World, Item, pass, passed}
+use Rattle.sc_core.specs.Outcomes.{Outcome, Done, Undefined, Breach, undefined, unless}
 use Rattle.sc_core.specs.Expressions.{either}
 use Rattle.sc_core.specs.Laws.{Leads}
 use Rattle.sc_core.proofs.Relation.{Relation}

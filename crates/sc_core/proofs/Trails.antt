@@ -1,7 +1,7 @@
 -- The trail tells all that happened, and a run's events are counted.
-use Rattle.std.proofs.Common.{◌≡◌, ℕ, zero, suc, ◌+◌, List, [], ◌∷◌, ◌++◌, length, refl, sym, ap, ◌∙◌, subst, arith, append_assoc, add-one}
+use Rattle.std.proofs.Common.{◌≡◌, ◌+◌, List, [], ◌∷◌, ◌++◌, length, refl, sym, ap, ◌∙◌, subst, arith, append_assoc}
 use Rattle.std.proofs.lemmas.List.{append-nil, length-append}
-use Rattle.sc_core.specs.World.{World, Item, Work, Begin, End, Happens, Birth, Death, Put, Copy, TakeFree, TakeNew, Give, Stack, Read, Seed, Push, Pop, OpenBlock, CloseBlock, Name, Unname, Event, Enter, Leave, At, Out, effect, pass, passed, events, events_of}
+use Rattle.sc_core.specs.World.{World, Item, Work, Begin, End, Happens, Birth, Death, Put, Copy, TakeFree, TakeNew, Give, Stack, Read, Seed, Push, Pop, OpenBlock, CloseBlock, Name, Unname, Enter, Leave, At, Out, effect, pass, passed, events, events_of}
 use Rattle.sc_core.specs.Laws.{Leads}
 
 pub trail-passed : (is : List Item) (w : World) → (passed is w).trail ≡ w.trail ++ is
@@ -59,3 +59,9 @@ leads_count w v l h = subst IsCounted (sym l.1) (passed_counts l.0 w h)
 -- the events of a world begin those of every later one
 pub leads_events : (w v : World) (l : Leads w v) → events v.trail ≡ events w.trail ++ events l.0
 leads_events w v l = ap (λ u. events u.trail) l.1 ∙ ap events (trail-passed l.0 w) ∙ events-append w.trail l.0
+
+-- a run is made of what its trail tells
+pub told : (w v : World) → Leads w v → w.trail ≡ [] → v ≡ passed v.trail w
+told w v l e =
+    let t : v.trail ≡ l.0 = ap (λ u. u.trail) l.1 ∙ trail-passed l.0 w ∙ ap (λ is. is ++ l.0) e in
+    l.1 ∙ ap (λ is. passed is w) (sym t)

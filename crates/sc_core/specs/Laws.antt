@@ -1,15 +1,24 @@
 -- What holds of every run.
-use Rattle.std.specs.Prelude.{◌≡◌, ◌⊎◌, ℕ, ◌+◌, ◌<◌, ◌≤◌, nat_le, Bool, true, false, if◌then◌else◌, List, [], ◌∷◌, take, Some, None}
+use Rattle.std.specs.Prelude.{◌≡◌, ℕ, nat_le, false, if◌then◌else◌, List, [], ◌∷◌, Some}
 use Rattle.sc_core.specs.World.{World, Item, Object, object_at, passed}
 use Rattle.sc_core.specs.Outcomes.{Outcome, Done, Over, Ending, Undefined, Exit, StackFull, BirthLimit, OutOfFuel, world_at, world_after}
-use Rattle.sc_core.specs.Versions.{Version, History}
-use Rattle.sc_core.specs.Behaviour.{Start, ending}
+use Rattle.sc_core.specs.Versions.{History}
+use Rattle.sc_core.specs.Behaviour.{Start}
 
 -- things happen, one after another, and then the world is the other
 abbrev pub Leads : World → World → Type 0
 Leads w v = (is : List Item) × (v ≡ passed is w)
 
--- a deeper run is the same, or goes on from where the bound was used up
+-- a part with a greater bound gives the same, or goes on from where the smaller bound was used up
+abbrev pub Extends : {A : Type 0} → Outcome A → Outcome A → Type 0
+Extends (Done a w) s = s ≡ Done a w
+Extends (Over (Undefined b w)) s = s ≡ Over (Undefined b w)
+Extends (Over (Exit n w)) s = s ≡ Over (Exit n w)
+Extends (Over (StackFull key w)) s = s ≡ Over (StackFull key w)
+Extends (Over (BirthLimit w)) s = s ≡ Over (BirthLimit w)
+Extends (Over (OutOfFuel w)) s = Leads w (world_after s)
+
+-- the same of a whole run
 abbrev pub EndsAs : Ending → Ending → Type 0
 EndsAs (Undefined b w) f = f ≡ Undefined b w
 EndsAs (Exit status w) f = f ≡ Exit status w

@@ -17,3 +17,4 @@ pub mod Functions
 pub mod Calls
 pub mod Behaviour
 pub mod Laws
+pub mod Integers
