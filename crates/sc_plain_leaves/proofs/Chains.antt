@@ -17,4 +17,4 @@ over out f (stop.Exit n) w h = ap (λ o. and_then o f) h
 over out f (stop.StackFull k) w h = ap (λ o. and_then o f) h
 over out f stop.BirthLimit w h = ap (λ o. and_then o f) h
 over out f stop.OutOfFuel w h = ap (λ o. and_then o f) h
-over out f stop.Beyond w (n, (hist, (env, (e, (go, (left, same)))))) = (n, (hist, (env, (e, ((λ a v. and_then (go a v) f), (left, ap (λ o. and_then o f) same ∙ chain _ go f))))))
+over out f stop.Beyond w (n, hist, env, e, go, left, same) = (n, hist, env, e, (λ a v. and_then (go a v) f), left, ap (λ o. and_then o f) same ∙ chain _ go f)

@@ -31,7 +31,11 @@ pub fn is_pointer_type(t: &CType) -> bool
 {
     match t {
         CType::Pointer(_, _) => true,
-        CType::Int(_, _) | CType::Void(_) | CType::Array(_, _) | CType::Struct(_, _) | CType::Function(_) => false,
+        CType::Int(_, _)
+        | CType::Void(_)
+        | CType::Array(_, _)
+        | CType::Struct(_, _)
+        | CType::Function(_) => false,
     }
 }
 
@@ -41,7 +45,11 @@ pub fn int_of(t: &CType) -> Int
 {
     match t {
         CType::Int(i, _) => *i,
-        CType::Pointer(_, _) | CType::Void(_) | CType::Array(_, _) | CType::Struct(_, _) | CType::Function(_) => Int::UInt,
+        CType::Pointer(_, _)
+        | CType::Void(_)
+        | CType::Array(_, _)
+        | CType::Struct(_, _)
+        | CType::Function(_) => Int::UInt,
     }
 }
 
@@ -63,7 +71,9 @@ pub fn number_of_cells(cells: &[Cell]) -> Result<u32, NoMemory>
         [] => Ok(0),
         [c, rest @ ..] => {
             let high = number_of_cells(rest)?;
-            let Some(high) = high.checked_mul(256) else { return Err(NoMemory) };
+            let Some(high) = high.checked_mul(256) else {
+                return Err(NoMemory)
+            };
             sum(byte_of(c), high)
         }
     }
@@ -94,7 +104,11 @@ pub fn converted_value(i: Int, v: Value) -> Value
 pub fn as_type(t: &CType, v: Value) -> Value
     ensures { result ≡ spec.as_type t.now v }
 {
-    if is_pointer_type(t) { v } else { converted_value(int_of(t), v) }
+    if is_pointer_type(t) {
+        v
+    } else {
+        converted_value(int_of(t), v)
+    }
 }
 
 /// The value of a scalar type that stands `further` bytes from where `p` points (3.2.2.1).
@@ -171,7 +185,13 @@ pub fn set_at(p: &Value, further: u32, n: u32, v: &Value, world: &mut World) -> 
 /// # Errors
 ///
 /// The rule that the store breaks.
-pub fn stored(t: &CType, p: &Value, further: u32, v: Value, world: &mut World) -> Result<Value, Stop>
+pub fn stored(
+    t: &CType,
+    p: &Value,
+    further: u32,
+    v: Value,
+    world: &mut World,
+) -> Result<Value, Stop>
     ensures { Gives (spec.stored t.now p.now further v world.old) result world.new }
 {
     let n = scalar_size(t);
@@ -195,8 +215,13 @@ pub fn copy_at(
     ensures { IfOk result (λ _. world.new ≡ spec.copy_at to.now further from.now beyond n world.old) }
 {
     match (&to.shape, &from.shape) {
-        (Shape::Pointer(o, at), Shape::Pointer(p, off)) =>
-            world.copy(*o, sum(*at, further)?, *p, sum(*off, beyond)?, n),
+        (Shape::Pointer(o, at), Shape::Pointer(p, off)) => world.copy(
+            *o,
+            sum(*at, further)?,
+            *p,
+            sum(*off, beyond)?,
+            n,
+        ),
         _ => Ok(()),
     }
 }

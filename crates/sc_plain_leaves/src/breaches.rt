@@ -4,8 +4,8 @@ ghost use Rattle.sc_core.specs.Outcomes as spec;
 ghost use Rattle.sc_core.specs.Values as value;
 
 use crate::stop::Breach;
-use sc_plain_world::{Shape, Value, World};
 use sc_base::{Duplicate, Form, Int, Key, NoMemory, Op, Rule};
+use sc_plain_world::{Shape, Value, World};
 use std::alloc::Global;
 
 // The line that an interpreted call has.
@@ -32,7 +32,9 @@ pub fn line_of(world: &World) -> u32
 pub fn sum(a: u32, b: u32) -> Result<u32, NoMemory>
     ensures { IfOk result (λ n. n ≡ a + b) }
 {
-    let Some(n) = a.checked_add(b) else { return Err(NoMemory) };
+    let Some(n) = a.checked_add(b) else {
+        return Err(NoMemory)
+    };
     Ok(n)
 }
 
@@ -52,7 +54,9 @@ pub fn moved(p: &Value, k: u32, alloc: Global) -> Result<Value, NoMemory>
 pub fn breach(rule: Rule, world: &World) -> Result<Breach, NoMemory>
     ensures { IfOk result (λ b. b ≡ spec.breach rule world.now) }
 {
-    let Some(frame) = world.innermost() else { return Err(NoMemory) };
+    let Some(frame) = world.innermost() else {
+        return Err(NoMemory)
+    };
     Ok(Breach {
         rule,
         op: Op::Truth,
@@ -70,7 +74,13 @@ pub fn breach(rule: Rule, world: &World) -> Result<Breach, NoMemory>
 }
 
 /// A breach at an access of n bytes.
-pub fn access_breach(p: &Value, further: u32, n: u32, world: &World, rule: Rule) -> Result<Breach, NoMemory>
+pub fn access_breach(
+    p: &Value,
+    further: u32,
+    n: u32,
+    world: &World,
+    rule: Rule,
+) -> Result<Breach, NoMemory>
     ensures { IfOk result (λ b. b ≡ spec.access_breach p.now further n world.now rule) }
 {
     let mut told = breach(rule, world)?;

@@ -10,8 +10,7 @@ use crate::accesses::{int_of, is_pointer_type};
 use crate::breaches::operand_breach;
 use crate::stop::{Breach, Stop};
 use crate::violations::{
-    bits, equality_rule, is_pointer, offset_of, order_rule, place_of,
-    shift_rule, truth_rule,
+    bits, equality_rule, is_pointer, offset_of, order_rule, place_of, shift_rule, truth_rule,
 };
 use sc_base::{Duplicate, Int, NoMemory, Op, Rule};
 use sc_ops::arith;
@@ -89,7 +88,9 @@ pub fn number_of(i: Int, v: u32) -> i64
 fn negative(n: i64) -> Result<i64, NoMemory>
     ensures { IfOk result (λ m. m ≡ neg_ℤ n) }
 {
-    let Some(m) = n.checked_neg() else { return Err(NoMemory) };
+    let Some(m) = n.checked_neg() else {
+        return Err(NoMemory)
+    };
     Ok(m)
 }
 
@@ -100,8 +101,25 @@ pub fn steps_of(op: Op, i: Int, x: &Value) -> Result<i64, NoMemory>
     let n = number_of(i, bits(x));
     match op {
         Op::Sub | Op::Dec => negative(n),
-        Op::Add | Op::Mul | Op::Div | Op::Rem | Op::Shl | Op::Shr | Op::And | Op::Or | Op::Xor | Op::Lt
-        | Op::Gt | Op::Le | Op::Ge | Op::Eq | Op::Ne | Op::Neg | Op::Not | Op::Truth | Op::Inc => Ok(n),
+        Op::Add
+        | Op::Mul
+        | Op::Div
+        | Op::Rem
+        | Op::Shl
+        | Op::Shr
+        | Op::And
+        | Op::Or
+        | Op::Xor
+        | Op::Lt
+        | Op::Gt
+        | Op::Le
+        | Op::Ge
+        | Op::Eq
+        | Op::Ne
+        | Op::Neg
+        | Op::Not
+        | Op::Truth
+        | Op::Inc => Ok(n),
     }
 }
 
@@ -183,8 +201,25 @@ fn is_equality(op: Op) -> bool
 {
     match op {
         Op::Eq | Op::Ne => true,
-        Op::Add | Op::Sub | Op::Mul | Op::Div | Op::Rem | Op::Shl | Op::Shr | Op::And | Op::Or | Op::Xor
-        | Op::Lt | Op::Gt | Op::Le | Op::Ge | Op::Neg | Op::Not | Op::Truth | Op::Inc | Op::Dec => false,
+        Op::Add
+        | Op::Sub
+        | Op::Mul
+        | Op::Div
+        | Op::Rem
+        | Op::Shl
+        | Op::Shr
+        | Op::And
+        | Op::Or
+        | Op::Xor
+        | Op::Lt
+        | Op::Gt
+        | Op::Le
+        | Op::Ge
+        | Op::Neg
+        | Op::Not
+        | Op::Truth
+        | Op::Inc
+        | Op::Dec => false,
     }
 }
 
@@ -208,8 +243,21 @@ fn pointer_test(op: Op, p: &Value, q: &Value) -> bool
         Op::Gt => offset_of(q) < offset_of(p),
         Op::Le => offset_of(p) <= offset_of(q),
         Op::Ge => offset_of(q) <= offset_of(p),
-        Op::Add | Op::Sub | Op::Mul | Op::Div | Op::Rem | Op::Shl | Op::Shr | Op::And | Op::Or | Op::Xor
-        | Op::Neg | Op::Not | Op::Truth | Op::Inc | Op::Dec => false,
+        Op::Add
+        | Op::Sub
+        | Op::Mul
+        | Op::Div
+        | Op::Rem
+        | Op::Shl
+        | Op::Shr
+        | Op::And
+        | Op::Or
+        | Op::Xor
+        | Op::Neg
+        | Op::Not
+        | Op::Truth
+        | Op::Inc
+        | Op::Dec => false,
     }
 }
 
@@ -254,7 +302,15 @@ pub fn tested(t: &CType, v: &Value, world: &World) -> Result<bool, Stop>
     ensures { Gives (spec.tested t.now v.now world.now) result world.now }
 {
     if let Some(rule) = truth_rule(world.objects(), is_pointer_type(t), v) {
-        let told = operand_breach(Op::Truth, promoted(int_of(t)), v, Int::Int, &Value::null(), world, rule)?;
+        let told = operand_breach(
+            Op::Truth,
+            promoted(int_of(t)),
+            v,
+            Int::Int,
+            &Value::null(),
+            world,
+            rule,
+        )?;
         return Err(Stop::Undefined(told));
     }
     Ok(is_true(v))

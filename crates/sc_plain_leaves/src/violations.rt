@@ -4,8 +4,8 @@ ghost use Rattle.sc_core.specs.Values as value;
 ghost use Rattle.sc_core.specs.Violations as spec;
 ghost use Rattle.std.specs.List.{list_all};
 
-use sc_plain_world::{Cell, Content, Object, Shape, Value, cells_at, object_at};
 use sc_base::{Kind, NoMemory, Rule};
+use sc_plain_world::{Cell, Content, Object, Shape, Value, cells_at, object_at};
 
 /// The offset of a pointer, 0 for what is none.
 pub fn offset_of(p: &Value) -> u32
@@ -364,7 +364,14 @@ pub fn leaves_object(objects: &[Object], p: &Value, n: i64, at: i64, size: u32) 
 }
 
 /// The rule that p + n breaks, where the integer has the value x.
-pub fn shift_rule(objects: &[Object], p: &Value, x: &Value, n: i64, at: i64, size: u32) -> Option<Rule>
+pub fn shift_rule(
+    objects: &[Object],
+    p: &Value,
+    x: &Value,
+    n: i64,
+    at: i64,
+    size: u32,
+) -> Option<Rule>
     requires { at ≡ spec.target p.now n size }
     ensures { result ≡ spec.shift_rule objects.now p.now x.now n size }
 {
