@@ -1,5 +1,5 @@
 -- An end of a part is the end of what goes on from it.
-use Rattle.std.proofs.Common.{◌≡◌, refl, ap, sym, ◌∙◌}
+use Rattle.std.proofs.Common.{◌≡◌, refl, ap, ◌∙◌}
 use Rattle.sc_core.specs.World.{World}
 use Rattle.sc_core.specs.Outcomes.{Outcome, Done, Over, and_then}
 use Rattle.sc_plain_leaves.specs.declared.stop.Stop.{Stop}
