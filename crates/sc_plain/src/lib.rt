@@ -1,17 +1,12 @@
-//! A plain program that computes the meaning of C on the typed tree, as it is defined. It may be slow.
+//! What an expression of the plain program gives, the expressions that have no part, and the theorem that an expression means
+//! what its parts say, one after the other.
 #![tactic(auto)]
 
 mod answer;
-mod first;
-mod meaning;
 mod names;
-mod second;
 
-pub use answer::{Answer, Held, Next};
-pub use meaning::eval;
-pub use names::{Env, Text};
+pub use answer::{Answer, Held, Next, at_place, finished, plain, used};
+pub use names::{Env, Text, automatic_in, leaf, undefined_name};
 
 #[cfg(test)]
 mod tests;
-#[cfg(test)]
-mod trees;

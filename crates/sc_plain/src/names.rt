@@ -1,5 +1,5 @@
 // What the names of a running call stand for (ANSI 3.1.2.4, 3.3.1).
-ghost use Rattle.std.specs.Prelude.{◌≡◌, slice_index, slice_get, IfOk, MatchOption, None, Some};
+ghost use Rattle.std.specs.Prelude.{◌≡◌, slice_index, slice_get, IfOk, Some};
 ghost use Rattle.sc_core.specs.World.{named_in};
 ghost use Rattle.sc_program.specs.declared.storage.StaticId.TheVariants as id;
 ghost use Rattle.sc_core.specs.Expressions as spec;
@@ -26,8 +26,15 @@ pub struct Text {
 
 impl Model for Text {
     ghost use Rattle.sc_core.specs.Versions as versions;
+    ghost use Rattle.std.specs.Coded.{codes};
+    ghost use Rattle.sc_types.specs.contracts.ctype.CType as ctype;
+    ghost use Rattle.sc_types.specs.contracts.ctype.Signature as signature;
+    ghost use Rattle.sc_core.specs.contracts.expression.CoreExpr as expression;
+    ghost use Rattle.sc_core.specs.contracts.statement.CoreStmt as statement;
 
     ghost Value = { versions.Text };
+
+    ghost coded = { Prim.hlevel (codes, ctype.the_row.coded, signature.the_row.coded, expression.the_row.coded, statement.the_row.coded) };
 
     ghost view = { λ t. record { number = t.number; core = t.core; form = t.form } };
 }
@@ -42,8 +49,15 @@ pub struct Env<'a> {
 
 impl<'a> Model for Env<'a> {
     ghost use Rattle.sc_core.specs.Expressions as spec;
+    ghost use Rattle.std.specs.Coded.{codes};
+    ghost use Rattle.sc_types.specs.contracts.ctype.CType as ctype;
+    ghost use Rattle.sc_types.specs.contracts.ctype.Signature as signature;
+    ghost use Rattle.sc_core.specs.contracts.expression.CoreExpr as expression;
+    ghost use Rattle.sc_core.specs.contracts.statement.CoreStmt as statement;
 
     ghost Value = { spec.Env };
+
+    ghost coded = { Prim.hlevel (codes, ctype.the_row.coded, signature.the_row.coded, expression.the_row.coded, statement.the_row.coded) };
 
     ghost view = { λ e. record { text = e.text.now; fun = e.fun.now; blocks = e.blocks.now } };
 }
@@ -105,23 +119,24 @@ fn literal_at(o: Option<u32>) -> Value
     }
 }
 
-// A literal.
-fn literal_of(t: &Text, bytes: Option<&Bytes>, world: &World) -> Result<Value, NoMemory>
-    ensures { MatchOption bytes (IfOk result (λ v. v ≡ spec.literal_of t.now None world.now)) (λ bytes. IfOk result (λ v. v ≡ spec.literal_of t.now (Some bytes.now) world.now)) }
+// A literal with these bytes.
+fn literal_of(t: &Text, bytes: &Bytes, world: &World) -> Result<Value, NoMemory>
+    ensures { IfOk result (λ v. v ≡ spec.literal_of t.now (Some bytes.now) world.now) }
 {
-    let Some(bytes) = bytes else {
-        return Ok(Value::null())
-    };
     let alloc = world.alloc();
     let id = StaticId::Literal(t.core.get().name.copy(alloc)?, bytes.copy(alloc)?);
     Ok(literal_at(world.named(&id)))
 }
 
+// A literal by its place among the module's; one that the module does not have is null.
 fn literal_place(t: &Text, i: u32, world: &mut World) -> Result<Answer, Stop>
     ensures { Gives (spec.at_place (spec.literal_of t.now (slice_get t.now.core.literals i) world.old) world.old) result world.new }
 {
-    let found = t.core.get().literals.as_slice().get(i as usize);
-    let v = literal_of(t, found, world)?;
+    let literals = t.core.get().literals.as_slice();
+    let Some(bytes) = literals.get(i as usize) else {
+        return at_place(Value::null(), world)
+    };
+    let v = literal_of(t, bytes, world)?;
     at_place(v, world)
 }
 
