@@ -129,7 +129,7 @@ fn turned(state: State) -> Turn
 
 /// One token, where this many brackets are open before it.
 #[tactic(auto, using(crate::proofs::Turns::turn_ok, crate::proofs::Turns::turn_err, crate::proofs::Turns::turn_deep))]
-fn turn(
+fn one_token(
     alloc: Global,
     names: &mut TypeNames,
     symbol: &Symbol,
@@ -174,7 +174,7 @@ fn reading(
     let mut taken = 0;
     let mut left = symbols;
     'reading: while let Some((symbol, rest)) = left.split_first() {
-        match turn(alloc, names, symbol, &mut frames, state, depth, last, taken)? {
+        match one_token(alloc, names, symbol, &mut frames, state, depth, last, taken)? {
             Turn::Done(x) => {
                 return Ok(Found {
                     tree: x.tree,
