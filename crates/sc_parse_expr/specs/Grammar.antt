@@ -1,30 +1,33 @@
--- The grammar of expressions and type names: which tokens are which tree.
-use Rattle.std.specs.Prelude.{◌≡◌, ℕ, suc, ◌≤◌, Bool, true, false, List, [], ◌∷◌, ◌++◌, Option, Some, None, map}
+-- The grammar of expressions, type names, specifiers and declarators: which tokens are which tree.
+use Rattle.std.specs.Prelude.{◌≡◌, ℕ, suc, ◌≤◌, max, Bool, true, false, not, List, [], ◌∷◌, ◌++◌, length, Option, Some, None}
 use Rattle.std.specs.Str.{bytes_eq}
-use Rattle.std.specs.List.{list_any}
 use Rattle.sc_tree.specs.declared.operator.Unary.{Unary}
 use Rattle.sc_tree.specs.declared.operator.Postfix.{Postfix}
 use Rattle.sc_tree.specs.declared.operator.Binary.{Binary}
 use Rattle.sc_tree.specs.declared.expression.Constant.{Constant}
+use Rattle.sc_tree.specs.declared.expression.Storage.{Storage}
 use Rattle.sc_tree.specs.declared.expression.Expr.{Expr}
-use Rattle.sc_tree.specs.declared.expression.Expr.TheVariants as e
 use Rattle.sc_tree.specs.declared.expression.TypeWord.{TypeWord}
 use Rattle.sc_tree.specs.declared.expression.TypeWord.TheVariants as word
 use Rattle.sc_tree.specs.declared.expression.Specifiers.{Specifiers}
+use Rattle.sc_tree.specs.declared.expression.Enumerator.{Enumerator}
 use Rattle.sc_tree.specs.declared.expression.Derivation.{Derivation}
-use Rattle.sc_tree.specs.declared.expression.Derivation.TheVariants as d
-use Rattle.sc_tree.specs.declared.expression.Declarator.{Declarator, roll-Declarator}
-use Rattle.sc_tree.specs.declared.expression.TypeName.{TypeName, roll-TypeName}
-use Rattle.sc_parse_expr.specs.declared.kind.Symbol.{Symbol}
-use Rattle.sc_parse_expr.specs.declared.kind.Kind.TheVariants as k
-use Rattle.sc_parse_expr.specs.Kinds.{unary_of, operand_of, postfix_of, binary_of, level_of, assign_of, word_of}
-
--- The names of types that are visible: those whose innermost declaration in scope is a typedef.
-abbrev pub Names : Type 0
-Names = List (List ℕ)
-
-abbrev pub is_type : Names → List ℕ → Bool
-is_type names name = list_any (λ n. bytes_eq n name) names
+use Rattle.sc_tree.specs.declared.expression.Derivation.TheVariants as step
+use Rattle.sc_tree.specs.declared.expression.Declarator.{Declarator}
+use Rattle.sc_tree.specs.declared.expression.TypeName.{TypeName}
+use Rattle.sc_tree.specs.declared.expression.Member.{Member}
+use Rattle.sc_tree.specs.declared.expression.Parameter.{Parameter}
+use Rattle.sc_symbol.specs.declared.kind.Symbol.{Symbol}
+use Rattle.sc_symbol.specs.declared.kind.Kind.{Kind}
+use Rattle.sc_symbol.specs.declared.kind.Kind.TheVariants as k
+use Rattle.sc_symbol.specs.Names.{Scope, Names, is_type, declare, enter, leave, innermost}
+use Rattle.sc_parse_expr.specs.declared.operand.Operand.{Operand}
+use Rattle.sc_parse_expr.specs.declared.operand.Direct.{Direct}
+use Rattle.sc_parse_expr.specs.declared.operand.Mode.{Mode}
+use Rattle.sc_parse_expr.specs.declared.operand.Mode.TheVariants as mode
+use Rattle.sc_parse_expr.specs.Kinds.{unary_of, operand_of, postfix_of, binary_of, level_of, assign_of, word_of, begins_parameters}
+use Rattle.sc_parse_expr.specs.Nodes.{offsetof_name, name_node, constant_node, text_node, paren_node, offset_node, index_node, call_node, member_node, arrow_node, postfix_node, unary_node, size_node, size_type_node, cast_node, binary_node, conditional_node, assign_node, comma_node}
+use Rattle.sc_parse_expr.specs.Types.{has_words, no_words, with_word, with_const, with_storage, identifier_at, no_direct, named_direct, with_step, pointed, declarator_of, type_of, member_of, parameter_of, item_of, declare_plain}
 
 -- Strings side by side are one, which is nothing where an escape is above 255.
 abbrev pub text_with : Option (List ℕ) → Bool → List ℕ → Option (List ℕ)
@@ -32,120 +35,217 @@ text_with None fits more = None
 text_with (Some bytes) false more = None
 text_with (Some bytes) true more = Some (bytes ++ more)
 
-abbrev pub has_words : List TypeWord → Bool
-has_words [] = false
-has_words (w ∷ ws) = true
-
-abbrev pub no_words : ℕ → Specifiers TypeWord
-no_words l = record { line = l; storage = None; constant = false; words = [] }
-
-abbrev pub with_word : Specifiers TypeWord → TypeWord → Specifiers TypeWord
-with_word s w = record s { words = s.words ++ w ∷ [] }
-
-abbrev pub with_const : Specifiers TypeWord → Specifiers TypeWord
-with_const s = record s { constant = true }
-
--- an abstract declarator
-abbrev pub abstract_of : ℕ → List Derivation → Declarator
-abstract_of l steps = roll-Declarator (record { line = l; identifier = None; derivations = steps })
-
-abbrev pub type_of : Specifiers TypeWord → Option Declarator → TypeName
-type_of s declarator = roll-TypeName (record { line = s.line; specifiers = s; declarator = declarator })
-
--- The type under pointers: the last star stands nearest to the name.
-abbrev pub pointer_to : Specifiers TypeWord → ℕ → Bool → List Bool → TypeName
-pointer_to s l c cs = type_of s (Some (abstract_of l (map d.Pointer (c ∷ cs))))
-
--- These tokens are the specifiers, the first of them on line l.
-pub data Specified (names : Names) (l : ℕ) : List Symbol → Specifiers TypeWord → Type 0 where
-  none : Specified names l [] (no_words l)
-  simple : {ts : List Symbol} {s : Specifiers TypeWord} {w : TypeWord} (t : Symbol) →
-      Specified names l ts s → word_of t.kind ≡ Some w → Specified names l (ts ++ t ∷ []) (with_word s w)
-  const : {ts : List Symbol} {s : Specifiers TypeWord} (t : Symbol) →
-      Specified names l ts s → t.kind ≡ k.Const → Specified names l (ts ++ t ∷ []) (with_const s)
-  typedef : {ts : List Symbol} {s : Specifiers TypeWord} (t : Symbol) →
-      Specified names l ts s → has_words s.words ≡ false → t.kind ≡ k.Name → is_type names t.text ≡ true →
-      Specified names l (ts ++ t ∷ []) (with_word s (word.Typedef t.line t.text))
-  struct_tag : {ts : List Symbol} {s : Specifiers TypeWord} (t u : Symbol) →
-      Specified names l ts s → t.kind ≡ k.Struct → u.kind ≡ k.Name →
-      Specified names l (ts ++ t ∷ u ∷ []) (with_word s (word.StructTag t.line u.text))
-  enum_tag : {ts : List Symbol} {s : Specifiers TypeWord} (t u : Symbol) →
-      Specified names l ts s → t.kind ≡ k.Enum → u.kind ≡ k.Name →
-      Specified names l (ts ++ t ∷ u ∷ []) (with_word s (word.EnumTag t.line u.text))
-
--- These tokens are stars: whether the last one is const, and the same of the earlier ones from the last back. The first is on line l.
-pub data Pointed (l : ℕ) : List Symbol → Bool → List Bool → Type 0 where
-  a_star : (t : Symbol) → t.kind ≡ k.Star → t.line ≡ l → Pointed l (t ∷ []) false []
-  more_star : {ts : List Symbol} {c : Bool} {cs : List Bool} (t : Symbol) → Pointed l ts c cs → t.kind ≡ k.Star → Pointed l (ts ++ t ∷ []) false (c ∷ cs)
-  const_star : {ts : List Symbol} {c : Bool} {cs : List Bool} (t : Symbol) → Pointed l ts c cs → t.kind ≡ k.Const → Pointed l (ts ++ t ∷ []) true cs
-
--- the line of the first token
-abbrev pub starts_at : ℕ → List Symbol → Type 0
-starts_at l [] = ⊥
-starts_at l (t ∷ ts) = t.line ≡ l
-
--- The tokens are a type name.
-pub data TypeTokens (names : Names) : List Symbol → TypeName → Type 0 where
-  plain : {l : ℕ} {ts : List Symbol} {s : Specifiers TypeWord} →
-      Specified names l ts s → starts_at l ts → has_words s.words ≡ true → TypeTokens names ts (type_of s None)
-  pointer : {l m : ℕ} {ts us : List Symbol} {s : Specifiers TypeWord} {c : Bool} {cs : List Bool} →
-      Specified names l ts s → starts_at l ts → has_words s.words ≡ true → Pointed m us c cs →
-      TypeTokens names (ts ++ us) (pointer_to s m c cs)
-
 -- The tokens are strings side by side, the first on line l.
 pub data Strings : ℕ → List Symbol → Option (List ℕ) → Type 0 where
   a_text : {fits : Bool} (t : Symbol) → t.kind ≡ k.Text fits → Strings t.line (t ∷ []) (text_with (Some []) fits t.text)
   more_text : {l : ℕ} {ts : List Symbol} {text : Option (List ℕ)} {fits : Bool} (t : Symbol) →
       Strings l ts text → t.kind ≡ k.Text fits → Strings l (ts ++ t ∷ []) (text_with text fits t.text)
 
--- The levels: comma 1, assignment 2, conditional 3, binary 4 to 13, cast 14, unary 15, postfix 16, primary 17.
-mutual
-  -- The tokens are the expression, by a production of this level, the first of them on line l.
-  pub data Phrase (names : Names) : ℕ → ℕ → List Symbol → Expr → Type 0 where
-    name : (t : Symbol) → t.kind ≡ k.Name → is_type names t.text ≡ false → Phrase names t.line 17 (t ∷ []) (e.Name t.line t.text)
-    constant : {value : Option Constant} (t : Symbol) → t.kind ≡ k.Constant value → Phrase names t.line 17 (t ∷ []) (e.Constant t.line value)
-    string : {l : ℕ} {ts : List Symbol} {text : Option (List ℕ)} → Strings l ts text → Phrase names l 17 ts (e.String l text)
-    paren : {l m : ℕ} {ts : List Symbol} {x : Expr} (left right : Symbol) →
-        left.kind ≡ k.LeftParen → Phrase names l m ts x → right.kind ≡ k.RightParen → Phrase names left.line 17 (left ∷ ts ++ right ∷ []) x
-    index : {l m h n : ℕ} {xs ys : List Symbol} {a b : Expr} (left right : Symbol) →
-        Phrase names l m xs a → 16 ≤ m → left.kind ≡ k.LeftBracket → Phrase names h n ys b → right.kind ≡ k.RightBracket →
-        Phrase names l 16 (xs ++ left ∷ ys ++ right ∷ []) (e.Index l a b)
-    call : {l m : ℕ} {xs ys : List Symbol} {a : Expr} {args : List Expr} (left right : Symbol) →
-        Phrase names l m xs a → 16 ≤ m → left.kind ≡ k.LeftParen → Arguments names ys args → right.kind ≡ k.RightParen →
-        Phrase names l 16 (xs ++ left ∷ ys ++ right ∷ []) (e.Call l a args)
-    call_none : {l m : ℕ} {xs : List Symbol} {a : Expr} (left right : Symbol) →
-        Phrase names l m xs a → 16 ≤ m → left.kind ≡ k.LeftParen → right.kind ≡ k.RightParen →
-        Phrase names l 16 (xs ++ left ∷ right ∷ []) (e.Call l a [])
-    member : {l m : ℕ} {xs : List Symbol} {a : Expr} (dot t : Symbol) →
-        Phrase names l m xs a → 16 ≤ m → dot.kind ≡ k.Dot → t.kind ≡ k.Name → Phrase names l 16 (xs ++ dot ∷ t ∷ []) (e.Member l a t.text)
-    arrow : {l m : ℕ} {xs : List Symbol} {a : Expr} (dot t : Symbol) →
-        Phrase names l m xs a → 16 ≤ m → dot.kind ≡ k.Arrow → t.kind ≡ k.Name → Phrase names l 16 (xs ++ dot ∷ t ∷ []) (e.Arrow l a t.text)
-    postfix : {l m : ℕ} {xs : List Symbol} {a : Expr} {op : Postfix} (t : Symbol) →
-        Phrase names l m xs a → 16 ≤ m → postfix_of t.kind ≡ Some op → Phrase names l 16 (xs ++ t ∷ []) (e.Postfix l op a)
-    unary : {l m : ℕ} {xs : List Symbol} {a : Expr} {op : Unary} (t : Symbol) →
-        unary_of t.kind ≡ Some op → Phrase names l m xs a → operand_of op ≤ m → Phrase names t.line 15 (t ∷ xs) (e.Unary t.line op a)
-    size_of : {l m : ℕ} {xs : List Symbol} {a : Expr} (t : Symbol) →
-        t.kind ≡ k.Sizeof → Phrase names l m xs a → 15 ≤ m → Phrase names t.line 15 (t ∷ xs) (e.SizeOf t.line a)
-    size_of_type : {ts : List Symbol} {type : TypeName} (t left right : Symbol) →
-        t.kind ≡ k.Sizeof → left.kind ≡ k.LeftParen → TypeTokens names ts type → right.kind ≡ k.RightParen →
-        Phrase names t.line 15 (t ∷ left ∷ ts ++ right ∷ []) (e.SizeOfType t.line type)
-    cast : {l m : ℕ} {ts xs : List Symbol} {type : TypeName} {a : Expr} (left right : Symbol) →
-        left.kind ≡ k.LeftParen → TypeTokens names ts type → right.kind ≡ k.RightParen → Phrase names l m xs a → 14 ≤ m →
-        Phrase names left.line 14 (left ∷ ts ++ right ∷ xs) (e.Cast left.line type a)
-    binary : {l m h n : ℕ} {xs ys : List Symbol} {a b : Expr} {op : Binary} (t : Symbol) →
-        Phrase names l m xs a → level_of op ≤ m → binary_of t.kind ≡ Some op → Phrase names h n ys b → suc (level_of op) ≤ n →
-        Phrase names l (level_of op) (xs ++ t ∷ ys) (e.Binary l op a b)
-    conditional : {l m h i j n : ℕ} {xs ys zs : List Symbol} {a b c : Expr} (question colon : Symbol) →
-        Phrase names l m xs a → 4 ≤ m → question.kind ≡ k.Question → Phrase names h i ys b → colon.kind ≡ k.Colon → Phrase names j n zs c → 3 ≤ n →
-        Phrase names l 3 (xs ++ question ∷ ys ++ colon ∷ zs) (e.Conditional l a b c)
-    assign : {l m h n : ℕ} {xs ys : List Symbol} {a b : Expr} {op : Option Binary} (t : Symbol) →
-        Phrase names l m xs a → 15 ≤ m → assign_of t.kind ≡ Some op → Phrase names h n ys b → 2 ≤ n →
-        Phrase names l 2 (xs ++ t ∷ ys) (e.Assign l op a b)
-    comma : {l m h n : ℕ} {xs ys : List Symbol} {a b : Expr} (t : Symbol) →
-        Phrase names l m xs a → t.kind ≡ k.Comma → Phrase names h n ys b → 2 ≤ n → Phrase names l 1 (xs ++ t ∷ ys) (e.Comma l a b)
+-- The tokens are stars, the first on line l: whether each is const, from the last.
+pub data Stars : ℕ → List Symbol → List Bool → Type 0 where
+  a_star : (t : Symbol) → t.kind ≡ k.Star → Stars t.line (t ∷ []) (false ∷ [])
+  more_star : {l : ℕ} {ts : List Symbol} {cs : List Bool} (t : Symbol) → Stars l ts cs → t.kind ≡ k.Star → Stars l (ts ++ t ∷ []) (false ∷ cs)
+  const_star : {l : ℕ} {ts : List Symbol} {c : Bool} {cs : List Bool} (t : Symbol) → Stars l ts (c ∷ cs) → t.kind ≡ k.Const → Stars l (ts ++ t ∷ []) (true ∷ cs)
 
-  -- The tokens are these arguments, at least one.
-  pub data Arguments (names : Names) : List Symbol → List Expr → Type 0 where
-    first : {l m : ℕ} {xs : List Symbol} {a : Expr} → Phrase names l m xs a → 2 ≤ m → Arguments names xs (a ∷ [])
-    more : {l m : ℕ} {xs ys : List Symbol} {b : Expr} {args : List Expr} (t : Symbol) →
-        Arguments names xs args → t.kind ≡ k.Comma → Phrase names l m ys b → 2 ≤ m → Arguments names (xs ++ t ∷ ys) (args ++ b ∷ [])
+-- The tokens are a tag, or none.
+pub data Tag : List Symbol → Option (List ℕ) → Type 0 where
+  no_tag : Tag [] None
+  a_tag : (t : Symbol) → t.kind ≡ k.Name → Tag (t ∷ []) (Some t.text)
+
+-- The tokens are a comma, or none.
+pub data Trailing : List Symbol → Type 0 where
+  no_comma : Trailing []
+  a_comma : (t : Symbol) → t.kind ≡ k.Comma → Trailing (t ∷ [])
+
+-- the line of the first token
+abbrev pub starts_at : ℕ → List Symbol → Type 0
+starts_at l [] = ⊥
+starts_at l (t ∷ ts) = t.line ≡ l
+
+-- The limit is kept, where limits are asked for.
+abbrev pub Keeps : Bool → ℕ → ℕ → Type 0
+Keeps w n most = w ≡ true → n ≤ most
+
+abbrev pub is_named : Mode → Bool
+is_named mode.Named = true
+is_named mode.Abstract = false
+is_named mode.Either = false
+
+abbrev pub is_abstract : Mode → Bool
+is_abstract mode.Named = false
+is_abstract mode.Abstract = true
+is_abstract mode.Either = false
+
+-- Whether `(` before these tokens, where a declarator's name or nothing was read, is a mere parenthesis: else parameters begin.
+abbrev pub is_group : Mode → Names → List Symbol → Bool
+is_group mode.Named names ts = true
+is_group m names [] = false
+is_group m names (t ∷ ts) = not (begins_parameters (is_type names t.text) t.kind)
+
+-- `void` alone
+abbrev pub is_void : Kind → Bool
+is_void k.Void = true
+is_void _ = false
+
+abbrev pub void_alone : List Symbol → Bool
+void_alone (t ∷ []) = is_void t.kind
+void_alone _ = false
+
+-- In each relation `w` says whether the limits are kept, `b` are the names of types in scope before the tokens, and `c`, `d`, `e` behind them.
+mutual
+  -- The tokens are the expression, by a production of its level: comma 1, assignment 2, conditional 3, binary 4 to 13, cast 14, unary 15, postfix 16, primary 17 and 18.
+  pub data Phrase (w : Bool) : Names → Names → List Symbol → Operand → Type 0 where
+    name : {b : Names} (t : Symbol) → t.kind ≡ k.Name → is_type b t.text ≡ false → Phrase w b b (t ∷ []) (name_node t)
+    constant : {b : Names} {value : Option Constant} (t : Symbol) → t.kind ≡ k.Constant value → Phrase w b b (t ∷ []) (constant_node t.line value)
+    string : {b : Names} {l : ℕ} {ts : List Symbol} {text : Option (List ℕ)} → Strings l ts text → Phrase w b b ts (text_node l text)
+    paren : {b c : Names} {ts : List Symbol} {x : Operand} (left right : Symbol) →
+        left.kind ≡ k.LeftParen → Phrase w b c ts x → right.kind ≡ k.RightParen → Phrase w b c (left ∷ ts ++ right ∷ []) (paren_node left.line x)
+    offset_of : {b c : Names} {ts : List Symbol} {type : TypeName} (t left comma_sign member_name right : Symbol) →
+        t.kind ≡ k.Name → is_type b t.text ≡ false → bytes_eq t.text offsetof_name ≡ true → left.kind ≡ k.LeftParen → TypeTokens w b c ts type →
+        comma_sign.kind ≡ k.Comma → member_name.kind ≡ k.Name → right.kind ≡ k.RightParen →
+        Phrase w b c (t ∷ left ∷ ts ++ comma_sign ∷ member_name ∷ right ∷ []) (offset_node t.line type member_name.text)
+    index : {b c d : Names} {xs ys : List Symbol} {a x : Operand} (left right : Symbol) →
+        Phrase w b c xs a → 16 ≤ a.level → left.kind ≡ k.LeftBracket → Phrase w c d ys x → right.kind ≡ k.RightBracket →
+        Phrase w b d (xs ++ left ∷ ys ++ right ∷ []) (index_node a x)
+    call : {b c d : Names} {xs ys : List Symbol} {a : Operand} {args : List Expr} {n : ℕ} (left right : Symbol) →
+        Phrase w b c xs a → 16 ≤ a.level → left.kind ≡ k.LeftParen → Arguments w c d ys args n → right.kind ≡ k.RightParen →
+        Phrase w b d (xs ++ left ∷ ys ++ right ∷ []) (call_node a args n)
+    call_none : {b c : Names} {xs : List Symbol} {a : Operand} (left right : Symbol) →
+        Phrase w b c xs a → 16 ≤ a.level → left.kind ≡ k.LeftParen → right.kind ≡ k.RightParen → Phrase w b c (xs ++ left ∷ right ∷ []) (call_node a [] 0)
+    member : {b c : Names} {xs : List Symbol} {a : Operand} (dot t : Symbol) →
+        Phrase w b c xs a → 16 ≤ a.level → dot.kind ≡ k.Dot → t.kind ≡ k.Name → Phrase w b c (xs ++ dot ∷ t ∷ []) (member_node a t.text)
+    arrow : {b c : Names} {xs : List Symbol} {a : Operand} (dot t : Symbol) →
+        Phrase w b c xs a → 16 ≤ a.level → dot.kind ≡ k.Arrow → t.kind ≡ k.Name → Phrase w b c (xs ++ dot ∷ t ∷ []) (arrow_node a t.text)
+    postfix : {b c : Names} {xs : List Symbol} {a : Operand} {op : Postfix} (t : Symbol) →
+        Phrase w b c xs a → 16 ≤ a.level → postfix_of t.kind ≡ Some op → Phrase w b c (xs ++ t ∷ []) (postfix_node a op)
+    unary : {b c : Names} {xs : List Symbol} {x : Operand} {op : Unary} (t : Symbol) →
+        unary_of t.kind ≡ Some op → Phrase w b c xs x → operand_of op ≤ x.level → Phrase w b c (t ∷ xs) (unary_node t.line op x)
+    size_of : {b c : Names} {xs : List Symbol} {x : Operand} (t : Symbol) →
+        t.kind ≡ k.Sizeof → Phrase w b c xs x → 15 ≤ x.level → Phrase w b c (t ∷ xs) (size_node t.line x)
+    size_of_type : {b c : Names} {ts : List Symbol} {type : TypeName} (t left right : Symbol) →
+        t.kind ≡ k.Sizeof → left.kind ≡ k.LeftParen → TypeTokens w b c ts type → right.kind ≡ k.RightParen →
+        Phrase w b c (t ∷ left ∷ ts ++ right ∷ []) (size_type_node t.line type)
+    cast : {b c d : Names} {ts xs : List Symbol} {type : TypeName} {x : Operand} (left right : Symbol) →
+        left.kind ≡ k.LeftParen → TypeTokens w b c ts type → right.kind ≡ k.RightParen → Phrase w c d xs x → 14 ≤ x.level →
+        Phrase w b d (left ∷ ts ++ right ∷ xs) (cast_node left.line type x)
+    binary : {b c d : Names} {xs ys : List Symbol} {a x : Operand} {op : Binary} (t : Symbol) →
+        Phrase w b c xs a → level_of op ≤ a.level → binary_of t.kind ≡ Some op → Phrase w c d ys x → suc (level_of op) ≤ x.level →
+        Phrase w b d (xs ++ t ∷ ys) (binary_node a op x)
+    conditional : {b c d e : Names} {xs ys zs : List Symbol} {a x y : Operand} (question colon : Symbol) →
+        Phrase w b c xs a → 4 ≤ a.level → question.kind ≡ k.Question → Phrase w c d ys x → colon.kind ≡ k.Colon → Phrase w d e zs y → 3 ≤ y.level →
+        Phrase w b e (xs ++ question ∷ ys ++ colon ∷ zs) (conditional_node a x y)
+    assign : {b c d : Names} {xs ys : List Symbol} {a x : Operand} {op : Option Binary} (t : Symbol) →
+        Phrase w b c xs a → 15 ≤ a.level → assign_of t.kind ≡ Some op → Phrase w c d ys x → 2 ≤ x.level → Phrase w b d (xs ++ t ∷ ys) (assign_node a op x)
+    comma : {b c d : Names} {xs ys : List Symbol} {a x : Operand} (t : Symbol) →
+        Phrase w b c xs a → t.kind ≡ k.Comma → Phrase w c d ys x → 2 ≤ x.level → Phrase w b d (xs ++ t ∷ ys) (comma_node a x)
+
+  -- The tokens are these arguments, at least one, the highest of them this high.
+  pub data Arguments (w : Bool) : Names → Names → List Symbol → List Expr → ℕ → Type 0 where
+    first : {b c : Names} {xs : List Symbol} {x : Operand} → Phrase w b c xs x → 2 ≤ x.level → Arguments w b c xs (x.tree ∷ []) (max 0 x.height)
+    more : {b c d : Names} {xs ys : List Symbol} {x : Operand} {args : List Expr} {n : ℕ} (t : Symbol) →
+        Arguments w b c xs args n → t.kind ≡ k.Comma → Phrase w c d ys x → 2 ≤ x.level → Keeps w (length args) 30 →
+        Arguments w b d (xs ++ t ∷ ys) (args ++ x.tree ∷ []) (max n x.height)
+
+  -- The tokens are the specifiers, the first of them on line l; `storage` says whether a storage class may stand among them.
+  pub data Specified (w : Bool) : Bool → Names → Names → ℕ → List Symbol → Specifiers TypeWord → Type 0 where
+    none : {storage : Bool} {b : Names} {l : ℕ} → Specified w storage b b l [] (no_words l)
+    simple : {storage : Bool} {b c : Names} {l : ℕ} {ts : List Symbol} {v : Specifiers TypeWord} {u : TypeWord} (t : Symbol) →
+        Specified w storage b c l ts v → word_of t.kind ≡ Some u → Specified w storage b c l (ts ++ t ∷ []) (with_word v u)
+    const : {storage : Bool} {b c : Names} {l : ℕ} {ts : List Symbol} {v : Specifiers TypeWord} (t : Symbol) →
+        Specified w storage b c l ts v → t.kind ≡ k.Const → Specified w storage b c l (ts ++ t ∷ []) (with_const v)
+    stored : {storage : Bool} {b c : Names} {l : ℕ} {ts : List Symbol} {v : Specifiers TypeWord} {class : Storage} (t : Symbol) →
+        Specified w storage b c l ts v → storage ≡ true → v.storage ≡ None → t.kind ≡ k.Storage class → Specified w storage b c l (ts ++ t ∷ []) (with_storage v class)
+    typedef : {storage : Bool} {b c : Names} {l : ℕ} {ts : List Symbol} {v : Specifiers TypeWord} (t : Symbol) →
+        Specified w storage b c l ts v → has_words v.words ≡ false → t.kind ≡ k.Name → is_type c t.text ≡ true →
+        Specified w storage b c l (ts ++ t ∷ []) (with_word v (word.Typedef t.line t.text))
+    struct_tag : {storage : Bool} {b c : Names} {l : ℕ} {ts : List Symbol} {v : Specifiers TypeWord} (t u : Symbol) →
+        Specified w storage b c l ts v → t.kind ≡ k.Struct → u.kind ≡ k.Name → Specified w storage b c l (ts ++ t ∷ u ∷ []) (with_word v (word.StructTag t.line u.text))
+    enum_tag : {storage : Bool} {b c : Names} {l : ℕ} {ts : List Symbol} {v : Specifiers TypeWord} (t u : Symbol) →
+        Specified w storage b c l ts v → t.kind ≡ k.Enum → u.kind ≡ k.Name → Specified w storage b c l (ts ++ t ∷ u ∷ []) (with_word v (word.EnumTag t.line u.text))
+    structure : {storage : Bool} {b c d : Names} {l : ℕ} {ts us vs : List Symbol} {v : Specifiers TypeWord} {tag : Option (List ℕ)} {members : List Member} (t left right : Symbol) →
+        Specified w storage b c l ts v → t.kind ≡ k.Struct → Tag us tag → left.kind ≡ k.LeftBrace → Members w c d vs members → right.kind ≡ k.RightBrace →
+        Specified w storage b d l (ts ++ t ∷ us ++ left ∷ vs ++ right ∷ []) (with_word v (word.Struct t.line tag members))
+    enumeration : {storage : Bool} {b c d : Names} {l : ℕ} {ts us vs ws : List Symbol} {v : Specifiers TypeWord} {tag : Option (List ℕ)} {items : List (Enumerator Expr)} (t left right : Symbol) →
+        Specified w storage b c l ts v → t.kind ≡ k.Enum → Tag us tag → left.kind ≡ k.LeftBrace → Items w c d vs items → Trailing ws → right.kind ≡ k.RightBrace →
+        Specified w storage b d l (ts ++ t ∷ us ++ left ∷ vs ++ ws ++ right ∷ []) (with_word v (word.Enum t.line tag items))
+
+  -- The tokens are these members of a structure, at least one.
+  pub data Members (w : Bool) : Names → Names → List Symbol → List Member → Type 0 where
+    one_member : {b c : Names} {ts : List Symbol} {m : Member} → MemberTokens w b c ts m → Members w b c ts (m ∷ [])
+    more_members : {b c d : Names} {ts us : List Symbol} {ms : List Member} {m : Member} → Members w b c ts ms → MemberTokens w c d us m → Members w b d (ts ++ us) (ms ++ m ∷ [])
+
+  pub data MemberTokens (w : Bool) : Names → Names → List Symbol → Member → Type 0 where
+    a_member : {b c d : Names} {l : ℕ} {ts us : List Symbol} {v : Specifiers TypeWord} {ds : List Declarator} (semicolon : Symbol) →
+        Specified w false b c l ts v → starts_at l ts → has_words v.words ≡ true → Declarators w c d us ds → semicolon.kind ≡ k.Semicolon →
+        MemberTokens w b d (ts ++ us ++ semicolon ∷ []) (member_of v ds)
+
+  -- The tokens are these declarators with names, at least one.
+  pub data Declarators (w : Bool) : Names → Names → List Symbol → List Declarator → Type 0 where
+    one_declarator : {b c : Names} {l : ℕ} {ts : List Symbol} {x : Direct} → Level w mode.Named b c l ts x → Declarators w b c ts (declarator_of l x ∷ [])
+    more_declarators : {b c d : Names} {l : ℕ} {ts us : List Symbol} {x : Direct} {ds : List Declarator} (t : Symbol) →
+        Declarators w b c ts ds → t.kind ≡ k.Comma → Level w mode.Named c d l us x → Declarators w b d (ts ++ t ∷ us) (ds ++ declarator_of l x ∷ [])
+
+  -- The tokens are these items of an enumeration, at least one. Each declares its name behind it.
+  pub data Items (w : Bool) : Names → Names → List Symbol → List (Enumerator Expr) → Type 0 where
+    one_item : {b c : Names} {ts : List Symbol} {x : Enumerator Expr} → ItemTokens w b c ts x → Items w b (declare x.name false c) ts (x ∷ [])
+    more_items : {b c d : Names} {ts us : List Symbol} {xs : List (Enumerator Expr)} {x : Enumerator Expr} (t : Symbol) →
+        Items w b c ts xs → t.kind ≡ k.Comma → ItemTokens w c d us x → Items w b (declare x.name false d) (ts ++ t ∷ us) (xs ++ x ∷ [])
+
+  pub data ItemTokens (w : Bool) : Names → Names → List Symbol → Enumerator Expr → Type 0 where
+    bare_item : {b : Names} (t : Symbol) → t.kind ≡ k.Name → ItemTokens w b b (t ∷ []) (item_of (identifier_at t) None)
+    valued_item : {b c : Names} {xs : List Symbol} {x : Operand} (t equals : Symbol) →
+        t.kind ≡ k.Name → equals.kind ≡ k.Assign None → Phrase w b c xs x → 3 ≤ x.level → Keeps w x.height 200 →
+        ItemTokens w b c (t ∷ equals ∷ xs) (item_of (identifier_at t) (Some x.tree))
+
+  -- The tokens are a type name.
+  pub data TypeTokens (w : Bool) : Names → Names → List Symbol → TypeName → Type 0 where
+    plain_type : {b c : Names} {l : ℕ} {ts : List Symbol} {v : Specifiers TypeWord} →
+        Specified w false b c l ts v → starts_at l ts → has_words v.words ≡ true → TypeTokens w b c ts (type_of v None)
+    derived_type : {b c d : Names} {l h : ℕ} {ts us : List Symbol} {v : Specifiers TypeWord} {x : Direct} →
+        Specified w false b c l ts v → starts_at l ts → has_words v.words ≡ true → Level w mode.Abstract c d h us x →
+        TypeTokens w b d (ts ++ us) (type_of v (Some (declarator_of h x)))
+
+  -- The tokens are a declarator, the first of them on line l: stars, and what they stand before.
+  pub data Level (w : Bool) : Mode → Names → Names → ℕ → List Symbol → Direct → Type 0 where
+    direct : {m : Mode} {b c : Names} {l : ℕ} {ts : List Symbol} {x : Direct} → DirectTokens w m b c l ts x → Level w m b c l ts (pointed [] x)
+    pointer : {m : Mode} {b c : Names} {l h : ℕ} {ts us : List Symbol} {cs : List Bool} {x : Direct} →
+        Stars l ts cs → DirectTokens w m b c h us x → Level w m b c l (ts ++ us) (pointed cs x)
+    bare_pointer : {m : Mode} {b : Names} {l : ℕ} {ts : List Symbol} {cs : List Bool} → is_named m ≡ false → Stars l ts cs → Level w m b b l ts (pointed cs no_direct)
+
+  -- The tokens are a declarator without stars before it.
+  pub data DirectTokens (w : Bool) : Mode → Names → Names → ℕ → List Symbol → Direct → Type 0 where
+    named : {m : Mode} {b : Names} (t : Symbol) → is_abstract m ≡ false → t.kind ≡ k.Name → DirectTokens w m b b t.line (t ∷ []) (named_direct t)
+    group : {m : Mode} {b c : Names} {l : ℕ} {ts : List Symbol} {x : Direct} (left right : Symbol) →
+        left.kind ≡ k.LeftParen → is_group m b ts ≡ true → Level w m b c l ts x → right.kind ≡ k.RightParen →
+        DirectTokens w m b c left.line (left ∷ ts ++ right ∷ []) x
+    bare : {m : Mode} {b c : Names} {l : ℕ} {ts : List Symbol} {f : Derivation} {scope : Scope} →
+        is_named m ≡ false → Suffix w b c l ts f scope → DirectTokens w m b c l ts (with_step no_direct f scope)
+    suffix : {m : Mode} {b c d : Names} {l h : ℕ} {ts us : List Symbol} {x : Direct} {f : Derivation} {scope : Scope} →
+        DirectTokens w m b c l ts x → Suffix w c d h us f scope → DirectTokens w m b d l (ts ++ us) (with_step x f scope)
+
+  -- The tokens are brackets or parentheses behind a declarator, the first of them on line l: this step, and the names that parameters declare.
+  pub data Suffix (w : Bool) : Names → Names → ℕ → List Symbol → Derivation → Scope → Type 0 where
+    unsized : {b : Names} (left right : Symbol) → left.kind ≡ k.LeftBracket → right.kind ≡ k.RightBracket → Suffix w b b left.line (left ∷ right ∷ []) (step.Array None) []
+    sized : {b c : Names} {xs : List Symbol} {x : Operand} (left right : Symbol) →
+        left.kind ≡ k.LeftBracket → Phrase w b c xs x → 3 ≤ x.level → Keeps w x.height 200 → right.kind ≡ k.RightBracket →
+        Suffix w b c left.line (left ∷ xs ++ right ∷ []) (step.Array (Some x.tree)) []
+    unprototyped : {b : Names} (left right : Symbol) → left.kind ≡ k.LeftParen → right.kind ≡ k.RightParen → Suffix w b b left.line (left ∷ right ∷ []) step.Function []
+    no_parameters : {b : Names} (left t right : Symbol) →
+        left.kind ≡ k.LeftParen → t.kind ≡ k.Void → right.kind ≡ k.RightParen → Suffix w b b left.line (left ∷ t ∷ right ∷ []) (step.Prototype []) []
+    prototype : {b c : Names} {ts : List Symbol} {ps : List Parameter} (left right : Symbol) →
+        left.kind ≡ k.LeftParen → Parameters w (enter b) c ts ps → void_alone ts ≡ false → right.kind ≡ k.RightParen →
+        Suffix w b (leave c) left.line (left ∷ ts ++ right ∷ []) (step.Prototype ps) (innermost c)
+
+  -- The tokens are these parameters, at least one.
+  pub data Parameters (w : Bool) : Names → Names → List Symbol → List Parameter → Type 0 where
+    one_parameter : {b c : Names} {ts : List Symbol} {p : Parameter} → ParameterTokens w b c ts p → Parameters w b c ts (p ∷ [])
+    more_parameters : {b c d : Names} {ts us : List Symbol} {ps : List Parameter} {p : Parameter} (t : Symbol) →
+        Parameters w b c ts ps → t.kind ≡ k.Comma → ParameterTokens w c d us p → Keeps w (length ps) 30 → Parameters w b d (ts ++ t ∷ us) (ps ++ p ∷ [])
+
+  -- A parameter declares its name behind it.
+  pub data ParameterTokens (w : Bool) : Names → Names → List Symbol → Parameter → Type 0 where
+    unnamed : {b c : Names} {l : ℕ} {ts : List Symbol} {v : Specifiers TypeWord} →
+        Specified w true b c l ts v → starts_at l ts → has_words v.words ≡ true → ParameterTokens w b c ts (parameter_of v None)
+    declared : {b c d : Names} {l h : ℕ} {ts us : List Symbol} {v : Specifiers TypeWord} {x : Direct} →
+        Specified w true b c l ts v → starts_at l ts → has_words v.words ≡ true → Level w mode.Either c d h us x →
+        ParameterTokens w b (declare_plain x.identifier d) (ts ++ us) (parameter_of v (Some (declarator_of h x)))

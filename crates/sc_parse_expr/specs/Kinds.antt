@@ -1,7 +1,7 @@
 -- The classes of tokens.
-use Rattle.std.specs.Prelude.{ℕ, Option, Some, None}
-use Rattle.sc_parse_expr.specs.declared.kind.Kind.{Kind}
-use Rattle.sc_parse_expr.specs.declared.kind.Kind.TheVariants as k
+use Rattle.std.specs.Prelude.{ℕ, Bool, true, false, Option, Some, None}
+use Rattle.sc_symbol.specs.declared.kind.Kind.{Kind}
+use Rattle.sc_symbol.specs.declared.kind.Kind.TheVariants as k
 use Rattle.sc_tree.specs.declared.operator.Unary.{Unary}
 use Rattle.sc_tree.specs.declared.operator.Unary.TheVariants as unary
 use Rattle.sc_tree.specs.declared.operator.Postfix.{Postfix}
@@ -87,7 +87,7 @@ level_at (Some op) = level_of op
 
 -- The level that what stands before the token has at least, so that the token goes on with it; 1 also where it closes a bracket. Nothing goes on with a string.
 abbrev pub power_of : Kind → ℕ
-power_of (k.Text fits) = 18
+power_of (k.Text fits) = 19
 power_of k.LeftBracket = 16
 power_of k.LeftParen = 16
 power_of k.Dot = 16
@@ -97,3 +97,24 @@ power_of k.Decrement = 16
 power_of (k.Assign op) = 14
 power_of k.Question = 4
 power_of kind = level_at (binary_of kind)
+
+-- a token that begins a type name; `typed` says whether a name is that of a type
+abbrev pub begins_type : Bool → Kind → Bool
+begins_type typed k.Name = typed
+begins_type typed k.Void = true
+begins_type typed k.Char = true
+begins_type typed k.Short = true
+begins_type typed k.Int = true
+begins_type typed k.Long = true
+begins_type typed k.Signed = true
+begins_type typed k.Unsigned = true
+begins_type typed k.Const = true
+begins_type typed k.Struct = true
+begins_type typed k.Enum = true
+begins_type typed _ = false
+
+-- a token behind `(` with which parameters begin, or end
+abbrev pub begins_parameters : Bool → Kind → Bool
+begins_parameters typed k.RightParen = true
+begins_parameters typed (k.Storage class) = true
+begins_parameters typed kind = begins_type typed kind

@@ -1,30 +1,55 @@
 // What is open around the place that is read.
 
-use sc_base::{Bytes, Items, Shared, Stack};
-use sc_tree::{Binary, Expr, Specifiers, TypeName, Unary};
+use crate::operand::{Direct, Mode, Operand, Whole};
+use sc_base::{Bytes, Items, Name, Shared, Stack};
+use sc_tree::{
+    Binary, Declarator, Derivation, Enumerator, Expr, Identifier, Member, Parameter, Specifiers,
+    TypeName, Unary,
+};
 
 /// A production that is open, with the line of its first token and the parts that were read.
 #[derive(Drop)]
 pub enum Frame {
-    /// Nothing but an assignment ends at the place below, as for an argument.
-    Only,
+    /// Nothing but an expression of this level at least, which ends at a token that does not go on with it.
+    Only(u8),
+    /// Nothing but the specifiers, or a declarator, of a declaration.
+    Outer,
     Paren(u32),
-    Index(u32, Shared<Expr>),
-    Arguments(u32, Shared<Expr>, Items<Shared<Expr>>),
+    Index(Operand),
+    /// The function, the arguments and the height of the highest.
+    Arguments(Operand, Items<Shared<Expr>>, u8),
     Unary(u32, Unary),
     SizeOf(u32),
     Cast(u32, Shared<TypeName>),
-    Binary(u32, Binary, Shared<Expr>),
+    Binary(Operand, Binary),
     /// Behind `?`.
-    Then(u32, Shared<Expr>),
+    Then(Operand),
     /// Behind `:`.
-    Else(u32, Shared<Expr>, Shared<Expr>),
-    Assign(u32, Option<Binary>, Shared<Expr>),
-    Comma(u32, Shared<Expr>),
+    Else(Operand, Operand),
+    Assign(Operand, Option<Binary>),
+    Comma(Operand),
     /// The type of a cast.
     CastType(u32),
     /// The type that `sizeof` takes.
     SizeType(u32),
+    /// The type that `__offsetof` takes.
+    OffsetType(u32),
+    /// Specifiers whose declarator is read.
+    Specifiers(Specifiers),
+    /// The braces of a structure: the specifiers before it, the line of `struct`, the tag and the members.
+    Struct(Specifiers, u32, Option<Name>, Items<Member>),
+    /// The specifiers of a member, and the declarators so far.
+    Member(Specifiers, Items<Declarator>),
+    /// The braces of an enumeration: the specifiers before it, the line of `enum`, the tag and the items.
+    Enum(Specifiers, u32, Option<Name>, Items<Enumerator>),
+    /// The value of an enumeration constant.
+    Item(Identifier),
+    /// A declarator or one in parentheses: the line of its first token, and its stars from the last, whether each is
+    /// `const`.
+    Level(Mode, u32, Stack<bool>),
+    /// The size of an array.
+    Size(Direct),
+    Parameters(Direct, Items<Parameter>),
 }
 
 /// What was read last.
@@ -38,20 +63,56 @@ pub enum State {
     Sized(u32),
     /// `sizeof (` was read: the lines of both.
     SizedOpened(u32, u32),
-    /// An operand, with the line of its first token and its level.
-    Have(u32, Shared<Expr>, u8),
+    /// An operand.
+    Have(Operand),
     /// Strings that stand side by side.
     Texts(u32, Option<Bytes>),
     /// An operand and `.`.
-    Dot(u32, Shared<Expr>),
+    Dot(Operand),
     /// An operand and `->`.
-    Arrow(u32, Shared<Expr>),
+    Arrow(Operand),
+    /// `__offsetof ( type ,` was read.
+    OffsetComma(u32, Shared<TypeName>),
+    /// The same, and a name.
+    OffsetName(u32, Shared<TypeName>, Name),
+    /// Specifiers are due.
+    Due,
     /// Words of a list of specifiers.
     Words(Specifiers),
-    /// The same, and `struct`, with its line.
+    /// `void` was read where parameters begin.
+    Void(u32),
+    /// Specifiers, and `struct` with its line.
     Struct(Specifiers, u32),
-    /// The same, and `enum`, with its line.
+    /// The same, and a tag.
+    StructTag(Specifiers, u32, Name),
+    /// Specifiers, and `enum` with its line.
     Enum(Specifiers, u32),
-    /// Specifiers, the line of the first `*` behind them, and whether each is `const`: the last one apart.
-    Pointers(Specifiers, u32, Stack<bool>, bool),
+    /// The same, and a tag.
+    EnumTag(Specifiers, u32, Name),
+    /// An item of an enumeration is due.
+    Items,
+    /// The name of an item was read.
+    Item(Identifier),
+    /// A declarator is due.
+    Begin(Mode),
+    /// Stars of a declarator that begins on this line, from the last: whether each is `const`.
+    Stars(Mode, u32, Stack<bool>),
+    /// The same, and `(`.
+    Group(Mode, u32, Stack<bool>),
+    /// The name of a declarator and what it is so far.
+    Direct(Direct),
+    /// The same, and `[`.
+    Bracket(Direct),
+    /// An item ended, and with it maybe the enumeration: its name is to be declared.
+    ItemEnd(Enumerator, bool),
+    /// A parameter ended, and with it maybe the list: its name is to be declared.
+    ParameterEnd(Specifiers, Option<Whole>, bool),
+    /// The parameters ended, and are this step of the declarator.
+    ParametersEnd(Derivation),
+    /// The expression ended before the token.
+    Expression(Operand),
+    /// The specifiers ended before the token.
+    Specified(Specifiers),
+    /// The declarator ended before the token.
+    Declared(Whole),
 }

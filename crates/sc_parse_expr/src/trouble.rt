@@ -2,11 +2,24 @@
 ghost use Rattle.std.specs.Prelude.{◌≡◌};
 
 use sc_base::NoMemory;
+use sc_symbol::Mark;
 
-/// Why a step is not taken: no expression goes on with the token, or no memory was left.
+/// A number of the text that is limited.
+#[derive(Clone, Copy, Debug, PartialEq, Eq)]
+pub enum Limit {
+    /// The height of an expression.
+    Height,
+    /// The arguments or parameters of one list.
+    Arguments,
+}
+
+/// Why a step is not taken: nothing of the grammar goes on with the token, a construct is left out, a number is beyond
+/// its limit, or no memory was left.
 #[derive(Clone, Copy, Debug, PartialEq, Eq)]
 pub enum Trouble {
     Syntax,
+    LeftOut(Mark),
+    Limit(Limit),
     NoMemory,
 }
 

@@ -3,6 +3,30 @@
 use sc_base::Bytes;
 use sc_tree::{Binary, Constant, Storage};
 
+/// A construct of the language that is left out.
+#[derive(Clone, Copy, Debug, PartialEq, Eq)]
+pub enum Mark {
+    /// `float` and `double`.
+    Float,
+    Volatile,
+    Union,
+    Goto,
+    /// `...`.
+    Variadic,
+    /// A second `long`.
+    LongLong,
+    /// `L` before a string or a character.
+    Wide,
+    /// A constant of more than one character.
+    MultiChar,
+    /// The `:` of a member.
+    BitField,
+    /// A list of names as parameters.
+    OldStyle,
+    /// A declaration without a type word.
+    ImplicitInt,
+}
+
 /// What a token is to the grammar (ANSI 3.1).
 #[derive(Clone, Copy, Debug, PartialEq, Eq)]
 pub enum Kind {
@@ -48,8 +72,19 @@ pub enum Kind {
     Unsigned,
     Struct,
     Enum,
-    /// A keyword of statements.
-    Statement,
+    Break,
+    Case,
+    Continue,
+    Default,
+    Do,
+    Else,
+    For,
+    If,
+    Return,
+    Switch,
+    While,
+    /// A token of a construct that is left out.
+    LeftOut(Mark),
     /// Anything else.
     Other,
     /// What stands behind the last token.

@@ -1,4 +1,0 @@
-pub mod Levels
-pub mod Types
-pub mod Complete
-pub mod Closing

@@ -1,0 +1,50 @@
+-- The names of types in scope (ANSI 3.1.2.1, 3.5.6).
+use Rattle.std.specs.Prelude.{ℕ, Bool, true, false, if◌then◌else◌, List, [], ◌∷◌, ◌++◌, Option, Some, None}
+use Rattle.std.specs.Str.{bytes_eq}
+use Rattle.sc_symbol.specs.declared.scopes.Entry.{Entry}
+
+-- the names that one scope declares, in order
+abbrev pub Scope : Type 0
+Scope = List Entry
+
+-- the scopes around a place, the innermost first
+abbrev pub Names : Type 0
+Names = List Scope
+
+abbrev pub entry : List ℕ → Bool → Entry
+entry name typedef = record { name = name; typedef = typedef }
+
+abbrev pub one_of : Option Bool → Option Bool → Option Bool
+one_of (Some b) other = Some b
+one_of None other = other
+
+-- Whether the last declaration of the name in the scope is a typedef; nothing where it has none.
+abbrev pub declared_in : Scope → List ℕ → Option Bool
+declared_in [] name = None
+declared_in (e ∷ es) name = one_of (declared_in es name) (if bytes_eq e.name name then Some e.typedef else None)
+
+abbrev pub unless : Option Bool → Bool → Bool
+unless (Some b) other = b
+unless None other = other
+
+-- Whether the name is that of a type: whether its innermost declaration is a typedef.
+abbrev pub is_type : Names → List ℕ → Bool
+is_type [] name = false
+is_type (scope ∷ scopes) name = unless (declared_in scope name) (is_type scopes name)
+
+-- The name is declared in the innermost scope.
+abbrev pub declare : List ℕ → Bool → Names → Names
+declare name typedef [] = (entry name typedef ∷ []) ∷ []
+declare name typedef (scope ∷ scopes) = (scope ++ entry name typedef ∷ []) ∷ scopes
+
+-- The innermost scope begins and ends.
+abbrev pub enter : Names → Names
+enter names = [] ∷ names
+
+abbrev pub leave : Names → Names
+leave [] = []
+leave (scope ∷ scopes) = scopes
+
+abbrev pub innermost : Names → Scope
+innermost [] = []
+innermost (scope ∷ scopes) = scope

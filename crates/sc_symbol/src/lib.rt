@@ -1,0 +1,8 @@
+//! What a token is to the grammar, and the names of types that are in scope.
+#![tactic(auto)]
+
+mod kind;
+mod scopes;
+
+pub use kind::{Kind, Mark, Symbol};
+pub use scopes::{Entry, TypeNames};

@@ -1,0 +1,69 @@
+// The names of types in scope.
+ghost use Rattle.std.specs.Prelude.{◌≡◌, ◌∷◌, [], IfOk, OnOk, OnErr};
+ghost use Rattle.sc_symbol.specs.Names as spec;
+
+use sc_base::{Bytes, Items, Name, NoMemory};
+use std::alloc::Global;
+use std::marker::Model;
+
+/// A name that a scope declares, and whether a typedef does.
+#[derive(Drop)]
+pub struct Entry {
+    pub name: Name,
+    pub typedef: bool,
+}
+
+/// The scopes around a place, seen as their list with the innermost first (ANSI 3.1.2.1).
+#[derive(Drop)]
+pub struct TypeNames {
+    scopes: Vec<Items<Entry>>,
+}
+
+impl Model for TypeNames {
+    ghost use Rattle.std.specs.Prelude.{List, reverse};
+    ghost use Rattle.sc_symbol.specs.declared.scopes.Entry.{Entry};
+
+    ghost Value = { List (List Entry) };
+
+    ghost view = { λ s. reverse s.scopes.items };
+}
+
+impl TypeNames {
+    /// One empty scope.
+    pub fn new(alloc: Global) -> Result<TypeNames, NoMemory>
+        ensures { IfOk result (λ names. names ≡ [] ∷ []) }
+    {
+        let mut scopes = Vec::new(alloc);
+        scopes.push(Items::new(alloc))?;
+        Ok(TypeNames { scopes })
+    }
+
+    /// Begins a scope. Where memory runs out nothing changes.
+    pub fn push_scope(&mut self, alloc: Global) -> Result<(), NoMemory>
+        ensures ok { OnOk result (self.new ≡ spec.enter self.old) }
+        ensures err { OnErr result (self.new ≡ self.old) }
+    {
+        self.scopes.push(Items::new(alloc))?;
+        Ok(())
+    }
+
+    /// Ends the innermost scope: the names that it declares.
+    pub fn pop_scope(&mut self, alloc: Global) -> Items<Entry>
+        ensures names { self.new ≡ spec.leave self.old }
+        ensures scope { result ≡ spec.innermost self.old }
+    {
+        match self.scopes.pop() {
+            Some(scope) => scope,
+            None => Items::new(alloc),
+        }
+    }
+
+    /// Begins a scope with these names. Where memory runs out nothing changes.
+    pub fn push_names(&mut self, scope: Items<Entry>) -> Result<(), NoMemory>
+        ensures ok { OnOk result (self.new ≡ scope ∷ self.old) }
+        ensures err { OnErr result (self.new ≡ self.old) }
+    {
+        self.scopes.push(scope)?;
+        Ok(())
+    }
+}
