@@ -14,6 +14,25 @@ pub enum Test {
     While,
 }
 
+/// The parts of a statement that stand before the statement that is its last part.
+#[derive(Drop)]
+pub enum Head {
+    /// An `if` and its condition; `else` may follow the statement.
+    Then(u32, Shared<Expr>),
+    /// The same, and what stands before `else`.
+    Else(u32, Shared<Expr>, Shared<Statement>),
+    Switch(u32, Shared<Expr>),
+    While(u32, Shared<Expr>),
+    For(
+        u32,
+        Option<Shared<Expr>>,
+        Option<Shared<Expr>>,
+        Option<Shared<Expr>>,
+    ),
+    Case(u32, Shared<Expr>),
+    Default(u32),
+}
+
 /// A construct that is open, with the line of its first token and the parts that were read. Each statement that is open
 /// is one of these.
 #[derive(Drop)]
@@ -32,12 +51,8 @@ pub enum Around {
     Block(Block),
     /// The controlling expression is read.
     Test(Test, u32),
-    /// The statement that an `if` controls.
-    Then(u32, Shared<Expr>),
-    /// The statement behind `else`.
-    Else(u32, Shared<Expr>, Shared<Statement>),
-    Switch(u32, Shared<Expr>),
-    While(u32, Shared<Expr>),
+    /// The last part of a statement is a statement.
+    Under(Head),
     /// The body of a `do`.
     Do(u32),
     /// Its condition: the body and the line of `while`.
@@ -48,19 +63,8 @@ pub enum Around {
     Second(u32, Option<Shared<Expr>>),
     /// What comes after each turn.
     Third(u32, Option<Shared<Expr>>, Option<Shared<Expr>>),
-    /// The body of a `for`.
-    For(
-        u32,
-        Option<Shared<Expr>>,
-        Option<Shared<Expr>>,
-        Option<Shared<Expr>>,
-    ),
     /// The value of a `case`.
     Value(u32),
-    /// The statement behind `case`.
-    Case(u32, Shared<Expr>),
-    /// The statement behind `default`.
-    Default(u32),
     /// The value of a `return`.
     Return(u32),
     /// A statement that is an expression.
@@ -84,10 +88,8 @@ pub enum Stage {
     Closed(Initializer),
     /// `(` is due.
     LeftParen,
-    /// An expression is due.
+    /// An expression is due; where it may be left out, also the token behind it.
     Need,
-    /// An expression is due, or the token behind it.
-    Part,
     /// `:` is due.
     Colon,
     /// The statement lacks its `;`.

@@ -2,7 +2,12 @@
 #![tactic(auto)]
 
 mod around;
+mod declaring;
+mod expression;
+mod machine;
 mod obstacle;
+mod stating;
 
-pub use around::{Around, Stage, Test};
+pub use around::{Around, Head, Stage, Test};
+pub use machine::advance;
 pub use obstacle::Obstacle;
