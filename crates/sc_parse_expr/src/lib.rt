@@ -1,10 +1,10 @@
-//! The grammar of expressions and type names, and the machine that reads them one token at a time.
+//! The machine that reads expressions, type names, specifiers and declarators, one token at a time.
 #![tactic(auto)]
 
-mod frame;
+mod body;
+mod declarator;
+mod machine;
 mod operand;
-mod trouble;
+mod words;
 
-pub use frame::{Frame, State};
-pub use operand::{Direct, Mode, Operand, Whole};
-pub use trouble::{Limit, Trouble};
+pub use machine::step;

@@ -1,6 +1,9 @@
 -- The names of types in scope (ANSI 3.1.2.1, 3.5.6).
 use Rattle.std.specs.Prelude.{ℕ, Bool, true, false, if◌then◌else◌, List, [], ◌∷◌, ◌++◌, Option, Some, None}
 use Rattle.std.specs.Str.{bytes_eq}
+use Rattle.sc_symbol.specs.declared.kind.Symbol.{Symbol}
+use Rattle.sc_symbol.specs.declared.kind.Kind.{Kind}
+use Rattle.sc_symbol.specs.declared.kind.Kind.TheVariants as k
 use Rattle.sc_symbol.specs.declared.scopes.Entry.{Entry}
 
 -- the names that one scope declares, in order
@@ -14,14 +17,10 @@ Names = List Scope
 abbrev pub entry : List ℕ → Bool → Entry
 entry name typedef = record { name = name; typedef = typedef }
 
-abbrev pub one_of : Option Bool → Option Bool → Option Bool
-one_of (Some b) other = Some b
-one_of None other = other
-
--- Whether the last declaration of the name in the scope is a typedef; nothing where it has none.
-abbrev pub declared_in : Scope → List ℕ → Option Bool
-declared_in [] name = None
-declared_in (e ∷ es) name = one_of (declared_in es name) (if bytes_eq e.name name then Some e.typedef else None)
+-- The last declaration of the name decides, whether it is a typedef; before all of them `found` does.
+abbrev pub declared_after : Option Bool → Scope → List ℕ → Option Bool
+declared_after found [] name = found
+declared_after found (e ∷ es) name = declared_after (if bytes_eq e.name name then Some e.typedef else found) es name
 
 abbrev pub unless : Option Bool → Bool → Bool
 unless (Some b) other = b
@@ -30,7 +29,15 @@ unless None other = other
 -- Whether the name is that of a type: whether its innermost declaration is a typedef.
 abbrev pub is_type : Names → List ℕ → Bool
 is_type [] name = false
-is_type (scope ∷ scopes) name = unless (declared_in scope name) (is_type scopes name)
+is_type (scope ∷ scopes) name = unless (declared_after None scope name) (is_type scopes name)
+
+-- whether the token is the name of a type
+abbrev pub typed_by : Kind → Names → List ℕ → Bool
+typed_by k.Name names text = is_type names text
+typed_by _ names text = false
+
+abbrev pub is_typed : Names → Symbol → Bool
+is_typed names t = typed_by t.kind names t.text
 
 -- The name is declared in the innermost scope.
 abbrev pub declare : List ℕ → Bool → Names → Names

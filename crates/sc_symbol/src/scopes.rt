@@ -1,5 +1,5 @@
 // The names of types in scope.
-ghost use Rattle.std.specs.Prelude.{◌≡◌, ◌∷◌, [], IfOk, OnOk, OnErr};
+ghost use Rattle.std.specs.Prelude.{◌≡◌, ◌∷◌, [], None, reverse, IfOk, OnOk, OnErr};
 ghost use Rattle.sc_symbol.specs.Names as spec;
 
 use sc_base::{Bytes, Items, Name, NoMemory};
@@ -66,4 +66,49 @@ impl TypeNames {
         self.scopes.push(scope)?;
         Ok(())
     }
+
+    /// Declares a name in the innermost scope. Where memory runs out nothing changes.
+    pub fn add(&mut self, alloc: Global, name: Name, typedef: bool) -> Result<(), NoMemory>
+        ensures ok { OnOk result (self.new ≡ spec.declare name typedef self.old) }
+    {
+        let mut scope = self.pop_scope(alloc);
+        scope.push(Entry { name, typedef })?;
+        self.push_names(scope)
+    }
+
+    /// Whether the name is that of a type: whether its innermost declaration is a typedef.
+    pub fn is_type(&self, name: &Bytes) -> bool
+        ensures { result ≡ spec.is_type self.now name.now }
+    {
+        is_type_in(self.scopes.as_slice(), name)
+    }
+}
+
+/// The same, of the scopes from the outermost.
+#[tactic(auto, using(crate::proofs::Reversed::reverse_last))]
+fn is_type_in(scopes: &[Items<Entry>], name: &Bytes) -> bool
+    ensures { result ≡ spec.is_type (reverse scopes.now) name.now }
+{
+    let mut left = scopes;
+    'scopes: while let Some((scope, outer)) = left.split_last() {
+        match declared_in(scope.as_slice(), name) {
+            Some(typedef) => return typedef,
+            None => {}
+        }
+        left = outer;
+    }
+    false
+}
+
+/// Whether the last declaration of the name in the scope is a typedef; nothing where it has none.
+fn declared_in(scope: &[Entry], name: &Bytes) -> Option<bool>
+    ensures { result ≡ spec.declared_after None scope.now name.now }
+{
+    let mut found = None;
+    'entries: for entry in scope {
+        if entry.name.as_slice() == name.as_slice() {
+            found = Some(entry.typedef);
+        }
+    }
+    found
 }

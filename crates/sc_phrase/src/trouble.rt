@@ -24,7 +24,7 @@ pub enum Trouble {
 }
 
 impl From<NoMemory> for Trouble {
-    ghost use Rattle.sc_parse_expr.specs.declared.trouble.Trouble.TheVariants as trouble;
+    ghost use Rattle.sc_phrase.specs.declared.trouble.Trouble.TheVariants as trouble;
 
     ghost from_gives = { λ _ e. e ≡ trouble.NoMemory };
 

@@ -1,5 +1,5 @@
 -- The grammar of expressions, type names, specifiers and declarators: which tokens are which tree.
-use Rattle.std.specs.Prelude.{◌≡◌, ℕ, suc, ◌≤◌, max, Bool, true, false, not, List, [], ◌∷◌, ◌++◌, length, Option, Some, None}
+use Rattle.std.specs.Prelude.{◌≡◌, ℕ, suc, ◌≤◌, max, Bool, true, false, not, ◌&&◌, List, [], ◌∷◌, ◌++◌, length, Option, Some, None}
 use Rattle.std.specs.Str.{bytes_eq}
 use Rattle.sc_tree.specs.declared.operator.Unary.{Unary}
 use Rattle.sc_tree.specs.declared.operator.Postfix.{Postfix}
@@ -20,14 +20,14 @@ use Rattle.sc_tree.specs.declared.expression.Parameter.{Parameter}
 use Rattle.sc_symbol.specs.declared.kind.Symbol.{Symbol}
 use Rattle.sc_symbol.specs.declared.kind.Kind.{Kind}
 use Rattle.sc_symbol.specs.declared.kind.Kind.TheVariants as k
-use Rattle.sc_symbol.specs.Names.{Scope, Names, is_type, declare, enter, leave, innermost}
-use Rattle.sc_parse_expr.specs.declared.operand.Operand.{Operand}
-use Rattle.sc_parse_expr.specs.declared.operand.Direct.{Direct}
-use Rattle.sc_parse_expr.specs.declared.operand.Mode.{Mode}
-use Rattle.sc_parse_expr.specs.declared.operand.Mode.TheVariants as mode
-use Rattle.sc_parse_expr.specs.Kinds.{unary_of, operand_of, postfix_of, binary_of, level_of, assign_of, word_of, begins_parameters}
-use Rattle.sc_parse_expr.specs.Nodes.{offsetof_name, name_node, constant_node, text_node, paren_node, offset_node, index_node, call_node, member_node, arrow_node, postfix_node, unary_node, size_node, size_type_node, cast_node, binary_node, conditional_node, assign_node, comma_node}
-use Rattle.sc_parse_expr.specs.Types.{has_words, no_words, with_word, with_const, with_storage, identifier_at, no_direct, named_direct, with_step, pointed, declarator_of, type_of, member_of, parameter_of, item_of, declare_plain}
+use Rattle.sc_symbol.specs.Names.{Scope, Names, is_type, is_typed, declare, enter, leave, innermost}
+use Rattle.sc_phrase.specs.declared.operand.Operand.{Operand}
+use Rattle.sc_phrase.specs.declared.operand.Direct.{Direct}
+use Rattle.sc_phrase.specs.declared.operand.Mode.{Mode}
+use Rattle.sc_phrase.specs.declared.operand.Mode.TheVariants as mode
+use Rattle.sc_phrase.specs.Kinds.{unary_of, operand_of, postfix_of, binary_of, level_of, assign_of, word_of, begins_parameters}
+use Rattle.sc_phrase.specs.Nodes.{offsetof_name, name_node, constant_node, text_node, paren_node, offset_node, index_node, call_node, member_node, arrow_node, postfix_node, unary_node, size_node, size_type_node, cast_node, binary_node, conditional_node, assign_node, comma_node}
+use Rattle.sc_phrase.specs.Types.{has_words, no_words, with_word, with_const, with_storage, identifier_at, no_direct, named_direct, with_step, pointed, declarator_of, type_of, member_of, parameter_of, item_of, declare_plain}
 
 -- Strings side by side are one, which is nothing where an escape is above 255.
 abbrev pub text_with : Option (List ℕ) → Bool → List ℕ → Option (List ℕ)
@@ -80,15 +80,19 @@ is_abstract mode.Either = false
 abbrev pub is_group : Mode → Names → List Symbol → Bool
 is_group mode.Named names ts = true
 is_group m names [] = false
-is_group m names (t ∷ ts) = not (begins_parameters (is_type names t.text) t.kind)
+is_group m names (t ∷ ts) = not (begins_parameters (is_typed names t) t.kind)
 
--- `void` alone
+-- `void` before `)` is no parameter.
 abbrev pub is_void : Kind → Bool
 is_void k.Void = true
 is_void _ = false
 
+abbrev pub is_right_paren : Kind → Bool
+is_right_paren k.RightParen = true
+is_right_paren _ = false
+
 abbrev pub void_alone : List Symbol → Bool
-void_alone (t ∷ []) = is_void t.kind
+void_alone (t ∷ u ∷ us) = is_void t.kind && is_right_paren u.kind
 void_alone _ = false
 
 -- In each relation `w` says whether the limits are kept, `b` are the names of types in scope before the tokens, and `c`, `d`, `e` behind them.
@@ -233,7 +237,7 @@ mutual
     no_parameters : {b : Names} (left t right : Symbol) →
         left.kind ≡ k.LeftParen → t.kind ≡ k.Void → right.kind ≡ k.RightParen → Suffix w b b left.line (left ∷ t ∷ right ∷ []) (step.Prototype []) []
     prototype : {b c : Names} {ts : List Symbol} {ps : List Parameter} (left right : Symbol) →
-        left.kind ≡ k.LeftParen → Parameters w (enter b) c ts ps → void_alone ts ≡ false → right.kind ≡ k.RightParen →
+        left.kind ≡ k.LeftParen → Parameters w (enter b) c ts ps → void_alone (ts ++ right ∷ []) ≡ false → right.kind ≡ k.RightParen →
         Suffix w b (leave c) left.line (left ∷ ts ++ right ∷ []) (step.Prototype ps) (innermost c)
 
   -- The tokens are these parameters, at least one.

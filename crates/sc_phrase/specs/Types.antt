@@ -14,8 +14,8 @@ use Rattle.sc_tree.specs.declared.expression.Member.{Member, roll-Member}
 use Rattle.sc_tree.specs.declared.expression.Parameter.{Parameter, roll-Parameter}
 use Rattle.sc_symbol.specs.declared.kind.Symbol.{Symbol}
 use Rattle.sc_symbol.specs.Names.{Scope, Names, declare}
-use Rattle.sc_parse_expr.specs.declared.operand.Direct.{Direct}
-use Rattle.sc_parse_expr.specs.declared.operand.Whole.{Whole}
+use Rattle.sc_phrase.specs.declared.operand.Direct.{Direct}
+use Rattle.sc_phrase.specs.declared.operand.Whole.{Whole}
 
 abbrev pub is_empty : {A : Type 0} → List A → Bool
 is_empty [] = true

@@ -113,8 +113,12 @@ begins_type typed k.Struct = true
 begins_type typed k.Enum = true
 begins_type typed _ = false
 
+-- a token that begins specifiers, a storage class among them
+abbrev pub begins_specifiers : Bool → Kind → Bool
+begins_specifiers typed (k.Storage class) = true
+begins_specifiers typed kind = begins_type typed kind
+
 -- a token behind `(` with which parameters begin, or end
 abbrev pub begins_parameters : Bool → Kind → Bool
 begins_parameters typed k.RightParen = true
-begins_parameters typed (k.Storage class) = true
-begins_parameters typed kind = begins_type typed kind
+begins_parameters typed kind = begins_specifiers typed kind

@@ -14,27 +14,28 @@ use Rattle.sc_tree.specs.declared.expression.Derivation.{Derivation}
 use Rattle.sc_tree.specs.declared.expression.Derivation.TheVariants as derived_by
 use Rattle.sc_tree.specs.declared.expression.Declarator.{Declarator}
 use Rattle.sc_tree.specs.declared.expression.TypeName.{TypeName}
+use Rattle.sc_tree.specs.declared.expression.Parameter.{Parameter}
 use Rattle.sc_symbol.specs.declared.kind.Mark.TheVariants as mark
 use Rattle.sc_symbol.specs.declared.kind.Symbol.{Symbol}
 use Rattle.sc_symbol.specs.declared.kind.Kind.{Kind}
 use Rattle.sc_symbol.specs.declared.kind.Kind.TheVariants as k
-use Rattle.sc_symbol.specs.Names.{Names, is_type, declare, enter, leave, innermost}
-use Rattle.sc_parse_expr.specs.declared.operand.Operand.{Operand}
-use Rattle.sc_parse_expr.specs.declared.operand.Direct.{Direct}
-use Rattle.sc_parse_expr.specs.declared.operand.Whole.{Whole}
-use Rattle.sc_parse_expr.specs.declared.operand.Mode.{Mode}
-use Rattle.sc_parse_expr.specs.declared.operand.Mode.TheVariants as mode
-use Rattle.sc_parse_expr.specs.declared.frame.Frame.{Frame}
-use Rattle.sc_parse_expr.specs.declared.frame.Frame.TheVariants as f
-use Rattle.sc_parse_expr.specs.declared.frame.State.{State}
-use Rattle.sc_parse_expr.specs.declared.frame.State.TheVariants as s
-use Rattle.sc_parse_expr.specs.declared.trouble.Trouble.{Trouble}
-use Rattle.sc_parse_expr.specs.declared.trouble.Trouble.TheVariants as no
-use Rattle.sc_parse_expr.specs.declared.trouble.Limit.TheVariants as limit
-use Rattle.sc_parse_expr.specs.Kinds.{unary_of, operand_of, postfix_of, binary_of, level_of, word_of, power_of, begins_type, begins_parameters}
-use Rattle.sc_parse_expr.specs.Nodes.{operand, name_node, constant_node, text_node, paren_node, offset_node, index_node, call_node, member_node, arrow_node, postfix_node, unary_node, size_node, size_type_node, cast_node, binary_node, conditional_node, assign_node, comma_node}
-use Rattle.sc_parse_expr.specs.Types.{is_empty, has_words, no_words, with_word, with_const, with_storage, identifier_at, no_direct, named_direct, with_step, pointed, whole, declarator_of, declarator_in, declare_in, type_of, member_of, parameter_of, item_of}
-use Rattle.sc_parse_expr.specs.Grammar.{text_with, is_named, is_abstract}
+use Rattle.sc_symbol.specs.Names.{Names, is_typed, declare, enter, leave, innermost}
+use Rattle.sc_phrase.specs.declared.operand.Operand.{Operand}
+use Rattle.sc_phrase.specs.declared.operand.Direct.{Direct}
+use Rattle.sc_phrase.specs.declared.operand.Whole.{Whole}
+use Rattle.sc_phrase.specs.declared.operand.Mode.{Mode}
+use Rattle.sc_phrase.specs.declared.operand.Mode.TheVariants as mode
+use Rattle.sc_phrase.specs.declared.frame.Frame.{Frame}
+use Rattle.sc_phrase.specs.declared.frame.Frame.TheVariants as f
+use Rattle.sc_phrase.specs.declared.frame.State.{State}
+use Rattle.sc_phrase.specs.declared.frame.State.TheVariants as s
+use Rattle.sc_phrase.specs.declared.trouble.Trouble.{Trouble}
+use Rattle.sc_phrase.specs.declared.trouble.Trouble.TheVariants as no
+use Rattle.sc_phrase.specs.declared.trouble.Limit.TheVariants as limit
+use Rattle.sc_phrase.specs.Kinds.{unary_of, operand_of, postfix_of, binary_of, level_of, word_of, power_of, begins_type, begins_parameters}
+use Rattle.sc_phrase.specs.Nodes.{operand, name_node, constant_node, text_node, paren_node, offset_node, index_node, call_node, member_node, arrow_node, postfix_node, unary_node, size_node, size_type_node, cast_node, binary_node, conditional_node, assign_node, comma_node}
+use Rattle.sc_phrase.specs.Types.{is_empty, has_words, no_words, with_word, with_const, with_storage, identifier_at, no_direct, named_direct, with_step, pointed, whole, declarator_of, declarator_in, declare_in, type_of, member_of, parameter_of, item_of}
+use Rattle.sc_phrase.specs.Grammar.{text_with, is_named, is_abstract}
 
 -- what is open, and what was read last
 abbrev pub Place : Type 0
@@ -82,6 +83,10 @@ level_in (f.Else a b) = 3
 level_in (f.Assign a op) = 2
 level_in (f.Comma a) = 1
 level_in _ = 0
+
+abbrev pub level_on : List Frame → ℕ
+level_on [] = 0
+level_on (frame ∷ fs) = level_in frame
 
 -- what an operator's frame makes of the operand inside it
 abbrev pub built : Frame → Operand → Operand
@@ -158,11 +163,15 @@ suffixes k.LeftBracket fs d = Ok (fs, s.Bracket d)
 suffixes k.LeftParen fs d = Ok (f.Parameters d [] ∷ fs, s.Due)
 suffixes kind fs d = direct_ends kind fs d
 
--- nothing stands behind the stars
+-- Nothing stands behind the stars, of which there is one at least.
+abbrev pub bare_stars : Kind → List Frame → ℕ → List Bool → Outcome
+bare_stars kind fs l [] = stuck
+bare_stars kind fs l (c ∷ cs) = level_ends kind fs l (pointed (c ∷ cs) no_direct)
+
+-- neither a name nor a parenthesis stands behind the stars
 abbrev pub bare : Kind → List Frame → ℕ → Mode → List Bool → Outcome
 bare k.LeftBracket fs l m cs = Ok (f.Level m l cs ∷ fs, s.Bracket no_direct)
-bare kind fs l m [] = stuck
-bare kind fs l m cs = direct_ends kind (f.Level m l cs ∷ fs) no_direct
+bare kind fs l m cs = bare_stars kind fs l cs
 
 -- a member without a name
 abbrev pub unnamed_member : Kind → List Frame → List Bool → Outcome
@@ -481,9 +490,13 @@ group typed t fs m l cs =
     else in_group t (f.Level m l cs ∷ fs) m t.kind
 
 -- A token that is left out is named where nothing goes on with it.
+abbrev pub mark_of : Kind → Trouble → Trouble
+mark_of (k.LeftOut which) no.Syntax = no.LeftOut which
+mark_of kind trouble = trouble
+
 abbrev pub marked : Kind → Outcome → Outcome
-marked (k.LeftOut which) (Err no.Syntax) = Err (no.LeftOut which)
-marked _ outcome = outcome
+marked kind (Ok p) = Ok p
+marked kind (Err trouble) = Err (mark_of kind trouble)
 
 -- the token in this place; `typed` says whether it is the name of a type
 abbrev pub place : Bool → Symbol → Place → Outcome
@@ -513,41 +526,67 @@ place typed t (fs, s.Direct d) = suffixes t.kind fs d
 place typed t (fs, s.Bracket d) = bracket typed t fs d t.kind
 place _ t _ = stuck
 
--- The names in scope before the token is taken: a list of parameters has a scope of its own.
-abbrev pub entered : Bool → Kind → State → Names → Names
-entered typed k.LeftParen (s.Direct d) names = enter names
-entered typed kind (s.Group m l cs) names = if opens_parameters m typed kind then enter names else names
-entered typed kind _ names = names
+-- Whether a list of parameters begins at the token, which has a scope of its own.
+abbrev pub is_left_paren : Kind → Bool
+is_left_paren k.LeftParen = true
+is_left_paren _ = false
+
+abbrev pub enters : Bool → Kind → State → Bool
+enters typed kind (s.Direct d) = is_left_paren kind
+enters typed kind (s.Group m l cs) = opens_parameters m typed kind
+enters typed kind _ = false
+
+-- the names in scope while the token is taken
+abbrev pub entered : Bool → Names → Names
+entered true names = enter names
+entered false names = names
+
+-- behind an item
+abbrev pub item_behind : List Frame → Specifiers TypeWord → ℕ → Option (List ℕ) → List (Enumerator Expr) → Bool → Outcome
+item_behind fs v l tag xs true = Ok (fs, s.Words (with_word v (word.Enum l tag xs)))
+item_behind fs v l tag xs false = Ok (f.Enum v l tag xs ∷ fs, s.Items)
+
+abbrev pub under : Names → Outcome → Result Config Trouble
+under names (Ok p) = Ok (names, p)
+under names (Err e) = Err e
 
 -- the end of an item: its name is declared
 abbrev pub item_ends : Names → List Frame → Enumerator Expr → Bool → Result Config Trouble
-item_ends names (f.Enum v l tag xs ∷ fs) x true = Ok (declare x.name false names, (fs, s.Words (with_word v (word.Enum l tag (xs ++ x ∷ [])))))
-item_ends names (f.Enum v l tag xs ∷ fs) x false = Ok (declare x.name false names, (f.Enum v l tag (xs ++ x ∷ []) ∷ fs, s.Items))
+item_ends names (f.Enum v l tag xs ∷ fs) x closing = under (declare x.name false names) (item_behind fs v l tag (xs ++ x ∷ []) closing)
 item_ends names _ x closing = Err no.Syntax
 
 -- the end of parameters: their scope is left
 abbrev pub parameters_end : Names → List Frame → Direct → Derivation → Result Config Trouble
 parameters_end names fs d f = Ok (leave names, (fs, s.Direct (with_step d f (innermost names))))
 
+abbrev pub all_parameters_end : Names → List Frame → Derivation → Result Config Trouble
+all_parameters_end names (f.Parameters d ps ∷ fs) step = parameters_end names fs d step
+all_parameters_end names _ step = Err no.Syntax
+
+-- behind a parameter
+abbrev pub parameter_behind : Names → List Frame → Direct → List Parameter → Bool → Result Config Trouble
+parameter_behind names fs d ps true = parameters_end names fs d (derived_by.Prototype ps)
+parameter_behind names fs d ps false = Ok (names, (f.Parameters d ps ∷ fs, s.Due))
+
 -- the end of a parameter: its name is declared
 abbrev pub parameter_ends : Names → List Frame → Specifiers TypeWord → Option Whole → Bool → Result Config Trouble
 parameter_ends names (f.Parameters d ps ∷ fs) v x closing =
-    if nat_lt (length ps) 31
-    then (if closing then parameters_end (declare_in x names) fs d (derived_by.Prototype (ps ++ parameter_of v (declarator_in x) ∷ []))
-        else Ok (declare_in x names, (f.Parameters d (ps ++ parameter_of v (declarator_in x) ∷ []) ∷ fs, s.Due)))
-    else Err (no.Limit limit.Arguments)
+    if nat_lt (length ps) 31 then parameter_behind (declare_in x names) fs d (ps ++ parameter_of v (declarator_in x) ∷ []) closing else Err (no.Limit limit.Arguments)
 parameter_ends names _ v x closing = Err no.Syntax
 
 -- What the token declares or ends comes into effect.
 abbrev pub effect : Names → Place → Result Config Trouble
 effect names (fs, s.ItemEnd x closing) = item_ends names fs x closing
 effect names (fs, s.ParameterEnd v x closing) = parameter_ends names fs v x closing
-effect names (f.Parameters d ps ∷ fs, s.ParametersEnd f) = parameters_end names fs d f
+effect names (fs, s.ParametersEnd step) = all_parameters_end names fs step
 effect names p = Ok (names, p)
+
+abbrev pub step_typed : Bool → Symbol → Config → Result Config Trouble
+step_typed typed t (names, p) = on_ok (effect (entered (enters typed t.kind p.1) names)) (marked t.kind (place typed t p))
 
 -- One token. Where an expression, specifiers or a declarator end before it, the state says so, and the token is not taken.
 abbrev pub step : Symbol → Config → Result Config Trouble
-step t (names, p) = on_ok (effect (entered (is_type names t.text) t.kind p.1 names)) (marked t.kind (place (is_type names t.text) t p))
+step t c = step_typed (is_typed c.0 t) t c
 
 -- the steps for all of the tokens
 abbrev pub run : Config → List Symbol → Result Config Trouble

@@ -9,8 +9,8 @@ use Rattle.sc_tree.specs.declared.expression.Expr.{Expr}
 use Rattle.sc_tree.specs.declared.expression.Expr.TheVariants as e
 use Rattle.sc_tree.specs.declared.expression.TypeName.{TypeName}
 use Rattle.sc_symbol.specs.declared.kind.Symbol.{Symbol}
-use Rattle.sc_parse_expr.specs.declared.operand.Operand.{Operand}
-use Rattle.sc_parse_expr.specs.Kinds.{level_of}
+use Rattle.sc_phrase.specs.declared.operand.Operand.{Operand}
+use Rattle.sc_phrase.specs.Kinds.{level_of}
 
 abbrev pub operand : ℕ → ℕ → ℕ → Expr → Operand
 operand l m n x = record { line = l; level = m; height = n; tree = x }

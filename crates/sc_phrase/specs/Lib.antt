@@ -3,3 +3,4 @@ pub mod Nodes
 pub mod Types
 pub mod Grammar
 pub mod Machine
+pub mod Steps
