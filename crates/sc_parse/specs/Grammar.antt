@@ -15,11 +15,11 @@ use Rattle.sc_tree.specs.declared.statement.External.TheVariants as external
 use Rattle.sc_symbol.specs.declared.kind.Symbol.{Symbol}
 use Rattle.sc_symbol.specs.declared.kind.Kind.TheVariants as k
 use Rattle.sc_symbol.specs.Names.{Names, enter, leave}
-use Rattle.sc_parse_expr.specs.declared.operand.Operand.{Operand}
-use Rattle.sc_parse_expr.specs.declared.operand.Direct.{Direct}
-use Rattle.sc_parse_expr.specs.declared.operand.Mode.TheVariants as mode
-use Rattle.sc_parse_expr.specs.Types.{has_words, declarator_of}
-use Rattle.sc_parse_expr.specs.Grammar.{Phrase, Specified, Level, Trailing, Keeps, starts_at}
+use Rattle.sc_phrase.specs.declared.operand.Operand.{Operand}
+use Rattle.sc_phrase.specs.declared.operand.Direct.{Direct}
+use Rattle.sc_phrase.specs.declared.operand.Mode.TheVariants as mode
+use Rattle.sc_phrase.specs.Types.{has_words, declarator_of}
+use Rattle.sc_phrase.specs.Grammar.{Phrase, Specified, Level, Trailing, Keeps, starts_at}
 use Rattle.sc_parse.specs.Trees.{declare_as, init_declarator, declaration_of, block_of, function_of}
 
 -- In each relation `w` says whether the limits are kept, `b` are the names of types in scope before the tokens, and `c`, `d`, `e`, `f` behind them.

@@ -17,18 +17,18 @@ use Rattle.sc_symbol.specs.declared.kind.Symbol.{Symbol}
 use Rattle.sc_symbol.specs.declared.kind.Kind.{Kind}
 use Rattle.sc_symbol.specs.declared.kind.Kind.TheVariants as k
 use Rattle.sc_symbol.specs.Names.{Names, is_typed, enter, leave}
-use Rattle.sc_parse_expr.specs.declared.operand.Operand.{Operand}
-use Rattle.sc_parse_expr.specs.declared.operand.Whole.{Whole}
-use Rattle.sc_parse_expr.specs.declared.operand.Mode.TheVariants as mode
-use Rattle.sc_parse_expr.specs.declared.frame.Frame.{Frame}
-use Rattle.sc_parse_expr.specs.declared.frame.Frame.TheVariants as f
-use Rattle.sc_parse_expr.specs.declared.frame.State.{State}
-use Rattle.sc_parse_expr.specs.declared.frame.State.TheVariants as e
-use Rattle.sc_parse_expr.specs.declared.trouble.Trouble.{Trouble}
-use Rattle.sc_parse_expr.specs.declared.trouble.Trouble.TheVariants as trouble
-use Rattle.sc_parse_expr.specs.Kinds.{begins_type}
-use Rattle.sc_parse_expr.specs.Types.{is_empty, declarator_of}
-use Rattle.sc_parse_expr.specs.Machine.{Config, step}
+use Rattle.sc_phrase.specs.declared.operand.Operand.{Operand}
+use Rattle.sc_phrase.specs.declared.operand.Whole.{Whole}
+use Rattle.sc_phrase.specs.declared.operand.Mode.TheVariants as mode
+use Rattle.sc_phrase.specs.declared.frame.Frame.{Frame}
+use Rattle.sc_phrase.specs.declared.frame.Frame.TheVariants as f
+use Rattle.sc_phrase.specs.declared.frame.State.{State}
+use Rattle.sc_phrase.specs.declared.frame.State.TheVariants as e
+use Rattle.sc_phrase.specs.declared.trouble.Trouble.{Trouble}
+use Rattle.sc_phrase.specs.declared.trouble.Trouble.TheVariants as trouble
+use Rattle.sc_phrase.specs.Kinds.{begins_type}
+use Rattle.sc_phrase.specs.Types.{is_empty, declarator_of}
+use Rattle.sc_phrase.specs.Machine.{Config, step}
 use Rattle.sc_parse.specs.declared.around.Test.{Test}
 use Rattle.sc_parse.specs.declared.around.Test.TheVariants as test
 use Rattle.sc_parse.specs.declared.around.Head.{Head}

@@ -1,7 +1,7 @@
 -- What a step of the code does, against a step of the machine.
 use Rattle.std.specs.Prelude.{◌≡◌, Bool, false, not, List, ◌∷◌, Result, Ok, Err}
 use Rattle.sc_symbol.specs.Names.{Names}
-use Rattle.sc_parse_expr.specs.declared.trouble.Trouble.TheVariants as trouble
+use Rattle.sc_phrase.specs.declared.trouble.Trouble.TheVariants as trouble
 use Rattle.sc_parse.specs.declared.around.Around.{Around}
 use Rattle.sc_parse.specs.declared.around.Stage.{Stage}
 use Rattle.sc_parse.specs.declared.obstacle.Obstacle.{Obstacle}

@@ -1,7 +1,7 @@
 // What is open around the place that is read, and what was read last.
 
 use sc_base::{Items, Shared, Stack};
-use sc_parse_expr::{Frame, State};
+use sc_phrase::{Frame, State};
 use sc_tree::{
     Block, Declarator, Expr, External, InitDeclarator, Initializer, Specifiers, Statement,
 };

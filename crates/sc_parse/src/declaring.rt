@@ -1,9 +1,9 @@
 // Declarations and initialisers.
 ghost use Rattle.std.specs.Prelude.{◌≡◌, List, [], ◌∷◌, ◌++◌, Some, None, Ok, IfOk, OnOk};
 ghost use Rattle.sc_symbol.specs.Names.{Names};
-ghost use Rattle.sc_parse_expr.specs.Machine as inner;
-ghost use Rattle.sc_parse_expr.specs.Steps.{IsSymbol};
-ghost use Rattle.sc_parse_expr.specs.Types as types;
+ghost use Rattle.sc_phrase.specs.Machine as inner;
+ghost use Rattle.sc_phrase.specs.Steps.{IsSymbol};
+ghost use Rattle.sc_phrase.specs.Types as types;
 ghost use Rattle.sc_parse.specs.Machine as spec;
 ghost use Rattle.sc_parse.specs.Trees as trees;
 ghost use Rattle.sc_parse.specs.Steps.{Goes};
@@ -11,7 +11,8 @@ ghost use Rattle.sc_parse.specs.Steps.{Goes};
 use crate::around::{Around, Stage};
 use crate::obstacle::Obstacle;
 use sc_base::{Duplicate, Items, NoMemory, Stack};
-use sc_parse_expr::{Direct, Frame, Mode, State, Trouble, Whole, step};
+use sc_parse_expr::step;
+use sc_phrase::{Direct, Frame, Mode, State, Trouble, Whole};
 use sc_symbol::{Entry, Kind, Symbol, TypeNames};
 use sc_tree::{
     Block, Declaration, Declarator, External, Identifier, InitDeclarator, Initializer, Specifiers,

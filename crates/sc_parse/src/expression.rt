@@ -1,8 +1,8 @@
 // Expressions of statements and initialisers.
 ghost use Rattle.std.specs.Prelude.{◌≡◌, List, [], ◌∷◌, Some, None, Ok};
 ghost use Rattle.sc_symbol.specs.Names.{Names};
-ghost use Rattle.sc_parse_expr.specs.Machine as inner;
-ghost use Rattle.sc_parse_expr.specs.Steps.{IsSymbol};
+ghost use Rattle.sc_phrase.specs.Machine as inner;
+ghost use Rattle.sc_phrase.specs.Steps.{IsSymbol};
 ghost use Rattle.sc_parse.specs.Machine as spec;
 ghost use Rattle.sc_parse.specs.Steps.{Goes};
 
@@ -10,7 +10,8 @@ use crate::around::{Around, Head, Stage, Test};
 use crate::declaring::{STUCK, framed, initial_joins, initialized_ends, kept, list_ends};
 use crate::obstacle::Obstacle;
 use sc_base::{Items, Shared, Stack};
-use sc_parse_expr::{Frame, Operand, State, step};
+use sc_parse_expr::step;
+use sc_phrase::{Frame, Operand, State};
 use sc_symbol::{Kind, Symbol, TypeNames};
 use sc_tree::{Expr, Initializer, Statement};
 use std::alloc::Global;

@@ -7,7 +7,9 @@ mod expression;
 mod machine;
 mod obstacle;
 mod stating;
+mod whole;
 
 pub use around::{Around, Head, Stage, Test};
 pub use machine::advance;
 pub use obstacle::Obstacle;
+pub use whole::{parse, unit};

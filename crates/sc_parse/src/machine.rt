@@ -1,7 +1,7 @@
 // The machine that reads a unit, one token at a time.
 ghost use Rattle.std.specs.Prelude.{◌≡◌, List, Ok};
 ghost use Rattle.sc_symbol.specs.Names.{Names};
-ghost use Rattle.sc_parse_expr.specs.Steps.{IsSymbol};
+ghost use Rattle.sc_phrase.specs.Steps.{IsSymbol};
 ghost use Rattle.sc_parse.specs.Machine as spec;
 ghost use Rattle.sc_parse.specs.Steps.{Goes};
 
@@ -13,7 +13,7 @@ use crate::expression::{
 use crate::obstacle::Obstacle;
 use crate::stating::{due, got};
 use sc_base::Stack;
-use sc_parse_expr::Trouble;
+use sc_phrase::Trouble;
 use sc_symbol::{Kind, Symbol, TypeNames};
 use std::alloc::Global;
 

@@ -2,7 +2,7 @@
 ghost use Rattle.std.specs.Prelude.{◌≡◌};
 
 use sc_base::NoMemory;
-use sc_parse_expr::Trouble;
+use sc_phrase::Trouble;
 
 /// Why a token is not taken: as in an expression, or since blocks or statements would stand too deep inside each other.
 #[derive(Clone, Copy, Debug, PartialEq, Eq)]
@@ -13,7 +13,7 @@ pub enum Obstacle {
 
 impl From<NoMemory> for Obstacle {
     ghost use Rattle.sc_parse.specs.declared.obstacle.Obstacle.TheVariants as obstacle;
-    ghost use Rattle.sc_parse_expr.specs.declared.trouble.Trouble.TheVariants as trouble;
+    ghost use Rattle.sc_phrase.specs.declared.trouble.Trouble.TheVariants as trouble;
 
     ghost from_gives = { λ _ e. e ≡ obstacle.Inner trouble.NoMemory };
 

@@ -1,7 +1,7 @@
 // Statements.
 ghost use Rattle.std.specs.Prelude.{◌≡◌, List, [], ◌∷◌, ◌++◌, Some, None, Ok, IfOk, MatchOption, false, not};
 ghost use Rattle.sc_symbol.specs.Names.{Names};
-ghost use Rattle.sc_parse_expr.specs.Steps.{IsSymbol};
+ghost use Rattle.sc_phrase.specs.Steps.{IsSymbol};
 ghost use Rattle.sc_parse.specs.Machine as spec;
 ghost use Rattle.sc_parse.specs.Trees as trees;
 ghost use Rattle.sc_parse.specs.Steps.{Goes, ends_on as ends_before};
