@@ -1,6 +1,7 @@
 -- The machine reads each expression, type name, list of specifiers and declarator of the grammar.
 use Rattle.std.proofs.Common.{◌≡◌, ℕ, suc, ◌≤◌, ◌<◌, Bool, true, false, not, List, [], ◌∷◌, ◌++◌, length, Option, Some, None, Ok, refl, sym, ◌∙◌, ap, subst, arith, append_assoc, ◌⊎◌, inl, inr}
-use Rattle.std.specs.Prelude.{nat_lt, nat_le, max, ◌&&◌}
+use Rattle.std.specs.Prelude.{nat_lt, nat_le, max, ◌&&◌, cond, if◌then◌else◌, Err}
+use Rattle.std.specs.Str.{bytes_eq}
 use Rattle.std.proofs.lemmas.Bool.Decides.{nat_tests}
 use Rattle.std.proofs.lemmas.Bool.{le-leb}
 use Rattle.sc_tree.specs.declared.operator.Binary.{Binary}
@@ -19,7 +20,7 @@ use Rattle.sc_tree.specs.declared.expression.Parameter.{Parameter}
 use Rattle.sc_symbol.specs.declared.kind.Symbol.{Symbol}
 use Rattle.sc_symbol.specs.declared.kind.Kind.{Kind}
 use Rattle.sc_symbol.specs.declared.kind.Kind.TheVariants as k
-use Rattle.sc_symbol.specs.Names.{Scope, Names, is_type, is_typed, declare, enter, leave, innermost}
+use Rattle.sc_symbol.specs.Names.{Scope, Names, is_type, is_typed, typed_by, declare, enter, leave, innermost}
 use Rattle.sc_phrase.specs.declared.operand.Operand.{Operand}
 use Rattle.sc_phrase.specs.declared.operand.Direct.{Direct}
 use Rattle.sc_phrase.specs.declared.operand.Whole.{Whole}
@@ -27,18 +28,20 @@ use Rattle.sc_phrase.specs.declared.operand.Mode.{Mode}
 use Rattle.sc_phrase.specs.declared.operand.Mode.TheVariants as mode
 use Rattle.sc_phrase.specs.declared.frame.Frame.{Frame}
 use Rattle.sc_phrase.specs.declared.frame.Frame.TheVariants as f
+use Rattle.sc_phrase.specs.declared.frame.State.{State}
 use Rattle.sc_phrase.specs.declared.frame.State.TheVariants as s
-use Rattle.sc_phrase.specs.Kinds.{level_of, power_of, begins_type, begins_specifiers, begins_parameters}
-use Rattle.sc_phrase.specs.Nodes.{higher, name_node, constant_node, text_node, paren_node, offset_node, index_node, call_node, member_node, arrow_node, postfix_node, unary_node, size_node, size_type_node, cast_node, binary_node, conditional_node, assign_node, comma_node}
+use Rattle.sc_phrase.specs.declared.trouble.Trouble.TheVariants as no
+use Rattle.sc_phrase.specs.declared.trouble.Limit.TheVariants as limit
+use Rattle.sc_phrase.specs.Kinds.{level_of, word_of, power_of, begins_type, begins_specifiers, begins_parameters}
+use Rattle.sc_phrase.specs.Nodes.{higher, offsetof_name, name_level, name_node, constant_node, text_node, paren_node, offset_node, index_node, call_node, member_node, arrow_node, postfix_node, unary_node, size_node, size_type_node, cast_node, binary_node, conditional_node, assign_node, comma_node}
 use Rattle.sc_phrase.specs.Types.{is_empty, has_words, no_words, with_word, with_const, with_storage, identifier_at, no_direct, named_direct, with_step, pointed, whole, declarator_of, declarator_in, declare_plain, declare_in, type_of, member_of, parameter_of, item_of}
-use Rattle.sc_phrase.specs.Grammar
 use Rattle.sc_phrase.specs.Grammar.{Keeps, starts_at, text_with, is_named, is_abstract, is_group, is_void, is_right_paren, void_alone, Strings, a_text, more_text, Stars, a_star, more_star, const_star, Tag, no_tag, a_tag, Trailing, no_comma, a_comma, Phrase, name, constant, string, paren, offset_of, index, call, call_none, member, arrow, postfix, unary, size_of, size_of_type, cast, binary, conditional, assign, comma, Arguments, first, more, Specified, none, simple, const, stored, typedef, struct_tag, enum_tag, structure, enumeration, Members, one_member, more_members, MemberTokens, a_member, Declarators, one_declarator, more_declarators, Items, one_item, more_items, ItemTokens, bare_item, valued_item, TypeTokens, plain_type, derived_type, Level, direct, pointer, bare_pointer, DirectTokens, named, group, bare, suffix, Suffix, unsized, sized, unprototyped, no_parameters, prototype, Parameters, one_parameter, more_parameters, ParameterTokens, unnamed, declared}
-use Rattle.sc_phrase.specs.Machine as m
+use Rattle.sc_phrase.specs.Machine as mc
 use Rattle.sc_phrase.specs.Machine.{Place, Config, Outcome, on_ok, needs, settle, settled, fits, few, have, marked, effect, enters, step, run, finish, level_ends, item_behind, parameter_behind, under, inner_specified}
 use Rattle.sc_parse_expr.proofs.Levels.{level-small, level-positive, operand-tight, power-binary, power-assign, not_between}
-use Rattle.sc_parse_expr.proofs.Runs.{Answer, Leads, same, passed, ◌▸◌, after, steps, fitted, counted, counted_end, regrouped, tested, keeps-one, keeps-left, keeps-right}
-use Rattle.sc_parse_expr.proofs.Heads.{Head, head-test, longer, begins_operand, operand_no_type, starts_operand, starts_type, starts, begins, NoCast, is_closed, no_cast, begin_specified, begin_type, Opening, begin_direct, Beginning, begin_level, opens_level, opens_direct, is_name}
-use Rattle.sc_parse_expr.proofs.Kinds as kinds
+use Rattle.sc_parse_expr.proofs.Runs.{Answer, Leads, same, passed, ◌▸◌, after, stepped, steps, fitted, counted, counted_end, regrouped, tested, keeps-one, keeps-left, keeps-right}
+use Rattle.sc_parse_expr.proofs.Heads.{Head, head-test, longer, begins_operand, operand_no_type, starts_operand, starts_type, starts, begins, NoCast, is_closed, no_cast, begin_specified, begin_type, Opening, begin_direct, Beginning, begin_level, more_beginning, opens_level, opens_direct, is_name}
+use Rattle.sc_parse_expr.proofs.Tokens as kinds
 
 -- the line of the first token
 abbrev pub line_of : List Symbol → ℕ
@@ -62,7 +65,9 @@ braced : (ts us vs zs : List Symbol) (t l r : Symbol) → (ts ++ t ∷ us ++ l �
 braced ts us vs zs t l r = simp append_assoc
 
 trailed : (ts us vs ws zs : List Symbol) (t l r : Symbol) → (ts ++ t ∷ us ++ l ∷ vs ++ ws ++ r ∷ []) ++ zs ≡ ts ++ t ∷ (us ++ l ∷ (vs ++ (ws ++ r ∷ zs)))
-trailed ts us vs ws zs t l r = simp append_assoc
+trailed ts us vs ws zs t l r =
+    append_assoc (ts ++ t ∷ us ++ l ∷ vs ++ ws) (r ∷ []) zs ∙ append_assoc (ts ++ t ∷ us ++ l ∷ vs) ws (r ∷ zs) ∙
+    append_assoc (ts ++ t ∷ us) (l ∷ vs) (ws ++ r ∷ zs) ∙ append_assoc ts (t ∷ us) (l ∷ (vs ++ (ws ++ r ∷ zs)))
 
 -- The list begins with a token, which is no brace.
 abbrev pub no_brace : List Symbol → Bool
@@ -79,7 +84,7 @@ level-follows k.Comma h = refl
 level-follows k.Semicolon h = refl
 level-follows kd h = h
 
-level-inner : (t : Symbol) (fs : List Frame) (v : Specifiers TypeWord) (m : Mode) (kd : Kind) → opens_level kd ≡ true → inner_specified t kd fs v m ≡ m.begin t kd (f.Specifiers v ∷ fs) m
+level-inner : (t : Symbol) (fs : List Frame) (v : Specifiers TypeWord) (m : Mode) (kd : Kind) → opens_level kd ≡ true → inner_specified t kd fs v m ≡ mc.begin t kd (f.Specifiers v ∷ fs) m
 level-inner t fs v m k.RightParen h = cc
 level-inner t fs v m k.Comma h = cc
 level-inner t fs v m kd h = refl
@@ -97,21 +102,43 @@ paren-ends : (closing : Bool) → kinds.ends (end_paren closing) ≡ true
 paren-ends true = refl
 paren-ends false = refl
 
+-- in this place
+abbrev pub stands : List Frame → State → Outcome
+stands fs state = Ok (fs, state)
+
+starts-more : (l : ℕ) (ts us : List Symbol) → starts_at l ts → starts_at l (ts ++ us)
+starts-more l [] us at = absurd at
+starts-more l (t ∷ ts) us at = at
+
+not-true : (b : Bool) → not b ≡ true → b ≡ false
+not-true true h = cc
+not-true false h = refl
+
+void-further : (ts : List Symbol) (r : Symbol) (us : List Symbol) → r.kind ≡ k.RightParen → void_alone (ts ++ r ∷ []) ≡ false → void_alone (ts ++ r ∷ us) ≡ false
+void-further [] r [] g h = refl
+void-further [] r (u ∷ us) g h = rw g refl
+void-further (t ∷ []) r us g h = h
+void-further (t ∷ u ∷ ts) r us g h = h
+
+stores : (typed : Bool) (t : Symbol) (fs : List Frame) (v : Specifiers TypeWord) (class : Storage) (kd : Kind) → kd ≡ k.Storage class → v.storage ≡ None →
+    mc.at_storage class fs v None ≡ Ok (fs, s.Words (with_storage v class)) → mc.words typed t fs v kd ≡ Ok (fs, s.Words (with_storage v class))
+stores typed t fs v class kd h n p = rw h (ap (mc.at_storage class fs v) n ∙ p)
+
 module _ (w : Bool) where
-  reads_strings : {b : Names} {l : ℕ} {ts : List Symbol} {text : Option (List ℕ)} → Strings l ts text → (fs : List Frame) (us : List Symbol) →
+  reads_strings : (b : Names) {l : ℕ} {ts : List Symbol} {text : Option (List ℕ)} → Strings l ts text → (fs : List Frame) (us : List Symbol) →
       Leads w (run (b, (fs, s.Need)) (ts ++ us)) (run (b, (fs, s.Texts l text)) us)
-  reads_strings {b} (a_text {fits} t h) fs us = steps w (b, (fs, s.Need)) (b, (fs, s.Texts t.line (text_with (Some []) fits t.text))) t us (rw h refl)
-  reads_strings {b} {l} (more_text {ts = ts} {text} {fits} t d h) fs us =
-      regrouped w (b, (fs, s.Need)) _ _ (append_assoc ts (t ∷ []) us) ▸ reads_strings d fs (t ∷ us) ▸
+  reads_strings b (a_text {fits} t h) fs us = steps w (b, (fs, s.Need)) (b, (fs, s.Texts t.line (text_with (Some []) fits t.text))) t us (rw h refl)
+  reads_strings b {l} (more_text {ts = ts} {text} {fits} t d h) fs us =
+      regrouped w (b, (fs, s.Need)) _ _ (append_assoc ts (t ∷ []) us) ▸ reads_strings b d fs (t ∷ us) ▸
       steps w (b, (fs, s.Texts l text)) (b, (fs, s.Texts l (text_with text fits t.text))) t us (rw h refl)
 
-  texts-end : (t : Symbol) (fs : List Frame) (l : ℕ) (text : Option (List ℕ)) (kd : Kind) → power_of kd ≤ 17 → m.texts t fs l text kd ≡ have kd fs (text_node l text)
+  texts-end : (t : Symbol) (fs : List Frame) (l : ℕ) (text : Option (List ℕ)) (kd : Kind) → power_of kd ≤ 17 → mc.texts t fs l text kd ≡ have kd fs (text_node l text)
   texts-end t fs l text (k.Text fits) h = absurd (omega arith)
   texts-end t fs l text _ h = refl
 
-  reads_text : {b : Names} {l : ℕ} {ts : List Symbol} {text : Option (List ℕ)} → Strings l ts text → (fs : List Frame) (u : Symbol) (us : List Symbol) → power_of u.kind ≤ 17 →
+  reads_text : (b : Names) {l : ℕ} {ts : List Symbol} {text : Option (List ℕ)} → Strings l ts text → (fs : List Frame) (u : Symbol) (us : List Symbol) → power_of u.kind ≤ 17 →
       Leads w (run (b, (fs, s.Need)) (ts ++ u ∷ us)) (run (b, (fs, s.Have (text_node l text))) (u ∷ us))
-  reads_text {b} {l} {ts} {text} d fs u us p = reads_strings d fs (u ∷ us) ▸ same (ap (after u.kind b us) (texts-end u fs l text u.kind p))
+  reads_text b {l} {ts} {text} d fs u us p = reads_strings b d fs (u ∷ us) ▸ same (ap (after u.kind b us) (texts-end u fs l text u.kind p))
 
   -- The next token closes what it closes, whether or not the innermost frame was closed before.
   goes_on : (b : Names) (fs gs : List Frame) (x y : Operand) (t : Symbol) (ts : List Symbol) → power_of t.kind ≤ 15 →
@@ -119,42 +146,60 @@ module _ (w : Bool) where
       Leads w (run (b, (fs, s.Have x)) (t ∷ ts)) (run (b, (gs, s.Have y)) (t ∷ ts))
   goes_on b fs gs x y t ts p h =
       let no : nat_lt 15 (power_of t.kind) ≡ false = grind (arith, nat_tests) in
-      same (ap (after t.kind b ts) (rw no (ap (settled t.kind) h)))
+      let e : have t.kind fs x ≡ have t.kind gs y = rw no (ap (settled t.kind) h) in
+      same (ap (after t.kind b ts) e)
 
-  closes_on : (b : Names) (frame : Frame) (fs : List Frame) (x : Operand) (t : Symbol) (ts : List Symbol) → power_of t.kind ≤ 15 → power_of t.kind ≤ m.level_in frame →
-      Leads w (run (b, (frame ∷ fs, s.Have x)) (t ∷ ts)) (run (b, (fs, s.Have (m.built frame x))) (t ∷ ts))
+  closes_on : (b : Names) (frame : Frame) (fs : List Frame) (x : Operand) (t : Symbol) (ts : List Symbol) → power_of t.kind ≤ 15 → power_of t.kind ≤ mc.level_in frame →
+      Leads w (run (b, (frame ∷ fs, s.Have x)) (t ∷ ts)) (run (b, (fs, s.Have (mc.built frame x))) (t ∷ ts))
   closes_on b frame fs x t ts p q =
-      let yes : nat_le (power_of t.kind) (m.level_in frame) ≡ true = le-leb _ _ q in
-      goes_on b (frame ∷ fs) fs x (m.built frame x) t ts p (rw yes refl)
+      let yes : nat_le (power_of t.kind) (mc.level_in frame) ≡ true = le-leb _ _ q in
+      goes_on b (frame ∷ fs) fs x (mc.built frame x) t ts p (rw yes refl)
 
   -- a parenthesis is open, and no type begins
   opens : (b : Names) (fs : List Frame) (l : ℕ) (ts us : List Symbol) → Head (starts_operand b) ts →
       Leads w (run (b, (fs, s.Opened l)) (ts ++ us)) (run (b, (f.Paren l ∷ fs, s.Need)) (ts ++ us))
   unfolding Head
-  opens b fs l ts us h = rw h.2 (let no = operand_no_type (is_typed b h.0) h.0.kind h.3 in same (ap (after h.0.kind b (h.1 ++ us)) (rw no refl)))
+  opens b fs l ts us h = rw h.2 (
+      let plain = operand_no_type (is_typed b h.0) h.0.kind h.3 in
+      let e : mc.opened (is_typed b h.0) h.0 fs l ≡ mc.needed (is_typed b h.0) h.0 (f.Paren l ∷ fs) = rw plain refl in
+      same (ap (after h.0.kind b (h.1 ++ us)) e))
 
   -- a parenthesis is open, and a type begins
   opens_type : (b : Names) (fs : List Frame) (l : ℕ) (ts us : List Symbol) → Head (starts_type b) ts →
       Leads w (run (b, (fs, s.Opened l)) (ts ++ us)) (run (b, (f.CastType l ∷ fs, s.Words (no_words (line_of (ts ++ us))))) (ts ++ us))
   unfolding Head
-  opens_type b fs l ts us h = rw h.2 (let yes = h.3 in same (ap (after h.0.kind b (h.1 ++ us)) (rw yes refl)))
+  opens_type b fs l ts us h = rw h.2 (
+      let yes = h.3 in
+      let e : mc.opened (is_typed b h.0) h.0 fs l ≡ mc.words (is_typed b h.0) h.0 (f.CastType l ∷ fs) (no_words h.0.line) h.0.kind = rw yes refl in
+      same (ap (after h.0.kind b (h.1 ++ us)) e))
 
   opens_size : (b : Names) (fs : List Frame) (l h : ℕ) (ts us : List Symbol) → Head (starts_type b) ts →
       Leads w (run (b, (fs, s.SizedOpened l h)) (ts ++ us)) (run (b, (f.SizeType l ∷ fs, s.Words (no_words (line_of (ts ++ us))))) (ts ++ us))
   unfolding Head
-  opens_size b fs l n ts us h = rw h.2 (let yes = h.3 in same (ap (after h.0.kind b (h.1 ++ us)) (rw yes refl)))
+  opens_size b fs l n ts us h = rw h.2 (
+      let yes = h.3 in
+      let e : mc.sized_opened (is_typed b h.0) h.0 fs l n ≡ mc.words (is_typed b h.0) h.0 (f.SizeType l ∷ fs) (no_words h.0.line) h.0.kind = rw yes refl in
+      same (ap (after h.0.kind b (h.1 ++ us)) e))
 
   opens_offset : (b : Names) (fs : List Frame) (a : Operand) (ts us : List Symbol) → Head (starts_type b) ts → 18 ≤ a.level →
       Leads w (run (b, (f.Arguments a [] 0 ∷ fs, s.Need)) (ts ++ us)) (run (b, (f.OffsetType a.line ∷ fs, s.Words (no_words (line_of (ts ++ us))))) (ts ++ us))
   unfolding Head
   opens_offset b fs a ts us h q = rw h.2 (
       let yes = h.3 in
-      let high : nat_lt 17 a.level ≡ true = grind (arith, nat_tests) in same (ap (after h.0.kind b (h.1 ++ us)) (rw (yes, high) refl)))
+      let high : nat_lt 17 a.level ≡ true = grind (arith, nat_tests) in
+      let e : mc.needed (is_typed b h.0) h.0 (f.Arguments a [] 0 ∷ fs) ≡ mc.words (is_typed b h.0) h.0 (f.OffsetType a.line ∷ fs) (no_words h.0.line) h.0.kind = rw (yes, high) refl in
+      same (ap (after h.0.kind b (h.1 ++ us)) e))
 
-  sized-closed : (typed : Bool) (t : Symbol) (fs : List Frame) (l : ℕ) (kd : Kind) (other : Outcome) → not (m.is_left_paren kd) ≡ true → begins_type typed kd ≡ false →
-      m.sized typed t fs l kd ≡ cond (begins_type typed kd) other (m.need typed t (f.SizeOf l ∷ fs) kd)
-  sized-closed typed t fs l k.LeftParen other h no = cc
-  sized-closed typed t fs l kd other h no = rw no refl
+  chosen-no : (b : Bool) (x y : Outcome) → b ≡ false → cond b x y ≡ y
+  chosen-no b x y h = rw h refl
+
+  sized-need : (typed : Bool) (t : Symbol) (fs : List Frame) (l : ℕ) (kd : Kind) → not (mc.is_left_paren kd) ≡ true → mc.sized typed t fs l kd ≡ mc.need typed t (f.SizeOf l ∷ fs) kd
+  sized-need typed t fs l k.LeftParen h = cc
+  sized-need typed t fs l kd h = refl
+
+  sized-closed : (typed : Bool) (t : Symbol) (fs : List Frame) (l : ℕ) (kd : Kind) (other : Outcome) → not (mc.is_left_paren kd) ≡ true → begins_type typed kd ≡ false →
+      mc.sized typed t fs l kd ≡ cond (begins_type typed kd) other (mc.need typed t (f.SizeOf l ∷ fs) kd)
+  sized-closed typed t fs l kd other h plain = sized-need typed t fs l kd h ∙ sym (chosen-no (begins_type typed kd) other (mc.need typed t (f.SizeOf l ∷ fs) kd) plain)
 
   -- `sizeof` takes the operand behind it
   sizes : (b : Names) (fs : List Frame) (l : ℕ) (ts us : List Symbol) → NoCast b ts → Head (starts_operand b) ts →
@@ -164,15 +209,16 @@ module _ (w : Bool) where
       let P : List Symbol → Type 0 = λ v. Head (starts_operand b) v in
       let g : Head (starts_operand b) (c.0 ∷ c.1) = subst P c.2 h in
       let no = operand_no_type (is_typed b c.0) c.0.kind (head-test (starts_operand b) c.0 c.1 g) in
-      rw c.2 (same (ap (after c.0.kind b (c.1 ++ us)) (sized-closed (is_typed b c.0) c.0 fs l c.0.kind (m.offset_type (is_typed b c.0) c.0 (f.SizeOf l ∷ fs)) c.3 no)))
+      rw c.2 (same (ap (after c.0.kind b (c.1 ++ us)) (sized-closed (is_typed b c.0) c.0 fs l c.0.kind (mc.offset_type (is_typed b c.0) c.0 (f.SizeOf l ∷ fs)) c.3 no)))
   sizes b fs l ts us (inr c) h =
       let g = c.4 in
-      let no = operand_no_type (is_typed b g.0) g.0.kind g.3 in
+      let plain = operand_no_type (is_typed b g.0) g.0.kind g.3 in
+      let e : mc.sized_opened (is_typed b g.0) g.0 fs l c.0.line ≡ mc.opened (is_typed b g.0) g.0 (f.SizeOf l ∷ fs) c.0.line = rw plain refl in
       rw c.2 (rw g.2 (
       steps w (b, (fs, s.Sized l)) (b, (fs, s.SizedOpened l c.0.line)) c.0 (g.0 ∷ (g.1 ++ us)) (rw c.3 refl) ▸
-      same (ap (after g.0.kind b (g.1 ++ us)) (rw no refl) ∙ sym (stepped (b, (f.SizeOf l ∷ fs, s.Need)) (b, (f.SizeOf l ∷ fs, s.Opened c.0.line)) c.0 (g.0 ∷ (g.1 ++ us)) (rw c.3 refl)))))
+      same (ap (after g.0.kind b (g.1 ++ us)) e ∙ sym (stepped (b, (f.SizeOf l ∷ fs, s.Need)) (b, (f.SizeOf l ∷ fs, s.Opened c.0.line)) c.0 (g.0 ∷ (g.1 ++ us)) (rw c.3 refl)))))
 
-  at_least_one : {b c : Names} {ts : List Symbol} {x : Operand} → Phrase w b c ts x → 1 ≤ x.level
+  pub at_least_one : {b c : Names} {ts : List Symbol} {x : Operand} → Phrase w b c ts x → 1 ≤ x.level
   at_least_one (name t h n) = name-level t.text
     where
       name-level : (text : List ℕ) → 1 ≤ name_level text
@@ -274,7 +320,7 @@ module _ (w : Bool) where
 
   -- A declarator begins behind the words of a type name or a parameter.
   begins_inner : (c : Names) (context : Frame) (fs : List Frame) (v : Specifiers TypeWord) (n : Mode) (ts us : List Symbol) → Beginning n ts → has_words v.words ≡ true →
-      ((t : Symbol) → m.specified t (context ∷ fs) v ≡ inner_specified t t.kind (context ∷ fs) v n) →
+      ((t : Symbol) → mc.specified t (context ∷ fs) v ≡ inner_specified t t.kind (context ∷ fs) v n) →
       Leads w (run (c, (context ∷ fs, s.Words v)) (ts ++ us)) (run (c, (f.Specifiers v ∷ context ∷ fs, s.Begin n)) (ts ++ us))
   begins_inner c context fs v n ts us o h g =
       let a = o.all in
@@ -283,10 +329,11 @@ module _ (w : Bool) where
 
   -- The token behind them ends the type name or the parameter.
   ends_inner : (c : Names) (context : Frame) (fs : List Frame) (v : Specifiers TypeWord) (n : Mode) (u : Symbol) (us : List Symbol) (closing : Bool) → u.kind ≡ end_paren closing → has_words v.words ≡ true →
-      ((t : Symbol) → m.specified t (context ∷ fs) v ≡ inner_specified t t.kind (context ∷ fs) v n) →
+      ((t : Symbol) → mc.specified t (context ∷ fs) v ≡ inner_specified t t.kind (context ∷ fs) v n) →
       Leads w (run (c, (context ∷ fs, s.Words v)) (u ∷ us)) (after u.kind c us (finish u.kind (context ∷ fs) v None))
   ends_inner c context fs v n u us closing e h g =
-      same (ap (after u.kind c us) (kinds.words-end (is_typed c u) u (context ∷ fs) v u.kind refl (rw e (paren-follows closing)) h ∙ g u ∙ (rw e (end-inner closing))))
+      let q : inner_specified u u.kind (context ∷ fs) v n ≡ finish u.kind (context ∷ fs) v None = rw e (end-inner closing) in
+      same (ap (after u.kind c us) (kinds.words-end (is_typed c u) u (context ∷ fs) v u.kind refl (rw e (paren-follows closing)) h ∙ g u ∙ q))
     where
       paren-follows : (closing : Bool) → kinds.follows (end_paren closing) ≡ true
       paren-follows true = refl
@@ -317,9 +364,9 @@ module _ (w : Bool) where
       Leads w (run (b, (fs, s.Begin n)) (ts ++ us)) (run (b, (fs, s.Stars n l [])) (ts ++ us))
   no_stars b fs n l ts us o =
       let a = o.all in
-      rw a (same (ap (after o.t.kind b (o.us ++ us)) (opened-direct o.t o.t.kind o.opens ∙ ap (λ (h : ℕ). m.stars o.t o.t.kind fs h n []) o.line)))
+      rw a (same (ap (after o.t.kind b (o.us ++ us)) (opened-direct o.t o.t.kind o.opens ∙ ap (λ (h : ℕ). mc.stars o.t o.t.kind fs h n []) o.line)))
     where
-      opened-direct : (t : Symbol) (kd : Kind) → opens_direct kd ≡ true → m.begin t kd fs n ≡ m.stars t kd fs t.line n []
+      opened-direct : (t : Symbol) (kd : Kind) → opens_direct kd ≡ true → mc.begin t kd fs n ≡ mc.stars t kd fs t.line n []
       opened-direct t k.Name h = refl
       opened-direct t k.LeftParen h = refl
       opened-direct t k.LeftBracket h = refl
@@ -353,12 +400,12 @@ module _ (w : Bool) where
       let q = closed-group n o.t o.us (subst P a g) in
       rw a (same (rw q (ap (after o.t.kind b (o.us ++ us)) (in-group n o.t o.t.kind o.plain))))
     where
-      closed-group : (n : Mode) (t : Symbol) (us : List Symbol) → is_group n b (t ∷ us) ≡ true → m.opens_parameters n (is_typed b t) t.kind ≡ false
+      closed-group : (n : Mode) (t : Symbol) (us : List Symbol) → is_group n b (t ∷ us) ≡ true → mc.opens_parameters n (is_typed b t) t.kind ≡ false
       closed-group mode.Named t us h = refl
       closed-group mode.Abstract t us h = not-true (begins_parameters (is_typed b t) t.kind) h
       closed-group mode.Either t us h = not-true (begins_parameters (is_typed b t) t.kind) h
 
-      in-group : (n : Mode) (t : Symbol) (kd : Kind) → (is_abstract n ≡ true → is_name kd ≡ false) → m.in_group t (f.Level n l cs ∷ fs) n kd ≡ m.begin t kd (f.Level n l cs ∷ fs) n
+      in-group : (n : Mode) (t : Symbol) (kd : Kind) → (is_abstract n ≡ true → is_name kd ≡ false) → mc.in_group t (f.Level n l cs ∷ fs) n kd ≡ mc.begin t kd (f.Level n l cs ∷ fs) n
       in-group mode.Named t k.Name h = refl
       in-group mode.Either t k.Name h = refl
       in-group mode.Abstract t k.Name h = let p = h refl in cc
@@ -379,7 +426,7 @@ module _ (w : Bool) where
   typed-enter b text k.Name = refl
   typed-enter b text kd = refl
 
-  opens-open : (n : Mode) (typed : Bool) (kd : Kind) → is_named n ≡ false → m.opens_parameters n typed kd ≡ begins_parameters typed kd
+  opens-open : (n : Mode) (typed : Bool) (kd : Kind) → is_named n ≡ false → mc.opens_parameters n typed kd ≡ begins_parameters typed kd
   opens-open mode.Named typed kd h = cc
   opens-open mode.Abstract typed kd h = refl
   opens-open mode.Either typed kd h = refl
@@ -391,16 +438,16 @@ module _ (w : Bool) where
       let e = typed-enter b t.text t.kind in
       steps w (b, (fs, s.Stars n h cs)) (b, (fs, s.Group n h cs)) l (t ∷ rest) (rw p refl) ▸
       same (rw yes refl) ▸
-      same (ap (λ (typed : Bool). after t.kind (enter b) rest (m.due typed t (f.Parameters no_direct [] ∷ f.Level n h cs ∷ fs) t.kind)) (sym e)) ▸
+      same (ap (λ (typed : Bool). after t.kind (enter b) rest (mc.due typed t (f.Parameters no_direct [] ∷ f.Level n h cs ∷ fs) t.kind)) (sym e)) ▸
       same (sym (stepped (b, (f.Level n h cs ∷ fs, s.Direct no_direct)) (enter b, (f.Parameters no_direct [] ∷ f.Level n h cs ∷ fs, s.Due)) l (t ∷ rest) (rw p refl)))
 
   begin_parameter : {b c : Names} {ts : List Symbol} {x : Parameter} → ParameterTokens w b c ts x → Head (starts true b) ts
   begin_parameter (unnamed d at h) = begin_specified d at
-  begin_parameter (declared {ts} {us} d at h p) = longer _ ts us (begin_specified d at)
+  begin_parameter {b} (declared {ts} {us} d at h p) = longer (starts true b) ts us (begin_specified d at)
 
   begin_parameters : {b c : Names} {ts : List Symbol} {xs : List Parameter} → Parameters w b c ts xs → Head (starts true b) ts
   begin_parameters (one_parameter d) = begin_parameter d
-  begin_parameters (more_parameters {ts} {us} t d h e z) = longer _ ts (t ∷ us) (begin_parameters d)
+  begin_parameters {b} (more_parameters {ts} {us} t d h e z) = longer (starts true b) ts (t ∷ us) (begin_parameters d)
 
   specifies-parameters : (typed : Bool) (kd : Kind) → begins_specifiers typed kd ≡ true → begins_parameters typed kd ≡ true
   specifies-parameters typed k.RightParen h = refl
@@ -408,6 +455,7 @@ module _ (w : Bool) where
 
   bare_suffix : {b c : Names} {l : ℕ} {ts : List Symbol} {x : Derivation} {scope : Scope} → Suffix w b c l ts x scope → (fs : List Frame) (n : Mode) (h : ℕ) (cs : List Bool) (us : List Symbol) → is_named n ≡ false →
       Leads w (run (b, (fs, s.Stars n h cs)) (ts ++ us)) (run (b, (f.Level n h cs ∷ fs, s.Direct no_direct)) (ts ++ us))
+  unfolding Head
   bare_suffix {b} (unsized l r p q) fs n h cs us g = open_bracket b fs n h cs l (r ∷ us) p g
   bare_suffix {b} (sized {xs} l r p d v z q) fs n h cs us g = open_bracket b fs n h cs l ((xs ++ r ∷ []) ++ us) p g
   bare_suffix {b} (unprototyped l r p q) fs n h cs us g = open_paren b fs n h cs l r us p (rw q refl) g
@@ -415,7 +463,6 @@ module _ (w : Bool) where
   bare_suffix {b} (prototype {ts} l r p d v q) fs n h cs us g = go (begin_parameters d)
     where
       go : Head (starts true (enter b)) ts → Leads w (run (b, (fs, s.Stars n h cs)) ((l ∷ ts ++ r ∷ []) ++ us)) (run (b, (f.Level n h cs ∷ fs, s.Direct no_direct)) ((l ∷ ts ++ r ∷ []) ++ us))
-      unfolding Head
       go o =
           let e = typed-enter b o.0.text o.0.kind in
           let P : Bool → Type 0 = λ typed. begins_specifiers typed o.0.kind ≡ true in
@@ -423,15 +470,19 @@ module _ (w : Bool) where
           rw a (open_paren b fs n h cs l o.0 ((o.1 ++ r ∷ []) ++ us) p (specifies-parameters (is_typed b o.0) o.0.kind (subst P e o.3)) g)
 
   -- Behind `[` the size is due.
+  bracket-need : (typed : Bool) (t : Symbol) (fs : List Frame) (d : Direct) (kd : Kind) → begins_operand typed kd ≡ true → mc.bracket typed t fs d kd ≡ mc.need typed t (f.Size d ∷ fs) kd
+  bracket-need typed t fs d k.RightBracket h = cc
+  bracket-need typed t fs d kd h = refl
+
   bracket-operand : (typed : Bool) (t : Symbol) (fs : List Frame) (d : Direct) (kd : Kind) (other : Outcome) → begins_operand typed kd ≡ true →
-      m.bracket typed t fs d kd ≡ cond (begins_type typed kd) other (m.need typed t (f.Size d ∷ fs) kd)
-  bracket-operand typed t fs d k.RightBracket other h = cc
-  bracket-operand typed t fs d kd other h = let no = operand_no_type typed kd h in rw no refl
+      mc.bracket typed t fs d kd ≡ cond (begins_type typed kd) other (mc.need typed t (f.Size d ∷ fs) kd)
+  bracket-operand typed t fs d kd other h =
+      bracket-need typed t fs d kd h ∙ sym (chosen-no (begins_type typed kd) other (mc.need typed t (f.Size d ∷ fs) kd) (operand_no_type typed kd h))
 
   opens_bracket : (b : Names) (fs : List Frame) (d : Direct) (ts us : List Symbol) → Head (starts_operand b) ts →
       Leads w (run (b, (fs, s.Bracket d)) (ts ++ us)) (run (b, (f.Size d ∷ fs, s.Need)) (ts ++ us))
   unfolding Head
-  opens_bracket b fs d ts us h = rw h.2 (same (ap (after h.0.kind b (h.1 ++ us)) (bracket-operand (is_typed b h.0) h.0 fs d h.0.kind (m.offset_type (is_typed b h.0) h.0 (f.Size d ∷ fs)) h.3)))
+  opens_bracket b fs d ts us h = rw h.2 (same (ap (after h.0.kind b (h.1 ++ us)) (bracket-operand (is_typed b h.0) h.0 fs d h.0.kind (mc.offset_type (is_typed b h.0) h.0 (f.Size d ∷ fs)) h.3)))
 
   begin_declarators : {b c : Names} {ts : List Symbol} {xs : List Declarator} → Declarators w b c ts xs → Beginning mode.Named ts
   begin_declarators (one_declarator d) = begin_level d
@@ -448,16 +499,36 @@ module _ (w : Bool) where
   paren-no_brace true = refl
   paren-no_brace false = refl
 
+  -- the end of a parameter
+  parameter-ends : (c : Names) (fs : List Frame) (d : Direct) (ps : List Parameter) (v : Specifiers TypeWord) (x : Option Whole) (us : List Symbol) (closing : Bool) →
+      after (end_paren closing) c us (finish (end_paren closing) (f.Parameters d ps ∷ fs) v x)
+      ≡ on_ok (λ e. run e us) (if nat_lt (length ps) 31 then parameter_behind (declare_in x c) fs d (ps ++ parameter_of v (declarator_in x) ∷ []) closing else Err (no.Limit limit.Arguments))
+  parameter-ends c fs d ps v x us true = refl
+  parameter-ends c fs d ps v x us false = refl
+
+  some_parameters : {b c : Names} {ts : List Symbol} {ps : List Parameter} → Parameters w b c ts ps → is_empty ps ≡ false
+  some_parameters (one_parameter d) = refl
+  some_parameters (more_parameters {ps} {p} t d h e z) = kinds.some_more ps p
+
   -- Where a storage class may stand, the frames take one.
-  Stores : Bool → List Frame → Type 0
-  Stores storage fs = storage ≡ true → (class : Storage) (v : Specifiers TypeWord) → m.at_storage class fs v None ≡ Ok (fs, s.Words (with_storage v class))
+  abbrev pub Stores : Bool → List Frame → Type 0
+  Stores storage fs = storage ≡ true → (class : Storage) (v : Specifiers TypeWord) → mc.at_storage class fs v None ≡ Ok (fs, s.Words (with_storage v class))
+
+  -- the items up to the brace
+  closes_items : (b c : Names) (ts : List Symbol) (xs : List (Enumerator Expr)) {us : List Symbol} → Trailing us → (fs : List Frame) (v : Specifiers TypeWord) (l : ℕ) (tag : Option (List ℕ)) (r : Symbol) (rest : List Symbol) → r.kind ≡ k.RightBrace → is_empty xs ≡ false →
+      ((closing : Bool) (u : Symbol) (us : List Symbol) → u.kind ≡ end_brace closing → Leads w (run (b, (f.Enum v l tag [] ∷ fs, s.Items)) (ts ++ u ∷ us)) (on_ok (λ d. run d us) (under c (item_behind fs v l tag xs closing)))) →
+      Leads w (run (b, (f.Enum v l tag [] ∷ fs, s.Items)) (ts ++ (us ++ r ∷ rest))) (run (c, (fs, s.Words (with_word v (word.Enum l tag xs)))) rest)
+  closes_items b c ts xs no_comma fs v l tag r rest g n read = read true r rest g
+  closes_items b c ts xs (a_comma t h) fs v l tag r rest g n read =
+      read false t (r ∷ rest) h ▸
+      same (ap (after r.kind c rest) (ap (mc.items r (f.Enum v l tag xs ∷ fs)) g ∙ kinds.closes-enum r v l tag xs fs n))
 
   mutual
     pub reads : {b c : Names} {ts : List Symbol} {x : Operand} → Phrase w b c ts x → (fs : List Frame) (u : Symbol) (us : List Symbol) →
         Keeps w x.height 200 → needs fs ≤ x.level → power_of u.kind ≤ x.level → Leads w (run (b, (fs, s.Need)) (ts ++ u ∷ us)) (run (c, (fs, s.Have x)) (u ∷ us))
     reads {b} (name t h n) fs u us z q p = steps w (b, (fs, s.Need)) (b, (fs, s.Have (name_node t))) t (u ∷ us) (rw (h, n) refl)
     reads {b} (constant {value} t h) fs u us z q p = steps w (b, (fs, s.Need)) (b, (fs, s.Have (constant_node t.line value))) t (u ∷ us) (rw h refl)
-    reads (string d) fs u us z q p = reads_text d fs u us p
+    reads {b} (string d) fs u us z q p = reads_text b d fs u us p
     reads {b} {c} (paren {ts} {x} l r h d g) fs u us z q p =
         regrouped w (b, (fs, s.Need)) _ _ (ap (λ (v : List Symbol). l ∷ v) (append_assoc ts (r ∷ []) (u ∷ us))) ▸
         steps w (b, (fs, s.Need)) (b, (fs, s.Opened l.line)) l (ts ++ r ∷ u ∷ us) (rw h refl) ▸
@@ -469,8 +540,7 @@ module _ (w : Bool) where
         steps w (b, (fs, s.Need)) (b, (fs, s.Have (name_node t))) t (l ∷ (ts ++ o ∷ n ∷ r ∷ u ∷ us)) (rw (h, e) refl) ▸
         steps w (b, (fs, s.Have (name_node t))) (b, (f.Arguments (name_node t) [] 0 ∷ fs, s.Need)) l (ts ++ o ∷ n ∷ r ∷ u ∷ us) (rw g refl) ▸
         opens_offset b fs (name_node t) ts (o ∷ n ∷ r ∷ u ∷ us) (begin_type d) (offset-level t.text y) ▸
-        reads_type d (f.OffsetType t.line) fs o (n ∷ r ∷ u ∷ us) false i (λ t. refl) ▸
-        same (rw i refl) ▸
+        reads_type d (f.OffsetType t.line) fs o (n ∷ r ∷ u ∷ us) false i (λ t v. refl) (Ok (fs, s.OffsetComma t.line type)) (λ v x e. ap (λ (z : TypeName). stands fs (s.OffsetComma t.line z)) (sym e)) ▸
         steps w (c, (fs, s.OffsetComma t.line type)) (c, (fs, s.OffsetName t.line type n.text)) n (r ∷ u ∷ us) (rw j refl) ▸
         steps w (c, (fs, s.OffsetName t.line type n.text)) (c, (fs, s.Have (offset_node t.line type n.text))) r (u ∷ us) (rw k' refl)
     reads {b} {c = d} (index {c} {xs} {ys} {a} {x} l r v e h y g) fs u us z q p =
@@ -511,7 +581,7 @@ module _ (w : Bool) where
         tested w c fs a t (u ∷ us) (Ok (fs, s.Have (postfix_node a op))) one (kinds.have-postfix t.kind op fs a h)
     reads {b} {c} (unary {xs} {x} {op} t h d e) fs u us z q p =
         let one = keeps-one w x.height z in
-        same (ap (after t.kind b (xs ++ u ∷ us)) (kinds.need-unary (is_typed b t) t fs t.kind op (m.offset_type (is_typed b t) t fs) h)) ▸
+        same (ap (after t.kind b (xs ++ u ∷ us)) (kinds.need-unary (is_typed b t) t fs t.kind op (mc.offset_type (is_typed b t) t fs) h)) ▸
         reads d (f.Unary t.line op ∷ fs) u us one e (not_between u.kind x.level p (omega (arith, operand-tight op))) ▸
         closes_on c (f.Unary t.line op) fs x u us p p
     reads {b} {c} (size_of {xs} {x} t h d e) fs u us z q p =
@@ -525,16 +595,14 @@ module _ (w : Bool) where
         steps w (b, (fs, s.Need)) (b, (fs, s.Sized t.line)) t (l ∷ (ts ++ r ∷ u ∷ us)) (rw h refl) ▸
         steps w (b, (fs, s.Sized t.line)) (b, (fs, s.SizedOpened t.line l.line)) l (ts ++ r ∷ u ∷ us) (rw g refl) ▸
         opens_size b fs t.line l.line ts (r ∷ u ∷ us) (begin_type d) ▸
-        reads_type d (f.SizeType t.line) fs r (u ∷ us) true i (λ t. refl) ▸
-        same (rw i refl)
+        reads_type d (f.SizeType t.line) fs r (u ∷ us) true i (λ t v. refl) (Ok (fs, s.Have (size_type_node t.line type))) (λ v x e. ap (λ (z : TypeName). stands fs (s.Have (size_type_node t.line z))) (sym e))
     reads {b} {c = e} (cast {c} {ts} {xs} {type} {x} l r h d g v y) fs u us z q p =
         let one = keeps-one w x.height z in
         let yes : nat_le (needs fs) 14 ≡ true = grind (arith, nat_tests) in
         regrouped w (b, (fs, s.Need)) _ _ (ap (λ (v : List Symbol). l ∷ v) (append_assoc ts (r ∷ xs) (u ∷ us))) ▸
         steps w (b, (fs, s.Need)) (b, (fs, s.Opened l.line)) l (ts ++ r ∷ (xs ++ u ∷ us)) (rw h refl) ▸
         opens_type b fs l.line ts (r ∷ (xs ++ u ∷ us)) (begin_type d) ▸
-        reads_type d (f.CastType l.line) fs r (xs ++ u ∷ us) true g (λ t. refl) ▸
-        same (rw (g, yes) refl) ▸
+        reads_type d (f.CastType l.line) fs r (xs ++ u ∷ us) true g (λ t v. refl) (Ok (f.Cast l.line type ∷ fs, s.Need)) (λ v x e. rw yes (ap (λ (z : TypeName). stands (f.Cast l.line z ∷ fs) s.Need) (sym e))) ▸
         reads v (f.Cast l.line type ∷ fs) u us one y (omega arith) ▸
         closes_on e (f.Cast l.line type) fs x u us (omega arith) p
     reads {b} {c = d} (binary {c} {xs} {ys} {a} {x} {op} t v e h y i) fs u us z q p =
@@ -640,22 +708,13 @@ module _ (w : Bool) where
         steps w (c, (fs, s.Words v)) (c, (fs, s.Struct v t.line)) t (us ++ left ∷ (vs ++ right ∷ rest)) (rw h refl) ▸
         tags y c fs v t.line left (vs ++ right ∷ rest) g ▸
         reads_members x fs v t.line tag (right ∷ rest) ▸
-        steps w (d, (f.Struct v t.line tag members ∷ fs, s.Due)) (d, (fs, s.Words (with_word v (word.Struct t.line tag members)))) right rest
-        (rw r (let q = kinds.closes-struct false right v t.line tag members fs (some_members x) in rw q refl))
+        same (ap (after right.kind d rest) (ap (mc.due (is_typed d right) right (f.Struct v t.line tag members ∷ fs)) r ∙ kinds.closes-struct (is_typed d right) right v t.line tag members fs (some_members x)))
     reads_words {b} {c = d} {l} (enumeration {c} {ts} {us} {vs} {ws} {v} {tag} {items} t left right e h y g x a r) fs rest i j =
         regrouped w (b, (fs, s.Words (no_words l))) _ _ (trailed ts us vs ws rest t left right) ▸
         reads_words e fs (t ∷ (us ++ left ∷ (vs ++ (ws ++ right ∷ rest)))) i (rw h refl) ▸
         steps w (c, (fs, s.Words v)) (c, (fs, s.Enum v t.line)) t (us ++ left ∷ (vs ++ (ws ++ right ∷ rest))) (rw h refl) ▸
         tags_enum y c fs v t.line left (vs ++ (ws ++ right ∷ rest)) g ▸
-        closes_items x a fs v t.line tag right rest r
-
-    -- the items up to the brace
-    closes_items : {b c : Names} {ts us : List Symbol} {xs : List (Enumerator Expr)} → Items w b c ts xs → Trailing us → (fs : List Frame) (v : Specifiers TypeWord) (l : ℕ) (tag : Option (List ℕ)) (r : Symbol) (rest : List Symbol) → r.kind ≡ k.RightBrace →
-        Leads w (run (b, (f.Enum v l tag [] ∷ fs, s.Items)) (ts ++ (us ++ r ∷ rest))) (run (c, (fs, s.Words (with_word v (word.Enum l tag xs)))) rest)
-    closes_items x no_comma fs v l tag r rest g = reads_items x fs v l tag true r rest g
-    closes_items {b} {c} {xs} x (a_comma t h) fs v l tag r rest g =
-        reads_items x fs v l tag false t (r ∷ rest) h ▸
-        steps w (c, (f.Enum v l tag xs ∷ fs, s.Items)) (c, (fs, s.Words (with_word v (word.Enum l tag xs)))) r rest (rw g (let q = kinds.closes-enum r v l tag xs fs (some_items x) in rw q refl))
+        closes_items c d vs items a fs v t.line tag right rest r (some_items x) (λ closing u us h. reads_items x fs v t.line tag closing u us h)
 
     -- the items and the token behind them
     reads_items : {b c : Names} {ts : List Symbol} {xs : List (Enumerator Expr)} → Items w b c ts xs → (fs : List Frame) (v : Specifiers TypeWord) (l : ℕ) (tag : Option (List ℕ)) (closing : Bool) (u : Symbol) (us : List Symbol) → u.kind ≡ end_brace closing →
@@ -670,9 +729,9 @@ module _ (w : Bool) where
         Leads w (run (b, (f.Enum v l tag xs ∷ fs, s.Items)) (ts ++ u ∷ us)) (on_ok (λ d. run d us) (under (declare x.name false c) (item_behind fs v l tag (xs ++ x ∷ []) closing)))
     reads_item {b} (bare_item t h) fs v l tag xs closing u us g =
         steps w (b, (f.Enum v l tag xs ∷ fs, s.Items)) (b, (f.Enum v l tag xs ∷ fs, s.Item (identifier_at t))) t (u ∷ us) (rw h refl) ▸
-        same (rw g (bare-ends closing))
+        same (ap (λ (kd : Kind). after kd b us (mc.item (f.Enum v l tag xs ∷ fs) (identifier_at t) kd)) g ∙ bare-ends closing)
       where
-        bare-ends : (closing : Bool) → after (end_brace closing) b us (m.item (f.Enum v l tag xs ∷ fs) (identifier_at t) (end_brace closing))
+        bare-ends : (closing : Bool) → after (end_brace closing) b us (mc.item (f.Enum v l tag xs ∷ fs) (identifier_at t) (end_brace closing))
             ≡ on_ok (λ d. run d us) (under (declare t.text false b) (item_behind fs v l tag (xs ++ item_of (identifier_at t) None ∷ []) closing))
         bare-ends true = refl
         bare-ends false = refl
@@ -680,7 +739,7 @@ module _ (w : Bool) where
         steps w (b, (f.Enum v l tag xs ∷ fs, s.Items)) (b, (f.Enum v l tag xs ∷ fs, s.Item (identifier_at t))) t (e ∷ (ys ++ u ∷ us)) (rw h refl) ▸
         steps w (b, (f.Enum v l tag xs ∷ fs, s.Item (identifier_at t))) (b, (f.Item (identifier_at t) ∷ f.Enum v l tag xs ∷ fs, s.Need)) e (ys ++ u ∷ us) (rw i refl) ▸
         reads d (f.Item (identifier_at t) ∷ f.Enum v l tag xs ∷ fs) u us z j (rw g (omega (arith, brace-power closing))) ▸
-        tested w c (f.Item (identifier_at t) ∷ f.Enum v l tag xs ∷ fs) x u us (Ok (f.Enum v l tag xs ∷ fs, s.ItemEnd (item_of (identifier_at t) (Some x.tree)) closing)) z (rw g (valued-have closing)) ▸
+        tested w c (f.Item (identifier_at t) ∷ f.Enum v l tag xs ∷ fs) x u us (Ok (f.Enum v l tag xs ∷ fs, s.ItemEnd (item_of (identifier_at t) (Some x.tree)) closing)) z (ap (λ (kd : Kind). have kd (f.Item (identifier_at t) ∷ f.Enum v l tag xs ∷ fs) x) g ∙ valued-have closing) ▸
         same (valued-ends closing)
       where
         brace-power : (closing : Bool) → power_of (end_brace closing) ≤ 1
@@ -720,7 +779,7 @@ module _ (w : Bool) where
 
     -- the declarators of a member, and the token behind them
     reads_declarators : {b c : Names} {ts : List Symbol} {ds : List Declarator} → Declarators w b c ts ds → (fs : List Frame) (v : Specifiers TypeWord) (u : Symbol) (us : List Symbol) → kinds.ends u.kind ≡ true →
-        Leads w (run (b, (f.Member v [] ∷ fs, s.Begin mode.Named)) (ts ++ u ∷ us)) (after u.kind c us (m.member u.kind fs v ds))
+        Leads w (run (b, (f.Member v [] ∷ fs, s.Begin mode.Named)) (ts ++ u ∷ us)) (after u.kind c us (mc.member u.kind fs v ds))
     reads_declarators (one_declarator d) fs v u us e = reads_level d (f.Member v [] ∷ fs) u us e
     reads_declarators {b} (more_declarators {c} {ts} {us = vs} {ds} t d h x) fs v u us e =
         regrouped w (b, (f.Member v [] ∷ fs, s.Begin mode.Named)) _ _ (around ts vs (u ∷ us) t) ▸
@@ -730,9 +789,21 @@ module _ (w : Bool) where
 
     -- a type name, and the token behind it
     reads_type : {b c : Names} {ts : List Symbol} {type : TypeName} → TypeTokens w b c ts type → (context : Frame) (fs : List Frame) (u : Symbol) (us : List Symbol) (closing : Bool) → u.kind ≡ end_paren closing →
-        ((t : Symbol) {v : Specifiers TypeWord} → m.specified t (context ∷ fs) v ≡ inner_specified t t.kind (context ∷ fs) v mode.Abstract) →
-        Leads w (run (b, (context ∷ fs, s.Words (no_words (line_of (ts ++ u ∷ us))))) (ts ++ u ∷ us)) (after u.kind c us (finish_type u.kind (context ∷ fs) type))
-    reads_type d context fs u us closing h g = ?
+        ((t : Symbol) (v : Specifiers TypeWord) → mc.specified t (context ∷ fs) v ≡ inner_specified t t.kind (context ∷ fs) v mode.Abstract) → (o : Outcome) →
+        ((v : Specifiers TypeWord) (x : Option Whole) → type ≡ type_of v (declarator_in x) → finish (end_paren closing) (context ∷ fs) v x ≡ o) →
+        Leads w (run (b, (context ∷ fs, s.Words (no_words (line_of (ts ++ u ∷ us))))) (ts ++ u ∷ us)) (after u.kind c us o)
+    reads_type {b} {c} (plain_type {l} {ts} {v} d at n) context fs u us closing h g o r =
+        same (ap (λ (n : ℕ). run (b, (context ∷ fs, s.Words (no_words n))) (ts ++ u ∷ us)) (line-is l ts (u ∷ us) at)) ▸
+        reads_words d (context ∷ fs) (u ∷ us) (λ e. cc) (head-no_brace u us (end_paren closing) h (paren-no_brace closing)) ▸
+        ends_inner c context fs v mode.Abstract u us closing h n (λ t. g t v) ▸
+        same (ap (after u.kind c us) (ap (λ (kd : Kind). finish kd (context ∷ fs) v None) h ∙ r v None refl))
+    reads_type {b} {c = e} (derived_type {c} {l} {h = i} {ts} {us = vs} {v} {x} d at n y) context fs u us closing h g o r =
+        same (ap (λ (n : ℕ). run (b, (context ∷ fs, s.Words (no_words n))) ((ts ++ vs) ++ u ∷ us)) (line-is l (ts ++ vs) (u ∷ us) (starts-more l ts vs at))) ▸
+        regrouped w (b, (context ∷ fs, s.Words (no_words l))) _ _ (append_assoc ts vs (u ∷ us)) ▸
+        reads_words d (context ∷ fs) (vs ++ u ∷ us) (λ e. cc) (beginning-no_brace mode.Abstract vs (u ∷ us) (begin_level y)) ▸
+        begins_inner c context fs v mode.Abstract vs (u ∷ us) (begin_level y) n (λ t. g t v) ▸
+        reads_level y (f.Specifiers v ∷ context ∷ fs) u us (rw h (paren-ends closing)) ▸
+        same (ap (after u.kind e us) (ap (λ (kd : Kind). finish kd (context ∷ fs) v (Some (whole i x))) h ∙ r v (Some (whole i x)) refl))
 
     -- a declarator, and the token behind it
     pub reads_level : {n : Mode} {b c : Names} {l : ℕ} {ts : List Symbol} {x : Direct} → Level w n b c l ts x → (fs : List Frame) (u : Symbol) (us : List Symbol) → kinds.ends u.kind ≡ true →
@@ -795,4 +866,19 @@ module _ (w : Bool) where
     reads_parameter : {b c : Names} {ts : List Symbol} {p : Parameter} → ParameterTokens w b c ts p → (fs : List Frame) (d : Direct) (ps : List Parameter) (closing : Bool) (u : Symbol) (us : List Symbol) → u.kind ≡ end_paren closing →
         Keeps w (length ps) 30 → (is_empty ps ≡ true → void_alone (ts ++ u ∷ us) ≡ false) →
         Leads w (run (b, (f.Parameters d ps ∷ fs, s.Due)) (ts ++ u ∷ us)) (on_ok (λ e. run e us) (parameter_behind c fs d (ps ++ p ∷ []) closing))
-    reads_parameter d fs e ps closing u us h z v = ?
+    reads_parameter {b} {c} (unnamed {l} {ts} {v = x} d at n) fs e ps closing u us h z v =
+        due_parameter b fs e ps ts (u ∷ us) (begin_specified d at) v (head-no_brace u us (end_paren closing) h (paren-no_brace closing)) ▸
+        same (ap (λ (n : ℕ). run (b, (f.Parameters e ps ∷ fs, s.Words (no_words n))) (ts ++ u ∷ us)) (line-is l ts (u ∷ us) at)) ▸
+        reads_words d (f.Parameters e ps ∷ fs) (u ∷ us) (λ e class v. refl) (head-no_brace u us (end_paren closing) h (paren-no_brace closing)) ▸
+        ends_inner c (f.Parameters e ps) fs x mode.Either u us closing h n (λ t. refl) ▸
+        same (ap (λ (kd : Kind). after kd c us (finish kd (f.Parameters e ps ∷ fs) x None)) h ∙ parameter-ends c fs e ps x None us closing) ▸
+        counted_end w us (length ps) (parameter_behind c fs e (ps ++ parameter_of x None ∷ []) closing) z
+    reads_parameter {b} (declared {c} {d = y} {l} {h = i} {ts} {us = vs} {v = x} {x = q} d at n o) fs e ps closing u us h z v =
+        regrouped w (b, (f.Parameters e ps ∷ fs, s.Due)) _ _ (append_assoc ts vs (u ∷ us)) ▸
+        due_parameter b fs e ps ts (vs ++ u ∷ us) (begin_specified d at) (λ a. let P : List Symbol → Type 0 = λ e. void_alone e ≡ false in subst P (append_assoc ts vs (u ∷ us)) (v a)) (beginning-no_brace mode.Either vs (u ∷ us) (begin_level o)) ▸
+        same (ap (λ (n : ℕ). run (b, (f.Parameters e ps ∷ fs, s.Words (no_words n))) (ts ++ (vs ++ u ∷ us))) (line-is l ts (vs ++ u ∷ us) at)) ▸
+        reads_words d (f.Parameters e ps ∷ fs) (vs ++ u ∷ us) (λ e class v. refl) (beginning-no_brace mode.Either vs (u ∷ us) (begin_level o)) ▸
+        begins_inner c (f.Parameters e ps) fs x mode.Either vs (u ∷ us) (begin_level o) n (λ t. refl) ▸
+        reads_level o (f.Specifiers x ∷ f.Parameters e ps ∷ fs) u us (rw h (paren-ends closing)) ▸
+        same (ap (λ (kd : Kind). after kd y us (finish kd (f.Parameters e ps ∷ fs) x (Some (whole i q)))) h ∙ parameter-ends y fs e ps x (Some (whole i q)) us closing) ▸
+        counted_end w us (length ps) (parameter_behind (declare_plain q.identifier y) fs e (ps ++ parameter_of x (Some (declarator_of i q)) ∷ []) closing) z

@@ -127,30 +127,30 @@ abbrev pub is_name : Kind → Bool
 is_name k.Name = true
 is_name _ = false
 
-begin_text : {b : Names} {l : ℕ} {ts : List Symbol} {text : Option (List ℕ)} → Strings l ts text → Head (starts_operand b) ts
-begin_text (a_text t h) = one _ t [] (rw h refl)
-begin_text (more_text {ts = ts} t d h) = longer _ ts (t ∷ []) (begin_text d)
+begin_text : (b : Names) {l : ℕ} {ts : List Symbol} {text : Option (List ℕ)} → Strings l ts text → Head (starts_operand b) ts
+begin_text b (a_text t h) = one (starts_operand b) t [] (rw h refl)
+begin_text b (more_text {ts = ts} t d h) = longer (starts_operand b) ts (t ∷ []) (begin_text b d)
 
 pub begins : {w : Bool} {b c : Names} {ts : List Symbol} {x : Operand} → Phrase w b c ts x → Head (starts_operand b) ts
-begins (name t h n) = one _ t [] (rw (h, n) refl)
-begins (constant t h) = one _ t [] (rw h refl)
-begins (string d) = begin_text d
-begins (paren l r h d g) = one _ l _ (rw h refl)
-begins (offset_of t l u v r h n m g d i j q) = one _ t _ (rw (h, n) refl)
-begins (index l r d p h b g) = longer _ _ _ (begins d)
-begins (call l r d p h b g) = longer _ _ _ (begins d)
-begins (call_none l r d p h g) = longer _ _ _ (begins d)
-begins (member dot t d p h g) = longer _ _ _ (begins d)
-begins (arrow dot t d p h g) = longer _ _ _ (begins d)
-begins (postfix t d p h) = longer _ _ _ (begins d)
-begins {b} (unary {op} t h d p) = one _ t _ (unary_operand (is_typed b t) t.kind op h)
-begins (size_of t h d p) = one _ t _ (rw h refl)
-begins (size_of_type t l r h g d i) = one _ t _ (rw h refl)
-begins (cast l r h t g d p) = one _ l _ (rw h refl)
-begins (binary t a p h b q) = longer _ _ _ (begins a)
-begins (conditional t u a p h b g c q) = longer _ _ _ (begins a)
-begins (assign t a p h b q) = longer _ _ _ (begins a)
-begins (comma t a h b q) = longer _ _ _ (begins a)
+begins {b} (name t h n) = one (starts_operand b) t [] (rw (h, n) refl)
+begins {b} (constant t h) = one (starts_operand b) t [] (rw h refl)
+begins {b} (string d) = begin_text b d
+begins {b} (paren {ts} l r h d g) = one (starts_operand b) l (ts ++ r ∷ []) (rw h refl)
+begins {b} (offset_of {ts} t l u v r h n m g d i j q) = one (starts_operand b) t (l ∷ ts ++ u ∷ v ∷ r ∷ []) (rw (h, n) refl)
+begins {b} (index {xs} {ys} l r d p h e g) = longer (starts_operand b) (xs ++ l ∷ ys) (r ∷ []) (longer (starts_operand b) xs (l ∷ ys) (begins d))
+begins {b} (call {xs} {ys} l r d p h e g) = longer (starts_operand b) (xs ++ l ∷ ys) (r ∷ []) (longer (starts_operand b) xs (l ∷ ys) (begins d))
+begins {b} (call_none {xs} l r d p h g) = longer (starts_operand b) xs (l ∷ r ∷ []) (begins d)
+begins {b} (member {xs} dot t d p h g) = longer (starts_operand b) xs (dot ∷ t ∷ []) (begins d)
+begins {b} (arrow {xs} dot t d p h g) = longer (starts_operand b) xs (dot ∷ t ∷ []) (begins d)
+begins {b} (postfix {xs} t d p h) = longer (starts_operand b) xs (t ∷ []) (begins d)
+begins {b} (unary {xs} {op} t h d p) = one (starts_operand b) t xs (unary_operand (is_typed b t) t.kind op h)
+begins {b} (size_of {xs} t h d p) = one (starts_operand b) t xs (rw h refl)
+begins {b} (size_of_type {ts} t l r h g d i) = one (starts_operand b) t (l ∷ ts ++ r ∷ []) (rw h refl)
+begins {b} (cast {ts} {xs} l r h t g d p) = one (starts_operand b) l (ts ++ r ∷ xs) (rw h refl)
+begins {b} (binary {xs} {ys} t a p h e q) = longer (starts_operand b) xs (t ∷ ys) (begins a)
+begins {b} (conditional {xs} {ys} {zs} t u a p h e g c q) = longer (starts_operand b) (xs ++ t ∷ ys) (u ∷ zs) (longer (starts_operand b) xs (t ∷ ys) (begins a))
+begins {b} (assign {xs} {ys} t a p h e q) = longer (starts_operand b) xs (t ∷ ys) (begins a)
+begins {b} (comma {xs} {ys} t a h e q) = longer (starts_operand b) xs (t ∷ ys) (begins a)
 
 abbrev pub is_closed : Symbol → Bool
 is_closed t = not (is_left_paren t.kind)
@@ -161,16 +161,16 @@ NoCast names ts = Head is_closed ts ⊎ ((t : Symbol) × (us : List Symbol) × (
 
 farther : (names : Names) (ts us : List Symbol) → NoCast names ts → NoCast names (ts ++ us)
 unfolding NoCast
-farther names ts us (inl b) = inl (longer _ ts us b)
-farther names ts us (inr b) = inr (b.0, b.1 ++ us, ap (λ (v : List Symbol). v ++ us) b.2, b.3, longer _ b.1 us b.4)
+farther names ts us (inl b) = inl (longer is_closed ts us b)
+farther names ts us (inr b) = inr (b.0, b.1 ++ us, ap (λ (v : List Symbol). v ++ us) b.2, b.3, longer (starts_operand names) b.1 us b.4)
 
 closed : (names : Names) (t : Symbol) (us : List Symbol) → is_closed t ≡ true → NoCast names (t ∷ us)
 unfolding NoCast
-closed names t us h = inl (one _ t us h)
+closed names t us h = inl (one is_closed t us h)
 
 inside : (names : Names) (l : Symbol) (ts us : List Symbol) → l.kind ≡ k.LeftParen → Head (starts_operand names) ts → NoCast names (l ∷ ts ++ us)
 unfolding NoCast
-inside names l ts us h b = inr (l, ts ++ us, refl, h, longer _ ts us b)
+inside names l ts us h b = inr (l, ts ++ us, refl, h, longer (starts_operand names) ts us b)
 
 text_closed : (names : Names) {l : ℕ} {ts : List Symbol} {text : Option (List ℕ)} → Strings l ts text → NoCast names ts
 text_closed names (a_text t h) = closed names t [] (rw h refl)
@@ -180,17 +180,17 @@ pub no_cast : {w : Bool} {b c : Names} {ts : List Symbol} {x : Operand} → Phra
 no_cast {b} (name t h n) w = closed b t [] (rw h refl)
 no_cast {b} (constant t h) w = closed b t [] (rw h refl)
 no_cast {b} (string d) w = text_closed b d
-no_cast {b} (paren l r h d g) w = inside b l _ (r ∷ []) h (begins d)
-no_cast {b} (offset_of t l u v r h n m g d i j q) w = closed b t _ (rw h refl)
-no_cast {b} (index l r d p h e g) w = farther b _ _ (no_cast d (omega arith))
-no_cast {b} (call l r d p h e g) w = farther b _ _ (no_cast d (omega arith))
-no_cast {b} (call_none l r d p h g) w = farther b _ _ (no_cast d (omega arith))
-no_cast {b} (member dot t d p h g) w = farther b _ _ (no_cast d (omega arith))
-no_cast {b} (arrow dot t d p h g) w = farther b _ _ (no_cast d (omega arith))
-no_cast {b} (postfix t d p h) w = farther b _ _ (no_cast d (omega arith))
-no_cast {b} (unary {op} t h d p) w = closed b t _ (rw (unary_closed t.kind op h) refl)
-no_cast {b} (size_of t h d p) w = closed b t _ (rw h refl)
-no_cast {b} (size_of_type t l r h g d i) w = closed b t _ (rw h refl)
+no_cast {b} (paren {ts} l r h d g) w = inside b l ts (r ∷ []) h (begins d)
+no_cast {b} (offset_of {ts} t l u v r h n m g d i j q) w = closed b t (l ∷ ts ++ u ∷ v ∷ r ∷ []) (rw h refl)
+no_cast {b} (index {xs} {ys} l r d p h e g) w = farther b (xs ++ l ∷ ys) (r ∷ []) (farther b xs (l ∷ ys) (no_cast d (omega arith)))
+no_cast {b} (call {xs} {ys} l r d p h e g) w = farther b (xs ++ l ∷ ys) (r ∷ []) (farther b xs (l ∷ ys) (no_cast d (omega arith)))
+no_cast {b} (call_none {xs} l r d p h g) w = farther b xs (l ∷ r ∷ []) (no_cast d (omega arith))
+no_cast {b} (member {xs} dot t d p h g) w = farther b xs (dot ∷ t ∷ []) (no_cast d (omega arith))
+no_cast {b} (arrow {xs} dot t d p h g) w = farther b xs (dot ∷ t ∷ []) (no_cast d (omega arith))
+no_cast {b} (postfix {xs} t d p h) w = farther b xs (t ∷ []) (no_cast d (omega arith))
+no_cast {b} (unary {xs} {op} t h d p) w = closed b t xs (rw (unary_closed t.kind op h) refl)
+no_cast {b} (size_of {xs} t h d p) w = closed b t xs (rw h refl)
+no_cast {b} (size_of_type {ts} t l r h g d i) w = closed b t (l ∷ ts ++ r ∷ []) (rw h refl)
 no_cast {b} (cast l r h t g d p) w = absurd (omega arith)
 no_cast {b} (binary {op} t a p h e q) w = absurd (omega (arith, level-small op))
 no_cast {b} (conditional t u a p h e g c q) w = absurd (omega arith)
@@ -198,9 +198,9 @@ no_cast {b} (assign t a p h e q) w = absurd (omega arith)
 no_cast {b} (comma t a h e q) w = absurd (omega arith)
 
 -- more tokens, which begin the list where it was empty
-extend : {test : Symbol → Bool} {A : Type 0} (ts us : List Symbol) → ((ts ≡ []) × A) ⊎ Head test ts → Head test us → Head test (ts ++ us)
-extend {test} ts us (inl empty) b = let P : List Symbol → Type 0 = λ v. Head test (v ++ us) in subst P (sym empty.0) b
-extend {test} ts us (inr found) b = longer test ts us found
+extend : (test : Symbol → Bool) {A : Type 0} (ts us : List Symbol) → ((ts ≡ []) × A) ⊎ Head test ts → Head test us → Head test (ts ++ us)
+extend test ts us (inl empty) b = let P : List Symbol → Type 0 = λ v. Head test (v ++ us) in subst P (sym empty.0) b
+extend test ts us (inr found) b = longer test ts us found
 
 starts-type : (storage : Bool) (b : Names) (t : Symbol) → starts_type b t ≡ true → starts storage b t ≡ true
 starts-type true b t h = type_specifies (is_typed b t) t.kind h
@@ -214,9 +214,9 @@ starts-storage false b t class h g = cc
 begin_words : {w : Bool} {storage : Bool} {b c : Names} {l : ℕ} {v : Specifiers TypeWord} {ts : List Symbol} → Specified w storage b c l ts v →
     ((ts ≡ []) × (c ≡ b)) ⊎ Head (starts storage b) ts
 begin_words none = inl (refl, refl)
-begin_words {storage} {b} (simple {ts} {u} t d h) = inr (extend ts (t ∷ []) (begin_words d) (one _ t [] (starts-type storage b t (word_begins (is_typed b t) t.kind u h))))
-begin_words {storage} {b} (const {ts} t d h) = inr (extend ts (t ∷ []) (begin_words d) (one _ t [] (starts-type storage b t (rw h refl))))
-begin_words {storage} {b} (stored {ts} {class} t d s n h) = inr (extend ts (t ∷ []) (begin_words d) (one _ t [] (starts-storage storage b t class s h)))
+begin_words {storage} {b} (simple {ts} {u} t d h) = inr (extend (starts storage b) ts (t ∷ []) (begin_words d) (one (starts storage b) t [] (starts-type storage b t (word_begins (is_typed b t) t.kind u h))))
+begin_words {storage} {b} (const {ts} t d h) = inr (extend (starts storage b) ts (t ∷ []) (begin_words d) (one (starts storage b) t [] (starts-type storage b t (rw h refl))))
+begin_words {storage} {b} (stored {ts} {class} t d s n h) = inr (extend (starts storage b) ts (t ∷ []) (begin_words d) (one (starts storage b) t [] (starts-storage storage b t class s h)))
 begin_words {storage} {b} (typedef {c} {ts} t d n h g) = inr (go (begin_words d))
   where
     go : ((ts ≡ []) × (c ≡ b)) ⊎ Head (starts storage b) ts → Head (starts storage b) (ts ++ t ∷ [])
@@ -224,14 +224,16 @@ begin_words {storage} {b} (typedef {c} {ts} t d n h g) = inr (go (begin_words d)
         let P : Names → Type 0 = λ v. is_type v t.text ≡ true in
         let Q : List Symbol → Type 0 = λ v. Head (starts storage b) (v ++ t ∷ []) in
         let q : is_type b t.text ≡ true = subst P p.1 g in
-        subst Q (sym p.0) (one _ t [] (starts-type storage b t (rw h q)))
-    go (inr f) = longer _ ts (t ∷ []) f
-begin_words {storage} {b} (struct_tag {ts} t u d h g) = inr (extend ts (t ∷ u ∷ []) (begin_words d) (one _ t (u ∷ []) (starts-type storage b t (rw h refl))))
-begin_words {storage} {b} (enum_tag {ts} t u d h g) = inr (extend ts (t ∷ u ∷ []) (begin_words d) (one _ t (u ∷ []) (starts-type storage b t (rw h refl))))
+        subst Q (sym p.0) (one (starts storage b) t [] (starts-type storage b t (rw h q)))
+    go (inr f) = longer (starts storage b) ts (t ∷ []) f
+begin_words {storage} {b} (struct_tag {ts} t u d h g) = inr (extend (starts storage b) ts (t ∷ u ∷ []) (begin_words d) (one (starts storage b) t (u ∷ []) (starts-type storage b t (rw h refl))))
+begin_words {storage} {b} (enum_tag {ts} t u d h g) = inr (extend (starts storage b) ts (t ∷ u ∷ []) (begin_words d) (one (starts storage b) t (u ∷ []) (starts-type storage b t (rw h refl))))
 begin_words {storage} {b} (structure {ts} {us} {vs} t l r d h y g m i) =
-    inr (extend ts (t ∷ us ++ l ∷ vs ++ r ∷ []) (begin_words d) (one _ t _ (starts-type storage b t (rw h refl))))
+    let P = starts storage b in
+    inr (longer P (ts ++ t ∷ us ++ l ∷ vs) (r ∷ []) (longer P (ts ++ t ∷ us) (l ∷ vs) (extend P ts (t ∷ us) (begin_words d) (one P t us (starts-type storage b t (rw h refl))))))
 begin_words {storage} {b} (enumeration {ts} {us} {vs} {ws} t l r d h y g m z i) =
-    inr (extend ts (t ∷ us ++ l ∷ vs ++ ws ++ r ∷ []) (begin_words d) (one _ t _ (starts-type storage b t (rw h refl))))
+    let P = starts storage b in
+    inr (longer P (ts ++ t ∷ us ++ l ∷ vs ++ ws) (r ∷ []) (longer P (ts ++ t ∷ us ++ l ∷ vs) ws (longer P (ts ++ t ∷ us) (l ∷ vs) (extend P ts (t ∷ us) (begin_words d) (one P t us (starts-type storage b t (rw h refl)))))))
 
 -- Specifiers that are there begin with a token that begins some.
 pub begin_specified : {w : Bool} {storage : Bool} {b c : Names} {l : ℕ} {v : Specifiers TypeWord} {ts : List Symbol} → Specified w storage b c l ts v → starts_at l ts → Head (starts storage b) ts
@@ -243,7 +245,7 @@ begin_specified {storage} {b} {c} {l} {v} {ts} d at = go (begin_words d)
 
 pub begin_type : {w : Bool} {b c : Names} {ts : List Symbol} {type : TypeName} → TypeTokens w b c ts type → Head (starts_type b) ts
 begin_type (plain_type d at h) = begin_specified d at
-begin_type (derived_type {ts} {us} d at h p) = longer _ ts us (begin_specified d at)
+begin_type {b} (derived_type {ts} {us} d at h p) = longer (starts_type b) ts us (begin_specified d at)
 
 -- a first token of this line with which a declarator without stars begins, no name where none may stand
 pub record Opening (m : Mode) (l : ℕ) (ts : List Symbol) : Type 0 where
@@ -285,7 +287,7 @@ level_opens : (kd : Kind) → opens_direct kd ≡ true → opens_level kd ≡ tr
 level_opens k.Star h = refl
 level_opens kd h = h
 
-more_beginning : {m : Mode} (ts us : List Symbol) → Beginning m ts → Beginning m (ts ++ us)
+pub more_beginning : {m : Mode} (ts us : List Symbol) → Beginning m ts → Beginning m (ts ++ us)
 more_beginning ts us o = record { t = o.t; us = o.us ++ us; all = ap (λ (v : List Symbol). v ++ us) o.all; opens = o.opens; plain = o.plain }
 
 begin_stars : {m : Mode} {l : ℕ} {ts : List Symbol} {cs : List Bool} → Stars l ts cs → Beginning m ts

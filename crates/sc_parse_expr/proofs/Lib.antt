@@ -1,3 +1,6 @@
 pub mod Levels
 pub mod Runs
 pub mod Heads
+pub mod Tokens
+pub mod Complete
+pub mod Fronts

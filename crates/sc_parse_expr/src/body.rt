@@ -276,12 +276,14 @@ fn item_named(alloc: Global, token: &Symbol) -> Result<State, Trouble>
 }
 
 fn enumeration_ends(
+    token: &Symbol,
+    frames: &Stack<Frame>,
     v: Specifiers,
     line: u32,
     tag: Option<Name>,
     items: Items<Enumerator>,
 ) -> Result<State, Trouble>
-    ensures { (t : Symbol) (fs : List Frame) → Steps (spec.items t (Frame.Enum v line tag items ∷ fs) Kind.RightBrace) result fs }
+    ensures { Steps (spec.items token.now (Frame.Enum v line tag items ∷ frames.now) Kind.RightBrace) result frames.now }
 {
     if items.is_empty() {
         return Err(Trouble::Syntax);
@@ -290,11 +292,13 @@ fn enumeration_ends(
     Ok(State::Words(all))
 }
 
-fn items_end(frames: &mut Stack<Frame>) -> Result<State, Trouble>
-    ensures { (t : Symbol) → Steps (spec.items t frames.old Kind.RightBrace) result frames.new }
+fn items_end(token: &Symbol, frames: &mut Stack<Frame>) -> Result<State, Trouble>
+    ensures { Steps (spec.items token.now frames.old Kind.RightBrace) result frames.new }
 {
     match frames.pop() {
-        Some(Frame::Enum(v, line, tag, items)) => enumeration_ends(v, line, tag, items),
+        Some(Frame::Enum(v, line, tag, items)) => {
+            enumeration_ends(token, frames, v, line, tag, items)
+        }
         Some(other) => {
             drop(other);
             Err(Trouble::Syntax)
@@ -310,7 +314,7 @@ pub fn items(alloc: Global, token: &Symbol, frames: &mut Stack<Frame>) -> Result
 {
     match token.kind {
         Kind::Name => item_named(alloc, token),
-        Kind::RightBrace => items_end(frames),
+        Kind::RightBrace => items_end(token, frames),
         _ => Err(Trouble::Syntax),
     }
 }

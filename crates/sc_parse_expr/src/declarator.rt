@@ -135,17 +135,20 @@ fn level_ends(
     alloc: Global,
     kind: Kind,
     frames: &mut Stack<Frame>,
-    whole: Whole,
+    line: u32,
+    direct: Direct,
 ) -> Result<State, Trouble>
-    ensures { Steps (spec.level_ends kind frames.old whole.line whole.direct) result frames.new }
+    ensures { Steps (spec.level_ends kind frames.old line direct) result frames.new }
 {
     match frames.pop() {
-        Some(Frame::Level(mode, line, stars)) => {
-            ungroup(kind, frames, mode, line, stars, whole.direct)
+        Some(Frame::Level(mode, outer_line, stars)) => {
+            ungroup(kind, frames, mode, outer_line, stars, direct)
         }
-        Some(Frame::Outer) => outer(kind, whole),
-        Some(Frame::Member(v, ds)) => member_with(kind, frames, v, ds, whole),
-        Some(Frame::Specifiers(v)) => finish(alloc, kind, frames, v, Some(whole)),
+        Some(Frame::Outer) => outer(kind, Whole { line, direct }),
+        Some(Frame::Member(v, ds)) => member_with(kind, frames, v, ds, Whole { line, direct }),
+        Some(Frame::Specifiers(v)) => {
+            finish(alloc, kind, frames, v, Some(Whole { line, direct }))
+        }
         Some(other) => {
             drop(other);
             Err(Trouble::Syntax)
@@ -165,7 +168,7 @@ fn under_stars(
     ensures { Steps (spec.level_ends kind frames.old line (pointed_in stars d)) result frames.new }
 {
     let direct = pointed(stars, d)?;
-    level_ends(alloc, kind, frames, Whole { line, direct })
+    level_ends(alloc, kind, frames, line, direct)
 }
 
 fn direct_ends(

@@ -3,8 +3,10 @@
 
 mod body;
 mod declarator;
+mod driver;
 mod machine;
 mod operand;
 mod words;
 
+pub use driver::{Found, Refused, expression, opens_with};
 pub use machine::step;

@@ -236,9 +236,14 @@ fn goes_on(kind: Kind) -> Result<State, Trouble>
     }
 }
 
-fn first_name(ps: Items<Parameter>) -> Result<State, Trouble>
-    ensures { (fs gs : List Frame) (d : Direct) → Steps (spec.plain_name (Frame.Parameters d ps ∷ gs)) result fs }
+fn first_name(
+    frames: &Stack<Frame>,
+    d: Direct,
+    ps: Items<Parameter>,
+) -> Result<State, Trouble>
+    ensures { Steps (spec.plain_name (Frame.Parameters d ps ∷ frames.now)) result frames.now }
 {
+    drop(d);
     if ps.is_empty() {
         return Err(Trouble::LeftOut(Mark::OldStyle));
     }
@@ -251,10 +256,7 @@ fn plain_name(frames: &mut Stack<Frame>) -> Result<State, Trouble>
 {
     match frames.pop() {
         Some(Frame::Outer) => Err(Trouble::LeftOut(Mark::ImplicitInt)),
-        Some(Frame::Parameters(d, ps)) => {
-            drop(d);
-            first_name(ps)
-        }
+        Some(Frame::Parameters(d, ps)) => first_name(frames, d, ps),
         Some(other) => {
             drop(other);
             Err(Trouble::Syntax)

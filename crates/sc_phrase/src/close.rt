@@ -105,11 +105,7 @@ fn called(
     Ok(State::Have(call))
 }
 
-pub fn close_paren(
-    alloc: Global,
-    frames: &mut Stack<Frame>,
-    x: Operand,
-) -> Result<State, Trouble>
+pub fn close_paren(alloc: Global, frames: &mut Stack<Frame>, x: Operand) -> Result<State, Trouble>
     ensures { Steps (spec.close_paren frames.old x) result frames.new }
 {
     match frames.pop() {
@@ -138,11 +134,7 @@ fn array(alloc: Global, d: Direct, x: Operand) -> Result<State, Trouble>
     Ok(State::Direct(array))
 }
 
-pub fn close_bracket(
-    alloc: Global,
-    frames: &mut Stack<Frame>,
-    x: Operand,
-) -> Result<State, Trouble>
+pub fn close_bracket(alloc: Global, frames: &mut Stack<Frame>, x: Operand) -> Result<State, Trouble>
     ensures { Steps (spec.close_bracket frames.old x) result frames.new }
 {
     match frames.pop() {

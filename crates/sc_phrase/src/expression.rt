@@ -22,11 +22,7 @@ use sc_symbol::{Kind, Symbol};
 use sc_tree::{Binary, Constant, Expr, TypeName};
 use std::alloc::Global;
 
-fn at_assign(
-    op: Option<Binary>,
-    frames: &mut Stack<Frame>,
-    x: Operand,
-) -> Result<State, Trouble>
+fn at_assign(op: Option<Binary>, frames: &mut Stack<Frame>, x: Operand) -> Result<State, Trouble>
     ensures { Steps (spec.at_assign op frames.old x) result frames.new }
 {
     if x.level < 15 {
@@ -104,12 +100,7 @@ fn behind(
 }
 
 /// A token after what it closes.
-fn act(
-    alloc: Global,
-    kind: Kind,
-    frames: &mut Stack<Frame>,
-    x: Operand,
-) -> Result<State, Trouble>
+fn act(alloc: Global, kind: Kind, frames: &mut Stack<Frame>, x: Operand) -> Result<State, Trouble>
     ensures { Steps (spec.act kind frames.old x) result frames.new }
 {
     match kind {

@@ -5,11 +5,10 @@
 pub mod classes;
 pub mod close;
 pub mod expression;
-pub mod nodes;
-pub mod parts;
-
 mod frame;
+pub mod nodes;
 mod operand;
+pub mod parts;
 mod trouble;
 
 pub use frame::{Frame, State};

@@ -43,7 +43,11 @@ pub fn name_of(alloc: Global, text: &Bytes) -> Result<Name, NoMemory>
 fn name_level(text: &Bytes) -> u8
     ensures { result ≡ spec.name_level text.now }
 {
-    if text.as_slice() == b"__offsetof".as_slice() { 18 } else { 17 }
+    if text.as_slice() == b"__offsetof".as_slice() {
+        18
+    } else {
+        17
+    }
 }
 
 pub fn name_node(alloc: Global, token: &Symbol) -> Result<Operand, NoMemory>
@@ -55,11 +59,7 @@ pub fn name_node(alloc: Global, token: &Symbol) -> Result<Operand, NoMemory>
     made(alloc, token.line, level, 1, Expr::Name(token.line, name))
 }
 
-pub fn constant_node(
-    alloc: Global,
-    line: u32,
-    value: Option<Constant>,
-) -> Result<Operand, NoMemory>
+pub fn constant_node(alloc: Global, line: u32, value: Option<Constant>) -> Result<Operand, NoMemory>
     ensures { IfOk result (λ x. x ≡ spec.constant_node line value) }
 {
     made(alloc, line, 17, 1, Expr::Constant(line, value))
@@ -97,7 +97,13 @@ pub fn index_node(alloc: Global, a: Operand, x: Operand) -> Result<Operand, NoMe
     ensures { IfOk result (λ y. y ≡ spec.index_node a x) }
 {
     let height = higher(a.height.max(x.height));
-    made(alloc, a.line, 16, height, Expr::Index(a.line, a.tree, x.tree))
+    made(
+        alloc,
+        a.line,
+        16,
+        height,
+        Expr::Index(a.line, a.tree, x.tree),
+    )
 }
 
 /// A call; `highest` is the height of the highest argument.
@@ -117,7 +123,13 @@ pub fn member_node(alloc: Global, a: Operand, name: Name) -> Result<Operand, NoM
     ensures { IfOk result (λ y. y ≡ spec.member_node a name) }
 {
     let height = higher(a.height);
-    made(alloc, a.line, 16, height, Expr::Member(a.line, a.tree, name))
+    made(
+        alloc,
+        a.line,
+        16,
+        height,
+        Expr::Member(a.line, a.tree, name),
+    )
 }
 
 pub fn arrow_node(alloc: Global, a: Operand, name: Name) -> Result<Operand, NoMemory>
@@ -137,20 +149,28 @@ pub fn postfix_node(alloc: Global, a: Operand, op: Postfix) -> Result<Operand, N
 pub fn unary_node(alloc: Global, line: u32, op: Unary, x: Operand) -> Result<Operand, NoMemory>
     ensures { IfOk result (λ y. y ≡ spec.unary_node line op x) }
 {
-    made(alloc, line, 15, higher(x.height), Expr::Unary(line, op, x.tree))
+    made(
+        alloc,
+        line,
+        15,
+        higher(x.height),
+        Expr::Unary(line, op, x.tree),
+    )
 }
 
 pub fn size_node(alloc: Global, line: u32, x: Operand) -> Result<Operand, NoMemory>
     ensures { IfOk result (λ y. y ≡ spec.size_node line x) }
 {
-    made(alloc, line, 15, higher(x.height), Expr::SizeOf(line, x.tree))
+    made(
+        alloc,
+        line,
+        15,
+        higher(x.height),
+        Expr::SizeOf(line, x.tree),
+    )
 }
 
-pub fn size_type_node(
-    alloc: Global,
-    line: u32,
-    of: Shared<TypeName>,
-) -> Result<Operand, NoMemory>
+pub fn size_type_node(alloc: Global, line: u32, of: Shared<TypeName>) -> Result<Operand, NoMemory>
     ensures { IfOk result (λ y. y ≡ spec.size_type_node line of) }
 {
     made(alloc, line, 15, 1, Expr::SizeOfType(line, of))
@@ -164,14 +184,26 @@ pub fn cast_node(
 ) -> Result<Operand, NoMemory>
     ensures { IfOk result (λ y. y ≡ spec.cast_node line of x) }
 {
-    made(alloc, line, 14, higher(x.height), Expr::Cast(line, of, x.tree))
+    made(
+        alloc,
+        line,
+        14,
+        higher(x.height),
+        Expr::Cast(line, of, x.tree),
+    )
 }
 
 pub fn binary_node(alloc: Global, a: Operand, op: Binary, x: Operand) -> Result<Operand, NoMemory>
     ensures { IfOk result (λ y. y ≡ spec.binary_node a op x) }
 {
     let height = higher(a.height.max(x.height));
-    made(alloc, a.line, level_of(op), height, Expr::Binary(a.line, op, a.tree, x.tree))
+    made(
+        alloc,
+        a.line,
+        level_of(op),
+        height,
+        Expr::Binary(a.line, op, a.tree, x.tree),
+    )
 }
 
 pub fn conditional_node(
@@ -183,7 +215,13 @@ pub fn conditional_node(
     ensures { IfOk result (λ y. y ≡ spec.conditional_node a b x) }
 {
     let height = higher(a.height.max(b.height).max(x.height));
-    made(alloc, a.line, 3, height, Expr::Conditional(a.line, a.tree, b.tree, x.tree))
+    made(
+        alloc,
+        a.line,
+        3,
+        height,
+        Expr::Conditional(a.line, a.tree, b.tree, x.tree),
+    )
 }
 
 pub fn assign_node(
@@ -195,12 +233,24 @@ pub fn assign_node(
     ensures { IfOk result (λ y. y ≡ spec.assign_node a op x) }
 {
     let height = higher(a.height.max(x.height));
-    made(alloc, a.line, 2, height, Expr::Assign(a.line, op, a.tree, x.tree))
+    made(
+        alloc,
+        a.line,
+        2,
+        height,
+        Expr::Assign(a.line, op, a.tree, x.tree),
+    )
 }
 
 pub fn comma_node(alloc: Global, a: Operand, x: Operand) -> Result<Operand, NoMemory>
     ensures { IfOk result (λ y. y ≡ spec.comma_node a x) }
 {
     let height = higher(a.height.max(x.height));
-    made(alloc, a.line, 1, height, Expr::Comma(a.line, a.tree, x.tree))
+    made(
+        alloc,
+        a.line,
+        1,
+        height,
+        Expr::Comma(a.line, a.tree, x.tree),
+    )
 }

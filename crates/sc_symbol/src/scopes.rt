@@ -1,5 +1,5 @@
 // The names of types in scope.
-ghost use Rattle.std.specs.Prelude.{◌≡◌, ◌∷◌, [], None, reverse, IfOk, OnOk, OnErr};
+ghost use Rattle.std.specs.Prelude.{◌≡◌, ◌∷◌, [], None, length, reverse, IfOk, OnOk, OnErr};
 ghost use Rattle.sc_symbol.specs.Names as spec;
 
 use sc_base::{Bytes, Items, Name, NoMemory};
@@ -36,6 +36,13 @@ impl TypeNames {
         let mut scopes = Vec::new(alloc);
         scopes.push(Items::new(alloc))?;
         Ok(TypeNames { scopes })
+    }
+
+    /// The number of scopes.
+    pub fn len(&self) -> usize
+        ensures { result ≡ length self.now }
+    {
+        self.scopes.len()
     }
 
     /// Begins a scope. Where memory runs out nothing changes.
