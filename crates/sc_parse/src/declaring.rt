@@ -4,12 +4,12 @@ ghost use Rattle.sc_symbol.specs.Names.{Names};
 ghost use Rattle.sc_phrase.specs.Machine as inner;
 ghost use Rattle.sc_phrase.specs.Steps.{IsSymbol};
 ghost use Rattle.sc_phrase.specs.Types as types;
-ghost use Rattle.sc_parse.specs.Machine as spec;
-ghost use Rattle.sc_parse.specs.Trees as trees;
-ghost use Rattle.sc_parse.specs.Steps.{Goes};
+ghost use Rattle.sc_unit.specs.Machine as spec;
+ghost use Rattle.sc_unit.specs.Trees as trees;
+ghost use Rattle.sc_unit.specs.Steps.{Goes};
 
-use crate::around::{Around, Stage};
-use crate::obstacle::Obstacle;
+use sc_unit::{Around, Stage};
+use sc_unit::Obstacle;
 use sc_base::{Duplicate, Items, NoMemory, Stack};
 use sc_parse_expr::step;
 use sc_phrase::{Direct, Frame, Mode, State, Trouble, Whole};

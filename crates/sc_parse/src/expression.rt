@@ -3,12 +3,12 @@ ghost use Rattle.std.specs.Prelude.{◌≡◌, List, [], ◌∷◌, Some, None, 
 ghost use Rattle.sc_symbol.specs.Names.{Names};
 ghost use Rattle.sc_phrase.specs.Machine as inner;
 ghost use Rattle.sc_phrase.specs.Steps.{IsSymbol};
-ghost use Rattle.sc_parse.specs.Machine as spec;
-ghost use Rattle.sc_parse.specs.Steps.{Goes};
+ghost use Rattle.sc_unit.specs.Machine as spec;
+ghost use Rattle.sc_unit.specs.Steps.{Goes};
 
-use crate::around::{Around, Head, Stage, Test};
+use sc_unit::{Around, Head, Stage, Test};
 use crate::declaring::{STUCK, framed, initial_joins, initialized_ends, kept, list_ends};
-use crate::obstacle::Obstacle;
+use sc_unit::Obstacle;
 use sc_base::{Items, Shared, Stack};
 use sc_parse_expr::step;
 use sc_phrase::{Frame, Operand, State};

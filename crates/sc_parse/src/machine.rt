@@ -2,15 +2,15 @@
 ghost use Rattle.std.specs.Prelude.{◌≡◌, List, Ok};
 ghost use Rattle.sc_symbol.specs.Names.{Names};
 ghost use Rattle.sc_phrase.specs.Steps.{IsSymbol};
-ghost use Rattle.sc_parse.specs.Machine as spec;
-ghost use Rattle.sc_parse.specs.Steps.{Goes};
+ghost use Rattle.sc_unit.specs.Machine as spec;
+ghost use Rattle.sc_unit.specs.Steps.{Goes};
 
-use crate::around::{Around, Stage};
+use sc_unit::{Around, Stage};
 use crate::declaring::{STUCK, in_declarator, in_specifiers, initial_ends};
 use crate::expression::{
     ends_at_colon, ends_at_semicolon, expression_due, in_expression, initial,
 };
-use crate::obstacle::Obstacle;
+use sc_unit::Obstacle;
 use crate::stating::{due, got};
 use sc_base::Stack;
 use sc_phrase::Trouble;

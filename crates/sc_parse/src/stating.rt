@@ -2,14 +2,14 @@
 ghost use Rattle.std.specs.Prelude.{◌≡◌, List, [], ◌∷◌, ◌++◌, Some, None, Ok, IfOk, MatchOption, false, not};
 ghost use Rattle.sc_symbol.specs.Names.{Names};
 ghost use Rattle.sc_phrase.specs.Steps.{IsSymbol};
-ghost use Rattle.sc_parse.specs.Machine as spec;
-ghost use Rattle.sc_parse.specs.Trees as trees;
-ghost use Rattle.sc_parse.specs.Steps.{Goes, ends_on as ends_before};
+ghost use Rattle.sc_unit.specs.Machine as spec;
+ghost use Rattle.sc_unit.specs.Trees as trees;
+ghost use Rattle.sc_unit.specs.Steps.{Goes, ends_on as ends_before};
 
-use crate::around::{Around, Head, Stage, Test};
+use sc_unit::{Around, Head, Stage, Test};
 use crate::declaring::{STUCK, empty_block, kept, specifiers, unit_with};
 use crate::expression::begin;
-use crate::obstacle::Obstacle;
+use sc_unit::Obstacle;
 use sc_base::{NoMemory, Shared, Stack};
 use sc_symbol::{Kind, Symbol, TypeNames};
 use sc_tree::{Block, Declarator, External, Function, Specifiers, Statement};

@@ -2,17 +2,18 @@
 ghost use Rattle.std.specs.Prelude.{◌≡◌, ◌≤◌, List, [], ◌∷◌, All, Err, IfOk, IfErr, codes};
 ghost use Rattle.sc_symbol.specs.declared.kind.Symbol.{Symbol as OneSymbol};
 ghost use Rattle.sc_phrase.specs.Steps.{IsSymbol};
-ghost use Rattle.sc_parse.specs.Machine.{start};
-ghost use Rattle.sc_parse.specs.Parse.{Gives};
-ghost use Rattle.sc_parse.specs.Claims.{Parses};
+ghost use Rattle.sc_unit.specs.Machine.{start};
+ghost use Rattle.sc_unit.specs.Parse.{Gives};
+ghost use Rattle.sc_unit.specs.Claims.{Parses};
 ghost use Rattle.sc_token.specs.Symbols.{symbols as symbols_of};
-ghost use Rattle.sc_parse.specs.Parse as spec;
+ghost use Rattle.sc_unit.specs.Parse as spec;
 
-use crate::around::{Around, Stage};
+use sc_unit::{Around, Stage};
 use crate::machine::advance;
-use crate::obstacle::Obstacle;
+use sc_unit::Obstacle;
 use sc_base::{Bytes, Fault, Items, NoMemory, Refusal, Stack, X};
 use sc_lex::Token;
+use sc_parse_expr::opens_with;
 use sc_phrase::{Limit, Trouble};
 use sc_symbol::{Kind, Mark, Symbol, TypeNames};
 use sc_token::symbols;
@@ -86,18 +87,6 @@ fn refusal(alloc: Global, obstacle: Obstacle, before: u32, here: u32) -> Fault
     }
 }
 
-/// The open brackets behind a token, with this many before it.
-fn opens(count: u32, kind: Kind) -> u32
-    requires { count ≤ 500 }
-    ensures { result ≡ spec.opens count kind }
-{
-    match kind {
-        Kind::LeftParen | Kind::LeftBracket | Kind::LeftBrace => count + 1,
-        Kind::RightParen | Kind::RightBracket | Kind::RightBrace => count.saturating_sub(1),
-        _ => count,
-    }
-}
-
 /// The most brackets that are open at one place.
 const MAX_OPEN: u32 = 500;
 
@@ -118,7 +107,7 @@ fn take(
     ensures few { IfOk result (λ r. r.1 ≤ 500) }
     ensures err { IfErr result (λ e. (ts : List OneSymbol) → Gives (spec.answer count before (names.old, (around.old, stage)) (token.now ∷ ts)) (Err e)) }
 {
-    let count = opens(count, token.kind);
+    let count = opens_with(count, token.kind);
     if count > MAX_OPEN {
         return Err(too_high(alloc, token.line));
     }
@@ -194,7 +183,7 @@ fn read(alloc: Global, symbols: &[Symbol]) -> Result<Unit, Fault>
 /// The unit that the symbols are. X5 has the line of the first that no unit goes on with, or of the last where they end
 /// too early; X9 comes at one of a construct that is left out, X10 where a limit is passed. A symbol of the kind `Name`
 /// has 1 to 255 bytes.
-#[tactic(auto, using(crate::proofs::Answers::parses))]
+#[tactic(auto, using(sc_unit::proofs::Answers::parses))]
 pub fn unit(alloc: Global, symbols: &[Symbol]) -> Result<Unit, Fault>
     requires { All IsSymbol symbols.now }
     ensures { Parses symbols.now result }

@@ -1,11 +1,11 @@
 //! What each preprocessing token is to the grammar (ANSI 2.1.1.2, phase 7).
 #![tactic(auto)]
 
+mod listing;
 mod literal;
 mod number;
 mod punctuator;
-mod symbols;
 mod word;
 
-pub use symbols::symbols;
+pub use listing::symbols;
 

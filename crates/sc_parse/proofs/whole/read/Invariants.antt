@@ -2,8 +2,8 @@
 use Rattle.std.proofs.Common.{◌≡◌, ◌≤◌, length}
 use Rattle.std.specs.Prelude.{All}
 use Rattle.sc_phrase.specs.Steps.{IsSymbol}
-use Rattle.sc_parse.specs.Machine.{start}
-use Rattle.sc_parse.specs.Parse.{answer}
+use Rattle.sc_unit.specs.Machine.{start}
+use Rattle.sc_unit.specs.Parse.{answer}
 use Rattle.sc_parse.proofs.whole.read.Given as goal
 
 abbrev pub invariant-symbols : goal.invariant-symbols

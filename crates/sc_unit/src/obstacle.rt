@@ -12,7 +12,7 @@ pub enum Obstacle {
 }
 
 impl From<NoMemory> for Obstacle {
-    ghost use Rattle.sc_parse.specs.declared.obstacle.Obstacle.TheVariants as obstacle;
+    ghost use Rattle.sc_unit.specs.declared.obstacle.Obstacle.TheVariants as obstacle;
     ghost use Rattle.sc_phrase.specs.declared.trouble.Trouble.TheVariants as trouble;
 
     ghost from_gives = { λ _ e. e ≡ obstacle.Inner trouble.NoMemory };

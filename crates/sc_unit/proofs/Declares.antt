@@ -21,15 +21,15 @@ use Rattle.sc_phrase.specs.Machine.{step}
 use Rattle.sc_phrase.specs.Grammar as grammar
 use Rattle.sc_phrase.specs.Grammar.{Level, DirectTokens, Stars, Trailing, no_comma, a_comma, is_named}
 use Rattle.sc_parse_expr.proofs.Heads.{Head, one, longer, begins, begins_operand, starts_operand, starts, begin_specified}
-use Rattle.sc_parse.specs.declared.around.Around.{Around}
-use Rattle.sc_parse.specs.declared.around.Around.TheVariants as a
-use Rattle.sc_parse.specs.declared.around.Stage.TheVariants as at
-use Rattle.sc_parse.specs.Trees.{declare_as, init_declarator, declaration_of}
-use Rattle.sc_parse.specs.Grammar as g
-use Rattle.sc_parse.specs.Grammar.{WholeExpression, whole, InitialTokens, Initials, one_initial, more_initials, InitTokens, bare, initialized, InitList, one_declarator, more_declarators, Heading, heading, DeclarationTokens, of_type, of_names}
-use Rattle.sc_parse.specs.Machine.{Move, run, expression_ends, initial, initial_ends, initial_joins, list_ends, begin, declarator_joins, declares, declared_by, specified, in_declarator}
-use Rattle.sc_parse.proofs.Runs.{Leads, same, passed, ◌▸◌, after, steps, stepped, regrouped}
-use Rattle.sc_parse.proofs.Phrases.{closes, reads_whole, ends_heading, reads_heading, ends_declarator, reads_declarator}
+use Rattle.sc_unit.specs.declared.around.Around.{Around}
+use Rattle.sc_unit.specs.declared.around.Around.TheVariants as a
+use Rattle.sc_unit.specs.declared.around.Stage.TheVariants as at
+use Rattle.sc_unit.specs.Trees.{declare_as, init_declarator, declaration_of}
+use Rattle.sc_unit.specs.Grammar as g
+use Rattle.sc_unit.specs.Grammar.{WholeExpression, whole, InitialTokens, Initials, one_initial, more_initials, InitTokens, bare, initialized, InitList, one_declarator, more_declarators, Heading, heading, DeclarationTokens, of_type, of_names}
+use Rattle.sc_unit.specs.Machine.{Move, run, expression_ends, initial, initial_ends, initial_joins, list_ends, begin, declarator_joins, declares, declared_by, specified, in_declarator}
+use Rattle.sc_unit.proofs.Runs.{Leads, same, passed, ◌▸◌, after, steps, stepped, regrouped}
+use Rattle.sc_unit.proofs.Phrases.{closes, reads_whole, ends_heading, reads_heading, ends_declarator, reads_declarator}
 
 -- a token behind an initialiser, which goes on with the list or ends it
 abbrev pub end_list : Bool → Kind

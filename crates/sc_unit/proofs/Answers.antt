@@ -13,17 +13,18 @@ use Rattle.sc_symbol.specs.Names.{Names}
 use Rattle.sc_phrase.specs.declared.trouble.Trouble.{Trouble}
 use Rattle.sc_phrase.specs.declared.trouble.Trouble.TheVariants as trouble
 use Rattle.sc_phrase.specs.declared.trouble.Limit.TheVariants as limit
-use Rattle.sc_parse.specs.declared.around.Around.{Around}
-use Rattle.sc_parse.specs.declared.around.Around.TheVariants as a
-use Rattle.sc_parse.specs.declared.around.Stage.TheVariants as at
-use Rattle.sc_parse.specs.declared.obstacle.Obstacle.{Obstacle}
-use Rattle.sc_parse.specs.declared.obstacle.Obstacle.TheVariants as no
-use Rattle.sc_parse.specs.Grammar.{IsUnit}
-use Rattle.sc_parse.specs.Machine.{Point, Move, advance, run, start, on_ok}
-use Rattle.sc_parse.specs.Parse.{Answer, opens, next, end_at, ended, answer, refusal, Gives}
-use Rattle.sc_parse.specs.Claims.{AreWithin, Finds, last_line, NoneBegins, Fails, at_token, at_end, FailsRightly, Parses}
-use Rattle.sc_parse.proofs.Runs.{Leads, same, passed, Limited}
-use Rattle.sc_parse.proofs.Units.{reads_all}
+use Rattle.sc_unit.specs.declared.around.Around.{Around}
+use Rattle.sc_unit.specs.declared.around.Around.TheVariants as a
+use Rattle.sc_unit.specs.declared.around.Stage.TheVariants as at
+use Rattle.sc_unit.specs.declared.obstacle.Obstacle.{Obstacle}
+use Rattle.sc_unit.specs.declared.obstacle.Obstacle.TheVariants as no
+use Rattle.sc_parse_expr.specs.Brackets.{opens_with}
+use Rattle.sc_unit.specs.Grammar.{IsUnit}
+use Rattle.sc_unit.specs.Machine.{Point, Move, advance, run, start, on_ok}
+use Rattle.sc_unit.specs.Parse.{Answer, next, end_at, ended, answer, refusal, Gives}
+use Rattle.sc_unit.specs.Claims.{AreWithin, Finds, last_line, NoneBegins, Fails, at_token, at_end, FailsRightly, Parses}
+use Rattle.sc_unit.proofs.Runs.{Leads, same, passed, Limited}
+use Rattle.sc_unit.proofs.Units.{reads_all}
 
 -- the unit was read whole
 abbrev pub Ends : Point → List External → Type 0
@@ -38,12 +39,12 @@ answers [] n before p names fs items w h = go (advance (end_at before) p) h
     go (Ok q) h = ap (λ (m : Move). next (ended before) before before m) h
     go (Err o) h = cc
 answers (t ∷ ts) n before p names fs items w h =
-    let few : nat_lt 500 (opens n t.kind) ≡ false = grind (arith, nat_tests, w.0) in rw few (answers-step t ts n before names fs items (advance t p) (λ q. answers ts (opens n t.kind) t.line q names fs items w.1) h)
+    let few : nat_lt 500 (opens_with n t.kind) ≡ false = grind (arith, nat_tests, w.0) in rw few (answers-step t ts n before names fs items (advance t p) (λ q. answers ts (opens_with n t.kind) t.line q names fs items w.1) h)
   where
     answers-step : (t : Symbol) (ts : List Symbol) (n before : ℕ) (names : Names) (fs : List Around) (items : List External) (m : Move) →
-        ((q : Point) → run q (ts ++ end_at (last_line t.line ts) ∷ []) ≡ Ok (names, (a.Unit items ∷ fs, at.Over)) → answer (opens n t.kind) t.line q ts ≡ Ok items) →
+        ((q : Point) → run q (ts ++ end_at (last_line t.line ts) ∷ []) ≡ Ok (names, (a.Unit items ∷ fs, at.Over)) → answer (opens_with n t.kind) t.line q ts ≡ Ok items) →
         on_ok (λ q. run q (ts ++ end_at (last_line t.line ts) ∷ [])) m ≡ Ok (names, (a.Unit items ∷ fs, at.Over)) →
-        next (λ q. answer (opens n t.kind) t.line q ts) before t.line m ≡ Ok items
+        next (λ q. answer (opens_with n t.kind) t.line q ts) before t.line m ≡ Ok items
     answers-step t ts n before names fs items (Ok q) ih h = ih q h
     answers-step t ts n before names fs items (Err o) ih h = cc
 
@@ -51,8 +52,8 @@ given_limits : {A : Type 0} → true ≡ false → A
 given_limits h = cc
 
 -- The unit of these tokens is found.
-found : {ts : List Symbol} {all : List External} → IsUnit true ts all → AreWithin 0 ts → answer 0 1 start ts ≡ Ok all
-found {ts} {all} d w = go (reads_all d (end_at (last_line 1 ts) ∷ []))
+pub found : (ts : List Symbol) (all : List External) → IsUnit true ts all → AreWithin 0 ts → answer 0 1 start ts ≡ Ok all
+found ts all d w = go (reads_all d (end_at (last_line 1 ts) ∷ []))
   where
     go : (c : Names) × Leads true (run start (ts ++ end_at (last_line 1 ts) ∷ [])) (run (c, (a.Unit all ∷ [], at.Due)) (end_at (last_line 1 ts) ∷ [])) → answer 0 1 start ts ≡ Ok all
     go (c, same p) = answers ts 0 1 start c [] all w p
@@ -62,9 +63,9 @@ finds-ok : (all : List External) (unit : Tree) → ◌≡◌ {A = Answer} (Ok un
 finds-ok all unit h = cc
 
 pub finds : {ts : List Symbol} {all : List External} (result : Result Tree Fault) → Gives (answer 0 1 start ts) result → IsUnit true ts all → AreWithin 0 ts → Finds all result
-finds {ts} {all} (Ok unit) h d w = let p : answer 0 1 start ts ≡ Ok unit.items = h in let q = sym p ∙ found d w in cc
+finds {ts} {all} (Ok unit) h d w = let p : answer 0 1 start ts ≡ Ok unit.items = h in let q = sym p ∙ found ts all d w in cc
 finds (Err fault.NoMemory) h d w = tt
-finds {ts} {all} (Err (fault.Refused r)) h d w = let q = sym (found d w) ∙ h.0 in cc
+finds {ts} {all} (Err (fault.Refused r)) h d w = let q = sym (found ts all d w) ∙ h.0 in cc
 
 -- where the machine stops
 run-stops : (xs ys : List Symbol) (p : Point) (o : Obstacle) → run p xs ≡ Err o → run p (xs ++ ys) ≡ Err o
@@ -194,17 +195,17 @@ high-not h = kind-not not-x5-10 (err-same h)
 -- Where the answer is X5, one of the two holds.
 syntax : (ts : List Symbol) (n before l : ℕ) (p : Point) → answer n before p ts ≡ Err (x.X5, l) → Refuses p ts l ⊎ EndsEarly p ts before l
 syntax [] n before l p h = inr (ends before l p h)
-syntax (t ∷ ts) n before l p h = go (λ q. syntax ts (opens n t.kind) t.line l q) (nat_lt 500 (opens n t.kind)) h
+syntax (t ∷ ts) n before l p h = go (λ q. syntax ts (opens_with n t.kind) t.line l q) (nat_lt 500 (opens_with n t.kind)) h
   where
-    step : (m : Move) → advance t p ≡ m → ((q : Point) → answer (opens n t.kind) t.line q ts ≡ Err (x.X5, l) → Refuses q ts l ⊎ EndsEarly q ts t.line l) →
-        next (λ q. answer (opens n t.kind) t.line q ts) before t.line m ≡ Err (x.X5, l) → Refuses p (t ∷ ts) l ⊎ EndsEarly p (t ∷ ts) before l
+    step : (m : Move) → advance t p ≡ m → ((q : Point) → answer (opens_with n t.kind) t.line q ts ≡ Err (x.X5, l) → Refuses q ts l ⊎ EndsEarly q ts t.line l) →
+        next (λ q. answer (opens_with n t.kind) t.line q ts) before t.line m ≡ Err (x.X5, l) → Refuses p (t ∷ ts) l ⊎ EndsEarly p (t ∷ ts) before l
     step (Ok q) i ih h = either-more t ts p q before l i (ih q h)
     step (Err o) i ih h =
         let r = refused-at o before t.line l (err-same h) in
         inl (record { before = []; t = t; us = ts; all = refl; line = r.1; refused = subst IsRefused (sym (ap (λ (m : Move). on_ok (λ q. run q []) m) i)) r.0 })
 
-    go : ((q : Point) → answer (opens n t.kind) t.line q ts ≡ Err (x.X5, l) → Refuses q ts l ⊎ EndsEarly q ts t.line l) → (b : Bool) →
-        cond b (Err (x.X10 (codes "height"), t.line)) (next (λ q. answer (opens n t.kind) t.line q ts) before t.line (advance t p)) ≡ Err (x.X5, l) → Refuses p (t ∷ ts) l ⊎ EndsEarly p (t ∷ ts) before l
+    go : ((q : Point) → answer (opens_with n t.kind) t.line q ts ≡ Err (x.X5, l) → Refuses q ts l ⊎ EndsEarly q ts t.line l) → (b : Bool) →
+        cond b (Err (x.X10 (codes "height"), t.line)) (next (λ q. answer (opens_with n t.kind) t.line q ts) before t.line (advance t p)) ≡ Err (x.X5, l) → Refuses p (t ∷ ts) l ⊎ EndsEarly p (t ∷ ts) before l
     go ih true h = high-not h
     go ih false h = step (advance t p) refl ih h
 

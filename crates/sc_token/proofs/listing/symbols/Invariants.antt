@@ -1,7 +1,7 @@
 -- The symbols so far and those of what is left are the symbols of all.
 use Rattle.std.proofs.Common.{◌≡◌, ◌++◌, length}
 use Rattle.sc_token.specs.Symbols as spec
-use Rattle.sc_token.proofs.symbols.symbols.Given as goal
+use Rattle.sc_token.proofs.listing.symbols.Given as goal
 
 abbrev pub invariant-tokens : goal.invariant-tokens
 invariant-tokens l = l.all ++ spec.symbols_from l.long l.left ≡ spec.symbols l.fn.tokens

@@ -18,17 +18,17 @@ use Rattle.sc_phrase.specs.Kinds.{begins_specifiers}
 use Rattle.sc_phrase.specs.Types.{declarator_of, whole as whole_at}
 use Rattle.sc_phrase.specs.Grammar.{Level}
 use Rattle.sc_parse_expr.proofs.Heads.{Head, longer, starts}
-use Rattle.sc_parse.specs.declared.around.Around.{Around}
-use Rattle.sc_parse.specs.declared.around.Around.TheVariants as a
-use Rattle.sc_parse.specs.declared.around.Stage.TheVariants as at
-use Rattle.sc_parse.specs.Trees.{declare_as, block_of, function_of}
-use Rattle.sc_parse.specs.Grammar as g
-use Rattle.sc_parse.specs.Grammar.{Heading, Braces, braces, ExternalTokens, of_function, of_declaration, UnitTokens, no_external, next_external, IsUnit, unit}
-use Rattle.sc_parse.specs.Machine.{Move, Point, run, start, external_due, specifiers, declared_by}
-use Rattle.sc_parse.proofs.Runs.{Leads, same, ◌▸◌, after, steps, regrouped}
-use Rattle.sc_parse.proofs.Phrases.{reads_declarator}
-use Rattle.sc_parse.proofs.Declares.{reads_declaration, begin_declaration, begin_heading, begin_level, heads_names}
-use Rattle.sc_parse.proofs.Stating.{in_body, reads_contents}
+use Rattle.sc_unit.specs.declared.around.Around.{Around}
+use Rattle.sc_unit.specs.declared.around.Around.TheVariants as a
+use Rattle.sc_unit.specs.declared.around.Stage.TheVariants as at
+use Rattle.sc_unit.specs.Trees.{declare_as, block_of, function_of}
+use Rattle.sc_unit.specs.Grammar as g
+use Rattle.sc_unit.specs.Grammar.{Heading, Braces, braces, ExternalTokens, of_function, of_declaration, UnitTokens, no_external, next_external, IsUnit, unit}
+use Rattle.sc_unit.specs.Machine.{Move, Point, run, start, external_due, specifiers, declared_by}
+use Rattle.sc_unit.proofs.Runs.{Leads, same, ◌▸◌, after, steps, regrouped}
+use Rattle.sc_unit.proofs.Phrases.{reads_declarator}
+use Rattle.sc_unit.proofs.Declares.{reads_declaration, begin_declaration, begin_heading, begin_level, heads_names}
+use Rattle.sc_unit.proofs.Statements.{in_body, reads_contents}
 
 external_begins : (typed : Bool) (t : Symbol) (b : Names) (fs : List Around) (kd : Kind) → begins_specifiers typed kd ≡ true → external_due t b fs kd ≡ specifiers t b fs
 external_begins typed t b fs k.End h = cc

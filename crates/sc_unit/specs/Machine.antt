@@ -29,17 +29,17 @@ use Rattle.sc_phrase.specs.declared.trouble.Trouble.TheVariants as trouble
 use Rattle.sc_phrase.specs.Kinds.{begins_type}
 use Rattle.sc_phrase.specs.Types.{is_empty, declarator_of}
 use Rattle.sc_phrase.specs.Machine.{Config, step}
-use Rattle.sc_parse.specs.declared.around.Test.{Test}
-use Rattle.sc_parse.specs.declared.around.Test.TheVariants as test
-use Rattle.sc_parse.specs.declared.around.Head.{Head}
-use Rattle.sc_parse.specs.declared.around.Head.TheVariants as h
-use Rattle.sc_parse.specs.declared.around.Around.{Around}
-use Rattle.sc_parse.specs.declared.around.Around.TheVariants as a
-use Rattle.sc_parse.specs.declared.around.Stage.{Stage}
-use Rattle.sc_parse.specs.declared.around.Stage.TheVariants as at
-use Rattle.sc_parse.specs.declared.obstacle.Obstacle.{Obstacle}
-use Rattle.sc_parse.specs.declared.obstacle.Obstacle.TheVariants as no
-use Rattle.sc_parse.specs.Trees.{declare_as, init_declarator, declaration_of, block_of, with_declaration, with_statement, function_of}
+use Rattle.sc_unit.specs.declared.around.Test.{Test}
+use Rattle.sc_unit.specs.declared.around.Test.TheVariants as test
+use Rattle.sc_unit.specs.declared.around.Head.{Head}
+use Rattle.sc_unit.specs.declared.around.Head.TheVariants as h
+use Rattle.sc_unit.specs.declared.around.Around.{Around}
+use Rattle.sc_unit.specs.declared.around.Around.TheVariants as a
+use Rattle.sc_unit.specs.declared.around.Stage.{Stage}
+use Rattle.sc_unit.specs.declared.around.Stage.TheVariants as at
+use Rattle.sc_unit.specs.declared.obstacle.Obstacle.{Obstacle}
+use Rattle.sc_unit.specs.declared.obstacle.Obstacle.TheVariants as no
+use Rattle.sc_unit.specs.Trees.{declare_as, init_declarator, declaration_of, block_of, with_declaration, with_statement, function_of}
 
 -- the names of types in scope, what is open, and what was read last
 abbrev pub Point : Type 0

@@ -1,5 +1,5 @@
 -- What the tokens of a unit give.
-use Rattle.std.specs.Prelude.{◌≡◌, ℕ, ◌+◌, ◌-◌, if◌then◌else◌, nat_lt, List, [], ◌∷◌, Result, Ok, Err, codes}
+use Rattle.std.specs.Prelude.{◌≡◌, ℕ, if◌then◌else◌, nat_lt, List, [], ◌∷◌, Result, Ok, Err, codes}
 use Rattle.sc_base.specs.declared.refusal.X.{X}
 use Rattle.sc_base.specs.declared.refusal.X.TheVariants as x
 use Rattle.sc_base.specs.declared.refusal.Fault.{Fault}
@@ -9,15 +9,15 @@ use Rattle.sc_tree.specs.declared.statement.Unit.{Unit as Tree}
 use Rattle.sc_symbol.specs.declared.kind.Mark.{Mark}
 use Rattle.sc_symbol.specs.declared.kind.Mark.TheVariants as mark
 use Rattle.sc_symbol.specs.declared.kind.Symbol.{Symbol}
-use Rattle.sc_symbol.specs.declared.kind.Kind.{Kind}
 use Rattle.sc_symbol.specs.declared.kind.Kind.TheVariants as k
 use Rattle.sc_phrase.specs.declared.trouble.Trouble.TheVariants as trouble
 use Rattle.sc_phrase.specs.declared.trouble.Limit.TheVariants as limit
-use Rattle.sc_parse.specs.declared.around.Around.TheVariants as a
-use Rattle.sc_parse.specs.declared.around.Stage.TheVariants as at
-use Rattle.sc_parse.specs.declared.obstacle.Obstacle.{Obstacle}
-use Rattle.sc_parse.specs.declared.obstacle.Obstacle.TheVariants as no
-use Rattle.sc_parse.specs.Machine.{Point, Move, advance}
+use Rattle.sc_parse_expr.specs.Brackets.{opens_with}
+use Rattle.sc_unit.specs.declared.around.Around.TheVariants as a
+use Rattle.sc_unit.specs.declared.around.Stage.TheVariants as at
+use Rattle.sc_unit.specs.declared.obstacle.Obstacle.{Obstacle}
+use Rattle.sc_unit.specs.declared.obstacle.Obstacle.TheVariants as no
+use Rattle.sc_unit.specs.Machine.{Point, Move, advance}
 
 -- the functions and declarations of the unit, or a refusal and its line
 abbrev pub Answer : Type 0
@@ -46,16 +46,6 @@ refusal (no.Inner (trouble.Limit limit.Arguments)) before here = (x.X10 (codes "
 refusal (no.Inner trouble.NoMemory) before here = (x.X5, here)
 refusal no.Nesting before here = (x.X10 (codes "height"), here)
 
--- the open brackets behind a token, with n before it
-abbrev pub opens : ℕ → Kind → ℕ
-opens n k.LeftParen = n + 1
-opens n k.LeftBracket = n + 1
-opens n k.LeftBrace = n + 1
-opens n k.RightParen = n - 1
-opens n k.RightBracket = n - 1
-opens n k.RightBrace = n - 1
-opens n _ = n
-
 abbrev pub next : (Point → Answer) → ℕ → ℕ → Move → Answer
 next go before here (Ok p) = go p
 next go before here (Err o) = Err (refusal o before here)
@@ -73,8 +63,8 @@ ended l _ = Err (x.X5, l)
 abbrev pub answer : ℕ → ℕ → Point → List Symbol → Answer
 answer n before p [] = next (ended before) before before (advance (end_at before) p)
 answer n before p (t ∷ ts) =
-    if nat_lt 500 (opens n t.kind) then Err (x.X10 (codes "height"), t.line)
-    else next (λ q. answer (opens n t.kind) t.line q ts) before t.line (advance t p)
+    if nat_lt 500 (opens_with n t.kind) then Err (x.X10 (codes "height"), t.line)
+    else next (λ q. answer (opens_with n t.kind) t.line q ts) before t.line (advance t p)
 
 -- The code gives that answer, unless memory runs out. The file of a refusal is left empty.
 abbrev pub Gives : Answer → Result Tree Fault → Type 0

@@ -6,14 +6,15 @@ use Rattle.sc_base.specs.declared.refusal.X.TheVariants as x
 use Rattle.sc_tree.specs.declared.statement.External.{External}
 use Rattle.sc_tree.specs.declared.statement.Unit.{Unit as Tree}
 use Rattle.sc_symbol.specs.declared.kind.Symbol.{Symbol}
-use Rattle.sc_parse.specs.Grammar.{IsUnit}
-use Rattle.sc_parse.specs.Machine.{start}
-use Rattle.sc_parse.specs.Parse.{opens, answer, Gives}
+use Rattle.sc_parse_expr.specs.Brackets.{opens_with}
+use Rattle.sc_unit.specs.Grammar.{IsUnit}
+use Rattle.sc_unit.specs.Machine.{start}
+use Rattle.sc_unit.specs.Parse.{answer, Gives}
 
 -- At most 500 brackets are open at each place, where n are open before the tokens.
 abbrev pub AreWithin : ℕ → List Symbol → Type 0
 AreWithin n [] = Unit {0}
-AreWithin n (t ∷ ts) = (opens n t.kind ≤ 500) × AreWithin (opens n t.kind) ts
+AreWithin n (t ∷ ts) = (opens_with n t.kind ≤ 500) × AreWithin (opens_with n t.kind) ts
 
 -- The answer is the unit with these functions and declarations, unless memory runs out.
 abbrev pub Finds : List External → Result Tree Fault → Type 0
@@ -34,6 +35,14 @@ NoneBegins ts = (us : List Symbol) (all : List External) → IsUnit false (ts ++
 pub data Fails (l : ℕ) (ts : List Symbol) : Type 0 where
   at_token : (before : List Symbol) (t : Symbol) (us : List Symbol) → ts ≡ before ++ t ∷ us → t.line ≡ l → NoneBegins (before ++ t ∷ []) → Fails l ts
   at_end : last_line 1 ts ≡ l → ((all : List External) → IsUnit false ts all → ⊥) → Fails l ts
+
+-- Each unit within the limits is the answer to its tokens.
+abbrev pub FindsEachUnit : Type 0
+FindsEachUnit = (ts : List Symbol) (all : List External) → IsUnit true ts all → AreWithin 0 ts → answer 0 1 start ts ≡ Ok all
+
+-- X5 is the answer only where the tokens are no unit.
+abbrev pub RefusesNoUnit : Type 0
+RefusesNoUnit = (ts : List Symbol) (l : ℕ) → answer 0 1 start ts ≡ Err (x.X5, l) → Fails l ts
 
 -- A refusal as no unit comes only where that holds.
 abbrev pub FailsRightly : List Symbol → Result Tree Fault → Type 0

@@ -20,7 +20,7 @@ use Rattle.sc_phrase.specs.declared.operand.Direct.{Direct}
 use Rattle.sc_phrase.specs.declared.operand.Mode.TheVariants as mode
 use Rattle.sc_phrase.specs.Types.{has_words, declarator_of}
 use Rattle.sc_phrase.specs.Grammar.{Phrase, Specified, Level, Trailing, Keeps, starts_at}
-use Rattle.sc_parse.specs.Trees.{declare_as, init_declarator, declaration_of, block_of, function_of}
+use Rattle.sc_unit.specs.Trees.{declare_as, init_declarator, declaration_of, block_of, function_of}
 
 -- In each relation `w` says whether the limits are kept, `b` are the names of types in scope before the tokens, and `c`, `d`, `e`, `f` behind them.
 

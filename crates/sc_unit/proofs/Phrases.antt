@@ -22,11 +22,11 @@ use Rattle.sc_phrase.specs.Machine.{have, fits}
 use Rattle.sc_parse_expr.proofs.Runs as inner
 use Rattle.sc_parse_expr.proofs.Complete as phrases
 use Rattle.sc_parse_expr.proofs.Tokens as kinds
-use Rattle.sc_parse.specs.declared.around.Around.{Around}
-use Rattle.sc_parse.specs.declared.around.Stage.TheVariants as at
-use Rattle.sc_parse.specs.Grammar.{WholeExpression, whole, Heading, heading}
-use Rattle.sc_parse.specs.Machine.{run, expression_ends, specified, declared}
-use Rattle.sc_parse.proofs.Runs.{Leads, after, follows_expression, follows_specifiers, follows_declarator}
+use Rattle.sc_unit.specs.declared.around.Around.{Around}
+use Rattle.sc_unit.specs.declared.around.Stage.TheVariants as at
+use Rattle.sc_unit.specs.Grammar.{WholeExpression, whole, Heading, heading}
+use Rattle.sc_unit.specs.Machine.{run, expression_ends, specified, declared}
+use Rattle.sc_unit.proofs.Runs.{Leads, after, follows_expression, follows_specifiers, follows_declarator}
 
 -- a token with which an expression of this level at least ends
 abbrev pub closes : ℕ → Kind → Bool

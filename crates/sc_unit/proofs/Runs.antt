@@ -16,12 +16,12 @@ use Rattle.sc_phrase.specs.Machine as lower
 use Rattle.sc_phrase.specs.Machine.{Config, step}
 use Rattle.sc_parse_expr.proofs.Runs as inner
 use Rattle.sc_parse_expr.proofs.Runs.{Answer}
-use Rattle.sc_parse.specs.declared.around.Around.{Around}
-use Rattle.sc_parse.specs.declared.around.Stage.{Stage}
-use Rattle.sc_parse.specs.declared.around.Stage.TheVariants as at
-use Rattle.sc_parse.specs.declared.obstacle.Obstacle.{Obstacle}
-use Rattle.sc_parse.specs.declared.obstacle.Obstacle.TheVariants as no
-use Rattle.sc_parse.specs.Machine.{Point, Move, place, advance, run, on_ok, marked, mark_of, in_expression, in_specifiers, in_declarator}
+use Rattle.sc_unit.specs.declared.around.Around.{Around}
+use Rattle.sc_unit.specs.declared.around.Stage.{Stage}
+use Rattle.sc_unit.specs.declared.around.Stage.TheVariants as at
+use Rattle.sc_unit.specs.declared.obstacle.Obstacle.{Obstacle}
+use Rattle.sc_unit.specs.declared.obstacle.Obstacle.TheVariants as no
+use Rattle.sc_unit.specs.Machine.{Point, Move, place, advance, run, on_ok, marked, mark_of, in_expression, in_specifiers, in_declarator}
 
 -- a limit is passed
 abbrev pub Limited : Move → Type 0

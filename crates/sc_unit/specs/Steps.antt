@@ -2,12 +2,12 @@
 use Rattle.std.specs.Prelude.{◌≡◌, Bool, false, not, List, ◌∷◌, Result, Ok, Err}
 use Rattle.sc_symbol.specs.Names.{Names}
 use Rattle.sc_phrase.specs.declared.trouble.Trouble.TheVariants as trouble
-use Rattle.sc_parse.specs.declared.around.Around.{Around}
-use Rattle.sc_parse.specs.declared.around.Stage.{Stage}
-use Rattle.sc_parse.specs.declared.obstacle.Obstacle.{Obstacle}
-use Rattle.sc_parse.specs.declared.obstacle.Obstacle.TheVariants as no
-use Rattle.sc_parse.specs.declared.around.Around.TheVariants as a
-use Rattle.sc_parse.specs.Machine.{Move, waits}
+use Rattle.sc_unit.specs.declared.around.Around.{Around}
+use Rattle.sc_unit.specs.declared.around.Stage.{Stage}
+use Rattle.sc_unit.specs.declared.obstacle.Obstacle.{Obstacle}
+use Rattle.sc_unit.specs.declared.obstacle.Obstacle.TheVariants as no
+use Rattle.sc_unit.specs.declared.around.Around.TheVariants as a
+use Rattle.sc_unit.specs.Machine.{Move, waits}
 
 -- the same answer, unless memory ran out
 abbrev pub Goes : Move → Result Stage Obstacle → Names → List Around → Type 0

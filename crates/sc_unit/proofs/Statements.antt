@@ -22,22 +22,22 @@ use Rattle.sc_phrase.specs.Types.{is_empty}
 use Rattle.sc_phrase.specs.Grammar.{Keeps}
 use Rattle.sc_parse_expr.proofs.Runs.{not_kept}
 use Rattle.sc_parse_expr.proofs.Heads.{Head, one, longer, begins, begins_operand, operand_no_type, starts_operand, starts}
-use Rattle.sc_parse.specs.declared.around.Test.TheVariants as test
-use Rattle.sc_parse.specs.declared.around.Head as heads
-use Rattle.sc_parse.specs.declared.around.Head.TheVariants as under
-use Rattle.sc_parse.specs.declared.around.Around.{Around}
-use Rattle.sc_parse.specs.declared.around.Around.TheVariants as a
-use Rattle.sc_parse.specs.declared.around.Stage.{Stage}
-use Rattle.sc_parse.specs.declared.around.Stage.TheVariants as at
-use Rattle.sc_parse.specs.declared.obstacle.Obstacle.TheVariants as no
-use Rattle.sc_parse.specs.Trees.{block_of, with_declaration, with_statement}
-use Rattle.sc_parse.specs.Grammar as g
-use Rattle.sc_parse.specs.Grammar.{WholeExpression, whole, Optional, left_out, written, Condition, in_parens, Declarations, no_declaration, next_declaration, IsStatement, Nested, nested, Statements, no_statement, next_statement, Braces, braces}
-use Rattle.sc_parse.specs.Machine as m
-use Rattle.sc_parse.specs.Machine.{Move, Point, run, statement, statement_due, is_early, is_outside, is_optional, is_else, is_semicolon, is_paren, ends_part, needs, part_ends, expression_ends, expression_due, begin, specifiers, begins_declaration, declares, behind, got, settle}
-use Rattle.sc_parse.proofs.Runs.{Leads, same, passed, ◌▸◌, after, after-nesting, steps, stepped, regrouped}
-use Rattle.sc_parse.proofs.Phrases.{closes, reads_whole}
-use Rattle.sc_parse.proofs.Declares.{reads_declaration, begin_declaration}
+use Rattle.sc_unit.specs.declared.around.Test.TheVariants as test
+use Rattle.sc_unit.specs.declared.around.Head as heads
+use Rattle.sc_unit.specs.declared.around.Head.TheVariants as under
+use Rattle.sc_unit.specs.declared.around.Around.{Around}
+use Rattle.sc_unit.specs.declared.around.Around.TheVariants as a
+use Rattle.sc_unit.specs.declared.around.Stage.{Stage}
+use Rattle.sc_unit.specs.declared.around.Stage.TheVariants as at
+use Rattle.sc_unit.specs.declared.obstacle.Obstacle.TheVariants as no
+use Rattle.sc_unit.specs.Trees.{block_of, with_declaration, with_statement}
+use Rattle.sc_unit.specs.Grammar as g
+use Rattle.sc_unit.specs.Grammar.{WholeExpression, whole, Optional, left_out, written, Condition, in_parens, Declarations, no_declaration, next_declaration, IsStatement, Nested, nested, Statements, no_statement, next_statement, Braces, braces}
+use Rattle.sc_unit.specs.Machine as m
+use Rattle.sc_unit.specs.Machine.{Move, Point, run, statement, statement_due, is_early, is_outside, is_optional, is_else, is_semicolon, is_paren, ends_part, needs, part_ends, expression_ends, expression_due, begin, specifiers, begins_declaration, declares, behind, got, settle}
+use Rattle.sc_unit.proofs.Runs.{Leads, same, passed, ◌▸◌, after, after-nesting, steps, stepped, regrouped}
+use Rattle.sc_unit.proofs.Phrases.{closes, reads_whole}
+use Rattle.sc_unit.proofs.Declares.{reads_declaration, begin_declaration}
 
 -- The tokens come where a statement is due.
 abbrev pub stating : Names → List Around → List Symbol → Move
