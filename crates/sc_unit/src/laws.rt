@@ -2,7 +2,6 @@
 ghost use Rattle.sc_unit.specs.Claims.{FindsEachUnit, RefusesNoUnit};
 
 /// The machine finds each unit of the grammar within the limits, and refuses as none only what is none.
-#[tactic(auto, using(crate::proofs::Answers::found, crate::proofs::Answers::fails))]
 pub fn reads_units()
     ensures found { FindsEachUnit }
     ensures refused { RefusesNoUnit }
