@@ -1,5 +1,5 @@
 -- The machine reads each expression, type name, list of specifiers and declarator of the grammar.
-use Rattle.std.proofs.Common.{◌≡◌, ℕ, suc, ◌≤◌, ◌<◌, Bool, true, false, not, List, [], ◌∷◌, ◌++◌, length, Option, Some, None, Ok, refl, sym, ◌∙◌, ap, subst, arith, append_assoc, ◌⊎◌, inl, inr}
+use Rattle.std.proofs.Common.{◌≡◌, ℕ, ◌≤◌, Bool, true, false, not, List, [], ◌∷◌, ◌++◌, length, Option, Some, None, Ok, refl, sym, ◌∙◌, ap, subst, arith, append_assoc, inl, inr}
 use Rattle.std.specs.Prelude.{nat_lt, nat_le, max, ◌&&◌, cond, if◌then◌else◌, Err}
 use Rattle.std.specs.Str.{bytes_eq}
 use Rattle.std.proofs.lemmas.Bool.Decides.{nat_tests}
@@ -20,7 +20,7 @@ use Rattle.sc_tree.specs.declared.expression.Parameter.{Parameter}
 use Rattle.sc_symbol.specs.declared.kind.Symbol.{Symbol}
 use Rattle.sc_symbol.specs.declared.kind.Kind.{Kind}
 use Rattle.sc_symbol.specs.declared.kind.Kind.TheVariants as k
-use Rattle.sc_symbol.specs.Names.{Scope, Names, is_type, is_typed, typed_by, declare, enter, leave, innermost}
+use Rattle.sc_symbol.specs.Names.{Scope, Names, is_typed, typed_by, declare, enter}
 use Rattle.sc_phrase.specs.declared.operand.Operand.{Operand}
 use Rattle.sc_phrase.specs.declared.operand.Direct.{Direct}
 use Rattle.sc_phrase.specs.declared.operand.Whole.{Whole}
@@ -32,15 +32,15 @@ use Rattle.sc_phrase.specs.declared.frame.State.{State}
 use Rattle.sc_phrase.specs.declared.frame.State.TheVariants as s
 use Rattle.sc_phrase.specs.declared.trouble.Trouble.TheVariants as no
 use Rattle.sc_phrase.specs.declared.trouble.Limit.TheVariants as limit
-use Rattle.sc_phrase.specs.Kinds.{level_of, word_of, power_of, begins_type, begins_specifiers, begins_parameters}
-use Rattle.sc_phrase.specs.Nodes.{higher, offsetof_name, name_level, name_node, constant_node, text_node, paren_node, offset_node, index_node, call_node, member_node, arrow_node, postfix_node, unary_node, size_node, size_type_node, cast_node, binary_node, conditional_node, assign_node, comma_node}
-use Rattle.sc_phrase.specs.Types.{is_empty, has_words, no_words, with_word, with_const, with_storage, identifier_at, no_direct, named_direct, with_step, pointed, whole, declarator_of, declarator_in, declare_plain, declare_in, type_of, member_of, parameter_of, item_of}
+use Rattle.sc_phrase.specs.Kinds.{word_of, power_of, begins_type, begins_specifiers, begins_parameters}
+use Rattle.sc_phrase.specs.Nodes.{offsetof_name, name_level, name_node, constant_node, text_node, paren_node, offset_node, index_node, call_node, member_node, arrow_node, postfix_node, size_type_node}
+use Rattle.sc_phrase.specs.Types.{is_empty, has_words, no_words, with_word, with_const, with_storage, identifier_at, no_direct, named_direct, with_step, pointed, whole, declarator_of, declarator_in, declare_plain, declare_in, type_of, parameter_of, item_of}
 use Rattle.sc_phrase.specs.Grammar.{Keeps, starts_at, text_with, is_named, is_abstract, is_group, is_void, is_right_paren, void_alone, Strings, a_text, more_text, Stars, a_star, more_star, const_star, Tag, no_tag, a_tag, Trailing, no_comma, a_comma, Phrase, name, constant, string, paren, offset_of, index, call, call_none, member, arrow, postfix, unary, size_of, size_of_type, cast, binary, conditional, assign, comma, Arguments, first, more, Specified, none, simple, const, stored, typedef, struct_tag, enum_tag, structure, enumeration, Members, one_member, more_members, MemberTokens, a_member, Declarators, one_declarator, more_declarators, Items, one_item, more_items, ItemTokens, bare_item, valued_item, TypeTokens, plain_type, derived_type, Level, direct, pointer, bare_pointer, DirectTokens, named, group, bare, suffix, Suffix, unsized, sized, unprototyped, no_parameters, prototype, Parameters, one_parameter, more_parameters, ParameterTokens, unnamed, declared}
 use Rattle.sc_phrase.specs.Machine as mc
-use Rattle.sc_phrase.specs.Machine.{Place, Config, Outcome, on_ok, needs, settle, settled, fits, few, have, marked, effect, enters, step, run, finish, level_ends, item_behind, parameter_behind, under, inner_specified}
+use Rattle.sc_phrase.specs.Machine.{Outcome, on_ok, needs, settle, settled, fits, few, have, run, finish, level_ends, item_behind, parameter_behind, under, inner_specified}
 use Rattle.sc_parse_expr.proofs.Levels.{level-small, level-positive, operand-tight, power-binary, power-assign, not_between}
-use Rattle.sc_parse_expr.proofs.Runs.{Answer, Leads, same, passed, ◌▸◌, after, stepped, steps, fitted, counted, counted_end, regrouped, tested, keeps-one, keeps-left, keeps-right}
-use Rattle.sc_parse_expr.proofs.Heads.{Head, head-test, longer, begins_operand, operand_no_type, starts_operand, starts_type, starts, begins, NoCast, is_closed, no_cast, begin_specified, begin_type, Opening, begin_direct, Beginning, begin_level, more_beginning, opens_level, opens_direct, is_name}
+use Rattle.sc_parse_expr.proofs.Runs.{Leads, same, ◌▸◌, after, stepped, steps, counted, counted_end, regrouped, tested, keeps-one, keeps-left, keeps-right}
+use Rattle.sc_parse_expr.proofs.Heads.{Head, head-test, longer, begins_operand, operand_no_type, starts_operand, starts_type, starts, begins, NoCast, no_cast, begin_specified, begin_type, Opening, begin_direct, Beginning, begin_level, more_beginning, opens_level, opens_direct, is_name}
 use Rattle.sc_parse_expr.proofs.Tokens as kinds
 
 -- the line of the first token
@@ -538,7 +538,7 @@ module _ (w : Bool) where
     reads {b} {c} (offset_of {ts} {type} t l o n r h e y g d i j k') fs u us z q p =
         regrouped w (b, (fs, s.Need)) _ _ (ap (λ (v : List Symbol). t ∷ l ∷ v) (append_assoc ts (o ∷ n ∷ r ∷ []) (u ∷ us))) ▸
         steps w (b, (fs, s.Need)) (b, (fs, s.Have (name_node t))) t (l ∷ (ts ++ o ∷ n ∷ r ∷ u ∷ us)) (rw (h, e) refl) ▸
-        steps w (b, (fs, s.Have (name_node t))) (b, (f.Arguments (name_node t) [] 0 ∷ fs, s.Need)) l (ts ++ o ∷ n ∷ r ∷ u ∷ us) (rw g refl) ▸
+        steps w (b, (fs, s.Have (name_node t))) (b, (f.Arguments (name_node t) [] 0 ∷ fs, s.Need)) l (ts ++ o ∷ n ∷ r ∷ u ∷ us) (rw (g, y) refl) ▸
         opens_offset b fs (name_node t) ts (o ∷ n ∷ r ∷ u ∷ us) (begin_type d) (offset-level t.text y) ▸
         reads_type d (f.OffsetType t.line) fs o (n ∷ r ∷ u ∷ us) false i (λ t v. refl) (Ok (fs, s.OffsetComma t.line type)) (λ v x e. ap (λ (z : TypeName). stands fs (s.OffsetComma t.line z)) (sym e)) ▸
         steps w (c, (fs, s.OffsetComma t.line type)) (c, (fs, s.OffsetName t.line type n.text)) n (r ∷ u ∷ us) (rw j refl) ▸
@@ -547,38 +547,38 @@ module _ (w : Bool) where
         let one = keeps-one w (max a.height x.height) z in
         regrouped w (b, (fs, s.Need)) _ _ (enclosed xs ys (u ∷ us) l r) ▸
         reads v fs l (ys ++ r ∷ u ∷ us) (keeps-left w a.height x.height one) (omega arith) (rw h e) ▸
-        tested w c fs a l (ys ++ r ∷ u ∷ us) (Ok (f.Index a ∷ fs, s.Need)) (keeps-left w a.height x.height one) (rw h refl) ▸
+        tested w c fs a l (ys ++ r ∷ u ∷ us) (Ok (f.Index a ∷ fs, s.Need)) (keeps-left w a.height x.height one) (let n = kinds.near a e in rw (h, n) refl) ▸
         reads y (f.Index a ∷ fs) r (u ∷ us) (keeps-right w a.height x.height one) (at_least_one y) (rw g (at_least_one y)) ▸
         tested w d (f.Index a ∷ fs) x r (u ∷ us) (Ok (fs, s.Have (index_node a x))) (keeps-right w a.height x.height one) (rw g refl)
     reads {b} (call {c} {xs} {ys} {a} {args} {n} l r v e h y g) fs u us z q p =
         let one = keeps-one w (max a.height n) z in
         regrouped w (b, (fs, s.Need)) _ _ (enclosed xs ys (u ∷ us) l r) ▸
         reads v fs l (ys ++ r ∷ u ∷ us) (keeps-left w a.height n one) (omega arith) (rw h e) ▸
-        tested w c fs a l (ys ++ r ∷ u ∷ us) (Ok (f.Arguments a [] 0 ∷ fs, s.Need)) (keeps-left w a.height n one) (rw h refl) ▸
+        tested w c fs a l (ys ++ r ∷ u ∷ us) (Ok (f.Arguments a [] 0 ∷ fs, s.Need)) (keeps-left w a.height n one) (let n = kinds.near a e in rw (h, n) refl) ▸
         closes y fs a r (u ∷ us) (keeps-right w a.height n one) g
     reads {b} {c} (call_none {xs} {a} l r v e h g) fs u us z q p =
         let one = keeps-left w a.height 0 (keeps-one w (max a.height 0) z) in
         regrouped w (b, (fs, s.Need)) _ _ (append_assoc xs (l ∷ r ∷ []) (u ∷ us)) ▸
         reads v fs l (r ∷ u ∷ us) one (omega arith) (rw h e) ▸
-        tested w c fs a l (r ∷ u ∷ us) (Ok (f.Arguments a [] 0 ∷ fs, s.Need)) one (rw h refl) ▸
+        tested w c fs a l (r ∷ u ∷ us) (Ok (f.Arguments a [] 0 ∷ fs, s.Need)) one (let n = kinds.near a e in rw (h, n) refl) ▸
         steps w (c, (f.Arguments a [] 0 ∷ fs, s.Need)) (c, (fs, s.Have (call_node a [] 0))) r (u ∷ us) (rw g refl)
     reads {b} {c} (member {xs} {a} l t v e h g) fs u us z q p =
         let one = keeps-one w a.height z in
         regrouped w (b, (fs, s.Need)) _ _ (append_assoc xs (l ∷ t ∷ []) (u ∷ us)) ▸
         reads v fs l (t ∷ u ∷ us) one (omega arith) (rw h e) ▸
-        tested w c fs a l (t ∷ u ∷ us) (Ok (fs, s.Dot a)) one (rw h refl) ▸
+        tested w c fs a l (t ∷ u ∷ us) (Ok (fs, s.Dot a)) one (let n = kinds.near a e in rw (h, n) refl) ▸
         steps w (c, (fs, s.Dot a)) (c, (fs, s.Have (member_node a t.text))) t (u ∷ us) (rw g refl)
     reads {b} {c} (arrow {xs} {a} l t v e h g) fs u us z q p =
         let one = keeps-one w a.height z in
         regrouped w (b, (fs, s.Need)) _ _ (append_assoc xs (l ∷ t ∷ []) (u ∷ us)) ▸
         reads v fs l (t ∷ u ∷ us) one (omega arith) (rw h e) ▸
-        tested w c fs a l (t ∷ u ∷ us) (Ok (fs, s.Arrow a)) one (rw h refl) ▸
+        tested w c fs a l (t ∷ u ∷ us) (Ok (fs, s.Arrow a)) one (let n = kinds.near a e in rw (h, n) refl) ▸
         steps w (c, (fs, s.Arrow a)) (c, (fs, s.Have (arrow_node a t.text))) t (u ∷ us) (rw g refl)
     reads {b} {c} (postfix {xs} {a} {op} t v e h) fs u us z q p =
         let one = keeps-one w a.height z in
         regrouped w (b, (fs, s.Need)) _ _ (append_assoc xs (t ∷ []) (u ∷ us)) ▸
         reads v fs t (u ∷ us) one (omega arith) (rw (kinds.power-postfix t.kind op h) e) ▸
-        tested w c fs a t (u ∷ us) (Ok (fs, s.Have (postfix_node a op))) one (kinds.have-postfix t.kind op fs a h)
+        tested w c fs a t (u ∷ us) (Ok (fs, s.Have (postfix_node a op))) one (kinds.have-postfix t.kind op fs a h e)
     reads {b} {c} (unary {xs} {x} {op} t h d e) fs u us z q p =
         let one = keeps-one w x.height z in
         same (ap (after t.kind b (xs ++ u ∷ us)) (kinds.need-unary (is_typed b t) t fs t.kind op (mc.offset_type (is_typed b t) t fs) h)) ▸

@@ -1,5 +1,5 @@
 -- What the machine reads at the front of tokens, against the grammar.
-use Rattle.std.proofs.Common.{◌≡◌, ℕ, ◌≤◌, ◌<◌, Bool, true, false, cond, List, [], ◌∷◌, ◌++◌, length, Option, Some, None, Result, Ok, Err, refl, sym, ◌∙◌, ap, subst, arith, append-nil, ◌⊎◌, inl, inr}
+use Rattle.std.proofs.Common.{◌≡◌, ℕ, ◌≤◌, ◌<◌, Bool, true, false, cond, List, [], ◌∷◌, ◌++◌, length, None, Result, Ok, Err, refl, sym, ◌∙◌, ap, subst, arith, ◌⊎◌, inl, inr}
 use Rattle.std.specs.Prelude.{nat_lt, ◌+◌}
 use Rattle.std.proofs.lemmas.Bool.Decides.{nat_tests}
 use Rattle.sc_symbol.specs.declared.kind.Symbol.{Symbol}
@@ -17,12 +17,12 @@ use Rattle.sc_phrase.specs.declared.trouble.Limit.{Limit}
 use Rattle.sc_phrase.specs.declared.trouble.Limit.TheVariants as limit
 use Rattle.sc_phrase.specs.Kinds.{power_of}
 use Rattle.sc_phrase.specs.Grammar.{Keeps, Phrase}
-use Rattle.sc_phrase.specs.Machine.{Config, Outcome, on_ok, mark_of, step, run, fits, have}
+use Rattle.sc_phrase.specs.Machine.{Config, on_ok, mark_of, step, run, fits, have}
 use Rattle.sc_phrase.specs.Steps.{Moves}
 use Rattle.sc_parse_expr.specs.declared.driver.Found.{Found}
 use Rattle.sc_parse_expr.specs.declared.driver.Refused.{Refused}
 use Rattle.sc_parse_expr.specs.Brackets.{opens_with}
-use Rattle.sc_parse_expr.specs.Reading.{found, refused, end_symbol, line_for, ended_in, found_or, next, unfinished, read, start, Answers, closes, Follows, AreShallow, Begins, BeginsWithin, Gives, IsRefusal, RefusedOnly}
+use Rattle.sc_parse_expr.specs.Reading.{found, refused, end_symbol, line_for, ended_in, found_or, next, unfinished, read, start, Answers, closes, Follows, AreShallow, Begins, BeginsWithin, Gives, OneTree, IsRefusal, RefusedOnly}
 use Rattle.sc_parse_expr.proofs.Runs.{Answer, Leads, same, passed, ◌▸◌, after, tested}
 use Rattle.sc_parse_expr.proofs.Complete.{reads, at_least_one}
 
@@ -95,13 +95,13 @@ goes-on (names, (fs, state)) ts u c h = go (open-state state)
 Deep : ℕ → List Symbol → Result Found Refused → Type 0
 Deep depth tokens r = (line : ℕ) × (r ≡ Err (refused (no.Limit limit.Height) line)) × (AreShallow depth tokens → ⊥)
 
-too-deep : (n : ℕ) (line : ℕ) (r : Result Found Refused) → nat_lt 500 n ≡ true → cond (nat_lt 500 n) (Err (refused (no.Limit limit.Height) line)) r ≡ Err (refused (no.Limit limit.Height) line)
+pub too-deep : (n : ℕ) (line : ℕ) (r : Result Found Refused) → nat_lt 500 n ≡ true → cond (nat_lt 500 n) (Err (refused (no.Limit limit.Height) line)) r ≡ Err (refused (no.Limit limit.Height) line)
 too-deep n line r h = rw h refl
 
 deep-not : (n : ℕ) → nat_lt 500 n ≡ true → n ≤ 500 → ⊥
 deep-not n h q = let g : 500 < n = grind (arith, nat_tests) in omega arith
 
-shallow : (n : ℕ) (line : ℕ) (r : Result Found Refused) → nat_lt 500 n ≡ false → cond (nat_lt 500 n) (Err (refused (no.Limit limit.Height) line)) r ≡ r
+pub shallow : (n : ℕ) (line : ℕ) (r : Result Found Refused) → nat_lt 500 n ≡ false → cond (nat_lt 500 n) (Err (refused (no.Limit limit.Height) line)) r ≡ r
 shallow n line r h = rw h refl
 
 -- at the token that ends the expression
@@ -122,7 +122,7 @@ read-last depth last taken c (u ∷ us) n x h = go (nat_lt 500 (opens_with depth
         inl (shallow (opens_with depth u.kind) u.line (next (λ d. read (opens_with depth u.kind) u.line (taken + 1) d us) last u.line taken (step u c)) d ∙ ap (next (λ d. read (opens_with depth u.kind) u.line (taken + 1) d us) last u.line taken) e)
 
 -- a token of the expression
-read-more : (depth last taken : ℕ) (c d : Config) (t : Symbol) (ts : List Symbol) → step t c ≡ Ok d → ended_in d.1.1 ≡ None → nat_lt 500 (opens_with depth t.kind) ≡ false →
+pub read-more : (depth last taken : ℕ) (c d : Config) (t : Symbol) (ts : List Symbol) → step t c ≡ Ok d → ended_in d.1.1 ≡ None → nat_lt 500 (opens_with depth t.kind) ≡ false →
     read depth last taken c (t ∷ ts) ≡ read (opens_with depth t.kind) t.line (taken + 1) d ts
 read-more depth last taken c d t ts h e q =
     shallow (opens_with depth t.kind) t.line (next (λ d. read (opens_with depth t.kind) t.line (taken + 1) d ts) last t.line taken (step t c)) q ∙
@@ -236,25 +236,6 @@ gives : (o : Result Found Refused) (x : Operand) (taken : ℕ) (result : Result 
 gives o x taken (Ok r) a h = ok-same r (found x.tree taken) (sym a ∙ h)
 gives o x taken (Err e) a h = no-memory o e a (λ q. let p : ◌≡◌ {A = Result Found Refused} (Ok (found x.tree taken)) (Err e) = sym h ∙ q in cc)
 
--- An expression within the limits is read.
-pub found_by : (names : Names) (tokens : List Symbol) (result : Result Found Refused) → Answers (read 0 1 0 (start names) tokens) result →
-    (x : Operand) (taken : ℕ) → BeginsWithin names tokens x taken → Gives x taken result
-unfolding Deep
-found_by names tokens result a x taken w =
-    let b = w.begins in
-    go (whole true b.phrase (closer b.us) (closer-closes b.us b.follows) (λ h. w.height))
-  where
-    go : Leads true (run (start names) (w.begins.ts ++ closer w.begins.us ∷ [])) (Ok (w.begins.after, ([], s.Expression x))) → Gives x taken result
-    go (passed e l) = cc
-    go (same e) = at (read-found w.begins.ts 0 1 0 (start names) w.begins.us w.begins.after x e)
-      where
-        at : (read 0 1 0 (start names) (w.begins.ts ++ w.begins.us) ≡ Ok (found x.tree (0 + length w.begins.ts))) ⊎ Deep 0 (w.begins.ts ++ w.begins.us) (read 0 1 0 (start names) (w.begins.ts ++ w.begins.us)) → Gives x taken result
-        at (inl p) =
-            let z : 0 + length w.begins.ts ≡ length w.begins.ts = omega arith in
-            let q : 0 + length w.begins.ts ≡ taken = z ∙ w.begins.count in
-            gives (read 0 1 0 (start names) tokens) x taken result a (ap (read 0 1 0 (start names)) w.begins.all ∙ p ∙ ap (λ (n : ℕ). Ok (found x.tree n)) q)
-        at (inr d) = let P : List Symbol → Type 0 = λ v. AreShallow 0 v in absurd (d.2 (subst P w.begins.all w.shallow))
-
 is-refusal : (tr : Trouble) → IsRefusal tr → tr ≡ no.NoMemory → ⊥
 is-refusal no.Syntax r h = cc
 is-refusal (no.LeftOut m) r h = cc
@@ -263,6 +244,35 @@ is-refusal no.NoMemory r h = r
 
 no-limit : (l : Limit) (tr : Trouble) → tr ≡ no.Limit l → IsRefusal tr → ⊥
 no-limit l tr h r = let P : Trouble → Type 0 = λ v. IsRefusal v in subst P h r
+
+-- what is read, where an expression within the limits stands at the front
+reads-it : (names : Names) (tokens : List Symbol) (x : Operand) (taken : ℕ) → BeginsWithin names tokens x taken → read 0 1 0 (start names) tokens ≡ Ok (found x.tree taken)
+unfolding Deep
+reads-it names tokens x taken w =
+    let b = w.begins in
+    go (whole true b.phrase (closer b.us) (closer-closes b.us b.follows) (λ h. w.height))
+  where
+    at : (read 0 1 0 (start names) (w.begins.ts ++ w.begins.us) ≡ Ok (found x.tree (0 + length w.begins.ts))) ⊎ Deep 0 (w.begins.ts ++ w.begins.us) (read 0 1 0 (start names) (w.begins.ts ++ w.begins.us)) → read 0 1 0 (start names) tokens ≡ Ok (found x.tree taken)
+    at (inl p) =
+        let z : 0 + length w.begins.ts ≡ length w.begins.ts = omega arith in
+        let q : 0 + length w.begins.ts ≡ taken = z ∙ w.begins.count in
+        ap (read 0 1 0 (start names)) w.begins.all ∙ p ∙ ap (λ (n : ℕ). Ok (found x.tree n)) q
+    at (inr d) = let P : List Symbol → Type 0 = λ v. AreShallow 0 v in absurd (d.2 (subst P w.begins.all w.shallow))
+
+    go : Leads true (run (start names) (w.begins.ts ++ closer w.begins.us ∷ [])) (Ok (w.begins.after, ([], s.Expression x))) → read 0 1 0 (start names) tokens ≡ Ok (found x.tree taken)
+    go (passed e l) = cc
+    go (same e) = at (read-found w.begins.ts 0 1 0 (start names) w.begins.us w.begins.after x e)
+
+-- An expression within the limits is read.
+pub found_by : (names : Names) (tokens : List Symbol) (result : Result Found Refused) → Answers (read 0 1 0 (start names) tokens) result →
+    (x : Operand) (taken : ℕ) → BeginsWithin names tokens x taken → Gives x taken result
+found_by names tokens result a x taken w = gives (read 0 1 0 (start names) tokens) x taken result a (reads-it names tokens x taken w)
+
+-- Tokens begin with at most one expression within the limits.
+pub one_tree : (names : Names) (tokens : List Symbol) → OneTree names tokens
+one_tree names tokens x y m n w v =
+    let p = ok-same (found x.tree m) (found y.tree n) (sym (reads-it names tokens x m w) ∙ reads-it names tokens y n v) in
+    (ap (λ (r : Found). r.tree) p, ap (λ (r : Found). r.taken) p)
 
 refused-at : (names : Names) (tokens : List Symbol) (e : Refused) → Answers (read 0 1 0 (start names) tokens) (Err e) → IsRefusal e.trouble → (x : Operand) (taken : ℕ) → Begins false names tokens x taken → ⊥
 unfolding Deep IsLimited

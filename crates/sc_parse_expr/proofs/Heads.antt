@@ -1,5 +1,5 @@
 -- With which tokens the productions begin.
-use Rattle.std.proofs.Common.{◌≡◌, ℕ, ◌≤◌, Bool, true, false, not, List, [], ◌∷◌, ◌++◌, Option, Some, None, refl, sym, ◌∙◌, ap, subst, arith, ◌⊎◌, inl, inr}
+use Rattle.std.proofs.Common.{◌≡◌, ℕ, ◌≤◌, Bool, true, false, not, List, [], ◌∷◌, ◌++◌, Option, Some, refl, sym, ap, subst, arith, ◌⊎◌, inl, inr}
 use Rattle.sc_tree.specs.declared.operator.Unary.{Unary}
 use Rattle.sc_tree.specs.declared.expression.Storage.{Storage}
 use Rattle.sc_tree.specs.declared.expression.TypeWord.{TypeWord}
@@ -13,7 +13,7 @@ use Rattle.sc_symbol.specs.Names.{Scope, Names, is_type, is_typed}
 use Rattle.sc_phrase.specs.declared.operand.Operand.{Operand}
 use Rattle.sc_phrase.specs.declared.operand.Direct.{Direct}
 use Rattle.sc_phrase.specs.declared.operand.Mode.{Mode}
-use Rattle.sc_phrase.specs.Kinds.{unary_of, word_of, level_of, begins_type, begins_specifiers}
+use Rattle.sc_phrase.specs.Kinds.{unary_of, word_of, begins_type, begins_specifiers}
 use Rattle.sc_phrase.specs.Machine.{is_left_paren}
 use Rattle.sc_phrase.specs.Grammar.{starts_at, is_abstract, Strings, a_text, more_text, Stars, a_star, more_star, const_star, Phrase, name, constant, string, paren, offset_of, index, call, call_none, member, arrow, postfix, unary, size_of, size_of_type, cast, binary, conditional, assign, comma, Specified, none, simple, const, stored, typedef, struct_tag, enum_tag, structure, enumeration, TypeTokens, plain_type, derived_type, Level, direct, pointer, bare_pointer, DirectTokens, named, group, bare, suffix, Suffix, unsized, sized, unprototyped, no_parameters, prototype}
 use Rattle.sc_parse_expr.proofs.Levels.{level-small}

@@ -4,3 +4,5 @@ pub mod Heads
 pub mod Tokens
 pub mod Complete
 pub mod Fronts
+pub mod Others
+pub mod Turns

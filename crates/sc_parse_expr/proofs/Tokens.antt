@@ -1,8 +1,7 @@
 -- What the machine does with each class of tokens.
-use Rattle.std.proofs.Common.{◌≡◌, ℕ, ◌≤◌, ◌<◌, Bool, true, false, not, List, [], ◌∷◌, ◌++◌, Option, Some, None, Ok, refl, sym, ◌∙◌, ap, arith}
-use Rattle.std.specs.Prelude.{nat_lt, nat_le, if◌then◌else◌, cond, ◌&&◌}
+use Rattle.std.proofs.Common.{◌≡◌, ℕ, ◌≤◌, ◌<◌, Bool, true, false, List, [], ◌∷◌, ◌++◌, Option, Some, None, Ok, refl, ◌∙◌, ap, arith}
+use Rattle.std.specs.Prelude.{nat_lt, nat_le, if◌then◌else◌}
 use Rattle.std.proofs.lemmas.Bool.Decides.{nat_tests}
-use Rattle.std.proofs.lemmas.Bool.{le-leb}
 use Rattle.sc_tree.specs.declared.operator.Unary.{Unary}
 use Rattle.sc_tree.specs.declared.operator.Postfix.{Postfix}
 use Rattle.sc_tree.specs.declared.operator.Binary.{Binary}
@@ -22,13 +21,13 @@ use Rattle.sc_phrase.specs.declared.operand.Mode.TheVariants as mode
 use Rattle.sc_phrase.specs.declared.frame.Frame.{Frame}
 use Rattle.sc_phrase.specs.declared.frame.Frame.TheVariants as f
 use Rattle.sc_phrase.specs.declared.frame.State.TheVariants as s
-use Rattle.sc_phrase.specs.Kinds.{unary_of, operand_of, postfix_of, binary_of, level_of, assign_of, word_of, power_of, begins_type, begins_specifiers, begins_parameters}
-use Rattle.sc_phrase.specs.Nodes.{unary_node, postfix_node}
+use Rattle.sc_phrase.specs.Kinds.{unary_of, postfix_of, binary_of, level_of, assign_of, word_of, power_of, begins_type, begins_specifiers}
+use Rattle.sc_phrase.specs.Nodes.{postfix_node}
 use Rattle.sc_phrase.specs.Types.{is_empty, has_words, no_words, with_word, no_direct, pointed}
 use Rattle.sc_phrase.specs.Grammar.{is_named, is_void, is_right_paren}
-use Rattle.sc_phrase.specs.Machine.{Outcome, needs, needs_in, level_in, settle, settled, fits, act, have, need, at_operator, at_postfix, at_unary, at_word, words, specified, worded, due, void, tagged_structure, tagged_enumeration, items, is_left_paren, suffixes, direct_ends, stars, level_ends, in_group, group_name, opens_parameters, begin}
+use Rattle.sc_phrase.specs.Machine.{Outcome, needs, needs_in, level_in, settle, settled, fits, act, have, need, at_operator, at_postfix, at_unary, at_word, words, specified, due, void, tagged_structure, tagged_enumeration, items, is_left_paren, suffixes, direct_ends, stars, level_ends}
 use Rattle.sc_parse_expr.proofs.Levels.{level-small, level-positive, operand-tight, power-binary}
-use Rattle.sc_parse_expr.proofs.Heads.{is_name, opens_level}
+use Rattle.sc_parse_expr.proofs.Heads.{opens_level}
 
 -- A frame in which an operand of level q may stand is not closed by a token that binds less tightly than its operator.
 loose : (p q : ℕ) (frame : Frame) → needs_in frame ≤ q → 0 < p → q ≤ p → q ≤ 13 → (2 ≤ q → 4 ≤ p) → level_in frame < p
@@ -89,10 +88,13 @@ have-comma fs x q =
     let yes : nat_le (needs fs) 1 ≡ true = grind (arith, nat_tests) in
     ap (settled k.Comma) (settle_stops 1 1 fs x q (omega arith) (omega arith) (omega arith) (λ w. absurd (omega arith))) ∙ rw yes refl
 
-pub have-postfix : (kd : Kind) (op : Postfix) (fs : List Frame) (x : Operand) → postfix_of kd ≡ Some op → have kd fs x ≡ fits x.height (Ok (fs, s.Have (postfix_node x op)))
-have-postfix k.Increment op fs x is = ap (λ (o : Option Postfix). fits x.height (at_postfix o fs x)) is
-have-postfix k.Decrement op fs x is = ap (λ (o : Option Postfix). fits x.height (at_postfix o fs x)) is
-have-postfix kd op fs x is = cc
+pub have-postfix : (kd : Kind) (op : Postfix) (fs : List Frame) (x : Operand) → postfix_of kd ≡ Some op → 16 ≤ x.level → have kd fs x ≡ fits x.height (Ok (fs, s.Have (postfix_node x op)))
+have-postfix k.Increment op fs x is w = let near : nat_lt x.level 16 ≡ false = grind (arith, nat_tests) in rw near (ap (λ (o : Option Postfix). fits x.height (at_postfix o fs x)) is)
+have-postfix k.Decrement op fs x is w = let near : nat_lt x.level 16 ≡ false = grind (arith, nat_tests) in rw near (ap (λ (o : Option Postfix). fits x.height (at_postfix o fs x)) is)
+have-postfix kd op fs x is w = cc
+
+pub near : (x : Operand) → 16 ≤ x.level → nat_lt x.level 16 ≡ false
+near x w = grind (arith, nat_tests)
 
 pub power-postfix : (kd : Kind) (op : Postfix) → postfix_of kd ≡ Some op → power_of kd ≡ 16
 power-postfix k.Increment op is = refl

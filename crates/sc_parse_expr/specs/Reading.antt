@@ -6,6 +6,7 @@ use Rattle.sc_symbol.specs.declared.kind.Kind.{Kind}
 use Rattle.sc_symbol.specs.declared.kind.Kind.TheVariants as k
 use Rattle.sc_symbol.specs.Names.{Names}
 use Rattle.sc_phrase.specs.declared.operand.Operand.{Operand}
+use Rattle.sc_phrase.specs.declared.frame.Frame.{Frame}
 use Rattle.sc_phrase.specs.declared.frame.Frame.TheVariants as f
 use Rattle.sc_phrase.specs.declared.frame.State.{State}
 use Rattle.sc_phrase.specs.declared.frame.State.TheVariants as s
@@ -16,6 +17,8 @@ use Rattle.sc_phrase.specs.Grammar.{Phrase}
 use Rattle.sc_phrase.specs.Machine.{Config, step}
 use Rattle.sc_parse_expr.specs.declared.driver.Found.{Found}
 use Rattle.sc_parse_expr.specs.declared.driver.Refused.{Refused}
+use Rattle.sc_parse_expr.specs.declared.driver.Turn.{Turn}
+use Rattle.sc_parse_expr.specs.declared.driver.Turn.TheVariants as turn
 use Rattle.sc_parse_expr.specs.Brackets.{opens_with}
 
 abbrev pub found : Expr → ℕ → Found
@@ -65,6 +68,17 @@ abbrev pub Answers : Result Found Refused → Result Found Refused → Type 0
 Answers outcome (Ok found) = outcome ≡ Ok found
 Answers outcome (Err refused) = (refused.trouble ≡ no.NoMemory → ⊥) → outcome ≡ Err refused
 
+-- whether an expression ended in this state
+abbrev pub Turned : State → Turn → Type 0
+Turned state (turn.Open other) = (other ≡ state) × (ended_in state ≡ None)
+Turned state (turn.Done x) = state ≡ s.Expression x
+
+-- One token, whatever tokens follow, unless memory ran out.
+abbrev pub Turns : ℕ → ℕ → ℕ → Config → Symbol → Result Turn Refused → Names → List Frame → Type 0
+Turns depth last taken c t (Ok (turn.Open state)) names fs = (rest : List Symbol) → read depth last taken c (t ∷ rest) ≡ read (opens_with depth t.kind) t.line (taken + 1) (names, (fs, state)) rest
+Turns depth last taken c t (Ok (turn.Done x)) names fs = (rest : List Symbol) → read depth last taken c (t ∷ rest) ≡ Ok (found x.tree taken)
+Turns depth last taken c t (Err e) names fs = (e.trouble ≡ no.NoMemory → ⊥) → (rest : List Symbol) → read depth last taken c (t ∷ rest) ≡ Err e
+
 -- a token with which an expression ends
 abbrev pub closes : Kind → Bool
 closes k.RightParen = true
@@ -105,6 +119,10 @@ pub record BeginsWithin (names : Names) (tokens : List Symbol) (x : Operand) (ta
 abbrev pub Gives : Operand → ℕ → Result Found Refused → Type 0
 Gives x taken (Ok r) = r ≡ found x.tree taken
 Gives x taken (Err e) = e.trouble ≡ no.NoMemory
+
+-- Tokens begin with at most one expression within the limits that a closing token or the end follows.
+abbrev pub OneTree : Names → List Symbol → Type 0
+OneTree names tokens = (x y : Operand) (m n : ℕ) → BeginsWithin names tokens x m → BeginsWithin names tokens y n → (x.tree ≡ y.tree) × (m ≡ n)
 
 -- refused as no expression, and not for a limit or want of memory
 abbrev pub IsRefusal : Trouble → Type 0

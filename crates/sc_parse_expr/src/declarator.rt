@@ -336,6 +336,7 @@ fn name_in(
 }
 
 /// A token where a declarator's name or a parenthesis may stand.
+#[tactic(auto, using(crate::proofs::Others::direct_else))]
 fn direct(
     alloc: Global,
     token: &Symbol,
@@ -355,6 +356,7 @@ fn direct(
 }
 
 /// A token where a declarator is due.
+#[tactic(auto, using(crate::proofs::Others::begin_else))]
 pub fn begin(
     alloc: Global,
     token: &Symbol,
@@ -374,6 +376,7 @@ pub fn begin(
 }
 
 /// A token behind a star.
+#[tactic(auto, using(crate::proofs::Others::stars_else))]
 pub fn stars(
     alloc: Global,
     token: &Symbol,
@@ -435,6 +438,25 @@ pub fn opens_parameters(mode: Mode, typed: bool, kind: Kind) -> bool
     }
 }
 
+/// A name in parentheses, where none may stand in a type name.
+fn name_in_group(
+    alloc: Global,
+    token: &Symbol,
+    frames: &mut Stack<Frame>,
+    mode: Mode,
+) -> Result<State, Trouble>
+    requires named { IsNamed token.now.text }
+    requires name { token.now.kind ≡ Kind.Name }
+    ensures { Steps (spec.in_group token.now frames.old mode Kind.Name) result frames.new }
+{
+    match mode {
+        Mode::Abstract => Err(Trouble::LeftOut(Mark::OldStyle)),
+        Mode::Named => name_in(alloc, token, frames, token.line, Mode::Named, Stack::new(alloc)),
+        Mode::Either => name_in(alloc, token, frames, token.line, Mode::Either, Stack::new(alloc)),
+    }
+}
+
+#[tactic(auto, using(crate::proofs::Others::in_group_else))]
 fn in_group(
     alloc: Global,
     token: &Symbol,
@@ -444,10 +466,10 @@ fn in_group(
     requires { IsSymbol token.now }
     ensures { Steps (spec.in_group token.now frames.old mode token.now.kind) result frames.new }
 {
-    if token.kind == Kind::Name && mode == Mode::Abstract {
-        return Err(Trouble::LeftOut(Mark::OldStyle));
+    match token.kind {
+        Kind::Name => name_in_group(alloc, token, frames, mode),
+        _ => begin(alloc, token, frames, mode),
     }
-    begin(alloc, token, frames, mode)
 }
 
 /// A token behind `(` in a declarator.

@@ -1,5 +1,5 @@
 // An expression at the front of tokens.
-ghost use Rattle.std.specs.Prelude.{◌≡◌, ◌≤◌, ℕ, [], None, IfOk, IfErr};
+ghost use Rattle.std.specs.Prelude.{◌≡◌, ◌≤◌, ℕ, [], None, IfOk, IfErr, OnOk};
 ghost use Rattle.std.specs.Prelude.{All};
 ghost use Rattle.sc_phrase.specs.declared.operand.Operand.{Operand};
 ghost use Rattle.sc_phrase.specs.declared.frame.State.{State};
@@ -53,7 +53,7 @@ pub fn opens_with(depth: u32, kind: Kind) -> u32
     }
 }
 
-fn refused(trouble: Trouble, last: u32, line: u32) -> Refused
+fn refusal(trouble: Trouble, last: u32, line: u32) -> Refused
     ensures { result ≡ spec.refused trouble (spec.line_for trouble last line) }
 {
     match trouble {
@@ -107,7 +107,53 @@ fn at_end(
                 })
             }
         },
-        Err(trouble) => Err(refused(trouble, last, last)),
+        Err(trouble) => Err(refusal(trouble, last, last)),
+    }
+}
+
+/// What a token makes of an expression that is read: it goes on, or ended before the token.
+#[derive(Drop)]
+pub enum Turn {
+    Open(State),
+    Done(Operand),
+}
+
+fn turned(state: State) -> Turn
+    ensures { spec.Turned state result }
+{
+    match ended(state) {
+        Ok(x) => Turn::Done(x),
+        Err(other) => Turn::Open(other),
+    }
+}
+
+/// One token, where this many brackets are open before it.
+#[tactic(auto, using(crate::proofs::Turns::turn_ok, crate::proofs::Turns::turn_err, crate::proofs::Turns::turn_deep))]
+fn turn(
+    alloc: Global,
+    names: &mut TypeNames,
+    symbol: &Symbol,
+    frames: &mut Stack<Frame>,
+    state: State,
+    depth: u32,
+    last: u32,
+    taken: usize,
+) -> Result<Turn, Refused>
+    requires symbol { IsSymbol symbol.now }
+    requires depth { depth ≤ 500 }
+    ensures within { OnOk result (brackets.opens_with depth symbol.now.kind ≤ 500) }
+    ensures turns { spec.Turns depth last taken (names.old, (frames.old, state)) symbol.now result names.new frames.new }
+{
+    let open = opens_with(depth, symbol.kind);
+    if open > 500 {
+        return Err(Refused {
+            trouble: Trouble::Limit(Limit::Height),
+            line: symbol.line,
+        });
+    }
+    match step(alloc, names, symbol, frames, state) {
+        Ok(next) => Ok(turned(next)),
+        Err(trouble) => Err(refusal(trouble, last, symbol.line)),
     }
 }
 
@@ -128,25 +174,16 @@ fn reading(
     let mut taken = 0;
     let mut left = symbols;
     'reading: while let Some((symbol, rest)) = left.split_first() {
+        match turn(alloc, names, symbol, &mut frames, state, depth, last, taken)? {
+            Turn::Done(x) => {
+                return Ok(Found {
+                    tree: x.tree,
+                    taken,
+                });
+            }
+            Turn::Open(next) => state = next,
+        }
         depth = opens_with(depth, symbol.kind);
-        if depth > 500 {
-            return Err(Refused {
-                trouble: Trouble::Limit(Limit::Height),
-                line: symbol.line,
-            });
-        }
-        match step(alloc, names, symbol, &mut frames, state) {
-            Ok(next) => match ended(next) {
-                Ok(x) => {
-                    return Ok(Found {
-                        tree: x.tree,
-                        taken,
-                    });
-                }
-                Err(open) => state = open,
-            },
-            Err(trouble) => return Err(refused(trouble, last, symbol.line)),
-        }
         last = symbol.line;
         taken += 1;
         left = rest;
@@ -159,7 +196,7 @@ fn reading(
 /// are tokens that begin with no such expression (`Syntax`, or `LeftOut` with what is left out there, at the line of the
 /// first token that does not go on), and what is beyond a limit: an expression higher than 200, more than 31 arguments
 /// or parameters, more than 500 open brackets. Each token of the kind `Name` has 1 to 255 bytes.
-#[tactic(auto, using(crate::proofs::Fronts::found_by, crate::proofs::Fronts::refused_by))]
+#[tactic(auto, using(crate::proofs::Fronts::found_by, crate::proofs::Fronts::refused_by, crate::proofs::Fronts::one_tree))]
 pub fn expression(
     alloc: Global,
     symbols: &[Symbol],
@@ -169,6 +206,7 @@ pub fn expression(
     ensures exact { spec.Answers (spec.read 0 1 0 (spec.start names.old) symbols.now) result }
     ensures found { (x : Operand) (taken : ℕ) → spec.BeginsWithin names.old symbols.now x taken → spec.Gives x taken result }
     ensures refused { spec.RefusedOnly names.old symbols.now result }
+    ensures one { spec.OneTree names.old symbols.now }
 {
     reading(alloc, symbols, names)
 }

@@ -8,5 +8,5 @@ mod machine;
 mod operand;
 mod words;
 
-pub use driver::{Found, Refused, expression, opens_with};
+pub use driver::{Found, Refused, Turn, expression, opens_with};
 pub use machine::step;

@@ -1,5 +1,6 @@
 // The machine that reads expressions, type names, specifiers and declarators, one token at a time.
 ghost use Rattle.std.specs.Prelude.{◌≡◌, ◌<◌, ◌≤◌, List, [], ◌∷◌, ◌++◌, Some, None, Ok, Err, length, IfOk, OnOk};
+ghost use Rattle.sc_symbol.specs.Names.{is_typed as typed_in};
 ghost use Rattle.sc_phrase.specs.Machine as spec;
 ghost use Rattle.sc_phrase.specs.Types.{declare_in};
 ghost use Rattle.sc_phrase.specs.Steps.{Steps, Moves, IsSymbol};
@@ -260,9 +261,47 @@ fn effect(
     }
 }
 
+/// Whether the token is the name of a type.
+fn is_typed(names: &TypeNames, token: &Symbol) -> bool
+    ensures { result ≡ typed_in names.now token.now }
+{
+    match token.kind {
+        Kind::Name => names.is_type(&token.text),
+        _ => false,
+    }
+}
+
+fn entering(alloc: Global, names: &mut TypeNames, enters: bool) -> Result<(), NoMemory>
+    ensures { OnOk result (names.new ≡ spec.entered enters names.old) }
+{
+    if enters {
+        names.push_scope(alloc)?;
+    }
+    Ok(())
+}
+
+/// The token in this place, named where it is left out.
+#[tactic(auto, using(crate::proofs::Others::marks, crate::proofs::Others::marks_ok))]
+fn marked_place(
+    alloc: Global,
+    typed: bool,
+    token: &Symbol,
+    frames: &mut Stack<Frame>,
+    state: State,
+) -> Result<State, Trouble>
+    requires { IsSymbol token.now }
+    ensures { Steps (spec.marked token.now.kind (spec.place typed token.now (frames.old, state))) result frames.new }
+{
+    match place(alloc, typed, token, frames, state) {
+        Ok(next) => Ok(next),
+        Err(trouble) => Err(marked(token.kind, trouble)),
+    }
+}
+
 /// Takes the next token: the state behind it, or why nothing goes on with it. Where an expression, specifiers or a
 /// declarator end before the token, the state says so, and the token is not taken. A token of the kind `Name` has 1 to
 /// 255 bytes. What a refusal or want of memory leaves in `names` and `frames` is of no use.
+#[tactic(auto, using(crate::proofs::Others::step_ok, crate::proofs::Others::step_err))]
 pub fn step(
     alloc: Global,
     names: &mut TypeNames,
@@ -273,12 +312,11 @@ pub fn step(
     requires { IsSymbol token.now }
     ensures { Moves (spec.step token.now (names.old, (frames.old, state))) result names.new frames.new }
 {
-    let typed = token.kind == Kind::Name && names.is_type(&token.text);
-    if enters(typed, token.kind, &state) {
-        names.push_scope(alloc)?;
-    }
-    match place(alloc, typed, token, frames, state) {
+    let typed = is_typed(names, token);
+    let enters = enters(typed, token.kind, &state);
+    entering(alloc, names, enters)?;
+    match marked_place(alloc, typed, token, frames, state) {
         Ok(next) => effect(alloc, names, frames, next),
-        Err(trouble) => Err(marked(token.kind, trouble)),
+        Err(trouble) => Err(trouble),
     }
 }

@@ -1,7 +1,7 @@
 // The words of specifiers, and what ends with them.
-ghost use Rattle.std.specs.Prelude.{◌≡◌, ◌<◌, ◌≤◌, List, [], ◌∷◌, ◌++◌, Some, None, Ok, false, length, IfOk};
+ghost use Rattle.std.specs.Prelude.{◌≡◌, ◌<◌, ◌≤◌, List, [], ◌∷◌, ◌++◌, Some, None, Ok, false, if◌then◌else◌, length, IfOk};
 ghost use Rattle.sc_phrase.specs.Machine as spec;
-ghost use Rattle.sc_phrase.specs.Types.{no_words as no_words_at, with_word, with_const, with_storage, type_of, declarator_of as declarator_at, declarator_in};
+ghost use Rattle.sc_phrase.specs.Types.{has_words, no_words as no_words_at, with_word, with_const, with_storage, type_of, declarator_of as declarator_at, declarator_in};
 ghost use Rattle.sc_phrase.specs.Kinds.{word_of as word_in};
 ghost use Rattle.sc_phrase.specs.Steps.{Steps, IsSymbol, IsNamed};
 
@@ -148,6 +148,7 @@ fn outer_specified(kind: Kind, v: Specifiers) -> Result<State, Trouble>
 }
 
 /// A token behind the specifiers of a type name or parameter.
+#[tactic(auto, using(crate::proofs::Others::inner_else))]
 fn inner_specified(
     alloc: Global,
     token: &Symbol,
@@ -265,20 +266,49 @@ fn plain_name(frames: &mut Stack<Frame>) -> Result<State, Trouble>
     }
 }
 
-/// No type word stands before the token.
-fn wordless(kind: Kind, frames: &mut Stack<Frame>, v: Specifiers) -> Result<State, Trouble>
-    ensures { Steps (spec.wordless kind frames.old v v.storage) result frames.new }
+fn nothing_yet(kind: Kind, frames: &mut Stack<Frame>) -> Result<State, Trouble>
+    ensures { Steps (spec.nothing_yet kind frames.old) result frames.new }
 {
-    if v.storage.is_some() {
-        return goes_on(kind);
-    }
-    if v.constant {
-        return goes_on(kind);
-    }
     match kind {
         Kind::Name => plain_name(frames),
         _ => Err(Trouble::Syntax),
     }
+}
+
+/// No type word and no storage class stand before the token.
+fn unstored(
+    kind: Kind,
+    frames: &mut Stack<Frame>,
+    constant: bool,
+) -> Result<State, Trouble>
+    ensures { Steps (if constant then spec.goes_on kind else spec.nothing_yet kind frames.old) result frames.new }
+{
+    if constant {
+        return goes_on(kind);
+    }
+    nothing_yet(kind, frames)
+}
+
+/// No type word stands before the token.
+fn wordless(
+    kind: Kind,
+    frames: &mut Stack<Frame>,
+    storage: Option<Storage>,
+    v: Specifiers,
+) -> Result<State, Trouble>
+    ensures { Steps (spec.wordless kind frames.old v storage) result frames.new }
+{
+    match storage {
+        Some(_) => goes_on(kind),
+        None => unstored(kind, frames, v.constant),
+    }
+}
+
+/// Whether a type word is among the specifiers.
+fn some_words(words: &Items<TypeWord>) -> bool
+    ensures { result ≡ has_words words.now }
+{
+    !words.is_empty()
 }
 
 fn worded(
@@ -290,10 +320,10 @@ fn worded(
     requires { IsSymbol token.now }
     ensures { Steps (spec.worded token.now frames.old v) result frames.new }
 {
-    if v.words.is_empty() {
-        return wordless(token.kind, frames, v);
+    if some_words(&v.words) {
+        return specified(alloc, token, frames, v);
     }
-    specified(alloc, token, frames, v)
+    wordless(token.kind, frames, v.storage, v)
 }
 
 fn at_word(

@@ -33,9 +33,9 @@ use Rattle.sc_phrase.specs.declared.trouble.Trouble.{Trouble}
 use Rattle.sc_phrase.specs.declared.trouble.Trouble.TheVariants as no
 use Rattle.sc_phrase.specs.declared.trouble.Limit.TheVariants as limit
 use Rattle.sc_phrase.specs.Kinds.{unary_of, operand_of, postfix_of, binary_of, level_of, word_of, power_of, begins_type, begins_parameters}
-use Rattle.sc_phrase.specs.Nodes.{operand, name_node, constant_node, text_node, paren_node, offset_node, index_node, call_node, member_node, arrow_node, postfix_node, unary_node, size_node, size_type_node, cast_node, binary_node, conditional_node, assign_node, comma_node}
+use Rattle.sc_phrase.specs.Nodes.{name_node, constant_node, text_node, paren_node, offset_node, index_node, call_node, member_node, arrow_node, postfix_node, unary_node, size_node, size_type_node, cast_node, binary_node, conditional_node, assign_node, comma_node}
 use Rattle.sc_phrase.specs.Types.{is_empty, has_words, no_words, with_word, with_const, with_storage, identifier_at, no_direct, named_direct, with_step, pointed, whole, declarator_of, declarator_in, declare_in, type_of, member_of, parameter_of, item_of}
-use Rattle.sc_phrase.specs.Grammar.{text_with, is_named, is_abstract}
+use Rattle.sc_phrase.specs.Grammar.{text_with, is_abstract}
 
 -- what is open, and what was read last
 abbrev pub Place : Type 0
@@ -398,9 +398,13 @@ act kind fs x = at_operator (binary_of kind) fs x
 abbrev pub settled : Kind → List Frame × Operand → Outcome
 settled kind r = fits r.1.height (act kind r.0 r.1)
 
+-- A token belongs to a primary or postfix expression, and to no other operand.
+abbrev pub tight : Kind → List Frame → Operand → Outcome
+tight kind fs x = if nat_lt x.level 16 then stuck else fits x.height (behind kind fs x)
+
 -- an operand was read
 abbrev pub have : Kind → List Frame → Operand → Outcome
-have kind fs x = if nat_lt 15 (power_of kind) then fits x.height (behind kind fs x) else settled kind (settle (power_of kind) fs x)
+have kind fs x = if nat_lt 15 (power_of kind) then tight kind fs x else settled kind (settle (power_of kind) fs x)
 
 abbrev pub empty_call : List Frame → Outcome
 empty_call (f.Arguments a [] n ∷ fs) = Ok (fs, s.Have (call_node a [] 0))

@@ -127,6 +127,9 @@ pub fn have(
 {
     let power = power_of(kind);
     if power > 15 {
+        if x.level < 16 {
+            return Err(Trouble::Syntax);
+        }
         if x.height > 200 {
             return Err(Trouble::Limit(Limit::Height));
         }
