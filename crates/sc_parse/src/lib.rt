@@ -9,3 +9,6 @@ mod whole;
 
 pub use machine::advance;
 pub use whole::{parse, unit};
+
+#[cfg(test)]
+mod tests;
