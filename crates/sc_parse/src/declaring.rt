@@ -467,6 +467,7 @@ fn declared(
 }
 
 /// A token of a declarator.
+#[tactic(auto, using(crate::proofs::Lifting::declarator_err))]
 pub fn in_declarator(
     alloc: Global,
     names: &mut TypeNames,
@@ -518,6 +519,7 @@ fn specified(
 }
 
 /// A token of specifiers.
+#[tactic(auto, using(crate::proofs::Lifting::specifiers_err))]
 pub fn in_specifiers(
     alloc: Global,
     names: &mut TypeNames,

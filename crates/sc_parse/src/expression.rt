@@ -194,6 +194,7 @@ fn expression_ends(
 }
 
 /// A token of an expression.
+#[tactic(auto, using(crate::proofs::Lifting::expression_err))]
 pub fn in_expression(
     alloc: Global,
     names: &mut TypeNames,

@@ -75,6 +75,7 @@ fn marked(kind: Kind, obstacle: Obstacle) -> Obstacle
 
 /// Takes the next token: the stage behind it, or why nothing goes on with it. A token of the kind `Name` has 1 to 255
 /// bytes. What a refusal or want of memory leaves in `names` and `around` is of no use.
+#[tactic(auto, using(crate::proofs::Lifting::marks_ok, crate::proofs::Lifting::marks_err))]
 pub fn advance(
     alloc: Global,
     names: &mut TypeNames,
