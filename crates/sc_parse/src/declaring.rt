@@ -8,8 +8,6 @@ ghost use Rattle.sc_unit.specs.Machine as spec;
 ghost use Rattle.sc_unit.specs.Trees as trees;
 ghost use Rattle.sc_unit.specs.Steps.{Goes};
 
-use sc_unit::{Around, Stage};
-use sc_unit::Obstacle;
 use sc_base::{Duplicate, Items, NoMemory, Stack};
 use sc_parse_expr::step;
 use sc_phrase::{Direct, Frame, Mode, State, Trouble, Whole};
@@ -18,6 +16,7 @@ use sc_tree::{
     Block, Declaration, Declarator, External, Identifier, InitDeclarator, Initializer, Specifiers,
     Storage,
 };
+use sc_unit::{Around, Obstacle, Stage};
 use std::alloc::Global;
 
 /// Nothing of the grammar goes on with the token.
@@ -332,7 +331,11 @@ fn initialized(
     ensures { (names : Names) → Goes (Ok (names, (Around.Initialized line declarator ∷ Around.Declaration v all ∷ around.old, Stage.Initial))) result names around.new }
 {
     around.push(Around::Declaration(v, all))?;
-    kept(around, Around::Initialized(line, declarator), Stage::Initial)
+    kept(
+        around,
+        Around::Initialized(line, declarator),
+        Stage::Initial,
+    )
 }
 
 pub fn empty_block(alloc: Global, line: u32) -> Block
@@ -498,7 +501,14 @@ fn first_declarator(
 {
     around.push(Around::Declaration(v, Items::new(alloc)))?;
     let frames = framed(alloc, Frame::Outer)?;
-    in_declarator(alloc, names, token, around, frames, State::Begin(Mode::Named))
+    in_declarator(
+        alloc,
+        names,
+        token,
+        around,
+        frames,
+        State::Begin(Mode::Named),
+    )
 }
 
 /// A token behind the specifiers of a declaration.

@@ -6,14 +6,13 @@ ghost use Rattle.sc_phrase.specs.Steps.{IsSymbol};
 ghost use Rattle.sc_unit.specs.Machine as spec;
 ghost use Rattle.sc_unit.specs.Steps.{Goes};
 
-use sc_unit::{Around, Head, Stage, Test};
 use crate::declaring::{STUCK, framed, initial_joins, initialized_ends, kept, list_ends};
-use sc_unit::Obstacle;
 use sc_base::{Items, Shared, Stack};
 use sc_parse_expr::step;
 use sc_phrase::{Frame, Operand, State};
 use sc_symbol::{Kind, Symbol, TypeNames};
 use sc_tree::{Expr, Initializer, Statement};
+use sc_unit::{Around, Head, Obstacle, Stage, Test};
 use std::alloc::Global;
 
 fn at_semicolon(
@@ -138,19 +137,38 @@ fn whole_ends(
 {
     match around.pop() {
         Some(Around::Test(of, line)) => {
-            at_paren(kind, around, Around::Under(tested(of, line, x.tree)), Stage::Due)
+            at_paren(
+                kind,
+                around,
+                Around::Under(tested(of, line, x.tree)),
+                Stage::Due,
+            )
         }
         Some(Around::Until(line, body, until)) => {
-            ends_at_paren(kind, Stage::Semicolon(Statement::Do(line, body, until, x.tree)))
+            ends_at_paren(
+                kind,
+                Stage::Semicolon(Statement::Do(line, body, until, x.tree)),
+            )
         }
         Some(Around::Value(line)) => {
-            at_colon(kind, around, Around::Under(Head::Case(line, x.tree)), Stage::Due)
+            at_colon(
+                kind,
+                around,
+                Around::Under(Head::Case(line, x.tree)),
+                Stage::Due,
+            )
         }
         Some(Around::Expression) => {
             ends_at_semicolon(kind, Stage::Got(Statement::Expression(x.line, x.tree)))
         }
         Some(Around::List(line, all)) => {
-            initial_joins(kind, around, line, all, Initializer::Expression(x.line, x.tree))
+            initial_joins(
+                kind,
+                around,
+                line,
+                all,
+                Initializer::Expression(x.line, x.tree),
+            )
         }
         Some(Around::Initialized(line, d)) => {
             let initializer = Initializer::Expression(x.line, x.tree);

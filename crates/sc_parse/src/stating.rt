@@ -6,13 +6,12 @@ ghost use Rattle.sc_unit.specs.Machine as spec;
 ghost use Rattle.sc_unit.specs.Trees as trees;
 ghost use Rattle.sc_unit.specs.Steps.{Goes, ends_on as ends_before};
 
-use sc_unit::{Around, Head, Stage, Test};
 use crate::declaring::{STUCK, empty_block, kept, specifiers, unit_with};
 use crate::expression::begin;
-use sc_unit::Obstacle;
 use sc_base::{NoMemory, Shared, Stack};
 use sc_symbol::{Kind, Symbol, TypeNames};
 use sc_tree::{Block, Declarator, External, Function, Specifiers, Statement};
+use sc_unit::{Around, Head, Obstacle, Stage, Test};
 use std::alloc::Global;
 
 fn function(v: Specifiers, declarator: Declarator, body: Block) -> Function
@@ -41,7 +40,11 @@ fn function_ends(
     drop(scope);
     match around.pop() {
         Some(Around::Unit(items)) => {
-            unit_with(around, items, External::Function(function(v, declarator, body)))
+            unit_with(
+                around,
+                items,
+                External::Function(function(v, declarator, body)),
+            )
         }
         Some(other) => {
             drop(other);
@@ -343,7 +346,11 @@ fn until(
     match token.kind {
         Kind::While => {
             let body = Shared::new(alloc, body)?;
-            kept(around, Around::Until(line, body, token.line), Stage::LeftParen)
+            kept(
+                around,
+                Around::Until(line, body, token.line),
+                Stage::LeftParen,
+            )
         }
         _ => Err(STUCK),
     }

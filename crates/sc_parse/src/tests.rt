@@ -99,8 +99,16 @@ fn repeat(text: &mut String, count: u32, each: &str) -> Result<(), Fail> {
 fn limits(rt: HostRuntime) -> Result<(), Fail> {
     let alloc = rt.alloc();
     for (most, wanted, parts) in [
-        (1499u32, "height", ["void f(void) {", "if (x) ", ";", "", "}"]),
-        (1499, "height", ["void f(void) {", "while (x) ", "{}", "", "}"]),
+        (
+            1499u32,
+            "height",
+            ["void f(void) {", "if (x) ", ";", "", "}"],
+        ),
+        (
+            1499,
+            "height",
+            ["void f(void) {", "while (x) ", "{}", "", "}"],
+        ),
         (127, "height", ["void f(void) ", "{", "", "}", ""]),
         (500, "height", ["int x = ", "(", "1", ")", ";"]),
         (499, "height", ["int x[] = {", "{", "1", "}", "};"]),

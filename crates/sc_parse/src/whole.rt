@@ -8,9 +8,7 @@ ghost use Rattle.sc_unit.specs.Claims.{Parses};
 ghost use Rattle.sc_token.specs.Symbols.{symbols as symbols_of};
 ghost use Rattle.sc_unit.specs.Parse as spec;
 
-use sc_unit::{Around, Stage};
 use crate::machine::advance;
-use sc_unit::Obstacle;
 use sc_base::{Bytes, Fault, Items, NoMemory, Refusal, Stack, X};
 use sc_lex::Token;
 use sc_parse_expr::opens_with;
@@ -18,6 +16,7 @@ use sc_phrase::{Limit, Trouble};
 use sc_symbol::{Kind, Mark, Symbol, TypeNames};
 use sc_token::symbols;
 use sc_tree::Unit;
+use sc_unit::{Around, Obstacle, Stage};
 use std::alloc::Global;
 
 /// The word of a construct that is left out.

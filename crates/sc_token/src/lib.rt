@@ -8,4 +8,3 @@ mod punctuator;
 mod word;
 
 pub use listing::symbols;
-

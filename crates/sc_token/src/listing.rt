@@ -129,12 +129,7 @@ fn character_symbol(alloc: Global, token: &Token) -> Result<Symbol, NoMemory>
 }
 
 /// What the token is, where `long` says whether `long` stands directly before it.
-fn symbol_of(
-    alloc: Global,
-    long: bool,
-    token: &Token,
-    behind: &[Token],
-) -> Result<Symbol, NoMemory>
+fn symbol_of(alloc: Global, long: bool, token: &Token, behind: &[Token]) -> Result<Symbol, NoMemory>
     ensures { IfOk result (λ s. s ≡ spec.symbol_of long token.now behind.now) }
 {
     let text = token.text.as_slice();

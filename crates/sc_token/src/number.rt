@@ -94,13 +94,7 @@ fn type_of(decimal: bool, value: u64, u: bool, l: bool) -> Int
     match (u, l) {
         (true, true) => Int::ULong,
         (true, false) => Int::UInt,
-        (false, true) => {
-            if small {
-                Int::Long
-            } else {
-                Int::ULong
-            }
-        }
+        (false, true) => { if small { Int::Long } else { Int::ULong } }
         (false, false) => {
             if small {
                 Int::Int

@@ -58,8 +58,8 @@ pub reads_whole : {w : Bool} {m : ℕ} {b c : Names} {xs : List Symbol} {x : Ope
 reads_whole {w} {m} {b} {c} {xs} {x} (whole d n h) one fs u us i =
     let p = closes-power m u.kind i in
     follows_expression xs u us fs b (f.Only m ∷ []) e.Need (c, ([], e.Expression x))
-      (inner.◌▸◌ (phrases.reads w d (f.Only m ∷ []) u [] h n (omega (arith, p)))
-        (inner.tested w c (f.Only m ∷ []) x u [] (Ok ([], e.Expression x)) h (have-closes m u.kind x i)))
+    (inner.◌▸◌ (phrases.reads w d (f.Only m ∷ []) u [] h n (omega (arith, p)))
+    (inner.tested w c (f.Only m ∷ []) x u [] (Ok ([], e.Expression x)) h (have-closes m u.kind x i)))
 
 -- a token behind the specifiers of a declaration
 abbrev pub ends_heading : Kind → Bool
@@ -96,14 +96,14 @@ reads_specified {w} {b} {c} {l} {ts = []} {v} d at u n = absurd at
 reads_specified {w} {b} {c} {l} {ts = t ∷ ts} {v} d at u n =
     let brace : not (kinds.is_brace u.kind) ≡ true = rw n refl in
     inner.◌▸◌ (inner.same (words_due b t (ts ++ u ∷ []) ∙ ap (λ (n : ℕ). lower.run (b, (f.Outer ∷ [], e.Words (no_words n))) (t ∷ (ts ++ u ∷ []))) at))
-      (phrases.reads_words w d (f.Outer ∷ []) (u ∷ []) (λ i class v. refl) brace)
+    (phrases.reads_words w d (f.Outer ∷ []) (u ∷ []) (λ i class v. refl) brace)
 
 pub reads_heading : {w : Bool} {b c : Names} {ts : List Symbol} {v : Specifiers TypeWord} → Heading w b c ts v → (fs : List Around) (u : Symbol) (us : List Symbol) → ends_heading u.kind ≡ true →
     Leads w (run (b, (fs, at.Specifiers (f.Outer ∷ []) e.Due)) (ts ++ u ∷ us)) (after u us (specified u c fs v u.kind))
 reads_heading {w} {b} {c} {ts} {v} (heading {l} d at h) fs u us i =
     follows_specifiers ts u us fs b (f.Outer ∷ []) e.Due (c, ([], e.Specified v))
-      (inner.◌▸◌ (reads_specified d at u (heading-no_brace u.kind i))
-        (inner.same (ap (inner.after u.kind c []) (kinds.words-end (is_typed c u) u (f.Outer ∷ []) v u.kind refl (heading-follows u.kind i) h ∙ heading-ends u.kind v i))))
+    (inner.◌▸◌ (reads_specified d at u (heading-no_brace u.kind i))
+    (inner.same (ap (inner.after u.kind c []) (kinds.words-end (is_typed c u) u (f.Outer ∷ []) v u.kind refl (heading-follows u.kind i) h ∙ heading-ends u.kind v i))))
 
 -- a token behind a declarator of a declaration
 abbrev pub ends_declarator : Kind → Bool
@@ -131,5 +131,5 @@ pub reads_declarator : {w : Bool} {b c : Names} {l : ℕ} {ts : List Symbol} {x 
     Leads w (run (b, (fs, at.Declarator (f.Outer ∷ []) (e.Begin mode.Named))) (ts ++ u ∷ us)) (after u us (declared u c fs (whole_at l x)))
 reads_declarator {w} {b} {c} {l} {ts} {x} d fs u us i =
     follows_declarator ts u us fs b (f.Outer ∷ []) (e.Begin mode.Named) (c, ([], e.Declared (whole_at l x)))
-      (inner.◌▸◌ (phrases.reads_level w d (f.Outer ∷ []) u [] (declarator-ends u.kind i))
-        (inner.same (ap (inner.after u.kind c []) (declarator-outer u.kind (whole_at l x) i))))
+    (inner.◌▸◌ (phrases.reads_level w d (f.Outer ∷ []) u [] (declarator-ends u.kind i))
+    (inner.same (ap (inner.after u.kind c []) (declarator-outer u.kind (whole_at l x) i))))

@@ -33,7 +33,6 @@ pub data Leads (w : Bool) (a b : Move) : Type 0 where
   passed : w ≡ false → Limited a → Leads w a b
 
 infixl 10 ◌▸◌
-
 limited-same : {a b : Move} → a ≡ b → Limited b → Limited a
 limited-same p (inl q) = inl (p ∙ q)
 limited-same p (inr q) = inr (q.0, p ∙ q.1)
@@ -110,13 +109,12 @@ module _ (stage : List Frame → State → Stage) (answers : Symbol → List Aro
     (place-is : (t : Symbol) (names : Names) (fs : List Around) (gs : List Frame) (st : State) → place t (names, (fs, stage gs st)) ≡ answers t fs (step t (names, (gs, st))))
     (goes-is : (t : Symbol) (fs : List Around) (names : Names) (gs : List Frame) (st : State) → is_end st ≡ false → answers t fs (Ok (names, (gs, st))) ≡ Ok (names, (fs, stage gs st)))
     (fails-is : (t : Symbol) (fs : List Around) (o : Trouble) → answers t fs (Err o) ≡ Err (no.Inner o)) where
-
   limit-is : (t : Symbol) (ts : List Symbol) (fs : List Around) (l : Limit) → after t ts (answers t fs (Err (trouble.Limit l))) ≡ Err (no.Inner (trouble.Limit l))
   limit-is t ts fs l = ap (after t ts) (fails-is t fs (trouble.Limit l)) ∙ after-limit t ts l
 
   follow-step : (t u : Symbol) (xs us : List Symbol) (fs : List Around) (a : Answer) →
       ((names : Names) (gs : List Frame) (st : State) → Firm (lower.run (names, (gs, st)) (xs ++ u ∷ [])) →
-          run (names, (fs, stage gs st)) (xs ++ u ∷ us) ≡ after u us (answers u fs (lower.run (names, (gs, st)) (xs ++ u ∷ [])))) →
+      run (names, (fs, stage gs st)) (xs ++ u ∷ us) ≡ after u us (answers u fs (lower.run (names, (gs, st)) (xs ++ u ∷ [])))) →
       Firm (lower.on_ok (λ d. lower.run d (xs ++ u ∷ [])) a) →
       after t (xs ++ u ∷ us) (answers t fs a) ≡ after u us (answers u fs (lower.on_ok (λ d. lower.run d (xs ++ u ∷ [])) a))
   follow-step t u xs us fs (Ok (names, (gs, st))) ih h = go (is_end st) refl

@@ -363,6 +363,7 @@ contents {w} {n} {b} {c} d {ts} us {ds} all xs mk i l fs q r vs h reads =
 
 mutual
   unfolding Head
+
   reads_statement : {w : Bool} {n : ℕ} {b c : Names} {closed : Bool} {ts : List Symbol} {x : Statement} → IsStatement w n b c closed ts x → Keeps w n 1499 → (fs : List Around) → length fs ≡ suc (suc n) → (u : Symbol) (us : List Symbol) →
       (closed ≡ false → is_else u.kind ≡ false) → Leads w (stating b fs (ts ++ u ∷ us)) (run (c, (fs, at.Got x)) (u ∷ us))
   reads_statement {w} {n} {b} (g.empty t i) h fs q u us z = begins_with n b fs t (u ∷ us) (b, (fs, at.Got (s.Empty t.line))) h q (rw i refl) (rw i refl)

@@ -58,7 +58,7 @@ inside xs ys vs l r = simp append_assoc
 reads_body : {w : Bool} {b c d : Names} {h l : ℕ} {us vs : List Symbol} {x : Direct} {ds : List Declaration} {all : List Statement} (v : Specifiers TypeWord) → Level w mode.Named b c h us x →
     Braces w 0 (x.scope ∷ declare_as v.storage x.identifier c) d l vs ds all → (items : List External) (ws : List Symbol) →
     Leads w (run (b, (a.Declaration v [] ∷ a.Unit items ∷ [], at.Declarator (f.Outer ∷ []) (e.Begin mode.Named))) (us ++ (vs ++ ws)))
-      (run (leave d, (a.Unit (items ++ external.Function (function_of v (declarator_of h x) (block_of l ds all)) ∷ []) ∷ [], at.Due)) ws)
+    (run (leave d, (a.Unit (items ++ external.Function (function_of v (declarator_of h x) (block_of l ds all)) ∷ []) ∷ [], at.Due)) ws)
 reads_body {w} {b} {c} {d} {h} {us} {x} {ds} {all} v p (braces {ts} {us = vs} left right i xs ss j) items ws =
     regrouped (b, (a.Declaration v [] ∷ a.Unit items ∷ [], at.Declarator (f.Outer ∷ []) (e.Begin mode.Named))) _ _ (ap (λ (v : List Symbol). us ++ v) (inside ts vs ws left right)) ▸
     reads_declarator p (a.Declaration v [] ∷ a.Unit items ∷ []) left (ts ++ (vs ++ right ∷ ws)) (rw i refl) ▸

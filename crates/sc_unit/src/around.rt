@@ -23,12 +23,7 @@ pub enum Head {
     Else(u32, Shared<Expr>, Shared<Statement>),
     Switch(u32, Shared<Expr>),
     While(u32, Shared<Expr>),
-    For(
-        u32,
-        Option<Shared<Expr>>,
-        Option<Shared<Expr>>,
-        Option<Shared<Expr>>,
-    ),
+    For(u32, Option<Shared<Expr>>, Option<Shared<Expr>>, Option<Shared<Expr>>),
     Case(u32, Shared<Expr>),
     Default(u32),
 }

@@ -5,5 +5,4 @@ ghost use Rattle.sc_unit.specs.Claims.{FindsEachUnit, RefusesNoUnit};
 pub fn reads_units()
     ensures found { FindsEachUnit }
     ensures refused { RefusesNoUnit }
-{
-}
+{}
