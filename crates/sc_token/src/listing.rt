@@ -154,7 +154,6 @@ fn says_long(kind: TokenKind, text: &[u8]) -> bool
 }
 
 /// What the tokens are, each at its place (ANSI 2.1.1.2). A `Newline` is nothing to the grammar.
-#[tactic(auto, using(crate::proofs::Named::named_symbols))]
 pub fn symbols(alloc: Global, tokens: &[Token]) -> Result<Items<Symbol>, NoMemory>
     ensures symbols { IfOk result (λ all. all ≡ spec.symbols tokens.now) }
     ensures named { IfOk result (λ all. All IsSymbol all) }
