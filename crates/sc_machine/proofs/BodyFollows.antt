@@ -18,7 +18,7 @@ use Rattle.sc_meaning.specs.Versions.{History}
 use Rattle.sc_meaning.specs.Changes.{reached}
 use Rattle.sc_meaning.specs.Expressions.{Env, Answer, Plain, Nothing, used, valued, automatic_in, either}
 use Rattle.sc_meaning.specs.Statements.{label_next as next_label, holds, Way, Normal, Broke, Continued, Returned, ended, born_autos, block_autos, with_block, after_stmt, stmts_of, block_ended, block_with, block_of, initial_structure, initial, initials, condition, condition_at, optional, label_of, body_from, landed, after_switch, after_turn, discarded, discarded_if, first_of, turn_of, returned, stmt_of, stmt_begun}
-use Rattle.sc_meaning.specs.Calls.{eval, exec, turn, call}
+use Rattle.sc_meaning.specs.Calls.{eval, exec, turn}
 use Rattle.sc_machine.specs.Machine as expr
 use Rattle.sc_machine.specs.Means as past
 use Rattle.sc_machine.specs.Bodies.{Use, Discard, Turns, Return, If, While, Repeat, For, Switch, Set, Copy, Item, End, Rest, EndBlock, EndSwitch, Again, Check, Third, Mode, Within, Exec, Turn, Leave, Pieces, Labels, Advanced, GoesOn, Lines, CallsOut, Leaves, Breaks, then_goes, whether, within, execs, turns, opened, enters, optional_next, first_next, return_next, stmt_next, holds_next, turn_next, tests, use_next, piece_next, pieces_next, body_next, landed_next, label_next, labels_next, rest_next, switch_next, goes_round, third_next, without_blocks, first_ids, item_next, way_next, expr_next, advance, goes_on, ran, ends}

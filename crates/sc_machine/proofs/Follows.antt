@@ -1,18 +1,18 @@
 -- What an expression's pending work means before a step, what the step leaves means after it.
-use Rattle.std.proofs.Common.{◌≡◌, ℕ, zero, suc, ◌+◌, ◌≤◌, Bool, true, false, List, [], ◌∷◌, ◌++◌, arith, refl, sym, subst}
+use Rattle.std.proofs.Common.{◌≡◌, ℕ, zero, suc, ◌≤◌, Bool, true, false, List, [], ◌∷◌, ◌++◌, arith, refl, sym, subst}
 use Rattle.sc_types.specs.declared.ctype.CType.{CType}
 use Rattle.sc_core.specs.declared.expression.CoreExpr.{CoreExpr, out-CoreExpr}
 use Rattle.sc_core.specs.declared.expression.CoreExpr.TheOpen.{CoreExpr-F}
 use Rattle.sc_core.specs.Types.{type_of}
 use Rattle.sc_meaning.specs.Values.{Value, Number}
-use Rattle.sc_meaning.specs.World.{World, tick}
-use Rattle.sc_meaning.specs.Outcomes.{Outcome, Done, Over, Ending, and_then, unless}
+use Rattle.sc_meaning.specs.World.{World}
+use Rattle.sc_meaning.specs.Outcomes.{Outcome, Done, Over, Ending, and_then}
 use Rattle.sc_meaning.specs.Accesses.{tested}
 use Rattle.sc_meaning.specs.Versions.{History}
-use Rattle.sc_meaning.specs.Expressions.{Env, Answer, finished, plain, used, valued, either, truth, expr_of, begun, called, args_then, one, two, at_place, Part, unary, assigned_structure}
+use Rattle.sc_meaning.specs.Expressions.{Env, Answer, finished, plain, used, either, truth, expr_of, begun, called, args_then, one, two, at_place, Part, unary, assigned_structure}
 use Rattle.sc_meaning.specs.Calls.{eval, call}
-use Rattle.sc_machine.specs.Machine.{Single, Whole, Truth, Member, Arrow, Increment, Address, Indirection, Unary, Cast, Convert, Pair, Index, Binary, Offset, Difference, Compare, Store, Assign, Compound, Move, Item, Alone, Right, Now, StoreRight, StoreNow, StructureRight, StructureNow, And, Or, Choice, Then, Callee, Argument, Mode, Eval, Give, Advanced, GoesOn, CallsOut, Gives, Breaks, single_of, pair_of, store_of, evals, then_goes, gives, whether, args_next, expr_next, item_next, answer_next, advance, ran}
-use Rattle.sc_machine.specs.Means.{item_of, After, Means, Comes, made}
+use Rattle.sc_machine.specs.Machine.{Whole, Truth, Member, Arrow, Increment, Address, Indirection, Unary, Cast, Convert, Pair, Index, Binary, Offset, Difference, Compare, Store, Assign, Compound, Move, Item, Alone, Right, Now, StoreRight, StoreNow, StructureRight, StructureNow, And, Or, Choice, Then, Callee, Argument, Mode, Eval, Give, Advanced, GoesOn, CallsOut, Gives, Breaks, single_of, pair_of, store_of, evals, then_goes, gives, whether, args_next, expr_next, item_next, answer_next, advance, ran}
+use Rattle.sc_machine.specs.Means.{item_of, After, Means, Comes}
 
 -- less depth is asked for
 pub weaker : (h : History) (env : Env) (n : ℕ) (is : List Item) (r out : Outcome Answer) → After h env (suc n) is r out → After h env n is r out
@@ -124,17 +124,17 @@ module _ (h : History) (env : Env) (n : ℕ) (out : Outcome Answer) where
       then_sim is (used a w) (λ x w. and_then (tested s x w) (λ yes w. either yes (λ w. one (eval m h) env b w (truth t)) (plain (Number 0)) w))
       (λ x w. then_goes (tested s x w) (λ yes w. whether yes (evals b (Alone (Truth t) ∷ is)) (λ w. gives is (plain (Number 0) w)) w))
       (λ x w p. then_sim is (tested s x w) (λ yes w. either yes (λ w. one (eval m h) env b w (truth t)) (plain (Number 0)) w)
-          (λ yes w. whether yes (evals b (Alone (Truth t) ∷ is)) (λ w. gives is (plain (Number 0) w)) w) (λ yes w p. and_sim m le yes t b is w p) p) p
+      (λ yes w. whether yes (evals b (Alone (Truth t) ∷ is)) (λ w. gives is (plain (Number 0) w)) w) (λ yes w p. and_sim m le yes t b is w p) p) p
   item_sim m le (Or s t b) a is w p =
       then_sim is (used a w) (λ x w. and_then (tested s x w) (λ yes w. either yes (plain (Number 1)) (λ w. one (eval m h) env b w (truth t)) w))
       (λ x w. then_goes (tested s x w) (λ yes w. whether yes (λ w. gives is (plain (Number 1) w)) (evals b (Alone (Truth t) ∷ is)) w))
       (λ x w p. then_sim is (tested s x w) (λ yes w. either yes (plain (Number 1)) (λ w. one (eval m h) env b w (truth t)) w)
-          (λ yes w. whether yes (λ w. gives is (plain (Number 1) w)) (evals b (Alone (Truth t) ∷ is)) w) (λ yes w p. or_sim m le yes t b is w p) p) p
+      (λ yes w. whether yes (λ w. gives is (plain (Number 1) w)) (evals b (Alone (Truth t) ∷ is)) w) (λ yes w p. or_sim m le yes t b is w p) p) p
   item_sim m le (Choice t b d) a is w p =
       then_sim is (used a w) (λ x w. and_then (tested t x w) (λ yes w. and_then (either yes (eval m h env b) (eval m h env d) w) finished))
       (λ x w. then_goes (tested t x w) (λ yes w. whether yes (evals b (Alone Whole ∷ is)) (evals d (Alone Whole ∷ is)) w))
       (λ x w p. then_sim is (tested t x w) (λ yes w. and_then (either yes (eval m h env b) (eval m h env d) w) finished)
-          (λ yes w. whether yes (evals b (Alone Whole ∷ is)) (evals d (Alone Whole ∷ is)) w) (λ yes w p. choice_sim m le yes b d is w p) p) p
+      (λ yes w. whether yes (evals b (Alone Whole ∷ is)) (evals d (Alone Whole ∷ is)) w) (λ yes w p. choice_sim m le yes b d is w p) p) p
   item_sim m le (Then b) a is w p = enters m le (Alone Whole) b is w p
   item_sim m le (Callee t es) a is w p =
       then_sim is (used a w) (λ v w. args_then (eval m h) env es [] w (called h (call m h) env.text t v)) (λ v w. args_next t v es [] is w) (λ v w p. args_sim m le t v es [] is w p) p

@@ -5,14 +5,13 @@ use Rattle.sc_base.specs.declared.report.Rule.{Rule}
 use Rattle.sc_core.specs.declared.module.Fun.{Fun}
 use Rattle.sc_meaning.specs.Values.{Value, Number, FunctionAt, Pointer}
 use Rattle.sc_meaning.specs.World.{World, Born, Enter, pass, Push, Stack, OpenBlock}
-use Rattle.sc_meaning.specs.Outcomes.{Outcome, Done, Over, Ending, Undefined, StackFull, and_then, unless}
+use Rattle.sc_meaning.specs.Outcomes.{Outcome, Done, Over, Ending, and_then, unless}
 use Rattle.sc_meaning.specs.Versions.{Text, History, Callee, Missing, InText, InLibrary, callee_of, version_at}
 use Rattle.sc_meaning.specs.Changes.{happened, reached}
-use Rattle.sc_meaning.specs.Expressions.{Env, Answer, Nothing, either, value_rule, call_breach, call_value}
+use Rattle.sc_meaning.specs.Expressions.{Env, Answer, either, value_rule, call_breach, call_value}
 use Rattle.sc_meaning.specs.Statements.{Way}
 use Rattle.sc_meaning.specs.Functions.{library_call}
 use Rattle.sc_meaning.specs.Calls.{eval, exec, turn, call, call_of, full, entered, parameters, frame_of, body_of, left}
-use Rattle.sc_machine.specs.Means as past
 use Rattle.sc_machine.specs.Bodies as body
 use Rattle.sc_machine.specs.BodyMeans as rest
 use Rattle.sc_machine.specs.Runs.{Active, Caller, State, Runs, Makes, Answers, Ends, then_goes, answers, body_next, begins, enters, callee_next, value_next, made_unless, advance, ran}

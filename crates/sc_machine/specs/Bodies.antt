@@ -1,6 +1,6 @@
 -- One small step of the checking interpreter on a function's body, with the statements that are pending innermost first
 -- (ANSI 3.6). A line is answered, and its event is made outside: an event is the last thing of a step.
-use Rattle.std.specs.Prelude.{ℕ, zero, suc, ◌==◌, Bool, true, false, List, [], ◌∷◌, ◌++◌, length, take, drop, replicate, Option, Some, None}
+use Rattle.std.specs.Prelude.{ℕ, zero, suc, ◌==◌, Bool, true, false, List, [], ◌∷◌, length, take, drop, replicate, Option, Some, None}
 use Rattle.sc_types.specs.declared.ctype.CType.{CType}
 use Rattle.sc_core.specs.declared.expression.CoreExpr.{CoreExpr}
 use Rattle.sc_core.specs.declared.statement.AutoInit.{AutoInit}
@@ -11,14 +11,13 @@ use Rattle.sc_core.specs.declared.statement.SwitchLabel.{SwitchLabel}
 use Rattle.sc_core.specs.Types.{type_of}
 use Rattle.sc_meaning.specs.Values.{Value, scalar_size}
 use Rattle.sc_meaning.specs.World.{World, Born, pass, Work, Begin, End as Ends, OpenBlock, CloseBlock, tick}
-use Rattle.sc_meaning.specs.Outcomes.{Outcome, Done, Over, Ending, and_then}
+use Rattle.sc_meaning.specs.Outcomes.{Outcome, Done, Over, Ending}
 use Rattle.sc_meaning.specs.Violations.{bits}
 use Rattle.sc_meaning.specs.Accesses.{tested, set_at}
 use Rattle.sc_meaning.specs.Versions.{History}
 use Rattle.sc_meaning.specs.Changes.{reached}
 use Rattle.sc_meaning.specs.Expressions.{Env, Answer, Plain, Nothing, used, automatic_in}
 use Rattle.sc_meaning.specs.Statements.{Way, Normal, Broke, Continued, Returned, born_autos, all_dead, block_autos, with_block, set_bytes, id_of, initial_structure, stmt_begun}
-
 use Rattle.sc_machine.specs.Machine as expr
 
 -- what a statement does with the answer of its whole expression

@@ -1,10 +1,7 @@
 -- What is left of a body's execution, as the meaning of what is pending.
-use Rattle.std.specs.Prelude.{◌≡◌, ℕ, ◌≤◌, Bool, List, [], ◌∷◌, drop, Option, Some, None}
+use Rattle.std.specs.Prelude.{◌≡◌, ℕ, ◌≤◌, List, [], ◌∷◌, drop, None}
 use Rattle.sc_types.specs.declared.ctype.CType.{CType}
-use Rattle.sc_core.specs.declared.expression.CoreExpr.{CoreExpr}
 use Rattle.sc_core.specs.declared.statement.AutoInit.{AutoInit}
-use Rattle.sc_core.specs.declared.statement.CoreStmt.{CoreStmt}
-use Rattle.sc_core.specs.Types.{type_of}
 use Rattle.sc_meaning.specs.Values.{Value, scalar_size}
 use Rattle.sc_meaning.specs.World.{World, pass, Work, tick}
 use Rattle.sc_meaning.specs.Outcomes.{Outcome, Done, Over, and_then}

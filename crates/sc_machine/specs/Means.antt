@@ -1,15 +1,14 @@
 -- What is left of an expression's evaluation, as the meaning of what is pending.
-use Rattle.std.specs.Prelude.{◌≡◌, ℕ, ◌≤◌, Bool, List, [], ◌∷◌, ◌++◌}
+use Rattle.std.specs.Prelude.{◌≡◌, ℕ, ◌≤◌, List, [], ◌∷◌, ◌++◌}
 use Rattle.sc_types.specs.declared.ctype.CType.{CType}
-use Rattle.sc_core.specs.declared.expression.CoreExpr.{CoreExpr}
 use Rattle.sc_meaning.specs.Values.{Value, Number}
-use Rattle.sc_meaning.specs.World.{World, tick}
+use Rattle.sc_meaning.specs.World.{World}
 use Rattle.sc_meaning.specs.Outcomes.{Outcome, Done, Over, and_then, unless}
 use Rattle.sc_meaning.specs.Accesses.{tested}
 use Rattle.sc_meaning.specs.Versions.{Text, History, version_at}
-use Rattle.sc_meaning.specs.Expressions.{Env, Answer, Eval as Evals, Call as Called, finished, plain, used, valued, either, truth, assigned_structure, value_rule, call_breach, call_value, called, args_then, one}
+use Rattle.sc_meaning.specs.Expressions.{Env, Answer, Eval as Evals, Call as Called, finished, plain, used, either, truth, assigned_structure, value_rule, call_breach, call_value, called, args_then, one}
 use Rattle.sc_meaning.specs.Calls.{eval, call}
-use Rattle.sc_machine.specs.Machine.{Single, Pair, Store, Item, Alone, Right, Now, StoreRight, StoreNow, StructureRight, StructureNow, And, Or, Choice, Then, Callee, Argument, Mode, Eval, Give, Advanced, GoesOn, CallsOut, Gives, Breaks, single_of, pair_of, store_of}
+use Rattle.sc_machine.specs.Machine.{Item, Alone, Right, Now, StoreRight, StoreNow, StructureRight, StructureNow, And, Or, Choice, Then, Callee, Argument, Mode, Eval, Give, Advanced, GoesOn, CallsOut, Gives, Breaks, single_of, pair_of, store_of}
 
 -- what is done with an answer, by the meaning of the parts
 abbrev pub item_of : History → Evals → Called → Env → Item → Answer → World → Outcome Answer

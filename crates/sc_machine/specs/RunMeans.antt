@@ -1,6 +1,5 @@
 -- What is left of a run, as the meaning of the innermost body and of the callers that wait.
 use Rattle.std.specs.Prelude.{◌≡◌, ℕ, ◌≤◌, List, [], ◌∷◌}
-use Rattle.sc_meaning.specs.World.{World}
 use Rattle.sc_meaning.specs.Outcomes.{Outcome, Done, Over, and_then}
 use Rattle.sc_meaning.specs.Versions.{History}
 use Rattle.sc_meaning.specs.Expressions.{Answer}
@@ -8,7 +7,7 @@ use Rattle.sc_meaning.specs.Statements.{Way}
 use Rattle.sc_meaning.specs.Calls.{call, left}
 use Rattle.sc_machine.specs.Means as expr
 use Rattle.sc_machine.specs.BodyMeans as body
-use Rattle.sc_machine.specs.Runs.{Active, Caller, State, Runs, Makes, Answers, Ends}
+use Rattle.sc_machine.specs.Runs.{Caller, State, Runs, Makes, Answers, Ends}
 
 -- out is what comes of the answer r of the innermost call, where each caller goes at least n deep: r goes to what is pending in
 -- its expression, this to its statement, and the way in which its body is left gives the caller's own answer
