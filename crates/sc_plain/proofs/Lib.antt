@@ -1,2 +1,3 @@
 pub mod ByParts
 pub mod Evaluation
+pub mod Ends
