@@ -194,9 +194,12 @@ limited-last depth last taken c (u ∷ us) l h = go (nat_lt 500 (opens_with dept
     go : (b : Bool) → nat_lt 500 (opens_with depth u.kind) ≡ b → IsLimited (read depth last taken c (u ∷ us))
     go true d = (limit.Height, u.line, too-deep (opens_with depth u.kind) u.line (next (λ d. read (opens_with depth u.kind) u.line (taken + 1) d us) last u.line taken (step u c)) d)
     go false d =
-        let e = last-limited (step u c) l h in
-        (l, line_for (no.Limit l) last u.line, shallow (opens_with depth u.kind) u.line (next (λ d. read (opens_with depth u.kind) u.line (taken + 1) d us) last u.line taken (step u c)) d ∙
-        ap (next (λ d. read (opens_with depth u.kind) u.line (taken + 1) d us) last u.line taken) e)
+        let e = last-limited (step u c) l h in (
+          l,
+          line_for (no.Limit l) last u.line,
+          shallow (opens_with depth u.kind) u.line (next (λ d. read (opens_with depth u.kind) u.line (taken + 1) d us) last u.line taken (step u c)) d ∙
+              ap (next (λ d. read (opens_with depth u.kind) u.line (taken + 1) d us) last u.line taken) e,
+        )
 
 read-limited : (ts : List Symbol) (depth last taken : ℕ) (c : Config) (us : List Symbol) (l : Limit) → run c (ts ++ closer us ∷ []) ≡ Err (no.Limit l) → IsLimited (read depth last taken c (ts ++ us))
 unfolding IsLimited
@@ -209,9 +212,12 @@ read-limited (t ∷ ts) depth last taken c us l h =
         ((d : Config) → run d (ts ++ closer us ∷ []) ≡ Err (no.Limit l) → IsLimited (read (opens_with depth t.kind) t.line (taken + 1) d (ts ++ us))) →
         IsLimited (read depth last taken c (t ∷ (ts ++ us)))
     at true q p more = (limit.Height, t.line, too-deep (opens_with depth t.kind) t.line (next (λ d. read (opens_with depth t.kind) t.line (taken + 1) d (ts ++ us)) last t.line taken (step t c)) q)
-    at false q (inl e) more = (l, line_for (no.Limit l) last t.line,
-        shallow (opens_with depth t.kind) t.line (next (λ d. read (opens_with depth t.kind) t.line (taken + 1) d (ts ++ us)) last t.line taken (step t c)) q ∙
-        ap (next (λ d. read (opens_with depth t.kind) t.line (taken + 1) d (ts ++ us)) last t.line taken) e)
+    at false q (inl e) more = (
+      l,
+      line_for (no.Limit l) last t.line,
+      shallow (opens_with depth t.kind) t.line (next (λ d. read (opens_with depth t.kind) t.line (taken + 1) d (ts ++ us)) last t.line taken (step t c)) q ∙
+          ap (next (λ d. read (opens_with depth t.kind) t.line (taken + 1) d (ts ++ us)) last t.line taken) e,
+    )
     at false q (inr r) more =
         let m = more r.0 r.2 in
         (m.0, m.1, read-more depth last taken c r.0 t (ts ++ us) r.1 (goes-on_limit r.0 ts (closer us) l r.2) q ∙ m.2)

@@ -15,6 +15,7 @@ use Rattle.sc_phrase.specs.declared.trouble.Trouble.{Trouble}
 use Rattle.sc_phrase.specs.declared.trouble.Trouble.TheVariants as no
 use Rattle.sc_phrase.specs.Machine as m
 use Rattle.sc_phrase.specs.Machine.{Place, Config, Outcome, on_ok, mark_of, marked, effect, entered, enters, place, step}
+use Rattle.sc_phrase.specs.Types.{has_words}
 use Rattle.sc_phrase.specs.Steps.{Steps, Moves}
 
 pub direct_else : (t : Symbol) (kd : Kind) (fs : List Frame) (l : ℕ) (n : Mode) (cs : List Bool) (r : Result State Trouble) (gs : List Frame) → (kd ≡ k.Name → ⊥) → (kd ≡ k.LeftParen → ⊥) →
@@ -70,3 +71,6 @@ step_err names t p fs no.Syntax after gs h = ap (on_ok (effect (entered (enters 
 step_err names t p fs (no.LeftOut x) after gs h = ap (on_ok (effect (entered (enters (is_typed names t) t.kind p.1) names))) h
 step_err names t p fs (no.Limit x) after gs h = ap (on_ok (effect (entered (enters (is_typed names t) t.kind p.1) names))) h
 step_err names t p fs no.NoMemory after gs h = tt
+
+pub worded_some : (t : Symbol) (fs : List Frame) (v : Specifiers TypeWord) (r : Result State Trouble) (gs : List Frame) → has_words v.words ≡ true → Steps (m.specified t fs v) r gs → Steps (m.worded t fs v) r gs
+worded_some t fs v r gs h e = rw h e

@@ -30,7 +30,6 @@ pub data Leads (w : Bool) (a b : Answer) : Type 0 where
   passed : w ≡ false → Limited a → Leads w a b
 
 infixl 10 ◌▸◌
-
 pub ◌▸◌ : {w : Bool} {a b c : Answer} → Leads w a b → Leads w b c → Leads w a c
 ◌▸◌ (same p) (same q) = same (p ∙ q)
 ◌▸◌ (same p) (passed e q) = passed e (q.0, p ∙ q.1)

@@ -4,16 +4,14 @@ ghost use Rattle.sc_phrase.specs.Machine as spec;
 ghost use Rattle.sc_phrase.specs.Types.{with_word, no_words as no_words_at};
 ghost use Rattle.sc_phrase.specs.Steps.{Steps, IsSymbol, IsNamed};
 
+use crate::words::{first_word, words};
+use sc_base::{Items, Name, Shared, Stack};
 use sc_phrase::close::item_of;
 use sc_phrase::nodes::name_of;
-use crate::words::{first_word, words};
 use sc_phrase::parts::{added, no_words};
-use sc_base::{Items, Name, Shared, Stack};
 use sc_phrase::{Direct, Frame, State, Trouble};
 use sc_symbol::{Kind, Symbol};
-use sc_tree::{
-    Derivation, Enumerator, Expr, Identifier, Member, Parameter, Specifiers, TypeWord,
-};
+use sc_tree::{Derivation, Enumerator, Expr, Identifier, Member, Parameter, Specifiers, TypeWord};
 use std::alloc::Global;
 
 fn with_body(v: Specifiers, word: TypeWord) -> Result<State, Trouble>
@@ -80,11 +78,23 @@ fn due_member(
     ensures { Steps (spec.due typed token.now (Frame.Struct v line tag members ∷ frames.old) token.now.kind) result frames.new }
 {
     if members.is_empty() {
-        return again(alloc, typed, token, frames, Frame::Struct(v, line, tag, members));
+        return again(
+            alloc,
+            typed,
+            token,
+            frames,
+            Frame::Struct(v, line, tag, members),
+        );
     }
     match token.kind {
         Kind::RightBrace => with_body(v, TypeWord::Struct(line, tag, members)),
-        _ => again(alloc, typed, token, frames, Frame::Struct(v, line, tag, members)),
+        _ => again(
+            alloc,
+            typed,
+            token,
+            frames,
+            Frame::Struct(v, line, tag, members),
+        ),
     }
 }
 
@@ -320,11 +330,7 @@ pub fn items(alloc: Global, token: &Symbol, frames: &mut Stack<Frame>) -> Result
 }
 
 /// A token behind the name of an item.
-pub fn item(
-    kind: Kind,
-    frames: &mut Stack<Frame>,
-    name: Identifier,
-) -> Result<State, Trouble>
+pub fn item(kind: Kind, frames: &mut Stack<Frame>, name: Identifier) -> Result<State, Trouble>
     ensures { Steps (spec.item frames.old name kind) result frames.new }
 {
     match kind {

@@ -5,11 +5,13 @@ ghost use Rattle.sc_phrase.specs.Types.{no_direct as nothing, named_direct as na
 ghost use Rattle.sc_phrase.specs.Steps.{Steps, IsSymbol, IsNamed};
 
 use crate::body::due;
+use crate::words::finish;
+use sc_base::{Items, Name, NoMemory, Stack};
 use sc_phrase::classes::begins_parameters;
 use sc_phrase::expression::need;
-use crate::words::finish;
-use sc_phrase::parts::{const_star, declarator_of, more_stars, named_direct, no_direct, one_star, pointed, with_step};
-use sc_base::{Items, Name, NoMemory, Stack};
+use sc_phrase::parts::{
+    const_star, declarator_of, more_stars, named_direct, no_direct, one_star, pointed, with_step,
+};
 use sc_phrase::{Direct, Frame, Mode, State, Trouble, Whole};
 use sc_symbol::{Entry, Kind, Mark, Symbol};
 use sc_tree::{Declarator, Derivation, Identifier, Member, Specifiers};
@@ -451,8 +453,22 @@ fn name_in_group(
 {
     match mode {
         Mode::Abstract => Err(Trouble::LeftOut(Mark::OldStyle)),
-        Mode::Named => name_in(alloc, token, frames, token.line, Mode::Named, Stack::new(alloc)),
-        Mode::Either => name_in(alloc, token, frames, token.line, Mode::Either, Stack::new(alloc)),
+        Mode::Named => name_in(
+            alloc,
+            token,
+            frames,
+            token.line,
+            Mode::Named,
+            Stack::new(alloc),
+        ),
+        Mode::Either => name_in(
+            alloc,
+            token,
+            frames,
+            token.line,
+            Mode::Either,
+            Stack::new(alloc),
+        ),
     }
 }
 

@@ -158,11 +158,7 @@ fn one_token(
 }
 
 /// The expression that the tokens begin with.
-fn reading(
-    alloc: Global,
-    symbols: &[Symbol],
-    names: &mut TypeNames,
-) -> Result<Found, Refused>
+fn reading(alloc: Global, symbols: &[Symbol], names: &mut TypeNames) -> Result<Found, Refused>
     requires { All IsSymbol symbols.now }
     ensures { spec.Answers (spec.read 0 1 0 (spec.start names.old) symbols.now) result }
 {

@@ -10,12 +10,10 @@ use crate::body::{
 };
 use crate::declarator::{begin, bracket, group, opens_parameters, stars, suffixes};
 use crate::operand::{needed, opened, sized_opened};
-use sc_phrase::expression::{
-    arrowed, dotted, have, offset_comma, offset_name, sized, texts,
-};
 use crate::words::words;
-use sc_phrase::parts::{added, possible_declarator, with_step};
 use sc_base::{Duplicate, Items, NoMemory, Stack};
+use sc_phrase::expression::{arrowed, dotted, have, offset_comma, offset_name, sized, texts};
+use sc_phrase::parts::{added, possible_declarator, with_step};
 use sc_phrase::{Direct, Frame, Limit, State, Trouble, Whole};
 use sc_symbol::{Kind, Symbol, TypeNames};
 use sc_tree::{Derivation, Enumerator, Parameter, Specifiers, TypeWord};
@@ -153,11 +151,7 @@ fn parameters_end(
 }
 
 /// The name of the declarator is declared.
-fn declared(
-    alloc: Global,
-    names: &mut TypeNames,
-    whole: &Option<Whole>,
-) -> Result<(), NoMemory>
+fn declared(alloc: Global, names: &mut TypeNames, whole: &Option<Whole>) -> Result<(), NoMemory>
     ensures { OnOk result (names.new ≡ declare_in whole.now names.old) }
 {
     match whole {

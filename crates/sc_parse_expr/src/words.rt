@@ -5,12 +5,12 @@ ghost use Rattle.sc_phrase.specs.Types.{has_words, no_words as no_words_at, with
 ghost use Rattle.sc_phrase.specs.Kinds.{word_of as word_in};
 ghost use Rattle.sc_phrase.specs.Steps.{Steps, IsSymbol, IsNamed};
 
+use crate::declarator::begin;
+use sc_base::{Items, Name, NoMemory, Shared, Stack};
 use sc_phrase::classes::word_of;
 use sc_phrase::close::needs;
-use crate::declarator::begin;
 use sc_phrase::nodes::{name_of, size_type_node};
 use sc_phrase::parts::{added, constant, no_words, stored, type_name};
-use sc_base::{Items, Name, NoMemory, Shared, Stack};
 use sc_phrase::{Direct, Frame, Mode, State, Trouble, Whole};
 use sc_symbol::{Kind, Mark, Symbol};
 use sc_tree::{Declarator, Derivation, Member, Parameter, Specifiers, Storage, TypeName, TypeWord};
@@ -33,12 +33,7 @@ fn cast(
     Ok(State::Need)
 }
 
-fn sized_type(
-    alloc: Global,
-    line: u32,
-    v: Specifiers,
-    x: Option<Whole>,
-) -> Result<State, Trouble>
+fn sized_type(alloc: Global, line: u32, v: Specifiers, x: Option<Whole>) -> Result<State, Trouble>
     ensures { (fs : List Frame) → Steps (spec.finish Kind.RightParen (Frame.SizeType line ∷ fs) v x) result fs }
 {
     let of = type_name(alloc, v, x)?;
@@ -46,12 +41,7 @@ fn sized_type(
     Ok(State::Have(made))
 }
 
-fn offset_in(
-    alloc: Global,
-    line: u32,
-    v: Specifiers,
-    x: Option<Whole>,
-) -> Result<State, Trouble>
+fn offset_in(alloc: Global, line: u32, v: Specifiers, x: Option<Whole>) -> Result<State, Trouble>
     ensures { (fs : List Frame) → Steps (spec.finish Kind.Comma (Frame.OffsetType line ∷ fs) v x) result fs }
 {
     let of = type_name(alloc, v, x)?;
@@ -237,11 +227,7 @@ fn goes_on(kind: Kind) -> Result<State, Trouble>
     }
 }
 
-fn first_name(
-    frames: &Stack<Frame>,
-    d: Direct,
-    ps: Items<Parameter>,
-) -> Result<State, Trouble>
+fn first_name(frames: &Stack<Frame>, d: Direct, ps: Items<Parameter>) -> Result<State, Trouble>
     ensures { Steps (spec.plain_name (Frame.Parameters d ps ∷ frames.now)) result frames.now }
 {
     drop(d);
@@ -276,11 +262,7 @@ fn nothing_yet(kind: Kind, frames: &mut Stack<Frame>) -> Result<State, Trouble>
 }
 
 /// No type word and no storage class stand before the token.
-fn unstored(
-    kind: Kind,
-    frames: &mut Stack<Frame>,
-    constant: bool,
-) -> Result<State, Trouble>
+fn unstored(kind: Kind, frames: &mut Stack<Frame>, constant: bool) -> Result<State, Trouble>
     ensures { Steps (if constant then spec.goes_on kind else spec.nothing_yet kind frames.old) result frames.new }
 {
     if constant {
@@ -354,11 +336,7 @@ fn storage_word(
 }
 
 /// A storage class, which only declarations and parameters have.
-fn at_storage(
-    frames: &mut Stack<Frame>,
-    class: Storage,
-    v: Specifiers,
-) -> Result<State, Trouble>
+fn at_storage(frames: &mut Stack<Frame>, class: Storage, v: Specifiers) -> Result<State, Trouble>
     ensures { Steps (spec.at_storage class frames.old v v.storage) result frames.new }
 {
     if v.storage.is_some() {
