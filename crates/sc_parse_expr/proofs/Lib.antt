@@ -1,8 +1,4 @@
 pub mod Levels
-pub mod Runs
-pub mod Heads
-pub mod Tokens
+pub mod Types
 pub mod Complete
-pub mod Fronts
-pub mod Others
-pub mod Turns
+pub mod Closing

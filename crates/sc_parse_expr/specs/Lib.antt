@@ -1,2 +1,4 @@
-pub mod Brackets
-pub mod Reading
+pub mod Kinds
+pub mod Grammar
+pub mod Machine
+pub mod Steps

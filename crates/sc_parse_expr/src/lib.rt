@@ -1,12 +1,18 @@
-//! The machine that reads expressions, type names, specifiers and declarators, one token at a time.
+//! The grammar of expressions and type names, and the machine that reads them one token at a time.
 #![tactic(auto)]
 
-mod body;
-mod declarator;
-mod driver;
+mod classes;
+mod close;
+mod frame;
+mod kind;
 mod machine;
-mod operand;
+mod trouble;
 mod words;
 
-pub use driver::{Found, Refused, Turn, expression, opens_with};
+pub use frame::{Frame, State};
+pub use kind::{Kind, Symbol};
 pub use machine::step;
+pub use trouble::Trouble;
+
+#[cfg(test)]
+mod tests;

@@ -1,2 +1,0 @@
-pub mod ByParts
-pub mod Evaluation

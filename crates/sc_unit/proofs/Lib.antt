@@ -1,6 +1,0 @@
-pub mod Runs
-pub mod Phrases
-pub mod Declares
-pub mod Statements
-pub mod Units
-pub mod Answers

@@ -1,6 +1,0 @@
-pub mod Trees
-pub mod Grammar
-pub mod Machine
-pub mod Steps
-pub mod Parse
-pub mod Claims
