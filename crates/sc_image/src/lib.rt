@@ -9,7 +9,7 @@ mod texts;
 
 pub use image::Image;
 pub use stub::{call_stub, jump_stub, lower, upper};
-pub use text::{FrameTable, Slot, TextAt};
+pub use text::TextAt;
 
 #[cfg(test)]
 mod tests;

@@ -3,8 +3,9 @@ ghost use Rattle.std.specs.Prelude.{◌≡◌, IfOk};
 ghost use Rattle.sc_image.specs.Lookups.{text_at};
 ghost use Rattle.sc_image.specs.Texts.{starts_at};
 
-use crate::{FrameTable, Image, Slot, TextAt, call_stub, jump_stub, lower, upper};
+use crate::{Image, TextAt, call_stub, jump_stub, lower, upper};
 use sc_base::{Bytes, Duplicate, Items, Key, Name, NoMemory};
+use sc_program::{FrameTable, Slot};
 use std::alloc::Global;
 use std::test::Fail;
 
