@@ -1,6 +1,6 @@
 #!/bin/sh
 # What one step of memory or of the image costs: host instructions of callgrind for 20,000 steps more, by the number of
-# live objects or of functions. Needs valgrind, and the program built (`rt run` in crates/sc_bench).
+# live objects, of functions or of texts. Needs valgrind, and the program built (`rt run` in crates/sc_bench).
 here=$(dirname "$(readlink -f "$0")")
 program=$here/../crates/sc_bench/out/sc_bench
 cost() {
@@ -8,7 +8,7 @@ cost() {
 }
 for count in 10 100 1000 10000; do
     line="$count:"
-    for what in load store at births value; do
+    for what in load store at births value word; do
         few=$(cost $what $count 20000)
         many=$(cost $what $count 40000)
         line="$line $what $(((many - few) / 20000))"

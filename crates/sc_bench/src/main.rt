@@ -1,15 +1,23 @@
 //! Steps of memory and of the image, many times over: `sc_bench WHAT COUNT STEPS`, for counting what one step costs.
 #![tactic(auto)]
 
-ghost use Rattle.std.specs.Prelude.{◌≡◌, ◌<◌, length};
+ghost use Rattle.std.specs.Prelude.{◌≡◌, ℕ, ◌+◌, ◌*◌, ◌<◌, ◌≤◌, length, None, IfSome};
+ghost use Rattle.sc_image.specs.Lookups.{text_at};
 
-use sc_base::{Kind, Name, NoMemory, Word};
-use sc_image::Image;
+use sc_base::{Items, Key, Kind, Name, NoMemory, Word};
+use sc_image::{Image, TextAt};
 use sc_mem::Memory;
+use sc_program::FrameTable;
 use std::alloc::Global;
 
 const USAGE: &str =
-    "words: load, store, at, births or value; how many objects or keys; how many steps\n";
+    "words: load, store, at, births, value or word; how many objects, keys or texts; how many steps\n";
+
+/// Where the texts begin.
+const TEXTS: u32 = 0x0010_0000;
+
+/// As many texts of four words as are placed at most.
+const MOST_TEXTS: u32 = 1000000;
 
 fn main(rt: HostRuntime) -> Result<(), std::io::Error> {
     match run(&rt) {
@@ -32,6 +40,9 @@ fn run(rt: &HostRuntime) -> Option<u32> {
 fn measure(alloc: Global, what: &[u8], count: u32, steps: u32) -> Option<u32> {
     if what == b"value".as_slice() {
         return values(alloc, count, steps);
+    }
+    if what == b"word".as_slice() {
+        return words(alloc, count, steps);
     }
     let mut memory = Memory::new(alloc, 4096, 4194304).ok()?;
     let objects = allocated(alloc, &mut memory, count).ok()?;
@@ -149,11 +160,11 @@ fn values(alloc: Global, count: u32, steps: u32) -> Option<u32> {
     let mut image = Image::new(alloc);
     let mut keys = Vec::new(alloc);
     for n in 0..count {
-        let k = sc_base::Key {
+        let k = Key {
             module: None,
             name: numbered(alloc, n)?,
         };
-        let again = sc_base::Key {
+        let again = Key {
             module: None,
             name: numbered(alloc, n)?,
         };
@@ -174,4 +185,63 @@ fn values(alloc: Global, count: u32, steps: u32) -> Option<u32> {
         }
     }
     Some(sum)
+}
+
+// Reads words of this many placed texts, one at a time.
+fn words(alloc: Global, count: u32, steps: u32) -> Option<u32> {
+    if count == 0 || count > MOST_TEXTS {
+        return None;
+    }
+    let image = placed(alloc, count)?;
+    let mut sum = 0u32;
+    for turn in 0..steps {
+        let text = (u64::from(turn) * 7919 % u64::from(count)) as u32;
+        let at = TEXTS + 16 * text + 4 * (turn % 4);
+        sum = sum.wrapping_add(image.word(at).unwrap_or(0));
+    }
+    Some(sum)
+}
+
+// An image with this many texts.
+fn placed(alloc: Global, count: u32) -> Option<Image>
+    requires { count ≤ MOST_TEXTS }
+{
+    let mut image = Image::new(alloc);
+    for n in 0..count {
+        place(alloc, &mut image, n)?;
+    }
+    Some(image)
+}
+
+// Puts a text of four words behind those with lower numbers.
+fn place(alloc: Global, image: &mut Image, n: u32) -> Option<()>
+    requires few { n < MOST_TEXTS }
+    requires free { (pc : ℕ) → TEXTS + 16 * n ≤ pc → text_at image.old pc ≡ None }
+    ensures { IfSome result (λ _. (pc : ℕ) → TEXTS + 16 * (n + 1) ≤ pc → text_at image.new pc ≡ None) }
+{
+    let at = text(alloc, n)?;
+    let words = vec![in alloc; n, n, n, n].ok()?;
+    image.make_room(1, 0, 0, 0).ok()?;
+    image.put_text(at, words);
+    Some(())
+}
+
+// The place of the text with a number.
+fn text(alloc: Global, n: u32) -> Option<TextAt>
+    requires { n < MOST_TEXTS }
+    ensures { IfSome result (λ t. t.start ≡ TEXTS + 16 * n) }
+{
+    let name = numbered(alloc, n)?;
+    let module = numbered(alloc, n)?;
+    let frame = FrameTable {
+        symbol: n,
+        cost: 16,
+        blocks: Items::new(alloc),
+    };
+    Some(TextAt {
+        fun: Key { module: None, name },
+        module,
+        start: TEXTS + 16 * n,
+        frame,
+    })
 }

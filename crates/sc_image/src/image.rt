@@ -149,6 +149,7 @@ impl Image {
         requires free { (pc : ℕ) → t.start ≤ pc → pc < t.start + 4 * length words.items → text_at self.old pc ≡ None }
         ensures words { (pc : ℕ) → word_at self.new pc ≡ (if holds pc (text_with t words.items) then word_in pc (text_with t words.items) else word_at self.old pc) }
         ensures texts { (pc : ℕ) → text_at self.new pc ≡ (if holds pc (text_with t words.items) then Some t else text_at self.old pc) }
+        ensures count { length (functions_of self.new) ≡ length (functions_of self.old) }
         ensures keys { SameKeys self.old self.new }
         ensures values { SameValues self.old self.new }
         ensures literals { SameLiterals self.old self.new }
@@ -163,6 +164,7 @@ impl Image {
         requires { IsTrue (starts_at start (text_at self.old start)) }
         ensures words { (pc : ℕ) → word_at self.new pc ≡ (if starts_at start (text_at self.old pc) then None else word_at self.old pc) }
         ensures texts { (pc : ℕ) → text_at self.new pc ≡ (if starts_at start (text_at self.old pc) then None else text_at self.old pc) }
+        ensures count { length (functions_of self.new) ≡ length (functions_of self.old) }
         ensures keys { SameKeys self.old self.new }
         ensures values { SameValues self.old self.new }
         ensures literals { SameLiterals self.old self.new }
@@ -178,6 +180,7 @@ impl Image {
         ensures values { (q : Named) → value_of self.new q ≡ (if key_eq k q then Some at else value_of self.old q) }
         ensures words { SameWords self.old self.new }
         ensures texts { SameTexts self.old self.new }
+        ensures count { length (functions_of self.new) ≡ length (functions_of self.old) }
         ensures keys { SameKeys self.old self.new }
         ensures literals { SameLiterals self.old self.new }
         ensures room { Spends self.old self.new 0 1 0 0 }
@@ -193,6 +196,7 @@ impl Image {
         ensures literals { (p : ℕ) → literal_in self.new p ≡ (if nat_eq at p then Some (literal_of «module» bytes) else literal_in self.old p) }
         ensures words { SameWords self.old self.new }
         ensures texts { SameTexts self.old self.new }
+        ensures count { length (functions_of self.new) ≡ length (functions_of self.old) }
         ensures keys { SameKeys self.old self.new }
         ensures values { SameValues self.old self.new }
         ensures room { Spends self.old self.new 0 0 1 0 }
@@ -206,6 +210,7 @@ impl Image {
         ensures literals { (p : ℕ) → literal_in self.new p ≡ (if nat_eq at p then None else literal_in self.old p) }
         ensures words { SameWords self.old self.new }
         ensures texts { SameTexts self.old self.new }
+        ensures count { length (functions_of self.new) ≡ length (functions_of self.old) }
         ensures keys { SameKeys self.old self.new }
         ensures values { SameValues self.old self.new }
         ensures room { Spends self.old self.new 0 0 0 0 }

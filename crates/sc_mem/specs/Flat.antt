@@ -5,7 +5,7 @@ use Rattle.sc_base.specs.declared.memory.Cell.{Cell}
 use Rattle.sc_base.specs.declared.memory.Cell.TheVariants.{Unwritten}
 use Rattle.sc_base.specs.declared.memory.Word.{Word}
 use Rattle.sc_base.specs.declared.note.Note.{Note}
-use Rattle.sc_base.specs.declared.note.Note.TheVariants.{Put, Birth, Death, Copy}
+use Rattle.sc_base.specs.declared.note.Note.TheVariants.{Start, Put, Birth, Death, Copy}
 use Rattle.sc_cells.specs.Range.{range_of, with_range}
 use Rattle.sc_objects.specs.declared.objects.Obj.{Obj}
 use Rattle.sc_objects.specs.Numbered.{born, ended}
@@ -73,8 +73,13 @@ with_birth m o =
 abbrev pub with_death : Flat → ℕ → Flat
 with_death m id = record { heap = m.heap; stack = m.stack; cells = m.cells; objects = ended m.objects id }
 
+-- memory as a run begins: nothing lives, and no cell is written
+abbrev pub fresh : ℕ → ℕ → Flat
+fresh stack heap = record { heap = heap; stack = stack; cells = replicate (1048576 + heap + stack) Unwritten; objects = [] }
+
 -- the effect of a note on memory
 abbrev pub apply : Flat → Note → Flat
+apply m (Start stack heap) = fresh stack heap
 apply m (Put at size word) = put m at size word
 apply m (Birth id size kind base) = with_birth m (record { size = size; kind = kind; base = base; live = true })
 apply m (Death id) = with_death m id

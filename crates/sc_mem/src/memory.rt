@@ -1,7 +1,6 @@
 // One memory: its cells by address, its objects by number, and its heap.
 ghost use Rattle.std.specs.Prelude.{◌≡◌, ◌⊎◌, ◌↔◌, ℕ, ◌+◌, ◌-◌, ◌<◌, ◌≤◌, length, OnErr, Err, [], replicate, IfOk, MatchOption, MatchResult, IfSome, IsSome, Some, None, pos};
-ghost use Rattle.sc_base.specs.declared.note.Note.TheVariants.{Put, Birth, Death, Copy};
-ghost use Rattle.sc_base.specs.declared.memory.Cell.TheVariants.{Unwritten};
+ghost use Rattle.sc_base.specs.declared.note.Note.TheVariants.{Start, Put, Birth, Death, Copy};
 ghost use Rattle.sc_mem.specs.Words.{IsSize};
 ghost use Rattle.sc_objects.specs.declared.objects.Obj.{Obj};
 ghost use Rattle.sc_objects.specs.Numbered.{IsLive};
@@ -43,14 +42,16 @@ impl Model for Memory {
 
 impl Memory {
     ghost use Rattle.sc_objects.specs.Numbered.{IsObjectAt, object_of};
-    ghost use Rattle.sc_mem.specs.Flat.{Flat, aligned_place, apply, place as place_of, raw_read};
+    ghost use Rattle.sc_mem.specs.Flat.{Flat, aligned_place, apply, fresh, place as place_of, raw_read};
     ghost use Rattle.sc_mem.specs.Safe.{IsSafe};
 
-    /// A memory with stack and heap of these sizes in bytes, in which nothing lives and no cell is written.
+    /// A memory with stack and heap of these sizes in bytes, in which nothing lives and no cell is written, as after the
+    /// note `Start`.
     pub fn new(alloc: Global, stack: u32, heap: u32) -> Result<Memory, NoMemory>
         requires stack { stack ≤ 16777216 }
         requires heap { heap ≤ 67108864 }
-        ensures flat { IfOk result (λ m. m.flat ≡ record { heap = heap; stack = stack; cells = replicate (1048576 + heap + stack) Unwritten; objects = [] }) }
+        ensures flat { IfOk result (λ m. m.flat ≡ fresh stack heap) }
+        ensures start { IfOk result (λ m. (before : Flat) → m.flat ≡ apply before (Start stack heap)) }
         ensures blocks { IfOk result (λ m. m.blocks ≡ record { bytes = heap; used = 0; taken = []; free = replicate 29 [] }) }
     {
         let cells = Cells::new(alloc, STATIC_BYTES + heap + stack)?;
