@@ -1,0 +1,6 @@
+pub mod Tests
+pub mod Accesses
+pub mod Steps
+pub mod Pairs
+pub mod Cells
+pub mod Loads
