@@ -94,7 +94,7 @@ pub fn callee_of<'a>(texts: &'a [Text], key: &Key) -> Callee<'a>
 }
 
 /// An object of static storage duration, and the text that defines it.
-#[derive(Clone, Copy)]
+#[derive(Drop)]
 pub struct Definition<'a> {
     pub text: &'a Text,
     pub object: &'a StaticObj,
