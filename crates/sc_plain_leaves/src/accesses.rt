@@ -10,7 +10,8 @@ use crate::stop::Stop;
 use crate::violations::{cells_read, load_rule, pointer_of, reach_rule, store_rule, write_rule};
 use sc_base::{Duplicate, Int, Items, NoMemory};
 use sc_ops::convert;
-use sc_plain_world::{Cell, Content, Shape, Value, World};
+use sc_plain_world::{Cell, Content, World};
+use sc_values::{Shape, Value};
 use sc_types::{CType, int_size};
 use std::alloc::Global;
 

@@ -5,7 +5,8 @@ ghost use Rattle.sc_meaning.specs.Values as value;
 
 use crate::stop::Breach;
 use sc_base::{Duplicate, Form, Int, Key, NoMemory, Op, Rule};
-use sc_plain_world::{Shape, Value, World};
+use sc_plain_world::World;
+use sc_values::{Shape, Value};
 use std::alloc::Global;
 
 // The line that an interpreted call has.

@@ -14,7 +14,8 @@ use crate::violations::{
 };
 use sc_base::{Duplicate, Int, NoMemory, Op, Rule};
 use sc_ops::arith;
-use sc_plain_world::{Shape, Value, World};
+use sc_plain_world::World;
+use sc_values::{Shape, Value};
 use sc_types::CType;
 use std::alloc::Global;
 

@@ -3,7 +3,7 @@ ghost use Rattle.std.specs.Prelude.{◌≡◌};
 ghost use Rattle.sc_plain_leaves.specs.declared.stop.Stop.TheVariants as stop;
 
 use sc_base::{Int, Key, NoMemory, Op, Rule};
-use sc_plain_world::Value;
+use sc_values::Value;
 use std::marker::Model;
 
 /// An undefined step: the rule; the access of `size` bytes at `at`; the operands of `op` with the type of each; the

@@ -5,7 +5,8 @@ ghost use Rattle.sc_meaning.specs.Violations as spec;
 ghost use Rattle.std.specs.List.{list_all};
 
 use sc_base::{Kind, NoMemory, Rule};
-use sc_plain_world::{Cell, Content, Object, Shape, Value, cells_at, object_at};
+use sc_plain_world::{Cell, Content, Object, cells_at, object_at};
+use sc_values::{Shape, Value};
 
 /// The offset of a pointer, 0 for what is none.
 pub fn offset_of(p: &Value) -> u32

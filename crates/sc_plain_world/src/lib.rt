@@ -6,12 +6,10 @@ mod cells;
 mod event;
 mod names;
 mod object;
-mod value;
 mod world;
 
 pub use cells::copy_cells;
 pub use event::{Change, Event, Item, Showing};
 pub use names::{Named, same_id};
 pub use object::{Born, Cell, Content, Frame, Object, copy_numbers};
-pub use value::{Shape, Value, same_key};
 pub use world::{World, cells_at, object_at};

@@ -2,9 +2,9 @@
 ghost use Rattle.std.specs.Prelude.{◌≡◌, IfOk};
 ghost use Rattle.sc_meaning.specs.World as spec;
 
-use crate::value::same_key;
 use sc_base::{Duplicate, Items, NoMemory};
 use sc_program::StaticId;
+use sc_values::same_key;
 use std::alloc::Global;
 use std::marker::Model;
 

@@ -3,8 +3,8 @@ ghost use Rattle.std.specs.Prelude.{◌≡◌, IfOk};
 ghost use Rattle.sc_meaning.specs.Values as spec;
 ghost use Rattle.sc_meaning.specs.World as world;
 
-use crate::value::Value;
 use sc_base::{Duplicate, Form, Items, Key, Kind, Name, NoMemory};
+use sc_values::Value;
 use std::alloc::Global;
 use std::marker::Model;
 

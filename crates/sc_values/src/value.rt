@@ -22,7 +22,7 @@ pub struct Value {
 }
 
 impl Model for Value {
-    ghost use Rattle.sc_plain_world.specs.Shapes.{value_of};
+    ghost use Rattle.sc_values.specs.Shapes.{value_of};
     ghost use Rattle.sc_meaning.specs.Values as spec;
 
     ghost Value = { spec.Value };
