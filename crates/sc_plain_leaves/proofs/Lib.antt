@@ -1,4 +1,3 @@
 pub mod Numbers
-pub mod Chains
 pub mod Lists
 pub mod Operations

@@ -1,36 +1,21 @@
 -- How an answer of the program stands to what the meaning says.
-use Rattle.std.specs.Prelude.{◌≡◌, ℕ, Bool, true, false, Result, Ok, Err}
-use Rattle.sc_core.specs.declared.expression.CoreExpr.{CoreExpr, out-CoreExpr}
-use Rattle.sc_core.specs.declared.expression.CoreExpr.TheOpen.{CoreExpr-F}
+use Rattle.std.specs.Prelude.{◌≡◌, Result, Ok, Err, Option, Some, None}
 use Rattle.sc_meaning.specs.World.{World}
-use Rattle.sc_meaning.specs.Outcomes.{Outcome, Done, Over, and_then, Undefined, Exit, StackFull, BirthLimit, OutOfFuel}
-use Rattle.sc_meaning.specs.Versions.{History}
-use Rattle.sc_meaning.specs.Expressions.{Env, Answer, expr_of}
-use Rattle.sc_meaning.specs.Calls.{eval, call}
+use Rattle.sc_meaning.specs.Outcomes.{Outcome, Done, Over, Ending, Undefined, Exit, StackFull, BirthLimit}
 use Rattle.sc_plain_leaves.specs.declared.stop.Stop.{Stop}
 use Rattle.sc_plain_leaves.specs.declared.stop.Stop.TheVariants as stop
 
--- the expressions that the program does not compute: calls, and differences of pointers
-abbrev pub is_left_out : CoreExpr-F CoreExpr → Bool
-is_left_out (CoreExpr-F.Call l t f es) = true
-is_left_out (CoreExpr-F.Difference l t size a b) = true
-is_left_out _ = false
+-- how the run ended in this world; where no room was left, nothing is said
+abbrev pub ending_of : Stop → World → Option Ending
+ending_of stop.NoRoom w = None
+ending_of (stop.Undefined b) w = Some (Undefined b w)
+ending_of (stop.Exit status) w = Some (Exit status w)
+ending_of (stop.StackFull key) w = Some (StackFull key w)
+ending_of stop.BirthLimit w = Some (BirthLimit w)
 
--- In this world an expression has begun that the program does not compute, and the whole is what comes of its answer.
-abbrev pub Reaches : {A : Type 0} → Outcome A → World → Type 0
-Reaches {A} out w =
-    (n : ℕ) × (h : History) × (env : Env) × (e : CoreExpr) × (go : Answer → World → Outcome A)
-    × (is_left_out (out-CoreExpr e) ≡ true) × (out ≡ and_then (expr_of h (eval n h) (call n h) env (out-CoreExpr e) w) go)
-
--- The run ended so, in this world. Where no room was left, nothing is said.
+-- the run ended so
 abbrev pub Stops : {A : Type 0} → Outcome A → Stop → World → Type 0
-Stops out stop.NoRoom w = Unit {0}
-Stops out (stop.Undefined b) w = out ≡ Over (Undefined b w)
-Stops out (stop.Exit status) w = out ≡ Over (Exit status w)
-Stops out (stop.StackFull key) w = out ≡ Over (StackFull key w)
-Stops out stop.BirthLimit w = out ≡ Over (BirthLimit w)
-Stops out stop.OutOfFuel w = out ≡ Over (OutOfFuel w)
-Stops out stop.Beyond w = Reaches out w
+Stops out s w = (e : Ending) → ending_of s w ≡ Some e → out ≡ Over e
 
 -- The answer is what the meaning gives, in the world that it leaves.
 abbrev pub Gives : {A : Type 0} → Outcome A → Result A Stop → World → Type 0

@@ -143,8 +143,8 @@ fn number_cells(alloc: Global, n: u32, bits: u32) -> Result<Items<Cell>, NoMemor
     Ok(cells)
 }
 
-// The pieces of a pointer.
-fn pieces(alloc: Global, n: u32, v: &Value) -> Result<Items<Cell>, NoMemory>
+/// The first `n` pieces of a pointer.
+pub fn pieces(alloc: Global, n: u32, v: &Value) -> Result<Items<Cell>, NoMemory>
     ensures { IfOk result (λ cells. cells ≡ take n (value.pieces_of v.now)) }
 {
     let mut cells = Items::new(alloc);

@@ -8,8 +8,8 @@ mod stop;
 mod violations;
 
 pub use accesses::{
-    as_type, converted_value, copied, copy_at, int_of, is_pointer_type, loaded, number_of_cells,
-    scalar_size, set_at, stored,
+    as_type, cells_of, converted_value, copied, copy_at, int_of, is_pointer_type, loaded,
+    number_of_cells, pieces, scalar_size, set_at, stored,
 };
 pub use breaches::{access_breach, breach, line_of, moved, operand_breach, sum};
 pub use operators::{
@@ -17,5 +17,6 @@ pub use operators::{
 };
 pub use stop::{Breach, Stop};
 pub use violations::{
-    bits, cells_read, free_rule, is_null, load_rule, object_of, offset_of, reach_rule, write_rule,
+    bits, cells_read, difference_rule, distance, free_rule, is_null, is_number, is_pointer,
+    load_rule, object_of, offset_of, reach_rule, store_rule, write_rule,
 };

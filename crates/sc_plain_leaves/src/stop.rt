@@ -45,10 +45,6 @@ pub enum Stop {
     StackFull(Key),
     /// One object too many is born.
     BirthLimit,
-    /// The bound on the depth is used up.
-    OutOfFuel,
-    /// An expression is reached that the program does not compute.
-    Beyond,
 }
 
 impl From<NoMemory> for Stop {

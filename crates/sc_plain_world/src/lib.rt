@@ -8,7 +8,7 @@ mod names;
 mod object;
 mod world;
 
-pub use cells::copy_cells;
+pub use cells::{copy_cells, unwritten};
 pub use event::{Change, Event, Item, Showing};
 pub use names::{Named, same_id};
 pub use object::{Born, Cell, Content, Frame, Object, copy_numbers};

@@ -26,7 +26,7 @@ pub struct World {
     used: u64,
     free: Items<u64>,
     made: u64,
-    input: Items<u8>,
+    input: Stack<u8>,
     seed: u32,
     frames: Stack<Frame>,
     names: Items<Named>,
@@ -131,6 +131,8 @@ impl World {
         ensures { IfOk result (λ w. w ≡ record { stack = stack; heap = heap; objects = []; used = 0; free = replicate 29 0; made = 0; input = input; seed = 1; frames = []; names = []; enters = 0; count = 0; begun = 0; trail = [] }) }
     {
         let free = no_block(alloc)?;
+        let mut left = Stack::new(alloc);
+        left.push_all(input)?;
         Ok(World {
             alloc,
             stack,
@@ -139,7 +141,7 @@ impl World {
             used: 0,
             free,
             made: 0,
-            input,
+            input: left,
             seed: 1,
             frames: Stack::new(alloc),
             names: Items::new(alloc),
@@ -226,6 +228,30 @@ impl World {
         ensures { result ≡ self.now.count }
     {
         self.count
+    }
+
+    /// How many statements have begun and not ended.
+    pub fn begun(&self) -> u64
+        ensures { result ≡ self.now.begun }
+    {
+        self.begun
+    }
+
+    /// The next byte of the input.
+    pub fn next_input(&self) -> Option<u8>
+        ensures { MatchOption result (self.now.input ≡ []) (λ b. (rest : List ℕ) × (self.now.input ≡ b ∷ rest)) }
+    {
+        match self.input.top() {
+            None => None,
+            Some(b) => Some(*b),
+        }
+    }
+
+    /// The last random number.
+    pub fn seed(&self) -> u32
+        ensures { result ≡ self.now.seed }
+    {
+        self.seed
     }
 
     /// All that happened so far.
@@ -364,6 +390,22 @@ impl World {
     {
         self.used = n;
         self.keep(Change::Stack(n))
+    }
+
+    /// A byte of the input is read.
+    pub fn read(&mut self) -> Result<(), NoMemory>
+        ensures { IfOk result (λ _. self.new ≡ spec.pass spec.Read self.old) }
+    {
+        let _ = self.input.pop();
+        self.keep(Change::Read)
+    }
+
+    /// The next random number comes from this one.
+    pub fn reseed(&mut self, n: u32) -> Result<(), NoMemory>
+        ensures { IfOk result (λ _. self.new ≡ spec.pass (spec.Seed n) self.old) }
+    {
+        self.seed = n;
+        self.keep(Change::Seed(n))
     }
 
     /// A call becomes active.
