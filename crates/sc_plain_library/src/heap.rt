@@ -97,8 +97,8 @@ pub fn malloc(n: u32, world: &mut World) -> Result<Answer, Stop>
     Ok(Answer::plain(address_or_null(o)))
 }
 
-// As many bytes of a number.
-fn bytes_of(alloc: Global, n: u32, byte: u8) -> Result<Items<Cell>, NoMemory>
+/// As many bytes of a number.
+pub fn bytes_of(alloc: Global, n: u32, byte: u8) -> Result<Items<Cell>, NoMemory>
     ensures { IfOk result (λ cells. cells ≡ replicate n (value.Byte byte)) }
 {
     let mut cells = Items::new(alloc);
