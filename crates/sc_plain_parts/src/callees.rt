@@ -61,7 +61,13 @@ fn has_signature(
     let defined = CType::Function(Shared::new(alloc, f.of.copy(alloc)?)?);
     let t_structs = &t.core.get().structs;
     let u_structs = &u.core.get().structs;
-    Ok(compatible(&called, t_structs, &defined, u_structs, t.number == u.number))
+    Ok(compatible(
+        &called,
+        t_structs,
+        &defined,
+        u_structs,
+        t.number == u.number,
+    ))
 }
 
 fn signature_rule(

@@ -81,10 +81,15 @@ pub enum TypeForm {
 }
 
 const INT: TypeForm = TypeForm::ToInt(Int::Int);
+
 const SIZE: TypeForm = TypeForm::ToInt(Int::UInt);
+
 const TEXT: TypeForm = TypeForm::ToText(false);
+
 const CONST_TEXT: TypeForm = TypeForm::ToText(true);
+
 const BYTES: TypeForm = TypeForm::ToVoid(false);
+
 const CONST_BYTES: TypeForm = TypeForm::ToVoid(true);
 
 // The place of an integer type in the order of all.
