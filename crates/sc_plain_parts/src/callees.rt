@@ -76,7 +76,7 @@ fn signature_rule(
     s: &Shared<Signature>,
     callee: Callee,
 ) -> Result<Option<Rule>, NoMemory>
-    ensures { IfOk result (λ rule. rule ≡ spec.signature_rule t.now s.now (callee_found callee)) }
+    ensures { IfOk result (λ rule. rule ≡ spec.signature_rule t.now s.now (callee_found callee.entry)) }
 {
     match callee {
         Callee::Missing => Ok(Some(Rule::U17)),
@@ -86,7 +86,7 @@ fn signature_rule(
 }
 
 fn untyped_rule(t: &Text, callee: Callee) -> Option<Rule>
-    ensures { result ≡ spec.called_rule t.now None (callee_found callee) }
+    ensures { result ≡ spec.called_rule t.now None (callee_found callee.entry) }
 {
     match callee {
         Callee::Missing => Some(Rule::U17),

@@ -172,7 +172,8 @@ fn have_forms(forms: &[TypeForm], types: &[CType]) -> bool
     match (forms, types) {
         ([], []) => true,
         ([f, fs @ ..], [t, ts @ ..]) => has_form(false, *f, t) && have_forms(fs, ts),
-        _ => false,
+        ([], [_, ..]) => false,
+        ([_, ..], []) => false,
     }
 }
 
