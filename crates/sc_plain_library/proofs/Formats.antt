@@ -1,5 +1,5 @@
 -- A format is what its first piece writes, and the rest.
-use Rattle.std.proofs.Common.{◌≡◌, ℕ, zero, suc, ◌-◌, ◌<◌, List, refl, sym, Option, Some, None, arith}
+use Rattle.std.proofs.Common.{◌≡◌, ℕ, suc, ◌-◌, ◌<◌, List, refl, ap, ◌∙◌, Option, Some, None, arith}
 use Rattle.sc_fmt.specs.declared.conversion.Piece.{Piece}
 use Rattle.sc_fmt.specs.declared.conversion.Piece.TheVariants as piece
 use Rattle.sc_fmt.specs.Format.{piece_of}
@@ -18,6 +18,10 @@ piece_turn g k rest later (piece.Conv c n) w = chain (converted g c k w) _ (foll
 piece_turn g k rest later piece.End w = refl
 piece_turn g k rest later piece.Wrong w = refl
 
+formatted_suc : (n : ℕ) (g : Printed) (k : ℕ) (rest : List ℕ) (w : World) → formatted (suc n) g k rest w ≡ piece_text g k rest (formatted n g) (piece_of rest) w
+formatted_suc n g k rest w = refl
+
 pub formatted_turn : (n : ℕ) (g : Printed) (k : ℕ) (rest : List ℕ) (w : World) → 0 < n → formatted n g k rest w ≡ and_then (turn_of g k rest (piece_of rest) w) (followed (formatted (n - 1) g))
-formatted_turn zero g k rest w h = arith
-formatted_turn (suc n) g k rest w h = piece_turn g k rest (formatted n g) (piece_of rest) w
+formatted_turn n g k rest w h =
+    let e : n ≡ suc (n - 1) = omega (arith, h) in
+    ap (λ (m : ℕ). formatted m g k rest w) e ∙ formatted_suc (n - 1) g k rest w ∙ piece_turn g k rest (formatted (n - 1) g) (piece_of rest) w
