@@ -169,11 +169,12 @@ fn has_form(own: bool, form: TypeForm, t: &CType) -> bool
 fn have_forms(forms: &[TypeForm], types: &[CType]) -> bool
     ensures { result ≡ spec.have_shapes (map form_of forms.now) types.now }
 {
-    match (forms, types) {
-        ([], []) => true,
-        ([f, fs @ ..], [t, ts @ ..]) => has_form(false, *f, t) && have_forms(fs, ts),
-        ([], [_, ..]) => false,
-        ([_, ..], []) => false,
+    match forms {
+        [] => types.is_empty(),
+        [f, fs @ ..] => match types {
+            [] => false,
+            [t, ts @ ..] => has_form(false, *f, t) && have_forms(fs, ts),
+        },
     }
 }
 
