@@ -1,0 +1,63 @@
+// Lists of bytes of objects.
+ghost use Rattle.std.specs.Prelude.{◌≡◌, ◌+◌, length, take, drop, replicate, IfOk, map};
+ghost use Rattle.sc_meaning.specs.World as world;
+ghost use Rattle.sc_meaning.specs.Values as spec;
+
+use crate::object::Cell;
+use sc_base::{Duplicate, Items, NoMemory};
+use std::alloc::Global;
+
+/// The first bytes, at most this many.
+pub fn front(cells: &[Cell], n: u32) -> &[Cell]
+    ensures { result.now ≡ take n cells.now }
+{
+    let n = n as usize;
+    if n < cells.len() { &cells[..n] } else { cells }
+}
+
+/// The bytes from this one on.
+pub fn back(cells: &[Cell], n: u64) -> &[Cell]
+    ensures { result.now ≡ drop n cells.now }
+{
+    let n = n as usize;
+    if n < cells.len() { &cells[n..] } else { &[] }
+}
+
+/// A second list of the same bytes.
+pub fn copy_cells(alloc: Global, cells: &[Cell]) -> Result<Items<Cell>, NoMemory>
+    ensures { IfOk result (λ copy. copy ≡ cells.now) }
+{
+    let mut out = Items::new(alloc);
+    for cell in cells {
+        out.push(cell.copy(alloc)?)?;
+    }
+    Ok(out)
+}
+
+/// As many unwritten bytes.
+pub fn unwritten(alloc: Global, n: u32) -> Result<Items<Cell>, NoMemory>
+    ensures { IfOk result (λ cells. cells ≡ replicate n spec.Unwritten) }
+{
+    let mut out = Items::new(alloc);
+    for _ in 0..n {
+        out.push(Cell::unwritten())?;
+    }
+    Ok(out)
+}
+
+/// Some bytes with others from an offset on.
+pub fn overwritten(
+    alloc: Global,
+    cells: &[Cell],
+    at: u32,
+    new: &[Cell],
+) -> Result<Items<Cell>, NoMemory>
+    ensures { IfOk result (λ all. all ≡ world.overwritten cells.now at new.now) }
+{
+    let mut all = copy_cells(alloc, front(cells, at))?;
+    all.append(copy_cells(alloc, new)?)?;
+    let end = u64::from(at).checked_add(new.len() as u64);
+    let Some(end) = end else { return Err(NoMemory) };
+    all.append(copy_cells(alloc, back(cells, end))?)?;
+    Ok(all)
+}

@@ -1,0 +1,15 @@
+//! The world of a run of the plain program that computes the meaning of C: values, bytes, objects, active calls, and
+//! the single changes, which a trail keeps. It may be slow.
+#![tactic(auto)]
+
+mod cells;
+mod event;
+mod names;
+mod object;
+mod world;
+
+pub use cells::{copy_cells, unwritten};
+pub use event::{Change, Event, Item, Showing};
+pub use names::{Named, same_id};
+pub use object::{Born, Cell, Content, Frame, Object, copy_numbers};
+pub use world::{World, cells_at, object_at};

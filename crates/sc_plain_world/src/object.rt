@@ -1,0 +1,155 @@
+// Objects, their bytes, and active calls (ANSI 3.1.2.4).
+ghost use Rattle.std.specs.Prelude.{◌≡◌, IfOk};
+ghost use Rattle.sc_meaning.specs.Values as spec;
+ghost use Rattle.sc_meaning.specs.World as world;
+
+use sc_base::{Duplicate, Form, Items, Key, Kind, Name, NoMemory};
+use sc_values::Value;
+use std::alloc::Global;
+use std::marker::Model;
+
+/// What a byte holds.
+#[derive(Drop)]
+pub enum Content {
+    Unwritten,
+    Byte(u8),
+    Piece(Value, u32),
+}
+
+/// A byte of an object: never written, a byte of a number, or a piece of a pointer.
+#[derive(Drop)]
+pub struct Cell {
+    pub content: Content,
+}
+
+impl Model for Cell {
+    ghost use Rattle.sc_plain_world.specs.Cells.{cell_of};
+    ghost use Rattle.sc_meaning.specs.Values as spec;
+
+    ghost Value = { spec.Cell };
+
+    ghost view = { λ c. cell_of c.content };
+}
+
+impl Cell {
+    /// A byte that was never written.
+    pub fn unwritten() -> Cell
+        ensures { result ≡ spec.Unwritten }
+    {
+        Cell {
+            content: Content::Unwritten,
+        }
+    }
+
+    /// A byte of a number.
+    pub fn byte(b: u8) -> Cell
+        ensures { result ≡ spec.Byte b }
+    {
+        Cell {
+            content: Content::Byte(b),
+        }
+    }
+
+    /// Piece `k` of a pointer.
+    pub fn piece(v: Value, k: u32) -> Cell
+        ensures { result ≡ spec.Piece v k }
+    {
+        Cell {
+            content: Content::Piece(v, k),
+        }
+    }
+}
+
+impl Duplicate for Cell {
+    fn copy(&self, alloc: Global) -> Result<Cell, NoMemory> {
+        match &self.content {
+            Content::Unwritten => Ok(Cell::unwritten()),
+            Content::Byte(b) => Ok(Cell::byte(*b)),
+            Content::Piece(v, k) => Ok(Cell::piece(v.copy(alloc)?, *k)),
+        }
+    }
+}
+
+/// An object: its size in bytes, its kind, whether it lives, and its bytes.
+#[derive(Drop)]
+pub struct Object {
+    pub size: u32,
+    pub kind: Kind,
+    pub live: bool,
+    pub cells: Items<Cell>,
+}
+
+impl Model for Object {
+    ghost use Rattle.sc_meaning.specs.World as world;
+
+    ghost Value = { world.Object };
+
+    ghost view = { λ o. record { size = o.size; kind = o.kind; live = o.live; cells = o.cells } };
+}
+
+/// An entered block, and its objects by their numbers.
+#[derive(Drop)]
+pub struct Born {
+    pub block: u32,
+    pub ids: Items<u32>,
+}
+
+impl Model for Born {
+    ghost use Rattle.sc_meaning.specs.World as world;
+
+    ghost Value = { world.Born };
+
+    ghost view = { λ b. record { block = b.block; ids = b.ids } };
+}
+
+impl Duplicate for Born {
+    fn copy(&self, alloc: Global) -> Result<Born, NoMemory> {
+        Ok(Born {
+            block: self.block,
+            ids: copy_numbers(alloc, &self.ids)?,
+        })
+    }
+}
+
+/// A second list of the same numbers.
+pub fn copy_numbers(alloc: Global, numbers: &Items<u32>) -> Result<Items<u32>, NoMemory>
+    ensures { IfOk result (λ copy. copy ≡ numbers.now) }
+{
+    let items = Vec::from_slice(alloc, numbers.as_slice())?;
+    Ok(Items::from_vec(items))
+}
+
+/// An active call: its function; the number of the text that it runs, the text's module, and the form; how many calls
+/// were entered up to it; the line of its last line event, or 0; and its entered blocks, outermost first.
+#[derive(Drop)]
+pub struct Frame {
+    pub key: Key,
+    pub text: u32,
+    pub home: Name,
+    pub form: Form,
+    pub enter: u64,
+    pub line: u32,
+    pub blocks: Items<Born>,
+}
+
+impl Model for Frame {
+    ghost use Rattle.sc_meaning.specs.World as world;
+
+    ghost Value = { world.Frame };
+
+    ghost view = { λ f. record { key = f.key; text = f.text; home = f.home; form = f.form; enter = f.enter; line = f.line; blocks = f.blocks } };
+}
+
+impl Duplicate for Frame {
+    fn copy(&self, alloc: Global) -> Result<Frame, NoMemory> {
+        Ok(Frame {
+            key: self.key.copy(alloc)?,
+            text: self.text,
+            home: self.home.copy(alloc)?,
+            form: self.form,
+            enter: self.enter,
+            line: self.line,
+            blocks: self.blocks.copy(alloc)?,
+        })
+    }
+}
