@@ -1,0 +1,13 @@
+//! One step of the plain program on an expression: exactly the step of the machine. It may be slow.
+#![tactic(auto)]
+
+mod begin;
+mod env;
+mod next;
+mod pairs;
+mod singles;
+mod step;
+
+pub use env::Env;
+pub use next::Next;
+pub use step::step;
