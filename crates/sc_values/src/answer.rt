@@ -1,7 +1,6 @@
-// What an expression gives, and how a statement is left (ANSI 3.3, 3.6).
+// What an expression gives (ANSI 3.3).
 ghost use Rattle.std.specs.Prelude.{◌≡◌};
 ghost use Rattle.sc_meaning.specs.Expressions as spec;
-ghost use Rattle.sc_meaning.specs.Statements as statement;
 
 use crate::value::Value;
 use sc_base::{Duplicate, NoMemory};
@@ -25,7 +24,7 @@ pub struct Answer {
 }
 
 impl Model for Answer {
-    ghost use Rattle.sc_values.specs.Shapes.{answer_of};
+    ghost use Rattle.sc_values.specs.Answers.{answer_of};
     ghost use Rattle.sc_meaning.specs.Expressions as spec;
 
     ghost Value = { spec.Answer };
@@ -102,64 +101,6 @@ impl Duplicate for Answer {
             Held::Place(p) => Ok(Answer::place(p.copy(alloc)?)),
             Held::Part(p, n) => Ok(Answer::part(p.copy(alloc)?, *n)),
             Held::Nothing => Ok(Answer::nothing()),
-        }
-    }
-}
-
-/// How it is left.
-#[derive(Drop)]
-pub enum Exit {
-    Normal,
-    Broke,
-    Continued,
-    Returned(Answer),
-}
-
-/// How a statement is left: at its end, by `break`, by `continue`, or by `return` with its value.
-#[derive(Drop)]
-pub struct Way {
-    pub exit: Exit,
-}
-
-impl Model for Way {
-    ghost use Rattle.sc_values.specs.Shapes.{way_of};
-    ghost use Rattle.sc_meaning.specs.Statements as statement;
-
-    ghost Value = { statement.Way };
-
-    ghost view = { λ w. way_of w.exit };
-}
-
-impl Way {
-    /// At its end.
-    pub fn normal() -> Way
-        ensures { result ≡ statement.Normal }
-    {
-        Way { exit: Exit::Normal }
-    }
-
-    /// By `break`.
-    pub fn broke() -> Way
-        ensures { result ≡ statement.Broke }
-    {
-        Way { exit: Exit::Broke }
-    }
-
-    /// By `continue`.
-    pub fn continued() -> Way
-        ensures { result ≡ statement.Continued }
-    {
-        Way {
-            exit: Exit::Continued,
-        }
-    }
-
-    /// By `return`.
-    pub fn returned(a: Answer) -> Way
-        ensures { result ≡ statement.Returned a }
-    {
-        Way {
-            exit: Exit::Returned(a),
         }
     }
 }

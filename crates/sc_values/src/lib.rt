@@ -4,6 +4,8 @@
 
 mod answer;
 mod value;
+mod way;
 
-pub use answer::{Answer, Exit, Held, Way};
+pub use answer::{Answer, Held};
 pub use value::{Shape, Value, same_key};
+pub use way::{Exit, Way};
