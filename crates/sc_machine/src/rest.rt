@@ -19,8 +19,12 @@ impl Model for Arguments {
     ghost use Rattle.std.specs.Prelude.{List, drop};
     ghost use Rattle.sc_core.specs.declared.expression.CoreExpr.{CoreExpr, out-CoreExpr};
     ghost use Rattle.sc_machine.specs.Rests.{arguments_in};
+    ghost use Rattle.std.specs.Coded.{codes};
+    ghost use Rattle.sc_core.specs.contracts.expression.CoreExpr as expressions;
 
     ghost Value = { List CoreExpr };
+
+    ghost coded = { Prim.hlevel (codes, expressions.the_row.coded) };
 
     ghost view = { λ a. drop a.at (arguments_in (out-CoreExpr a.call)) };
 }
@@ -62,8 +66,12 @@ impl Model for Statements {
     ghost use Rattle.std.specs.Prelude.{List, drop};
     ghost use Rattle.sc_core.specs.declared.statement.CoreStmt.{CoreStmt, out-CoreStmt};
     ghost use Rattle.sc_machine.specs.Rests.{statements_in};
+    ghost use Rattle.std.specs.Coded.{codes};
+    ghost use Rattle.sc_core.specs.contracts.statement.CoreStmt as statements;
 
     ghost Value = { List CoreStmt };
+
+    ghost coded = { Prim.hlevel (codes, statements.the_row.coded) };
 
     ghost view = { λ s. drop s.at (statements_in (out-CoreStmt s.block)) };
 }
@@ -106,8 +114,13 @@ impl Model for Pieces {
     ghost use Rattle.sc_core.specs.declared.statement.CoreStmt.{out-CoreStmt};
     ghost use Rattle.sc_core.specs.declared.statement.AutoInit.{AutoInit};
     ghost use Rattle.sc_machine.specs.Rests.{pieces_in};
+    ghost use Rattle.std.specs.Coded.{codes};
+    ghost use Rattle.sc_core.specs.contracts.expression.CoreExpr as expressions;
+    ghost use Rattle.sc_types.specs.contracts.ctype.CType as types;
 
     ghost Value = { List AutoInit };
+
+    ghost coded = { Prim.hlevel (codes, types.the_row.coded, expressions.the_row.coded) };
 
     ghost view = { λ p. drop p.at (pieces_in (out-CoreStmt p.declarator)) };
 }
