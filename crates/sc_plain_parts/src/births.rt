@@ -57,8 +57,10 @@ pub fn born_autos(autos: &[Auto], world: &mut World) -> Result<Items<u32>, Stop>
 pub fn all_dead(ids: &[u32], world: &mut World) -> Result<(), NoMemory>
     ensures { IfOk result (λ _. world.new ≡ spec.all_dead ids.now world.old) }
 {
-    for id in ids.iter().rev() {
-        world.death(*id)?;
+    let mut k = ids.len();
+    while k > 0 {
+        k -= 1;
+        world.death(ids[k])?;
     }
     Ok(())
 }
@@ -81,10 +83,12 @@ pub fn parameters(autos: &[Auto], vs: &[Value], world: &mut World) -> Result<Ite
     ensures { Gives (calls.parameters autos.now vs.now [] world.old) result world.new }
 {
     let mut ids = Items::new(world.alloc());
-    for (i, a) in autos.iter().enumerate() {
-        let Some(v) = vs.get(i) else { return Ok(ids) };
+    let mut rest = vs;
+    for a in autos {
+        let [v, more @ ..] = rest else { return Ok(ids) };
         let id = parameter(a, v, world)?;
         ids.push(id)?;
+        rest = more;
     }
     Ok(ids)
 }
