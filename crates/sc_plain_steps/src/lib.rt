@@ -6,8 +6,8 @@ mod env;
 mod next;
 mod pairs;
 mod singles;
-mod step;
+mod stepping;
 
 pub use env::Env;
 pub use next::Next;
-pub use step::step;
+pub use stepping::step;
