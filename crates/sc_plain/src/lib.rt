@@ -11,4 +11,6 @@ mod step;
 pub use run::{Ended, Finished, Limits, run};
 
 #[cfg(test)]
+mod reader;
+#[cfg(test)]
 mod tests;
