@@ -21,9 +21,16 @@ pub struct Text {
 }
 
 impl Model for Text {
+    ghost use Rattle.std.specs.Coded.{codes};
+    ghost use Rattle.sc_types.specs.contracts.ctype.CType as types;
+    ghost use Rattle.sc_types.specs.contracts.ctype.Signature as signatures;
+    ghost use Rattle.sc_core.specs.contracts.expression.CoreExpr as expressions;
+    ghost use Rattle.sc_core.specs.contracts.statement.CoreStmt as statements;
     ghost use Rattle.sc_meaning.specs.Versions as spec;
 
     ghost Value = { spec.Text };
+
+    ghost coded = { Prim.hlevel (codes, types.the_row.coded, signatures.the_row.coded, expressions.the_row.coded, statements.the_row.coded) };
 
     ghost view = { λ t. record { number = t.number; core = t.core; form = t.form } };
 }
@@ -101,9 +108,16 @@ pub struct Definition<'a> {
 }
 
 impl<'a> Model for Definition<'a> {
+    ghost use Rattle.std.specs.Coded.{codes};
+    ghost use Rattle.sc_types.specs.contracts.ctype.CType as types;
+    ghost use Rattle.sc_types.specs.contracts.ctype.Signature as signatures;
+    ghost use Rattle.sc_core.specs.contracts.expression.CoreExpr as expressions;
+    ghost use Rattle.sc_core.specs.contracts.statement.CoreStmt as statements;
     ghost use Rattle.sc_meaning.specs.Versions as spec;
 
     ghost Value = { spec.Definition };
+
+    ghost coded = { Prim.hlevel (codes, types.the_row.coded, signatures.the_row.coded, expressions.the_row.coded, statements.the_row.coded) };
 
     ghost view = { λ d. record { text = d.text.now; object = d.object.now } };
 }
