@@ -1,10 +1,11 @@
 -- How the program says that a run ended.
-use Rattle.std.specs.Prelude.{◌≡◌, ℕ, ◌<◌, false, List, Option, Some, None}
+use Rattle.std.specs.Prelude.{◌≡◌, ℕ, ◌<◌, List, Option, Some, None, Result, Ok, Err}
 use Rattle.sc_meaning.specs.World.{World}
 use Rattle.sc_meaning.specs.Outcomes.{Ending, Exit, Undefined, StackFull, BirthLimit}
 use Rattle.sc_meaning.specs.Versions.{Text}
 use Rattle.sc_meaning.specs.Behaviour.{Start, ending}
-use Rattle.sc_plain_library.specs.Computed.{is_computed}
+use Rattle.sc_plain_leaves.specs.declared.stop.Stop.{Stop}
+use Rattle.sc_plain_leaves.specs.Gives.{ending_of}
 use Rattle.sc_plain.specs.declared.run.Ended.{Ended}
 use Rattle.sc_plain.specs.declared.run.Ended.TheVariants as ended
 use Rattle.sc_plain.specs.Steady.{alone}
@@ -26,3 +27,8 @@ start_of texts stack heap input = record { stack = stack; heap = heap; input = i
 -- so the run ends, at every bound greater than these steps
 abbrev pub EndsSo : ℕ → Start → Ended → World → Type 0
 EndsSo steps s ended w = (n : ℕ) → steps < n → (e : Ending) → end_of ended w ≡ Some e → ending n s ≡ e
+
+-- the same of what a part of the program answers
+abbrev pub Finishes : ℕ → Start → Result Ended Stop → World → Type 0
+Finishes steps s (Ok ended) w = EndsSo steps s ended w
+Finishes steps s (Err stop) w = (n : ℕ) → steps < n → (e : Ending) → ending_of stop w ≡ Some e → ending n s ≡ e

@@ -60,9 +60,9 @@ pub fn answer_of(way: Way) -> Answer
 pub fn leave(active: &Active, world: &mut World) -> Result<(), NoMemory>
     ensures { IfOk result (λ _. world.new ≡ steady.without_call active.now.ids active.now.cost world.old) }
 {
+    let used = world.used().saturating_sub(u64::from(active.cost));
     all_dead(active.ids.as_slice(), world)?;
     world.pop()?;
-    let used = world.used().saturating_sub(u64::from(active.cost));
     world.use_stack(used)?;
     world.happens(Event::leave())
 }

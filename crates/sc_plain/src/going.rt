@@ -34,9 +34,16 @@ pub struct Caller<'a> {
 }
 
 impl<'a> Model for Caller<'a> {
+    ghost use Rattle.std.specs.Coded.{codes};
+    ghost use Rattle.sc_types.specs.contracts.ctype.CType as types;
+    ghost use Rattle.sc_types.specs.contracts.ctype.Signature as signatures;
+    ghost use Rattle.sc_core.specs.contracts.expression.CoreExpr as expressions;
+    ghost use Rattle.sc_core.specs.contracts.statement.CoreStmt as statements;
     ghost use Rattle.sc_machine.specs.Runs as runs;
 
     ghost Value = { runs.Caller };
+
+    ghost coded = { Prim.hlevel (codes, types.the_row.coded, signatures.the_row.coded, expressions.the_row.coded, statements.the_row.coded) };
 
     ghost view = { λ c. record { items = c.items; user = c.user; stmts = c.stmts; env = c.env; active = c.active } };
 }

@@ -1,8 +1,12 @@
 // A whole run (ANSI 2.1.2.2, 2.1.2.3).
-ghost use Rattle.std.specs.Prelude.{◌≡◌, false, IfOk};
+ghost use Rattle.std.specs.Prelude.{◌≡◌, [], ℕ, IfOk};
 ghost use Rattle.sc_meaning.specs.Behaviour as behaviour;
-ghost use Rattle.sc_plain_library.specs.Computed.{is_computed};
-ghost use Rattle.sc_plain.specs.Ends.{EndsSo, start_of};
+ghost use Rattle.sc_meaning.specs.Versions as versions;
+ghost use Rattle.sc_meaning.specs.World as worlds;
+ghost use Rattle.sc_plain_library.specs.Quiet.{IsQuiet};
+ghost use Rattle.sc_plain.specs.Ends.{EndsSo, Finishes, start_of};
+ghost use Rattle.sc_plain.specs.Steady as steady;
+ghost use Rattle.sc_plain.specs.Steps.{Brings};
 
 use crate::calls::key_next;
 use crate::drive::{Reached, drive};
@@ -66,7 +70,9 @@ fn status_of(a: &Answer) -> u32
 }
 
 // `main` is called, and comes back.
-fn main_called(texts: &[Text], steps: u64, world: &mut World) -> Result<Reached, Stop> {
+fn main_called(texts: &[Text], steps: u64, world: &mut World) -> Result<Reached, Stop>
+    ensures { (h : versions.History) → IsQuiet h → Brings (steady.ran steps h texts.now (steady.callee_next h behaviour.main_key [] (versions.callee_of texts.now behaviour.main_key) [] (worlds.tick world.old))) result world.new }
+{
     let alloc = world.alloc();
     let key = main_key(alloc)?;
     world.tick()?;
@@ -77,7 +83,9 @@ fn main_called(texts: &[Text], steps: u64, world: &mut World) -> Result<Reached,
 }
 
 // From the births on.
-fn started(texts: &[Text], steps: u64, world: &mut World) -> Result<Ended, Stop> {
+fn started(texts: &[Text], steps: u64, world: &mut World) -> Result<Ended, Stop>
+    ensures { (s : behaviour.Start) → s.history ≡ steady.alone texts.now → world.old ≡ behaviour.first_world s → Finishes steps s result world.new }
+{
     statics_born(texts, world)?;
     match main_called(texts, steps, world)? {
         Reached::Answer(a) => {
@@ -90,7 +98,9 @@ fn started(texts: &[Text], steps: u64, world: &mut World) -> Result<Ended, Stop>
 }
 
 // How an end is told.
-fn ended(given: Result<Ended, Stop>) -> Ended {
+fn ended(given: Result<Ended, Stop>) -> Ended
+    ensures { (steps : ℕ) (s : behaviour.Start) (w : worlds.World) → Finishes steps s given w → EndsSo steps s result w }
+{
     match given {
         Ok(end) => end,
         Err(Stop::NoRoom) => Ended::NoRoom,
@@ -109,7 +119,7 @@ pub fn run(
     limits: Limits,
     input: Items<u8>,
 ) -> Result<Finished, NoMemory>
-    ensures ending { IfOk result (λ r. EndsSo limits.steps (start_of texts.now limits.stack limits.heap input) r.ended r.world) }
+    ensures { IfOk result (λ r. EndsSo limits.steps (start_of texts.now limits.stack limits.heap input) r.ended r.world) }
 {
     let mut world = World::new(alloc, limits.stack, limits.heap, input)?;
     let ended = ended(started(texts, limits.steps, &mut world));

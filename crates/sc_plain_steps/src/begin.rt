@@ -1,23 +1,27 @@
 // An expression begins: a name or a constant is answered at once, of another one the first part is evaluated (ANSI 3.3).
-ghost use Rattle.std.specs.Prelude.{◌≡◌, ◌∷◌, slice_get, IfOk};
+ghost use Rattle.std.specs.Prelude.{◌≡◌, List, slice_get, IfOk};
 ghost use Rattle.sc_core.specs.declared.expression.CoreExpr.{out-CoreExpr};
 ghost use Rattle.sc_meaning.specs.Expressions as spec;
-ghost use Rattle.sc_core.specs.Types as types;
 ghost use Rattle.sc_meaning.specs.Values as value;
+ghost use Rattle.sc_meaning.specs.World as worlds;
 ghost use Rattle.sc_machine.specs.Machine as machine;
-ghost use Rattle.sc_machine.specs.declared.pending.Item.TheVariants as kind;
-ghost use Rattle.sc_plain_leaves.specs.Gives.{Gives};
+ghost use Rattle.sc_machine.specs.declared.pending.Item.{Item};
+ghost use Rattle.sc_program.specs.declared.storage.StaticId.TheVariants as id;
 ghost use Rattle.sc_plain_steps.specs.Advances.{Advances};
 
 use crate::env::Env;
-use crate::next::{Next, evals, gives, type_in};
+use crate::next::{Next, gives};
+use crate::parts::{
+    alone, and, assign, assign_structure, binary, call, cast, comma, compound, compound_offset,
+    condition, convert, increment, index, left, offset, or, unary,
+};
 use sc_base::{Duplicate, Key, NoMemory, Shared, Stack};
 use sc_core::CoreExpr;
-use sc_machine::{Arguments, Item, Pair, Single, Store};
+use sc_machine::{Item, Pair, Single};
 use sc_plain_leaves::Stop;
 use sc_plain_parts::{Text, at_place, automatic_in, literal_of, plain, static_place};
-use sc_plain_world::World;
-use sc_values::{Answer, Value};
+use sc_plain_world::{Born, World};
+use sc_values::Value;
 
 /// An expression begins, which is work where it is no conversion.
 pub fn begun(e: &CoreExpr, world: &mut World) -> Result<(), NoMemory>
@@ -29,74 +33,46 @@ pub fn begun(e: &CoreExpr, world: &mut World) -> Result<(), NoMemory>
     }
 }
 
-fn literal_place(t: &Text, i: u32, world: &mut World) -> Result<Answer, Stop>
-    ensures { Gives (spec.at_place (spec.literal_of t.now (slice_get t.now.core.literals i) world.old) world.old) result world.new }
+// A constant.
+fn number(n: u32, world: &mut World) -> Result<Next, Stop>
+    ensures { (is : List Item) → Advances (machine.gives is (spec.plain (value.Number n) world.old)) result is world.new }
+{
+    let a = plain(Value::number(n), world)?;
+    Ok(gives(a))
+}
+
+// A literal.
+fn literal(t: &Text, i: u32, world: &mut World) -> Result<Next, Stop>
+    ensures { (is : List Item) → Advances (machine.gives is (spec.at_place (spec.literal_of t.now (slice_get t.now.core.literals i) world.old) world.old)) result is world.new }
 {
     let v = literal_of(t, i, world)?;
-    at_place(v, world)
+    let a = at_place(v, world)?;
+    Ok(gives(a))
 }
 
-fn function_place(key: &Key, world: &mut World) -> Result<Answer, Stop>
-    ensures { Gives (spec.at_place (value.FunctionAt key.now) world.old) result world.new }
+// A parameter, or an automatic object.
+fn automatic(blocks: &[Born], b: u32, i: u32, world: &mut World) -> Result<Next, Stop>
+    ensures { (is : List Item) → Advances (machine.gives is (spec.at_place (spec.automatic_in blocks.now b i) world.old)) result is world.new }
+{
+    let a = at_place(automatic_in(blocks, b, i), world)?;
+    Ok(gives(a))
+}
+
+// An object of static storage duration.
+fn named(key: &Key, world: &mut World) -> Result<Next, Stop>
+    ensures { (is : List Item) → Advances (machine.gives is (spec.static_at key.now (worlds.named_in world.old.names (id.Named key.now)) world.old)) result is world.new }
+{
+    let a = static_place(key, world)?;
+    Ok(gives(a))
+}
+
+// A function.
+fn function(key: &Key, world: &mut World) -> Result<Next, Stop>
+    ensures { (is : List Item) → Advances (machine.gives is (spec.at_place (value.FunctionAt key.now) world.old)) result is world.new }
 {
     let key = key.copy(world.alloc())?;
-    at_place(Value::function(key), world)
-}
-
-// An only operand is evaluated.
-fn alone(
-    s: Single,
-    a: &Shared<CoreExpr>,
-    items: &mut Stack<Item>,
-    world: &World,
-) -> Result<Next, Stop>
-    ensures { Advances (machine.evals a.now (kind.Alone s ∷ items.old) world.now) result items.new world.now }
-{
-    evals(a, Item::Alone(s), items, world)
-}
-
-// The left one of two operands is evaluated.
-fn left(
-    p: Pair,
-    a: &Shared<CoreExpr>,
-    b: &Shared<CoreExpr>,
-    items: &mut Stack<Item>,
-    world: &World,
-) -> Result<Next, Stop>
-    ensures { Advances (machine.evals a.now (kind.Right p b.now ∷ items.old) world.now) result items.new world.now }
-{
-    let b = b.share()?;
-    evals(a, Item::Right(p, b), items, world)
-}
-
-// The place on the left is found.
-fn target(
-    s: Store,
-    a: &Shared<CoreExpr>,
-    b: &Shared<CoreExpr>,
-    items: &mut Stack<Item>,
-    world: &World,
-) -> Result<Next, Stop>
-    ensures { Advances (machine.evals a.now (kind.StoreRight s b.now ∷ items.old) world.now) result items.new world.now }
-{
-    let b = b.share()?;
-    evals(a, Item::StoreRight(s, b), items, world)
-}
-
-// The condition is evaluated.
-fn condition(
-    a: &Shared<CoreExpr>,
-    b: &Shared<CoreExpr>,
-    c: &Shared<CoreExpr>,
-    items: &mut Stack<Item>,
-    world: &World,
-) -> Result<Next, Stop>
-    ensures { Advances (machine.evals a.now (kind.Choice (types.type_of a.now) b.now c.now ∷ items.old) world.now) result items.new world.now }
-{
-    let t = type_in(a, world)?;
-    let b = b.share()?;
-    let c = c.share()?;
-    evals(a, Item::Choice(t, b, c), items, world)
+    let a = at_place(Value::function(key), world)?;
+    Ok(gives(a))
 }
 
 /// An expression has begun.
@@ -113,91 +89,32 @@ pub fn expr_next(
     ensures { Advances (machine.expr_next env.now (out-CoreExpr e.now) items.old world.old) result items.new world.new }
 {
     match e.get() {
-        CoreExpr::Number(_, _, n) => Ok(gives(plain(Value::number(*n), world)?)),
-        CoreExpr::Literal(_, _, i) => Ok(gives(literal_place(env.text, *i, world)?)),
-        CoreExpr::Automatic(_, _, b, i) => {
-            let p = automatic_in(env.blocks.as_slice(), *b, *i);
-            Ok(gives(at_place(p, world)?))
-        }
-        CoreExpr::Static(_, _, key) => Ok(gives(static_place(key, world)?)),
-        CoreExpr::Function(_, _, key) => Ok(gives(function_place(key, world)?)),
-        CoreExpr::Index(_, _, n, a, b) => {
-            let s = type_in(a, world)?;
-            let t = type_in(b, world)?;
-            left(Pair::Index(*n, s, t), a, b, items, world)
-        }
-        CoreExpr::Call(_, _, f, _) => {
-            let t = type_in(f, world)?;
-            let rest = Arguments::of(e.share()?);
-            evals(f, Item::Callee(t, rest), items, world)
-        }
+        CoreExpr::Number(_, _, n) => number(*n, world),
+        CoreExpr::Literal(_, _, i) => literal(env.text, *i, world),
+        CoreExpr::Automatic(_, _, b, i) => automatic(env.blocks.as_slice(), *b, *i, world),
+        CoreExpr::Static(_, _, key) => named(key, world),
+        CoreExpr::Function(_, _, key) => function(key, world),
+        CoreExpr::Index(_, _, n, a, b) => index(*n, a, b, items, world),
+        CoreExpr::Call(_, _, f, _) => call(e, f, items, world),
         CoreExpr::Member(_, _, n, a) => alone(Single::Member(*n), a, items, world),
         CoreExpr::Arrow(_, _, n, a) => alone(Single::Arrow(*n), a, items, world),
-        CoreExpr::Step(_, _, s, n, a) => {
-            let t = type_in(a, world)?;
-            alone(Single::Increment(*s, *n, t), a, items, world)
-        }
+        CoreExpr::Step(_, _, s, n, a) => increment(*s, *n, a, items, world),
         CoreExpr::Address(_, _, a) => alone(Single::Address, a, items, world),
         CoreExpr::Indirection(_, _, a) => alone(Single::Indirection, a, items, world),
-        CoreExpr::Unary(_, _, o, a) => {
-            let t = type_in(a, world)?;
-            alone(Single::Unary(*o, t), a, items, world)
-        }
-        CoreExpr::Cast(_, t, a) => {
-            let t = t.copy(world.alloc())?;
-            alone(Single::Cast(t), a, items, world)
-        }
-        CoreExpr::Binary(_, _, o, a, b) => {
-            let s = type_in(a, world)?;
-            let t = type_in(b, world)?;
-            left(Pair::Binary(*o, s, t), a, b, items, world)
-        }
-        CoreExpr::Offset(_, _, o, n, a, b) => {
-            let s = type_in(a, world)?;
-            let t = type_in(b, world)?;
-            left(Pair::Offset(*o, *n, s, t), a, b, items, world)
-        }
+        CoreExpr::Unary(_, _, o, a) => unary(*o, a, items, world),
+        CoreExpr::Cast(_, t, a) => cast(t, a, items, world),
+        CoreExpr::Binary(_, _, o, a, b) => binary(*o, a, b, items, world),
+        CoreExpr::Offset(_, _, o, n, a, b) => offset(*o, *n, a, b, items, world),
         CoreExpr::Difference(_, _, n, a, b) => left(Pair::Difference(*n), a, b, items, world),
         CoreExpr::Compare(_, _, o, a, b) => left(Pair::Compare(*o), a, b, items, world),
-        CoreExpr::And(_, _, a, b) => {
-            let s = type_in(a, world)?;
-            let t = type_in(b, world)?;
-            let b = b.share()?;
-            evals(a, Item::And(s, t, b), items, world)
-        }
-        CoreExpr::Or(_, _, a, b) => {
-            let s = type_in(a, world)?;
-            let t = type_in(b, world)?;
-            let b = b.share()?;
-            evals(a, Item::Or(s, t, b), items, world)
-        }
+        CoreExpr::And(_, _, a, b) => and(a, b, items, world),
+        CoreExpr::Or(_, _, a, b) => or(a, b, items, world),
         CoreExpr::Conditional(_, _, a, b, c) => condition(a, b, c, items, world),
-        CoreExpr::Assign(_, _, a, b) => {
-            let t = type_in(a, world)?;
-            target(Store::Assign(t), a, b, items, world)
-        }
-        CoreExpr::AssignStructure(_, _, n, a, b) => {
-            let b = b.share()?;
-            evals(a, Item::StructureRight(*n, b), items, world)
-        }
-        CoreExpr::Compound(_, _, o, i, a, b) => {
-            let t = type_in(a, world)?;
-            let s = type_in(b, world)?;
-            target(Store::Compound(*o, *i, t, s), a, b, items, world)
-        }
-        CoreExpr::CompoundOffset(_, _, o, n, a, b) => {
-            let t = type_in(a, world)?;
-            let s = type_in(b, world)?;
-            target(Store::Move(*o, *n, t, s), a, b, items, world)
-        }
-        CoreExpr::Comma(_, _, a, b) => {
-            let b = b.share()?;
-            evals(a, Item::Then(b), items, world)
-        }
-        CoreExpr::Convert(_, t, a) => {
-            let s = type_in(a, world)?;
-            let t = t.copy(world.alloc())?;
-            alone(Single::Convert(s, t), a, items, world)
-        }
+        CoreExpr::Assign(_, _, a, b) => assign(a, b, items, world),
+        CoreExpr::AssignStructure(_, _, n, a, b) => assign_structure(*n, a, b, items, world),
+        CoreExpr::Compound(_, _, o, i, a, b) => compound(*o, *i, a, b, items, world),
+        CoreExpr::CompoundOffset(_, _, o, n, a, b) => compound_offset(*o, *n, a, b, items, world),
+        CoreExpr::Comma(_, _, a, b) => comma(a, b, items, world),
+        CoreExpr::Convert(_, t, a) => convert(t, a, items, world),
     }
 }

@@ -15,9 +15,16 @@ pub struct Env<'a> {
 }
 
 impl<'a> Model for Env<'a> {
+    ghost use Rattle.std.specs.Coded.{codes};
+    ghost use Rattle.sc_types.specs.contracts.ctype.CType as types;
+    ghost use Rattle.sc_types.specs.contracts.ctype.Signature as signatures;
+    ghost use Rattle.sc_core.specs.contracts.expression.CoreExpr as expressions;
+    ghost use Rattle.sc_core.specs.contracts.statement.CoreStmt as statements;
     ghost use Rattle.sc_meaning.specs.Expressions as spec;
 
     ghost Value = { spec.Env };
+
+    ghost coded = { Prim.hlevel (codes, types.the_row.coded, signatures.the_row.coded, expressions.the_row.coded, statements.the_row.coded) };
 
     ghost view = { λ e. record { text = e.text.now; fun = e.fun.now; blocks = e.blocks } };
 }

@@ -5,6 +5,7 @@ mod begin;
 mod env;
 mod next;
 mod pairs;
+mod parts;
 mod singles;
 mod stepping;
 

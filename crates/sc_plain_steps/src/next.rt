@@ -1,13 +1,12 @@
 // What a step leaves (ANSI 3.3).
-ghost use Rattle.std.specs.Prelude.{◌≡◌, ◌∷◌, IfOk};
-ghost use Rattle.sc_core.specs.Types as types;
+ghost use Rattle.std.specs.Prelude.{◌≡◌, ◌∷◌};
 ghost use Rattle.sc_machine.specs.Machine as machine;
 ghost use Rattle.sc_machine.specs.declared.pending.Mode.TheVariants as mode;
 ghost use Rattle.sc_plain_steps.specs.Advances.{Advances};
 ghost use Rattle.sc_plain_steps.specs.declared.next.Next.TheVariants as next;
 
-use sc_base::{Duplicate, Items, NoMemory, Shared, Stack};
-use sc_core::{CoreExpr, type_of};
+use sc_base::{Items, Shared, Stack};
+use sc_core::CoreExpr;
 use sc_machine::{Item, Mode};
 use sc_plain_leaves::Stop;
 use sc_plain_world::World;
@@ -46,11 +45,4 @@ pub fn evals(
     items.push(item)?;
     let e = e.share()?;
     Ok(Next::Go(Mode::Eval(e)))
-}
-
-/// The type of an operand, for what is pending.
-pub fn type_in(e: &Shared<CoreExpr>, world: &World) -> Result<CType, NoMemory>
-    ensures { IfOk result (λ t. t ≡ types.type_of e.now) }
-{
-    type_of(e.get()).copy(world.alloc())
 }
