@@ -11,8 +11,8 @@ use crate::violations::{cells_read, load_rule, pointer_of, reach_rule, store_rul
 use sc_base::{Duplicate, Int, Items, NoMemory};
 use sc_ops::convert;
 use sc_plain_world::{Cell, Content, World};
-use sc_values::{Shape, Value};
 use sc_types::{CType, int_size};
+use sc_values::{Shape, Value};
 use std::alloc::Global;
 
 /// How many bytes a scalar of the type has; 0 where the type is no scalar.

@@ -15,8 +15,8 @@ use crate::violations::{
 use sc_base::{Duplicate, Int, NoMemory, Op, Rule};
 use sc_ops::arith;
 use sc_plain_world::World;
-use sc_values::{Shape, Value};
 use sc_types::CType;
+use sc_values::{Shape, Value};
 use std::alloc::Global;
 
 /// The integral promotion (3.2.1.1).

@@ -9,8 +9,8 @@ ghost use Rattle.sc_plain_library.specs.Quiet.{IsQuiet};
 
 use sc_base::{Duplicate, Items, Key, NoMemory, Rule};
 use sc_plain_leaves::{
-    Breach, Stop, access_breach, bits, breach, cells_read, load_rule, number_of_cells, object_of, set_at,
-    store_rule, sum,
+    Breach, Stop, access_breach, bits, breach, cells_read, load_rule, number_of_cells, object_of,
+    set_at, store_rule, sum,
 };
 use sc_plain_world::{Event, World};
 use sc_values::{Answer, Shape, Value};
@@ -61,18 +61,21 @@ pub fn past(world: &World, p: &Value) -> u64
 /// # Errors
 ///
 /// The rule that a load breaks.
+#[tactic(auto, using(crate::proofs::Mores::text_more, crate::proofs::Prefixes::put_again))]
 pub fn text_upto(n: u64, p: &Value, world: &mut World) -> Result<Items<u8>, Stop>
     ensures { Gives (spec.text_upto n p.now 0 world.old) result world.new }
 {
     let mut text = Items::new(world.alloc());
     let mut i = 0;
-    for _ in 0..n {
+    let mut left = n;
+    while left > 0 {
         let b = byte_read(p, i, world)?;
         if b == 0 {
             return Ok(text);
         }
         text.push(b)?;
         i = sum(i, 1)?;
+        left -= 1;
     }
     Ok(text)
 }
@@ -94,20 +97,27 @@ pub fn length_of(bytes: &[u8]) -> Result<u32, NoMemory>
     ensures { IfOk result (λ n. n ≡ length bytes.now) }
 {
     let n = bytes.len();
-    if n <= 4_294_967_295 { Ok(n as u32) } else { Err(NoMemory) }
+    if n <= 4_294_967_295 {
+        Ok(n as u32)
+    } else {
+        Err(NoMemory)
+    }
 }
 
 // Whether n bytes can be written one by one, from a place on.
+#[tactic(auto, using(crate::proofs::Mores::writable_more))]
 fn writable(n: u32, p: &Value, at: u32, world: &World) -> Result<(), Stop>
     ensures { Gives (spec.writable n p.now at world.now) result world.now }
 {
     let mut i = at;
-    for _ in 0..n {
+    let mut left = n;
+    while left > 0 {
         if let Some(rule) = store_rule(world.objects(), p, i, 1) {
             let told = access_breach(p, i, 1, world, rule)?;
             return Err(Stop::Undefined(told));
         }
         i = sum(i, 1)?;
+        left -= 1;
     }
     Ok(())
 }
@@ -223,7 +233,11 @@ fn count_of(vs: &[Value]) -> Result<u32, NoMemory>
     ensures { IfOk result (λ n. n ≡ length vs.now) }
 {
     let n = vs.len();
-    if n <= 4_294_967_295 { Ok(n as u32) } else { Err(NoMemory) }
+    if n <= 4_294_967_295 {
+        Ok(n as u32)
+    } else {
+        Err(NoMemory)
+    }
 }
 
 /// A result.

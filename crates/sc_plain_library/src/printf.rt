@@ -398,7 +398,12 @@ fn conversion_turn<'a>(
 }
 
 // The piece that stands at the head of what is left; none at the end.
-fn turn<'a>(g: &Printed, k: u32, rest: &'a [u8], world: &mut World) -> Result<Option<Turn<'a>>, Stop>
+fn turn<'a>(
+    g: &Printed,
+    k: u32,
+    rest: &'a [u8],
+    world: &mut World,
+) -> Result<Option<Turn<'a>>, Stop>
     ensures { Gives (turn_of g.now k rest.now (piece_of rest.now) world.old) result world.new }
 {
     match piece(rest, 0) {
@@ -410,19 +415,22 @@ fn turn<'a>(g: &Printed, k: u32, rest: &'a [u8], world: &mut World) -> Result<Op
 }
 
 // All pieces in order.
+#[tactic(auto, using(crate::proofs::Formats::formatted_turn, crate::proofs::Prefixes::in_front_again))]
 fn formatted(g: &Printed, format: &[u8], world: &mut World) -> Result<Items<u8>, Stop>
     ensures { Gives (spec.formatted (length format.now + 1) g.now 1 format.now world.old) result world.new }
 {
     let mut text = Items::new(world.alloc());
     let mut used = 1;
     let mut rest = format;
-    for _ in 0..=format.len() {
+    let mut left = format.len() + 1;
+    while left > 0 {
         let Some(next) = turn(g, used, rest, world)? else {
             return Ok(text)
         };
         text.append(next.text)?;
         used = next.used;
         rest = next.rest;
+        left -= 1;
     }
     Ok(text)
 }

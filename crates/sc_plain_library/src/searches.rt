@@ -30,6 +30,7 @@ fn order_of(a: u8, b: u8) -> Value
 /// # Errors
 ///
 /// The rule that a load breaks.
+#[tactic(auto, using(crate::proofs::Mores::compared_more))]
 pub fn bytes_compared(
     n: u64,
     to_zero: bool,
@@ -40,13 +41,15 @@ pub fn bytes_compared(
     ensures { Gives (spec.bytes_compared n to_zero p.now q.now 0 world.old) result world.new }
 {
     let mut i = 0;
-    for _ in 0..n {
+    let mut left = n;
+    while left > 0 {
         let a = byte_read(p, i, world)?;
         let b = byte_read(q, i, world)?;
         if a != b || to_zero && a == 0 {
             return Ok(Answer::plain(order_of(a, b)));
         }
         i = sum(i, 1)?;
+        left -= 1;
     }
     Ok(Answer::plain(Value::null()))
 }
@@ -68,11 +71,13 @@ pub fn strcmp(p: &Value, q: &Value, world: &mut World) -> Result<Answer, Stop>
 /// # Errors
 ///
 /// The rule that a load breaks.
+#[tactic(auto, using(crate::proofs::Mores::first_more))]
 pub fn first_found(n: u64, p: &Value, c: u32, world: &mut World) -> Result<Answer, Stop>
     ensures { Gives (spec.first_found n p.now c 0 world.old) result world.new }
 {
     let mut i = 0;
-    for _ in 0..n {
+    let mut left = n;
+    while left > 0 {
         let b = byte_read(p, i, world)?;
         if u32::from(b) == c {
             return Ok(Answer::plain(moved(p, i, world.alloc())?));
@@ -81,12 +86,20 @@ pub fn first_found(n: u64, p: &Value, c: u32, world: &mut World) -> Result<Answe
             return Ok(Answer::plain(Value::null()));
         }
         i = sum(i, 1)?;
+        left -= 1;
     }
     Ok(Answer::plain(Value::null()))
 }
 
 // The place of a byte where it is the one that is looked for, else the one that was found before.
-fn found_now(b: u8, c: u32, p: &Value, i: u32, found: Value, world: &World) -> Result<Value, NoMemory>
+fn found_now(
+    b: u8,
+    c: u32,
+    p: &Value,
+    i: u32,
+    found: Value,
+    world: &World,
+) -> Result<Value, NoMemory>
     ensures { IfOk result (λ v. v ≡ (if b == c then outcome.moved p.now i else found)) }
 {
     if u32::from(b) == c {
@@ -101,18 +114,21 @@ fn found_now(b: u8, c: u32, p: &Value, i: u32, found: Value, world: &World) -> R
 /// # Errors
 ///
 /// The rule that a load breaks.
+#[tactic(auto, using(crate::proofs::Mores::last_more))]
 pub fn last_found(n: u64, p: &Value, c: u32, world: &mut World) -> Result<Answer, Stop>
     ensures { Gives (spec.last_found n p.now c 0 value.null world.old) result world.new }
 {
     let mut i = 0;
     let mut found = Value::null();
-    for _ in 0..n {
+    let mut left = n;
+    while left > 0 {
         let b = byte_read(p, i, world)?;
         found = found_now(b, c, p, i, found, world)?;
         if b == 0 {
             return Ok(Answer::plain(found));
         }
         i = sum(i, 1)?;
+        left -= 1;
     }
     Ok(Answer::plain(found))
 }

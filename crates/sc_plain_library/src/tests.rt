@@ -123,16 +123,48 @@ fn texts(rt: HostRuntime) -> Result<(), Fail> {
     let rows = [
         (LibFun::Strlen, [q(), q(), q()], Seen::Number(3)),
         (LibFun::Strcpy, [p(8), q(), q()], Seen::Place(1, 8)),
-        (LibFun::Strcpy, [p(1), p(0), q()], Seen::Broken(Rule::U18, 0)),
+        (
+            LibFun::Strcpy,
+            [p(1), p(0), q()],
+            Seen::Broken(Rule::U18, 0),
+        ),
         (LibFun::Strcat, [p(0), q(), q()], Seen::Place(1, 0)),
         (LibFun::Strcmp, [p(0), q(), q()], Seen::Number(4294967295)),
-        (LibFun::Strchr, [q(), Value::number(99), q()], Seen::Place(2, 2)),
-        (LibFun::Strrchr, [q(), Value::number(65), q()], Seen::Number(0)),
-        (LibFun::Memcpy, [p(0), p(2), Value::number(2)], Seen::Place(1, 0)),
-        (LibFun::Memcpy, [p(0), p(1), Value::number(2)], Seen::Broken(Rule::U18, 0)),
-        (LibFun::Memmove, [p(1), p(0), Value::number(3)], Seen::Place(1, 1)),
-        (LibFun::Isdigit, [Value::number(55), q(), q()], Seen::Number(1)),
-        (LibFun::Isdigit, [Value::number(300), q(), q()], Seen::Broken(Rule::U16, 1)),
+        (
+            LibFun::Strchr,
+            [q(), Value::number(99), q()],
+            Seen::Place(2, 2),
+        ),
+        (
+            LibFun::Strrchr,
+            [q(), Value::number(65), q()],
+            Seen::Number(0),
+        ),
+        (
+            LibFun::Memcpy,
+            [p(0), p(2), Value::number(2)],
+            Seen::Place(1, 0),
+        ),
+        (
+            LibFun::Memcpy,
+            [p(0), p(1), Value::number(2)],
+            Seen::Broken(Rule::U18, 0),
+        ),
+        (
+            LibFun::Memmove,
+            [p(1), p(0), Value::number(3)],
+            Seen::Place(1, 1),
+        ),
+        (
+            LibFun::Isdigit,
+            [Value::number(55), q(), q()],
+            Seen::Number(1),
+        ),
+        (
+            LibFun::Isdigit,
+            [Value::number(300), q(), q()],
+            Seen::Broken(Rule::U16, 1),
+        ),
         (LibFun::Exit, [Value::number(3), q(), q()], Seen::Exit(3)),
     ];
     for (f, vs, expected) in &rows {
@@ -146,13 +178,41 @@ fn texts(rt: HostRuntime) -> Result<(), Fail> {
 fn blocks(rt: HostRuntime) -> Result<(), Fail> {
     let mut world = world_of(rt.alloc(), b"", b"")?;
     for (f, vs, expected) in [
-        (LibFun::Malloc, [Value::number(15), Value::null()], Seen::Place(3, 0)),
-        (LibFun::Calloc, [Value::number(4), Value::number(3)], Seen::Place(4, 0)),
-        (LibFun::Malloc, [Value::number(40), Value::null()], Seen::Number(0)),
-        (LibFun::Free, [Value::pointer(3, 0), Value::null()], Seen::None),
-        (LibFun::Free, [Value::pointer(3, 0), Value::null()], Seen::Broken(Rule::U14, 0)),
-        (LibFun::Realloc, [Value::pointer(4, 0), Value::number(13)], Seen::Place(5, 0)),
-        (LibFun::Free, [Value::pointer(1, 0), Value::null()], Seen::Broken(Rule::U14, 0)),
+        (
+            LibFun::Malloc,
+            [Value::number(15), Value::null()],
+            Seen::Place(3, 0),
+        ),
+        (
+            LibFun::Calloc,
+            [Value::number(4), Value::number(3)],
+            Seen::Place(4, 0),
+        ),
+        (
+            LibFun::Malloc,
+            [Value::number(40), Value::null()],
+            Seen::Number(0),
+        ),
+        (
+            LibFun::Free,
+            [Value::pointer(3, 0), Value::null()],
+            Seen::None,
+        ),
+        (
+            LibFun::Free,
+            [Value::pointer(3, 0), Value::null()],
+            Seen::Broken(Rule::U14, 0),
+        ),
+        (
+            LibFun::Realloc,
+            [Value::pointer(4, 0), Value::number(13)],
+            Seen::Place(5, 0),
+        ),
+        (
+            LibFun::Free,
+            [Value::pointer(1, 0), Value::null()],
+            Seen::Broken(Rule::U14, 0),
+        ),
     ] {
         assert_eq!(rt; seen(&mut world, f, &vs)?, expected);
     }

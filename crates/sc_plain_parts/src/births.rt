@@ -54,6 +54,7 @@ pub fn born_autos(autos: &[Auto], world: &mut World) -> Result<Items<u32>, Stop>
 }
 
 /// Objects die, the last born first.
+#[tactic(auto, using(crate::proofs::Turns::dead_more))]
 pub fn all_dead(ids: &[u32], world: &mut World) -> Result<(), NoMemory>
     ensures { IfOk result (λ _. world.new ≡ spec.all_dead ids.now world.old) }
 {
@@ -116,13 +117,16 @@ pub fn set_bytes(id: u32, at: u32, bytes: &[u8], world: &mut World) -> Result<()
 }
 
 /// As many bytes are set to 0, one by one.
+#[tactic(auto, using(crate::proofs::Turns::zeros_more))]
 pub fn set_zeros(id: u32, at: u32, n: u32, world: &mut World) -> Result<(), NoMemory>
     ensures { IfOk result (λ _. world.new ≡ spec.set_bytes id at (replicate n 0) world.old) }
 {
     let mut next = at;
-    for _ in 0..n {
+    let mut left = n;
+    while left > 0 {
         set_byte(id, next, 0, world)?;
         next = sum(next, 1)?;
+        left -= 1;
     }
     Ok(())
 }

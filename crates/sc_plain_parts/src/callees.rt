@@ -61,7 +61,13 @@ fn has_signature(
     let defined = CType::Function(Shared::new(alloc, f.of.copy(alloc)?)?);
     let t_structs = &t.core.get().structs;
     let u_structs = &u.core.get().structs;
-    Ok(compatible(&called, t_structs, &defined, u_structs, t.number == u.number))
+    Ok(compatible(
+        &called,
+        t_structs,
+        &defined,
+        u_structs,
+        t.number == u.number,
+    ))
 }
 
 fn signature_rule(
@@ -70,7 +76,7 @@ fn signature_rule(
     s: &Shared<Signature>,
     callee: Callee,
 ) -> Result<Option<Rule>, NoMemory>
-    ensures { IfOk result (λ rule. rule ≡ spec.signature_rule t.now s.now (callee_found callee)) }
+    ensures { IfOk result (λ rule. rule ≡ spec.signature_rule t.now s.now (callee_found callee.entry)) }
 {
     match callee {
         Callee::Missing => Ok(Some(Rule::U17)),
@@ -80,7 +86,7 @@ fn signature_rule(
 }
 
 fn untyped_rule(t: &Text, callee: Callee) -> Option<Rule>
-    ensures { result ≡ spec.called_rule t.now None (callee_found callee) }
+    ensures { result ≡ spec.called_rule t.now None (callee_found callee.entry) }
 {
     match callee {
         Callee::Missing => Some(Rule::U17),

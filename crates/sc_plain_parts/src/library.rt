@@ -81,10 +81,15 @@ pub enum TypeForm {
 }
 
 const INT: TypeForm = TypeForm::ToInt(Int::Int);
+
 const SIZE: TypeForm = TypeForm::ToInt(Int::UInt);
+
 const TEXT: TypeForm = TypeForm::ToText(false);
+
 const CONST_TEXT: TypeForm = TypeForm::ToText(true);
+
 const BYTES: TypeForm = TypeForm::ToVoid(false);
+
 const CONST_BYTES: TypeForm = TypeForm::ToVoid(true);
 
 // The place of an integer type in the order of all.
@@ -164,10 +169,12 @@ fn has_form(own: bool, form: TypeForm, t: &CType) -> bool
 fn have_forms(forms: &[TypeForm], types: &[CType]) -> bool
     ensures { result ≡ spec.have_shapes (map form_of forms.now) types.now }
 {
-    match (forms, types) {
-        ([], []) => true,
-        ([f, fs @ ..], [t, ts @ ..]) => has_form(false, *f, t) && have_forms(fs, ts),
-        _ => false,
+    match forms {
+        [] => types.is_empty(),
+        [f, fs @ ..] => match types {
+            [] => false,
+            [t, ts @ ..] => has_form(false, *f, t) && have_forms(fs, ts),
+        },
     }
 }
 

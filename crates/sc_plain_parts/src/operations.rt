@@ -120,7 +120,12 @@ pub fn unary(o: UnaryOperator, t: &CType, v: Value, world: &World) -> Result<Val
 /// # Errors
 ///
 /// The rule that the source or the target breaks.
-pub fn assigned_structure(size: u32, a: Answer, b: Answer, world: &mut World) -> Result<Answer, Stop>
+pub fn assigned_structure(
+    size: u32,
+    a: Answer,
+    b: Answer,
+    world: &mut World,
+) -> Result<Answer, Stop>
     ensures { Gives (spec.assigned_structure size a b world.old) result world.new }
 {
     let further = a.further();

@@ -132,7 +132,12 @@ fn without_object(texts: &[Text], id: &StaticId, alloc: Global) -> Result<Option
     }
 }
 
-fn address_of(texts: &[Text], id: &StaticId, at: u32, world: &World) -> Result<Option<Value>, NoMemory>
+fn address_of(
+    texts: &[Text],
+    id: &StaticId,
+    at: u32,
+    world: &World,
+) -> Result<Option<Value>, NoMemory>
     ensures { IfOk result (λ v. v ≡ spec.address_of texts.now id.now (worlds.named_in world.now.names id.now) at world.now) }
 {
     match world.named(id) {

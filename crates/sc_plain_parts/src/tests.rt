@@ -368,7 +368,12 @@ fn static_objects(rt: HostRuntime) -> Result<(), Fail> {
         Seen::Place(2, 1)
     );
     assert_eq!(rt;
-        outcome_of(loaded(&CType::Int(Int::Char, false), &Value::pointer(2, 0), 0, &world)),
+        outcome_of(loaded(
+            &CType::Int(Int::Char, false),
+            &Value::pointer(2, 0),
+            0,
+            &world
+        )),
         Seen::Number(7)
     );
     Ok(())
@@ -377,7 +382,10 @@ fn static_objects(rt: HostRuntime) -> Result<(), Fail> {
 // The rule of a call by the name of a function, of type `int (*)(void)`.
 fn rule_of(alloc: Global, called: &[u8]) -> Result<Option<Rule>, NoMemory> {
     let texts = texts(alloc)?;
-    let function = Shared::new(alloc, CType::Function(Shared::new(alloc, signature(alloc))?))?;
+    let function = Shared::new(
+        alloc,
+        CType::Function(Shared::new(alloc, signature(alloc))?),
+    )?;
     let of = CType::Pointer(function, false);
     let v = Value::function(key(alloc, called)?);
     match texts.as_slice().first() {
