@@ -11,7 +11,16 @@ use Rattle.sc_meaning.specs.Accesses.{tested}
 use Rattle.sc_meaning.specs.Versions.{History}
 use Rattle.sc_meaning.specs.Expressions.{Env, Answer, finished, plain, used, either, truth, expr_of, begun, called, args_then, one, two, at_place, Part, unary, assigned_structure}
 use Rattle.sc_meaning.specs.Calls.{eval, call}
-use Rattle.sc_machine.specs.Machine.{Whole, Truth, Member, Arrow, Increment, Address, Indirection, Unary, Cast, Convert, Pair, Index, Binary, Offset, Difference, Compare, Store, Assign, Compound, Move, Item, Alone, Right, Now, StoreRight, StoreNow, StructureRight, StructureNow, And, Or, Choice, Then, Callee, Argument, Mode, Eval, Give, Advanced, GoesOn, CallsOut, Gives, Breaks, single_of, pair_of, store_of, evals, then_goes, gives, whether, args_next, expr_next, item_next, answer_next, advance, ran}
+use Rattle.sc_machine.specs.Machine.{Advanced, GoesOn, CallsOut, Gives, Breaks, single_of, pair_of, store_of, evals, then_goes, gives, whether, args_next, expr_next, item_next, answer_next, advance, ran}
+use Rattle.sc_machine.specs.declared.pending.Single.TheVariants.{Whole, Truth, Member, Arrow, Increment, Address, Indirection, Unary, Cast, Convert}
+use Rattle.sc_machine.specs.declared.pending.Pair.{Pair}
+use Rattle.sc_machine.specs.declared.pending.Pair.TheVariants.{Index, Binary, Offset, Difference, Compare}
+use Rattle.sc_machine.specs.declared.pending.Store.{Store}
+use Rattle.sc_machine.specs.declared.pending.Store.TheVariants.{Assign, Compound, Move}
+use Rattle.sc_machine.specs.declared.pending.Item.{Item}
+use Rattle.sc_machine.specs.declared.pending.Item.TheVariants.{Alone, Right, Now, StoreRight, StoreNow, StructureRight, StructureNow, And, Or, Choice, Then, Callee, Argument}
+use Rattle.sc_machine.specs.declared.pending.Mode.{Mode}
+use Rattle.sc_machine.specs.declared.pending.Mode.TheVariants.{Eval, Give}
 use Rattle.sc_machine.specs.Means.{item_of, After, Means, Comes}
 
 -- less depth is asked for

@@ -18,6 +18,10 @@ use Rattle.sc_machine.specs.Runs.{Active, Caller, State, Runs, Makes, Answers, E
 use Rattle.sc_machine.specs.RunMeans.{After, Means}
 use Rattle.sc_machine.proofs.Follows as below
 use Rattle.sc_machine.proofs.BodyFollows as bodies
+use Rattle.sc_machine.specs.declared.body.Use.{Use}
+use Rattle.sc_machine.specs.declared.body.Pending.{Pending}
+use Rattle.sc_machine.specs.declared.body.Doing.{Doing}
+use Rattle.sc_machine.specs.declared.body.Doing.TheVariants.{Exec}
 
 -- less depth is asked for
 pub weaker : (h : History) (n : ℕ) (cs : List Caller) (r out : Outcome Answer) → After h (suc n) cs r out → After h n cs r out
@@ -26,7 +30,7 @@ weaker h n (c ∷ cs) r out p =
     (p.0, below.weaker h c.env n c.items r p.0 p.1, p.2, bodies.after_use_weaker h n c.user c.stmts c.env p.0 p.2 p.3, weaker h n cs _ out p.4)
 
 -- an end goes through all callers
-use_over : (h : History) (n : ℕ) (u : body.Use) (ss : List body.Item) (env : Env) (r : Outcome Answer) (e : Ending) (v : Outcome Way) → Over e ≡ r → rest.AfterUse h n u ss env r v → Over e ≡ v
+use_over : (h : History) (n : ℕ) (u : Use) (ss : List Pending) (env : Env) (r : Outcome Answer) (e : Ending) (v : Outcome Way) → Over e ≡ r → rest.AfterUse h n u ss env r v → Over e ≡ v
 use_over h n u ss env r e v same p =
     bodies.over h n ss env e v (subst (λ q. rest.After h n ss env (and_then q (rest.use_of (eval p.0 h) (exec p.0 h) (turn p.0 h) env u)) v) (sym same) p.2)
 
@@ -50,7 +54,7 @@ module _ (h : History) (n : ℕ) (out : Outcome Answer) where
   ended_sim : (e : Ending) (v : Outcome Way) (a : Active) (cs : List Caller) → Over e ≡ v → After h (suc n) cs (and_then v (left h a.ids a.cost)) out → Over e ≡ out
   ended_sim e v a cs same p = over h (suc n) cs e out (subst (λ v. After h (suc n) cs (and_then v (left h a.ids a.cost)) out) (sym same) p)
 
-  line_sim : (r : Outcome (Unit {0})) (mode : body.Mode) (ss : List body.Item) (env : Env) (v : Outcome Way) (a : Active) (cs : List Caller) → rest.Reached h n r mode ss env v → After h (suc n) cs (and_then v (left h a.ids a.cost)) out → Means h n (then_goes r (λ _ w. Runs mode ss env a cs w)) out
+  line_sim : (r : Outcome (Unit {0})) (mode : Doing) (ss : List Pending) (env : Env) (v : Outcome Way) (a : Active) (cs : List Caller) → rest.Reached h n r mode ss env v → After h (suc n) cs (and_then v (left h a.ids a.cost)) out → Means h n (then_goes r (λ _ w. Runs mode ss env a cs w)) out
   line_sim (Done _ w) mode ss env v a cs c p = (v, c, weaker h n cs _ out p)
   line_sim (Over e) mode ss env v a cs c p = ended_sim e v a cs c p
 
@@ -67,7 +71,7 @@ module _ (h : History) (n : ℕ) (out : Outcome Answer) where
       let born : Born = record { block = 0; ids = ids } in
       let env : Env = record { text = t; fun = f; blocks = born ∷ [] } in
       then_sim cs (happened h (Enter key t.core.name) (pass (OpenBlock born) w)) (λ _ w. and_then (exec m h env f.body w) (left h ids f.cost))
-      (λ _ w. Runs (body.Exec f.body) [] env (record { ids = ids; cost = f.cost }) cs w)
+      (λ _ w. Runs (Exec f.body) [] env (record { ids = ids; cost = f.cost }) cs w)
       (λ _ w p. (exec m h env f.body w, (m, le, refl), weaker h n cs _ out p)) p
 
   enters_sim : (m : ℕ) → n ≤ m → (b : Bool) (key : Key) (t : Text) (f : Fun) (vs : List Value) (cs : List Caller) (w : World) → After h (suc n) cs (either b (full key) (entered h (exec m h) key t f vs) w) out → Means h n (enters b h key t f vs cs w) out

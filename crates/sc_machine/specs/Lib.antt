@@ -1,3 +1,4 @@
+pub mod Rests
 pub mod Machine
 pub mod Means
 pub mod Bodies

@@ -15,20 +15,16 @@ use Rattle.sc_meaning.specs.World.{World, tick, named_in}
 use Rattle.sc_meaning.specs.Outcomes.{Outcome, Done, Over, Ending, and_then}
 use Rattle.sc_meaning.specs.Accesses.{stored, computed, difference, compared, tested}
 use Rattle.sc_meaning.specs.Expressions.{Env, Answer, Part, finished, plain, at_place, used, base_of, further_of, automatic_in, static_at, literal_of, address, conversion, is_void, cast, offset_by, part_of, stepped, unary, truth, assigned_structure, compounded, moved_by, begun}
-
--- what is done with the answer of an only operand, or of the last one that is evaluated
-pub data Single : Type 0 where
-  Whole : Single
-  Truth : CType → Single
-  Member : ℕ → Single
-  Arrow : ℕ → Single
-  Increment : Step → ℕ → CType → Single
-  Address : Single
-  Indirection : Single
-  Unary : UnaryOperator → CType → Single
-  Cast : CType → Single
-  Convert : CType → CType → Single
-  Back : Single
+use Rattle.sc_machine.specs.declared.pending.Single.{Single}
+use Rattle.sc_machine.specs.declared.pending.Single.TheVariants.{Whole, Truth, Member, Arrow, Increment, Address, Indirection, Unary, Cast, Convert, Back}
+use Rattle.sc_machine.specs.declared.pending.Pair.{Pair}
+use Rattle.sc_machine.specs.declared.pending.Pair.TheVariants.{Index, Binary, Offset, Difference, Compare}
+use Rattle.sc_machine.specs.declared.pending.Store.{Store}
+use Rattle.sc_machine.specs.declared.pending.Store.TheVariants.{Assign, Compound, Move}
+use Rattle.sc_machine.specs.declared.pending.Item.{Item}
+use Rattle.sc_machine.specs.declared.pending.Item.TheVariants.{Alone, Right, Now, StoreRight, StoreNow, StructureRight, StructureNow, And, Or, Choice, Then, Callee, Argument}
+use Rattle.sc_machine.specs.declared.pending.Mode.{Mode}
+use Rattle.sc_machine.specs.declared.pending.Mode.TheVariants.{Eval, Give}
 
 abbrev pub single_of : Single → Answer → World → Outcome Answer
 single_of Whole a w = finished a w
@@ -43,14 +39,6 @@ single_of (Cast t) a w = cast (is_void t) t a w
 single_of (Convert from to) a w = conversion from to a w
 single_of Back a w = finished a (tick w)
 
--- what is done with two values, whose types are known
-pub data Pair : Type 0 where
-  Index : ℕ → CType → CType → Pair
-  Binary : Op → CType → CType → Pair
-  Offset : Op → ℕ → CType → CType → Pair
-  Difference : ℕ → Pair
-  Compare : Op → Pair
-
 abbrev pub pair_of : Pair → Value → Value → World → Outcome Answer
 pair_of (Index size s t) x y w = and_then (offset_by op.Add size s t x y w) at_place
 pair_of (Binary o s t) x y w = and_then (computed o (int_of s) x (int_of t) y w) plain
@@ -58,39 +46,10 @@ pair_of (Offset o size s t) x y w = and_then (offset_by o size s t x y w) plain
 pair_of (Difference size) x y w = and_then (difference x y size w) plain
 pair_of (Compare o) x y w = and_then (compared o x y w) plain
 
--- what is done with a place and the value on its right
-pub data Store : Type 0 where
-  Assign : CType → Store
-  Compound : Op → Int → CType → CType → Store
-  Move : Op → ℕ → CType → CType → Store
-
 abbrev pub store_of : Store → Answer → Value → World → Outcome Answer
 store_of (Assign t) p v w = and_then (stored t (base_of p) (further_of p) v w) plain
 store_of (Compound o i t s) p v w = and_then (compounded o i t s p v w) plain
 store_of (Move o size t s) p v w = and_then (moved_by o size t s p v w) plain
-
--- A pending item: what is done with the next answer. `Right`, `StoreRight`, `StructureRight` and `Then` have the operand
--- that follows, the items with `Now` what came before; `And`, `Or` and `Choice` have the operands of which one may
--- follow; `Callee` awaits the function that is called, and `Argument` one more argument.
-pub data Item : Type 0 where
-  Alone : Single → Item
-  Right : Pair → CoreExpr → Item
-  Now : Pair → Value → Item
-  StoreRight : Store → CoreExpr → Item
-  StoreNow : Store → Answer → Item
-  StructureRight : ℕ → CoreExpr → Item
-  StructureNow : ℕ → Answer → Item
-  And : CType → CType → CoreExpr → Item
-  Or : CType → CType → CoreExpr → Item
-  Choice : CType → CoreExpr → CoreExpr → Item
-  Then : CoreExpr → Item
-  Callee : CType → List CoreExpr → Item
-  Argument : CType → Value → List CoreExpr → List Value → Item
-
--- an expression is to be evaluated, or an answer is given to what is pending
-pub data Mode : Type 0 where
-  Eval : CoreExpr → Mode
-  Give : Answer → Mode
 
 -- What a step leaves: more of it; a call of a function's value, of this type, with its arguments, which is tested and made
 -- outside, and the answer of which is given to what is pending; the answer of the whole; or the end of the run.

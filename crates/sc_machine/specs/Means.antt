@@ -8,7 +8,11 @@ use Rattle.sc_meaning.specs.Accesses.{tested}
 use Rattle.sc_meaning.specs.Versions.{Text, History, version_at}
 use Rattle.sc_meaning.specs.Expressions.{Env, Answer, Eval as Evals, Call as Called, finished, plain, used, either, truth, assigned_structure, value_rule, call_breach, call_value, called, args_then, one}
 use Rattle.sc_meaning.specs.Calls.{eval, call}
-use Rattle.sc_machine.specs.Machine.{Item, Alone, Right, Now, StoreRight, StoreNow, StructureRight, StructureNow, And, Or, Choice, Then, Callee, Argument, Mode, Eval, Give, Advanced, GoesOn, CallsOut, Gives, Breaks, single_of, pair_of, store_of}
+use Rattle.sc_machine.specs.Machine.{Advanced, GoesOn, CallsOut, Gives, Breaks, single_of, pair_of, store_of}
+use Rattle.sc_machine.specs.declared.pending.Item.{Item}
+use Rattle.sc_machine.specs.declared.pending.Item.TheVariants.{Alone, Right, Now, StoreRight, StoreNow, StructureRight, StructureNow, And, Or, Choice, Then, Callee, Argument}
+use Rattle.sc_machine.specs.declared.pending.Mode.{Mode}
+use Rattle.sc_machine.specs.declared.pending.Mode.TheVariants.{Eval, Give}
 
 -- what is done with an answer, by the meaning of the parts
 abbrev pub item_of : History → Evals → Called → Env → Item → Answer → World → Outcome Answer

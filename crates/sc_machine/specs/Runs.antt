@@ -15,6 +15,12 @@ use Rattle.sc_meaning.specs.Functions.{library_call}
 use Rattle.sc_meaning.specs.Calls.{parameters, frame_of, left}
 use Rattle.sc_machine.specs.Machine as expr
 use Rattle.sc_machine.specs.Bodies as body
+use Rattle.sc_machine.specs.declared.pending.Item.{Item}
+use Rattle.sc_machine.specs.declared.pending.Mode.TheVariants.{Give}
+use Rattle.sc_machine.specs.declared.body.Use.{Use}
+use Rattle.sc_machine.specs.declared.body.Pending.{Pending}
+use Rattle.sc_machine.specs.declared.body.Doing.{Doing}
+use Rattle.sc_machine.specs.declared.body.Doing.TheVariants.{Within, Exec}
 
 -- an active call: its parameters' objects, and its room on the stack
 pub record Active : Type 0 where
@@ -23,15 +29,15 @@ pub record Active : Type 0 where
 
 -- a caller that waits for an answer, with what is pending in it
 pub record Caller : Type 0 where
-  pub items : List expr.Item
-  pub user : body.Use
-  pub stmts : List body.Item
+  pub items : List Item
+  pub user : Use
+  pub stmts : List Pending
   pub env : Env
   pub active : Active
 
 -- a body runs; a call is to be made; an answer comes to the innermost caller, or is the run's where none waits; the run is over
 pub data State : Type 0 where
-  Runs : body.Mode → List body.Item → Env → Active → List Caller → World → State
+  Runs : Doing → List Pending → Env → Active → List Caller → World → State
   Makes : CType → Value → List Value → Caller → List Caller → World → State
   Answers : Answer → List Caller → World → State
   Ends : Ending → State
@@ -56,7 +62,7 @@ abbrev pub begins : History → Key → Text → Fun → List Caller → List �
 begins h key t f cs ids w =
     let born : Born = record { block = 0; ids = ids } in
     then_goes (happened h (Enter key t.core.name) (pass (OpenBlock born) w))
-    (λ _ w. Runs (body.Exec f.body) [] (record { text = t; fun = f; blocks = born ∷ [] }) (record { ids = ids; cost = f.cost }) cs w)
+    (λ _ w. Runs (Exec f.body) [] (record { text = t; fun = f; blocks = born ∷ [] }) (record { ids = ids; cost = f.cost }) cs w)
 
 -- the stack has room for the call, or the run ends
 abbrev pub enters : Bool → History → Key → Text → Fun → List Value → List Caller → World → State
@@ -84,7 +90,7 @@ abbrev pub advance : History → State → State
 advance h (Runs mode ss env a cs w) = body_next h (body.advance mode ss env w) a cs
 advance h (Makes t v vs c cs w) = made_unless (value_rule (version_at h w.count) c.env.text t v) h v vs (c ∷ cs) w
 advance h (Answers a [] w) = Answers a [] w
-advance h (Answers a (c ∷ cs) w) = Runs (body.Within (expr.Give a) c.items c.user) c.stmts c.env c.active cs w
+advance h (Answers a (c ∷ cs) w) = Runs (Within (Give a) c.items c.user) c.stmts c.env c.active cs w
 advance h (Ends e) = Ends e
 
 -- so many steps

@@ -10,7 +10,13 @@ ghost use Rattle.sc_meaning.specs.Versions.{History, callee_of, version_at};
 ghost use Rattle.sc_meaning.specs.Expressions.{Answer, Env};
 ghost use Rattle.sc_meaning.specs.Statements.{Way};
 ghost use Rattle.sc_meaning.specs.Calls.{call, eval, exec};
-ghost use Rattle.sc_machine.specs.Machine.{Advanced, Breaks, Eval, Gives, GoesOn, Item, Mode, advance, ran};
+ghost use Rattle.sc_machine.specs.Machine.{Advanced, Breaks, Gives, GoesOn, advance, ran};
+ghost use Rattle.sc_machine.specs.declared.body.Doing.{Doing};
+ghost use Rattle.sc_machine.specs.declared.body.Doing.TheVariants.{Exec};
+ghost use Rattle.sc_machine.specs.declared.body.Pending.{Pending};
+ghost use Rattle.sc_machine.specs.declared.pending.Item.{Item};
+ghost use Rattle.sc_machine.specs.declared.pending.Mode.{Mode};
+ghost use Rattle.sc_machine.specs.declared.pending.Mode.TheVariants.{Eval};
 ghost use Rattle.sc_machine.specs.Means.{Comes, Means};
 ghost use Rattle.sc_machine.specs.Bodies as body;
 ghost use Rattle.sc_machine.specs.BodyMeans as rest;
@@ -38,16 +44,16 @@ pub fn expressions_give_their_meaning()
 /// the program that stand behind it, and then the body goes on.
 #[tactic(auto, using(crate::proofs::BodyFollows::follows, crate::proofs::BodyFollows::begins))]
 pub fn body_steps_keep_the_meaning()
-    ensures begins { (h : History) (env : Env) (n k : ℕ) (s : CoreStmt) (w : World) → n ≤ k → rest.Means h n (body.Exec s) [] env w (exec k h env s w) }
-    ensures steps { (h : History) (n : ℕ) (mode : body.Mode) (ss : List body.Item) (env : Env) (w : World) (out : Outcome Way) → rest.Means h (suc n) mode ss env w out → rest.Comes h n (body.advance mode ss env w) out }
+    ensures begins { (h : History) (env : Env) (n k : ℕ) (s : CoreStmt) (w : World) → n ≤ k → rest.Means h n (Exec s) [] env w (exec k h env s w) }
+    ensures steps { (h : History) (n : ℕ) (mode : Doing) (ss : List Pending) (env : Env) (w : World) (out : Outcome Way) → rest.Means h (suc n) mode ss env w out → rest.Comes h n (body.advance mode ss env w) out }
 {}
 
 /// Where k steps, each line being one more, bring a statement to the way in which it is left, or to the end of the run, and no
 /// call goes out, the meaning gives just that at every bound of at least k.
 #[tactic(auto, using(crate::proofs::BodyFollows::leaves_meaning, crate::proofs::BodyFollows::breaks_meaning))]
 pub fn bodies_give_their_meaning()
-    ensures ways { (h : History) (env : Env) (k n : ℕ) (s : CoreStmt) (w v : World) (way : Way) → k ≤ n → body.ran k h (body.GoesOn (body.Exec s) [] env w) ≡ body.Leaves way v → exec n h env s w ≡ Done way v }
-    ensures ends { (h : History) (env : Env) (k n : ℕ) (s : CoreStmt) (w : World) (end : Ending) → k ≤ n → body.ran k h (body.GoesOn (body.Exec s) [] env w) ≡ body.Breaks end → exec n h env s w ≡ Over end }
+    ensures ways { (h : History) (env : Env) (k n : ℕ) (s : CoreStmt) (w v : World) (way : Way) → k ≤ n → body.ran k h (body.GoesOn (Exec s) [] env w) ≡ body.Leaves way v → exec n h env s w ≡ Done way v }
+    ensures ends { (h : History) (env : Env) (k n : ℕ) (s : CoreStmt) (w : World) (end : Ending) → k ≤ n → body.ran k h (body.GoesOn (Exec s) [] env w) ≡ body.Breaks end → exec n h env s w ≡ Over end }
 {}
 
 /// A call of a key begins as its meaning, and each step of the run keeps what the outermost call gives: whatever is pending in
