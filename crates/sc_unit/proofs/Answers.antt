@@ -22,6 +22,7 @@ use Rattle.sc_parse_expr.specs.Brackets.{opens_with}
 use Rattle.sc_unit.specs.Grammar.{IsUnit}
 use Rattle.sc_unit.specs.Machine.{Point, Move, advance, run, start, on_ok}
 use Rattle.sc_unit.specs.Parse.{Answer, next, end_at, ended, answer, refusal, Gives}
+use Rattle.sc_unit.proofs.Taken.{found_only}
 use Rattle.sc_unit.specs.Claims.{AreWithin, Finds, last_line, NoneBegins, Fails, at_token, at_end, FailsRightly, Parses}
 use Rattle.sc_unit.proofs.Runs.{Leads, same, passed, Limited}
 use Rattle.sc_unit.proofs.Units.{reads_all}
@@ -227,4 +228,4 @@ fails_rightly ts (Err fault.NoMemory) h = tt
 fails_rightly ts (Err (fault.Refused r)) h = λ k. fails ts r.line (h.0 ∙ ap (λ (kind : X). Err (kind, r.line)) k)
 
 pub parses : (ts : List Symbol) (result : Result Tree Fault) → Gives (answer 0 1 start ts) result → Parses ts result
-parses ts result h = record { answers = h; finds = λ all d w. finds result h d w; fails = fails_rightly ts result h }
+parses ts result h = record { answers = h; finds = λ all d w. finds result h d w; only = found_only ts result h; fails = fails_rightly ts result h }
