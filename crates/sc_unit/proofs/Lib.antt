@@ -1,0 +1,10 @@
+pub mod Runs
+pub mod Phrases
+pub mod Declares
+pub mod Statements
+pub mod Units
+pub mod Answers
+pub mod Inside
+pub mod Keeping
+pub mod Closing
+pub mod Taken
