@@ -4,9 +4,9 @@ use Rattle.sc_tree.specs.declared.operator.Unary.{Unary}
 use Rattle.sc_tree.specs.declared.operator.Unary.TheVariants as unary
 use Rattle.sc_tree.specs.declared.operator.Binary.{Binary}
 use Rattle.sc_tree.specs.declared.operator.Binary.TheVariants as binary
-use Rattle.sc_parse_expr.specs.declared.kind.Kind.{Kind}
-use Rattle.sc_parse_expr.specs.declared.kind.Kind.TheVariants as k
-use Rattle.sc_parse_expr.specs.Kinds.{operand_of, binary_of, level_of, assign_of, power_of, level_at}
+use Rattle.sc_symbol.specs.declared.kind.Kind.{Kind}
+use Rattle.sc_symbol.specs.declared.kind.Kind.TheVariants as k
+use Rattle.sc_phrase.specs.Kinds.{operand_of, binary_of, level_of, assign_of, power_of, level_at}
 
 pub level-small : (op : Binary) → level_of op ≤ 13
 level-small binary.LogicalOr = omega arith

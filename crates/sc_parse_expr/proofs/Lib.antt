@@ -1,4 +1,8 @@
 pub mod Levels
-pub mod Types
+pub mod Runs
+pub mod Heads
+pub mod Tokens
 pub mod Complete
-pub mod Closing
+pub mod Fronts
+pub mod Others
+pub mod Turns

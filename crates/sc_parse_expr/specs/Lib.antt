@@ -1,4 +1,2 @@
-pub mod Kinds
-pub mod Grammar
-pub mod Machine
-pub mod Steps
+pub mod Brackets
+pub mod Reading

@@ -1,18 +1,12 @@
-//! The grammar of expressions and type names, and the machine that reads them one token at a time.
+//! The machine that reads expressions, type names, specifiers and declarators, one token at a time.
 #![tactic(auto)]
 
-mod classes;
-mod close;
-mod frame;
-mod kind;
+mod body;
+mod declarator;
+mod driver;
 mod machine;
-mod trouble;
+mod operand;
 mod words;
 
-pub use frame::{Frame, State};
-pub use kind::{Kind, Symbol};
+pub use driver::{Found, Refused, Turn, expression, opens_with};
 pub use machine::step;
-pub use trouble::Trouble;
-
-#[cfg(test)]
-mod tests;

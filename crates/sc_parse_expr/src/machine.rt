@@ -1,147 +1,133 @@
-// The machine that reads expressions, one token at a time.
-ghost use Rattle.std.specs.Prelude.{◌≡◌, ◌<◌, ◌≤◌, List, [], ◌∷◌, ◌++◌, Some, length, IfOk, IsOkUnless};
-ghost use Rattle.sc_parse_expr.specs.Machine as spec;
-ghost use Rattle.sc_parse_expr.specs.Steps.{Steps, IsSymbol, CalledEmpty};
-ghost use Rattle.sc_parse_expr.specs.Grammar.{text_with, no_words};
-ghost use Rattle.sc_parse_expr.specs.Kinds.{binary_of as binary_in, postfix_of as postfix_in, unary_of as unary_in};
+// The machine that reads expressions, type names, specifiers and declarators, one token at a time.
+ghost use Rattle.std.specs.Prelude.{◌≡◌, ◌<◌, ◌≤◌, List, [], ◌∷◌, ◌++◌, Some, None, Ok, Err, length, IfOk, OnOk};
+ghost use Rattle.sc_symbol.specs.Names.{is_typed as typed_in};
+ghost use Rattle.sc_phrase.specs.Machine as spec;
+ghost use Rattle.sc_phrase.specs.Types.{declare_in};
+ghost use Rattle.sc_phrase.specs.Steps.{Steps, Moves, IsSymbol};
 
-use crate::classes::{binary_of, postfix_of, power_of, unary_of};
-use crate::close::{at_comma, close_bracket, close_paren, close_then, needs, settle};
-use crate::frame::{Frame, State};
-use crate::kind::{Kind, Symbol};
-use crate::trouble::Trouble;
-use crate::words::{begins_type, enum_tag, name_of, names_type, pointers, struct_tag, words};
-use sc_base::{Bytes, Items, Name, NoMemory, Shared, Stack};
-use sc_tree::{Binary, Constant, Expr, Specifiers};
+use crate::body::{
+    due, enumeration, item, items, structure, tagged_enumeration, tagged_structure, void,
+};
+use crate::declarator::{begin, bracket, group, opens_parameters, stars, suffixes};
+use crate::operand::{needed, opened, sized_opened};
+use crate::words::words;
+use sc_base::{Duplicate, Items, NoMemory, Stack};
+use sc_phrase::expression::{arrowed, dotted, have, offset_comma, offset_name, sized, texts};
+use sc_phrase::parts::{added, possible_declarator, with_step};
+use sc_phrase::{Direct, Frame, Limit, State, Trouble, Whole};
+use sc_symbol::{Kind, Symbol, TypeNames};
+use sc_tree::{Derivation, Enumerator, Parameter, Specifiers, TypeWord};
 use std::alloc::Global;
 
-fn at_assign(
-    op: Option<Binary>,
-    frames: &mut Stack<Frame>,
-    line: u32,
-    x: Shared<Expr>,
-    level: u8,
-) -> Result<State, Trouble>
-    ensures { Steps (spec.at_assign op frames.old line x level) result frames.new }
-{
-    if level < 15 {
-        return Err(Trouble::Syntax);
-    }
-    if needs(frames) > 2 {
-        return Err(Trouble::Syntax);
-    }
-    frames.push(Frame::Assign(line, op, x))?;
-    Ok(State::Need)
-}
-
-fn at_operator(
-    kind: Kind,
-    frames: &mut Stack<Frame>,
-    line: u32,
-    x: Shared<Expr>,
-) -> Result<State, Trouble>
-    ensures { Steps (spec.at_operator (binary_in kind) frames.old line x) result frames.new }
-{
-    match binary_of(kind) {
-        Some(op) => {
-            frames.push(Frame::Binary(line, op, x))?;
-            Ok(State::Need)
-        }
-        None => Err(Trouble::Syntax),
-    }
-}
-
-fn at_postfix(
+/// The token in this place; `typed` says whether it is the name of a type.
+fn place(
     alloc: Global,
-    kind: Kind,
-    frames: &Stack<Frame>,
-    line: u32,
-    x: Shared<Expr>,
+    typed: bool,
+    token: &Symbol,
+    frames: &mut Stack<Frame>,
+    state: State,
 ) -> Result<State, Trouble>
-    ensures { Steps (spec.at_postfix (postfix_in kind) frames.now line x) result frames.now }
+    requires { IsSymbol token.now }
+    ensures { Steps (spec.place typed token.now (frames.old, state)) result frames.new }
 {
-    match postfix_of(kind) {
-        Some(op) => {
-            let made = Shared::new(alloc, Expr::Postfix(line, op, x))?;
-            Ok(State::Have(line, made, 16))
+    match state {
+        State::Need => needed(alloc, typed, token, frames),
+        State::Opened(line) => opened(alloc, typed, token, frames, line),
+        State::Sized(line) => sized(alloc, typed, token, frames, line),
+        State::SizedOpened(line, paren) => sized_opened(alloc, typed, token, frames, line, paren),
+        State::Have(x) => have(alloc, token.kind, frames, x),
+        State::Texts(line, text) => texts(alloc, token, frames, line, text),
+        State::Dot(x) => dotted(alloc, token, x),
+        State::Arrow(x) => arrowed(alloc, token, x),
+        State::OffsetComma(line, of) => offset_comma(alloc, token, line, of),
+        State::OffsetName(line, of, name) => offset_name(alloc, token.kind, line, of, name),
+        State::Due => due(alloc, typed, token, frames),
+        State::Words(v) => words(alloc, typed, token, frames, v),
+        State::Void(line) => void(alloc, typed, token, frames, line),
+        State::Struct(v, line) => structure(alloc, token, frames, v, line),
+        State::StructTag(v, line, tag) => {
+            tagged_structure(alloc, typed, token, frames, v, line, tag)
         }
-        None => Err(Trouble::Syntax),
+        State::Enum(v, line) => enumeration(alloc, token, frames, v, line),
+        State::EnumTag(v, line, tag) => {
+            tagged_enumeration(alloc, typed, token, frames, v, line, tag)
+        }
+        State::Items => items(alloc, token, frames),
+        State::Item(name) => item(token.kind, frames, name),
+        State::Begin(mode) => begin(alloc, token, frames, mode),
+        State::Stars(mode, line, before) => stars(alloc, token, frames, line, mode, before),
+        State::Group(mode, line, before) => {
+            group(alloc, typed, token, frames, mode, line, before)
+        }
+        State::Direct(d) => suffixes(alloc, token.kind, frames, d),
+        State::Bracket(d) => bracket(alloc, typed, token, frames, d),
+        other => {
+            drop(other);
+            Err(Trouble::Syntax)
+        }
     }
 }
 
-fn pushed(frames: &mut Stack<Frame>, frame: Frame) -> Result<State, Trouble>
-    ensures { Steps (Some (frame ∷ frames.old, State.Need)) result frames.new }
+/// Whether a list of parameters begins at the token, which has a scope of its own.
+fn enters(typed: bool, kind: Kind, state: &State) -> bool
+    ensures { result ≡ spec.enters typed kind state.now }
 {
-    frames.push(frame)?;
-    Ok(State::Need)
+    match state {
+        State::Direct(_) => kind == Kind::LeftParen,
+        State::Group(mode, _, _) => opens_parameters(*mode, typed, kind),
+        _ => false,
+    }
 }
 
-/// A token that belongs to the operand before it.
-fn behind(
-    alloc: Global,
-    kind: Kind,
-    frames: &mut Stack<Frame>,
-    line: u32,
-    x: Shared<Expr>,
-) -> Result<State, Trouble>
-    ensures { Steps (spec.behind kind frames.old line x) result frames.new }
+/// A token that is left out is named where nothing goes on with it.
+fn marked(kind: Kind, trouble: Trouble) -> Trouble
+    ensures { result ≡ spec.mark_of kind trouble }
 {
     match kind {
-        Kind::LeftBracket => pushed(frames, Frame::Index(line, x)),
-        Kind::LeftParen => pushed(frames, Frame::Arguments(line, x, Items::new(alloc))),
-        Kind::Dot => Ok(State::Dot(line, x)),
-        Kind::Arrow => Ok(State::Arrow(line, x)),
-        other => at_postfix(alloc, other, frames, line, x),
+        Kind::LeftOut(mark) => match trouble {
+            Trouble::Syntax => Trouble::LeftOut(mark),
+            other => other,
+        },
+        _ => trouble,
     }
 }
 
-/// A token after what it closes.
-fn act(
-    alloc: Global,
-    kind: Kind,
+fn item_ended(
     frames: &mut Stack<Frame>,
+    v: Specifiers,
     line: u32,
-    x: Shared<Expr>,
-    level: u8,
+    tag: Option<sc_base::Name>,
+    mut items: Items<Enumerator>,
+    x: Enumerator,
+    closing: bool,
 ) -> Result<State, Trouble>
-    ensures { Steps (spec.act kind frames.old line x level) result frames.new }
+    ensures { Steps (spec.item_behind frames.old v line tag (items ++ x ∷ []) closing) result frames.new }
 {
-    match kind {
-        Kind::Assign(op) => at_assign(op, frames, line, x, level),
-        Kind::Question => pushed(frames, Frame::Then(line, x)),
-        Kind::Colon => close_then(frames, x),
-        Kind::Comma => at_comma(frames, line, x),
-        Kind::RightParen => close_paren(alloc, frames, x),
-        Kind::RightBracket => close_bracket(alloc, frames, x),
-        other => at_operator(other, frames, line, x),
+    items.push(x)?;
+    if closing {
+        let all = added(v, TypeWord::Enum(line, tag, items))?;
+        return Ok(State::Words(all));
     }
+    frames.push(Frame::Enum(v, line, tag, items))?;
+    Ok(State::Items)
 }
 
-/// A token behind an operand.
-#[tactic(auto, using(crate::proofs::Closing::powers))]
-fn have(
+/// The end of an item: its name is declared.
+fn item_ends(
     alloc: Global,
-    kind: Kind,
+    names: &mut TypeNames,
     frames: &mut Stack<Frame>,
-    line: u32,
-    x: Shared<Expr>,
-    level: u8,
+    x: Enumerator,
+    closing: bool,
 ) -> Result<State, Trouble>
-    ensures { Steps (spec.have kind frames.old line x level) result frames.new }
+    ensures { Moves (spec.item_ends names.old frames.old x closing) result names.new frames.new }
 {
-    let power = power_of(kind);
-    if power > 15 {
-        return behind(alloc, kind, frames, line, x);
-    }
-    let (line, x, level) = settle(alloc, power, frames, line, x, level)?;
-    act(alloc, kind, frames, line, x, level)
-}
-
-fn empty_call(alloc: Global, frames: &mut Stack<Frame>) -> Result<State, Trouble>
-    ensures { Steps (spec.empty_call frames.old) result frames.new }
-{
+    let name = x.name.copy(alloc)?;
+    names.add(alloc, name, false)?;
     match frames.pop() {
-        Some(Frame::Arguments(line, callee, args)) => called_empty(alloc, line, callee, args),
+        Some(Frame::Enum(v, line, tag, items)) => {
+            item_ended(frames, v, line, tag, items, x, closing)
+        }
         Some(other) => {
             drop(other);
             Err(Trouble::Syntax)
@@ -150,266 +136,181 @@ fn empty_call(alloc: Global, frames: &mut Stack<Frame>) -> Result<State, Trouble
     }
 }
 
-fn called_empty(
+/// The end of parameters: their scope is left.
+fn parameters_end(
     alloc: Global,
-    line: u32,
-    callee: Shared<Expr>,
-    args: Items<Shared<Expr>>,
+    names: &mut TypeNames,
+    d: Direct,
+    step: Derivation,
 ) -> Result<State, Trouble>
-    ensures { CalledEmpty line callee args result }
+    ensures { (fs : List Frame) → Moves (spec.parameters_end names.old fs d step) result names.new fs }
 {
-    if !args.is_empty() {
-        return Err(Trouble::Syntax);
-    }
-    let call = Shared::new(alloc, Expr::Call(line, callee, args))?;
-    Ok(State::Have(line, call, 16))
+    let scope = names.pop_scope(alloc);
+    let direct = with_step(d, step, scope)?;
+    Ok(State::Direct(direct))
 }
 
-fn at_unary(kind: Kind, line: u32, frames: &mut Stack<Frame>) -> Result<State, Trouble>
-    ensures { Steps (spec.at_unary (unary_in kind) line frames.old) result frames.new }
+/// The name of the declarator is declared.
+fn declared(alloc: Global, names: &mut TypeNames, whole: &Option<Whole>) -> Result<(), NoMemory>
+    ensures { OnOk result (names.new ≡ declare_in whole.now names.old) }
 {
-    match unary_of(kind) {
-        Some(op) => {
-            frames.push(Frame::Unary(line, op))?;
-            Ok(State::Need)
+    match whole {
+        Some(Whole { line: _, direct }) => match &direct.identifier {
+            Some(identifier) => {
+                let name = identifier.name.copy(alloc)?;
+                names.add(alloc, name, false)
+            }
+            None => Ok(()),
+        },
+        None => Ok(()),
+    }
+}
+
+fn parameter_ended(
+    alloc: Global,
+    names: &mut TypeNames,
+    frames: &mut Stack<Frame>,
+    d: Direct,
+    mut ps: Items<Parameter>,
+    p: Parameter,
+    closing: bool,
+) -> Result<State, Trouble>
+    ensures { Moves (spec.parameter_behind names.old frames.old d (ps ++ p ∷ []) closing) result names.new frames.new }
+{
+    ps.push(p)?;
+    if closing {
+        return parameters_end(alloc, names, d, Derivation::Prototype(ps));
+    }
+    frames.push(Frame::Parameters(d, ps))?;
+    Ok(State::Due)
+}
+
+/// The end of a parameter: its name is declared.
+fn parameter_ends(
+    alloc: Global,
+    names: &mut TypeNames,
+    frames: &mut Stack<Frame>,
+    v: Specifiers,
+    x: Option<Whole>,
+    closing: bool,
+) -> Result<State, Trouble>
+    ensures { Moves (spec.parameter_ends names.old frames.old v x closing) result names.new frames.new }
+{
+    declared(alloc, names, &x)?;
+    let p = Parameter {
+        line: v.line,
+        specifiers: v,
+        declarator: possible_declarator(x),
+    };
+    match frames.pop() {
+        Some(Frame::Parameters(d, ps)) => {
+            if ps.len() >= 31 {
+                return Err(Trouble::Limit(Limit::Arguments));
+            }
+            parameter_ended(alloc, names, frames, d, ps, p, closing)
+        }
+        Some(other) => {
+            drop(other);
+            Err(Trouble::Syntax)
         }
         None => Err(Trouble::Syntax),
     }
 }
 
-fn named(alloc: Global, token: &Symbol) -> Result<State, Trouble>
-    requires some { 0 < length token.now.text }
-    requires few { length token.now.text ≤ 255 }
-    ensures made { IfOk result (λ state. state ≡ State.Have token.now.line (Expr.Name token.now.line token.now.text) 17) }
-    ensures err { IsOkUnless result Trouble.NoMemory }
-{
-    let name = name_of(alloc, &token.text)?;
-    let made = Shared::new(alloc, Expr::Name(token.line, name))?;
-    Ok(State::Have(token.line, made, 17))
-}
-
-fn constant(alloc: Global, line: u32, value: Option<Constant>) -> Result<State, Trouble>
-    ensures made { IfOk result (λ state. state ≡ State.Have line (Expr.Constant line value) 17) }
-    ensures err { IsOkUnless result Trouble.NoMemory }
-{
-    let made = Shared::new(alloc, Expr::Constant(line, value))?;
-    Ok(State::Have(line, made, 17))
-}
-
-/// The bytes of strings side by side.
-fn joined(
+fn all_parameters_end(
     alloc: Global,
-    text: Option<Bytes>,
-    fits: bool,
-    more: &Bytes,
-) -> Result<Option<Bytes>, NoMemory>
-    ensures { IfOk result (λ both. both ≡ text_with text fits more.now) }
+    names: &mut TypeNames,
+    frames: &mut Stack<Frame>,
+    step: Derivation,
+) -> Result<State, Trouble>
+    ensures { Moves (spec.all_parameters_end names.old frames.old step) result names.new frames.new }
 {
-    match text {
-        None => Ok(None),
-        Some(bytes) => {
-            if fits {
-                Ok(Some(appended(bytes, more)?))
-            } else {
-                Ok(None)
-            }
+    match frames.pop() {
+        Some(Frame::Parameters(d, ps)) => {
+            drop(ps);
+            parameters_end(alloc, names, d, step)
         }
+        Some(other) => {
+            drop(other);
+            Err(Trouble::Syntax)
+        }
+        None => Err(Trouble::Syntax),
     }
 }
 
-fn appended(bytes: Bytes, more: &Bytes) -> Result<Bytes, NoMemory>
-    ensures { IfOk result (λ both. both ≡ bytes ++ more.now) }
+/// What the token declares or ends comes into effect.
+fn effect(
+    alloc: Global,
+    names: &mut TypeNames,
+    frames: &mut Stack<Frame>,
+    state: State,
+) -> Result<State, Trouble>
+    ensures { Moves (spec.effect names.old (frames.old, state)) result names.new frames.new }
 {
-    let mut all = bytes.into_vec();
-    all.extend_from_slice(more.as_slice())?;
-    Ok(Bytes::from_vec(all))
+    match state {
+        State::ItemEnd(x, closing) => item_ends(alloc, names, frames, x, closing),
+        State::ParameterEnd(v, x, closing) => parameter_ends(alloc, names, frames, v, x, closing),
+        State::ParametersEnd(step) => all_parameters_end(alloc, names, frames, step),
+        other => Ok(other),
+    }
 }
 
-/// A token where an operand is due.
-fn need(
-    alloc: Global,
-    names: &Items<Name>,
-    token: &Symbol,
-    frames: &mut Stack<Frame>,
-) -> Result<State, Trouble>
-    requires { IsSymbol token.now }
-    ensures { Steps (spec.need names.now token.now frames.old token.now.kind) result frames.new }
+/// Whether the token is the name of a type.
+fn is_typed(names: &TypeNames, token: &Symbol) -> bool
+    ensures { result ≡ typed_in names.now token.now }
 {
     match token.kind {
-        Kind::Name => {
-            if names_type(names, &token.text) {
-                Err(Trouble::Syntax)
-            } else {
-                named(alloc, token)
-            }
-        }
-        Kind::Constant(value) => constant(alloc, token.line, value),
-        Kind::Text(fits) => {
-            let empty = Bytes::from_vec(Vec::new(alloc));
-            let text = joined(alloc, Some(empty), fits, &token.text)?;
-            Ok(State::Texts(token.line, text))
-        }
-        Kind::LeftParen => Ok(State::Opened(token.line)),
-        Kind::RightParen => empty_call(alloc, frames),
-        Kind::Sizeof => Ok(State::Sized(token.line)),
-        other => at_unary(other, token.line, frames),
+        Kind::Name => names.is_type(&token.text),
+        _ => false,
     }
 }
 
-/// A token behind `(` where an operand is due.
-fn opened(
+fn entering(alloc: Global, names: &mut TypeNames, enters: bool) -> Result<(), NoMemory>
+    ensures { OnOk result (names.new ≡ spec.entered enters names.old) }
+{
+    if enters {
+        names.push_scope(alloc)?;
+    }
+    Ok(())
+}
+
+/// The token in this place, named where it is left out.
+#[tactic(auto, using(crate::proofs::Others::marks, crate::proofs::Others::marks_ok))]
+fn marked_place(
     alloc: Global,
-    names: &Items<Name>,
-    token: &Symbol,
-    frames: &mut Stack<Frame>,
-    line: u32,
-) -> Result<State, Trouble>
-    requires { IsSymbol token.now }
-    ensures { Steps (spec.opened names.now token.now frames.old line) result frames.new }
-{
-    if begins_type(names, token) {
-        frames.push(Frame::CastType(line))?;
-        return first_word(alloc, names, token, frames);
-    }
-    frames.push(Frame::Paren(line))?;
-    need(alloc, names, token, frames)
-}
-
-fn first_word(
-    alloc: Global,
-    names: &Items<Name>,
-    token: &Symbol,
-    frames: &mut Stack<Frame>,
-) -> Result<State, Trouble>
-    requires { IsSymbol token.now }
-    ensures { Steps (spec.words names.now token.now frames.old (no_words token.now.line) token.now.kind) result frames.new }
-{
-    let specifiers = Specifiers {
-        line: token.line,
-        storage: None,
-        constant: false,
-        words: Items::new(alloc),
-    };
-    words(alloc, names, token, frames, specifiers)
-}
-
-/// A token behind `sizeof`.
-fn sized(
-    alloc: Global,
-    names: &Items<Name>,
-    token: &Symbol,
-    frames: &mut Stack<Frame>,
-    line: u32,
-) -> Result<State, Trouble>
-    requires { IsSymbol token.now }
-    ensures { Steps (spec.sized names.now token.now frames.old line token.now.kind) result frames.new }
-{
-    match token.kind {
-        Kind::LeftParen => Ok(State::SizedOpened(line, token.line)),
-        _ => {
-            frames.push(Frame::SizeOf(line))?;
-            need(alloc, names, token, frames)
-        }
-    }
-}
-
-/// A token behind `sizeof (`.
-fn sized_opened(
-    alloc: Global,
-    names: &Items<Name>,
-    token: &Symbol,
-    frames: &mut Stack<Frame>,
-    line: u32,
-    paren: u32,
-) -> Result<State, Trouble>
-    requires { IsSymbol token.now }
-    ensures { Steps (spec.sized_opened names.now token.now frames.old line paren) result frames.new }
-{
-    if begins_type(names, token) {
-        frames.push(Frame::SizeType(line))?;
-        return first_word(alloc, names, token, frames);
-    }
-    frames.push(Frame::SizeOf(line))?;
-    frames.push(Frame::Paren(paren))?;
-    need(alloc, names, token, frames)
-}
-
-/// A token behind strings.
-fn texts(
-    alloc: Global,
-    token: &Symbol,
-    frames: &mut Stack<Frame>,
-    line: u32,
-    text: Option<Bytes>,
-) -> Result<State, Trouble>
-    ensures { Steps (spec.texts token.now frames.old line text token.now.kind) result frames.new }
-{
-    match token.kind {
-        Kind::Text(fits) => {
-            let all = joined(alloc, text, fits, &token.text)?;
-            Ok(State::Texts(line, all))
-        }
-        other => {
-            let made = Shared::new(alloc, Expr::String(line, text))?;
-            have(alloc, other, frames, line, made, 17)
-        }
-    }
-}
-
-fn dotted(alloc: Global, token: &Symbol, line: u32, x: Shared<Expr>) -> Result<State, Trouble>
-    requires { IsSymbol token.now }
-    ensures { (fs : List Frame) → Steps (spec.dotted fs line x token.now.text token.now.kind) result fs }
-{
-    match token.kind {
-        Kind::Name => {
-            let name = name_of(alloc, &token.text)?;
-            let made = Shared::new(alloc, Expr::Member(line, x, name))?;
-            Ok(State::Have(line, made, 16))
-        }
-        _ => Err(Trouble::Syntax),
-    }
-}
-
-fn arrowed(alloc: Global, token: &Symbol, line: u32, x: Shared<Expr>) -> Result<State, Trouble>
-    requires { IsSymbol token.now }
-    ensures { (fs : List Frame) → Steps (spec.arrowed fs line x token.now.text token.now.kind) result fs }
-{
-    match token.kind {
-        Kind::Name => {
-            let name = name_of(alloc, &token.text)?;
-            let made = Shared::new(alloc, Expr::Arrow(line, x, name))?;
-            Ok(State::Have(line, made, 16))
-        }
-        _ => Err(Trouble::Syntax),
-    }
-}
-
-/// Takes the next token: the state behind it, or `Syntax` where the machine stops. `names` are the names of types that
-/// are visible. A token of the kind `Name` has 1 to 255 bytes.
-pub fn step(
-    alloc: Global,
-    names: &Items<Name>,
+    typed: bool,
     token: &Symbol,
     frames: &mut Stack<Frame>,
     state: State,
 ) -> Result<State, Trouble>
     requires { IsSymbol token.now }
-    ensures { Steps (spec.step names.now token.now (frames.old, state)) result frames.new }
+    ensures { Steps (spec.marked token.now.kind (spec.place typed token.now (frames.old, state))) result frames.new }
 {
-    match state {
-        State::Need => need(alloc, names, token, frames),
-        State::Opened(line) => opened(alloc, names, token, frames, line),
-        State::Sized(line) => sized(alloc, names, token, frames, line),
-        State::SizedOpened(line, paren) => sized_opened(alloc, names, token, frames, line, paren),
-        State::Have(line, x, level) => have(alloc, token.kind, frames, line, x, level),
-        State::Texts(line, text) => texts(alloc, token, frames, line, text),
-        State::Dot(line, x) => dotted(alloc, token, line, x),
-        State::Arrow(line, x) => arrowed(alloc, token, line, x),
-        State::Words(specifiers) => words(alloc, names, token, frames, specifiers),
-        State::Struct(specifiers, line) => struct_tag(alloc, token, specifiers, line),
-        State::Enum(specifiers, line) => enum_tag(alloc, token, specifiers, line),
-        State::Pointers(specifiers, line, earlier, last) => {
-            pointers(alloc, token.kind, frames, specifiers, line, earlier, last)
-        }
+    match place(alloc, typed, token, frames, state) {
+        Ok(next) => Ok(next),
+        Err(trouble) => Err(marked(token.kind, trouble)),
+    }
+}
+
+/// Takes the next token: the state behind it, or why nothing goes on with it. Where an expression, specifiers or a
+/// declarator end before the token, the state says so, and the token is not taken. A token of the kind `Name` has 1 to
+/// 255 bytes. What a refusal or want of memory leaves in `names` and `frames` is of no use.
+#[tactic(auto, using(crate::proofs::Others::step_ok, crate::proofs::Others::step_err))]
+pub fn step(
+    alloc: Global,
+    names: &mut TypeNames,
+    token: &Symbol,
+    frames: &mut Stack<Frame>,
+    state: State,
+) -> Result<State, Trouble>
+    requires { IsSymbol token.now }
+    ensures { Moves (spec.step token.now (names.old, (frames.old, state))) result names.new frames.new }
+{
+    let typed = is_typed(names, token);
+    let enters = enters(typed, token.kind, &state);
+    entering(alloc, names, enters)?;
+    match marked_place(alloc, typed, token, frames, state) {
+        Ok(next) => effect(alloc, names, frames, next),
+        Err(trouble) => Err(trouble),
     }
 }

@@ -1,78 +1,79 @@
-// The words of a type name.
-ghost use Rattle.std.specs.Prelude.{◌≡◌, ◌<◌, ◌≤◌, List, [], ◌∷◌, ◌++◌, Some, false, length, map, IfOk, IsOkUnless};
-ghost use Rattle.sc_parse_expr.specs.Machine as spec;
-ghost use Rattle.sc_parse_expr.specs.Grammar.{is_type, with_word, with_const, type_of, abstract_of};
-ghost use Rattle.sc_parse_expr.specs.Kinds.{word_of as word_in};
-ghost use Rattle.sc_parse_expr.specs.Steps.{Steps, IsSymbol};
+// The words of specifiers, and what ends with them.
+ghost use Rattle.std.specs.Prelude.{◌≡◌, ◌<◌, ◌≤◌, List, [], ◌∷◌, ◌++◌, Some, None, Ok, false, if◌then◌else◌, length, IfOk};
+ghost use Rattle.sc_phrase.specs.Machine as spec;
+ghost use Rattle.sc_phrase.specs.Types.{has_words, no_words as no_words_at, with_word, with_const, with_storage, type_of, declarator_of as declarator_at, declarator_in};
+ghost use Rattle.sc_phrase.specs.Kinds.{word_of as word_in};
+ghost use Rattle.sc_phrase.specs.Steps.{Steps, IsSymbol, IsNamed};
 
-use crate::classes::word_of;
-use crate::close::needs;
-use crate::frame::{Frame, State};
-use crate::kind::{Kind, Symbol};
-use crate::trouble::Trouble;
-use sc_base::{Bytes, Items, Name, NoMemory, Shared, Stack};
-use sc_tree::{Declarator, Derivation, Expr, Specifiers, TypeName, TypeWord};
+use crate::declarator::begin;
+use sc_base::{Items, Name, NoMemory, Shared, Stack};
+use sc_phrase::classes::word_of;
+use sc_phrase::close::needs;
+use sc_phrase::nodes::{name_of, size_type_node};
+use sc_phrase::parts::{added, constant, no_words, stored, type_name};
+use sc_phrase::{Direct, Frame, Mode, State, Trouble, Whole};
+use sc_symbol::{Kind, Mark, Symbol};
+use sc_tree::{Declarator, Derivation, Member, Parameter, Specifiers, Storage, TypeName, TypeWord};
 use std::alloc::Global;
 
-/// The bytes as a name.
-pub fn name_of(alloc: Global, text: &Bytes) -> Result<Name, NoMemory>
-    requires some { 0 < length text.now }
-    requires few { length text.now ≤ 255 }
-    ensures { IfOk result (λ name. name ≡ text.now) }
+fn cast(
+    alloc: Global,
+    frames: &mut Stack<Frame>,
+    line: u32,
+    v: Specifiers,
+    x: Option<Whole>,
+) -> Result<State, Trouble>
+    ensures { Steps (spec.finish Kind.RightParen (Frame.CastType line ∷ frames.old) v x) result frames.new }
 {
-    match Name::new(alloc, text.as_slice()) {
-        Ok(name) => Ok(name),
-        Err(_) => Err(NoMemory),
+    if needs(frames) > 14 {
+        return Err(Trouble::Syntax);
     }
+    let of = type_name(alloc, v, x)?;
+    frames.push(Frame::Cast(line, of))?;
+    Ok(State::Need)
 }
 
-/// Whether a type has this name.
-pub fn names_type(names: &Items<Name>, text: &Bytes) -> bool
-    ensures { result ≡ is_type names.now text.now }
+fn sized_type(alloc: Global, line: u32, v: Specifiers, x: Option<Whole>) -> Result<State, Trouble>
+    ensures { (fs : List Frame) → Steps (spec.finish Kind.RightParen (Frame.SizeType line ∷ fs) v x) result fs }
 {
-    names
-        .as_slice()
-        .iter()
-        .any(|n| n.as_slice() == text.as_slice())
+    let of = type_name(alloc, v, x)?;
+    let made = size_type_node(alloc, line, of)?;
+    Ok(State::Have(made))
 }
 
-/// Whether a type name begins with the token.
-pub fn begins_type(names: &Items<Name>, token: &Symbol) -> bool
-    ensures { result ≡ spec.begins_type names.now token.now.text token.now.kind }
+fn offset_in(alloc: Global, line: u32, v: Specifiers, x: Option<Whole>) -> Result<State, Trouble>
+    ensures { (fs : List Frame) → Steps (spec.finish Kind.Comma (Frame.OffsetType line ∷ fs) v x) result fs }
 {
-    match token.kind {
-        Kind::Name => names_type(names, &token.text),
-        Kind::Void | Kind::Char | Kind::Short | Kind::Int | Kind::Long => true,
-        Kind::Signed | Kind::Unsigned | Kind::Const | Kind::Struct | Kind::Enum => true,
-        _ => false,
-    }
+    let of = type_name(alloc, v, x)?;
+    Ok(State::OffsetComma(line, of))
 }
 
-fn added(specifiers: Specifiers, word: TypeWord) -> Result<Specifiers, NoMemory>
-    ensures { IfOk result (λ s. s ≡ with_word specifiers word) }
+fn parameter_ended(
+    frames: &mut Stack<Frame>,
+    d: Direct,
+    ps: Items<Parameter>,
+    state: State,
+) -> Result<State, Trouble>
+    ensures { Steps (Ok (Frame.Parameters d ps ∷ frames.old, state)) result frames.new }
 {
-    let Specifiers {
-        line,
-        storage,
-        constant,
-        mut words,
-    } = specifiers;
-    words.push(word)?;
-    Ok(Specifiers {
-        line,
-        storage,
-        constant,
-        words,
-    })
+    frames.push(Frame::Parameters(d, ps))?;
+    Ok(state)
 }
 
-/// The end of a type name.
-fn typed(alloc: Global, frames: &mut Stack<Frame>, of: TypeName) -> Result<State, Trouble>
-    ensures { Steps (spec.typed frames.old of) result frames.new }
+fn finish_paren(
+    alloc: Global,
+    frames: &mut Stack<Frame>,
+    v: Specifiers,
+    x: Option<Whole>,
+) -> Result<State, Trouble>
+    ensures { Steps (spec.finish Kind.RightParen frames.old v x) result frames.new }
 {
     match frames.pop() {
-        Some(Frame::CastType(line)) => cast(alloc, frames, line, of),
-        Some(Frame::SizeType(line)) => sized(alloc, line, of),
+        Some(Frame::CastType(line)) => cast(alloc, frames, line, v, x),
+        Some(Frame::SizeType(line)) => sized_type(alloc, line, v, x),
+        Some(Frame::Parameters(d, ps)) => {
+            parameter_ended(frames, d, ps, State::ParameterEnd(v, x, true))
+        }
         Some(other) => {
             drop(other);
             Err(Trouble::Syntax)
@@ -81,33 +82,111 @@ fn typed(alloc: Global, frames: &mut Stack<Frame>, of: TypeName) -> Result<State
     }
 }
 
-fn cast(alloc: Global, frames: &mut Stack<Frame>, line: u32, of: TypeName) -> Result<State, Trouble>
-    ensures { Steps (spec.typed (Frame.CastType line ∷ frames.old) of) result frames.new }
+fn finish_comma(
+    alloc: Global,
+    frames: &mut Stack<Frame>,
+    v: Specifiers,
+    x: Option<Whole>,
+) -> Result<State, Trouble>
+    ensures { Steps (spec.finish Kind.Comma frames.old v x) result frames.new }
 {
-    if needs(frames) > 14 {
-        return Err(Trouble::Syntax);
+    match frames.pop() {
+        Some(Frame::OffsetType(line)) => offset_in(alloc, line, v, x),
+        Some(Frame::Parameters(d, ps)) => {
+            parameter_ended(frames, d, ps, State::ParameterEnd(v, x, false))
+        }
+        Some(other) => {
+            drop(other);
+            Err(Trouble::Syntax)
+        }
+        None => Err(Trouble::Syntax),
     }
-    frames.push(Frame::Cast(line, Shared::new(alloc, of)?))?;
-    Ok(State::Need)
 }
 
-fn sized(alloc: Global, line: u32, of: TypeName) -> Result<State, Trouble>
-    ensures made { IfOk result (λ state. state ≡ State.Have line (Expr.SizeOfType line of) 15) }
-    ensures err { IsOkUnless result Trouble.NoMemory }
+/// A token behind the specifiers, or the declarator, of a type name or a parameter.
+pub fn finish(
+    alloc: Global,
+    kind: Kind,
+    frames: &mut Stack<Frame>,
+    v: Specifiers,
+    x: Option<Whole>,
+) -> Result<State, Trouble>
+    ensures { Steps (spec.finish kind frames.old v x) result frames.new }
 {
-    let of = Shared::new(alloc, of)?;
-    let made = Shared::new(alloc, Expr::SizeOfType(line, of))?;
-    Ok(State::Have(line, made, 15))
+    match kind {
+        Kind::RightParen => finish_paren(alloc, frames, v, x),
+        Kind::Comma => finish_comma(alloc, frames, v, x),
+        _ => {
+            drop(v);
+            drop(x);
+            Err(Trouble::Syntax)
+        }
+    }
 }
 
-fn type_name(specifiers: Specifiers, declarator: Option<Declarator>) -> TypeName
-    ensures { result ≡ type_of specifiers declarator }
+/// A token behind the specifiers of a declaration.
+fn outer_specified(kind: Kind, v: Specifiers) -> Result<State, Trouble>
+    ensures { (fs : List Frame) → Steps (spec.outer_specified kind fs v) result fs }
 {
-    TypeName {
-        line: specifiers.line,
-        specifiers,
-        declarator,
+    match kind {
+        Kind::Semicolon | Kind::Star | Kind::LeftParen | Kind::Name => Ok(State::Specified(v)),
+        _ => {
+            drop(v);
+            Err(Trouble::Syntax)
+        }
     }
+}
+
+/// A token behind the specifiers of a type name or parameter.
+#[tactic(auto, using(crate::proofs::Others::inner_else))]
+fn inner_specified(
+    alloc: Global,
+    token: &Symbol,
+    frames: &mut Stack<Frame>,
+    v: Specifiers,
+    mode: Mode,
+) -> Result<State, Trouble>
+    requires { IsSymbol token.now }
+    ensures { Steps (spec.inner_specified token.now token.now.kind frames.old v mode) result frames.new }
+{
+    match token.kind {
+        Kind::RightParen => finish_paren(alloc, frames, v, None),
+        Kind::Comma => finish_comma(alloc, frames, v, None),
+        _ => {
+            frames.push(Frame::Specifiers(v))?;
+            begin(alloc, token, frames, mode)
+        }
+    }
+}
+
+fn member_specified(
+    alloc: Global,
+    token: &Symbol,
+    frames: &mut Stack<Frame>,
+    outside: Frame,
+    v: Specifiers,
+) -> Result<State, Trouble>
+    requires { IsSymbol token.now }
+    ensures { Steps (spec.begin token.now token.now.kind (Frame.Member v [] ∷ outside ∷ frames.old) Mode.Named) result frames.new }
+{
+    frames.push(outside)?;
+    frames.push(Frame::Member(v, Items::new(alloc)))?;
+    begin(alloc, token, frames, Mode::Named)
+}
+
+fn again_specified(
+    alloc: Global,
+    token: &Symbol,
+    frames: &mut Stack<Frame>,
+    outside: Frame,
+    v: Specifiers,
+    mode: Mode,
+) -> Result<State, Trouble>
+    requires { IsSymbol token.now }
+    ensures { Steps (spec.inner_specified token.now token.now.kind (outside ∷ frames.old) v mode) result frames.new }
+{
+    frames.push(outside)?;
+    inner_specified(alloc, token, frames, v, mode)
 }
 
 /// A token behind at least one type word.
@@ -115,203 +194,224 @@ fn specified(
     alloc: Global,
     token: &Symbol,
     frames: &mut Stack<Frame>,
-    specifiers: Specifiers,
+    v: Specifiers,
 ) -> Result<State, Trouble>
-    ensures { Steps (spec.specified token.now frames.old specifiers token.now.kind) result frames.new }
+    requires { IsSymbol token.now }
+    ensures { Steps (spec.specified token.now frames.old v) result frames.new }
 {
-    match token.kind {
-        Kind::Star => Ok(State::Pointers(specifiers, token.line, Stack::new(alloc), false)),
-        Kind::RightParen => typed(alloc, frames, type_name(specifiers, None)),
-        _ => {
-            drop(specifiers);
+    match frames.pop() {
+        Some(Frame::Outer) => outer_specified(token.kind, v),
+        Some(Frame::Struct(w, line, tag, members)) => {
+            let outside = Frame::Struct(w, line, tag, members);
+            member_specified(alloc, token, frames, outside, v)
+        }
+        Some(Frame::Parameters(d, ps)) => {
+            let outside = Frame::Parameters(d, ps);
+            again_specified(alloc, token, frames, outside, v, Mode::Either)
+        }
+        Some(other) => again_specified(alloc, token, frames, other, v, Mode::Abstract),
+        None => inner_specified(alloc, token, frames, v, Mode::Abstract),
+    }
+}
+
+/// A token with which a declaration without a type word goes on.
+fn goes_on(kind: Kind) -> Result<State, Trouble>
+    ensures { (fs : List Frame) → Steps (spec.goes_on kind) result fs }
+{
+    match kind {
+        Kind::Name | Kind::Star | Kind::LeftParen => Err(Trouble::LeftOut(Mark::ImplicitInt)),
+        Kind::RightParen | Kind::Semicolon | Kind::Comma => {
+            Err(Trouble::LeftOut(Mark::ImplicitInt))
+        }
+        _ => Err(Trouble::Syntax),
+    }
+}
+
+fn first_name(frames: &Stack<Frame>, d: Direct, ps: Items<Parameter>) -> Result<State, Trouble>
+    ensures { Steps (spec.plain_name (Frame.Parameters d ps ∷ frames.now)) result frames.now }
+{
+    drop(d);
+    if ps.is_empty() {
+        return Err(Trouble::LeftOut(Mark::OldStyle));
+    }
+    Err(Trouble::LeftOut(Mark::ImplicitInt))
+}
+
+/// A plain name where specifiers are due.
+fn plain_name(frames: &mut Stack<Frame>) -> Result<State, Trouble>
+    ensures { Steps (spec.plain_name frames.old) result frames.new }
+{
+    match frames.pop() {
+        Some(Frame::Outer) => Err(Trouble::LeftOut(Mark::ImplicitInt)),
+        Some(Frame::Parameters(d, ps)) => first_name(frames, d, ps),
+        Some(other) => {
+            drop(other);
             Err(Trouble::Syntax)
         }
+        None => Err(Trouble::Syntax),
     }
+}
+
+fn nothing_yet(kind: Kind, frames: &mut Stack<Frame>) -> Result<State, Trouble>
+    ensures { Steps (spec.nothing_yet kind frames.old) result frames.new }
+{
+    match kind {
+        Kind::Name => plain_name(frames),
+        _ => Err(Trouble::Syntax),
+    }
+}
+
+/// No type word and no storage class stand before the token.
+fn unstored(kind: Kind, frames: &mut Stack<Frame>, constant: bool) -> Result<State, Trouble>
+    ensures { Steps (if constant then spec.goes_on kind else spec.nothing_yet kind frames.old) result frames.new }
+{
+    if constant {
+        return goes_on(kind);
+    }
+    nothing_yet(kind, frames)
+}
+
+/// No type word stands before the token.
+fn wordless(
+    kind: Kind,
+    frames: &mut Stack<Frame>,
+    storage: Option<Storage>,
+    v: Specifiers,
+) -> Result<State, Trouble>
+    ensures { Steps (spec.wordless kind frames.old v storage) result frames.new }
+{
+    match storage {
+        Some(_) => goes_on(kind),
+        None => unstored(kind, frames, v.constant),
+    }
+}
+
+/// Whether a type word is among the specifiers.
+fn some_words(words: &Items<TypeWord>) -> bool
+    ensures { result ≡ has_words words.now }
+{
+    !words.is_empty()
+}
+
+fn worded(
+    alloc: Global,
+    token: &Symbol,
+    frames: &mut Stack<Frame>,
+    v: Specifiers,
+) -> Result<State, Trouble>
+    requires { IsSymbol token.now }
+    ensures { Steps (spec.worded token.now frames.old v) result frames.new }
+{
+    if some_words(&v.words) {
+        return specified(alloc, token, frames, v);
+    }
+    wordless(token.kind, frames, v.storage, v)
 }
 
 fn at_word(
     alloc: Global,
     token: &Symbol,
     frames: &mut Stack<Frame>,
-    specifiers: Specifiers,
+    v: Specifiers,
 ) -> Result<State, Trouble>
-    ensures { Steps (spec.at_word (word_in token.now.kind) token.now frames.old specifiers) result frames.new }
+    requires { IsSymbol token.now }
+    ensures { Steps (spec.at_word (word_in token.now.kind) token.now frames.old v) result frames.new }
 {
     match word_of(token.kind) {
-        Some(word) => Ok(State::Words(added(specifiers, word)?)),
-        None => {
-            if specifiers.words.is_empty() {
-                drop(specifiers);
-                Err(Trouble::Syntax)
-            } else {
-                specified(alloc, token, frames, specifiers)
-            }
-        }
+        Some(word) => Ok(State::Words(added(v, word)?)),
+        None => worded(alloc, token, frames, v),
     }
 }
 
-fn typedef(
-    alloc: Global,
-    names: &Items<Name>,
-    token: &Symbol,
-    specifiers: Specifiers,
+fn storage_word(
+    frames: &mut Stack<Frame>,
+    outside: Frame,
+    class: Storage,
+    v: Specifiers,
 ) -> Result<State, Trouble>
-    requires some { 0 < length token.now.text }
-    requires few { length token.now.text ≤ 255 }
-    ensures { (fs : List Frame) → Steps (spec.words names.now token.now fs specifiers Kind.Name) result fs }
+    ensures { Steps (Ok (outside ∷ frames.old, State.Words (with_storage v class))) result frames.new }
 {
-    if !specifiers.words.is_empty() {
-        return Err(Trouble::Syntax);
-    }
-    if !names_type(names, &token.text) {
-        return Err(Trouble::Syntax);
-    }
-    let name = name_of(alloc, &token.text)?;
-    Ok(State::Words(added(specifiers, TypeWord::Typedef(token.line, name))?))
+    frames.push(outside)?;
+    Ok(State::Words(stored(v, class)))
 }
 
-fn constant(specifiers: Specifiers) -> Specifiers
-    ensures { result ≡ with_const specifiers }
+/// A storage class, which only declarations and parameters have.
+fn at_storage(frames: &mut Stack<Frame>, class: Storage, v: Specifiers) -> Result<State, Trouble>
+    ensures { Steps (spec.at_storage class frames.old v v.storage) result frames.new }
 {
-    let mut all = specifiers;
-    all.constant = true;
-    all
+    if v.storage.is_some() {
+        return Err(Trouble::Syntax);
+    }
+    match frames.pop() {
+        Some(Frame::Outer) => storage_word(frames, Frame::Outer, class, v),
+        Some(Frame::Parameters(d, ps)) => {
+            storage_word(frames, Frame::Parameters(d, ps), class, v)
+        }
+        Some(other) => {
+            drop(other);
+            Err(Trouble::Syntax)
+        }
+        None => Err(Trouble::Syntax),
+    }
+}
+
+fn typedef(alloc: Global, token: &Symbol, v: Specifiers) -> Result<State, Trouble>
+    requires { IsNamed token.now.text }
+    ensures { (fs : List Frame) → Steps (Ok (fs, State.Words (with_word v (TypeWord.Typedef token.now.line token.now.text)))) result fs }
+{
+    let name = name_of(alloc, &token.text)?;
+    let all = added(v, TypeWord::Typedef(token.line, name))?;
+    Ok(State::Words(all))
+}
+
+/// A name among specifiers.
+fn at_name(
+    alloc: Global,
+    typed: bool,
+    token: &Symbol,
+    frames: &mut Stack<Frame>,
+    v: Specifiers,
+) -> Result<State, Trouble>
+    requires named { IsNamed token.now.text }
+    requires symbol { IsSymbol token.now }
+    ensures { Steps (spec.at_name typed token.now frames.old v) result frames.new }
+{
+    if typed && v.words.is_empty() {
+        return typedef(alloc, token, v);
+    }
+    worded(alloc, token, frames, v)
 }
 
 /// A token among the words of specifiers.
 pub fn words(
     alloc: Global,
-    names: &Items<Name>,
+    typed: bool,
     token: &Symbol,
     frames: &mut Stack<Frame>,
-    specifiers: Specifiers,
+    v: Specifiers,
 ) -> Result<State, Trouble>
     requires { IsSymbol token.now }
-    ensures { Steps (spec.words names.now token.now frames.old specifiers token.now.kind) result frames.new }
+    ensures { Steps (spec.words typed token.now frames.old v token.now.kind) result frames.new }
 {
     match token.kind {
-        Kind::Const => Ok(State::Words(constant(specifiers))),
-        Kind::Struct => Ok(State::Struct(specifiers, token.line)),
-        Kind::Enum => Ok(State::Enum(specifiers, token.line)),
-        Kind::Name => typedef(alloc, names, token, specifiers),
-        _ => at_word(alloc, token, frames, specifiers),
+        Kind::Const => Ok(State::Words(constant(v))),
+        Kind::Struct => Ok(State::Struct(v, token.line)),
+        Kind::Enum => Ok(State::Enum(v, token.line)),
+        Kind::Name => at_name(alloc, typed, token, frames, v),
+        Kind::Storage(class) => at_storage(frames, class, v),
+        _ => at_word(alloc, token, frames, v),
     }
 }
 
-/// The tag behind `struct`.
-pub fn struct_tag(
+/// The first token of specifiers.
+pub fn first_word(
     alloc: Global,
+    typed: bool,
     token: &Symbol,
-    specifiers: Specifiers,
-    line: u32,
+    frames: &mut Stack<Frame>,
 ) -> Result<State, Trouble>
     requires { IsSymbol token.now }
-    ensures { (fs : List Frame) → Steps (spec.struct_tag fs specifiers line token.now.text token.now.kind) result fs }
+    ensures { Steps (spec.words typed token.now frames.old (no_words_at token.now.line) token.now.kind) result frames.new }
 {
-    match token.kind {
-        Kind::Name => {
-            let name = name_of(alloc, &token.text)?;
-            Ok(State::Words(added(specifiers, TypeWord::StructTag(line, name))?))
-        }
-        _ => {
-            drop(specifiers);
-            Err(Trouble::Syntax)
-        }
-    }
-}
-
-/// The tag behind `enum`.
-pub fn enum_tag(
-    alloc: Global,
-    token: &Symbol,
-    specifiers: Specifiers,
-    line: u32,
-) -> Result<State, Trouble>
-    requires { IsSymbol token.now }
-    ensures { (fs : List Frame) → Steps (spec.enum_tag fs specifiers line token.now.text token.now.kind) result fs }
-{
-    match token.kind {
-        Kind::Name => {
-            let name = name_of(alloc, &token.text)?;
-            Ok(State::Words(added(specifiers, TypeWord::EnumTag(line, name))?))
-        }
-        _ => {
-            drop(specifiers);
-            Err(Trouble::Syntax)
-        }
-    }
-}
-
-/// The pointers as the steps of a declarator, from the name outwards.
-fn steps(alloc: Global, earlier: Stack<bool>, last: bool) -> Result<Items<Derivation>, NoMemory>
-    ensures { IfOk result (λ all. all ≡ map Derivation.Pointer (last ∷ earlier)) }
-{
-    let mut earlier = earlier;
-    let mut all = Items::new(alloc);
-    all.push(Derivation::Pointer(last))?;
-    'popping: while let Some(constant) = earlier.pop() {
-        all.push(Derivation::Pointer(constant))?;
-    }
-    Ok(all)
-}
-
-/// A token behind a `*`.
-pub fn pointers(
-    alloc: Global,
-    kind: Kind,
-    frames: &mut Stack<Frame>,
-    specifiers: Specifiers,
-    line: u32,
-    earlier: Stack<bool>,
-    last: bool,
-) -> Result<State, Trouble>
-    ensures { Steps (spec.pointers frames.old specifiers line earlier last kind) result frames.new }
-{
-    match kind {
-        Kind::Star => one_more(specifiers, line, earlier, last),
-        Kind::Const => Ok(State::Pointers(specifiers, line, earlier, true)),
-        Kind::RightParen => pointed(
-            alloc,
-            frames,
-            specifiers,
-            line,
-            steps(alloc, earlier, last)?,
-        ),
-        _ => {
-            drop(specifiers);
-            drop(earlier);
-            Err(Trouble::Syntax)
-        }
-    }
-}
-
-fn one_more(
-    specifiers: Specifiers,
-    line: u32,
-    earlier: Stack<bool>,
-    last: bool,
-) -> Result<State, Trouble>
-    ensures made { IfOk result (λ state. state ≡ State.Pointers specifiers line (last ∷ earlier) false) }
-    ensures err { IsOkUnless result Trouble.NoMemory }
-{
-    let mut all = earlier;
-    all.push(last)?;
-    Ok(State::Pointers(specifiers, line, all, false))
-}
-
-fn pointed(
-    alloc: Global,
-    frames: &mut Stack<Frame>,
-    specifiers: Specifiers,
-    line: u32,
-    derivations: Items<Derivation>,
-) -> Result<State, Trouble>
-    ensures { Steps (spec.typed frames.old (type_of specifiers (Some (abstract_of line derivations)))) result frames.new }
-{
-    let declarator = Declarator {
-        line,
-        identifier: None,
-        derivations,
-    };
-    typed(alloc, frames, type_name(specifiers, Some(declarator)))
+    words(alloc, typed, token, frames, no_words(alloc, token.line))
 }

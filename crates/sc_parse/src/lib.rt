@@ -1,0 +1,14 @@
+//! The call that reads a unit (ANSI 3.7).
+#![tactic(auto)]
+
+mod declaring;
+mod expression;
+mod machine;
+mod stating;
+mod whole;
+
+pub use machine::advance;
+pub use whole::{parse, unit};
+
+#[cfg(test)]
+mod tests;

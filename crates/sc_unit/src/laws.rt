@@ -1,0 +1,8 @@
+// What holds of the machine and the grammar.
+ghost use Rattle.sc_unit.specs.Claims.{FindsEachUnit, RefusesNoUnit};
+
+/// The machine finds each unit of the grammar within the limits, and refuses as none only what is none.
+pub fn reads_units()
+    ensures found { FindsEachUnit }
+    ensures refused { RefusesNoUnit }
+{}
