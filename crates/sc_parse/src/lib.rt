@@ -1,8 +1,6 @@
 //! The call that reads a unit (ANSI 3.7).
 #![tactic(auto)]
 
-mod declaring;
-mod expression;
 mod machine;
 mod stating;
 mod whole;

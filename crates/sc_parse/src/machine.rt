@@ -5,10 +5,12 @@ ghost use Rattle.sc_phrase.specs.Steps.{IsSymbol};
 ghost use Rattle.sc_unit.specs.Machine as spec;
 ghost use Rattle.sc_unit.specs.Steps.{Goes};
 
-use crate::declaring::{STUCK, in_declarator, in_specifiers, initial_ends};
-use crate::expression::{ends_at_colon, ends_at_semicolon, expression_due, in_expression, initial};
 use crate::stating::{due, got};
 use sc_base::Stack;
+use sc_parse_parts::{
+    STUCK, ends_at_colon, ends_at_semicolon, expression_due, in_declarator, in_expression,
+    in_specifiers, initial, initial_ends,
+};
 use sc_phrase::Trouble;
 use sc_symbol::{Kind, Symbol, TypeNames};
 use sc_unit::{Around, Obstacle, Stage};

@@ -6,9 +6,8 @@ ghost use Rattle.sc_unit.specs.Machine as spec;
 ghost use Rattle.sc_unit.specs.Trees as trees;
 ghost use Rattle.sc_unit.specs.Steps.{Goes, ends_on as ends_before};
 
-use crate::declaring::{STUCK, empty_block, kept, specifiers, unit_with};
-use crate::expression::begin;
 use sc_base::{NoMemory, Shared, Stack};
+use sc_parse_parts::{STUCK, begin, empty_block, kept, specifiers, unit_with};
 use sc_symbol::{Kind, Symbol, TypeNames};
 use sc_tree::{Block, Declarator, External, Function, Specifiers, Statement};
 use sc_unit::{Around, Head, Obstacle, Stage, Test};
