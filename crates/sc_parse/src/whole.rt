@@ -1,0 +1,199 @@
+// A whole unit.
+ghost use Rattle.std.specs.Prelude.{◌≡◌, ◌≤◌, List, [], ◌∷◌, All, Err, IfOk, IfErr, codes};
+ghost use Rattle.sc_symbol.specs.declared.kind.Symbol.{Symbol as OneSymbol};
+ghost use Rattle.sc_phrase.specs.Steps.{IsSymbol};
+ghost use Rattle.sc_unit.specs.Machine.{start};
+ghost use Rattle.sc_unit.specs.Parse.{Gives};
+ghost use Rattle.sc_unit.specs.Claims.{Parses};
+ghost use Rattle.sc_token.specs.Symbols.{symbols as symbols_of};
+ghost use Rattle.sc_unit.specs.Parse as spec;
+
+use crate::machine::advance;
+use sc_base::{Bytes, Fault, Items, NoMemory, Refusal, Stack, X};
+use sc_lex::Token;
+use sc_parse_expr::opens_with;
+use sc_phrase::{Limit, Trouble};
+use sc_symbol::{Kind, Mark, Symbol, TypeNames};
+use sc_token::symbols;
+use sc_tree::Unit;
+use sc_unit::{Around, Obstacle, Stage};
+use std::alloc::Global;
+
+/// The word of a construct that is left out.
+fn word_of(mark: Mark) -> &'static [u8]
+    ensures { result.now ≡ spec.word_of mark }
+{
+    match mark {
+        Mark::Float => b"float",
+        Mark::Volatile => b"volatile",
+        Mark::Union => b"union",
+        Mark::Goto => b"goto",
+        Mark::Variadic => b"variadic",
+        Mark::LongLong => b"longlong",
+        Mark::Wide => b"wide",
+        Mark::MultiChar => b"multichar",
+        Mark::BitField => b"bitfield",
+        Mark::OldStyle => b"oldstyle",
+        Mark::ImplicitInt => b"implicitint",
+    }
+}
+
+fn refused(alloc: Global, kind: X, line: u32) -> Fault
+    ensures { Gives (Err (kind, line)) (Err result) }
+{
+    let file = Bytes::from_vec(Vec::new(alloc));
+    Fault::Refused(Refusal { kind, file, line })
+}
+
+fn left_out(alloc: Global, mark: Mark, line: u32) -> Fault
+    ensures { Gives (Err (X.X9 (spec.word_of mark), line)) (Err result) }
+{
+    match Bytes::from_slice(alloc, word_of(mark)) {
+        Ok(word) => refused(alloc, X::X9(word), line),
+        Err(_) => Fault::NoMemory,
+    }
+}
+
+fn too_high(alloc: Global, line: u32) -> Fault
+    ensures { Gives (Err (X.X10 (codes "height"), line)) (Err result) }
+{
+    match Bytes::from_slice(alloc, b"height") {
+        Ok(word) => refused(alloc, X::X10(word), line),
+        Err(_) => Fault::NoMemory,
+    }
+}
+
+fn too_many(alloc: Global, line: u32) -> Fault
+    ensures { Gives (Err (X.X10 (codes "arguments"), line)) (Err result) }
+{
+    match Bytes::from_slice(alloc, b"arguments") {
+        Ok(word) => refused(alloc, X::X10(word), line),
+        Err(_) => Fault::NoMemory,
+    }
+}
+
+/// The refusal at a token on line `here`, where the token before it is on line `before`.
+fn refusal(alloc: Global, obstacle: Obstacle, before: u32, here: u32) -> Fault
+    ensures { Gives (Err (spec.refusal obstacle before here)) (Err result) }
+{
+    match obstacle {
+        Obstacle::Nesting => too_high(alloc, here),
+        Obstacle::Inner(Trouble::Syntax) => refused(alloc, X::X5, here),
+        Obstacle::Inner(Trouble::LeftOut(mark)) => left_out(alloc, mark, here),
+        Obstacle::Inner(Trouble::Limit(Limit::Height)) => too_high(alloc, before),
+        Obstacle::Inner(Trouble::Limit(Limit::Arguments)) => too_many(alloc, before),
+        Obstacle::Inner(Trouble::NoMemory) => Fault::NoMemory,
+    }
+}
+
+/// The most brackets that are open at one place.
+const MAX_OPEN: u32 = 500;
+
+/// Takes a token where `count` brackets are open and the token before it is on line `before`: the stage and the open
+/// brackets behind it.
+fn take(
+    alloc: Global,
+    names: &mut TypeNames,
+    around: &mut Stack<Around>,
+    stage: Stage,
+    count: u32,
+    before: u32,
+    token: &Symbol,
+) -> Result<(Stage, u32), Fault>
+    requires symbol { IsSymbol token.now }
+    requires few { count ≤ 500 }
+    ensures ok { IfOk result (λ r. (ts : List OneSymbol) → spec.answer count before (names.old, (around.old, stage)) (token.now ∷ ts) ≡ spec.answer r.1 token.now.line (names.new, (around.new, r.0)) ts) }
+    ensures few { IfOk result (λ r. r.1 ≤ 500) }
+    ensures err { IfErr result (λ e. (ts : List OneSymbol) → Gives (spec.answer count before (names.old, (around.old, stage)) (token.now ∷ ts)) (Err e)) }
+{
+    let count = opens_with(count, token.kind);
+    if count > MAX_OPEN {
+        return Err(too_high(alloc, token.line));
+    }
+    match advance(alloc, names, token, around, stage) {
+        Ok(next) => Ok((next, count)),
+        Err(obstacle) => Err(refusal(alloc, obstacle, before, token.line)),
+    }
+}
+
+/// The end behind the last token, which is on line `before`.
+fn finish(
+    alloc: Global,
+    names: &mut TypeNames,
+    around: &mut Stack<Around>,
+    stage: Stage,
+    count: u32,
+    before: u32,
+) -> Result<Unit, Fault>
+    ensures { Gives (spec.answer count before (names.old, (around.old, stage)) []) result }
+{
+    let end = Symbol {
+        kind: Kind::End,
+        text: Bytes::from_vec(Vec::new(alloc)),
+        line: before,
+    };
+    match advance(alloc, names, &end, around, stage) {
+        Ok(Stage::Over) => match around.pop() {
+            Some(Around::Unit(items)) => Ok(Unit { items }),
+            Some(other) => {
+                drop(other);
+                Err(refused(alloc, X::X5, before))
+            }
+            None => Err(refused(alloc, X::X5, before)),
+        },
+        Ok(other) => {
+            drop(other);
+            Err(refused(alloc, X::X5, before))
+        }
+        Err(obstacle) => Err(refusal(alloc, obstacle, before, before)),
+    }
+}
+
+/// The empty unit, where nothing was read yet.
+fn beginning(alloc: Global) -> Result<Stack<Around>, NoMemory>
+    ensures { IfOk result (λ around. around ≡ Around.Unit [] ∷ []) }
+{
+    let mut around = Stack::new(alloc);
+    around.push(Around::Unit(Items::new(alloc)))?;
+    Ok(around)
+}
+
+#[tactic(auto, using(crate::proofs::Each::first_of, crate::proofs::Each::rest_of))]
+fn read(alloc: Global, symbols: &[Symbol]) -> Result<Unit, Fault>
+    requires { All IsSymbol symbols.now }
+    ensures { Gives (spec.answer 0 1 start symbols.now) result }
+{
+    let mut names = TypeNames::new(alloc)?;
+    let mut around = beginning(alloc)?;
+    let mut stage = Stage::Due;
+    let mut count = 0;
+    let mut line = 1;
+    let mut left = symbols;
+    'symbols: while let Some((symbol, rest)) = left.split_first() {
+        let (next, now) = take(alloc, &mut names, &mut around, stage, count, line, symbol)?;
+        stage = next;
+        count = now;
+        line = symbol.line;
+        left = rest;
+    }
+    finish(alloc, &mut names, &mut around, stage, count, line)
+}
+
+/// The unit that the symbols are. X5 has the line of the first that no unit goes on with, or of the last where they end
+/// too early; X9 comes at one of a construct that is left out, X10 where a limit is passed. A symbol of the kind `Name`
+/// has 1 to 255 bytes.
+#[tactic(auto, using(sc_unit::proofs::Answers::parses))]
+pub fn unit(alloc: Global, symbols: &[Symbol]) -> Result<Unit, Fault>
+    requires { All IsSymbol symbols.now }
+    ensures { Parses symbols.now result }
+{
+    read(alloc, symbols)
+}
+
+/// The unit that the tokens are, as `unit` has it (ANSI 3.7). A `Newline` is no token of the grammar.
+pub fn parse(alloc: Global, tokens: &[Token]) -> Result<Unit, Fault>
+    ensures { Parses (symbols_of tokens.now) result }
+{
+    let symbols = symbols(alloc, tokens)?;
+    unit(alloc, symbols.as_slice())
+}

@@ -1,0 +1,346 @@
+// Expressions of statements and initialisers.
+ghost use Rattle.std.specs.Prelude.{◌≡◌, List, [], ◌∷◌, Some, None, Ok};
+ghost use Rattle.sc_symbol.specs.Names.{Names};
+ghost use Rattle.sc_phrase.specs.Machine as inner;
+ghost use Rattle.sc_phrase.specs.Steps.{IsSymbol};
+ghost use Rattle.sc_unit.specs.Machine as spec;
+ghost use Rattle.sc_unit.specs.Steps.{Goes};
+
+use crate::declaring::{STUCK, framed, initial_joins, initialized_ends, kept, list_ends};
+use sc_base::{Items, Shared, Stack};
+use sc_parse_expr::step;
+use sc_phrase::{Frame, Operand, State};
+use sc_symbol::{Kind, Symbol, TypeNames};
+use sc_tree::{Expr, Initializer, Statement};
+use sc_unit::{Around, Head, Obstacle, Stage, Test};
+use std::alloc::Global;
+
+fn at_semicolon(
+    kind: Kind,
+    around: &mut Stack<Around>,
+    frame: Around,
+    stage: Stage,
+) -> Result<Stage, Obstacle>
+    ensures { (names : Names) → Goes (spec.at_semicolon kind (Ok (names, (frame ∷ around.old, stage)))) result names around.new }
+{
+    match kind {
+        Kind::Semicolon => kept(around, frame, stage),
+        _ => {
+            drop(frame);
+            drop(stage);
+            Err(STUCK)
+        }
+    }
+}
+
+fn at_paren(
+    kind: Kind,
+    around: &mut Stack<Around>,
+    frame: Around,
+    stage: Stage,
+) -> Result<Stage, Obstacle>
+    ensures { (names : Names) → Goes (spec.at_paren kind (Ok (names, (frame ∷ around.old, stage)))) result names around.new }
+{
+    match kind {
+        Kind::RightParen => kept(around, frame, stage),
+        _ => {
+            drop(frame);
+            drop(stage);
+            Err(STUCK)
+        }
+    }
+}
+
+fn at_colon(
+    kind: Kind,
+    around: &mut Stack<Around>,
+    frame: Around,
+    stage: Stage,
+) -> Result<Stage, Obstacle>
+    ensures { (names : Names) → Goes (spec.at_colon kind (Ok (names, (frame ∷ around.old, stage)))) result names around.new }
+{
+    match kind {
+        Kind::Colon => kept(around, frame, stage),
+        _ => {
+            drop(frame);
+            drop(stage);
+            Err(STUCK)
+        }
+    }
+}
+
+/// Where `;` is due, and nothing more is open.
+pub fn ends_at_semicolon(kind: Kind, stage: Stage) -> Result<Stage, Obstacle>
+    ensures { (names : Names) → (fs : List Around) → Goes (spec.at_semicolon kind (Ok (names, (fs, stage)))) result names fs }
+{
+    match kind {
+        Kind::Semicolon => Ok(stage),
+        _ => {
+            drop(stage);
+            Err(STUCK)
+        }
+    }
+}
+
+fn ends_at_paren(kind: Kind, stage: Stage) -> Result<Stage, Obstacle>
+    ensures { (names : Names) → (fs : List Around) → Goes (spec.at_paren kind (Ok (names, (fs, stage)))) result names fs }
+{
+    match kind {
+        Kind::RightParen => Ok(stage),
+        _ => {
+            drop(stage);
+            Err(STUCK)
+        }
+    }
+}
+
+/// Where `:` is due, and nothing more is open.
+pub fn ends_at_colon(kind: Kind, stage: Stage) -> Result<Stage, Obstacle>
+    ensures { (names : Names) → (fs : List Around) → Goes (spec.at_colon kind (Ok (names, (fs, stage)))) result names fs }
+{
+    match kind {
+        Kind::Colon => Ok(stage),
+        _ => {
+            drop(stage);
+            Err(STUCK)
+        }
+    }
+}
+
+/// A token behind an expression that may be left out.
+fn part_ends(
+    kind: Kind,
+    around: &mut Stack<Around>,
+    x: Option<Shared<Expr>>,
+) -> Result<Stage, Obstacle>
+    ensures { (names : Names) → Goes (spec.part_ends names kind around.old x) result names around.new }
+{
+    match around.pop() {
+        Some(Around::First(line)) => {
+            at_semicolon(kind, around, Around::Second(line, x), Stage::Need)
+        }
+        Some(Around::Second(line, first)) => {
+            at_semicolon(kind, around, Around::Third(line, first, x), Stage::Need)
+        }
+        Some(Around::Third(line, first, second)) => {
+            let head = Head::For(line, first, second, x);
+            at_paren(kind, around, Around::Under(head), Stage::Due)
+        }
+        Some(Around::Return(line)) => {
+            ends_at_semicolon(kind, Stage::Got(Statement::Return(line, x)))
+        }
+        Some(other) => {
+            drop(other);
+            Err(STUCK)
+        }
+        None => Err(STUCK),
+    }
+}
+
+fn tested(of: Test, line: u32, x: Shared<Expr>) -> Head
+    ensures { result ≡ spec.tested of line x }
+{
+    match of {
+        Test::If => Head::Then(line, x),
+        Test::Switch => Head::Switch(line, x),
+        Test::While => Head::While(line, x),
+    }
+}
+
+/// A token behind an expression that may not be left out.
+fn whole_ends(
+    alloc: Global,
+    kind: Kind,
+    around: &mut Stack<Around>,
+    x: Operand,
+) -> Result<Stage, Obstacle>
+    ensures { (names : Names) → Goes (spec.whole_ends names kind around.old x) result names around.new }
+{
+    match around.pop() {
+        Some(Around::Test(of, line)) => {
+            at_paren(
+                kind,
+                around,
+                Around::Under(tested(of, line, x.tree)),
+                Stage::Due,
+            )
+        }
+        Some(Around::Until(line, body, until)) => {
+            ends_at_paren(
+                kind,
+                Stage::Semicolon(Statement::Do(line, body, until, x.tree)),
+            )
+        }
+        Some(Around::Value(line)) => {
+            at_colon(
+                kind,
+                around,
+                Around::Under(Head::Case(line, x.tree)),
+                Stage::Due,
+            )
+        }
+        Some(Around::Expression) => {
+            ends_at_semicolon(kind, Stage::Got(Statement::Expression(x.line, x.tree)))
+        }
+        Some(Around::List(line, all)) => {
+            initial_joins(
+                kind,
+                around,
+                line,
+                all,
+                Initializer::Expression(x.line, x.tree),
+            )
+        }
+        Some(Around::Initialized(line, d)) => {
+            let initializer = Initializer::Expression(x.line, x.tree);
+            initialized_ends(alloc, kind, around, line, d, initializer)
+        }
+        Some(other) => {
+            drop(other);
+            Err(STUCK)
+        }
+        None => Err(STUCK),
+    }
+}
+
+/// Whether an expression may be left out here.
+fn is_optional(around: &Stack<Around>) -> bool
+    ensures { result ≡ spec.is_optional around.now }
+{
+    match around.top() {
+        Some(Around::First(_)) => true,
+        Some(Around::Second(_, _)) => true,
+        Some(Around::Third(_, _, _)) => true,
+        Some(Around::Return(_)) => true,
+        _ => false,
+    }
+}
+
+/// A token behind an expression.
+fn expression_ends(
+    alloc: Global,
+    kind: Kind,
+    around: &mut Stack<Around>,
+    x: Operand,
+) -> Result<Stage, Obstacle>
+    ensures { (names : Names) → Goes (spec.expression_ends names kind around.old x) result names around.new }
+{
+    if is_optional(around) {
+        part_ends(kind, around, Some(x.tree))
+    } else {
+        whole_ends(alloc, kind, around, x)
+    }
+}
+
+/// A token of an expression.
+#[tactic(auto, using(crate::proofs::Lifting::expression_err))]
+pub fn in_expression(
+    alloc: Global,
+    names: &mut TypeNames,
+    token: &Symbol,
+    around: &mut Stack<Around>,
+    mut frames: Stack<Frame>,
+    state: State,
+) -> Result<Stage, Obstacle>
+    requires { IsSymbol token.now }
+    ensures { Goes (spec.in_expression token.now around.old (inner.step token.now (names.old, (frames, state)))) result names.new around.new }
+{
+    match step(alloc, names, token, &mut frames, state) {
+        Ok(State::Expression(x)) => expression_ends(alloc, token.kind, around, x),
+        Ok(other) => Ok(Stage::Expression(frames, other)),
+        Err(trouble) => Err(Obstacle::Inner(trouble)),
+    }
+}
+
+/// An expression of this level at least begins with the token.
+pub fn begin(
+    alloc: Global,
+    names: &mut TypeNames,
+    token: &Symbol,
+    around: &mut Stack<Around>,
+    level: u8,
+) -> Result<Stage, Obstacle>
+    requires { IsSymbol token.now }
+    ensures { Goes (spec.begin level token.now names.old around.old) result names.new around.new }
+{
+    let frames = framed(alloc, Frame::Only(level))?;
+    in_expression(alloc, names, token, around, frames, State::Need)
+}
+
+/// An initialiser is due.
+pub fn initial(
+    alloc: Global,
+    names: &mut TypeNames,
+    token: &Symbol,
+    around: &mut Stack<Around>,
+) -> Result<Stage, Obstacle>
+    requires { IsSymbol token.now }
+    ensures { Goes (spec.initial token.now names.old around.old token.now.kind) result names.new around.new }
+{
+    match token.kind {
+        Kind::LeftBrace => {
+            let list = Around::List(token.line, Items::new(alloc));
+            kept(around, list, Stage::Initial)
+        }
+        Kind::RightBrace => list_ends(around),
+        _ => begin(alloc, names, token, around, 2),
+    }
+}
+
+/// The level that the expression has at least.
+fn needs(around: &Stack<Around>) -> u8
+    ensures { result ≡ spec.needs around.now }
+{
+    match around.top() {
+        Some(Around::Value(_)) => 3,
+        _ => 1,
+    }
+}
+
+fn is_semicolon(kind: Kind) -> bool
+    ensures { result ≡ spec.is_semicolon kind }
+{
+    match kind {
+        Kind::Semicolon => true,
+        _ => false,
+    }
+}
+
+fn is_paren(kind: Kind) -> bool
+    ensures { result ≡ spec.is_paren kind }
+{
+    match kind {
+        Kind::RightParen => true,
+        _ => false,
+    }
+}
+
+/// Whether the token ends an expression that was left out.
+fn ends_part(kind: Kind, around: &Stack<Around>) -> bool
+    ensures { result ≡ spec.ends_part kind around.now }
+{
+    match around.top() {
+        Some(Around::First(_)) => is_semicolon(kind),
+        Some(Around::Second(_, _)) => is_semicolon(kind),
+        Some(Around::Third(_, _, _)) => is_paren(kind),
+        Some(Around::Return(_)) => is_semicolon(kind),
+        _ => false,
+    }
+}
+
+/// An expression is due, or the token behind it where it may be left out.
+pub fn expression_due(
+    alloc: Global,
+    names: &mut TypeNames,
+    token: &Symbol,
+    around: &mut Stack<Around>,
+) -> Result<Stage, Obstacle>
+    requires { IsSymbol token.now }
+    ensures { Goes (spec.expression_due token.now names.old around.old) result names.new around.new }
+{
+    if ends_part(token.kind, around) {
+        return part_ends(token.kind, around, None);
+    }
+    let level = needs(around);
+    begin(alloc, names, token, around, level)
+}
