@@ -360,7 +360,7 @@ fn body_begins(
     ensures { Goes (spec.body line names.old (Around.Unit items ∷ around.old) v [] whole) result names.new around.new }
 {
     let (declarator, scope) = parts(whole);
-    names.push_names(scope)?;
+    names.push_names(alloc, scope)?;
     around.push(Around::Unit(items))?;
     let block = empty_block(alloc, line);
     kept(around, Around::Body(v, declarator, block), Stage::Due)

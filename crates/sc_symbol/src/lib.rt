@@ -2,6 +2,7 @@
 #![tactic(auto)]
 
 mod kind;
+mod latest;
 mod scopes;
 
 pub use kind::{Kind, Mark, Symbol};

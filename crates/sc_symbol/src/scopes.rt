@@ -1,7 +1,8 @@
 // The names of types in scope.
-ghost use Rattle.std.specs.Prelude.{◌≡◌, ◌∷◌, [], None, length, reverse, IfOk, OnOk, OnErr};
+ghost use Rattle.std.specs.Prelude.{◌≡◌, ◌∷◌, [], length, reverse, IfOk, OnOk, OnErr};
 ghost use Rattle.sc_symbol.specs.Names as spec;
 
+use crate::latest::Latest;
 use sc_base::{Bytes, Items, Name, NoMemory};
 use std::alloc::Global;
 use std::marker::Model;
@@ -17,15 +18,19 @@ pub struct Entry {
 #[derive(Drop)]
 pub struct TypeNames {
     scopes: Vec<Items<Entry>>,
+    latest: Latest,
 }
 
 impl Model for TypeNames {
-    ghost use Rattle.std.specs.Prelude.{List, reverse};
+    ghost use Rattle.std.specs.Prelude.{◌≡◌, List, reverse};
     ghost use Rattle.sc_symbol.specs.declared.scopes.Entry.{Entry};
+    ghost use Rattle.sc_symbol.specs.Latest.{rows};
 
     ghost Value = { List (List Entry) };
 
     ghost view = { λ s. reverse s.scopes.items };
+
+    ghost invariant = { λ s. s.latest ≡ rows (reverse s.scopes.items) };
 }
 
 impl TypeNames {
@@ -35,7 +40,8 @@ impl TypeNames {
     {
         let mut scopes = Vec::new(alloc);
         scopes.push(Items::new(alloc))?;
-        Ok(TypeNames { scopes })
+        let latest = Latest::new(alloc);
+        Ok(TypeNames { scopes, latest })
     }
 
     /// The number of scopes.
@@ -55,67 +61,87 @@ impl TypeNames {
     }
 
     /// Ends the innermost scope: the names that it declares.
+    #[tactic(auto, using(crate::proofs::Found::rows_popped, crate::proofs::Found::reverse_last))]
     pub fn pop_scope(&mut self, alloc: Global) -> Items<Entry>
         ensures names { self.new ≡ spec.leave self.old }
         ensures scope { result ≡ spec.innermost self.old }
     {
         match self.scopes.pop() {
-            Some(scope) => scope,
+            Some(scope) => {
+                self.latest.leave(scope.len());
+                scope
+            }
             None => Items::new(alloc),
         }
     }
 
     /// Begins a scope with these names. Where memory runs out nothing changes.
-    pub fn push_names(&mut self, scope: Items<Entry>) -> Result<(), NoMemory>
+    #[tactic(auto, using(crate::proofs::Found::without))]
+    pub fn push_names(&mut self, alloc: Global, scope: Items<Entry>) -> Result<(), NoMemory>
         ensures ok { OnOk result (self.new ≡ scope ∷ self.old) }
         ensures err { OnErr result (self.new ≡ self.old) }
     {
-        self.scopes.push(scope)?;
-        Ok(())
+        let count = scope.len();
+        self.latest.declare_all(alloc, scope.as_slice())?;
+        match self.scopes.push(scope) {
+            Ok(()) => Ok(()),
+            Err(_) => {
+                self.latest.leave(count);
+                Err(NoMemory)
+            }
+        }
     }
 
     /// Declares a name in the innermost scope. Where memory runs out nothing changes.
+    #[tactic(auto, using(crate::proofs::Found::rows_declare))]
     pub fn add(&mut self, alloc: Global, name: Name, typedef: bool) -> Result<(), NoMemory>
         ensures ok { OnOk result (self.new ≡ spec.declare name typedef self.old) }
+        ensures err { OnErr result (self.new ≡ self.old) }
     {
-        let mut scope = self.pop_scope(alloc);
-        scope.push(Entry { name, typedef })?;
-        self.push_names(scope)
+        self.latest.declare(alloc, &name, typedef)?;
+        match declared(alloc, &mut self.scopes, name, typedef) {
+            Ok(()) => Ok(()),
+            Err(_) => {
+                self.latest.leave(1);
+                Err(NoMemory)
+            }
+        }
     }
 
     /// Whether the name is that of a type: whether its innermost declaration is a typedef.
+    #[tactic(auto, using(crate::proofs::Found::is_type_found))]
     pub fn is_type(&self, name: &Bytes) -> bool
         ensures { result ≡ spec.is_type self.now name.now }
     {
-        is_type_in(self.scopes.as_slice(), name)
+        match self.latest.find(name) {
+            Some(typedef) => typedef,
+            None => false,
+        }
     }
 }
 
-/// The same, of the scopes from the outermost.
-#[tactic(auto, using(crate::proofs::Reversed::reverse_last))]
-fn is_type_in(scopes: &[Items<Entry>], name: &Bytes) -> bool
-    ensures { result ≡ spec.is_type (reverse scopes.now) name.now }
+/// Appends a name to the last of the scopes; to a first one where there is none.
+fn declared(
+    alloc: Global,
+    scopes: &mut Vec<Items<Entry>>,
+    name: Name,
+    typedef: bool,
+) -> Result<(), NoMemory>
+    ensures ok { OnOk result (reverse scopes.new.items ≡ spec.declare name typedef (reverse scopes.old.items)) }
+    ensures err { OnErr result (scopes.new.items ≡ scopes.old.items) }
 {
-    let mut left = scopes;
-    'scopes: while let Some((scope, outer)) = left.split_last() {
-        match declared_in(scope.as_slice(), name) {
-            Some(typedef) => return typedef,
-            None => {}
+    match scopes.pop() {
+        Some(scope) => {
+            let mut scope = scope;
+            let pushed = scope.push(Entry { name, typedef });
+            scopes.push_reserved(scope);
+            pushed
         }
-        left = outer;
-    }
-    false
-}
-
-/// Whether the last declaration of the name in the scope is a typedef; nothing where it has none.
-fn declared_in(scope: &[Entry], name: &Bytes) -> Option<bool>
-    ensures { result ≡ spec.declared_after None scope.now name.now }
-{
-    let mut found = None;
-    'entries: for entry in scope {
-        if entry.name.as_slice() == name.as_slice() {
-            found = Some(entry.typedef);
+        None => {
+            let mut scope = Items::new(alloc);
+            scope.push(Entry { name, typedef })?;
+            scopes.push(scope)?;
+            Ok(())
         }
     }
-    found
 }
