@@ -1,3 +1,4 @@
 pub mod Settling
-pub mod Each
 pub mod Lifting
+pub mod Others
+pub mod Turns

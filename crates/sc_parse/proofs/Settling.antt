@@ -7,21 +7,21 @@ use Rattle.sc_unit.specs.declared.around.Around.TheVariants as a
 use Rattle.sc_unit.specs.Machine.{settle, waits, built}
 use Rattle.sc_unit.specs.Steps.{ends_on}
 
-not-true : {b : Bool} → not b ≡ true → b ≡ false
-not-true {true} h = cc
-not-true {false} h = refl
+not-true : (b : Bool) → not b ≡ true → b ≡ false
+not-true true h = cc
+not-true false h = refl
 
-not-false : {b : Bool} → not b ≡ false → b ≡ true
-not-false {true} h = refl
-not-false {false} h = cc
+not-false : (b : Bool) → not b ≡ false → b ≡ true
+not-false true h = refl
+not-false false h = cc
 
 pub settles_on : (other : Bool) (head : Head) (fs : List Around) (b : Statement) → ends_on other (a.Under head ∷ fs) ≡ true →
     settle other (a.Under head ∷ fs) b ≡ settle other fs (built head b)
-settles_on other head fs b h = let no : waits other head ≡ false = not-true h in rw no refl
+settles_on other head fs b h = let no : waits other head ≡ false = not-true (waits other head) h in rw no refl
 
 pub settle_ends : (other : Bool) (fs : List Around) (b : Statement) → ends_on other fs ≡ false → settle other fs b ≡ (fs, b)
 settle_ends other [] b h = refl
-settle_ends other (a.Under head ∷ fs) b h = let yes : waits other head ≡ true = not-false h in rw yes refl
+settle_ends other (a.Under head ∷ fs) b h = let yes : waits other head ≡ true = not-false (waits other head) h in rw yes refl
 settle_ends other (a.Unit items ∷ fs) b h = refl
 settle_ends other (a.Body v x l ∷ fs) b h = refl
 settle_ends other (a.Declaration v ds ∷ fs) b h = refl

@@ -1,6 +1,6 @@
 // Statements.
-ghost use Rattle.std.specs.Prelude.{◌≡◌, List, [], ◌∷◌, ◌++◌, Some, None, Ok, IfOk, MatchOption, false, not};
-ghost use Rattle.sc_symbol.specs.Names.{Names};
+ghost use Rattle.std.specs.Prelude.{◌≡◌, List, [], ◌∷◌, ◌++◌, Some, None, Ok, IfOk, MatchOption, false, not, ◌&&◌};
+ghost use Rattle.sc_symbol.specs.Names.{Names, is_typed as typed_in};
 ghost use Rattle.sc_phrase.specs.Steps.{IsSymbol};
 ghost use Rattle.sc_unit.specs.Machine as spec;
 ghost use Rattle.sc_unit.specs.Trees as trees;
@@ -212,7 +212,25 @@ fn begins_declaration(typed: bool, kind: Kind) -> bool
     }
 }
 
-/// In a block a declaration may come before the statements.
+/// Whether the token is the name of a type.
+fn is_typed(names: &TypeNames, token: &Symbol) -> bool
+    ensures { result ≡ typed_in names.now token.now }
+{
+    match token.kind {
+        Kind::Name => names.is_type(&token.text),
+        _ => false,
+    }
+}
+
+/// Whether the token begins a declaration of a block. One may come only before the statements.
+fn is_declaration(names: &TypeNames, token: &Symbol, around: &Stack<Around>) -> bool
+    ensures { result ≡ spec.is_early around.now && spec.begins_declaration (typed_in names.now token.now) token.now.kind }
+{
+    let typed = is_typed(names, token);
+    is_early(around) && begins_declaration(typed, token.kind)
+}
+
+/// A declaration or a statement of a block, or a statement under another, is due.
 fn item_due(
     alloc: Global,
     names: &mut TypeNames,
@@ -222,9 +240,7 @@ fn item_due(
     requires { IsSymbol token.now }
     ensures { Goes (spec.item_due token.now names.old around.old) result names.new around.new }
 {
-    let early = is_early(around);
-    let typed = token.kind == Kind::Name && names.is_type(&token.text);
-    if early && begins_declaration(typed, token.kind) {
+    if is_declaration(names, token, around) {
         specifiers(alloc, names, token, around)
     } else {
         statement_due(alloc, names, token, around)

@@ -53,11 +53,26 @@ fn is_refusal(kind: X, wanted: &str) -> bool {
     }
 }
 
-fn whole(alloc: Global, text: &str) -> Result<String, Fail> {
+fn whole(alloc: Global, text: &str) -> Result<String, NoMemory> {
+    let mut unit = String::new(alloc);
     if text.starts_with('{') {
-        Ok(format!(in alloc; "void f(void) {text}")?)
-    } else {
-        Ok(format!(in alloc; "{text}")?)
+        unit.push_str("void f(void) ")?;
+    }
+    unit.push_str(text)?;
+    Ok(unit)
+}
+
+fn is_read_as(alloc: Global, text: &str, wanted: &str) -> bool {
+    match whole(alloc, text) {
+        Ok(unit) => is_wanted(parsed(alloc, unit.as_str()), wanted),
+        Err(_) => false,
+    }
+}
+
+fn is_right(alloc: Global, line: &str) -> bool {
+    match line.split_once('|') {
+        Some((wanted, text)) => is_read_as(alloc, text, wanted),
+        None => false,
     }
 }
 
@@ -65,63 +80,64 @@ fn whole(alloc: Global, text: &str) -> Result<String, Fail> {
 fn units(rt: HostRuntime) -> Result<(), Fail> {
     let alloc = rt.alloc();
     for line in CASES.lines() {
-        if let Some((wanted, text)) = line.split_once('|') {
-            let text = whole(alloc, text)?;
-            let answer = parsed(alloc, text.as_str());
-            assert!(rt; is_wanted(answer, wanted), "{line}");
-        }
+        assert!(rt; is_right(alloc, line), "{line}");
     }
     Ok(())
 }
 
-// A text before, so many of a text, a text between, as many of another, and a text behind.
-fn nested(alloc: Global, count: u32, parts: &[&str]) -> Result<String, Fail> {
-    let mut text = String::new(alloc);
-    if let [before, each, between, close, behind] = parts {
-        text.push_str(before)?;
-        repeat(&mut text, count, each)?;
-        text.push_str(between)?;
-        repeat(&mut text, count, close)?;
-        text.push_str(behind)?;
-    }
-    Ok(text)
-}
+/// How many may stand inside each other, the word for one more, and the texts: what stands before, what is repeated, what
+/// stands between, what is repeated there, and what stands behind.
+const NESTS: &[(u32, &str, [&str; 5])] = &[
+    (1499, "height", ["void f(void) {", "if (x) ", ";", "", "}"]),
+    (
+        1499,
+        "height",
+        ["void f(void) {", "while (x) ", "{}", "", "}"],
+    ),
+    (127, "height", ["void f(void) ", "{", "", "}", ""]),
+    (500, "height", ["int x = ", "(", "1", ")", ";"]),
+    (499, "height", ["int x[] = {", "{", "1", "}", "};"]),
+    (199, "height", ["int x = ", "- ", "1", "", ";"]),
+    (30, "arguments", ["int x = f(", "1, ", "1", "", ");"]),
+    (30, "arguments", ["int f(", "int, ", "int", "", ");"]),
+];
 
-fn repeat(text: &mut String, count: u32, each: &str) -> Result<(), Fail> {
+fn repeat(text: &mut String, count: u32, each: &str) -> Result<(), NoMemory> {
     for _ in 0..count {
         text.push_str(each)?;
     }
     Ok(())
 }
 
+fn nested(alloc: Global, count: u32, parts: &[&str; 5]) -> Result<String, NoMemory> {
+    let [before, each, between, close, behind] = parts;
+    let mut text = String::new(alloc);
+    text.push_str(before)?;
+    repeat(&mut text, count, each)?;
+    text.push_str(between)?;
+    repeat(&mut text, count, close)?;
+    text.push_str(behind)?;
+    Ok(text)
+}
+
+fn is_nest_read_as(alloc: Global, count: u32, parts: &[&str; 5], wanted: &str) -> bool {
+    match nested(alloc, count, parts) {
+        Ok(text) => is_wanted(parsed(alloc, text.as_str()), wanted),
+        Err(_) => false,
+    }
+}
+
 // Up to each limit a unit is read, on the stack that a program has; one beyond it is refused.
 #[test]
 fn limits(rt: HostRuntime) -> Result<(), Fail> {
     let alloc = rt.alloc();
-    for (most, wanted, parts) in [
-        (
-            1499u32,
-            "height",
-            ["void f(void) {", "if (x) ", ";", "", "}"],
-        ),
-        (
-            1499,
-            "height",
-            ["void f(void) {", "while (x) ", "{}", "", "}"],
-        ),
-        (127, "height", ["void f(void) ", "{", "", "}", ""]),
-        (500, "height", ["int x = ", "(", "1", ")", ";"]),
-        (499, "height", ["int x[] = {", "{", "1", "}", "};"]),
-        (199, "height", ["int x = ", "- ", "1", "", ";"]),
-        (30, "arguments", ["int x = f(", "1, ", "1", "", ");"]),
-        (30, "arguments", ["int f(", "int, ", "int", "", ");"]),
-    ] {
-        let fits = nested(alloc, most, parts.as_slice())?;
-        let answer = parsed(alloc, fits.as_str());
-        assert!(rt; is_wanted(answer, "1"), "{most} {wanted}");
-        let beyond = nested(alloc, most + 1, parts.as_slice())?;
-        let answer = parsed(alloc, beyond.as_str());
-        assert!(rt; is_wanted(answer, wanted), "{most} {wanted}");
+    for (most, word, parts) in NESTS {
+        assert!(rt; is_nest_read_as(alloc, *most, parts, "1"), "{most} {word}");
+        let beyond = most.saturating_add(1);
+        assert!(rt;
+            is_nest_read_as(alloc, beyond, parts, word),
+            "{most} {word}"
+        );
     }
     Ok(())
 }

@@ -1,12 +1,14 @@
 // A whole unit.
-ghost use Rattle.std.specs.Prelude.{◌≡◌, ◌≤◌, List, [], ◌∷◌, All, Err, IfOk, IfErr, codes};
-ghost use Rattle.sc_symbol.specs.declared.kind.Symbol.{Symbol as OneSymbol};
+ghost use Rattle.std.specs.Prelude.{◌≡◌, ◌≤◌, [], ◌∷◌, All, Err, IfOk, OnOk, codes};
+ghost use Rattle.sc_symbol.specs.Names.{Names};
 ghost use Rattle.sc_phrase.specs.Steps.{IsSymbol};
+ghost use Rattle.sc_parse_expr.specs.Brackets as brackets;
 ghost use Rattle.sc_unit.specs.Machine.{start};
 ghost use Rattle.sc_unit.specs.Parse.{Gives};
 ghost use Rattle.sc_unit.specs.Claims.{Parses};
 ghost use Rattle.sc_token.specs.Symbols.{symbols as symbols_of};
 ghost use Rattle.sc_unit.specs.Parse as spec;
+ghost use Rattle.sc_parse.specs.Turns.{Turns};
 
 use crate::machine::advance;
 use sc_base::{Bytes, Fault, Items, NoMemory, Refusal, Stack, X};
@@ -74,7 +76,8 @@ fn too_many(alloc: Global, line: u32) -> Fault
 
 /// The refusal at a token on line `here`, where the token before it is on line `before`.
 fn refusal(alloc: Global, obstacle: Obstacle, before: u32, here: u32) -> Fault
-    ensures { Gives (Err (spec.refusal obstacle before here)) (Err result) }
+    ensures gives { Gives (Err (spec.refusal obstacle before here)) (Err result) }
+    ensures memory { obstacle ≡ Obstacle.Inner Trouble.NoMemory → result ≡ Fault.NoMemory }
 {
     match obstacle {
         Obstacle::Nesting => too_high(alloc, here),
@@ -89,8 +92,8 @@ fn refusal(alloc: Global, obstacle: Obstacle, before: u32, here: u32) -> Fault
 /// The most brackets that are open at one place.
 const MAX_OPEN: u32 = 500;
 
-/// Takes a token where `count` brackets are open and the token before it is on line `before`: the stage and the open
-/// brackets behind it.
+/// Takes a token where `count` brackets are open and the token before it is on line `before`: the stage behind it.
+#[tactic(auto, using(crate::proofs::Turns::turn_ok, crate::proofs::Turns::turn_err, crate::proofs::Turns::turn_deep))]
 fn take(
     alloc: Global,
     names: &mut TypeNames,
@@ -99,20 +102,38 @@ fn take(
     count: u32,
     before: u32,
     token: &Symbol,
-) -> Result<(Stage, u32), Fault>
+) -> Result<Stage, Fault>
     requires symbol { IsSymbol token.now }
     requires few { count ≤ 500 }
-    ensures ok { IfOk result (λ r. (ts : List OneSymbol) → spec.answer count before (names.old, (around.old, stage)) (token.now ∷ ts) ≡ spec.answer r.1 token.now.line (names.new, (around.new, r.0)) ts) }
-    ensures few { IfOk result (λ r. r.1 ≤ 500) }
-    ensures err { IfErr result (λ e. (ts : List OneSymbol) → Gives (spec.answer count before (names.old, (around.old, stage)) (token.now ∷ ts)) (Err e)) }
+    ensures within { OnOk result (brackets.opens_with count token.now.kind ≤ 500) }
+    ensures turns { Turns count before (names.old, (around.old, stage)) token.now result names.new around.new }
 {
-    let count = opens_with(count, token.kind);
-    if count > MAX_OPEN {
+    if opens_with(count, token.kind) > MAX_OPEN {
         return Err(too_high(alloc, token.line));
     }
     match advance(alloc, names, token, around, stage) {
-        Ok(next) => Ok((next, count)),
+        Ok(next) => Ok(next),
         Err(obstacle) => Err(refusal(alloc, obstacle, before, token.line)),
+    }
+}
+
+/// What was read up to the end, where the last token is on this line.
+fn ended(alloc: Global, around: &mut Stack<Around>, stage: Stage, line: u32) -> Result<Unit, Fault>
+    ensures { (names : Names) → Gives (spec.ended line (names, (around.old, stage))) result }
+{
+    match stage {
+        Stage::Over => match around.pop() {
+            Some(Around::Unit(items)) => Ok(Unit { items }),
+            Some(other) => {
+                drop(other);
+                Err(refused(alloc, X::X5, line))
+            }
+            None => Err(refused(alloc, X::X5, line)),
+        },
+        other => {
+            drop(other);
+            Err(refused(alloc, X::X5, line))
+        }
     }
 }
 
@@ -133,18 +154,7 @@ fn finish(
         line: before,
     };
     match advance(alloc, names, &end, around, stage) {
-        Ok(Stage::Over) => match around.pop() {
-            Some(Around::Unit(items)) => Ok(Unit { items }),
-            Some(other) => {
-                drop(other);
-                Err(refused(alloc, X::X5, before))
-            }
-            None => Err(refused(alloc, X::X5, before)),
-        },
-        Ok(other) => {
-            drop(other);
-            Err(refused(alloc, X::X5, before))
-        }
+        Ok(next) => ended(alloc, around, next, before),
         Err(obstacle) => Err(refusal(alloc, obstacle, before, before)),
     }
 }
@@ -158,7 +168,6 @@ fn beginning(alloc: Global) -> Result<Stack<Around>, NoMemory>
     Ok(around)
 }
 
-#[tactic(auto, using(crate::proofs::Each::first_of, crate::proofs::Each::rest_of))]
 fn read(alloc: Global, symbols: &[Symbol]) -> Result<Unit, Fault>
     requires { All IsSymbol symbols.now }
     ensures { Gives (spec.answer 0 1 start symbols.now) result }
@@ -170,9 +179,8 @@ fn read(alloc: Global, symbols: &[Symbol]) -> Result<Unit, Fault>
     let mut line = 1;
     let mut left = symbols;
     'symbols: while let Some((symbol, rest)) = left.split_first() {
-        let (next, now) = take(alloc, &mut names, &mut around, stage, count, line, symbol)?;
-        stage = next;
-        count = now;
+        stage = take(alloc, &mut names, &mut around, stage, count, line, symbol)?;
+        count = opens_with(count, symbol.kind);
         line = symbol.line;
         left = rest;
     }
