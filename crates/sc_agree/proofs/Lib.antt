@@ -4,3 +4,4 @@ pub mod Steps
 pub mod Pairs
 pub mod Cells
 pub mod Loads
+pub mod Overlaps
