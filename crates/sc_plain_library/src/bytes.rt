@@ -195,6 +195,7 @@ pub fn shown(bytes: &[u8], world: &mut World) -> Result<(), Stop>
 }
 
 /// An argument, counted from 0; null where there is none.
+#[tactic(auto, using(crate::proofs::Arguments::stands_there, crate::proofs::Arguments::stands_nowhere))]
 pub fn value_at(vs: &[Value], i: usize, world: &World) -> Result<Value, NoMemory>
     ensures { IfOk result (λ v. v ≡ spec.value_at vs.now i) }
 {
@@ -205,6 +206,7 @@ pub fn value_at(vs: &[Value], i: usize, world: &World) -> Result<Value, NoMemory
 }
 
 /// The number of an argument, counted from 0; 0 for what is none.
+#[tactic(auto, using(crate::proofs::Arguments::stands_there, crate::proofs::Arguments::stands_nowhere))]
 pub fn bits_at(vs: &[Value], i: usize) -> u32
     ensures { result ≡ violation.bits (spec.value_at vs.now i) }
 {
