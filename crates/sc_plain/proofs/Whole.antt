@@ -23,6 +23,16 @@ pub stays_ended : (k : ℕ) (h : History) (texts : List Text) (e : Ending) → s
 stays_ended zero h texts e = refl
 stays_ended (suc k) h texts e = stays_ended k h texts e
 
+pub brought : (k : ℕ) (h : History) (texts : List Text) (s : State) (a : Answer) (cs : List Caller) (w : World) → s ≡ Answers a cs w → cs ≡ [] → steady.ran k h texts s ≡ Answers a [] w
+brought k h texts s a cs w p q = ap (steady.ran k h texts) (p ∙ ap (λ cs. Answers a cs w) q) ∙ stays_answered k h texts a w
+
+pub ended_there : (k : ℕ) (h : History) (texts : List Text) (s : State) (e : Ending) → s ≡ Ends e → steady.ran k h texts s ≡ Ends e
+ended_there k h texts s e p = ap (steady.ran k h texts) p ∙ stays_ended k h texts e
+
+-- one step of those that are left
+pub one_less : (k j : ℕ) (h : History) (texts : List Text) (s : State) → k ≡ j + 1 → steady.ran k h texts s ≡ steady.ran j h texts (steady.advance h texts s)
+one_less k j h texts s is = ap (λ n. steady.ran n h texts s) (is ∙ add-one)
+
 -- the first state of the call of main
 abbrev first_of : List Text → World → State
 first_of texts w = steady.callee_next (alone texts) main_key [] (callee_of texts main_key) [] (tick w)
