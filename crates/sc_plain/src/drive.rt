@@ -70,7 +70,7 @@ pub fn drive<'a>(
 {
     let mut going = first;
     let mut left = steps;
-    while 0 < left && !is_over(&going, callers) {
+    'stepping: while 0 < left && !is_over(&going, callers) {
         going = step_run(texts, going, callers, world)?;
         left -= 1;
     }
