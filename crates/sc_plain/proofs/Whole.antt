@@ -1,5 +1,7 @@
 -- From a run's steps to what the whole program does.
-use Rattle.std.proofs.Common.{◌≡◌, ℕ, zero, suc, ◌+◌, ◌<◌, List, [], refl, ap, sym, ◌∙◌, arith, add-one, Option, Some, None}
+use Rattle.std.proofs.Common.{◌≡◌, ℕ, zero, suc, ◌+◌, ◌<◌, List, [], refl, ap, sym, subst, ◌∙◌, arith, add-one, Option, Some, None, Result, Ok, Err}
+use Rattle.std.specs.Result.{IsErrAnd}
+use Rattle.std.proofs.lemmas.Result.{err_from_is_err_and}
 use Rattle.sc_meaning.specs.World.{World, tick}
 use Rattle.sc_meaning.specs.Outcomes.{Outcome, Done, Over, Ending, Exit, and_then, went}
 use Rattle.sc_meaning.specs.Versions.{Text, History, callee_of, version_at}
@@ -10,6 +12,10 @@ use Rattle.sc_meaning.specs.Behaviour.{Start, first_world, main_key, main_called
 use Rattle.sc_machine.specs.Runs as runs
 use Rattle.sc_machine.specs.Runs.{Caller, State, Answers, Ends}
 use Rattle.sc_machine.proofs.RunFollows.{answers_meaning, ends_meaning}
+use Rattle.sc_plain_leaves.specs.declared.stop.Stop.{Stop}
+use Rattle.sc_plain_leaves.specs.Gives.{ending_of}
+use Rattle.sc_plain.specs.declared.drive.Reached.{Reached}
+use Rattle.sc_plain.specs.Steps.{Brings}
 use Rattle.sc_plain.specs.Steady as steady
 use Rattle.sc_plain.specs.Steady.{alone}
 use Rattle.sc_plain.proofs.Unchanged.{quiet, present, callee_step, same_run}
@@ -22,6 +28,20 @@ stays_answered (suc k) h texts a w = stays_answered k h texts a w
 pub stays_ended : (k : ℕ) (h : History) (texts : List Text) (e : Ending) → steady.ran k h texts (Ends e) ≡ Ends e
 stays_ended zero h texts e = refl
 stays_ended (suc k) h texts e = stays_ended k h texts e
+
+pub brought : (k : ℕ) (h : History) (texts : List Text) (s : State) (a : Answer) (cs : List Caller) (w : World) → s ≡ Answers a cs w → cs ≡ [] → steady.ran k h texts s ≡ Answers a [] w
+brought k h texts s a cs w p q = ap (steady.ran k h texts) (p ∙ ap (λ cs. Answers a cs w) q) ∙ stays_answered k h texts a w
+
+pub ended_there : (k : ℕ) (h : History) (texts : List Text) (s : State) (e : Ending) → s ≡ Ends e → steady.ran k h texts s ≡ Ends e
+ended_there k h texts s e p = ap (steady.ran k h texts) p ∙ stays_ended k h texts e
+
+-- one step of those that are left
+pub one_less : (k j : ℕ) (h : History) (texts : List Text) (s : State) → k ≡ j + 1 → steady.ran k h texts s ≡ steady.ran j h texts (steady.advance h texts s)
+one_less k j h texts s is = ap (λ n. steady.ran n h texts s) (is ∙ add-one)
+
+-- a step that failed ends the whole, as `?` passes its end on
+pub ends_here : (t : State) (r : Result Reached Stop) (s : Stop) (w : World) → IsErrAnd r (λ e. e ≡ s) → ((e : Ending) → ending_of s w ≡ Some e → t ≡ Ends e) → Brings t r w
+ends_here t r s w p f = let q = err_from_is_err_and r p in subst (λ r. Brings t r w) (sym (q.1 ∙ ap (λ e. Err e) q.2)) f
 
 -- the first state of the call of main
 abbrev first_of : List Text → World → State

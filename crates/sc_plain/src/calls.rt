@@ -140,7 +140,11 @@ fn begins<'a>(
     world.open_block(born)?;
     let event = enter_event(key, t, world)?;
     world.happens(event)?;
-    let env = Env { text: t, fun: f, blocks };
+    let env = Env {
+        text: t,
+        fun: f,
+        blocks,
+    };
     Ok(Going::Runs(Doing::Exec(f.body.share()?), Stack::new(alloc), env, active))
 }
 

@@ -1,6 +1,7 @@
 // Steps one after another.
-ghost use Rattle.std.specs.Prelude.{List};
+ghost use Rattle.std.specs.Prelude.{ℕ, List, Ok};
 ghost use Rattle.sc_meaning.specs.Versions as versions;
+ghost use Rattle.sc_meaning.specs.World as worlds;
 ghost use Rattle.sc_machine.specs.Runs as runs;
 ghost use Rattle.sc_plain_library.specs.Quiet.{IsQuiet};
 ghost use Rattle.sc_plain.specs.Steady as steady;
@@ -35,7 +36,10 @@ fn is_over(going: &Going, callers: &Stack<Caller>) -> bool {
 }
 
 // Where it is over.
-fn reached(going: Going, callers: &Stack<Caller>) -> Reached {
+#[tactic(auto, using(crate::proofs::Whole::brought))]
+fn reached(going: Going, callers: &Stack<Caller>) -> Reached
+    ensures { (h : versions.History) (texts : List versions.Text) (k : ℕ) (s : runs.State) (w : worlds.World) → Is s going callers.now w → Brings (steady.ran k h texts s) (Ok result) w }
+{
     match going {
         Going::Answers(a) => {
             if callers.is_empty() {
@@ -66,7 +70,7 @@ pub fn drive<'a>(
 {
     let mut going = first;
     let mut left = steps;
-    while 0 < left && !is_over(&going, callers) {
+    'stepping: while 0 < left && !is_over(&going, callers) {
         going = step_run(texts, going, callers, world)?;
         left -= 1;
     }

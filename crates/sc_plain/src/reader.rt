@@ -39,7 +39,9 @@ fn key(alloc: Global, text: &[u8]) -> Result<Key, NoMemory> {
 fn number(text: &str) -> u32 {
     let mut n: u32 = 0;
     for b in text.as_bytes() {
-        n = n.wrapping_mul(10).wrapping_add(u32::from(b.wrapping_sub(48)));
+        n = n
+            .wrapping_mul(10)
+            .wrapping_add(u32::from(b.wrapping_sub(48)));
     }
     n
 }
@@ -231,7 +233,14 @@ impl Reader {
             "idx" | "op" | "uop" | "cmp" | "set" | "copy" | "cop" => {
                 let right = self.take()?;
                 let left = self.take()?;
-                let t = type_of(self.alloc, if word == "op" || word == "cmp" { "i" } else { a })?;
+                let t = type_of(
+                    self.alloc,
+                    if word == "op" || word == "cmp" {
+                        "i"
+                    } else {
+                        a
+                    },
+                )?;
                 self.put(double_of(word, l, t, a, b, left, right))?;
                 Ok(true)
             }
@@ -308,7 +317,12 @@ impl Reader {
     fn declarator(&mut self, a: &str, b: &str) -> Result<(), NoMemory> {
         let mut pieces = Vec::new(self.alloc);
         std::mem::swap(&mut pieces, &mut self.pieces);
-        self.statement(CoreStmt::Initialize(self.line, number(a), number(b), Items::from_vec(pieces)))
+        self.statement(CoreStmt::Initialize(
+            self.line,
+            number(a),
+            number(b),
+            Items::from_vec(pieces),
+        ))
     }
 
     fn object(&mut self, a: &str, b: &str) -> Result<(), NoMemory> {
@@ -399,7 +413,8 @@ impl Reader {
             }
             "piece" => {
                 let e = self.take()?;
-                self.pieces.push(AutoInit::Value(number(a), type_of(alloc, b)?, e))?;
+                self.pieces
+                    .push(AutoInit::Value(number(a), type_of(alloc, b)?, e))?;
                 Ok(())
             }
             "zero" => {

@@ -6,10 +6,11 @@ ghost use Rattle.sc_meaning.specs.World as worlds;
 ghost use Rattle.sc_plain_library.specs.Quiet.{IsQuiet};
 ghost use Rattle.sc_plain.specs.Ends.{EndsSo, Finishes, start_of};
 ghost use Rattle.sc_plain.specs.Steady as steady;
-ghost use Rattle.sc_plain.specs.Steps.{Brings};
+ghost use Rattle.sc_plain.specs.Steps.{Brings, Steps};
 
 use crate::calls::key_next;
 use crate::drive::{Reached, drive};
+use crate::going::{Caller, Going};
 use sc_base::{Items, Key, Name, NoMemory, Stack};
 use sc_meaning::LibFun;
 use sc_plain_leaves::{Breach, Stop, bits};
@@ -69,17 +70,28 @@ fn status_of(a: &Answer) -> u32
     }
 }
 
-// `main` is called, and comes back.
-fn main_called(texts: &[Text], steps: u64, world: &mut World) -> Result<Reached, Stop>
-    ensures { (h : versions.History) → IsQuiet h → Brings (steady.ran steps h texts.now (steady.callee_next h behaviour.main_key [] (versions.callee_of texts.now behaviour.main_key) [] (worlds.tick world.old))) result world.new }
+// The call of `main` goes out.
+fn first<'a>(
+    texts: &'a [Text],
+    callers: &Stack<Caller<'a>>,
+    world: &mut World,
+) -> Result<Going<'a>, Stop>
+    ensures { (h : versions.History) → IsQuiet h → Steps (steady.callee_next h behaviour.main_key [] (versions.callee_of texts.now behaviour.main_key) callers.now (worlds.tick world.old)) result callers.now world.new }
 {
     let alloc = world.alloc();
     let key = main_key(alloc)?;
     world.tick()?;
-    let mut callers = Stack::new(alloc);
     let none = Items::new(alloc);
-    let first = key_next(texts, key, none.as_slice(), &callers, world)?;
-    drive(texts, first, &mut callers, steps, world)
+    key_next(texts, key, none.as_slice(), callers, world)
+}
+
+// `main` is called, and comes back.
+fn main_called(texts: &[Text], steps: u64, world: &mut World) -> Result<Reached, Stop>
+    ensures { (h : versions.History) → IsQuiet h → Brings (steady.ran steps h texts.now (steady.callee_next h behaviour.main_key [] (versions.callee_of texts.now behaviour.main_key) [] (worlds.tick world.old))) result world.new }
+{
+    let mut callers = Stack::new(world.alloc());
+    let going = first(texts, &callers, world)?;
+    drive(texts, going, &mut callers, steps, world)
 }
 
 // From the births on.

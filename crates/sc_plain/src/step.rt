@@ -54,11 +54,7 @@ fn runs<'a>(
 }
 
 // An answer comes to the innermost caller.
-fn answers<'a>(
-    a: Answer,
-    callers: &mut Stack<Caller<'a>>,
-    world: &World,
-) -> Result<Going<'a>, Stop>
+fn answers<'a>(a: Answer, callers: &mut Stack<Caller<'a>>, world: &World) -> Result<Going<'a>, Stop>
     ensures { (h : versions.History) (texts : List versions.Text) → Steps (steady.advance h texts (runs.Answers a callers.old world.now)) result callers.new world.now }
 {
     match callers.pop() {

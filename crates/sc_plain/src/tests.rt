@@ -212,7 +212,8 @@ def:main:i:16 module:m";
 const STEPPED: &str = "
 blk blk var:i:4 { auto:i:1:0 num:2147483647 set:i ; auto:i:1:0 inc:i:1 ; num:0 ret }:1 def:main:i:16 module:m";
 
-const WRAPPED: &str = "blk blk { unum:4294967295 unum:1 uop:u:add get:i ret }:1 def:main:i:16 module:m";
+const WRAPPED: &str =
+    "blk blk { unum:4294967295 unum:1 uop:u:add get:i ret }:1 def:main:i:16 module:m";
 
 // Signed division, and its only overflow.
 const DIVIDED: &str = "
@@ -283,24 +284,56 @@ fn programs_show_what_is_worked_out(rt: HostRuntime) -> Result<(), Fail> {
         steps: 100_000,
     };
     for (program, limits, expected) in [
-        (CALLS, AMPLE, "f1\ng2\nf3\ng4\nf5\ng6\nf7\ng8\nf9\ng10\n> exit 10"),
-        (NINE, AMPLE, "> violation U1 in sum at u:2 object 1 offset 36 size 4"),
+        (
+            CALLS,
+            AMPLE,
+            "f1\ng2\nf3\ng4\nf5\ng6\nf7\ng8\nf9\ng10\n> exit 10",
+        ),
+        (
+            NINE,
+            AMPLE,
+            "> violation U1 in sum at u:2 object 1 offset 36 size 4",
+        ),
         (TEN, AMPLE, "> exit 45"),
-        (LEAK, AMPLE, "> violation U3 in main at s:3 object 2 offset 0 size 4"),
+        (
+            LEAK,
+            AMPLE,
+            "> violation U3 in main at s:3 object 2 offset 0 size 4",
+        ),
         (APART, AMPLE, "> exit 0"),
-        (OVER, AMPLE, "> violation U7 in main at m:1 left 2147483647 right 1"),
+        (
+            OVER,
+            AMPLE,
+            "> violation U7 in main at m:1 left 2147483647 right 1",
+        ),
         (WRAPPED, AMPLE, "> exit 0"),
         (DIVIDED, AMPLE, "-3 -1\n> exit 0"),
-        (LEAST, AMPLE, "> violation U7 in main at m:1 left -2147483648 right -1"),
-        (COPIED, AMPLE, "> violation U1 in main at t:3 object 2 offset 4 size 4"),
+        (
+            LEAST,
+            AMPLE,
+            "> violation U7 in main at m:1 left -2147483648 right -1",
+        ),
+        (
+            COPIED,
+            AMPLE,
+            "> violation U1 in main at t:3 object 2 offset 4 size 4",
+        ),
         (ENDLESS, small, "a\n> stack full entering f"),
         (HEAP, small, "100 1\n> exit 0"),
-        (STEPPED, AMPLE, "> violation U7 in main at m:1 left 2147483647 right 1"),
+        (
+            STEPPED,
+            AMPLE,
+            "> violation U7 in main at m:1 left 2147483647 right 1",
+        ),
         (DEAD, AMPLE, "> violation U3 in main at m:1 left 0 right 0"),
         (ORDER, AMPLE, "> exit 3"),
         (COMPOUND, AMPLE, "> exit 10"),
         (INITIAL, AMPLE, "> exit 0"),
-        (BLOCK, AMPLE, "> violation U3 in main at m:1 object 2 offset 0 size 4"),
+        (
+            BLOCK,
+            AMPLE,
+            "> violation U3 in main at m:1 object 2 offset 0 size 4",
+        ),
     ] {
         let text = ran(alloc, program, limits)?;
         assert_eq!(rt; text.as_slice(), expected.as_bytes());

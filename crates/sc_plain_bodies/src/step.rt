@@ -66,6 +66,8 @@ pub fn step_body(
         Doing::Turn(s) => turn_next(&s, stmts, env, world),
         Doing::Leave(way) => way_next(way, stmts, env, world),
         Doing::Pieces(p, rest) => pieces_next(p, rest, world),
-        Doing::Labels(labels, n, default, s) => labels_next(labels, n, default, s, stmts, env, world),
+        Doing::Labels(labels, n, default, s) => labels_next(
+            labels, n, default, s, stmts, env, world,
+        ),
     }
 }

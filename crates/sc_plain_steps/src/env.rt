@@ -1,7 +1,7 @@
 // What the names of a running call stand for (ANSI 3.1.2.4).
 
-use sc_core::Fun;
 use sc_base::Items;
+use sc_core::Fun;
 use sc_plain_parts::Text;
 use sc_plain_world::Born;
 use std::marker::Model;

@@ -12,14 +12,28 @@ use sc_plain_world::World;
 use sc_types::CType;
 use sc_values::{Answer, Value};
 
-fn index(size: u32, s: &CType, t: &CType, x: &Value, y: &Value, world: &mut World) -> Result<Answer, Stop>
+fn index(
+    size: u32,
+    s: &CType,
+    t: &CType,
+    x: &Value,
+    y: &Value,
+    world: &mut World,
+) -> Result<Answer, Stop>
     ensures { Gives (machine.pair_of (kind.Index size s.now t.now) x.now y.now world.old) result world.new }
 {
     let p = offset_by(Op::Add, size, s, t, x, y, world)?;
     at_place(p, world)
 }
 
-fn binary(o: Op, s: &CType, t: &CType, x: &Value, y: &Value, world: &mut World) -> Result<Answer, Stop>
+fn binary(
+    o: Op,
+    s: &CType,
+    t: &CType,
+    x: &Value,
+    y: &Value,
+    world: &mut World,
+) -> Result<Answer, Stop>
     ensures { Gives (machine.pair_of (kind.Binary o s.now t.now) x.now y.now world.old) result world.new }
 {
     let v = computed(o, int_of(s), x, int_of(t), y, world)?;

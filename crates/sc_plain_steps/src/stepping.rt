@@ -207,12 +207,7 @@ fn answer_next(a: Answer, items: &mut Stack<Item>, world: &mut World) -> Result<
 /// # Errors
 ///
 /// How the run ends in it.
-pub fn step(
-    env: &Env,
-    mode: Mode,
-    items: &mut Stack<Item>,
-    world: &mut World,
-) -> Result<Next, Stop>
+pub fn step(env: &Env, mode: Mode, items: &mut Stack<Item>, world: &mut World) -> Result<Next, Stop>
     ensures { Advances (machine.advance env.now mode items.old world.old) result items.new world.new }
 {
     match mode {
