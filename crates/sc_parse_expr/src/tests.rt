@@ -216,10 +216,10 @@ fn behind_all<'a>(args: &[Shared<Expr>], signs: &'a [u8]) -> Option<&'a [u8]> {
     left.strip_prefix(b")")
 }
 
-fn has_signs(answer: &Result<Found, Refused>, signs: &[u8], taken: usize) -> bool {
+fn has_signs(answer: &Result<Found, Refused>, signs: &[u8], taken: &str) -> bool {
     match answer {
         Ok(found) => {
-            found.taken == taken
+            taken.parse::<usize>() == Ok(found.taken)
                 && match behind(found.tree.get(), signs) {
                     Some(rest) => rest.is_empty(),
                     None => false,
@@ -229,74 +229,80 @@ fn has_signs(answer: &Result<Found, Refused>, signs: &[u8], taken: usize) -> boo
     }
 }
 
+// Tokens, the signs of the tree that they begin with, and how many of them it takes.
+const TREES: &str = "a a 1
+1; 1 1
+(a) a 3
+\"\" \" 2
+a+b*c +a*bc 5
+a*b+c +*abc 5
+a-b-c --abc 5
+a/b*c */abc 5
+aHb<cQd Q<Habcd 7
+aQb&c^d|e |^&Qabcde 9
+aOb|cNd OaN|bcd 7
+a=b=c =a=bc 5
+aUb=c Ua=bc 5
+a=bOc =aObc 5
+a?b:c?d:e ?ab?cde 9
+a?b,c:d ?a,bcd 7
+a?b?c:d:e ?a?bcde 9
+a,b,c ,,abc 5
+a=b,c=d ,=ab=cd 7
+-a*b *Zab 4
+-a=b =Zab 4
+!a+~b +!a~b 5
+*aP X#a 3
+PaM P$a 3
+-*&a ZXDa 4
+a*-b *aZb 4
+a[b] [ab 4
+a[b,c][d] [[a,bcd 9
+a() (a) 3
+a(b,c=d) (ab=cd) 8
+a(b)(c) ((ab)c) 7
+a.bAc A.a 5
+*a.b X.a 4
+(t)a+b +Kab 6
+(a)+b +ab 5
+(t)(a) Ka 6
+(I)-a KZa 5
+(I*)a Ka 5
+(CI*C*)a Ka 8
+(I(*)(I))a Ka 10
+(Rs{Im;}*)a Ka 11
+(E{x=1,y})y Ky 11
+Sa+b +Sab 4
+S(t) T 4
+S(t)*a *Ta 6
+S(a)[b] S[ab 7
+S(I[1]) T 7
+SSa SSa 3
+_(t,m) _ 6
+_(a) (_a) 4
+a;b a 1
+a): a 1
+a+b] +ab 3";
+
 #[test]
 fn trees(rt: HostRuntime) -> Result<(), Fail> {
     let alloc = rt.alloc();
-    for (text, signs, taken) in [
-        ("a", "a", 1usize),
-        ("1;", "1", 1),
-        ("(a)", "a", 3),
-        ("\"\"", "\"", 2),
-        ("a+b*c", "+a*bc", 5),
-        ("a*b+c", "+*abc", 5),
-        ("a-b-c", "--abc", 5),
-        ("a/b*c", "*/abc", 5),
-        ("aHb<cQd", "Q<Habcd", 7),
-        ("aQb&c^d|e", "|^&Qabcde", 9),
-        ("aOb|cNd", "OaN|bcd", 7),
-        ("a=b=c", "=a=bc", 5),
-        ("aUb=c", "Ua=bc", 5),
-        ("a=bOc", "=aObc", 5),
-        ("a?b:c?d:e", "?ab?cde", 9),
-        ("a?b,c:d", "?a,bcd", 7),
-        ("a?b?c:d:e", "?a?bcde", 9),
-        ("a,b,c", ",,abc", 5),
-        ("a=b,c=d", ",=ab=cd", 7),
-        ("-a*b", "*Zab", 4),
-        ("-a=b", "=Zab", 4),
-        ("!a+~b", "+!a~b", 5),
-        ("*aP", "X#a", 3),
-        ("PaM", "P$a", 3),
-        ("-*&a", "ZXDa", 4),
-        ("a*-b", "*aZb", 4),
-        ("a[b]", "[ab", 4),
-        ("a[b,c][d]", "[[a,bcd", 9),
-        ("a()", "(a)", 3),
-        ("a(b,c=d)", "(ab=cd)", 8),
-        ("a(b)(c)", "((ab)c)", 7),
-        ("a.bAc", "A.a", 5),
-        ("*a.b", "X.a", 4),
-        ("(t)a+b", "+Kab", 6),
-        ("(a)+b", "+ab", 5),
-        ("(t)(a)", "Ka", 6),
-        ("(I)-a", "KZa", 5),
-        ("(I*)a", "Ka", 5),
-        ("(CI*C*)a", "Ka", 8),
-        ("(I(*)(I))a", "Ka", 10),
-        ("(Rs{Im;}*)a", "Ka", 11),
-        ("(E{x=1,y})y", "Ky", 11),
-        ("Sa+b", "+Sab", 4),
-        ("S(t)", "T", 4),
-        ("S(t)*a", "*Ta", 6),
-        ("S(a)[b]", "S[ab", 7),
-        ("S(I[1])", "T", 7),
-        ("SSa", "SSa", 3),
-        ("_(t,m)", "_", 6),
-        ("_(a)", "(_a)", 4),
-        ("a;b", "a", 1),
-        ("a):", "a", 1),
-        ("a+b]", "+ab", 3),
-    ] {
-        let found = answer(alloc, text.as_bytes());
-        assert!(rt; has_signs(&found, signs.as_bytes(), taken), "{text}");
+    for line in TREES.lines() {
+        if let Some((text, rest)) = line.split_once(' ') {
+            if let Some((signs, taken)) = rest.split_once(' ') {
+                let found = answer(alloc, text.as_bytes());
+                assert!(rt; has_signs(&found, signs.as_bytes(), taken), "{line}");
+            }
+        }
     }
     Ok(())
 }
 
-fn is_refused(answer: &Result<Found, Refused>, why: u8, line: u32) -> bool {
+fn is_refused(answer: &Result<Found, Refused>, why: u8, line: &str) -> bool {
     match answer {
         Ok(_) => false,
-        Err(refused) => refused.line == line && trouble_sign(refused.trouble) == why,
+        Err(refused) => line.parse::<u32>() == Ok(refused.line)
+            && trouble_sign(refused.trouble) == why,
     }
 }
 
@@ -314,39 +320,51 @@ fn trouble_sign(trouble: Trouble) -> u8 {
     }
 }
 
+fn is_wanted(answer: &Result<Found, Refused>, why: &[u8], line: &str) -> bool {
+    match why.first() {
+        Some(why) => is_refused(answer, *why, line),
+        None => false,
+    }
+}
+
+// Tokens, why they are refused, and the line.
+const REFUSALS: &str = " 5 1
+; 5 1
+a=b=; 5 1
+a'='b'=' 5 4
+a+'+'*'/b 5 4
+ab 5 1
+a?b' 5 1
+a?b; 5 1
+a+b=c 5 1
+(t)a=b 5 1
+a?b:c=d 5 1
+P(t)a 5 1
+S(t)a 5 1
+(a 5 1
+a[b; 5 1
+a[] 5 1
+a(b,) 5 1
+(tt)a 5 1
+t 5 1
+a.t+b.1 5 1
+(Ia)b 5 1
+(F)a f 1
+a+'F f 2
+(R{Im:1;})a b 1
+(I(*)(a))b o 1
+(C)a i 1";
+
 #[test]
 fn refusals(rt: HostRuntime) -> Result<(), Fail> {
     let alloc = rt.alloc();
-    for (text, why, line) in [
-        ("", b'5', 1u32),
-        (";", b'5', 1),
-        ("a=b=;", b'5', 1),
-        ("a'='b'='", b'5', 4),
-        ("a+'+'*'/b", b'5', 4),
-        ("ab", b'5', 1),
-        ("a?b'", b'5', 1),
-        ("a?b;", b'5', 1),
-        ("a+b=c", b'5', 1),
-        ("(t)a=b", b'5', 1),
-        ("a?b:c=d", b'5', 1),
-        ("P(t)a", b'5', 1),
-        ("S(t)a", b'5', 1),
-        ("(a", b'5', 1),
-        ("a[b;", b'5', 1),
-        ("a[]", b'5', 1),
-        ("a(b,)", b'5', 1),
-        ("(tt)a", b'5', 1),
-        ("t", b'5', 1),
-        ("a.t+b.1", b'5', 1),
-        ("(Ia)b", b'5', 1),
-        ("(F)a", b'f', 1),
-        ("a+'F", b'f', 2),
-        ("(R{Im:1;})a", b'b', 1),
-        ("(I(*)(a))b", b'o', 1),
-        ("(C)a", b'i', 1),
-    ] {
-        let found = answer(alloc, text.as_bytes());
-        assert!(rt; is_refused(&found, why, line), "{text}");
+    for row in REFUSALS.lines() {
+        if let Some((text, rest)) = row.split_once(' ') {
+            if let Some((why, line)) = rest.split_once(' ') {
+                let found = answer(alloc, text.as_bytes());
+                assert!(rt; is_wanted(&found, why.as_bytes(), line), "{row}");
+            }
+        }
     }
     Ok(())
 }
@@ -359,34 +377,39 @@ fn repeat(text: &mut Vec<u8>, count: u32, each: &[u8]) -> Result<(), NoMemory> {
 }
 
 // So many of a text, a text between, as many of another, and a text behind.
-fn nested(alloc: Global, count: u32, parts: [&str; 5]) -> Result<Vec<u8>, NoMemory> {
-    let [before, each, between, close, after] = parts;
+fn nested(alloc: Global, count: u32, parts: &[&str; 5]) -> Result<Vec<u8>, NoMemory> {
     let mut text = Vec::new(alloc);
-    text.extend_from_slice(before.as_bytes())?;
-    repeat(&mut text, count, each.as_bytes())?;
-    text.extend_from_slice(between.as_bytes())?;
-    repeat(&mut text, count, close.as_bytes())?;
-    text.extend_from_slice(after.as_bytes())?;
+    text.extend_from_slice(parts[0].as_bytes())?;
+    repeat(&mut text, count, parts[1].as_bytes())?;
+    text.extend_from_slice(parts[2].as_bytes())?;
+    repeat(&mut text, count, parts[3].as_bytes())?;
+    text.extend_from_slice(parts[4].as_bytes())?;
     Ok(text)
+}
+
+// The parts, and whether a limit of heights or of lists is passed by one more than so many.
+fn limit(row: u32) -> (u32, u8, [&'static str; 5]) {
+    match row {
+        0 => (500, b'h', ["", "(", "a", ")", ""]),
+        1 => (199, b'h', ["", "-", "a", "", ""]),
+        2 => (199, b'h', ["", "a=", "a", "", ""]),
+        3 => (198, b'h', ["", "a[", "a+a", "]", ""]),
+        4 => (30, b'a', ["f(", "a,", "a", "", ")"]),
+        _ => (30, b'a', ["(I(*)(", "I,", "I", "", "))a"]),
+    }
 }
 
 // Up to each limit an expression is read, and one beyond it is refused.
 #[test]
 fn limits(rt: HostRuntime) -> Result<(), Fail> {
     let alloc = rt.alloc();
-    for (most, why, parts) in [
-        (500u32, b'h', ["", "(", "a", ")", ""]),
-        (199, b'h', ["", "-", "a", "", ""]),
-        (199, b'h', ["", "a=", "a", "", ""]),
-        (198, b'h', ["", "a[", "a+a", "]", ""]),
-        (30, b'a', ["f(", "a,", "a", "", ")"]),
-        (30, b'a', ["(I(*)(", "I,", "I", "", "))a"]),
-    ] {
-        let text = nested(alloc, most, parts)?;
-        assert!(rt; answer(alloc, text.as_slice()).is_ok(), "{most} {why}");
-        let text = nested(alloc, most + 1, parts)?;
+    for row in 0..6u32 {
+        let (most, why, parts) = limit(row);
+        let text = nested(alloc, most, &parts)?;
+        assert!(rt; answer(alloc, text.as_slice()).is_ok(), "{row}");
+        let text = nested(alloc, most.saturating_add(1), &parts)?;
         let beyond = answer(alloc, text.as_slice());
-        assert!(rt; is_refused(&beyond, why, 1), "{most} {why}");
+        assert!(rt; is_refused(&beyond, why, "1"), "{row}");
     }
     Ok(())
 }

@@ -25,11 +25,11 @@ use Rattle.sc_phrase.specs.declared.frame.Frame.TheVariants as f
 use Rattle.sc_phrase.specs.declared.frame.State.{State}
 use Rattle.sc_phrase.specs.declared.frame.State.TheVariants as s
 use Rattle.sc_phrase.specs.declared.trouble.Trouble.{Trouble}
-use Rattle.sc_phrase.specs.Kinds.{word_of, begins_parameters}
-use Rattle.sc_phrase.specs.Types.{no_words, with_word, with_step, no_direct, identifier_at, item_of, parameter_of, declarator_in, declare_in}
+use Rattle.sc_phrase.specs.Kinds.{word_of}
+use Rattle.sc_phrase.specs.Types.{no_words, with_word, with_step, no_direct, item_of, parameter_of, declarator_in, declare_in}
 use Rattle.sc_phrase.specs.Grammar as g
 use Rattle.sc_phrase.specs.Grammar.{Specified, Members, Items, ItemTokens, Parameters, ParameterTokens, Tag, starts_at, is_named, is_void, is_right_paren, void_alone, is_group}
-use Rattle.sc_phrase.specs.Machine.{Place, Config, Outcome, due, void, structure, tagged_structure, enumeration, tagged_enumeration, items, item, opens_parameters, group_name, in_group, group, entered, begin, effect}
+use Rattle.sc_phrase.specs.Machine.{Config, due, void, structure, tagged_structure, enumeration, tagged_enumeration, items, item, opens_parameters, group_name, in_group, group, entered, effect}
 use Rattle.sc_sound.proofs.Open as w
 use Rattle.sc_sound.proofs.Open.{Open, Valid, Good, Typed, Empty, Proper, Firm, Ready, Worded, Tagging, Behind, Declaring, Itemed, ItemRead, ParameterRead, ParametersRead, SomeItems, SomeParameters, Grouping, Begun, Starts, extend, stores, is_nothing, is_name, group_read, direct_read, closing_kind}
 use Rattle.sc_sound.proofs.Declaring.{cons_append, add_step, begin-good}

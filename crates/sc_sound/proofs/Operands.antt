@@ -1,5 +1,5 @@
 -- Operands that are read.
-use Rattle.std.proofs.Common.{◌≡◌, ℕ, suc, ◌≤◌, ◌<◌, Bool, true, false, List, [], ◌∷◌, ◌++◌, length, Option, Some, None, Ok, Err, refl, sym, ◌∙◌, ap, subst, arith, append_assoc, append-nil}
+use Rattle.std.proofs.Common.{◌≡◌, ℕ, ◌≤◌, ◌<◌, Bool, true, false, List, [], ◌∷◌, ◌++◌, length, Option, Some, None, Ok, refl, sym, ◌∙◌, ap, subst, arith, append_assoc}
 use Rattle.std.specs.Prelude.{nat_lt, nat_le, max, if◌then◌else◌}
 use Rattle.std.specs.Str.{bytes_eq}
 use Rattle.std.proofs.lemmas.Bool.{leb-true, leb-false, ltb-true, ltb-false}
@@ -19,17 +19,17 @@ use Rattle.sc_phrase.specs.declared.operand.Direct.{Direct}
 use Rattle.sc_phrase.specs.declared.frame.Frame.{Frame}
 use Rattle.sc_phrase.specs.declared.frame.Frame.TheVariants as f
 use Rattle.sc_phrase.specs.declared.frame.State.TheVariants as s
-use Rattle.sc_phrase.specs.Kinds.{unary_of, postfix_of, binary_of, level_of, assign_of, power_of, level_at, begins_type}
-use Rattle.sc_phrase.specs.Nodes.{offsetof_name, name_level, name_node, constant_node, text_node, paren_node, index_node, call_node, member_node, arrow_node, offset_node, postfix_node}
-use Rattle.sc_phrase.specs.Types.{no_words, with_step, item_of}
+use Rattle.sc_phrase.specs.Kinds.{unary_of, postfix_of, binary_of, level_of, assign_of, power_of, begins_type}
+use Rattle.sc_phrase.specs.Nodes.{offsetof_name, name_node, text_node, paren_node, index_node, call_node, offset_node}
+use Rattle.sc_phrase.specs.Types.{with_step, item_of}
 use Rattle.sc_phrase.specs.Grammar as g
 use Rattle.sc_phrase.specs.Grammar.{Phrase, Arguments, text_with}
-use Rattle.sc_phrase.specs.Machine.{Outcome, stuck, needs, settle, settled, act, at_assign, at_question, close_then, at_comma, separate, close_paren, close_bracket, close_brace, close_all, at_operator, tight, have, behind, at_postfix, empty_call, at_unary, need, offset_type, needed, opened, sized, sized_opened, texts, dotted, arrowed, offset_comma, offset_name, bracket}
+use Rattle.sc_phrase.specs.Machine.{stuck, needs, settle, act, at_assign, at_question, close_then, at_comma, separate, close_paren, close_bracket, close_brace, close_all, at_operator, tight, have, behind, at_postfix, empty_call, at_unary, need, offset_type, needed, opened, sized, sized_opened, texts, dotted, arrowed, offset_comma, offset_name, bracket}
 use Rattle.sc_sound.proofs.Levels.{level-small, level-positive, power-binary, not_between}
 use Rattle.sc_sound.proofs.Open as w
 use Rattle.sc_sound.proofs.Open.{Open, Valid, Good, Holds, Quoted, Behind, Twice, Dotted, Offset, Declaring, ItemRead, Ended, is_nothing, is_name, direct_read, bracket_read, extend}
 use Rattle.sc_sound.specs.Claims.{closes}
-use Rattle.sc_sound.proofs.Settling.{either, hold, operand, held, Closed, closed, fits_good, few_good}
+use Rattle.sc_sound.proofs.Settling.{either, held, Closed, closed, fits_good, few_good}
 use Rattle.sc_sound.proofs.Declaring.{add_step}
 use Rattle.sc_sound.proofs.Words.{first_word}
 

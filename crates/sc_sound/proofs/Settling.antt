@@ -1,13 +1,11 @@
 -- Operators that are closed.
-use Rattle.std.proofs.Common.{◌≡◌, ℕ, zero, suc, ◌+◌, ◌≤◌, ◌<◌, Bool, true, false, List, [], ◌∷◌, ◌++◌, length, Option, Some, None, Ok, Err, refl, sym, ◌∙◌, ap, subst, arith, append_assoc, append-nil}
-use Rattle.std.specs.Prelude.{nat_lt, nat_le, max, if◌then◌else◌}
+use Rattle.std.proofs.Common.{◌≡◌, ℕ, suc, ◌≤◌, ◌<◌, Bool, true, false, List, [], ◌∷◌, ◌++◌, Option, refl, ◌∙◌, arith, append_assoc}
+use Rattle.std.specs.Prelude.{nat_lt, nat_le, if◌then◌else◌}
 use Rattle.std.proofs.lemmas.Bool.{leb-true, leb-false, ltb-true, ltb-false}
 use Rattle.sc_tree.specs.declared.operator.Unary.{Unary}
 use Rattle.sc_tree.specs.declared.operator.Binary.{Binary}
 use Rattle.sc_tree.specs.declared.expression.TypeName.{TypeName}
 use Rattle.sc_symbol.specs.declared.kind.Symbol.{Symbol}
-use Rattle.sc_symbol.specs.declared.kind.Kind.{Kind}
-use Rattle.sc_symbol.specs.declared.kind.Kind.TheVariants as k
 use Rattle.sc_symbol.specs.Names.{Names}
 use Rattle.sc_phrase.specs.declared.operand.Operand.{Operand}
 use Rattle.sc_phrase.specs.declared.frame.Frame.{Frame}
@@ -17,7 +15,7 @@ use Rattle.sc_phrase.specs.Nodes.{unary_node, size_node, cast_node, binary_node,
 use Rattle.sc_phrase.specs.Grammar as g
 use Rattle.sc_phrase.specs.Grammar.{Phrase}
 use Rattle.sc_phrase.specs.Machine.{Outcome, needs, needs_in, level_in, built, settle, fits, few}
-use Rattle.sc_sound.proofs.Levels.{level-small, level-positive, operand-loose}
+use Rattle.sc_sound.proofs.Levels.{level-small, operand-loose}
 use Rattle.sc_sound.proofs.Open as w
 use Rattle.sc_sound.proofs.Open.{Open, Holds, Good}
 

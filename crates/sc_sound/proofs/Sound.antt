@@ -1,9 +1,8 @@
 -- What the machine takes is in the grammar.
-use Rattle.std.proofs.Common.{◌≡◌, ℕ, ◌≤◌, Bool, true, false, List, [], ◌∷◌, ◌++◌, Option, Some, None, Ok, Err, refl, sym, ◌∙◌, ap, subst, append_assoc, append-nil}
+use Rattle.std.proofs.Common.{◌≡◌, ℕ, ◌≤◌, true, List, [], ◌∷◌, ◌++◌, Ok, Err, refl, sym, ◌∙◌, ap, subst, append_assoc, append-nil}
 use Rattle.std.specs.Prelude.{Result}
 use Rattle.sc_symbol.specs.declared.kind.Symbol.{Symbol}
 use Rattle.sc_symbol.specs.declared.kind.Kind.{Kind}
-use Rattle.sc_symbol.specs.declared.kind.Kind.TheVariants as k
 use Rattle.sc_symbol.specs.Names.{Names, is_typed}
 use Rattle.sc_phrase.specs.declared.operand.Operand.{Operand}
 use Rattle.sc_phrase.specs.declared.operand.Mode.TheVariants as mode
@@ -12,9 +11,8 @@ use Rattle.sc_phrase.specs.declared.frame.Frame.TheVariants as f
 use Rattle.sc_phrase.specs.declared.frame.State.{State}
 use Rattle.sc_phrase.specs.declared.frame.State.TheVariants as s
 use Rattle.sc_phrase.specs.declared.trouble.Trouble.{Trouble}
-use Rattle.sc_phrase.specs.declared.trouble.Trouble.TheVariants as no
 use Rattle.sc_phrase.specs.Grammar.{Phrase}
-use Rattle.sc_phrase.specs.Machine.{Place, Config, Outcome, marked, place, entered, enters, is_left_paren, effect, on_ok, step, run}
+use Rattle.sc_phrase.specs.Machine.{Config, Outcome, marked, place, entered, enters, effect, on_ok, step, run}
 use Rattle.sc_sound.specs.Claims.{closes}
 use Rattle.sc_sound.proofs.Open as w
 use Rattle.sc_sound.proofs.Open.{Valid, Good, Ended}

@@ -1,29 +1,22 @@
 -- Specifiers that are read.
-use Rattle.std.proofs.Common.{◌≡◌, ℕ, ◌≤◌, Bool, true, false, List, [], ◌∷◌, ◌++◌, length, Option, Some, None, Ok, Err, refl, sym, ◌∙◌, ap, subst, arith, append_assoc, append-nil}
-use Rattle.std.specs.Prelude.{◌&&◌, if◌then◌else◌}
+use Rattle.std.proofs.Common.{◌≡◌, ℕ, Bool, true, false, List, [], ◌∷◌, ◌++◌, Option, Some, None, refl, sym, ◌∙◌, ap, append_assoc, append-nil}
+use Rattle.std.specs.Prelude.{◌&&◌}
 use Rattle.std.proofs.lemmas.Bool.{and_parts}
 use Rattle.sc_tree.specs.declared.expression.Storage.{Storage}
 use Rattle.sc_tree.specs.declared.expression.TypeWord.{TypeWord}
-use Rattle.sc_tree.specs.declared.expression.TypeWord.TheVariants as word
 use Rattle.sc_tree.specs.declared.expression.Specifiers.{Specifiers}
-use Rattle.sc_tree.specs.declared.expression.Member.{Member}
-use Rattle.sc_tree.specs.declared.expression.Enumerator.{Enumerator}
-use Rattle.sc_tree.specs.declared.expression.Expr.{Expr}
 use Rattle.sc_symbol.specs.declared.kind.Symbol.{Symbol}
 use Rattle.sc_symbol.specs.declared.kind.Kind.{Kind}
 use Rattle.sc_symbol.specs.declared.kind.Kind.TheVariants as k
-use Rattle.sc_symbol.specs.Names.{Names, is_type, is_typed, typed_by, enter}
-use Rattle.sc_phrase.specs.declared.operand.Direct.{Direct}
-use Rattle.sc_phrase.specs.declared.operand.Mode.{Mode}
+use Rattle.sc_symbol.specs.Names.{Names, is_typed, typed_by}
 use Rattle.sc_phrase.specs.declared.operand.Mode.TheVariants as mode
 use Rattle.sc_phrase.specs.declared.frame.Frame.{Frame}
 use Rattle.sc_phrase.specs.declared.frame.Frame.TheVariants as f
-use Rattle.sc_phrase.specs.declared.frame.State.TheVariants as s
-use Rattle.sc_phrase.specs.Kinds.{word_of, begins_parameters}
-use Rattle.sc_phrase.specs.Types.{is_empty, has_words, no_words, with_word, no_direct}
+use Rattle.sc_phrase.specs.Kinds.{word_of}
+use Rattle.sc_phrase.specs.Types.{is_empty, has_words, no_words}
 use Rattle.sc_phrase.specs.Grammar as g
 use Rattle.sc_phrase.specs.Grammar.{Specified, Members, Items, Trailing, Tag, starts_at, is_void, is_right_paren, void_alone, is_group}
-use Rattle.sc_phrase.specs.Machine.{Outcome, outer_specified, inner_specified, specified, goes_on, plain_name, nothing_yet, wordless, worded, at_word, at_storage, at_name, words, due, void, structure, tagged_structure, enumeration, tagged_enumeration, items, opens_parameters, group_name, in_group, group, entered}
+use Rattle.sc_phrase.specs.Machine.{outer_specified, inner_specified, specified, goes_on, plain_name, nothing_yet, wordless, worded, at_word, at_storage, at_name, words}
 use Rattle.sc_sound.proofs.Open as w
 use Rattle.sc_sound.proofs.Open.{Open, Good, Typed, Proper, Firm, Ready, Mild, Worded, Headed, Tagging, Behind, Declaring, SomeItems, stores, mode_in, is_nothing, is_name, group_read, Grouping, Starts}
 use Rattle.sc_sound.proofs.Settling.{either}

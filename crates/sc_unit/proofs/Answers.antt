@@ -1,6 +1,6 @@
 -- What the machine reads decides the answer.
-use Rattle.std.proofs.Common.{◌≡◌, ℕ, ◌≤◌, ◌<◌, Bool, true, false, List, [], ◌∷◌, ◌++◌, Option, Some, None, Result, Ok, Err, refl, sym, ◌∙◌, ap, subst, arith, append_assoc, append-nil, ◌⊎◌, inl, inr}
-use Rattle.std.specs.Prelude.{nat_lt, cond, if◌then◌else◌, codes}
+use Rattle.std.proofs.Common.{◌≡◌, ℕ, Bool, true, false, List, [], ◌∷◌, ◌++◌, Result, Ok, Err, refl, sym, ◌∙◌, ap, subst, arith, append-nil, ◌⊎◌, inl, inr}
+use Rattle.std.specs.Prelude.{nat_lt, cond, codes}
 use Rattle.std.proofs.lemmas.Bool.Decides.{nat_tests}
 use Rattle.sc_base.specs.declared.refusal.X.{X}
 use Rattle.sc_base.specs.declared.refusal.X.TheVariants as x
@@ -10,7 +10,6 @@ use Rattle.sc_tree.specs.declared.statement.External.{External}
 use Rattle.sc_tree.specs.declared.statement.Unit.{Unit as Tree}
 use Rattle.sc_symbol.specs.declared.kind.Symbol.{Symbol}
 use Rattle.sc_symbol.specs.Names.{Names}
-use Rattle.sc_phrase.specs.declared.trouble.Trouble.{Trouble}
 use Rattle.sc_phrase.specs.declared.trouble.Trouble.TheVariants as trouble
 use Rattle.sc_phrase.specs.declared.trouble.Limit.TheVariants as limit
 use Rattle.sc_unit.specs.declared.around.Around.{Around}

@@ -1,6 +1,6 @@
 -- Statements that end, and places where something is due.
-use Rattle.std.proofs.Common.{◌≡◌, ℕ, zero, suc, ◌+◌, ◌≤◌, ◌<◌, Bool, true, false, List, [], ◌∷◌, ◌++◌, length, Option, Some, None, Ok, Err, refl, sym, ◌∙◌, ap, subst, arith, append_assoc, append-nil}
-use Rattle.std.specs.Prelude.{◌&&◌, nat_lt, if◌then◌else◌, Result}
+use Rattle.std.proofs.Common.{◌≡◌, ℕ, suc, ◌≤◌, Bool, true, false, List, [], ◌∷◌, ◌++◌, length, None, Ok, Err, refl, sym, ◌∙◌, ap, subst, arith, append_assoc, append-nil}
+use Rattle.std.specs.Prelude.{◌&&◌, nat_lt, if◌then◌else◌}
 use Rattle.std.proofs.lemmas.Bool.{and_parts, ltb-true}
 use Rattle.sc_tree.specs.declared.expression.TypeWord.{TypeWord}
 use Rattle.sc_tree.specs.declared.expression.Specifiers.{Specifiers}
@@ -13,18 +13,17 @@ use Rattle.sc_tree.specs.declared.statement.External.TheVariants as external
 use Rattle.sc_symbol.specs.declared.kind.Symbol.{Symbol}
 use Rattle.sc_symbol.specs.declared.kind.Kind.{Kind}
 use Rattle.sc_symbol.specs.declared.kind.Kind.TheVariants as k
-use Rattle.sc_symbol.specs.Names.{Names, is_typed, enter, leave}
+use Rattle.sc_symbol.specs.Names.{Names, is_typed, leave}
 use Rattle.sc_unit.specs.declared.around.Head.{Head}
 use Rattle.sc_unit.specs.declared.around.Head.TheVariants as h
 use Rattle.sc_unit.specs.declared.around.Around.{Around}
 use Rattle.sc_unit.specs.declared.around.Around.TheVariants as a
-use Rattle.sc_unit.specs.declared.around.Stage.{Stage}
 use Rattle.sc_unit.specs.declared.around.Stage.TheVariants as at
 use Rattle.sc_unit.specs.declared.around.Test.TheVariants as of_kind
 use Rattle.sc_unit.specs.Trees.{block_of, with_statement, function_of}
 use Rattle.sc_unit.specs.Grammar as g
 use Rattle.sc_unit.specs.Grammar.{IsStatement, Nested, Statements, Braces, UnitTokens}
-use Rattle.sc_unit.specs.Machine.{Point, Move, stuck, begins_declaration, function_ends, block_ends, block_begins, statement, statement_due, external_due, is_early, item_due, is_outside, due, waits, built, settle, other_begins, until, behind, is_else, got, left_paren, needs, ends_part, expression_due, place, marked, advance, part_ends, at_colon, at_semicolon}
+use Rattle.sc_unit.specs.Machine.{Point, Move, begins_declaration, function_ends, block_ends, statement, statement_due, external_due, is_early, item_due, is_outside, due, waits, built, settle, other_begins, until, behind, is_else, got, left_paren, needs, ends_part, expression_due, place, marked, advance}
 use Rattle.sc_sound.proofs.Declaring.{cons_append}
 use Rattle.sc_sound.proofs.Sound.{step-good}
 use Rattle.sc_unit.proofs.Inside as n

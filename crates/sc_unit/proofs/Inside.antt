@@ -1,5 +1,5 @@
 -- What the tokens that were read say of what is open around a place, and of what was read last.
-use Rattle.std.proofs.Common.{◌≡◌, ℕ, suc, ◌≤◌, Bool, true, false, List, [], ◌∷◌, ◌++◌, length, Option, Some, None, Ok, Err}
+use Rattle.std.proofs.Common.{◌≡◌, ℕ, suc, ◌≤◌, Bool, true, List, [], ◌∷◌, ◌++◌, length, Option, None, Ok, Err}
 use Rattle.sc_tree.specs.declared.expression.Expr.{Expr}
 use Rattle.sc_tree.specs.declared.expression.Storage.{Storage}
 use Rattle.sc_tree.specs.declared.expression.TypeWord.{TypeWord}
@@ -26,7 +26,6 @@ use Rattle.sc_unit.specs.declared.around.Head.{Head}
 use Rattle.sc_unit.specs.declared.around.Head.TheVariants as h
 use Rattle.sc_unit.specs.declared.around.Around.{Around}
 use Rattle.sc_unit.specs.declared.around.Around.TheVariants as a
-use Rattle.sc_unit.specs.declared.around.Stage.{Stage}
 use Rattle.sc_unit.specs.declared.around.Stage.TheVariants as at
 use Rattle.sc_unit.specs.Trees.{declare_as}
 use Rattle.sc_unit.specs.Grammar.{WholeExpression, Optional, Condition, InitialTokens, Initials, InitList, Heading, Declarations, IsStatement, Nested, Statements, UnitTokens}

@@ -1,7 +1,6 @@
 -- What is known before a token is known behind it.
-use Rattle.std.proofs.Common.{◌≡◌, ℕ, zero, suc, ◌+◌, ◌≤◌, ◌<◌, Bool, true, false, List, [], ◌∷◌, ◌++◌, length, Option, Some, None, Ok, Err, refl, sym, ◌∙◌, ap, subst, arith, append_assoc, append-nil}
-use Rattle.std.specs.Prelude.{◌&&◌, nat_lt, if◌then◌else◌, Result}
-use Rattle.std.proofs.lemmas.Bool.{and_parts, ltb-true}
+use Rattle.std.proofs.Common.{◌≡◌, ℕ, ◌≤◌, Bool, true, false, List, [], ◌∷◌, ◌++◌, Option, Some, None, Ok, Err, refl, sym, ◌∙◌, ap, subst, arith, append_assoc, append-nil}
+use Rattle.std.specs.Prelude.{if◌then◌else◌, Result}
 use Rattle.sc_tree.specs.declared.expression.Expr.{Expr}
 use Rattle.sc_tree.specs.declared.expression.Storage.{Storage}
 use Rattle.sc_tree.specs.declared.expression.TypeWord.{TypeWord}
@@ -12,39 +11,28 @@ use Rattle.sc_tree.specs.declared.declaration.Initializer.TheVariants as i
 use Rattle.sc_tree.specs.declared.declaration.InitDeclarator.{InitDeclarator}
 use Rattle.sc_tree.specs.declared.declaration.Declaration.{Declaration}
 use Rattle.sc_tree.specs.declared.statement.Statement.{Statement}
-use Rattle.sc_tree.specs.declared.statement.Statement.TheVariants as s
-use Rattle.sc_tree.specs.declared.statement.Block.{Block}
-use Rattle.sc_tree.specs.declared.statement.External.{External}
-use Rattle.sc_tree.specs.declared.statement.External.TheVariants as external
 use Rattle.sc_symbol.specs.declared.kind.Symbol.{Symbol}
 use Rattle.sc_symbol.specs.declared.kind.Kind.{Kind}
 use Rattle.sc_symbol.specs.declared.kind.Kind.TheVariants as k
-use Rattle.sc_symbol.specs.Names.{Names, is_typed, enter, leave}
+use Rattle.sc_symbol.specs.Names.{Names}
 use Rattle.sc_phrase.specs.declared.operand.Operand.{Operand}
-use Rattle.sc_phrase.specs.declared.operand.Direct.{Direct}
 use Rattle.sc_phrase.specs.declared.operand.Whole.{Whole}
 use Rattle.sc_phrase.specs.declared.operand.Mode.TheVariants as mode
-use Rattle.sc_phrase.specs.declared.frame.Frame.{Frame}
 use Rattle.sc_phrase.specs.declared.frame.Frame.TheVariants as f
-use Rattle.sc_phrase.specs.declared.frame.State.{State}
 use Rattle.sc_phrase.specs.declared.frame.State.TheVariants as e
 use Rattle.sc_phrase.specs.declared.trouble.Trouble.{Trouble}
-use Rattle.sc_phrase.specs.Types.{is_empty, declarator_of}
+use Rattle.sc_phrase.specs.Types.{is_empty}
 use Rattle.sc_phrase.specs.Grammar as p
 use Rattle.sc_phrase.specs.Grammar.{Level}
 use Rattle.sc_phrase.specs.Machine.{Config, step}
 use Rattle.sc_unit.specs.declared.around.Test.{Test}
 use Rattle.sc_unit.specs.declared.around.Test.TheVariants as of_kind
-use Rattle.sc_unit.specs.declared.around.Head.{Head}
-use Rattle.sc_unit.specs.declared.around.Head.TheVariants as h
 use Rattle.sc_unit.specs.declared.around.Around.{Around}
 use Rattle.sc_unit.specs.declared.around.Around.TheVariants as a
-use Rattle.sc_unit.specs.declared.around.Stage.{Stage}
-use Rattle.sc_unit.specs.declared.around.Stage.TheVariants as at
-use Rattle.sc_unit.specs.Trees.{declare_as, init_declarator, declaration_of, block_of, with_declaration, with_statement, function_of}
+use Rattle.sc_unit.specs.Trees.{declare_as, init_declarator, declaration_of}
 use Rattle.sc_unit.specs.Grammar as g
 use Rattle.sc_unit.specs.Grammar.{WholeExpression, Optional, Condition, InitialTokens, Initials, InitTokens, InitList, Heading, DeclarationTokens, Declarations, IsStatement, Nested, Statements, Braces, UnitTokens}
-use Rattle.sc_unit.specs.Machine.{Point, Move, stuck, at_semicolon, at_paren, at_colon, declares, declarator_joins, declarator_ends, initial_joins, initial_ends, tested, part_ends, whole_ends, is_optional, expression_ends, in_expression, begin, list_ends, initial, body, declared_by, declared, in_declarator, specified, in_specifiers, specifiers, begins_declaration, function_ends, block_ends, block_begins, statement, statement_due, external_due, is_early, item_due, is_outside, due, waits, built, settle, other_begins, until, behind, is_else, got, left_paren, needs, ends_part, expression_due, place, marked, advance}
+use Rattle.sc_unit.specs.Machine.{Move, at_semicolon, at_paren, at_colon, declares, declarator_joins, declarator_ends, initial_joins, initial_ends, tested, part_ends, whole_ends, is_optional, expression_ends, in_expression, begin, list_ends, initial, body, declared_by, declared, in_declarator, specified, in_specifiers, specifiers}
 use Rattle.sc_sound.proofs.Declaring.{cons_append}
 use Rattle.sc_sound.proofs.Open as w
 use Rattle.sc_sound.proofs.Bodies as inner

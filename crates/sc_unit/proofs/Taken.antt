@@ -1,9 +1,8 @@
 -- What is read as a unit is one.
-use Rattle.std.proofs.Common.{◌≡◌, ℕ, ◌+◌, Bool, true, false, List, [], ◌∷◌, ◌++◌, Ok, Err, refl, sym, ◌∙◌, ap, subst, append_assoc, append-nil}
+use Rattle.std.proofs.Common.{◌≡◌, ℕ, Bool, true, false, List, [], ◌∷◌, ◌++◌, Ok, Err, refl, sym, subst, append_assoc, append-nil}
 use Rattle.std.specs.Prelude.{nat_lt, if◌then◌else◌, Result, codes}
 use Rattle.sc_base.specs.declared.refusal.Fault.{Fault}
 use Rattle.sc_base.specs.declared.refusal.Fault.TheVariants as fault
-use Rattle.sc_base.specs.declared.refusal.X.{X}
 use Rattle.sc_base.specs.declared.refusal.X.TheVariants as x
 use Rattle.sc_tree.specs.declared.statement.External.{External}
 use Rattle.sc_tree.specs.declared.statement.Unit.{Unit as Tree}
@@ -12,7 +11,6 @@ use Rattle.sc_symbol.specs.Names.{Names}
 use Rattle.sc_parse_expr.specs.Brackets.{opens_with}
 use Rattle.sc_unit.specs.declared.around.Around.{Around}
 use Rattle.sc_unit.specs.declared.around.Around.TheVariants as a
-use Rattle.sc_unit.specs.declared.around.Stage.{Stage}
 use Rattle.sc_unit.specs.declared.around.Stage.TheVariants as at
 use Rattle.sc_unit.specs.Grammar as g
 use Rattle.sc_unit.specs.Grammar.{IsUnit, UnitTokens}
