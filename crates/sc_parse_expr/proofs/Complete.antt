@@ -38,7 +38,7 @@ use Rattle.sc_phrase.specs.Types.{is_empty, has_words, no_words, with_word, with
 use Rattle.sc_phrase.specs.Grammar.{Keeps, starts_at, text_with, is_named, is_abstract, is_group, is_void, is_right_paren, void_alone, Strings, a_text, more_text, Stars, a_star, more_star, const_star, Tag, no_tag, a_tag, Trailing, no_comma, a_comma, Phrase, name, constant, string, paren, offset_of, index, call, call_none, member, arrow, postfix, unary, size_of, size_of_type, cast, binary, conditional, assign, comma, Arguments, first, more, Specified, none, simple, const, stored, typedef, struct_tag, enum_tag, structure, enumeration, Members, one_member, more_members, MemberTokens, a_member, Declarators, one_declarator, more_declarators, Items, one_item, more_items, ItemTokens, bare_item, valued_item, TypeTokens, plain_type, derived_type, Level, direct, pointer, bare_pointer, DirectTokens, named, group, bare, suffix, Suffix, unsized, sized, unprototyped, no_parameters, prototype, Parameters, one_parameter, more_parameters, ParameterTokens, unnamed, declared}
 use Rattle.sc_phrase.specs.Machine as mc
 use Rattle.sc_phrase.specs.Machine.{Outcome, on_ok, needs, settle, settled, fits, few, have, run, finish, level_ends, item_behind, parameter_behind, under, inner_specified}
-use Rattle.sc_parse_expr.proofs.Levels.{level-small, level-positive, operand-tight, power-binary, power-assign, not_between}
+use Rattle.sc_sound.proofs.Levels.{level-small, level-positive, operand-tight, power-binary, power-assign, not_between}
 use Rattle.sc_parse_expr.proofs.Runs.{Leads, same, ◌▸◌, after, stepped, steps, counted, counted_end, regrouped, tested, keeps-one, keeps-left, keeps-right}
 use Rattle.sc_parse_expr.proofs.Heads.{Head, head-test, longer, begins_operand, operand_no_type, starts_operand, starts_type, starts, begins, NoCast, no_cast, begin_specified, begin_type, Opening, begin_direct, Beginning, begin_level, more_beginning, opens_level, opens_direct, is_name}
 use Rattle.sc_parse_expr.proofs.Tokens as kinds

@@ -1,4 +1,3 @@
-pub mod Levels
 pub mod Runs
 pub mod Heads
 pub mod Tokens
@@ -6,3 +5,4 @@ pub mod Complete
 pub mod Fronts
 pub mod Others
 pub mod Turns
+pub mod Founds

@@ -26,7 +26,7 @@ use Rattle.sc_phrase.specs.Nodes.{postfix_node}
 use Rattle.sc_phrase.specs.Types.{is_empty, has_words, no_words, with_word, no_direct, pointed}
 use Rattle.sc_phrase.specs.Grammar.{is_named, is_void, is_right_paren}
 use Rattle.sc_phrase.specs.Machine.{Outcome, needs, needs_in, level_in, settle, settled, fits, act, have, need, at_operator, at_postfix, at_unary, at_word, words, specified, due, void, tagged_structure, tagged_enumeration, items, is_left_paren, suffixes, direct_ends, stars, level_ends}
-use Rattle.sc_parse_expr.proofs.Levels.{level-small, level-positive, operand-tight, power-binary}
+use Rattle.sc_sound.proofs.Levels.{level-small, level-positive, operand-tight, power-binary}
 use Rattle.sc_parse_expr.proofs.Heads.{opens_level}
 
 -- A frame in which an operand of level q may stand is not closed by a token that binds less tightly than its operator.

@@ -15,6 +15,7 @@ use Rattle.sc_phrase.specs.declared.trouble.Trouble.TheVariants as no
 use Rattle.sc_phrase.specs.declared.trouble.Limit.TheVariants as limit
 use Rattle.sc_phrase.specs.Grammar.{Phrase}
 use Rattle.sc_phrase.specs.Machine.{Config, step}
+pub use Rattle.sc_sound.specs.Claims.{closes}
 use Rattle.sc_parse_expr.specs.declared.driver.Found.{Found}
 use Rattle.sc_parse_expr.specs.declared.driver.Refused.{Refused}
 use Rattle.sc_parse_expr.specs.declared.driver.Turn.{Turn}
@@ -79,16 +80,6 @@ Turns depth last taken c t (Ok (turn.Open state)) names fs = (rest : List Symbol
 Turns depth last taken c t (Ok (turn.Done x)) names fs = (rest : List Symbol) → read depth last taken c (t ∷ rest) ≡ Ok (found x.tree taken)
 Turns depth last taken c t (Err e) names fs = (e.trouble ≡ no.NoMemory → ⊥) → (rest : List Symbol) → read depth last taken c (t ∷ rest) ≡ Err e
 
--- a token with which an expression ends
-abbrev pub closes : Kind → Bool
-closes k.RightParen = true
-closes k.RightBracket = true
-closes k.RightBrace = true
-closes k.Colon = true
-closes k.Semicolon = true
-closes k.End = true
-closes _ = false
-
 -- Nothing follows, or a token with which an expression ends.
 abbrev pub Follows : List Symbol → Type 0
 Follows [] = Unit {0}
@@ -123,6 +114,17 @@ Gives x taken (Err e) = e.trouble ≡ no.NoMemory
 -- Tokens begin with at most one expression within the limits that a closing token or the end follows.
 abbrev pub OneTree : Names → List Symbol → Type 0
 OneTree names tokens = (x y : Operand) (m n : ℕ) → BeginsWithin names tokens x m → BeginsWithin names tokens y n → (x.tree ≡ y.tree) × (m ≡ n)
+
+-- What is found is an expression of the grammar at the front of the tokens, within the limits of heights and lists.
+pub record IsFound (names : Names) (tokens : List Symbol) (r : Found) : Type 0 where
+  pub x : Operand
+  pub begins : Begins true names tokens x r.taken
+  pub height : x.height ≤ 200
+  pub tree : r.tree ≡ x.tree
+
+abbrev pub FoundOnly : Names → List Symbol → Result Found Refused → Type 0
+FoundOnly names tokens (Ok r) = IsFound names tokens r
+FoundOnly names tokens (Err e) = Unit {0}
 
 -- refused as no expression, and not for a limit or want of memory
 abbrev pub IsRefusal : Trouble → Type 0

@@ -192,7 +192,7 @@ fn reading(alloc: Global, symbols: &[Symbol], names: &mut TypeNames) -> Result<F
 /// are tokens that begin with no such expression (`Syntax`, or `LeftOut` with what is left out there, at the line of the
 /// first token that does not go on), and what is beyond a limit: an expression higher than 200, more than 31 arguments
 /// or parameters, more than 500 open brackets. Each token of the kind `Name` has 1 to 255 bytes.
-#[tactic(auto, using(crate::proofs::Fronts::found_by, crate::proofs::Fronts::refused_by, crate::proofs::Fronts::one_tree))]
+#[tactic(auto, using(crate::proofs::Fronts::found_by, crate::proofs::Fronts::refused_by, crate::proofs::Fronts::one_tree, crate::proofs::Founds::only_found))]
 pub fn expression(
     alloc: Global,
     symbols: &[Symbol],
@@ -201,6 +201,7 @@ pub fn expression(
     requires { All IsSymbol symbols.now }
     ensures exact { spec.Answers (spec.read 0 1 0 (spec.start names.old) symbols.now) result }
     ensures found { (x : Operand) (taken : ℕ) → spec.BeginsWithin names.old symbols.now x taken → spec.Gives x taken result }
+    ensures only { spec.FoundOnly names.old symbols.now result }
     ensures refused { spec.RefusedOnly names.old symbols.now result }
     ensures one { spec.OneTree names.old symbols.now }
 {

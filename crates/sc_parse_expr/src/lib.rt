@@ -10,3 +10,6 @@ mod words;
 
 pub use driver::{Found, Refused, Turn, expression, opens_with};
 pub use machine::step;
+
+#[cfg(test)]
+mod tests;

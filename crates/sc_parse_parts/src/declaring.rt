@@ -26,8 +26,13 @@ pub const STUCK: Obstacle = Obstacle::Inner(Trouble::Syntax);
 pub fn kept(around: &mut Stack<Around>, frame: Around, stage: Stage) -> Result<Stage, Obstacle>
     ensures { (names : Names) → Goes (Ok (names, (frame ∷ around.old, stage))) result names around.new }
 {
-    around.push(frame)?;
-    Ok(stage)
+    match around.push(frame) {
+        Ok(()) => Ok(stage),
+        Err(_) => {
+            drop(stage);
+            Err(Obstacle::Inner(Trouble::NoMemory))
+        }
+    }
 }
 
 /// The unit with one more function or declaration.

@@ -25,7 +25,11 @@ fn at_semicolon(
 {
     match kind {
         Kind::Semicolon => kept(around, frame, stage),
-        _ => Err(STUCK),
+        _ => {
+            drop(frame);
+            drop(stage);
+            Err(STUCK)
+        }
     }
 }
 
@@ -39,7 +43,11 @@ fn at_paren(
 {
     match kind {
         Kind::RightParen => kept(around, frame, stage),
-        _ => Err(STUCK),
+        _ => {
+            drop(frame);
+            drop(stage);
+            Err(STUCK)
+        }
     }
 }
 
@@ -53,7 +61,11 @@ fn at_colon(
 {
     match kind {
         Kind::Colon => kept(around, frame, stage),
-        _ => Err(STUCK),
+        _ => {
+            drop(frame);
+            drop(stage);
+            Err(STUCK)
+        }
     }
 }
 
@@ -63,7 +75,10 @@ pub fn ends_at_semicolon(kind: Kind, stage: Stage) -> Result<Stage, Obstacle>
 {
     match kind {
         Kind::Semicolon => Ok(stage),
-        _ => Err(STUCK),
+        _ => {
+            drop(stage);
+            Err(STUCK)
+        }
     }
 }
 
@@ -72,7 +87,10 @@ fn ends_at_paren(kind: Kind, stage: Stage) -> Result<Stage, Obstacle>
 {
     match kind {
         Kind::RightParen => Ok(stage),
-        _ => Err(STUCK),
+        _ => {
+            drop(stage);
+            Err(STUCK)
+        }
     }
 }
 
@@ -82,7 +100,10 @@ pub fn ends_at_colon(kind: Kind, stage: Stage) -> Result<Stage, Obstacle>
 {
     match kind {
         Kind::Colon => Ok(stage),
-        _ => Err(STUCK),
+        _ => {
+            drop(stage);
+            Err(STUCK)
+        }
     }
 }
 

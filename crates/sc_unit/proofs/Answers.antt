@@ -1,6 +1,6 @@
 -- What the machine reads decides the answer.
-use Rattle.std.proofs.Common.{◌≡◌, ℕ, ◌≤◌, ◌<◌, Bool, true, false, List, [], ◌∷◌, ◌++◌, Option, Some, None, Result, Ok, Err, refl, sym, ◌∙◌, ap, subst, arith, append_assoc, append-nil, ◌⊎◌, inl, inr}
-use Rattle.std.specs.Prelude.{nat_lt, cond, if◌then◌else◌, codes}
+use Rattle.std.proofs.Common.{◌≡◌, ℕ, Bool, true, false, List, [], ◌∷◌, ◌++◌, Result, Ok, Err, refl, sym, ◌∙◌, ap, subst, arith, append-nil, ◌⊎◌, inl, inr}
+use Rattle.std.specs.Prelude.{nat_lt, cond, codes}
 use Rattle.std.proofs.lemmas.Bool.Decides.{nat_tests}
 use Rattle.sc_base.specs.declared.refusal.X.{X}
 use Rattle.sc_base.specs.declared.refusal.X.TheVariants as x
@@ -10,7 +10,6 @@ use Rattle.sc_tree.specs.declared.statement.External.{External}
 use Rattle.sc_tree.specs.declared.statement.Unit.{Unit as Tree}
 use Rattle.sc_symbol.specs.declared.kind.Symbol.{Symbol}
 use Rattle.sc_symbol.specs.Names.{Names}
-use Rattle.sc_phrase.specs.declared.trouble.Trouble.{Trouble}
 use Rattle.sc_phrase.specs.declared.trouble.Trouble.TheVariants as trouble
 use Rattle.sc_phrase.specs.declared.trouble.Limit.TheVariants as limit
 use Rattle.sc_unit.specs.declared.around.Around.{Around}
@@ -22,6 +21,7 @@ use Rattle.sc_parse_expr.specs.Brackets.{opens_with}
 use Rattle.sc_unit.specs.Grammar.{IsUnit}
 use Rattle.sc_unit.specs.Machine.{Point, Move, advance, run, start, on_ok}
 use Rattle.sc_unit.specs.Parse.{Answer, next, end_at, ended, answer, refusal, Gives}
+use Rattle.sc_unit.proofs.Taken.{found_only}
 use Rattle.sc_unit.specs.Claims.{AreWithin, Finds, last_line, NoneBegins, Fails, at_token, at_end, FailsRightly, Parses}
 use Rattle.sc_unit.proofs.Runs.{Leads, same, passed, Limited}
 use Rattle.sc_unit.proofs.Units.{reads_all}
@@ -227,4 +227,4 @@ fails_rightly ts (Err fault.NoMemory) h = tt
 fails_rightly ts (Err (fault.Refused r)) h = λ k. fails ts r.line (h.0 ∙ ap (λ (kind : X). Err (kind, r.line)) k)
 
 pub parses : (ts : List Symbol) (result : Result Tree Fault) → Gives (answer 0 1 start ts) result → Parses ts result
-parses ts result h = record { answers = h; finds = λ all d w. finds result h d w; fails = fails_rightly ts result h }
+parses ts result h = record { answers = h; finds = λ all d w. finds result h d w; only = found_only ts result h; fails = fails_rightly ts result h }

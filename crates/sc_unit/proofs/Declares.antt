@@ -1,5 +1,5 @@
 -- The machine reads each initialiser and declaration of the grammar.
-use Rattle.std.proofs.Common.{◌≡◌, ℕ, suc, ◌≤◌, ◌<◌, Bool, true, false, not, List, [], ◌∷◌, ◌++◌, Option, Some, None, Ok, refl, sym, ◌∙◌, ap, subst, arith, append_assoc}
+use Rattle.std.proofs.Common.{◌≡◌, ℕ, Bool, true, false, List, [], ◌∷◌, ◌++◌, Option, Some, None, Ok, refl, ◌∙◌, ap, arith, append_assoc}
 use Rattle.sc_tree.specs.declared.expression.Storage.{Storage}
 use Rattle.sc_tree.specs.declared.expression.TypeWord.{TypeWord}
 use Rattle.sc_tree.specs.declared.expression.Specifiers.{Specifiers}
@@ -28,7 +28,7 @@ use Rattle.sc_unit.specs.Trees.{declare_as, init_declarator, declaration_of}
 use Rattle.sc_unit.specs.Grammar as g
 use Rattle.sc_unit.specs.Grammar.{WholeExpression, whole, InitialTokens, Initials, one_initial, more_initials, InitTokens, bare, initialized, InitList, one_declarator, more_declarators, Heading, heading, DeclarationTokens, of_type, of_names}
 use Rattle.sc_unit.specs.Machine.{Move, run, expression_ends, initial, initial_ends, initial_joins, list_ends, begin, declarator_joins, declares, declared_by, specified, in_declarator}
-use Rattle.sc_unit.proofs.Runs.{Leads, same, passed, ◌▸◌, after, steps, stepped, regrouped}
+use Rattle.sc_unit.proofs.Runs.{Leads, same, ◌▸◌, after, steps, regrouped}
 use Rattle.sc_unit.proofs.Phrases.{closes, reads_whole, ends_heading, reads_heading, ends_declarator, reads_declarator}
 
 -- a token behind an initialiser, which goes on with the list or ends it

@@ -4,3 +4,7 @@ pub mod Declares
 pub mod Statements
 pub mod Units
 pub mod Answers
+pub mod Inside
+pub mod Keeping
+pub mod Closing
+pub mod Taken

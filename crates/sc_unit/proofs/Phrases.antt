@@ -1,5 +1,5 @@
 -- What the machine does over a whole expression, the specifiers of a declaration and a declarator.
-use Rattle.std.proofs.Common.{◌≡◌, ℕ, suc, ◌≤◌, ◌<◌, Bool, true, false, not, List, [], ◌∷◌, ◌++◌, Some, None, Ok, refl, sym, ◌∙◌, ap, subst, arith}
+use Rattle.std.proofs.Common.{◌≡◌, ℕ, ◌≤◌, Bool, true, false, not, List, [], ◌∷◌, ◌++◌, None, Ok, refl, ◌∙◌, ap, arith}
 use Rattle.std.specs.Prelude.{nat_lt, nat_le}
 use Rattle.std.proofs.lemmas.Bool.Decides.{nat_tests}
 use Rattle.sc_tree.specs.declared.expression.TypeWord.{TypeWord}
@@ -14,8 +14,8 @@ use Rattle.sc_phrase.specs.declared.operand.Whole.{Whole}
 use Rattle.sc_phrase.specs.declared.operand.Mode.TheVariants as mode
 use Rattle.sc_phrase.specs.declared.frame.Frame.TheVariants as f
 use Rattle.sc_phrase.specs.declared.frame.State.TheVariants as e
-use Rattle.sc_phrase.specs.Kinds.{power_of, begins_specifiers}
-use Rattle.sc_phrase.specs.Types.{has_words, no_words, whole as whole_at}
+use Rattle.sc_phrase.specs.Kinds.{power_of}
+use Rattle.sc_phrase.specs.Types.{no_words, whole as whole_at}
 use Rattle.sc_phrase.specs.Grammar.{Level, Specified, starts_at}
 use Rattle.sc_phrase.specs.Machine as lower
 use Rattle.sc_phrase.specs.Machine.{have, fits}

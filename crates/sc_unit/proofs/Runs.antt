@@ -1,7 +1,5 @@
 -- Steps of the machine one after another, and where a limit ends them.
-use Rattle.std.proofs.Common.{◌≡◌, ℕ, ◌≤◌, ◌<◌, Bool, true, false, List, [], ◌∷◌, ◌++◌, Ok, Err, refl, sym, ◌∙◌, ap, subst, arith, ◌⊎◌, inl, inr}
-use Rattle.std.specs.Prelude.{nat_lt, cond}
-use Rattle.std.proofs.lemmas.Bool.Decides.{nat_tests}
+use Rattle.std.proofs.Common.{◌≡◌, Bool, true, false, List, [], ◌∷◌, ◌++◌, Ok, Err, refl, sym, ◌∙◌, ap, subst, ◌⊎◌, inl, inr}
 use Rattle.sc_symbol.specs.declared.kind.Symbol.{Symbol}
 use Rattle.sc_symbol.specs.declared.kind.Kind.{Kind}
 use Rattle.sc_symbol.specs.declared.kind.Kind.TheVariants as k
@@ -21,7 +19,7 @@ use Rattle.sc_unit.specs.declared.around.Stage.{Stage}
 use Rattle.sc_unit.specs.declared.around.Stage.TheVariants as at
 use Rattle.sc_unit.specs.declared.obstacle.Obstacle.{Obstacle}
 use Rattle.sc_unit.specs.declared.obstacle.Obstacle.TheVariants as no
-use Rattle.sc_unit.specs.Machine.{Point, Move, place, advance, run, on_ok, marked, mark_of, in_expression, in_specifiers, in_declarator}
+use Rattle.sc_unit.specs.Machine.{Point, Move, place, run, on_ok, marked, mark_of, in_expression, in_specifiers, in_declarator}
 
 -- a limit is passed
 abbrev pub Limited : Move → Type 0

@@ -1,5 +1,5 @@
 -- The machine reads each statement of the grammar.
-use Rattle.std.proofs.Common.{◌≡◌, ℕ, suc, ◌+◌, ◌≤◌, ◌<◌, Bool, true, false, not, List, [], ◌∷◌, ◌++◌, length, Option, Some, None, Ok, Err, refl, sym, ◌∙◌, ap, subst, arith, append_assoc, append-nil, inl}
+use Rattle.std.proofs.Common.{◌≡◌, ℕ, suc, ◌≤◌, ◌<◌, Bool, true, false, not, List, [], ◌∷◌, ◌++◌, length, Option, Ok, Err, refl, sym, ◌∙◌, ap, arith, append_assoc, inl}
 use Rattle.std.specs.Prelude.{nat_lt, cond, if◌then◌else◌, ◌&&◌}
 use Rattle.std.proofs.lemmas.Bool.Decides.{nat_tests}
 use Rattle.sc_tree.specs.declared.expression.Expr.{Expr}
@@ -13,7 +13,7 @@ use Rattle.sc_tree.specs.declared.statement.Block.{Block}
 use Rattle.sc_symbol.specs.declared.kind.Symbol.{Symbol}
 use Rattle.sc_symbol.specs.declared.kind.Kind.{Kind}
 use Rattle.sc_symbol.specs.declared.kind.Kind.TheVariants as k
-use Rattle.sc_symbol.specs.Names.{Names, is_typed, enter, leave}
+use Rattle.sc_symbol.specs.Names.{Names, is_typed, enter}
 use Rattle.sc_phrase.specs.declared.operand.Operand.{Operand}
 use Rattle.sc_phrase.specs.declared.frame.Frame.TheVariants as f
 use Rattle.sc_phrase.specs.declared.frame.State.TheVariants as e
@@ -35,7 +35,7 @@ use Rattle.sc_unit.specs.Grammar as g
 use Rattle.sc_unit.specs.Grammar.{WholeExpression, whole, Optional, left_out, written, Condition, in_parens, Declarations, no_declaration, next_declaration, IsStatement, Nested, nested, Statements, no_statement, next_statement, Braces, braces}
 use Rattle.sc_unit.specs.Machine as m
 use Rattle.sc_unit.specs.Machine.{Move, Point, run, statement, statement_due, is_early, is_outside, is_optional, is_else, is_semicolon, is_paren, ends_part, needs, part_ends, expression_ends, expression_due, begin, specifiers, begins_declaration, declares, behind, got, settle}
-use Rattle.sc_unit.proofs.Runs.{Leads, same, passed, ◌▸◌, after, after-nesting, steps, stepped, regrouped}
+use Rattle.sc_unit.proofs.Runs.{Leads, same, passed, ◌▸◌, after, after-nesting, steps, regrouped}
 use Rattle.sc_unit.proofs.Phrases.{closes, reads_whole}
 use Rattle.sc_unit.proofs.Declares.{reads_declaration, begin_declaration}
 

@@ -1,5 +1,5 @@
 -- The machine reads each function and each unit of the grammar.
-use Rattle.std.proofs.Common.{◌≡◌, ℕ, suc, Bool, true, false, List, [], ◌∷◌, ◌++◌, length, Option, Some, None, Ok, refl, sym, ◌∙◌, ap, append_assoc}
+use Rattle.std.proofs.Common.{◌≡◌, ℕ, Bool, true, List, [], ◌∷◌, ◌++◌, Ok, refl, ap, append_assoc}
 use Rattle.sc_tree.specs.declared.expression.TypeWord.{TypeWord}
 use Rattle.sc_tree.specs.declared.expression.Specifiers.{Specifiers}
 use Rattle.sc_tree.specs.declared.declaration.Declaration.{Declaration}
@@ -22,10 +22,9 @@ use Rattle.sc_unit.specs.declared.around.Around.{Around}
 use Rattle.sc_unit.specs.declared.around.Around.TheVariants as a
 use Rattle.sc_unit.specs.declared.around.Stage.TheVariants as at
 use Rattle.sc_unit.specs.Trees.{declare_as, block_of, function_of}
-use Rattle.sc_unit.specs.Grammar as g
-use Rattle.sc_unit.specs.Grammar.{Heading, Braces, braces, ExternalTokens, of_function, of_declaration, UnitTokens, no_external, next_external, IsUnit, unit}
-use Rattle.sc_unit.specs.Machine.{Move, Point, run, start, external_due, specifiers, declared_by}
-use Rattle.sc_unit.proofs.Runs.{Leads, same, ◌▸◌, after, steps, regrouped}
+use Rattle.sc_unit.specs.Grammar.{Braces, braces, ExternalTokens, of_function, of_declaration, UnitTokens, no_external, next_external, IsUnit, unit}
+use Rattle.sc_unit.specs.Machine.{run, start, external_due, specifiers, declared_by}
+use Rattle.sc_unit.proofs.Runs.{Leads, same, ◌▸◌, after, regrouped}
 use Rattle.sc_unit.proofs.Phrases.{reads_declarator}
 use Rattle.sc_unit.proofs.Declares.{reads_declaration, begin_declaration, begin_heading, begin_level, heads_names}
 use Rattle.sc_unit.proofs.Statements.{in_body, reads_contents}

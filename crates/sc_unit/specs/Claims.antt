@@ -1,5 +1,5 @@
 -- What is claimed of the answer to the tokens of a unit.
-use Rattle.std.specs.Prelude.{◌≡◌, ℕ, ◌≤◌, Bool, true, false, List, [], ◌∷◌, ◌++◌, Result, Ok, Err}
+use Rattle.std.specs.Prelude.{◌≡◌, ℕ, ◌≤◌, true, false, List, [], ◌∷◌, ◌++◌, Result, Ok, Err}
 use Rattle.sc_base.specs.declared.refusal.Fault.{Fault}
 use Rattle.sc_base.specs.declared.refusal.Fault.TheVariants as fault
 use Rattle.sc_base.specs.declared.refusal.X.TheVariants as x
@@ -44,14 +44,25 @@ FindsEachUnit = (ts : List Symbol) (all : List External) → IsUnit true ts all 
 abbrev pub RefusesNoUnit : Type 0
 RefusesNoUnit = (ts : List Symbol) (l : ℕ) → answer 0 1 start ts ≡ Err (x.X5, l) → Fails l ts
 
+-- What is the answer to tokens is a unit of the grammar within the limits, and they are this unit.
+abbrev pub TakesNoOther : Type 0
+TakesNoOther = (ts : List Symbol) (all : List External) → answer 0 1 start ts ≡ Ok all → IsUnit true ts all
+
+-- What is found is such a unit.
+abbrev pub FoundOnly : List Symbol → Result Tree Fault → Type 0
+FoundOnly ts (Ok unit) = IsUnit true ts unit.items
+FoundOnly ts (Err fault.NoMemory) = Unit {0}
+FoundOnly ts (Err (fault.Refused r)) = Unit {0}
+
 -- A refusal as no unit comes only where that holds.
 abbrev pub FailsRightly : List Symbol → Result Tree Fault → Type 0
 FailsRightly ts (Ok unit) = Unit {0}
 FailsRightly ts (Err fault.NoMemory) = Unit {0}
 FailsRightly ts (Err (fault.Refused r)) = r.kind ≡ x.X5 → Fails r.line ts
 
--- The answer to the tokens is that of the machine. A unit within the limits is found, and found to be no other; a refusal as no unit comes only where the tokens are none.
+-- The answer to the tokens is that of the machine. A unit within the limits is found, and found to be no other; what is found is a unit within the limits; a refusal as no unit comes only where the tokens are none.
 pub record Parses (ts : List Symbol) (result : Result Tree Fault) : Type 0 where
   pub answers : Gives (answer 0 1 start ts) result
   pub finds : (all : List External) → IsUnit true ts all → AreWithin 0 ts → Finds all result
+  pub only : FoundOnly ts result
   pub fails : FailsRightly ts result

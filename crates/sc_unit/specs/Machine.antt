@@ -1,5 +1,5 @@
 -- The steps of the machine that reads a unit. It hands the tokens of specifiers, declarators and expressions to the machine of expressions.
-use Rattle.std.specs.Prelude.{ℕ, Bool, true, false, not, if◌then◌else◌, ◌&&◌, nat_lt, List, [], ◌∷◌, ◌++◌, length, Option, Some, None, Result, Ok, Err}
+use Rattle.std.specs.Prelude.{ℕ, Bool, true, false, if◌then◌else◌, ◌&&◌, nat_lt, List, [], ◌∷◌, ◌++◌, length, Option, Some, None, Result, Ok, Err}
 use Rattle.sc_tree.specs.declared.expression.Expr.{Expr}
 use Rattle.sc_tree.specs.declared.expression.TypeWord.{TypeWord}
 use Rattle.sc_tree.specs.declared.expression.Specifiers.{Specifiers}
@@ -11,7 +11,6 @@ use Rattle.sc_tree.specs.declared.declaration.Declaration.{Declaration}
 use Rattle.sc_tree.specs.declared.statement.Statement.{Statement}
 use Rattle.sc_tree.specs.declared.statement.Statement.TheVariants as s
 use Rattle.sc_tree.specs.declared.statement.Block.{Block}
-use Rattle.sc_tree.specs.declared.statement.External.{External}
 use Rattle.sc_tree.specs.declared.statement.External.TheVariants as external
 use Rattle.sc_symbol.specs.declared.kind.Symbol.{Symbol}
 use Rattle.sc_symbol.specs.declared.kind.Kind.{Kind}
@@ -20,9 +19,7 @@ use Rattle.sc_symbol.specs.Names.{Names, is_typed, enter, leave}
 use Rattle.sc_phrase.specs.declared.operand.Operand.{Operand}
 use Rattle.sc_phrase.specs.declared.operand.Whole.{Whole}
 use Rattle.sc_phrase.specs.declared.operand.Mode.TheVariants as mode
-use Rattle.sc_phrase.specs.declared.frame.Frame.{Frame}
 use Rattle.sc_phrase.specs.declared.frame.Frame.TheVariants as f
-use Rattle.sc_phrase.specs.declared.frame.State.{State}
 use Rattle.sc_phrase.specs.declared.frame.State.TheVariants as e
 use Rattle.sc_phrase.specs.declared.trouble.Trouble.{Trouble}
 use Rattle.sc_phrase.specs.declared.trouble.Trouble.TheVariants as trouble
