@@ -87,28 +87,20 @@ pub reading_ends : (whole : Answer) (n before : ℕ) (p : Point) (left : List Sy
 reading_ends whole n before p left r h e g =
     let P : Answer → Type 0 = λ v. Gives v r in subst P (ap (answer n before p) (sym e) ∙ h) g
 
-pub finish_ok : (n l : ℕ) (p : Point) (names : Names) (fs : List Around) (stage : Stage) (r : Result Tree Fault) →
-    Goes (advance (end_at l) p) (Ok stage) names fs → Gives (ended l (names, (fs, stage))) r → Gives (answer n l p []) r
-finish_ok n l p names fs stage r h g =
-    let P : Move → Type 0 = λ v. Gives (next (ended l) l l v) r in subst P (sym h) g
+-- At the end the unit is whole or not.
+pub finish_ok : (n l : ℕ) (p : Point) (end : Symbol) (names : Names) (fs : List Around) (stage : Stage) (r : Result Tree Fault) → end ≡ end_at l →
+    Goes (advance end p) (Ok stage) names fs → Gives (ended l (names, (fs, stage))) r → Gives (answer n l p []) r
+finish_ok n l p end names fs stage r e h g =
+    let Q : Symbol → Type 0 = λ v. Goes (advance v p) (Ok stage) names fs in
+    let P : Move → Type 0 = λ v. Gives (next (ended l) l l v) r in subst P (sym (subst Q e h)) g
 
-pub finish_err : (n l : ℕ) (p : Point) (names : Names) (fs : List Around) (o : Obstacle) (e : Fault) → Goes (advance (end_at l) p) (Err o) names fs →
+pub finish_err : (n l : ℕ) (p : Point) (end : Symbol) (names : Names) (fs : List Around) (o : Obstacle) (e : Fault) → end ≡ end_at l → Goes (advance end p) (Err o) names fs →
     Gives (Err (refusal o l l)) (Err e) → (o ≡ no.Inner trouble.NoMemory → e ≡ fault.NoMemory) → Gives (answer n l p []) (Err e)
-finish_err n l p names fs o e h g m = stopped (ended l) l l (advance (end_at l) p) o e names fs h g m
+finish_err n l p end names fs o e is h g m =
+    let Q : Symbol → Type 0 = λ v. Goes (advance v p) (Err o) names fs in
+    stopped (ended l) l l (advance (end_at l) p) o e names fs (subst Q is h) g m
 
--- The unit did not end.
-pub open_end : (l : ℕ) (names : Names) (fs : List Around) (stage : Stage) (e : Fault) → (stage ≡ at.Over → ⊥) → Gives (Err (x.X5, l)) (Err e) → Gives (ended l (names, (fs, stage))) (Err e)
-open_end l names [] stage e n g = g
-open_end l names (a.Unit items ∷ fs) at.Over e n g = absurd (n refl)
-open_end l names (a.Unit items ∷ fs) _ e n g = g
-open_end l names (_ ∷ fs) stage e n g = g
-
--- Something else than a unit is open.
-pub other_end : (l : ℕ) (names : Names) (other : Around) (fs : List Around) (e : Fault) → ((items : List External) → other ≡ a.Unit items → ⊥) → Gives (Err (x.X5, l)) (Err e) →
-    Gives (ended l (names, (other ∷ fs, at.Over))) (Err e)
-other_end l names (a.Unit items) fs e n g = absurd (n items refl)
-other_end l names _ fs e n g = g
-
+-- What holds of each symbol holds of the first and of the rest.
 pub all_rest : (left : List Symbol) (t : Symbol) (rest : List Symbol) → All IsSymbol left → left ≡ t ∷ rest → All IsSymbol rest
 all_rest left t rest h e =
     let P : List Symbol → Type 0 = λ v. All IsSymbol v in

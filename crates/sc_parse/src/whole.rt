@@ -93,7 +93,6 @@ fn refusal(alloc: Global, obstacle: Obstacle, before: u32, here: u32) -> Fault
 const MAX_OPEN: u32 = 500;
 
 /// Takes a token where `count` brackets are open and the token before it is on line `before`: the stage behind it.
-#[tactic(auto, using(crate::proofs::Turns::turn_ok, crate::proofs::Turns::turn_err, crate::proofs::Turns::turn_deep))]
 fn take(
     alloc: Global,
     names: &mut TypeNames,
@@ -108,7 +107,9 @@ fn take(
     ensures within { OnOk result (brackets.opens_with count token.now.kind ≤ 500) }
     ensures turns { Turns count before (names.old, (around.old, stage)) token.now result names.new around.new }
 {
-    if opens_with(count, token.kind) > MAX_OPEN {
+    let open = opens_with(count, token.kind);
+    if open > MAX_OPEN {
+        drop(stage);
         return Err(too_high(alloc, token.line));
     }
     match advance(alloc, names, token, around, stage) {
@@ -137,6 +138,17 @@ fn ended(alloc: Global, around: &mut Stack<Around>, stage: Stage, line: u32) -> 
     }
 }
 
+/// What stands behind the last token, which is on this line.
+fn end_symbol(alloc: Global, line: u32) -> Symbol
+    ensures { result ≡ spec.end_at line }
+{
+    Symbol {
+        kind: Kind::End,
+        text: Bytes::from_vec(Vec::new(alloc)),
+        line,
+    }
+}
+
 /// The end behind the last token, which is on line `before`.
 fn finish(
     alloc: Global,
@@ -148,11 +160,7 @@ fn finish(
 ) -> Result<Unit, Fault>
     ensures { Gives (spec.answer count before (names.old, (around.old, stage)) []) result }
 {
-    let end = Symbol {
-        kind: Kind::End,
-        text: Bytes::from_vec(Vec::new(alloc)),
-        line: before,
-    };
+    let end = end_symbol(alloc, before);
     match advance(alloc, names, &end, around, stage) {
         Ok(next) => ended(alloc, around, next, before),
         Err(obstacle) => Err(refusal(alloc, obstacle, before, before)),
@@ -179,7 +187,10 @@ fn read(alloc: Global, symbols: &[Symbol]) -> Result<Unit, Fault>
     let mut line = 1;
     let mut left = symbols;
     'symbols: while let Some((symbol, rest)) = left.split_first() {
-        stage = take(alloc, &mut names, &mut around, stage, count, line, symbol)?;
+        match take(alloc, &mut names, &mut around, stage, count, line, symbol) {
+            Ok(next) => stage = next,
+            Err(fault) => return Err(fault),
+        }
         count = opens_with(count, symbol.kind);
         line = symbol.line;
         left = rest;
@@ -190,7 +201,6 @@ fn read(alloc: Global, symbols: &[Symbol]) -> Result<Unit, Fault>
 /// The unit that the symbols are. X5 has the line of the first that no unit goes on with, or of the last where they end
 /// too early; X9 comes at one of a construct that is left out, X10 where a limit is passed. A symbol of the kind `Name`
 /// has 1 to 255 bytes.
-#[tactic(auto, using(sc_unit::proofs::Answers::parses))]
 pub fn unit(alloc: Global, symbols: &[Symbol]) -> Result<Unit, Fault>
     requires { All IsSymbol symbols.now }
     ensures { Parses symbols.now result }
@@ -202,6 +212,8 @@ pub fn unit(alloc: Global, symbols: &[Symbol]) -> Result<Unit, Fault>
 pub fn parse(alloc: Global, tokens: &[Token]) -> Result<Unit, Fault>
     ensures { Parses (symbols_of tokens.now) result }
 {
-    let symbols = symbols(alloc, tokens)?;
-    unit(alloc, symbols.as_slice())
+    match symbols(alloc, tokens) {
+        Ok(symbols) => unit(alloc, symbols.as_slice()),
+        Err(_) => Err(Fault::NoMemory),
+    }
 }

@@ -17,17 +17,17 @@ pub symbols-preserved : goal.symbols-preserved
 symbols-preserved c =
     let left : c.symbols.left.now ≡ c.in-Some.symbol.now ∷ c.in-Some.rest.now = search rules in
     record {
-      whole = rw c.opens_with.ensures (reading_on (answer 0 1 start c.args.symbols.now) c.symbols.count c.symbols.line (c.symbols.names, (c.symbols.around, c.symbols.stage))
-          c.symbols.left.now c.in-Some.symbol.now c.in-Some.rest.now c.take.new.names c.take.new.around c.in_ok-take.field-0 c.symbols.invariant.whole left c.in_ok-take.ensures.turns);
+      whole = rw c.opens_with-count.ensures (reading_on (answer 0 1 start c.args.symbols.now) c.symbols.count c.symbols.line (c.symbols.names, (c.symbols.around, c.symbols.stage))
+          c.symbols.left.now c.in-Some.symbol.now c.in-Some.rest.now c.take.new.names c.take.new.around c.in-Ok.next c.symbols.invariant.whole left c.in-Ok.ensures.turns);
       few = search rules;
       named = all_rest c.symbols.left.now c.in-Some.symbol.now c.in-Some.rest.now c.symbols.invariant.named left;
     }
 
-pub returns-in_err-take : goal.returns-in_err-take
-returns-in_err-take c =
+pub returns-in-Err : goal.returns-in-Err
+returns-in-Err c =
     let left : c.symbols.left.now ≡ c.in-Some.symbol.now ∷ c.in-Some.rest.now = search rules in
     reading_stops (answer 0 1 start c.args.symbols.now) c.symbols.count c.symbols.line (c.symbols.names, (c.symbols.around, c.symbols.stage))
-    c.symbols.left.now c.in-Some.symbol.now c.in-Some.rest.now c.in_err-take.field-0 c.take.new.names c.take.new.around c.symbols.invariant.whole left c.in_err-take.ensures.turns
+    c.symbols.left.now c.in-Some.symbol.now c.in-Some.rest.now c.in-Err.fault c.take.new.names c.take.new.around c.symbols.invariant.whole left c.in-Err.ensures.turns
 
 pub returns : goal.returns
 returns c =

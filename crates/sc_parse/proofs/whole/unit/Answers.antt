@@ -1,0 +1,6 @@
+-- What the machine's answer is worth.
+use Rattle.sc_unit.proofs.Answers.{parses}
+use Rattle.sc_parse.proofs.whole.unit.Goals as goal
+
+pub returns : goal.returns
+returns c = parses c.args.symbols.now c.read.result c.read.ensures
