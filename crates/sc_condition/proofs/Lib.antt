@@ -3,3 +3,4 @@ pub mod Complete
 pub mod Conditions
 pub mod OneValue
 pub mod Sound
+pub mod Verdicts

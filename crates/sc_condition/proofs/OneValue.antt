@@ -29,15 +29,15 @@ run-append [] us c d h = let same : c ≡ d = cc in ap (λ (b : Config). run b u
 run-append (u ∷ ts) us c d h = let r = taken (λ b. run b ts) (step u c) h in rw r.1 (run-append ts us r.0 d r.2)
 
 -- Where the machine stops, it stops whatever follows.
-run-stops : (ts us : List Term) (c : Config) → run c ts ≡ None → run c (ts ++ us) ≡ None
+pub run-stops : (ts us : List Term) (c : Config) → run c ts ≡ None → run c (ts ++ us) ≡ None
 run-stops [] us c h = cc
 run-stops (u ∷ ts) us c h =
     elim (fallen (λ b. run b ts) (step u c) h) [ inl n ↦ rw n refl | inr r ↦ rw r.1 (run-stops ts us r.0 r.2) ]
 
-takes_all : (ts : List Term) (x : Operand) → IsExpression ts x → run start (ts ++ t.End ∷ []) ≡ Some ([], s.Done x)
+pub takes_all : (ts : List Term) (x : Operand) → IsExpression ts x → run start (ts ++ t.End ∷ []) ≡ Some ([], s.Done x)
 takes_all ts x d = completes d.1
 
-run-more : (ts : List Term) (u : Term) (c : Config) → run start ts ≡ Some c → run start (ts ++ u ∷ []) ≡ step u c
+pub run-more : (ts : List Term) (u : Term) (c : Config) → run start ts ≡ Some c → run start (ts ++ u ∷ []) ≡ step u c
 run-more ts u c h = run-append ts (u ∷ []) start c h ∙ one (step u c)
   where
     one : (o : Option Config) → option_and_then (λ b. run b []) o ≡ o

@@ -7,3 +7,4 @@ pub mod Operands
 pub mod Operators
 pub mod Steps
 pub mod Terms
+pub mod Verdict

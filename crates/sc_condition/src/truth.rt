@@ -3,6 +3,7 @@ ghost use Rattle.std.specs.Prelude.{◌≡◌, ◌≤◌, IfOk, IsErrOf};
 ghost use Rattle.sc_condition.specs.Decides as spec;
 ghost use Rattle.sc_condition.specs.Grammar.{IsExpression};
 ghost use Rattle.sc_condition.specs.Terms.{terms_of};
+ghost use Rattle.sc_condition.specs.Verdict.{verdict, IsMeaning};
 
 use crate::machine::{Term, Trouble};
 use crate::operand::Operand;
@@ -77,6 +78,10 @@ pub fn condition(alloc: Global, tokens: &[Token]) -> Result<bool, ConditionFault
     // and only an expression decides, or is too high.
     ensures ok { IfOk result (λ _. spec.AreExpression tokens.now) }
     ensures high { IsErrOf result ConditionFault.TooHigh → spec.AreExpression tokens.now }
+    // So it is this function's answer,
+    ensures verdict { spec.Gives (verdict tokens.now) result }
+    // which says of all tokens what the grammar says.
+    ensures meaning { IsMeaning verdict }
 {
     let terms = terms_of(alloc, tokens)?;
     match expression(alloc, terms.as_slice()) {

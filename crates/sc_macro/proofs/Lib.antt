@@ -1,5 +1,6 @@
 pub mod Chains
 pub mod Glue
 pub mod Landing
+pub mod LeftOver
 pub mod Names
 pub mod Walks

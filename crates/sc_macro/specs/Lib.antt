@@ -2,6 +2,7 @@ pub mod Refusals
 pub mod Tokens
 pub mod Hides
 pub mod Marks
+pub mod Moving
 pub mod Table
 pub mod Replacement
 pub mod Define

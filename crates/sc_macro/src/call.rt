@@ -1,5 +1,5 @@
 // Where a name is to be replaced, and the arguments of its call.
-ghost use Rattle.std.specs.Prelude.{◌≡◌, [], ◌∷◌, ◌++◌, MatchOption, IfOk};
+ghost use Rattle.std.specs.Prelude.{◌≡◌, [], ◌∷◌, ◌++◌, MatchOption, IfOk, OnOk};
 ghost use Rattle.std.specs.Option.{option_map};
 ghost use Rattle.sc_macro.specs.Calls as spec;
 ghost use Rattle.sc_macro.specs.Table.{table};
@@ -71,10 +71,29 @@ impl Macros {
     }
 }
 
+/// Fewer tokens than this may wait on room for more.
+const FEW: usize = 256;
+
+/// Gives the room of a list back of which more than half was taken.
+fn compact(alloc: Global, rest: &mut Stack<Marked>, before: usize) -> Result<(), NoMemory>
+    ensures { OnOk result (rest.new ≡ rest.old) }
+{
+    if before < FEW || rest.len() > before / 2 {
+        return Ok(());
+    }
+    let mut old = mem::replace(rest, Stack::new(alloc));
+    let mut tokens = Items::new(alloc);
+    'moving: while let Some(token) = old.pop() {
+        tokens.push(token)?;
+    }
+    rest.push_all(tokens)
+}
+
 /// The call whose opening parenthesis was taken, or None where it is not closed.
 pub fn collect(alloc: Global, rest: &mut Stack<Marked>) -> Result<Option<Call>, NoMemory>
     ensures { IfOk result (λ call. option_map (λ c. (c.arguments, c.hide, rest.new)) call ≡ spec.collect 0 [] [] rest.old) }
 {
+    let before = rest.len();
     let mut depth: usize = 0;
     let mut argument = Items::new(alloc);
     let mut arguments = Items::new(alloc);
@@ -82,6 +101,7 @@ pub fn collect(alloc: Global, rest: &mut Stack<Marked>) -> Result<Option<Call>, 
         if is_mark(&token.token, b')') {
             if depth == 0 {
                 arguments.push(argument)?;
+                compact(alloc, rest, before)?;
                 return Ok(Some(Call {
                     arguments,
                     hide: token.hide,

@@ -8,6 +8,7 @@ mod hide;
 mod lists;
 mod macros;
 mod marked;
+mod moving;
 mod redefine;
 mod replacement;
 mod string;

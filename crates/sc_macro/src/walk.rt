@@ -1,8 +1,9 @@
 // Expansion of a list, one replacement after the other.
-ghost use Rattle.std.specs.Prelude.{◌≡◌, [], ◌∷◌, ◌++◌, ◌≤◌, ◌<◌, ◌-◌, ◌||◌, false, get_or, IfOk, OnOk, map};
+ghost use Rattle.std.specs.Prelude.{◌≡◌, [], ◌∷◌, ◌++◌, ◌≤◌, ◌<◌, ◌-◌, ◌||◌, true, false, get_or, IfOk, OnOk, map};
 ghost use Rattle.sc_macro.specs.Expansion as spec;
 ghost use Rattle.sc_macro.specs.Expansion.{Expands, Replaces};
 ghost use Rattle.sc_macro.specs.Marks.{without_lines};
+ghost use Rattle.sc_macro.specs.Moving.{left_over, stay};
 ghost use Rattle.sc_macro.specs.Refusals.{Gives};
 
 use crate::call::{Call, collect, fits};
@@ -10,11 +11,13 @@ use crate::failure::{Failure, Reason, Refused, fault};
 use crate::hide::Hide;
 use crate::macros::{Macro, Macros};
 use crate::marked::{Marked, copy_spaced, is_newline};
+use crate::moving::movable;
 use crate::redefine::is_function;
 use crate::substitute::{alone, filled, place};
 use sc_base::{Duplicate, Fault, Items, NoMemory, Stack};
 use sc_lex::Token;
 use std::alloc::Global;
+use std::mem;
 
 fn is_wanted(wanted: &[bool], number: usize) -> bool
     ensures { result ≡ get_or wanted.now number false }
@@ -93,7 +96,7 @@ fn replace(
     }
     *left -= 1;
     replace_call(
-        alloc, macros, depth, left, name, number, definition, &call, rest,
+        alloc, macros, depth, left, name, number, definition, call, rest,
     )
 }
 
@@ -131,34 +134,43 @@ fn replace_call(
     name: &Marked,
     number: usize,
     definition: &Macro,
-    call: &Call,
+    call: Call,
     rest: &mut Stack<Marked>,
 ) -> Result<(), Failure>
-    ensures gives { Replaces (spec.called (spec.expand macros.now depth name.now.token.line) left.old name.now number definition.now (call.now.arguments, call.now.hide, rest.old)) result left.new rest.new }
+    ensures gives { Replaces (spec.called (spec.expand macros.now depth name.now.token.line) left.old name.now number definition.now (call.arguments, call.hide, rest.old)) result left.new rest.new }
     ensures falls { left.new ≤ left.old }
 {
+    let Call {
+        mut arguments,
+        hide,
+    } = call;
+    let wanted = definition.wanted.as_slice();
+    let chains = definition.chains.as_slice();
+    let moves = movable(alloc, wanted, chains)?;
     let whole = expand_arguments(
         alloc,
         macros,
         depth,
         name.token.line,
         left,
-        definition.wanted.as_slice(),
-        call.arguments.as_slice(),
+        wanted,
+        moves.as_slice(),
+        &mut arguments,
     )?;
     let tokens = filled(
         alloc,
         &name.token,
-        call.arguments.as_slice(),
+        arguments.as_slice(),
         whole.as_slice(),
-        definition.chains.as_slice(),
+        chains,
     )?;
-    let hide = name.hide.common(alloc, &call.hide)?.with(alloc, number)?;
+    let hide = name.hide.common(alloc, &hide)?.with(alloc, number)?;
     place(alloc, &name.token, &hide, tokens, rest)?;
     Ok(())
 }
 
-/// The arguments that are wanted expanded; an empty list for each other.
+/// The arguments that are wanted expanded; an empty list for each other. One that `moves` is given away, and leaves an
+/// empty list behind.
 #[cycle(expansion)]
 fn expand_arguments(
     alloc: Global,
@@ -167,22 +179,56 @@ fn expand_arguments(
     line: u32,
     left: &mut u32,
     wanted: &[bool],
-    arguments: &[Items<Marked>],
+    moves: &[bool],
+    arguments: &mut Items<Items<Marked>>,
 ) -> Result<Items<Items<Marked>>, Failure>
-    ensures gives { Expands (spec.arguments (spec.expand macros.now depth line) wanted.now left.old [] arguments.now) result left.new }
+    ensures gives { Expands (spec.arguments (spec.expand macros.now depth line) wanted.now left.old [] arguments.old) result left.new }
+    ensures stays { OnOk result (arguments.new ≡ left_over moves.now [] arguments.old) }
     ensures falls { left.new ≤ left.old }
 {
     let mut done = Items::new(alloc);
-    let mut waiting = arguments;
-    'expanding: while let Some((argument, more)) = waiting.split_first() {
-        let needed = is_wanted(wanted, done.as_slice().len());
-        match expand_argument(alloc, macros, depth, line, left, argument, needed) {
+    let mut waiting = Stack::new(alloc);
+    waiting.push_all(mem::replace(arguments, Items::new(alloc)))?;
+    'expanding: while let Some(next) = waiting.pop() {
+        let mut argument = next;
+        let needed = is_wanted(wanted, done.len());
+        let goes = is_wanted(moves, arguments.len());
+        match expand_argument(
+            alloc,
+            macros,
+            depth,
+            line,
+            left,
+            &mut argument,
+            needed,
+            goes,
+        ) {
             Ok(whole) => done.push(whole)?,
             Err(failure) => return Err(failure),
         }
-        waiting = more;
+        arguments.push(argument)?;
     }
     Ok(done)
+}
+
+/// What is expanded of an argument, where it is needed: the argument itself where it `goes`, or a copy.
+fn taken(
+    alloc: Global,
+    argument: &mut Items<Marked>,
+    needed: bool,
+    goes: bool,
+) -> Result<Items<Marked>, NoMemory>
+    ensures stays { OnOk result (argument.new ≡ stay goes argument.old) }
+    ensures tokens { IfOk result (λ tokens. needed ≡ true → tokens ≡ argument.old) }
+{
+    if goes {
+        return Ok(mem::replace(argument, Items::new(alloc)));
+    }
+    if needed {
+        argument.copy(alloc)
+    } else {
+        Ok(Items::new(alloc))
+    }
 }
 
 #[cycle(expansion)]
@@ -192,14 +238,16 @@ fn expand_argument(
     depth: u32,
     line: u32,
     left: &mut u32,
-    argument: &Items<Marked>,
+    argument: &mut Items<Marked>,
     needed: bool,
+    goes: bool,
 ) -> Result<Items<Marked>, Failure>
-    ensures gives { Expands (spec.argument (spec.expand macros.now depth line) left.old argument.now needed) result left.new }
+    ensures gives { Expands (spec.argument (spec.expand macros.now depth line) left.old argument.old needed) result left.new }
+    ensures stays { OnOk result (argument.new ≡ stay goes argument.old) }
     ensures falls { left.new ≤ left.old }
 {
+    let tokens = taken(alloc, argument, needed, goes)?;
     if needed {
-        let tokens = argument.copy(alloc)?;
         expand_at(alloc, macros, depth, line, left, tokens)
     } else {
         Ok(Items::new(alloc))

@@ -12,6 +12,7 @@ use Rattle.sc_base.specs.declared.refusal.Refusal.{Refusal}
 use Rattle.sc_base.specs.declared.refusal.Fault.{Fault}
 use Rattle.sc_base.specs.declared.refusal.Fault.TheVariants as fault
 use Rattle.sc_outside.specs.Stored.{FileMap, Finds}
+use Rattle.sc_condition.specs.Verdict.{verdict}
 use Rattle.sc_pp.specs.declared.failure.Failure.{Failure}
 use Rattle.sc_pp.specs.declared.failure.Failure.TheVariants as failure
 use Rattle.sc_pp.specs.declared.line.Directive.{Directive}
@@ -22,7 +23,7 @@ use Rattle.sc_pp.specs.declared.state.Place.{Place}
 use Rattle.sc_pp.specs.declared.include.Wanted.{Wanted}
 use Rattle.sc_pp.specs.declared.include.File.{File}
 use Rattle.sc_pp.specs.Outcomes.{Outcome, Fails, Meets, Yields, after, raised}
-use Rattle.sc_pp.specs.Conditionals.{Truth, told}
+use Rattle.sc_pp.specs.Conditionals.{told}
 use Rattle.sc_pp.specs.Directives.{test, simple, opened, expanded, tests_tokens, tests_value, with_state}
 use Rattle.sc_pp.specs.Reader.{Turn, turn, done, run}
 use Rattle.sc_pp.specs.Closed.{Ready}
@@ -47,28 +48,28 @@ by_turn : (o : Outcome (Turn State)) (d : Turn State → Outcome State) (k : Lis
 by_turn (Err r) d k = refl
 by_turn (Ok r) d k = after_done (d r) r.1 k
 
-module _ (t : Truth) (read : Reading) (place : Place) where
-  split : (u : Line) (us : List Line) (s : State) (fs : List Frame) → run State place.name (test t place) (read place) (u ∷ us) s fs ≡ after (one t read place s fs u) (λ p. run State place.name (test t place) (read place) us p.0 p.1)
-  split u us s fs = by_turn (turn State place.name (test t place) s fs u) (λ r. done State place.name (test t place) (read place) r.0 r.2) (λ fs2 s2. run State place.name (test t place) (read place) us s2 fs2)
+module _ (read : Reading) (place : Place) where
+  split : (u : Line) (us : List Line) (s : State) (fs : List Frame) → run State place.name (test place) (read place) (u ∷ us) s fs ≡ after (one read place s fs u) (λ p. run State place.name (test place) (read place) us p.0 p.1)
+  split u us s fs = by_turn (turn State place.name (test place) s fs u) (λ r. done State place.name (test place) (read place) r.0 r.2) (λ fs2 s2. run State place.name (test place) (read place) us s2 fs2)
 
   -- a line was done
   pub goes_on : (s : State) (fs : List Frame) (u : Line) (us lines : List Line) (s2 : State) (fs2 : List Frame) (whole : Outcome State) →
-      lines ≡ u ∷ us → run State place.name (test t place) (read place) lines s fs ≡ whole → one t read place s fs u ≡ Ok (s2, fs2) → run State place.name (test t place) (read place) us s2 fs2 ≡ whole
+      lines ≡ u ∷ us → run State place.name (test place) (read place) lines s fs ≡ whole → one read place s fs u ≡ Ok (s2, fs2) → run State place.name (test place) (read place) us s2 fs2 ≡ whole
   goes_on s fs u us lines s2 fs2 whole l h o =
-      sym (ap (λ q. after q (λ p. run State place.name (test t place) (read place) us p.0 p.1)) o) ∙ sym (split u us s fs) ∙ sym (ap (λ vs. run State place.name (test t place) (read place) vs s fs) l) ∙ h
+      sym (ap (λ q. after q (λ p. run State place.name (test place) (read place) us p.0 p.1)) o) ∙ sym (split u us s fs) ∙ sym (ap (λ vs. run State place.name (test place) (read place) vs s fs) l) ∙ h
 
   -- a line was refused
   pub fails_at : (s : State) (fs : List Frame) (u : Line) (us lines : List Line) (r : Refusal) (whole : Outcome State) →
-      lines ≡ u ∷ us → run State place.name (test t place) (read place) lines s fs ≡ whole → one t read place s fs u ≡ Err r → whole ≡ Err r
+      lines ≡ u ∷ us → run State place.name (test place) (read place) lines s fs ≡ whole → one read place s fs u ≡ Err r → whole ≡ Err r
   fails_at s fs u us lines r whole l h o =
-      sym h ∙ ap (λ vs. run State place.name (test t place) (read place) vs s fs) l ∙ split u us s fs ∙ ap (λ q. after q (λ p. run State place.name (test t place) (read place) us p.0 p.1)) o
+      sym h ∙ ap (λ vs. run State place.name (test place) (read place) vs s fs) l ∙ split u us s fs ∙ ap (λ q. after q (λ p. run State place.name (test place) (read place) us p.0 p.1)) o
 
   -- all lines were done
-  pub at_end : (s s2 : State) (fs : List Frame) (us lines : List Line) → Ready lines → us ≡ [] → run State place.name (test t place) (read place) us s2 fs ≡ run State place.name (test t place) (read place) lines s [] → file_done t read place lines s ≡ Ok s2
-  at_end s s2 fs us lines g e h = sym (agrees State place.name (read place) (test t place) lines s g) ∙ sym h ∙ ap (λ vs. run State place.name (test t place) (read place) vs s2 fs) e
+  pub at_end : (s s2 : State) (fs : List Frame) (us lines : List Line) → Ready lines → us ≡ [] → run State place.name (test place) (read place) us s2 fs ≡ run State place.name (test place) (read place) lines s [] → file_done read place lines s ≡ Ok s2
+  at_end s s2 fs us lines g e h = sym (agrees State place.name (read place) (test place) lines s g) ∙ sym h ∙ ap (λ vs. run State place.name (test place) (read place) vs s2 fs) e
 
-  pub at_fault : (s : State) (lines : List Line) (r : Refusal) → Ready lines → run State place.name (test t place) (read place) lines s [] ≡ Err r → file_done t read place lines s ≡ Err r
-  at_fault s lines r g h = sym (agrees State place.name (read place) (test t place) lines s g) ∙ h
+  pub at_fault : (s : State) (lines : List Line) (r : Refusal) → Ready lines → run State place.name (test place) (read place) lines s [] ≡ Err r → file_done read place lines s ≡ Err r
+  at_fault s lines r g h = sym (agrees State place.name (read place) (test place) lines s g) ∙ h
 
 -- the code's answer is that of an equal outcome
 pub reads_as : (a b : Outcome State) (result : Result Unit Failure) (s : State) → a ≡ b → Reads b result s → Reads a result s
@@ -76,63 +77,63 @@ reads_as a b (Ok u) s e h = e ∙ h
 reads_as a b (Err f) s e h = λ r q. e ∙ h r q
 
 -- what a line does, with the files that it includes
-pub unfolded : (t : Truth) (map : FileMap) (depth : ℕ) → reading t map depth ≡ reading_in t map depth (inner_reading t map depth)
-unfolded t map zero = refl
-unfolded t map (suc depth) = refl
+pub unfolded : (map : FileMap) (depth : ℕ) → reading map depth ≡ reading_in map depth (inner_reading map depth)
+unfolded map zero = refl
+unfolded map (suc depth) = refl
 
-pub inner : (t : Truth) (map : FileMap) (depth : ℕ) → 0 < depth → inner_reading t map depth ≡ reading t map (depth - 1)
-inner t map zero h = absurd (omega arith)
-inner t map (suc depth) h = let e : suc depth - 1 ≡ depth = omega arith in ap (reading t map) (sym e)
+pub inner : (map : FileMap) (depth : ℕ) → 0 < depth → inner_reading map depth ≡ reading map (depth - 1)
+inner map zero h = absurd (omega arith)
+inner map (suc depth) h = let e : suc depth - 1 ≡ depth = omega arith in ap (reading map) (sym e)
 
-module _ (t : Truth) (map : FileMap) (depth : ℕ) (place : Place) (s : State) (d : Directive) where
-  by_simple : (o : _) → simple depth place s d ≡ o → reading t map depth place s d ≡ after o (supplied t map (inner_reading t map depth) place)
-  by_simple o h = ap (λ f. f place s d) (unfolded t map depth) ∙ ap (λ p. after p (supplied t map (inner_reading t map depth) place)) h
+module _ (map : FileMap) (depth : ℕ) (place : Place) (s : State) (d : Directive) where
+  by_simple : (o : _) → simple depth place s d ≡ o → reading map depth place s d ≡ after o (supplied map (inner_reading map depth) place)
+  by_simple o h = ap (λ f. f place s d) (unfolded map depth) ∙ ap (λ p. after p (supplied map (inner_reading map depth) place)) h
 
   -- no file is read
-  by_step : (s2 : State) (o p : Option Wanted) → simple depth place s d ≡ Ok (s2, o) → o ≡ p → reading t map depth place s d ≡ supplied t map (inner_reading t map depth) place (s2, p)
-  by_step s2 o p h e = by_simple (Ok (s2, o)) h ∙ ap (λ q. supplied t map (inner_reading t map depth) place (s2, q)) e
+  by_step : (s2 : State) (o p : Option Wanted) → simple depth place s d ≡ Ok (s2, o) → o ≡ p → reading map depth place s d ≡ supplied map (inner_reading map depth) place (s2, p)
+  by_step s2 o p h e = by_simple (Ok (s2, o)) h ∙ ap (λ q. supplied map (inner_reading map depth) place (s2, q)) e
 
-  pub no_file_read : (s2 : State) (o : Option Wanted) → simple depth place s d ≡ Ok (s2, o) → o ≡ None → reading t map depth place s d ≡ Ok s2
+  pub no_file_read : (s2 : State) (o : Option Wanted) → simple depth place s d ≡ Ok (s2, o) → o ≡ None → reading map depth place s d ≡ Ok s2
   no_file_read s2 o h e = by_step s2 o None h e
 
-  pub line_fails : (r : Refusal) → simple depth place s d ≡ Err r → reading t map depth place s d ≡ Err r
+  pub line_fails : (r : Refusal) → simple depth place s d ≡ Err r → reading map depth place s d ≡ Err r
   line_fails r h = by_simple (Err r) h
 
   -- a file is read
-  pub file_reads : (s2 s3 : State) (o : Option Wanted) (w : Wanted) (result : Result Unit Failure) → 0 < depth → simple depth place s d ≡ Ok (s2, o) → o ≡ Some w → Reads (included t map (reading t map (depth - 1)) place s2 w) result s3 → Reads (reading t map depth place s d) result s3
+  pub file_reads : (s2 s3 : State) (o : Option Wanted) (w : Wanted) (result : Result Unit Failure) → 0 < depth → simple depth place s d ≡ Ok (s2, o) → o ≡ Some w → Reads (included map (reading map (depth - 1)) place s2 w) result s3 → Reads (reading map depth place s d) result s3
   file_reads s2 s3 o w result deep h e k =
-      reads_as (reading t map depth place s d) (included t map (reading t map (depth - 1)) place s2 w) result s3 (by_step s2 o (Some w) h e ∙ ap (λ f. included t map f place s2 w) (inner t map depth deep)) k
+      reads_as (reading map depth place s d) (included map (reading map (depth - 1)) place s2 w) result s3 (by_step s2 o (Some w) h e ∙ ap (λ f. included map f place s2 w) (inner map depth deep)) k
 
-module _ (t : Truth) (map : FileMap) (read : Reading) (place : Place) (s : State) (w : Wanted) where
-  pub not_fetched : (r : Refusal) → fetched map w ≡ Err r → included t map read place s w ≡ Err r
-  not_fetched r h = ap (λ p. after (after p (opened place s w)) (entered t read)) h
+module _ (map : FileMap) (read : Reading) (place : Place) (s : State) (w : Wanted) where
+  pub not_fetched : (r : Refusal) → fetched map w ≡ Err r → included map read place s w ≡ Err r
+  not_fetched r h = ap (λ p. after (after p (opened place s w)) (entered read)) h
 
-  by_text : (text : Option (List ℕ)) (o : Outcome (State × Option File)) → fetched map w ≡ Ok text → opened place s w text ≡ o → included t map read place s w ≡ after o (entered t read)
-  by_text text o h k = ap (λ p. after (after p (opened place s w)) (entered t read)) h ∙ ap (λ q. after q (entered t read)) k
+  by_text : (text : Option (List ℕ)) (o : Outcome (State × Option File)) → fetched map w ≡ Ok text → opened place s w text ≡ o → included map read place s w ≡ after o (entered read)
+  by_text text o h k = ap (λ p. after (after p (opened place s w)) (entered read)) h ∙ ap (λ q. after q (entered read)) k
 
-  pub not_opened : (text : Option (List ℕ)) (r : Refusal) → fetched map w ≡ Ok text → opened place s w text ≡ Err r → included t map read place s w ≡ Err r
+  pub not_opened : (text : Option (List ℕ)) (r : Refusal) → fetched map w ≡ Ok text → opened place s w text ≡ Err r → included map read place s w ≡ Err r
   not_opened text r h k = by_text text (Err r) h k
 
-  pub not_entered : (text : Option (List ℕ)) (s2 : State) (o : Option File) → fetched map w ≡ Ok text → opened place s w text ≡ Ok (s2, o) → o ≡ None → included t map read place s w ≡ Ok s2
-  not_entered text s2 o h k e = by_text text (Ok (s2, o)) h k ∙ ap (λ q. entered t read (s2, q)) e
+  pub not_entered : (text : Option (List ℕ)) (s2 : State) (o : Option File) → fetched map w ≡ Ok text → opened place s w text ≡ Ok (s2, o) → o ≡ None → included map read place s w ≡ Ok s2
+  not_entered text s2 o h k e = by_text text (Ok (s2, o)) h k ∙ ap (λ q. entered read (s2, q)) e
 
-  pub file_entered : (text : Option (List ℕ)) (s2 s3 : State) (o : Option File) (f : File) (result : Result Unit Failure) → fetched map w ≡ Ok text → opened place s w text ≡ Ok (s2, o) → o ≡ Some f → Reads (file_done t read f.place f.lines s2) result s3 → Reads (included t map read place s w) result s3
+  pub file_entered : (text : Option (List ℕ)) (s2 s3 : State) (o : Option File) (f : File) (result : Result Unit Failure) → fetched map w ≡ Ok text → opened place s w text ≡ Ok (s2, o) → o ≡ Some f → Reads (file_done read f.place f.lines s2) result s3 → Reads (included map read place s w) result s3
   file_entered text s2 s3 o f result h k e m =
-      reads_as (included t map read place s w) (file_done t read f.place f.lines s2) result s3 (by_text text (Ok (s2, o)) h k ∙ ap (λ q. entered t read (s2, q)) e) m
+      reads_as (included map read place s w) (file_done read f.place f.lines s2) result s3 (by_text text (Ok (s2, o)) h k ∙ ap (λ q. entered read (s2, q)) e) m
 
-module _ (t : Truth) (read : Reading) (place : Place) (s : State) (fs : List Frame) (u : Line) where
-  pub one_fails : (r : Refusal) → turn State place.name (test t place) s fs u ≡ Err r → one t read place s fs u ≡ Err r
-  one_fails r h = ap (λ o. after o (λ r. after (done State place.name (test t place) (read place) r.0 r.2) (λ s2. Ok (s2, r.1)))) h
+module _ (read : Reading) (place : Place) (s : State) (fs : List Frame) (u : Line) where
+  pub one_fails : (r : Refusal) → turn State place.name (test place) s fs u ≡ Err r → one read place s fs u ≡ Err r
+  one_fails r h = ap (λ o. after o (λ r. after (done State place.name (test place) (read place) r.0 r.2) (λ s2. Ok (s2, r.1)))) h
 
-  by_done : (s2 : State) (fs2 : List Frame) (o p : Option Directive) → turn State place.name (test t place) s fs u ≡ Ok (s2, fs2, o) → o ≡ p → one t read place s fs u ≡ after (done State place.name (test t place) (read place) s2 p) (λ s3. Ok (s3, fs2))
+  by_done : (s2 : State) (fs2 : List Frame) (o p : Option Directive) → turn State place.name (test place) s fs u ≡ Ok (s2, fs2, o) → o ≡ p → one read place s fs u ≡ after (done State place.name (test place) (read place) s2 p) (λ s3. Ok (s3, fs2))
   by_done s2 fs2 o p h e =
-      ap (λ q. after q (λ r. after (done State place.name (test t place) (read place) r.0 r.2) (λ s2. Ok (s2, r.1)))) h
-      ∙ ap (λ q. after (done State place.name (test t place) (read place) s2 q) (λ s3. Ok (s3, fs2))) e
+      ap (λ q. after q (λ r. after (done State place.name (test place) (read place) r.0 r.2) (λ s2. Ok (s2, r.1)))) h
+      ∙ ap (λ q. after (done State place.name (test place) (read place) s2 q) (λ s3. Ok (s3, fs2))) e
 
-  pub one_done : (s2 : State) (fs2 : List Frame) (o : Option Directive) → turn State place.name (test t place) s fs u ≡ Ok (s2, fs2, o) → o ≡ None → one t read place s fs u ≡ Ok (s2, fs2)
+  pub one_done : (s2 : State) (fs2 : List Frame) (o : Option Directive) → turn State place.name (test place) s fs u ≡ Ok (s2, fs2, o) → o ≡ None → one read place s fs u ≡ Ok (s2, fs2)
   one_done s2 fs2 o h e = by_done s2 fs2 o None h e
 
-  pub one_reads : (s2 s3 : State) (fs2 : List Frame) (o : Option Directive) (d : Directive) (result : Result Unit Failure) → turn State place.name (test t place) s fs u ≡ Ok (s2, fs2, o) → o ≡ Some d → Reads (read place s2 d) result s3 → Steps (one t read place s fs u) result s3 fs2
+  pub one_reads : (s2 s3 : State) (fs2 : List Frame) (o : Option Directive) (d : Directive) (result : Result Unit Failure) → turn State place.name (test place) s fs u ≡ Ok (s2, fs2, o) → o ≡ Some d → Reads (read place s2 d) result s3 → Steps (one read place s fs u) result s3 fs2
   one_reads s2 s3 fs2 o d (Ok v) h e k = by_done s2 fs2 o (Some d) h e ∙ ap (λ q. after q (λ s3. Ok (s3, fs2))) k
   one_reads s2 s3 fs2 o d (Err f) h e k = λ r q. by_done s2 fs2 o (Some d) h e ∙ ap (λ q. after q (λ s3. Ok (s3, fs2))) (k r q)
 
@@ -163,9 +164,9 @@ by_result : (o : Outcome Bool) (s : State) (result : Result Bool Fault) → Meet
 by_result o s (Ok b) h = ap (with_state s) h
 by_result o s (Err f) h = λ r q. ap (with_state s) (h r q)
 
-pub value_told : (t : Truth) (place : Place) (s s1 : State) (line : ℕ) (ts us : List Token) (result : Result Bool Fault) → expanded place s ts ≡ Ok (s1, us) → Meets (told place.name line (t.decide us)) result → Yields (tests_tokens t place s line ts) result s1
-value_told t place s s1 line ts us result h k =
-    subst (λ (p : Outcome (State × Bool)). Yields p result s1) (sym (ap (λ q. after q (λ r. with_state r.0 (told place.name line (t.decide r.1)))) h)) (by_result (told place.name line (t.decide us)) s1 result k)
+pub value_told : (place : Place) (s s1 : State) (line : ℕ) (ts us : List Token) (result : Result Bool Fault) → expanded place s ts ≡ Ok (s1, us) → Meets (told place.name line (verdict us)) result → Yields (tests_tokens place s line ts) result s1
+value_told place s s1 line ts us result h k =
+    subst (λ (p : Outcome (State × Bool)). Yields p result s1) (sym (ap (λ q. after q (λ r. with_state r.0 (told place.name line (verdict r.1)))) h)) (by_result (told place.name line (verdict us)) s1 result k)
 
 -- a name of a file, and the text of that file
 pub no_text : (map : FileMap) (w : Wanted) (o : Option (Bor (List ℕ))) → w.quoted ≡ true → o ≡ None → is_some o ≡ is_utf8 w.name → fetched map w ≡ Ok None
@@ -182,9 +183,9 @@ pub as_text : (map : FileMap) (w : Wanted) (o : Option (Bor (List ℕ))) (x : Bo
 as_text map w o x result q e u h =
     fetches_as (fetched map w) (sized w.name (map w.name)) result (rw (q, sym (sym (ap is_some e) ∙ u)) refl) h
 
-pub value_by : (t : Truth) (place : Place) (s s1 : State) (line : ℕ) (o : Option (List Token)) (ts us : List Token) (result : Result Bool Fault) → o ≡ Some ts → us ≡ ts → Yields (tests_tokens t place s line us) result s1 → Yields (tests_value t place s line o) result s1
-value_by t place s s1 line o ts us result h e k =
-    subst (λ (p : Outcome (State × Bool)). Yields p result s1) (ap (tests_tokens t place s line) e ∙ sym (ap (tests_value t place s line) h)) k
+pub value_by : (place : Place) (s s1 : State) (line : ℕ) (o : Option (List Token)) (ts us : List Token) (result : Result Bool Fault) → o ≡ Some ts → us ≡ ts → Yields (tests_tokens place s line us) result s1 → Yields (tests_value place s line o) result s1
+value_by place s s1 line o ts us result h e k =
+    subst (λ (p : Outcome (State × Bool)). Yields p result s1) (ap (tests_tokens place s line) e ∙ sym (ap (tests_value place s line) h)) k
 
 pub not_utf8 : (bs : List ℕ) (b : Bool) → is_utf8 bs ≡ b → (IsUtf8 bs → ⊥) → false ≡ is_utf8 bs
 not_utf8 bs true h n = absurd (n (IsUtf8-from_is_utf8 bs h))

@@ -2,6 +2,5 @@ pub mod Written
 pub mod Agrees
 pub mod Matched
 pub mod Same
-pub mod Conditions
 pub mod Entering
 pub mod Units

@@ -15,7 +15,6 @@ use Rattle.sc_pp.specs.declared.unit.PpFault.TheVariants as fault
 use Rattle.sc_pp.specs.declared.state.State.{State}
 use Rattle.sc_pp.specs.declared.state.Place.{Place}
 use Rattle.sc_pp.specs.Outcomes.{Outcome, after}
-use Rattle.sc_pp.specs.Conditionals.{Truth}
 use Rattle.sc_pp.specs.Directives.{test}
 use Rattle.sc_pp.specs.Reader as reader
 use Rattle.sc_pp.specs.Preprocessing.{Reading}
@@ -39,10 +38,10 @@ Reads outcome (Ok u) s = outcome ≡ Ok s
 Reads outcome (Err f) s = Stops outcome f
 
 -- one line of a file, with the conditionals that are open
-abbrev pub one : Truth → Reading → Place → State → List Frame → Line → Outcome (State × List Frame)
-one t reading place s fs u =
-    after (reader.turn State place.name (test t place) s fs u)
-    (λ r. after (reader.done State place.name (test t place) (reading place) r.0 r.2) (λ s2. Ok (s2, r.1)))
+abbrev pub one : Reading → Place → State → List Frame → Line → Outcome (State × List Frame)
+one reading place s fs u =
+    after (reader.turn State place.name (test place) s fs u)
+    (λ r. after (reader.done State place.name (test place) (reading place) r.0 r.2) (λ s2. Ok (s2, r.1)))
 
 -- the code's step is this one
 abbrev pub Steps : Outcome (State × List Frame) → Result Unit Failure → State → List Frame → Type 0
@@ -69,8 +68,8 @@ Answers outcome (Err (fault.File name)) = ⊤
 Answers outcome (Err fault.NoMemory) = ⊤
 
 -- what holds where an object tells its files
-abbrev pub Known : Option FileMap → (Truth → FileMap → Type 0) → Type 0
-Known held P = (t : Truth) (map : FileMap) → held ≡ Some map → P t map
+abbrev pub Known : Option FileMap → (FileMap → Type 0) → Type 0
+Known held P = (map : FileMap) → held ≡ Some map → P map
 
 -- a file is blamed only where reading it failed
 abbrev pub BlamesRead : {A : Type 0} → FileGot → Result A Failure → Type 0

@@ -1,16 +1,12 @@
 -- The conditions of `#if`, `#elif`, `#ifdef` and `#ifndef` (ANSI 3.8.1).
-use Rattle.std.specs.Prelude.{ℕ, ◌≡◌, Bool, true, false, if◌then◌else◌, List, [], ◌∷◌, ◌++◌, Option, Some, None, Result, Ok, Err, codes}
+use Rattle.std.specs.Prelude.{ℕ, Bool, true, false, if◌then◌else◌, List, [], ◌∷◌, ◌++◌, Option, Some, None, Result, Ok, Err, codes}
 use Rattle.std.specs.Str.{bytes_eq}
 use Rattle.sc_base.specs.declared.refusal.X.TheVariants as x
 use Rattle.sc_lex.specs.declared.token.Token.{Token}
 use Rattle.sc_lex.specs.declared.token.TokenKind.TheVariants as kind
 use Rattle.sc_macro.specs.Tokens.{is_name, is_mark}
-use Rattle.sc_condition.specs.declared.operand.Operand.{Operand}
 use Rattle.sc_condition.specs.declared.truth.ConditionFault.{ConditionFault}
 use Rattle.sc_condition.specs.declared.truth.ConditionFault.TheVariants as wrong
-use Rattle.sc_condition.specs.Terms.{terms_of}
-use Rattle.sc_condition.specs.Grammar.{IsExpression}
-use Rattle.sc_condition.specs.Decides.{decided, is_deep, AreExpression}
 use Rattle.sc_pp.specs.declared.asking.Asking.{Asking}
 use Rattle.sc_pp.specs.declared.asking.Asking.TheVariants as asking
 use Rattle.sc_pp.specs.Outcomes.{Outcome, refuse}
@@ -52,13 +48,6 @@ or_stop (Some a) f = f a
 abbrev pub answered : Env → Asking → List Token → List Token → Option (List Token)
 answered env a out [] = asked_all out a
 answered env a out (t ∷ ts) = or_stop (ask env a out t) (λ r. answered env r.1 r.0 ts)
-
--- What conditions decide whose tokens are ready: an expression what it comes to, and all others are malformed. There is
--- one such function, since tokens are one expression at most.
-pub record Truth : Type 0 where
-  pub decide : List Token → Result Bool ConditionFault
-  pub by_expression : (ts : List Token) (x : Operand) → IsExpression (terms_of ts) x → decide ts ≡ decided (is_deep 0 (terms_of ts)) x
-  pub by_none : (ts : List Token) → (AreExpression ts → ⊥) → decide ts ≡ Err wrong.Malformed
 
 -- what is decided, as it is told at a line
 abbrev pub told : List ℕ → ℕ → Result Bool ConditionFault → Outcome Bool

@@ -10,6 +10,7 @@ use Rattle.sc_macro.specs.Tokens.{is_mark}
 use Rattle.sc_macro.specs.Table.{Table, is_fixed, undefined}
 use Rattle.sc_macro.specs.Define.{defined}
 use Rattle.sc_macro.specs.Refusals as macros
+use Rattle.sc_condition.specs.Verdict.{verdict}
 use Rattle.sc_pp.specs.declared.line.Word.{Word}
 use Rattle.sc_pp.specs.declared.line.Word.TheVariants as word
 use Rattle.sc_pp.specs.declared.line.Directive.{Directive}
@@ -22,7 +23,7 @@ use Rattle.sc_base.specs.declared.refusal.Fault.{Fault}
 use Rattle.sc_base.specs.declared.refusal.Fault.TheVariants as fault
 use Rattle.sc_pp.specs.Outcomes.{Outcome, after, refuse, refusal, told_in}
 use Rattle.sc_pp.specs.Environments.{Env, expanded_in, with_file, with_table, is_defined}
-use Rattle.sc_pp.specs.Conditionals.{Truth, answered, told, only_name}
+use Rattle.sc_pp.specs.Conditionals.{answered, told, only_name}
 use Rattle.sc_pp.specs.declared.asking.Asking.TheVariants as asking
 use Rattle.sc_pp.specs.Groups.{some_tokens}
 use Rattle.sc_pp.specs.Headers.{header_named, is_fresh, added_text}
@@ -182,21 +183,21 @@ abbrev pub with_state : State → Outcome Bool → Outcome (State × Bool)
 with_state s o = after o (λ b. Ok (s, b))
 
 -- `#if` and `#elif`: macros are replaced behind `defined`
-abbrev pub tests_tokens : Truth → Place → State → ℕ → List Token → Outcome (State × Bool)
-tests_tokens t place s line ts = after (expanded place s ts) (λ r. with_state r.0 (told place.name line (t.decide r.1)))
+abbrev pub tests_tokens : Place → State → ℕ → List Token → Outcome (State × Bool)
+tests_tokens place s line ts = after (expanded place s ts) (λ r. with_state r.0 (told place.name line (verdict r.1)))
 
-abbrev pub tests_value : Truth → Place → State → ℕ → Option (List Token) → Outcome (State × Bool)
-tests_value t place s line None = refuse x.X2 place.name line
-tests_value t place s line (Some ts) = tests_tokens t place s line ts
+abbrev pub tests_value : Place → State → ℕ → Option (List Token) → Outcome (State × Bool)
+tests_value place s line None = refuse x.X2 place.name line
+tests_value place s line (Some ts) = tests_tokens place s line ts
 
-abbrev pub test_by : Word → Truth → Place → State → Directive → Outcome (State × Bool)
-test_by word.Ifdef t place s d = tests_name true place s d.line (only_name d.tokens)
-test_by word.Ifndef t place s d = tests_name false place s d.line (only_name d.tokens)
-test_by _ t place s d = tests_value t place s d.line (answered s.env asking.Nothing [] d.tokens)
+abbrev pub test_by : Word → Place → State → Directive → Outcome (State × Bool)
+test_by word.Ifdef place s d = tests_name true place s d.line (only_name d.tokens)
+test_by word.Ifndef place s d = tests_name false place s d.line (only_name d.tokens)
+test_by _ place s d = tests_value place s d.line (answered s.env asking.Nothing [] d.tokens)
 
 -- whether a group is read
-abbrev pub test : Truth → Place → State → Directive → Outcome (State × Bool)
-test t place s d = test_by d.word t place s d
+abbrev pub test : Place → State → Directive → Outcome (State × Bool)
+test place s d = test_by d.word place s d
 
 -- the file that is entered from a place
 abbrev pub place_of : Place → State → Wanted → Place

@@ -3,8 +3,8 @@ ghost use Rattle.std.specs.Prelude.{◌≡◌, []};
 ghost use Rattle.sc_pp.specs.Outcomes.{Meets, Yields};
 ghost use Rattle.std.specs.Option.{option_map};
 ghost use Rattle.sc_pp.specs.declared.asking.Asking.TheVariants as asking;
+ghost use Rattle.sc_condition.specs.Verdict.{verdict};
 ghost use Rattle.sc_pp.specs.Conditionals as conditions;
-ghost use Rattle.sc_pp.specs.Conditionals.{Truth};
 ghost use Rattle.sc_pp.specs.Directives as spec;
 
 use crate::asking::answered;
@@ -53,7 +53,7 @@ fn tests_name(
 
 /// Whether a condition holds whose tokens are ready.
 fn truth(alloc: Global, place: &Place, line: u32, tokens: &[Token]) -> Result<bool, Fault>
-    ensures { (t : Truth) → Meets (conditions.told place.now.name line (t.decide tokens.now)) result }
+    ensures { Meets (conditions.told place.now.name line (verdict tokens.now)) result }
 {
     match condition(alloc, tokens) {
         Ok(holds) => Ok(holds),
@@ -70,7 +70,7 @@ fn tests_tokens(
     line: u32,
     tokens: &[Token],
 ) -> Result<bool, Fault>
-    ensures { (t : Truth) → Yields (spec.tests_tokens t place.now state.old line tokens.now) result state.new }
+    ensures { Yields (spec.tests_tokens place.now state.old line tokens.now) result state.new }
 {
     match expanded(alloc, place, state, tokens) {
         Ok(tokens) => truth(alloc, place, line, tokens.as_slice()),
@@ -84,7 +84,7 @@ fn tests_value(
     state: &mut State,
     directive: &Directive,
 ) -> Result<bool, Fault>
-    ensures { (t : Truth) → Yields (spec.tests_value t place.now state.old directive.now.line (conditions.answered state.old.env asking.Nothing [] directive.now.tokens)) result state.new }
+    ensures { Yields (spec.tests_value place.now state.old directive.now.line (conditions.answered state.old.env asking.Nothing [] directive.now.tokens)) result state.new }
 {
     match answered(alloc, &state.env, directive.tokens.as_slice()) {
         Ok(answer) => match answer {
@@ -102,7 +102,7 @@ pub fn test(
     state: &mut State,
     directive: &Directive,
 ) -> Result<bool, Fault>
-    ensures { (t : Truth) → Yields (spec.test t place.now state.old directive.now) result state.new }
+    ensures { Yields (spec.test place.now state.old directive.now) result state.new }
 {
     match directive.word {
         Word::Ifdef => tests_name(alloc, true, place, state, directive),

@@ -2,7 +2,6 @@
 ghost use Rattle.std.specs.Prelude.{◌≡◌};
 ghost use Rattle.sc_pp.specs.Outcomes.{Refuses, in_file};
 ghost use Rattle.sc_pp.specs.Groups.{has_more, malformed};
-ghost use Rattle.sc_pp.specs.Conditionals.{Truth};
 ghost use Rattle.sc_pp.specs.Reader as spec;
 ghost use Rattle.sc_pp.specs.Reader.{Turns};
 ghost use Rattle.sc_pp.specs.Directives.{test as tested};
@@ -76,7 +75,7 @@ fn enter_tested(
     frames: &mut Stack<Frame>,
     directive: &Directive,
 ) -> Result<Option<Directive>, Fault>
-    ensures { (t : Truth) → Turns (spec.tested TheState place.now.name (tested t place.now) state.old frames.old directive.now) result state.new frames.new }
+    ensures { Turns (spec.tested TheState place.now.name (tested place.now) state.old frames.old directive.now) result state.new frames.new }
 {
     match test(alloc, place, state, directive) {
         Ok(holds) => {
@@ -94,7 +93,7 @@ fn at_if(
     frames: &mut Stack<Frame>,
     directive: &Directive,
 ) -> Result<Option<Directive>, Fault>
-    ensures { (t : Truth) → Turns (spec.at_if TheState place.now.name (tested t place.now) (spec.active frames.old) state.old frames.old directive.now) result state.new frames.new }
+    ensures { Turns (spec.at_if TheState place.now.name (tested place.now) (spec.active frames.old) state.old frames.old directive.now) result state.new frames.new }
 {
     if is_active(frames) {
         enter_tested(alloc, state, place, frames, directive)
@@ -111,7 +110,7 @@ fn at_elif(
     frames: &mut Stack<Frame>,
     directive: &Directive,
 ) -> Result<Option<Directive>, Fault>
-    ensures { (t : Truth) → Turns (spec.at_elif TheState place.now.name (tested t place.now) state.old frames.old directive.now) result state.new frames.new }
+    ensures { Turns (spec.at_elif TheState place.now.name (tested place.now) state.old frames.old directive.now) result state.new frames.new }
 {
     match frames.pop() {
         None => Err(bad(alloc, place, directive)),
@@ -140,7 +139,7 @@ fn at_else(
     frames: &mut Stack<Frame>,
     directive: &Directive,
 ) -> Result<Option<Directive>, Fault>
-    ensures { (t : Truth) → Turns (spec.at_else TheState place.now.name (tested t place.now) state.now frames.old directive.now) result state.now frames.new }
+    ensures { Turns (spec.at_else TheState place.now.name (tested place.now) state.now frames.old directive.now) result state.now frames.new }
 {
     match frames.pop() {
         None => Err(bad(alloc, place, directive)),
@@ -175,7 +174,7 @@ fn at_endif(
     frames: &mut Stack<Frame>,
     directive: &Directive,
 ) -> Result<Option<Directive>, Fault>
-    ensures { (t : Truth) → Turns (spec.at_endif TheState place.now.name (tested t place.now) state.now frames.old directive.now) result state.now frames.new }
+    ensures { Turns (spec.at_endif TheState place.now.name (tested place.now) state.now frames.old directive.now) result state.now frames.new }
 {
     match frames.pop() {
         None => Err(bad(alloc, place, directive)),
@@ -213,7 +212,7 @@ pub fn turn(
     frames: &mut Stack<Frame>,
     line: Line,
 ) -> Result<Option<Directive>, Fault>
-    ensures { (t : Truth) → Turns (spec.turn TheState place.now.name (tested t place.now) state.old frames.old line) result state.new frames.new }
+    ensures { Turns (spec.turn TheState place.now.name (tested place.now) state.old frames.old line) result state.new frames.new }
 {
     match line {
         Line::Plain(directive) => Ok(only_active(frames, directive)),

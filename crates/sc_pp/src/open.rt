@@ -60,7 +60,7 @@ pub fn fetch<F: Files>(
     files: &mut F,
     wanted: &Wanted,
 ) -> Result<Option<Bytes>, Failure>
-    ensures gives { Known (F.held files.old) (λ t map. Fetches (whole.fetched map wanted.now) result) }
+    ensures gives { Known (F.held files.old) (λ map. Fetches (whole.fetched map wanted.now) result) }
     ensures limit { IfOk result (λ text. IfSome text (λ v. length v ≤ 1048576)) }
     ensures held { F.held files.new ≡ F.held files.old }
     ensures later { F.faults files.old ≤ F.faults files.new }

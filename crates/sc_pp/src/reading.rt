@@ -27,7 +27,7 @@ pub fn read_lines<F: Files>(
     lines: Stack<Line>,
 ) -> Result<(), Failure>
     requires { Ready lines }
-    ensures gives { Known (F.held files.old) (λ t map. Reads (spec.file_done t (spec.reading t map depth) place.now lines state.old) result state.new) }
+    ensures gives { Known (F.held files.old) (λ map. Reads (spec.file_done (spec.reading map depth) place.now lines state.old) result state.new) }
     ensures held { F.held files.new ≡ F.held files.old }
     ensures later { F.faults files.old ≤ F.faults files.new }
     ensures blames { Blames (F.faults files.old) (F.faults files.new) result }
@@ -53,7 +53,7 @@ fn take_line<F: Files>(
     frames: &mut Stack<Frame>,
     line: Line,
 ) -> Result<(), Failure>
-    ensures gives { Known (F.held files.old) (λ t map. Steps (one t (spec.reading t map depth) place.now state.old frames.old line) result state.new frames.new) }
+    ensures gives { Known (F.held files.old) (λ map. Steps (one (spec.reading map depth) place.now state.old frames.old line) result state.new frames.new) }
     ensures held { F.held files.new ≡ F.held files.old }
     ensures later { F.faults files.old ≤ F.faults files.new }
     ensures blames { Blames (F.faults files.old) (F.faults files.new) result }
@@ -78,7 +78,7 @@ fn read_line<F: Files>(
     place: &Place,
     directive: &Directive,
 ) -> Result<(), Failure>
-    ensures gives { Known (F.held files.old) (λ t map. Reads (spec.reading t map depth place.now state.old directive.now) result state.new) }
+    ensures gives { Known (F.held files.old) (λ map. Reads (spec.reading map depth place.now state.old directive.now) result state.new) }
     ensures held { F.held files.new ≡ F.held files.old }
     ensures later { F.faults files.old ≤ F.faults files.new }
     ensures blames { Blames (F.faults files.old) (F.faults files.new) result }
@@ -104,7 +104,7 @@ fn include<F: Files>(
     wanted: &Wanted,
 ) -> Result<(), Failure>
     requires { 0 < depth }
-    ensures gives { Known (F.held files.old) (λ t map. Reads (spec.included t map (spec.reading t map (depth - 1)) place.now state.old wanted.now) result state.new) }
+    ensures gives { Known (F.held files.old) (λ map. Reads (spec.included map (spec.reading map (depth - 1)) place.now state.old wanted.now) result state.new) }
     ensures held { F.held files.new ≡ F.held files.old }
     ensures later { F.faults files.old ≤ F.faults files.new }
     ensures blames { Blames (F.faults files.old) (F.faults files.new) result }

@@ -121,6 +121,33 @@ const UNITS: &[(&str, &str)] = &[
     ("#define f(x) x\nf(\n1\n) 2", "2 1 4 2"),
     ("#define f(x) x\nf(1\n#define g\n)", "X3 m.c:2"),
     ("#define p(x) x ## +\np(1)\n#error", "X9 paste m.c:2"),
+    // the examples of ANSI 3.8.3.5, and more calls
+    (
+        "#define x 3\n#define f(a) f(x * (a))\n#undef x\n#define x 2\n#define g f\n#define z z[0]\n#define h g(~\n#define m(a) a(w)\n#define w 0,1\n#define t(a) a\nf(y+1) + f(f(z)) % t(t(g)(0) + t)(1);\ng(x+(3,4)-w) | h 5) & m\n(f)^m(m);",
+        "11 f ( 2 * ( y + 1 ) ) + f ( 2 * ( f ( 2 * ( z [ 0 ] ) ) ) ) % f ( 2 * ( 0 ) ) + t ( 1 ) ; 12 f ( 2 * ( 2 + ( 3 , 4 ) - 0 , 1 ) ) | f ( 2 * ( ~ 5 ) ) & f ( 2 * ( 0 , 1 ) ) 13 ^ m ( 0 , 1 ) ;",
+    ),
+    (
+        "#define str(s) # s\n#define xstr(s) str(s)\n#define INCFILE(n) vers ## n\n#define glue(a, b) a ## b\n#define xglue(a, b) glue(a, b)\n#define HIGHLOW \"hello\"\n#define LOW LOW \", world\"\nxstr(INCFILE(2).h)\nglue(HIGH, LOW);\nxglue(HIGH, LOW)",
+        "8 \"vers2.h\" 9 \"hello\" ; 10 \"hello\" \", world\"",
+    ),
+    (
+        "#define OBJ_LIKE (1-1)\n#define OBJ_LIKE /* white space */ (1-1) /* other */\n#define OBJ_LIKE (1 - 1)",
+        "X3 m.c:3",
+    ),
+    (
+        "#define f(x) x f\n#define a a + 1\nf(1)(2)\na",
+        "3 1 f ( 2 ) 4 a + 1",
+    ),
+    (
+        "#define s(x) #x\n#define p(x, y) x ## y\ns( a  + \"b\\n\" )\np(1, 2)\np(1)",
+        "X3 m.c:5",
+    ),
+    (
+        "#define s(x) #x\n#define p(x, y) x ## y\ns( a  + \"b\\n\" )\np(1, 2)",
+        "3 \"a + \\\"b\\\\n\\\"\" 4 12",
+    ),
+    ("a/* x */b ??( 1", "1 a b [ 1"),
+    ("/* x", "X1 m.c:1"),
     // the lexer's refusals in text order
     ("#error\n/*", "X2 m.c:1"),
     ("a\n/*\n#error", "X1 m.c:2"),

@@ -1,4 +1,5 @@
 ghost use Rattle.std.specs.Prelude.{◌≡◌, ◌≤◌, length, codes, IfOk};
+ghost use Rattle.sc_condition.specs.Verdict.{verdict, IsMeaning};
 ghost use Rattle.sc_pp.specs.Outcomes.{refusal};
 ghost use Rattle.sc_base.specs.declared.refusal.X.TheVariants as x;
 ghost use Rattle.sc_pp.specs.Preprocessing as spec;
@@ -63,7 +64,7 @@ fn read_unit<F: Files>(
     text: &[u8],
 ) -> Result<Items<Token>, Failure>
     requires { length text.now ≤ 1048576 }
-    ensures gives { Known (F.held files.old) (λ t map. Finds (spec.read_unit t map name.now text.now) result) }
+    ensures gives { Known (F.held files.old) (λ map. Finds (spec.read_unit map name.now text.now) result) }
     ensures held { F.held files.new ≡ F.held files.old }
     ensures later { F.faults files.old ≤ F.faults files.new }
     ensures blames { Blames (F.faults files.old) (F.faults files.new) result }
@@ -100,7 +101,7 @@ fn sized_unit<F: Files>(
     files: &mut F,
     text: &[u8],
 ) -> Result<Items<Token>, Failure>
-    ensures gives { Known (F.held files.old) (λ t map. Finds (spec.unit t map name.now text.now) result) }
+    ensures gives { Known (F.held files.old) (λ map. Finds (spec.unit map name.now text.now) result) }
     ensures held { F.held files.new ≡ F.held files.old }
     ensures later { F.faults files.old ≤ F.faults files.new }
     ensures blames { Blames (F.faults files.old) (F.faults files.new) result }
@@ -132,7 +133,9 @@ pub fn preprocess<F: Files>(
     name: &str,
     files: &mut F,
 ) -> Result<Items<Token>, PpFault>
-    ensures gives { Known (F.held files.old) (λ t map. Answers (spec.preprocessed t map name.now) result) }
+    ensures gives { Known (F.held files.old) (λ map. Answers (spec.preprocessed map name.now) result) }
+    // What conditions decide is what the grammar says.
+    ensures conditions { IsMeaning verdict }
     ensures held { F.held files.new ≡ F.held files.old }
     ensures later { F.faults files.old ≤ F.faults files.new }
     ensures blames { BlamesFile (F.faults files.old) (F.faults files.new) result }

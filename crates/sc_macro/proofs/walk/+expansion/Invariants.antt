@@ -1,5 +1,6 @@
 use Rattle.std.proofs.Common.{◌≡◌, ◌+◌, ◌-◌, ◌*◌, ◌≤◌, [], length}
 use Rattle.sc_macro.specs.Expansion.{walk, prepend, expand, arguments}
+use Rattle.sc_macro.specs.Moving.{left_over}
 use Rattle.sc_macro.proofs.walk.+expansion.Given as goal
 
 -- a list before its names' arguments, these after their replacement
@@ -21,6 +22,7 @@ decreases-expand_argument l = 5 * l.depth + 1
 abbrev pub invariant-expand_arguments-expanding : goal.invariant-expand_arguments-expanding
 invariant-expand_arguments-expanding l = record {
   gives : arguments (expand l.macros l.depth l.line) l.wanted l.left l.done l.waiting ≡ arguments (expand l.macros l.depth l.line) l.wanted l.fn.left [] l.fn.arguments;
+  stays : left_over l.moves l.arguments l.waiting ≡ left_over l.moves [] l.fn.arguments;
   falls : l.left ≤ l.fn.left;
 }
 

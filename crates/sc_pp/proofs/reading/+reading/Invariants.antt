@@ -21,7 +21,7 @@ decreases-include g l = 4 * l.depth
 -- what is left of the lines goes on as the whole did
 abbrev pub invariant-read_lines-lines : goal.invariant-read_lines-lines
 invariant-read_lines-lines g l = record {
-  gives : Known (g.F.Files.held l.fn.files) (λ t map. run State l.place.name (test t l.place) (reading t map l.depth l.place) l.lines l.state l.frames ≡ run State l.place.name (test t l.place) (reading t map l.depth l.place) l.fn.lines l.fn.state []);
+  gives : Known (g.F.Files.held l.fn.files) (λ map. run State l.place.name (test l.place) (reading map l.depth l.place) l.lines l.state l.frames ≡ run State l.place.name (test l.place) (reading map l.depth l.place) l.fn.lines l.fn.state []);
   held : g.F.Files.held l.files ≡ g.F.Files.held l.fn.files;
   later : g.F.Files.faults l.fn.files ≤ g.F.Files.faults l.files;
 }

@@ -3,4 +3,4 @@ use Rattle.sc_pp.proofs.Units.{finds_short}
 use Rattle.sc_pp.proofs.unit.sized_unit.Goals as goal
 
 pub returns-clause-gives : goal.returns-clause-gives
-returns-clause-gives g c t map k = finds_short t map c.args.name.now c.args.text.now c.read_unit.result (omega arith) (c.read_unit.ensures.gives t map k)
+returns-clause-gives g c map k = finds_short map c.args.name.now c.args.text.now c.read_unit.result (omega arith) (c.read_unit.ensures.gives map k)
