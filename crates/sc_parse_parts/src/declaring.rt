@@ -1,5 +1,6 @@
 // Declarations and initialisers.
 ghost use Rattle.std.specs.Prelude.{◌≡◌, List, [], ◌∷◌, ◌++◌, Some, None, Ok, IfOk, OnOk};
+ghost use Rattle.sc_symbol.specs.declared.kind.Symbol.{Symbol as OneSymbol};
 ghost use Rattle.sc_symbol.specs.Names.{Names};
 ghost use Rattle.sc_phrase.specs.Machine as inner;
 ghost use Rattle.sc_phrase.specs.Steps.{IsSymbol};
@@ -13,8 +14,8 @@ use sc_parse_expr::step;
 use sc_phrase::{Direct, Frame, Mode, State, Trouble, Whole};
 use sc_symbol::{Entry, Kind, Symbol, TypeNames};
 use sc_tree::{
-    Block, Declaration, Declarator, External, Identifier, InitDeclarator, Initializer, Specifiers,
-    Storage,
+    Binary, Block, Declaration, Declarator, External, Identifier, InitDeclarator, Initializer,
+    Specifiers, Storage,
 };
 use sc_unit::{Around, Obstacle, Stage};
 use std::alloc::Global;
@@ -396,6 +397,25 @@ fn body(
     }
 }
 
+/// An assignment operator behind a declarator: `=` begins its initialiser.
+fn assigned(
+    op: Option<Binary>,
+    around: &mut Stack<Around>,
+    v: Specifiers,
+    all: Items<InitDeclarator>,
+    whole: Whole,
+) -> Result<Stage, Obstacle>
+    ensures { (t : OneSymbol) → (names : Names) → Goes (spec.declared_by t names around.old v all whole (Kind.Assign op)) result names around.new }
+{
+    match op {
+        None => {
+            let line = whole.line;
+            initialized(around, v, all, line, parts(whole).0)
+        }
+        Some(_) => Err(STUCK),
+    }
+}
+
 /// A token behind a declarator, whose name is in scope.
 fn declared_by(
     alloc: Global,
@@ -410,10 +430,7 @@ fn declared_by(
 {
     match token.kind {
         Kind::LeftBrace => body(alloc, names, token.line, around, v, all, whole),
-        Kind::Assign(None) => {
-            let line = whole.line;
-            initialized(around, v, all, line, parts(whole).0)
-        }
+        Kind::Assign(op) => assigned(op, around, v, all, whole),
         _ => bare(alloc, token.kind, around, v, all, whole),
     }
 }
