@@ -1,3 +1,4 @@
 pub mod Quiet
 pub mod Turns
 pub mod Computed
+pub mod Characters

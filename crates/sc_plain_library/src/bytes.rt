@@ -1,5 +1,5 @@
 // Bytes of objects, read and written one by one, and texts (ANSI 4.1.1, 4.11).
-ghost use Rattle.std.specs.Prelude.{◌≡◌, ◌<◌, [], length, IfOk};
+ghost use Rattle.std.specs.Prelude.{◌≡◌, ◌*◌, ◌<◌, [], length, IfOk};
 ghost use Rattle.sc_meaning.specs.Library as spec;
 ghost use Rattle.sc_meaning.specs.Violations as violation;
 ghost use Rattle.sc_meaning.specs.World as worlds;
@@ -88,6 +88,16 @@ pub fn text_at(p: &Value, world: &mut World) -> Result<Items<u8>, Stop>
 {
     let n = past(world, p);
     text_upto(n, p, world)
+}
+
+/// Twice a number, where it has room in 32 bits.
+pub fn twice(n: u32) -> Result<u32, NoMemory>
+    ensures { IfOk result (λ m. m ≡ 2 * n) }
+{
+    let Some(m) = n.checked_mul(2) else {
+        return Err(NoMemory)
+    };
+    Ok(m)
 }
 
 /// A length that has room in 32 bits.

@@ -10,10 +10,7 @@ ghost use Rattle.sc_plain_library.specs.Quiet.{IsQuiet};
 ghost use Rattle.sc_plain_library.specs.Computed as computed;
 
 use crate::bytes::{bits_at, past, shown, text_at, value_at};
-use crate::characters::{
-    classed, is_alnum, is_alpha, is_cntrl, is_digit, is_graph, is_lower, is_print, is_punct,
-    is_space, is_upper, is_xdigit, lower, on_character, upper,
-};
+use crate::characters::on_character;
 use crate::copies::{memcpy, memmove, memset, strcat, strcpy, strlen, strncpy};
 use crate::heap::{calloc, free, malloc, realloc};
 use crate::printf::printf;
@@ -147,19 +144,19 @@ fn called(f: LibFun, key: &Key, vs: &[Value], world: &mut World) -> Result<Answe
         LibFun::Rand => rand(world),
         LibFun::Srand => srand(a, world),
         LibFun::Exit => exit(a, world),
-        LibFun::Isalnum => on_character(key, vs, classed(is_alnum(a)), world),
-        LibFun::Isalpha => on_character(key, vs, classed(is_alpha(a)), world),
-        LibFun::Iscntrl => on_character(key, vs, classed(is_cntrl(a)), world),
-        LibFun::Isdigit => on_character(key, vs, classed(is_digit(a)), world),
-        LibFun::Isgraph => on_character(key, vs, classed(is_graph(a)), world),
-        LibFun::Islower => on_character(key, vs, classed(is_lower(a)), world),
-        LibFun::Isprint => on_character(key, vs, classed(is_print(a)), world),
-        LibFun::Ispunct => on_character(key, vs, classed(is_punct(a)), world),
-        LibFun::Isspace => on_character(key, vs, classed(is_space(a)), world),
-        LibFun::Isupper => on_character(key, vs, classed(is_upper(a)), world),
-        LibFun::Isxdigit => on_character(key, vs, classed(is_xdigit(a)), world),
-        LibFun::Tolower => on_character(key, vs, lower(a), world),
-        LibFun::Toupper => on_character(key, vs, upper(a), world),
+        LibFun::Isalnum
+        | LibFun::Isalpha
+        | LibFun::Iscntrl
+        | LibFun::Isdigit
+        | LibFun::Isgraph
+        | LibFun::Islower
+        | LibFun::Isprint
+        | LibFun::Ispunct
+        | LibFun::Isspace
+        | LibFun::Isupper
+        | LibFun::Isxdigit
+        | LibFun::Tolower
+        | LibFun::Toupper => on_character(f, key, vs, world),
         LibFun::Atoi | LibFun::Abs | LibFun::AssertFail => Err(Stop::NoRoom),
     }
 }

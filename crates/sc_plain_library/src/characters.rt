@@ -1,92 +1,93 @@
 // Functions on characters, and numbers (ANSI 4.3, 4.10.1, 4.10.2, 4.10.6).
-ghost use Rattle.std.specs.Prelude.{◌≡◌, ◌<◌, ℕ};
+ghost use Rattle.std.specs.Prelude.{◌≡◌, ◌<◌};
 ghost use Rattle.sc_fmt.specs.Classes as classes;
 ghost use Rattle.sc_fmt.specs.Format as format;
 ghost use Rattle.sc_meaning.specs.Functions as spec;
 ghost use Rattle.sc_meaning.specs.Library as library;
-ghost use Rattle.sc_meaning.specs.Violations as violation;
 ghost use Rattle.sc_ops.specs.Operators as operators;
 ghost use Rattle.sc_plain_leaves.specs.Gives.{Gives};
+ghost use Rattle.sc_plain_library.specs.Characters.{value_of};
 
 use crate::bytes::{argument_breach, bits_at};
 use sc_base::Key;
+use sc_meaning::LibFun;
 use sc_plain_leaves::Stop;
 use sc_plain_world::World;
 use sc_values::{Answer, Value};
 
-pub fn is_digit(c: u32) -> bool
+fn is_digit(c: u32) -> bool
     ensures { result ≡ format.is_digit c }
 {
     48 <= c && c <= 57
 }
 
-pub fn is_upper(c: u32) -> bool
+fn is_upper(c: u32) -> bool
     ensures { result ≡ classes.is_upper c }
 {
     65 <= c && c <= 90
 }
 
-pub fn is_lower(c: u32) -> bool
+fn is_lower(c: u32) -> bool
     ensures { result ≡ classes.is_lower c }
 {
     97 <= c && c <= 122
 }
 
-pub fn is_alpha(c: u32) -> bool
+fn is_alpha(c: u32) -> bool
     ensures { result ≡ classes.is_alpha c }
 {
     is_upper(c) || is_lower(c)
 }
 
-pub fn is_alnum(c: u32) -> bool
+fn is_alnum(c: u32) -> bool
     ensures { result ≡ classes.is_alnum c }
 {
     is_alpha(c) || is_digit(c)
 }
 
-pub fn is_xdigit(c: u32) -> bool
+fn is_xdigit(c: u32) -> bool
     ensures { result ≡ classes.is_xdigit c }
 {
     is_digit(c) || 65 <= c && c <= 70 || 97 <= c && c <= 102
 }
 
-pub fn is_space(c: u32) -> bool
+fn is_space(c: u32) -> bool
     ensures { result ≡ classes.is_space c }
 {
     c == 32 || c == 12 || c == 10 || c == 13 || c == 9 || c == 11
 }
 
-pub fn is_print(c: u32) -> bool
+fn is_print(c: u32) -> bool
     ensures { result ≡ classes.is_print c }
 {
     32 <= c && c <= 126
 }
 
-pub fn is_graph(c: u32) -> bool
+fn is_graph(c: u32) -> bool
     ensures { result ≡ classes.is_graph c }
 {
     is_print(c) && c != 32
 }
 
-pub fn is_punct(c: u32) -> bool
+fn is_punct(c: u32) -> bool
     ensures { result ≡ classes.is_punct c }
 {
     is_print(c) && !(c == 32 || is_alnum(c))
 }
 
-pub fn is_cntrl(c: u32) -> bool
+fn is_cntrl(c: u32) -> bool
     ensures { result ≡ classes.is_cntrl c }
 {
     c <= 31 || c == 127
 }
 
-pub fn lower(c: u32) -> u32
+fn lower(c: u32) -> u32
     ensures { result ≡ spec.lower c }
 {
     if is_upper(c) { c + 32 } else { c }
 }
 
-pub fn upper(c: u32) -> u32
+fn upper(c: u32) -> u32
     ensures { result ≡ spec.upper c }
 {
     if is_lower(c) { c - 32 } else { c }
@@ -98,8 +99,8 @@ fn is_character(c: u32) -> bool
     c < 256 || c == 4_294_967_295
 }
 
-/// U16 of an argument, counted from 1.
-pub fn out_of_range(key: &Key, vs: &[Value], i: u32, world: &World) -> Result<Answer, Stop>
+// U16 of an argument, counted from 1.
+fn out_of_range(key: &Key, vs: &[Value], i: u32, world: &World) -> Result<Answer, Stop>
     requires { 0 < i }
     ensures { Gives (library.out_of_range key.now vs.now i world.now) result world.now }
 {
@@ -107,24 +108,47 @@ pub fn out_of_range(key: &Key, vs: &[Value], i: u32, world: &World) -> Result<An
     Err(Stop::Undefined(told))
 }
 
-/// What a function on characters gives, whose value for the first argument is `n`.
+// 1 for a character in a class, 0 for one that is not.
+fn classed(is_in: bool) -> u32
+    ensures { result ≡ operators.truth_of is_in }
+{
+    if is_in { 1 } else { 0 }
+}
+
+// The value of a function on characters, 0 for every other function.
+fn character_value(f: LibFun, c: u32) -> u32
+    ensures { result ≡ value_of f c }
+{
+    match f {
+        LibFun::Isalnum => classed(is_alnum(c)),
+        LibFun::Isalpha => classed(is_alpha(c)),
+        LibFun::Iscntrl => classed(is_cntrl(c)),
+        LibFun::Isdigit => classed(is_digit(c)),
+        LibFun::Isgraph => classed(is_graph(c)),
+        LibFun::Islower => classed(is_lower(c)),
+        LibFun::Isprint => classed(is_print(c)),
+        LibFun::Ispunct => classed(is_punct(c)),
+        LibFun::Isspace => classed(is_space(c)),
+        LibFun::Isupper => classed(is_upper(c)),
+        LibFun::Isxdigit => classed(is_xdigit(c)),
+        LibFun::Tolower => lower(c),
+        LibFun::Toupper => upper(c),
+        _ => 0,
+    }
+}
+
+/// What a function on characters gives.
 ///
 /// # Errors
 ///
 /// `U16` where the argument is no byte and not the end of the input.
-pub fn on_character(key: &Key, vs: &[Value], n: u32, world: &World) -> Result<Answer, Stop>
-    ensures { (f : ℕ → ℕ) → n ≡ f (violation.bits (library.value_at vs.now 0)) → Gives (spec.on_character key.now vs.now f world.now) result world.now }
+pub fn on_character(f: LibFun, key: &Key, vs: &[Value], world: &World) -> Result<Answer, Stop>
+    ensures { Gives (spec.on_character key.now vs.now (value_of f) world.now) result world.now }
 {
-    if is_character(bits_at(vs, 0)) {
-        Ok(Answer::plain(Value::number(n)))
+    let c = bits_at(vs, 0);
+    if is_character(c) {
+        Ok(Answer::plain(Value::number(character_value(f, c))))
     } else {
         out_of_range(key, vs, 1, world)
     }
-}
-
-/// 1 for a character in a class, 0 for one that is not.
-pub fn classed(is_in: bool) -> u32
-    ensures { result ≡ operators.truth_of is_in }
-{
-    if is_in { 1 } else { 0 }
 }

@@ -5,7 +5,7 @@ ghost use Rattle.sc_meaning.specs.Outcomes as outcome;
 ghost use Rattle.sc_meaning.specs.Library as library;
 ghost use Rattle.sc_plain_leaves.specs.Gives.{Gives};
 
-use crate::bytes::{apart, bytes_written, length_of, text_at, text_upto};
+use crate::bytes::{apart, bytes_written, length_of, text_at, text_upto, twice};
 use crate::heap::bytes_of;
 use sc_base::{Duplicate, Items, NoMemory};
 use sc_plain_leaves::{Stop, access_breach, copy_at, moved, reach_rule, sum, write_rule};
@@ -22,7 +22,7 @@ fn copied_bytes(to: &Value, from: &Value, n: u32, world: &mut World) -> Result<A
         return Err(Stop::Undefined(told));
     }
     copy_at(to, 0, from, 0, n, world)?;
-    world.work(sum(n, n)?)?;
+    world.work(twice(n)?)?;
     Ok(Answer::plain(to.copy(world.alloc())?))
 }
 
@@ -146,14 +146,21 @@ fn read_count(n: u32, text: &[u8]) -> Result<u32, NoMemory>
     Ok(n.min(sum(length_of(text)?, 1)?))
 }
 
+// As many zero bytes.
+fn zeros(alloc: Global, n: usize) -> Result<Items<u8>, NoMemory>
+    ensures { IfOk result (λ bytes. bytes ≡ replicate n 0) }
+{
+    Ok(Items::from_vec(Vec::from_elem(alloc, 0, n)?))
+}
+
 // Bytes, and zero bytes behind them up to n.
 fn filled_up(alloc: Global, text: &[u8], n: u32) -> Result<Items<u8>, NoMemory>
     ensures { IfOk result (λ bytes. bytes ≡ text.now ++ replicate (n - length text.now) 0) }
 {
     let gap = (n as usize).saturating_sub(text.len());
-    let mut bytes = Vec::from_slice(alloc, text)?;
-    bytes.resize(text.len() + gap, 0)?;
-    Ok(Items::from_vec(bytes))
+    let mut bytes = Items::from_vec(Vec::from_slice(alloc, text)?);
+    bytes.append(zeros(alloc, gap)?)?;
+    Ok(bytes)
 }
 
 // What `strncpy` writes, as its text was read.

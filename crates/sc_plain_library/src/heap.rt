@@ -6,9 +6,9 @@ ghost use Rattle.sc_meaning.specs.Outcomes as outcome;
 ghost use Rattle.sc_meaning.specs.Values as value;
 ghost use Rattle.sc_plain_leaves.specs.Gives.{Gives};
 
-use crate::bytes::block_size_at;
+use crate::bytes::{block_size_at, twice};
 use sc_base::{Duplicate, Items, Kind, NoMemory, Rule};
-use sc_plain_leaves::{Breach, Stop, breach, copy_at, free_rule, is_null, sum};
+use sc_plain_leaves::{Breach, Stop, breach, copy_at, free_rule, is_null};
 use sc_plain_parts::born;
 use sc_plain_world::{Cell, World};
 use sc_values::{Answer, Shape, Value};
@@ -204,7 +204,7 @@ fn enlarged(p: &Value, n: u32, o: Option<u32>, world: &mut World) -> Result<Answ
         Some(o) => {
             let both = n.min(block_size_at(world, p));
             copy_at(&Value::pointer(o, 0), 0, p, 0, both, world)?;
-            world.work(sum(both, both)?)?;
+            world.work(twice(both)?)?;
             given_back(p, world)?;
             Ok(Answer::plain(Value::pointer(o, 0)))
         }
