@@ -1,12 +1,12 @@
 -- One more turn of what is bounded by a number.
 use Rattle.std.proofs.Common.{◌≡◌, ℕ, suc, ◌+◌, ◌-◌, ◌<◌, Bool, not, [], refl, ap, ◌∙◌, arith}
-use Rattle.std.specs.Prelude.{◌==◌, ◌&&◌, ◌||◌, if◌then◌else◌}
+use Rattle.std.specs.Prelude.{nat_le, ◌==◌, ◌&&◌, ◌||◌, if◌then◌else◌}
 use Rattle.sc_meaning.specs.Values.{Value, null}
 use Rattle.sc_meaning.specs.World.{World}
 use Rattle.sc_meaning.specs.Outcomes.{Outcome, Done, and_then, unless, access_breach, moved}
 use Rattle.sc_meaning.specs.Violations.{store_rule}
 use Rattle.sc_meaning.specs.Expressions.{either}
-use Rattle.sc_meaning.specs.Library.{byte_read, put_before, text_upto, writable, gives}
+use Rattle.sc_meaning.specs.Library.{byte_read, put_before, text_upto, writable, gives, block_size, class_from}
 use Rattle.sc_meaning.specs.Functions.{bytes_compared, first_found, last_found, order_of}
 
 text_suc : (n : ℕ) (p : Value) (i : ℕ) (w : World) → text_upto (suc n) p i w ≡ and_then (byte_read p i w) (λ b w. either (b == 0) (Done []) (λ w. and_then (text_upto n p (i + 1) w) (put_before b)) w)
@@ -48,3 +48,11 @@ pub last_more : (n : ℕ) (p : Value) (c i : ℕ) (found : Value) (w : World) �
 last_more n p c i found w h =
     let e : n ≡ suc (n - 1) = omega (arith, h) in
     ap (λ (m : ℕ). last_found m p c i found w) e ∙ last_suc (n - 1) p c i found w
+
+class_suc : (m k n : ℕ) → class_from (suc m) k n ≡ (if nat_le (n + 1) (block_size k) then k else class_from m (k + 1) n)
+class_suc m k n = refl
+
+pub class_more : (k n : ℕ) → k < 29 → class_from (29 - k) k n ≡ (if nat_le (n + 1) (block_size k) then k else class_from (29 - (k + 1)) (k + 1) n)
+class_more k n h =
+    let e : 29 - k ≡ suc (29 - (k + 1)) = omega (arith, h) in
+    ap (λ (m : ℕ). class_from m k n) e ∙ class_suc (29 - (k + 1)) k n

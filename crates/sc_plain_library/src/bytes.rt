@@ -1,11 +1,9 @@
 // Bytes of objects, read and written one by one, and texts (ANSI 4.1.1, 4.11).
-ghost use Rattle.std.specs.Prelude.{◌≡◌, ◌<◌, length, IfOk};
+ghost use Rattle.std.specs.Prelude.{◌≡◌, ◌<◌, [], length, IfOk};
 ghost use Rattle.sc_meaning.specs.Library as spec;
 ghost use Rattle.sc_meaning.specs.Violations as violation;
 ghost use Rattle.sc_meaning.specs.World as worlds;
-ghost use Rattle.sc_meaning.specs.Versions.{History};
 ghost use Rattle.sc_plain_leaves.specs.Gives.{Gives};
-ghost use Rattle.sc_plain_library.specs.Quiet.{IsQuiet};
 
 use sc_base::{Duplicate, Items, Key, NoMemory, Rule};
 use sc_plain_leaves::{
@@ -185,9 +183,9 @@ pub fn apart(to: &Value, n: u32, from: &Value, m: u32, world: &World) -> Result<
     Ok(())
 }
 
-/// Bytes go to the output, each as an event; in a run in which nothing changes behind an event.
+/// Bytes go to the output, each as an event; in a run that has no further version.
 pub fn shown(bytes: &[u8], world: &mut World) -> Result<(), Stop>
-    ensures { (h : History) → IsQuiet h → Gives (spec.shown h bytes.now world.old) result world.new }
+    ensures { Gives (spec.shown [] bytes.now world.old) result world.new }
 {
     for b in bytes {
         world.tick()?;
@@ -197,6 +195,7 @@ pub fn shown(bytes: &[u8], world: &mut World) -> Result<(), Stop>
 }
 
 /// An argument, counted from 0; null where there is none.
+#[tactic(auto, using(crate::proofs::Arguments::stands_there, crate::proofs::Arguments::stands_nowhere))]
 pub fn value_at(vs: &[Value], i: usize, world: &World) -> Result<Value, NoMemory>
     ensures { IfOk result (λ v. v ≡ spec.value_at vs.now i) }
 {
@@ -207,6 +206,7 @@ pub fn value_at(vs: &[Value], i: usize, world: &World) -> Result<Value, NoMemory
 }
 
 /// The number of an argument, counted from 0; 0 for what is none.
+#[tactic(auto, using(crate::proofs::Arguments::stands_there, crate::proofs::Arguments::stands_nowhere))]
 pub fn bits_at(vs: &[Value], i: usize) -> u32
     ensures { result ≡ violation.bits (spec.value_at vs.now i) }
 {

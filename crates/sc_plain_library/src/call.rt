@@ -1,5 +1,5 @@
 // A call of a function of the library, by its number (ANSI 4.2, 4.3, 4.9 to 4.11).
-ghost use Rattle.std.specs.Prelude.{◌≡◌, true};
+ghost use Rattle.std.specs.Prelude.{◌≡◌, [], true};
 ghost use Rattle.sc_meaning.specs.Expressions as answers;
 ghost use Rattle.sc_meaning.specs.Functions as spec;
 ghost use Rattle.sc_meaning.specs.Outcomes as outcome;
@@ -26,7 +26,7 @@ use sc_values::{Answer, Value};
 
 /// `putchar`.
 pub fn putchar(c: u32, world: &mut World) -> Result<Answer, Stop>
-    ensures { (h : History) → IsQuiet h → Gives (spec.putchar h c world.old) result world.new }
+    ensures { Gives (spec.putchar [] c world.old) result world.new }
 {
     let byte = (c % 256) as u8;
     shown(&[byte], world)?;
@@ -39,7 +39,7 @@ pub fn putchar(c: u32, world: &mut World) -> Result<Answer, Stop>
 ///
 /// The rule that a load breaks.
 pub fn puts(p: &Value, world: &mut World) -> Result<Answer, Stop>
-    ensures { (h : History) → IsQuiet h → Gives (spec.puts h p.now world.old) result world.new }
+    ensures { Gives (spec.puts [] p.now world.old) result world.new }
 {
     let mut text = text_at(p, world)?;
     text.push(10)?;
@@ -113,14 +113,10 @@ pub fn is_computed(f: LibFun) -> bool
     }
 }
 
-/// The call of a function of the library with its arguments, in a run in which nothing changes behind an event.
-///
-/// # Errors
-///
-/// The rule that an access breaks, `U16` for an argument outside its range, `U14`, `U18`, `BirthLimit`, or `Exit`.
-pub fn library_call(f: LibFun, key: &Key, vs: &[Value], world: &mut World) -> Result<Answer, Stop>
+// The call of a function of the library, in a run that has no further version.
+fn called(f: LibFun, key: &Key, vs: &[Value], world: &mut World) -> Result<Answer, Stop>
     requires { computed.is_computed f ≡ true }
-    ensures { (h : History) → IsQuiet h → Gives (spec.library_call h f key.now vs.now world.old) result world.new }
+    ensures { Gives (spec.library_call [] f key.now vs.now world.old) result world.new }
 {
     let p = value_at(vs, 0, world)?;
     let q = value_at(vs, 1, world)?;
@@ -166,4 +162,17 @@ pub fn library_call(f: LibFun, key: &Key, vs: &[Value], world: &mut World) -> Re
         LibFun::Toupper => on_character(key, vs, upper(a), world),
         LibFun::Atoi | LibFun::Abs | LibFun::AssertFail => Err(Stop::NoRoom),
     }
+}
+
+/// The call of a function of the library with its arguments, in a run in which nothing changes behind an event.
+///
+/// # Errors
+///
+/// The rule that an access breaks, `U16` for an argument outside its range, `U14`, `U18`, `BirthLimit`, or `Exit`.
+#[tactic(auto, using(crate::proofs::Histories::quiet_library))]
+pub fn library_call(f: LibFun, key: &Key, vs: &[Value], world: &mut World) -> Result<Answer, Stop>
+    requires { computed.is_computed f ≡ true }
+    ensures { (h : History) → IsQuiet h → Gives (spec.library_call h f key.now vs.now world.old) result world.new }
+{
+    called(f, key, vs, world)
 }

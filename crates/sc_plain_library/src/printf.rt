@@ -8,10 +8,8 @@ ghost use Rattle.sc_meaning.specs.Expressions.{either};
 ghost use Rattle.sc_meaning.specs.Outcomes as outcome;
 ghost use Rattle.sc_meaning.specs.Violations as violation;
 ghost use Rattle.sc_meaning.specs.Printf as spec;
-ghost use Rattle.sc_meaning.specs.Versions.{History};
 ghost use Rattle.sc_plain_leaves.specs.Gives.{Gives};
 ghost use Rattle.sc_plain_leaves.specs.declared.stop.Stop.TheVariants as stop;
-ghost use Rattle.sc_plain_library.specs.Quiet.{IsQuiet};
 ghost use Rattle.sc_plain_library.specs.Turns.{turn_of};
 
 use crate::bytes::{argument_breach, length_of, shown, text_at, text_upto, value_at};
@@ -398,7 +396,7 @@ fn conversion_turn<'a>(
 }
 
 // The piece that stands at the head of what is left; none at the end.
-fn turn<'a>(
+fn next_turn<'a>(
     g: &Printed,
     k: u32,
     rest: &'a [u8],
@@ -424,7 +422,7 @@ fn formatted(g: &Printed, format: &[u8], world: &mut World) -> Result<Items<u8>,
     let mut rest = format;
     let mut left = format.len() + 1;
     while left > 0 {
-        let Some(next) = turn(g, used, rest, world)? else {
+        let Some(next) = next_turn(g, used, rest, world)? else {
             return Ok(text)
         };
         text.append(next.text)?;
@@ -441,7 +439,7 @@ fn formatted(g: &Printed, format: &[u8], world: &mut World) -> Result<Items<u8>,
 ///
 /// The rule that a load breaks; `U16` at a format or an argument that does not do.
 pub fn printf(key: &Key, vs: &[Value], world: &mut World) -> Result<Answer, Stop>
-    ensures { (h : History) → IsQuiet h → Gives (spec.printf h key.now vs.now world.old) result world.new }
+    ensures { Gives (spec.printf [] key.now vs.now world.old) result world.new }
 {
     let format = text_at(&value_at(vs, 0, world)?, world)?;
     let g = Printed { key, args: vs };

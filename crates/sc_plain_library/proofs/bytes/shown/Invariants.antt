@@ -1,8 +1,6 @@
-use Rattle.std.proofs.Common.{◌≡◌, drop}
+use Rattle.std.proofs.Common.{◌≡◌, [], drop}
 use Rattle.sc_meaning.specs.Library as spec
-use Rattle.sc_meaning.specs.Versions.{History}
-use Rattle.sc_plain_library.specs.Quiet.{IsQuiet}
 use Rattle.sc_plain_library.proofs.bytes.shown.Given as goal
 
 abbrev pub invariant-loop-b : goal.invariant-loop-b
-invariant-loop-b l = (h : History) → IsQuiet h → spec.shown h (drop l.b-index l.bytes) l.world ≡ spec.shown h l.bytes l.fn.world
+invariant-loop-b l = spec.shown [] (drop l.b-index l.bytes) l.world ≡ spec.shown [] l.bytes l.fn.world
