@@ -1,3 +1,0 @@
-pub mod Steady
-pub mod Steps
-pub mod Ends
