@@ -132,7 +132,6 @@ fn arguments(
 /// # Errors
 ///
 /// As `expression`, and X8 where it is none.
-#[cycle(check)]
 pub fn constant(alloc: Global, st: &mut State, e: &Expr) -> Result<(u32, Int), CheckFault>
     ensures { GivesWith (spec.constant (spec.node e.now) st.old) result st.new }
 {
@@ -271,7 +270,8 @@ fn one_enumerator(
 {
     match &item.value {
         Some(e) => {
-            let value = constant(alloc, st, e.get())?;
+            let core = expression(alloc, st, false, e.get())?;
+            let value = constant_value(line_of(e.get()), core.get())?;
             let bits = enumerator(alloc, st, item.line, &item.name, Some(value), before)?;
             Ok(Some(bits))
         }
@@ -314,7 +314,8 @@ fn derivation(
         Derivation::Pointer(constant) => Ok(Derived::Pointer(*constant)),
         Derivation::Array(None) => Ok(Derived::Array(0)),
         Derivation::Array(Some(e)) => {
-            let value = constant(alloc, st, e.get())?;
+            let core = expression(alloc, st, false, e.get())?;
+            let value = constant_value(line_of(e.get()), core.get())?;
             Ok(derived_array(line, value)?)
         }
         Derivation::Function => Ok(Derived::Function(Parameters::new(alloc))),
