@@ -1,9 +1,8 @@
 -- Going through a list by an index, and outcomes that are refusals.
-use Rattle.std.proofs.Common.{◌≡◌, ℕ, suc, ◌+◌, ◌<◌, ◌≤◌, List, [], ◌∷◌, drop, map, length, get_or, refl, sym, ◌∙◌, ap, subst}
+use Rattle.std.proofs.Common.{◌≡◌, ℕ, suc, ◌+◌, ◌<◌, List, ◌∷◌, drop, map, length, get_or, sym, ◌∙◌, ap, subst}
 use Rattle.std.specs.Prelude.{Result, Ok, Err, IsErrAnd}
 use Rattle.std.proofs.Math.Seq.{drop-cons}
 use Rattle.std.proofs.Math.Numerals.{add-one}
-use Rattle.sc_scope.specs.declared.fault.Problem.{Problem}
 use Rattle.sc_scope.specs.declared.fault.CheckFault.{CheckFault}
 use Rattle.sc_scope.specs.declared.fault.CheckFault.TheVariants as fault
 use Rattle.sc_scope.specs.Steps.{Checked, Fails, GivesWith, and_then, each}

@@ -1,5 +1,5 @@
 -- Outcomes of the rules of declarations as outcomes of the checker.
-use Rattle.std.proofs.Common.{◌≡◌, ℕ, Bool, List, refl, sym, ◌∙◌, ap, subst}
+use Rattle.std.proofs.Common.{◌≡◌, ℕ, Bool, List, sym, ◌∙◌, ap, subst}
 use Rattle.std.specs.Prelude.{Result, Ok, Err, Option, None, IsErrAnd}
 use Rattle.sc_declare.specs.declared.words.Word.{Word}
 use Rattle.sc_declare.specs.declared.derivation.DeclaredType.{DeclaredType}

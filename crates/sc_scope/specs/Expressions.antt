@@ -1,7 +1,6 @@
 -- The productions of expressions over what is in scope (ANSI 3.3).
 use Rattle.std.specs.Prelude.{ℕ, Bool, false, if◌then◌else◌, List, length, Option, Some, None, Ok}
 use Rattle.sc_base.specs.declared.integer.Int.TheVariants as i
-use Rattle.sc_types.specs.declared.ctype.CType.{CType}
 use Rattle.sc_tree.specs.declared.operator.Binary.{Binary}
 use Rattle.sc_tree.specs.declared.operator.Unary.{Unary}
 use Rattle.sc_tree.specs.declared.operator.Unary.TheVariants as u

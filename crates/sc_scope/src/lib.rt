@@ -11,7 +11,8 @@ mod tags;
 mod words;
 
 pub use declare::{
-    add_member, add_parameter, constant_value, declared_type, derived_array, enumerator, find_typedef,
+    add_member, add_parameter, constant_value, declared_type, derived_array, enumerator,
+    find_typedef,
 };
 pub use fault::{CheckFault, Problem};
 pub use produce::{

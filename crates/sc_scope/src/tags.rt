@@ -6,9 +6,7 @@ ghost use Rattle.sc_scope.specs.Tags as spec;
 use crate::fault::{CheckFault, rule};
 use crate::state::State;
 use sc_base::{Duplicate, Int, Items, Name};
-use sc_declare::{
-    DeclaredType, StructureTag, Tag, complete, enumeration_tag, structure_tag,
-};
+use sc_declare::{DeclaredType, StructureTag, Tag, complete, enumeration_tag, structure_tag};
 use sc_operand::members_hold_const;
 use sc_types::{CType, Member};
 use std::alloc::Global;
@@ -177,5 +175,9 @@ pub fn open_enumeration(
 pub fn close_enumeration(line: u32, again: bool) -> Result<DeclaredType, CheckFault>
     ensures { Says (spec.close_enumeration line again) result }
 {
-    if again { Err(rule(line)) } else { Ok(integer()) }
+    if again {
+        Err(rule(line))
+    } else {
+        Ok(integer())
+    }
 }

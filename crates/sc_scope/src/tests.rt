@@ -1,5 +1,7 @@
 // Tags and literals, one after another.
-use crate::{CheckFault, Problem, State, enumeration_named, open_enumeration, string, structure_named};
+use crate::{
+    CheckFault, Problem, State, enumeration_named, open_enumeration, string, structure_named,
+};
 use sc_base::{Bytes, Name};
 use std::alloc::Global;
 use std::test::Fail;
