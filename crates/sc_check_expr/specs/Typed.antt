@@ -1,5 +1,5 @@
 -- What expressions and type names are, or the first refusal in the order in which constructs end (ANSI 3.3, 3.4, 3.5.2, 3.5.4, 3.5.5).
-use Rattle.std.specs.Prelude.{ℕ, Bool, false, List, [], ◌∷◌, ◌++◌, length, map, Option, Some, None, option_map, Ok}
+use Rattle.std.specs.Prelude.{ℕ, Bool, true, false, List, [], ◌∷◌, ◌++◌, length, map, Option, Some, None, option_map, Ok}
 use Rattle.sc_base.specs.declared.integer.Int.{Int}
 use Rattle.sc_types.specs.declared.ctype.Member.{Member as StructureMember}
 use Rattle.sc_tree.specs.declared.expression.Expr.{Expr, fold-Expr}
@@ -245,8 +245,8 @@ membering = fold-Member Deriving Node Wording Declaring Membering Parametering N
 abbrev pub parametering : Parameter → Parametering
 parametering = fold-Parameter Deriving Node Wording Declaring Membering Parametering Naming in_derivation in_expression in_word in_declarator in_member in_parameter in_type_name
 
-abbrev pub deriving : Derivation → Deriving
-deriving = fold-Derivation Deriving Node Wording Declaring Membering Parametering Naming in_derivation in_expression in_word in_declarator in_member in_parameter in_type_name
+abbrev pub stepping : Derivation → Deriving
+stepping = fold-Derivation Deriving Node Wording Declaring Membering Parametering Naming in_derivation in_expression in_word in_declarator in_member in_parameter in_type_name
 
 -- the same of lists of them, and of a list of specifiers
 abbrev pub enumerating : Enumerator Expr → Enumerator Node

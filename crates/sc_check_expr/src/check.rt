@@ -308,7 +308,7 @@ fn derivation(
     line: u32,
     x: &Derivation,
 ) -> Result<Derived, CheckFault>
-    ensures { GivesWith (spec.deriving x.now line st.old) result st.new }
+    ensures { GivesWith (spec.stepping x.now line st.old) result st.new }
 {
     match x {
         Derivation::Pointer(constant) => Ok(Derived::Pointer(*constant)),

@@ -3,7 +3,7 @@ use Rattle.std.specs.Prelude.{map, Ok, ◌∷◌, ◌++◌}
 use Rattle.sc_scope.specs.Steps.{each}
 use Rattle.sc_scope.specs.Words.{no_words, with_word}
 use Rattle.sc_scope.proofs.Each.{fails_bind, passed_up, goes_on, stops}
-use Rattle.sc_check_expr.specs.Typed.{node, wording, membering, parametering, deriving, enumerating, one, one_argument, one_word, one_step, one_enumerator, no_parameters}
+use Rattle.sc_check_expr.specs.Typed.{node, wording, membering, parametering, stepping, enumerating, one, one_argument, one_word, one_step, one_enumerator, no_parameters}
 use Rattle.sc_check_expr.proofs.Taken.{appended, worded}
 use Rattle.sc_check_expr.proofs.check.+check.Goals as goal
 

@@ -2,7 +2,7 @@
 use Rattle.std.proofs.Common.{◌≡◌, [], None, drop, map}
 use Rattle.sc_scope.specs.Steps.{each}
 use Rattle.sc_scope.specs.Words.{no_words}
-use Rattle.sc_check_expr.specs.Typed.{node, wording, declaring, membering, parametering, deriving, enumerating, one, one_argument, one_word, one_step, one_member, one_enumerator, no_parameters}
+use Rattle.sc_check_expr.specs.Typed.{node, wording, declaring, membering, parametering, stepping, enumerating, one, one_argument, one_word, one_step, one_member, one_enumerator, no_parameters}
 use Rattle.sc_check_expr.proofs.check.+check.Given as goal
 
 abbrev pub invariant-arguments-loop-e : goal.invariant-arguments-loop-e
@@ -23,7 +23,7 @@ invariant-enumerators-loop-item l = each one_enumerator (map enumerating (drop l
 
 abbrev pub invariant-declarator-loop-x : goal.invariant-declarator-loop-x
 invariant-declarator-loop-x l =
-    each (one_step l.d.line) (map deriving (drop l.x-index l.x-items)) l.steps l.st ≡ each (one_step l.d.line) (map deriving l.x-items) [] l.fn.st
+    each (one_step l.d.line) (map stepping (drop l.x-index l.x-items)) l.steps l.st ≡ each (one_step l.d.line) (map stepping l.x-items) [] l.fn.st
 
 abbrev pub invariant-parameters-loop-p : goal.invariant-parameters-loop-p
 invariant-parameters-loop-p l = each one (map parametering (drop l.p-index l.list)) l.done l.st ≡ each one (map parametering l.list) no_parameters l.fn.st
