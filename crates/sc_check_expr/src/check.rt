@@ -8,13 +8,12 @@ use sc_base::{Duplicate, Int, Items, Shared};
 use sc_core::{CoreExpr, type_of};
 use sc_declare::{DeclaredType, Derived, MemberList, Parameters, Word};
 use sc_scope::{
-    CheckFault, Specified, State, Words, add_member, add_parameter, arrow, assign, binary, call, cast,
-    close_enumeration, close_structure, comma, conditional, constant_value, declared_type,
-    derived_array, enter, enumeration_named, enumerator, find_typedef, index, leave, list_type,
-    member, name, offset_of, open_enumeration, open_structure, postfix, size_of, string,
-    structure_named, unary,
+    CheckFault, Specified, State, Words, add_member, add_parameter, arrow, assign, binary, call,
+    cast, close_enumeration, close_structure, comma, conditional, constant as number,
+    constant_value, declared_type, derived_array, enter, enumeration_named, enumerator,
+    find_typedef, index, leave, list_type, member, name, offset_of, open_enumeration,
+    open_structure, postfix, size_of, string, structure_named, unary,
 };
-use sc_scope::constant as number;
 use sc_tree::{
     Declarator, Derivation, Enumerator, Expr, Member, Parameter, Specifiers, TypeName, TypeWord,
 };
@@ -165,13 +164,7 @@ pub fn specifiers(
         let specified = word(alloc, st, w)?;
         words.push(specified)?;
     }
-    Ok(list_type(
-        alloc,
-        list.line,
-        list.constant,
-        list.words.len(),
-        words,
-    )?)
+    Ok(list_type(alloc, list.line, list.constant, list.words.len(), words)?)
 }
 
 /// A type word (ANSI 3.5.2).
@@ -362,7 +355,15 @@ fn one_parameter(
         }
         None => {
             let nameless = None;
-            add_parameter(alloc, st, p.line, p.specifiers.storage, &nameless, base, done)
+            add_parameter(
+                alloc,
+                st,
+                p.line,
+                p.specifiers.storage,
+                &nameless,
+                base,
+                done,
+            )
         }
     }
 }

@@ -88,7 +88,11 @@ fn popped(stack: &mut Items<Shared<Expr>>) -> Result<Shared<Expr>, CheckFault> {
     }
 }
 
-fn named(alloc: Global, word: TypeWord, steps: Items<Derivation>) -> Result<Shared<TypeName>, NoMemory> {
+fn named(
+    alloc: Global,
+    word: TypeWord,
+    steps: Items<Derivation>,
+) -> Result<Shared<TypeName>, NoMemory> {
     let mut words = Items::new(alloc);
     words.push(word)?;
     let specifiers = Specifiers {
@@ -118,12 +122,7 @@ fn one(alloc: Global, step: Derivation) -> Result<Items<Derivation>, NoMemory> {
     Ok(steps)
 }
 
-fn prefixed(
-    alloc: Global,
-    line: u32,
-    letter: u8,
-    a: Shared<Expr>,
-) -> Result<Expr, CheckFault> {
+fn prefixed(alloc: Global, line: u32, letter: u8, a: Shared<Expr>) -> Result<Expr, CheckFault> {
     match letter {
         b'&' => Ok(Expr::Unary(line, Unary::Address, a)),
         b'*' => Ok(Expr::Unary(line, Unary::Indirection, a)),
@@ -134,11 +133,19 @@ fn prefixed(
             Ok(Expr::Cast(line, t, a))
         }
         b'P' => {
-            let t = named(alloc, TypeWord::Int, one(alloc, Derivation::Pointer(false))?)?;
+            let t = named(
+                alloc,
+                TypeWord::Int,
+                one(alloc, Derivation::Pointer(false))?,
+            )?;
             Ok(Expr::Cast(line, t, a))
         }
         _ => {
-            let t = named(alloc, TypeWord::Int, one(alloc, Derivation::Array(Some(a)))?)?;
+            let t = named(
+                alloc,
+                TypeWord::Int,
+                one(alloc, Derivation::Array(Some(a)))?,
+            )?;
             Ok(Expr::SizeOfType(line, t))
         }
     }
@@ -154,7 +161,13 @@ fn joined(line: u32, letter: u8, a: Shared<Expr>, b: Shared<Expr>) -> Expr {
 
 fn leaf(alloc: Global, line: u32, letter: u8) -> Result<Expr, CheckFault> {
     match letter {
-        b'1' => Ok(Expr::Constant(line, Some(Constant { value: 1, of: Int::Int }))),
+        b'1' => Ok(Expr::Constant(
+            line,
+            Some(Constant {
+                value: 1,
+                of: Int::Int,
+            }),
+        )),
         b's' => Ok(Expr::String(line, Some(Bytes::from_slice(alloc, b"abc")?))),
         b'Z' => {
             let t = named(alloc, TypeWord::Unsigned, Items::new(alloc))?;
@@ -246,22 +259,32 @@ fn word(problem: &Problem) -> (&'static str, u32) {
             };
             (kind, d.line)
         }
-        Problem::Declaring(r) => (if r.reason == Reason::Rule { "X7" } else { "another" }, r.line),
+        Problem::Declaring(r) => (
+            if r.reason == Reason::Rule {
+                "X7"
+            } else {
+                "another"
+            },
+            r.line,
+        ),
     }
+}
+
+fn refusal(out: &mut Vec<u8>, problem: &Problem) -> Result<(), NoMemory> {
+    let (kind, line) = word(problem);
+    out.extend_from_slice(kind.as_bytes())?;
+    out.push(b' ')?;
+    out.push(b'0'.wrapping_add(line as u8))?;
+    Ok(())
 }
 
 fn answer(alloc: Global, text: &[u8]) -> Result<Vec<u8>, CheckFault> {
     let mut st = beginning(alloc)?;
     let e = read(alloc, text)?;
     let mut out = Vec::new(alloc);
-    match expression(alloc, &mut st, false, &e) {
+    match expression(alloc, &mut st, false, e.get()) {
         Ok(core) => show(&mut out, type_of(core.get()))?,
-        Err(CheckFault::Found(problem)) => {
-            let (kind, line) = word(&problem);
-            out.extend_from_slice(kind.as_bytes())?;
-            out.push(b' ')?;
-            out.push(b'0'.wrapping_add(line as u8))?;
-        }
+        Err(CheckFault::Found(problem)) => refusal(&mut out, &problem)?,
         Err(CheckFault::NoMemory) => return Err(CheckFault::NoMemory),
     }
     Ok(out)
