@@ -10,6 +10,3 @@ mod words;
 
 pub use driver::{Found, Refused, Turn, expression, opens_with};
 pub use machine::step;
-
-#[cfg(test)]
-mod tests;
