@@ -1,2 +1,0 @@
-#define twice(x) x x
-typedef unsigned int word;
