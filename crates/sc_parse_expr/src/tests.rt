@@ -93,6 +93,19 @@ fn symbol_of(alloc: Global, byte: u8, line: u32) -> Result<Symbol, NoMemory>
     })
 }
 
+// A token more, or a line more at `'`: the line that comes next.
+fn take(alloc: Global, symbols: &mut Items<Symbol>, line: u32, byte: u8) -> Result<u32, NoMemory>
+    requires { All IsSymbol symbols.old }
+    ensures { IfOk result (λ _. All IsSymbol symbols.new) }
+{
+    if byte == b'\'' {
+        return Ok(line.saturating_add(1));
+    }
+    let symbol = symbol_of(alloc, byte, line)?;
+    symbols.push(symbol)?;
+    Ok(line)
+}
+
 // The tokens, of which one that `'` stands before is on the next line.
 fn symbols_of(alloc: Global, text: &[u8]) -> Result<Items<Symbol>, NoMemory>
     ensures { IfOk result (λ symbols. All IsSymbol symbols) }
@@ -100,12 +113,7 @@ fn symbols_of(alloc: Global, text: &[u8]) -> Result<Items<Symbol>, NoMemory>
     let mut symbols = Items::new(alloc);
     let mut line = 1u32;
     for byte in text {
-        if *byte == b'\'' {
-            line = line.saturating_add(1);
-        } else {
-            let symbol = symbol_of(alloc, *byte, line)?;
-            symbols.push(symbol)?;
-        }
+        line = take(alloc, &mut symbols, line, *byte)?;
     }
     Ok(symbols)
 }
