@@ -1,0 +1,2 @@
+#define twice(x) x x
+typedef unsigned int word;
