@@ -5,23 +5,24 @@ use Rattle.sc_base.specs.declared.memory.Word.{Word}
 use Rattle.sc_base.specs.declared.report.Rule.TheVariants.{U1, U2, U3, U4, U10, U15}
 use Rattle.sc_mem.specs.Words.{IsSize}
 use Rattle.sc_mem.specs.Flat.{Flat, cells_at}
+use Rattle.sc_rules.specs.Orders.{first_rule}
 use Rattle.sc_mem.specs.Violations as memory
 use Rattle.sc_meaning.specs.Values.{Value}
 use Rattle.sc_meaning.specs.World.{Object}
 use Rattle.sc_meaning.specs.Violations as meaning
 use Rattle.sc_agree.specs.Agreement.{Agree, AreDistinct, AreCells, StandsFor}
-use Rattle.sc_agree.proofs.Tests.{first_same, null_same, dead_same, outside_same}
+use Rattle.sc_agree.proofs.Tests.{null_same, dead_same, outside_same}
 use Rattle.sc_agree.proofs.Accesses.{misaligned_same}
 use Rattle.sc_agree.proofs.Cells.{unwritten_same, mixed_same}
 
-loaded : (a b c d e g d2 e2 g2 : Bool) → (c ≡ true) ⊎ ((d ≡ d2) × (e ≡ e2) × (g ≡ g2)) → memory.first_rule ((a, U4) ∷ (b, U3) ∷ (c, U2) ∷ (d, U10) ∷ (e, U1) ∷ (g, U15) ∷ []) ≡ memory.first_rule ((a, U4) ∷ (b, U3) ∷ (c, U2) ∷ (d2, U10) ∷ (e2, U1) ∷ (g2, U15) ∷ [])
+loaded : (a b c d e g d2 e2 g2 : Bool) → (c ≡ true) ⊎ ((d ≡ d2) × (e ≡ e2) × (g ≡ g2)) → first_rule ((a, U4) ∷ (b, U3) ∷ (c, U2) ∷ (d, U10) ∷ (e, U1) ∷ (g, U15) ∷ []) ≡ first_rule ((a, U4) ∷ (b, U3) ∷ (c, U2) ∷ (d2, U10) ∷ (e2, U1) ∷ (g2, U15) ∷ [])
 loaded true b c d e g d2 e2 g2 h = refl
 loaded false true c d e g d2 e2 g2 h = refl
 loaded false false true d e g d2 e2 g2 h = refl
 loaded false false false d e g d2 e2 g2 h = elim h [ inl k ↦ absurd (cc) | inr k ↦ rw k.0 (rw k.1 (rw k.2 refl)) ]
 
-six : (a b c d e g a2 b2 c2 d2 e2 g2 : Bool) → a ≡ a2 → b ≡ b2 → c ≡ c2 → (c2 ≡ true) ⊎ ((d ≡ d2) × (e ≡ e2) × (g ≡ g2)) → memory.first_rule ((a, U4) ∷ (b, U3) ∷ (c, U2) ∷ (d, U10) ∷ (e, U1) ∷ (g, U15) ∷ []) ≡ meaning.first_rule ((a2, U4) ∷ (b2, U3) ∷ (c2, U2) ∷ (d2, U10) ∷ (e2, U1) ∷ (g2, U15) ∷ [])
-six a b c d e g a2 b2 c2 d2 e2 g2 h i j k = rw h (rw i (rw j (loaded a2 b2 c2 d e g d2 e2 g2 k ∙ first_same ((a2, U4) ∷ (b2, U3) ∷ (c2, U2) ∷ (d2, U10) ∷ (e2, U1) ∷ (g2, U15) ∷ []))))
+six : (a b c d e g a2 b2 c2 d2 e2 g2 : Bool) → a ≡ a2 → b ≡ b2 → c ≡ c2 → (c2 ≡ true) ⊎ ((d ≡ d2) × (e ≡ e2) × (g ≡ g2)) → first_rule ((a, U4) ∷ (b, U3) ∷ (c, U2) ∷ (d, U10) ∷ (e, U1) ∷ (g, U15) ∷ []) ≡ first_rule ((a2, U4) ∷ (b2, U3) ∷ (c2, U2) ∷ (d2, U10) ∷ (e2, U1) ∷ (g2, U15) ∷ [])
+six a b c d e g a2 b2 c2 d2 e2 g2 h i j k = rw h (rw i (rw j (loaded a2 b2 c2 d e g d2 e2 g2 k)))
 
 either_way : (b : Bool) → (b ≡ true) ⊎ (b ≡ false)
 either_way true = inl refl

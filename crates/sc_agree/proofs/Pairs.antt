@@ -3,26 +3,27 @@ use Rattle.std.proofs.Common.{◌≡◌, ◌⊎◌, ◌≢◌, ◌∙◌, ℕ, �
 use Rattle.std.proofs.lemmas.Int.{ints}
 use Rattle.std.proofs.lemmas.Bool.Decides.{eqb_tells, nat_tests}
 use Rattle.std.specs.Prelude.{ℤ, pos, ◌-ℤ◌, int_rem}
-use Rattle.std.specs.Ordering.{int_eq}
 use Rattle.sc_base.specs.declared.key.Key.{Key}
 use Rattle.sc_base.specs.declared.memory.Word.{Word}
 use Rattle.sc_base.specs.declared.report.Rule.TheVariants.{U3, U5, U6, U15}
 use Rattle.sc_objects.specs.declared.objects.Obj.{Obj}
 use Rattle.sc_objects.specs.Numbered.{object_of}
+use Rattle.sc_rules.specs.Tests as tests
+use Rattle.sc_rules.specs.Orders.{first_rule}
 use Rattle.sc_mem.specs.Violations as memory
 use Rattle.sc_mem.specs.Comparisons as compared
 use Rattle.sc_meaning.specs.Values.{Value, Number, FunctionAt, Pointer}
 use Rattle.sc_meaning.specs.World.{Object}
 use Rattle.sc_meaning.specs.Violations as meaning
 use Rattle.sc_agree.specs.Agreement.{Agree, StandsFor}
-use Rattle.sc_agree.proofs.Tests.{first_same, tagged, null_same, number_same, dead_same}
-use Rattle.sc_agree.proofs.Steps.{or_false, not_zero}
+use Rattle.sc_agree.proofs.Tests.{tagged, null_same, number_same, dead_same}
+use Rattle.sc_agree.proofs.Steps.{or_false}
 
 pub no_tag : (o k : ℕ) → o ≢ k → (o == k) ≡ false
 no_tag o k h = grind (arith, nat_tests)
 
-two : (a b a2 b2 : Bool) → a ≡ a2 → b ≡ b2 → memory.first_rule ((a, U15) ∷ (b, U3) ∷ []) ≡ meaning.first_rule ((a2, U15) ∷ (b2, U3) ∷ [])
-two a b a2 b2 d e = rw d (rw e (first_same ((a2, U15) ∷ (b2, U3) ∷ [])))
+two : (a b a2 b2 : Bool) → a ≡ a2 → b ≡ b2 → first_rule ((a, U15) ∷ (b, U3) ∷ []) ≡ first_rule ((a2, U15) ∷ (b2, U3) ∷ [])
+two a b a2 b2 d e = rw d (rw e refl)
 
 either : (a b c d : Bool) → a ≡ b → c ≡ d → (a || c) ≡ (b || d)
 either a b c d h g = rw h (rw g refl)
@@ -93,19 +94,19 @@ unrelated_same f t w x (Pointer o i) (Number n) s r = inr (related (memory.is_nu
 unrelated_same f t w x (Pointer o i) (FunctionAt k) s r = inr (related (memory.is_null w) (memory.is_null x) (w.tag == x.tag) (unowned t w) false (memory.is_null x) false (unowned t w) (null_same f t w (Pointer o i) s) refl (rw s.1 (other_tag t o x.tag s.0 s.2 r.2)) refl)
 unrelated_same f t w x (Pointer o i) (Pointer p j) s r = inr (related (memory.is_null w) (memory.is_null x) (w.tag == x.tag) (unowned t w) false (memory.is_null x) (o == p) false (null_same f t w (Pointer o i) s) refl (rw s.1 (rw r.1 refl)) (pointer_owned t w o s.0 s.1 s.2) ∙ or_false (not (o == p)))
 
-ordered : (a b c c2 : Bool) → (a ≡ true) ⊎ (c ≡ c2) → memory.first_rule ((a, U15) ∷ (b, U3) ∷ (c, U6) ∷ []) ≡ memory.first_rule ((a, U15) ∷ (b, U3) ∷ (c2, U6) ∷ [])
+ordered : (a b c c2 : Bool) → (a ≡ true) ⊎ (c ≡ c2) → first_rule ((a, U15) ∷ (b, U3) ∷ (c, U6) ∷ []) ≡ first_rule ((a, U15) ∷ (b, U3) ∷ (c2, U6) ∷ [])
 ordered true b c c2 h = refl
 ordered false b c c2 h = elim h [ inl f ↦ absurd (cc) | inr f ↦ rw f refl ]
 
-three : (a b c a2 b2 c2 : Bool) → a ≡ a2 → b ≡ b2 → (a2 ≡ true) ⊎ (c ≡ c2) → memory.first_rule ((a, U15) ∷ (b, U3) ∷ (c, U6) ∷ []) ≡ meaning.first_rule ((a2, U15) ∷ (b2, U3) ∷ (c2, U6) ∷ [])
-three a b c a2 b2 c2 d e f = rw d (rw e (ordered a2 b2 c c2 f ∙ first_same ((a2, U15) ∷ (b2, U3) ∷ (c2, U6) ∷ [])))
+three : (a b c a2 b2 c2 : Bool) → a ≡ a2 → b ≡ b2 → (a2 ≡ true) ⊎ (c ≡ c2) → first_rule ((a, U15) ∷ (b, U3) ∷ (c, U6) ∷ []) ≡ first_rule ((a2, U15) ∷ (b2, U3) ∷ (c2, U6) ∷ [])
+three a b c a2 b2 c2 d e f = rw d (rw e (ordered a2 b2 c c2 f))
 
 pub order_same : (f : Key → ℕ) (os : List Object) (t : List Obj) (w x : Word) (v u : Value) → Agree os t → StandsFor f t w v → StandsFor f t x u → compared.order_rule t w x ≡ meaning.order_rule os v u
 order_same f os t w x v u a s r = three (memory.is_number w || memory.is_number x) (memory.is_dead t w || memory.is_dead t x) (compared.are_unrelated t w x) (meaning.is_number v || meaning.is_number u) (meaning.is_dead os v || meaning.is_dead os u) (meaning.are_unrelated v u) (numbers_same f t w x v u s r) (deaths_same f os t w x v u a s r) (unrelated_same f t w x v u s r)
 
 -- the distance of two pointers in elements
-uneven_is : (a b : ℤ) (size : ℕ) → a ≡ b → not (int_eq (int_rem a (pos size)) (pos 0)) ≡ meaning.is_not_zero (int_rem b (pos size))
-uneven_is a b size h = rw h (not_zero (int_rem b (pos size)))
+uneven_is : (a b : ℤ) (size : ℕ) → a ≡ b → tests.is_uneven a size ≡ tests.is_uneven b size
+uneven_is a b size h = rw h refl
 
 distance_is : (a b base i j : ℕ) → a ≡ base + i → b ≡ base + j → (pos a -ℤ pos b) ≡ (pos i -ℤ pos j)
 distance_is a b base i j h g = omega (arith, ints)
@@ -131,7 +132,7 @@ uneven_same f t w x (Pointer o i) (Pointer p j) size s r =
       | inr h ↦ inl (ap not h.0)
     ])
 
-later : (b c d d2 : Bool) → (c ≡ true) ⊎ (d ≡ d2) → memory.first_rule ((false, U15) ∷ (b, U3) ∷ (c, U6) ∷ (d, U5) ∷ []) ≡ memory.first_rule ((false, U15) ∷ (b, U3) ∷ (c, U6) ∷ (d2, U5) ∷ [])
+later : (b c d d2 : Bool) → (c ≡ true) ⊎ (d ≡ d2) → first_rule ((false, U15) ∷ (b, U3) ∷ (c, U6) ∷ (d, U5) ∷ []) ≡ first_rule ((false, U15) ∷ (b, U3) ∷ (c, U6) ∷ (d2, U5) ∷ [])
 later true c d d2 h = refl
 later false true d d2 h = refl
 later false false d d2 h = elim h [ inl f ↦ absurd (cc) | inr f ↦ rw f refl ]
@@ -139,12 +140,12 @@ later false false d d2 h = elim h [ inl f ↦ absurd (cc) | inr f ↦ rw f refl 
 not_first : (P : Type 0) → (false ≡ true) ⊎ P → P
 not_first P h = elim h [ inl f ↦ absurd (cc) | inr p ↦ p ]
 
-differing : (a b c d c2 d2 : Bool) → (a ≡ true) ⊎ (c ≡ c2) → (a ≡ true) ⊎ ((c2 ≡ true) ⊎ (d ≡ d2)) → memory.first_rule ((a, U15) ∷ (b, U3) ∷ (c, U6) ∷ (d, U5) ∷ []) ≡ memory.first_rule ((a, U15) ∷ (b, U3) ∷ (c2, U6) ∷ (d2, U5) ∷ [])
+differing : (a b c d c2 d2 : Bool) → (a ≡ true) ⊎ (c ≡ c2) → (a ≡ true) ⊎ ((c2 ≡ true) ⊎ (d ≡ d2)) → first_rule ((a, U15) ∷ (b, U3) ∷ (c, U6) ∷ (d, U5) ∷ []) ≡ first_rule ((a, U15) ∷ (b, U3) ∷ (c2, U6) ∷ (d2, U5) ∷ [])
 differing true b c d c2 d2 h g = refl
 differing false b c d c2 d2 h g = rw (not_first (c ≡ c2) h) (later b c2 d d2 (not_first ((c2 ≡ true) ⊎ (d ≡ d2)) g))
 
-four : (a b c d a2 b2 c2 d2 : Bool) → a ≡ a2 → b ≡ b2 → (a2 ≡ true) ⊎ (c ≡ c2) → (a2 ≡ true) ⊎ ((c2 ≡ true) ⊎ (d ≡ d2)) → memory.first_rule ((a, U15) ∷ (b, U3) ∷ (c, U6) ∷ (d, U5) ∷ []) ≡ meaning.first_rule ((a2, U15) ∷ (b2, U3) ∷ (c2, U6) ∷ (d2, U5) ∷ [])
-four a b c d a2 b2 c2 d2 e f g h = rw e (rw f (differing a2 b2 c d c2 d2 g h ∙ first_same ((a2, U15) ∷ (b2, U3) ∷ (c2, U6) ∷ (d2, U5) ∷ [])))
+four : (a b c d a2 b2 c2 d2 : Bool) → a ≡ a2 → b ≡ b2 → (a2 ≡ true) ⊎ (c ≡ c2) → (a2 ≡ true) ⊎ ((c2 ≡ true) ⊎ (d ≡ d2)) → first_rule ((a, U15) ∷ (b, U3) ∷ (c, U6) ∷ (d, U5) ∷ []) ≡ first_rule ((a2, U15) ∷ (b2, U3) ∷ (c2, U6) ∷ (d2, U5) ∷ [])
+four a b c d a2 b2 c2 d2 e f g h = rw e (rw f (differing a2 b2 c d c2 d2 g h))
 
 pub difference_same : (f : Key → ℕ) (os : List Object) (t : List Obj) (w x : Word) (v u : Value) (size : ℕ) → Agree os t → StandsFor f t w v → StandsFor f t x u → compared.difference_rule t w x size ≡ meaning.difference_rule os v u size
 difference_same f os t w x v u size a s r = four (memory.is_number w || memory.is_number x) (memory.is_dead t w || memory.is_dead t x) (compared.are_unrelated t w x) (compared.is_uneven w x size) (meaning.is_number v || meaning.is_number u) (meaning.is_dead os v || meaning.is_dead os u) (meaning.are_unrelated v u) (meaning.is_uneven v u size) (numbers_same f t w x v u s r) (deaths_same f os t w x v u a s r) (unrelated_same f t w x v u s r) (uneven_same f t w x v u size s r)

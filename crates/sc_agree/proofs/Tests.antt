@@ -9,17 +9,12 @@ use Rattle.sc_base.specs.declared.memory.Word.{Word}
 use Rattle.sc_base.specs.declared.report.Rule.{Rule}
 use Rattle.sc_objects.specs.declared.objects.Obj.{Obj}
 use Rattle.sc_objects.specs.Numbered.{object_of}
+use Rattle.sc_rules.specs.Tests as tests
 use Rattle.sc_mem.specs.Violations as memory
 use Rattle.sc_meaning.specs.Values.{Value, Number, FunctionAt, Pointer}
 use Rattle.sc_meaning.specs.World.{Object, object_at}
 use Rattle.sc_meaning.specs.Violations as meaning
 use Rattle.sc_agree.specs.Agreement.{IsSame, AreSame, Agree, StandsFor}
-
--- the two words for the first rule are one
-pub first_same : (xs : List (Bool × Rule)) → memory.first_rule xs ≡ meaning.first_rule xs
-first_same [] = refl
-first_same ((true, r) ∷ xs) = refl
-first_same ((false, r) ∷ xs) = first_same xs
 
 -- what memory has, the meaning has
 pub found : (a : Option Object) (p : Obj) → AreSame a (Some p) → (q : Object) × (a ≡ Some q) × IsSame q p
@@ -51,9 +46,9 @@ and_false false = refl
 
 -- U4
 pub null_same : (f : Key → ℕ) (t : List Obj) (w : Word) (v : Value) → StandsFor f t w v → memory.is_null w ≡ meaning.is_null v
-null_same f t w (Number n) s = rw s.0 (rw s.1 (and_true (n == 0)))
-null_same f t w (FunctionAt k) s = rw s.1 (and_false (w.bits == 0))
-null_same f t w (Pointer o i) s = rw s.1 (rw (tagged t o s.0 s.2) (and_false (w.bits == 0)))
+null_same f t w (Number n) s = rw s.0 (rw s.1 refl)
+null_same f t w (FunctionAt k) s = rw s.1 refl
+null_same f t w (Pointer o i) s = rw s.1 (rw (tagged t o s.0 s.2) refl)
 
 -- U15 of an operand of pointer type
 pub number_same : (f : Key → ℕ) (t : List Obj) (w : Word) (v : Value) → StandsFor f t w v → memory.is_number w ≡ meaning.is_number v
@@ -65,16 +60,9 @@ number_same f t w (Pointer o i) s = rw s.1 (rw (tagged t o s.0 s.2) refl)
 pub dead_same : (f : Key → ℕ) (os : List Object) (t : List Obj) (w : Word) (v : Value) → Agree os t → StandsFor f t w v → memory.is_dead t w ≡ meaning.is_dead os v
 dead_same f os t w v a s = on_object f os t w v false (λ o. not o.live) (λ o. not o.live) a s (λ i p q e same b. ap not same.live)
 
-pub kind_same : (k : Kind) → memory.is_constant_kind k ≡ meaning.is_constant_kind k
-kind_same Static = refl
-kind_same Const = refl
-kind_same Literal = refl
-kind_same Auto = refl
-kind_same Heap = refl
-
 -- U11
 pub constant_same : (f : Key → ℕ) (os : List Object) (t : List Obj) (w : Word) (v : Value) → Agree os t → StandsFor f t w v → memory.is_constant t w ≡ meaning.is_constant os v
-constant_same f os t w v a s = on_object f os t w v false (λ o. memory.is_constant_kind o.kind) (λ o. meaning.is_constant_kind o.kind) a s (λ i p q e same b. rw same.kind (kind_same q.kind))
+constant_same f os t w v a s = on_object f os t w v false (λ o. tests.is_constant o.kind) (λ o. tests.is_constant o.kind) a s (λ i p q e same b. ap tests.is_constant same.kind)
 
 pub outside_numbers : (bits base i n size other : ℕ) → bits ≡ base + i → size ≡ other → (nat_lt bits base || nat_lt (base + size) (bits + n)) ≡ nat_lt other (i + 0 + n)
 outside_numbers bits base i n size other h g = grind (arith, nat_tests)

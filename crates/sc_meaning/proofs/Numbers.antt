@@ -11,7 +11,8 @@ use Rattle.sc_types.specs.declared.ctype.Signature.{Signature}
 use Rattle.sc_meaning.specs.Values.{Value, Number, FunctionAt, Pointer, Cell, Unwritten, Byte, Piece, is_pointer_type, int_of, layer_is_pointer, scalar_size, pointer_of, value_of_cells, or_number, number_of_cells}
 use Rattle.sc_meaning.specs.World.{World}
 use Rattle.sc_meaning.specs.Outcomes.{Outcome, Done, Over, Breach, and_then, unless}
-use Rattle.sc_meaning.specs.Violations.{is_null, is_dead, is_outside, is_misaligned, reads_unwritten, is_fragment, is_mixed, first_rule, load_rule, cells_read, integer_rule}
+use Rattle.sc_rules.specs.Orders.{first_rule}
+use Rattle.sc_meaning.specs.Violations.{is_null, is_dead, is_outside, is_misaligned, reads_unwritten, is_fragment, is_mixed, load_rule, cells_read, integer_rule}
 use Rattle.sc_meaning.specs.Accesses.{as_type, converted_value, loaded, computed}
 use Rattle.sc_meaning.specs.Expressions.{Answer, Plain, Place, Part, Nothing, plain, used, either}
 use Rattle.sc_meaning.specs.Integers.{layer_is_integer, is_integer, IsNumber, IsInteger, Gives}

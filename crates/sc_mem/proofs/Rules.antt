@@ -4,7 +4,7 @@ use Rattle.std.proofs.lemmas.Bool.Decides.{nat_tests}
 use Rattle.sc_base.specs.declared.report.Rule.{Rule}
 use Rattle.std.specs.Option.{IsSome}
 use Rattle.sc_mem.specs.Flat.{is_inside, place_in}
-use Rattle.sc_mem.specs.Violations.{first_rule}
+use Rattle.sc_rules.specs.Orders.{first_rule}
 
 pub first-front : (xs ys : List (Bool × Rule)) (r : Rule) → first_rule xs ≡ Some r → first_rule (xs ++ ys) ≡ Some r
 first-front [] ys r h = absurd (cc)

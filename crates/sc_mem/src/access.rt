@@ -13,7 +13,7 @@ use sc_objects::Objects;
 pub fn reach(objects: &Objects, p: Word, n: u32) -> Option<Rule>
     ensures { result ≡ reach_rule objects.now p n }
 {
-    if p.bits == 0 && p.tag == 0 {
+    if p.tag == 0 && p.bits == 0 {
         return Some(Rule::U4);
     }
     match objects.find(p.tag) {

@@ -62,7 +62,8 @@ pub fn difference(objects: &Objects, p: Word, q: Word, size: u32) -> Result<i64,
         return Err(Rule::U6);
     }
     let bytes = i64::from(p.bits) - i64::from(q.bits);
-    if bytes % i64::from(size) != 0 {
+    let rest = bytes % i64::from(size);
+    if rest < 0 || 0 < rest {
         return Err(Rule::U5);
     }
     Ok(bytes / i64::from(size))
@@ -72,7 +73,7 @@ pub fn difference(objects: &Objects, p: Word, q: Word, size: u32) -> Result<i64,
 pub fn freeing(objects: &Objects, p: Word) -> Option<Rule>
     ensures { result ≡ free_rule objects.now p }
 {
-    if p.bits == 0 && p.tag == 0 {
+    if p.tag == 0 && p.bits == 0 {
         return None;
     }
     let Some(object) = objects.find(p.tag) else {
@@ -114,7 +115,7 @@ fn dead(objects: &Objects, p: Word) -> bool
 fn unrelated(objects: &Objects, p: Word, q: Word) -> bool
     ensures { result ≡ are_unrelated objects.now p q }
 {
-    if p.bits == 0 && p.tag == 0 && q.bits == 0 && q.tag == 0 {
+    if p.tag == 0 && p.bits == 0 && q.tag == 0 && q.bits == 0 {
         return false;
     }
     p.tag != q.tag || objects.find(p.tag).is_none()

@@ -163,7 +163,7 @@ impl Memory {
         if p.tag == 0 {
             return if p.bits != 0 {
                 Err(Rule::U15)
-            } else if n != 0 {
+            } else if n < 0 || 0 < n {
                 Err(Rule::U5)
             } else {
                 Ok(p)
