@@ -4,7 +4,6 @@ use Rattle.std.specs.Ordering.{nat_cmp}
 use Rattle.std.specs.declared.cmp.Ordering.{Ordering}
 use Rattle.sc_base.specs.declared.memory.Word.{Word}
 use Rattle.sc_base.specs.declared.report.Rule.{Rule}
-use Rattle.sc_base.specs.declared.report.Rule.TheVariants.{U5, U6, U14, U15}
 use Rattle.sc_objects.specs.declared.objects.Obj.{Obj}
 use Rattle.sc_objects.specs.Numbered.{object_of}
 use Rattle.sc_rules.specs.Tests as tests

@@ -1,5 +1,6 @@
 // The tests of steps that look at pointers and access nothing.
 ghost use Rattle.std.specs.Prelude.{◌≡◌, ◌<◌, None, Some, MatchResult};
+ghost use Rattle.sc_rules.specs.Tests as tests;
 ghost use Rattle.sc_mem.specs.Violations.{is_dead, is_number};
 ghost use Rattle.sc_mem.specs.Comparisons.{are_unrelated, difference_rule, elements_of, equality_rule, free_rule, is_overlapping, order_rule, truth_rule};
 
@@ -62,8 +63,7 @@ pub fn difference(objects: &Objects, p: Word, q: Word, size: u32) -> Result<i64,
         return Err(Rule::U6);
     }
     let bytes = i64::from(p.bits) - i64::from(q.bits);
-    let rest = bytes % i64::from(size);
-    if rest < 0 || 0 < rest {
+    if uneven(bytes, size) {
         return Err(Rule::U5);
     }
     Ok(bytes / i64::from(size))
@@ -109,6 +109,15 @@ fn dead(objects: &Objects, p: Word) -> bool
         None => false,
         Some(object) => !object.live,
     }
+}
+
+// U5: a distance in bytes that is no multiple of an element's size.
+fn uneven(bytes: i64, size: u32) -> bool
+    requires { 0 < size }
+    ensures { result ≡ tests.is_uneven bytes size }
+{
+    let rest = bytes % i64::from(size);
+    rest < 0 || 0 < rest
 }
 
 // U6, behind the other two tests.
