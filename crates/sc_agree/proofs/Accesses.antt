@@ -1,5 +1,5 @@
 -- The rules of accesses.
-use Rattle.std.proofs.Common.{◌≡◌, ◌⊎◌, ◌∙◌, ℕ, ◌+◌, ◌%◌, ◌==◌, Bool, true, false, not, List, [], ◌∷◌, Some, refl, ap, subst, inl, inr, arith}
+use Rattle.std.proofs.Common.{◌≡◌, ◌⊎◌, ℕ, ◌+◌, ◌%◌, ◌==◌, Bool, true, false, not, List, [], ◌∷◌, Some, refl, ap, subst, inl, inr, arith}
 use Rattle.sc_base.specs.declared.key.Key.{Key}
 use Rattle.sc_base.specs.declared.memory.Word.{Word}
 use Rattle.sc_base.specs.declared.report.Rule.TheVariants.{U2, U3, U4, U10, U11}
