@@ -6,7 +6,7 @@ use Rattle.std.specs.List.{list_any, list_all}
 use Rattle.sc_base.specs.declared.integer.Int.{Int}
 use Rattle.sc_base.specs.declared.operator.Op.{Op}
 use Rattle.sc_base.specs.declared.report.Rule.{Rule}
-use Rattle.sc_base.specs.declared.report.Rule.TheVariants.{U15}
+use Rattle.sc_base.specs.declared.report.Rule.TheVariants.{U1, U2, U3, U4, U5, U6, U10, U11, U14, U15}
 use Rattle.sc_ops.specs.Operators.{rule_of}
 use Rattle.sc_rules.specs.Tests as tests
 use Rattle.sc_rules.specs.Orders as orders
