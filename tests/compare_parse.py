@@ -11,22 +11,7 @@ import os
 import subprocess
 import sys
 
-
-class Files:
-    def __init__(self, folder):
-        self.folder = folder
-
-    def read(self, name):
-        path = os.path.join(self.folder, name)
-        if not os.path.isfile(path):
-            return 'missing', None
-        with open(path, 'rb') as text:
-            return 'found', text.read()
-
-
-def refused(refusal, name):
-    word = ' ' + refusal.word if refusal.word else ''
-    return '%s%s %s:%d' % (refusal.kind, word, refusal.file or name, refusal.line)
+from units import Files, refused, units
 
 
 def wanted(folder, name):
@@ -47,13 +32,6 @@ def given(program, folder, name):
     if run.returncode:
         return 'status %d' % run.returncode
     return run.stdout.decode('latin-1').rstrip('\n')
-
-
-def units(folder):
-    for root, _, names in sorted(os.walk(folder)):
-        for name in sorted(names):
-            if name.endswith('.c'):
-                yield root, name
 
 
 def main():

@@ -10,6 +10,8 @@ Where gcc refuses the unit, or the unit is refused here, the pair is counted apa
 """
 import argparse, os, re, subprocess, sys, tempfile
 
+from units import Files, refused, units
+
 HERE = os.path.dirname(os.path.abspath(__file__))
 HEADERS = os.path.join(HERE, '..', 'crates', 'sc_pp', 'src', 'header.rt')
 NAMES = {'STDIO': 'stdio.h', 'STDLIB': 'stdlib.h', 'STRING': 'string.h', 'CTYPE': 'ctype.h', 'STDDEF': 'stddef.h',
@@ -36,8 +38,8 @@ def own(program, folder, name):
     """The lines that the program prints, and whether the unit is refused."""
     run = subprocess.run([program, name], cwd=folder, capture_output=True)
     lines = run.stdout.decode('latin-1').split('\n')[:-1]
-    refused = run.returncode != 0 or (len(lines) == 1 and re.match(r'refused X\d+.*:\d+$|missing$|too long$', lines[0]))
-    return lines, bool(refused)
+    is_refused = run.returncode != 0 or (len(lines) == 1 and re.match(r'refused X\d+.*:\d+$|missing$|too long$', lines[0]))
+    return lines, bool(is_refused)
 
 
 def gcc(folder, name, include):
@@ -45,31 +47,12 @@ def gcc(folder, name, include):
     return run.stdout.decode('latin-1') if run.returncode == 0 else None
 
 
-class Files:
-    def __init__(self, folder):
-        self.folder = folder
-
-    def read(self, name):
-        path = os.path.join(self.folder, name)
-        if not os.path.isfile(path):
-            return 'missing', None
-        return 'found', open(path, 'rb').read()
-
-
 def second(pp, folder, name):
     from common import Refusal
     try:
         return ['%s %d %s' % (t.kind, t.line, t.text) for t in pp.preprocess(name, Files(folder))]
-    except Refusal as r:
-        word = ' ' + r.word if getattr(r, 'word', None) else ''
-        return ['refused %s%s %s:%d' % (r.kind, word, r.file, r.line)]
-
-
-def units(folder):
-    for root, _, names in sorted(os.walk(folder)):
-        for name in sorted(names):
-            if name.endswith('.c'):
-                yield root, name
+    except Refusal as refusal:
+        return ['refused ' + refused(refusal, name)]
 
 
 def main():
@@ -87,15 +70,15 @@ def main():
     with tempfile.TemporaryDirectory() as include:
         headers(include)
         for folder, name in units(args.folder):
-            lines, refused = own(program, folder, name)
+            lines, is_refused = own(program, folder, name)
             counts['units'] += 1
-            counts['refused'] += refused
+            counts['refused'] += is_refused
             if pp:
                 same = second(pp, folder, name) == lines
                 counts['reading_same' if same else 'reading_differs'] += 1
                 if not same:
                     print('reading differs:', os.path.join(folder, name))
-            if refused:
+            if is_refused:
                 continue
             counts['tokens'] += len(lines)
             text = gcc(folder, name, include)
