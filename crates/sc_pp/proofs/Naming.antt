@@ -125,12 +125,6 @@ inside_names {A} {B} map name text place lines s x e p l h =
 pub short_names : {A : Type 0} (map : FileMap) (name text : List ℕ) (result : Result A Failure) → length text ≤ 1048576 → IsAmong (asked_inside map name text) result → IsAmong (asked_by_text map name (Some text)) result
 short_names map name text result h k = let no : nat_lt 1048576 (length text) ≡ false = grind (arith, nat_tests) in rw no k
 
-pub own_name : (map : FileMap) (name n : List ℕ) → n ≡ name → Contains (asked_in map name) n
-own_name map name n h = rw h (first (asked_by_text map name (map name)) name)
-
-pub inner_name : (map : FileMap) (name text n : List ℕ) → map name ≡ Some text → Contains (asked_by_text map name (Some text)) n → Contains (asked_in map name) n
-inner_name map name text n h k = Contains-append_right (name ∷ []) (asked_by_text map name (map name)) n (subst (λ (o : Option (List ℕ)). Contains (asked_by_text map name o) n) (sym h) k)
-
 in_told : {A : Type 0} → PpFault → Result A PpFault → PpFault
 in_told d (Ok x) = d
 in_told d (Err f) = f
@@ -157,3 +151,10 @@ pub failed_names : {A B : Type 0} (names : Names) (x : Failure) (y : PpFault) �
 failed_names {A} {B} names x y e h n q =
     let is : failed x ≡ told.File n = sym e ∙ same_fault {A = B} y (told.File n) q in
     h n (ap Err (failed_as x n is))
+
+-- the unit's own file was read
+pub whole_names : {A B : Type 0} (map : FileMap) (name bytes text items : List ℕ) (x : Failure) (y : PpFault) → bytes ≡ name → text ≡ items → map name ≡ Some items → y ≡ failed x → IsAmong {A = A} (asked_by_text map bytes (Some text)) (Err x) → IsFileAmong {A = B} (asked_in map name) (Err y)
+whole_names {A} {B} map name bytes text items x y b t m f h =
+    let inside : asked_by_text map name (map name) ≡ asked_by_text map bytes (Some text) = ap (asked_by_text map name) (m ∙ sym (ap (λ (u : List ℕ). Some u) t)) ∙ sym (ap (λ (u : List ℕ). asked_by_text map u (Some text)) b) in
+    failed_names {A = A} {B = B} (asked_in map name) x y f
+    (at_back {A = A} (name ∷ []) (asked_by_text map name (map name)) (Err x) (among_as {A = A} (asked_by_text map name (map name)) (asked_by_text map bytes (Some text)) (Err x) inside h))
