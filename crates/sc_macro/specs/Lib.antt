@@ -9,4 +9,5 @@ pub mod Define
 pub mod Strings
 pub mod Substitute
 pub mod Calls
+pub mod Readings
 pub mod Expansion

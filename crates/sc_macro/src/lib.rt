@@ -9,10 +9,12 @@ mod lists;
 mod macros;
 mod marked;
 mod moving;
+mod reading;
 mod redefine;
 mod replacement;
 mod string;
 mod substitute;
+mod waiting;
 mod walk;
 
 pub use macros::{Macro, MacroKind, Macros, Part, is_fixed};

@@ -12,7 +12,8 @@ use crate::lists::push_each;
 use crate::macros::{Macro, MacroKind, Macros, Part};
 use crate::marked::Marked;
 use crate::string::{literal, string_of};
-use sc_base::{Bytes, Duplicate, Items, NoMemory, Stack};
+use crate::waiting::Waiting;
+use sc_base::{Bytes, Duplicate, Items, NoMemory};
 use sc_lex::{Token, TokenKind, token_kind};
 use std::alloc::Global;
 
@@ -298,7 +299,7 @@ pub fn place(
     name: &Token,
     hide: &Hide,
     filled: Items<Marked>,
-    rest: &mut Stack<Marked>,
+    rest: &mut Waiting<'_>,
 ) -> Result<(), NoMemory>
     ensures { OnOk result (rest.new ≡ map (marks.landed name.now hide.now) (marks.respaced name.now.space filled) ++ rest.old) }
 {

@@ -14,6 +14,7 @@ use crate::marked::{Marked, copy_spaced, is_newline};
 use crate::moving::movable;
 use crate::redefine::is_function;
 use crate::substitute::{alone, filled, place};
+use crate::waiting::{Argument, Waiting};
 use sc_base::{Duplicate, Fault, Items, NoMemory, Stack};
 use sc_lex::Token;
 use std::alloc::Global;
@@ -36,25 +37,24 @@ fn refused(reason: Reason, line: u32) -> Failure
 
 /// A list with at most `left` replacements, in which arguments stand inside each other less than `depth` deep.
 #[cycle(expansion)]
-fn expand_at(
+fn expand_at<'a>(
     alloc: Global,
     macros: &Macros,
     depth: u32,
     line: u32,
     left: &mut u32,
-    tokens: Items<Marked>,
+    tokens: Argument<'a>,
 ) -> Result<Items<Marked>, Failure>
-    ensures gives { Expands (spec.expand macros.now depth line left.old tokens) result left.new }
+    ensures gives { Expands (spec.expand macros.now depth line left.old tokens.entry) result left.new }
     ensures falls { left.new ≤ left.old }
 {
     if depth == 0 {
         return Err(refused(Reason::Macros, line));
     }
-    let mut rest = Stack::new(alloc);
-    rest.push_all(tokens)?;
+    let mut rest = Waiting::from_argument(alloc, tokens)?;
     let mut out = Items::new(alloc);
     let mut fuel = *left;
-    'walking: while let Some(name) = macros.skip(&mut rest, &mut out)? {
+    'walking: while let Some(name) = macros.skip(alloc, &mut rest, &mut out)? {
         match replace(alloc, macros, depth - 1, left, &name, &mut rest) {
             Ok(()) => fuel -= 1,
             Err(failure) => return Err(failure),
@@ -65,13 +65,13 @@ fn expand_at(
 
 /// Puts what a name stands for in its place.
 #[cycle(expansion)]
-fn replace(
+fn replace<'a>(
     alloc: Global,
     macros: &Macros,
     depth: u32,
     left: &mut u32,
     name: &Marked,
-    rest: &mut Stack<Marked>,
+    rest: &mut Waiting<'a>,
 ) -> Result<(), Failure>
     ensures gives { Replaces (spec.replaced macros.now (spec.expand macros.now depth) left.old name.now rest.old) result left.new rest.new }
     ensures falls { left.new ≤ left.old }
@@ -84,7 +84,7 @@ fn replace(
     if !is_function(definition.kind) {
         return replace_alone(alloc, macros, left, name, number, definition, rest);
     }
-    drop(rest.pop());
+    drop(rest.pop(alloc)?);
     let Some(call) = collect(alloc, rest)? else {
         return Err(refused(Reason::Misuse, line));
     };
@@ -101,14 +101,14 @@ fn replace(
 }
 
 /// Puts what a name without arguments stands for in its place.
-fn replace_alone(
+fn replace_alone<'a>(
     alloc: Global,
     macros: &Macros,
     left: &mut u32,
     name: &Marked,
     number: usize,
     definition: &Macro,
-    rest: &mut Stack<Marked>,
+    rest: &mut Waiting<'a>,
 ) -> Result<(), Failure>
     ensures gives { Replaces (spec.replaced_alone macros.now left.old name.now number definition.now rest.old) result left.new rest.new }
     ensures falls { left.new ≤ left.old }
@@ -126,7 +126,7 @@ fn replace_alone(
 
 /// Puts what a call stands for in its place.
 #[cycle(expansion)]
-fn replace_call(
+fn replace_call<'a>(
     alloc: Global,
     macros: &Macros,
     depth: u32,
@@ -134,10 +134,10 @@ fn replace_call(
     name: &Marked,
     number: usize,
     definition: &Macro,
-    call: Call,
-    rest: &mut Stack<Marked>,
+    call: Call<'a>,
+    rest: &mut Waiting<'a>,
 ) -> Result<(), Failure>
-    ensures gives { Replaces (spec.called (spec.expand macros.now depth name.now.token.line) left.old name.now number definition.now (call.arguments, call.hide, rest.old)) result left.new rest.new }
+    ensures gives { Replaces (spec.called (spec.expand macros.now depth name.now.token.line) left.old name.now number definition.now (call.entry.arguments, call.entry.hide, rest.old)) result left.new rest.new }
     ensures falls { left.new ≤ left.old }
 {
     let Call {
@@ -157,10 +157,11 @@ fn replace_call(
         moves.as_slice(),
         &mut arguments,
     )?;
+    let written = written(alloc, arguments)?;
     let tokens = filled(
         alloc,
         &name.token,
-        arguments.as_slice(),
+        written.as_slice(),
         whole.as_slice(),
         chains,
     )?;
@@ -172,7 +173,7 @@ fn replace_call(
 /// The arguments that are wanted expanded; an empty list for each other. One that `moves` is given away, and leaves an
 /// empty list behind.
 #[cycle(expansion)]
-fn expand_arguments(
+fn expand_arguments<'a>(
     alloc: Global,
     macros: &Macros,
     depth: u32,
@@ -180,7 +181,7 @@ fn expand_arguments(
     left: &mut u32,
     wanted: &[bool],
     moves: &[bool],
-    arguments: &mut Items<Items<Marked>>,
+    arguments: &mut Items<Argument<'a>>,
 ) -> Result<Items<Items<Marked>>, Failure>
     ensures gives { Expands (spec.arguments (spec.expand macros.now depth line) wanted.now left.old [] arguments.old) result left.new }
     ensures stays { OnOk result (arguments.new ≡ left_over moves.now [] arguments.old) }
@@ -211,34 +212,50 @@ fn expand_arguments(
     Ok(done)
 }
 
-/// What is expanded of an argument, where it is needed: the argument itself where it `goes`, or a copy.
-fn taken(
+/// The arguments as lists of their own.
+fn written<'a>(
     alloc: Global,
-    argument: &mut Items<Marked>,
+    arguments: Items<Argument<'a>>,
+) -> Result<Items<Items<Marked>>, NoMemory>
+    ensures { IfOk result (λ lists. lists ≡ arguments.entry) }
+{
+    let mut waiting = Stack::new(alloc);
+    waiting.push_all(arguments)?;
+    let mut lists = Items::new(alloc);
+    'writing: while let Some(argument) = waiting.pop() {
+        lists.push(argument.into_items(alloc)?)?;
+    }
+    Ok(lists)
+}
+
+/// What is expanded of an argument, where it is needed: the argument itself where it `goes`, or a copy.
+fn taken<'a>(
+    alloc: Global,
+    argument: &mut Argument<'a>,
     needed: bool,
     goes: bool,
-) -> Result<Items<Marked>, NoMemory>
+) -> Result<Argument<'a>, NoMemory>
     ensures stays { OnOk result (argument.new ≡ stay goes argument.old) }
     ensures tokens { IfOk result (λ tokens. needed ≡ true → tokens ≡ argument.old) }
 {
     if goes {
-        return Ok(mem::replace(argument, Items::new(alloc)));
+        return Ok(mem::replace(argument, Argument::empty(alloc)));
     }
     if needed {
         argument.copy(alloc)
     } else {
-        Ok(Items::new(alloc))
+        Ok(Argument::empty(alloc))
     }
 }
 
 #[cycle(expansion)]
-fn expand_argument(
+fn expand_argument<'a>(
     alloc: Global,
     macros: &Macros,
     depth: u32,
     line: u32,
     left: &mut u32,
-    argument: &mut Items<Marked>,
+    argument: &mut Argument<'a>,
     needed: bool,
     goes: bool,
 ) -> Result<Items<Marked>, Failure>
@@ -298,7 +315,8 @@ fn expand_list(
     ensures { Expands (spec.expanded 201 macros.now left.old tokens.now) result left.new }
 {
     let tokens = marked(alloc, tokens)?;
-    match expand_at(alloc, macros, DEPTH, 0, left, tokens) {
+    let list = Argument::of(Items::new(alloc), tokens.as_slice());
+    match expand_at(alloc, macros, DEPTH, 0, left, list) {
         Ok(done) => Ok(unmarked(alloc, done.as_slice())?),
         Err(failure) => Err(failure),
     }

@@ -4,3 +4,4 @@ pub mod Matched
 pub mod Same
 pub mod Entering
 pub mod Units
+pub mod Naming

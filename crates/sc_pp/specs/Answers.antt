@@ -75,6 +75,10 @@ Known held P = (map : FileMap) → held ≡ Some map → P map
 abbrev pub BlamesRead : {A : Type 0} → FileGot → Result A Failure → Type 0
 BlamesRead got result = (name : List ℕ) → result ≡ Err (failure.File name) → got ≡ files.Failed
 
+-- a file that could not be read is this one
+abbrev pub IsOf : {A : Type 0} → List ℕ → Result A Failure → Type 0
+IsOf asked result = (name : List ℕ) → result ≡ Err (failure.File name) → name ≡ asked
+
 -- a file is blamed only where the count of faults has risen
 abbrev pub Blames : {A : Type 0} → ℕ → ℕ → Result A Failure → Type 0
 Blames before now result = (name : List ℕ) → result ≡ Err (failure.File name) → Rose before now

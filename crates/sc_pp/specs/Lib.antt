@@ -10,3 +10,4 @@ pub mod Directives
 pub mod Preprocessing
 pub mod Closed
 pub mod Answers
+pub mod Asked

@@ -64,3 +64,7 @@ raised fault.NoMemory = failure.NoMemory
 
 abbrev pub IsNoRefusal : Failure → Type 0
 IsNoRefusal f = (r : Refusal) → f ≡ failure.Refused r → ⊥
+
+-- a file that could not be read is this one
+abbrev pub NamesFile : List ℕ → Failure → Type 0
+NamesFile asked f = (name : List ℕ) → f ≡ failure.File name → name ≡ asked

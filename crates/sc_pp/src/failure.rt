@@ -1,7 +1,7 @@
 // Why preprocessing does not go on, and the refusals that name a file.
 ghost use Rattle.std.specs.Prelude.{◌≡◌};
 ghost use Rattle.sc_pp.specs.Outcomes as spec;
-ghost use Rattle.sc_pp.specs.Outcomes.{Tells, Refuses, refusal, IsNoRefusal};
+ghost use Rattle.sc_pp.specs.Outcomes.{Tells, Refuses, refusal, IsNoRefusal, NamesFile};
 ghost use Rattle.sc_base.specs.declared.refusal.X.TheVariants as x;
 
 use sc_base::{Bytes, Duplicate, Fault, Refusal, X};
@@ -27,7 +27,8 @@ pub fn raised(fault: Fault) -> Failure
 
 /// A file that could not be read.
 pub fn unread(alloc: Global, name: &[u8]) -> Failure
-    ensures { IsNoRefusal result }
+    ensures kind { IsNoRefusal result }
+    ensures names { NamesFile name.now result }
 {
     match Bytes::from_slice(alloc, name) {
         Ok(name) => Failure::File(name),

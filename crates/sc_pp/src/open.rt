@@ -7,7 +7,8 @@ ghost use Rattle.sc_pp.specs.Preprocessing as whole;
 ghost use Rattle.std.specs.Prelude.{is_some};
 ghost use Rattle.std.specs.Str.{is_utf8};
 ghost use Rattle.sc_outside.specs.Stored.{FileMap, Finds, IsWithinFileLimit};
-ghost use Rattle.sc_pp.specs.Answers.{Known, Blames, BlamesRead, Fetches, RefusesFile};
+ghost use Rattle.sc_pp.specs.Answers.{Known, Blames, BlamesRead, Fetches, IsOf, RefusesFile};
+ghost use Rattle.sc_pp.specs.Asked.{IsAmong, asked_by};
 ghost use Rattle.sc_base.specs.declared.refusal.X.TheVariants as x;
 
 use crate::failure::{Failure, beyond, raised, refused, unread};
@@ -39,6 +40,7 @@ fn sized(alloc: Global, name: &Bytes, got: FileGot) -> Result<Option<Bytes>, Fai
     ensures gives { (map : FileMap) → Finds map name.now got → Fetches (whole.sized name.now (map name.now)) result }
     ensures limit { IfOk result (λ text. IfSome text (λ v. length v ≤ 1048576)) }
     ensures blames { BlamesRead got result }
+    ensures names { IsOf name.now result }
 {
     match got {
         FileGot::Bytes(text) => {
@@ -65,6 +67,7 @@ pub fn fetch<F: Files>(
     ensures held { F.held files.new ≡ F.held files.old }
     ensures later { F.faults files.old ≤ F.faults files.new }
     ensures blames { Blames (F.faults files.old) (F.faults files.new) result }
+    ensures names { IsAmong (asked_by wanted.now) result }
 {
     if !wanted.quoted {
         return Ok(None);

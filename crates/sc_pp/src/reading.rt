@@ -1,8 +1,9 @@
 // The lines of a file are read, and those of the files that it includes.
-ghost use Rattle.std.specs.Prelude.{◌≡◌, ◌≤◌, ◌<◌, ◌-◌};
+ghost use Rattle.std.specs.Prelude.{◌≡◌, ◌≤◌, ◌<◌, ◌-◌, []};
 ghost use Rattle.sc_pp.specs.Closed.{Ready};
 ghost use Rattle.sc_pp.specs.Preprocessing as spec;
 ghost use Rattle.sc_pp.specs.Answers.{Known, Blames, Steps, Reads, one};
+ghost use Rattle.sc_pp.specs.Asked.{IsAmong, asked, by_lines, by_turn, by_include};
 
 use crate::directive::simple;
 use crate::failure::{Failure, raised};
@@ -31,6 +32,7 @@ pub fn read_lines<F: Files>(
     ensures held { F.held files.new ≡ F.held files.old }
     ensures later { F.faults files.old ≤ F.faults files.new }
     ensures blames { Blames (F.faults files.old) (F.faults files.new) result }
+    ensures names { Known (F.held files.old) (λ map. IsAmong (by_lines (spec.reading map depth) (asked map depth) place.now lines state.old []) result) }
 {
     let mut lines = lines;
     let mut frames = Stack::new(alloc);
@@ -57,6 +59,7 @@ fn take_line<F: Files>(
     ensures held { F.held files.new ≡ F.held files.old }
     ensures later { F.faults files.old ≤ F.faults files.new }
     ensures blames { Blames (F.faults files.old) (F.faults files.new) result }
+    ensures names { Known (F.held files.old) (λ map. IsAmong (by_turn (asked map depth) place.now state.old frames.old line) result) }
 {
     let turned = match turn(alloc, state, place, frames, line) {
         Ok(turned) => turned,
@@ -82,6 +85,7 @@ fn read_line<F: Files>(
     ensures held { F.held files.new ≡ F.held files.old }
     ensures later { F.faults files.old ≤ F.faults files.new }
     ensures blames { Blames (F.faults files.old) (F.faults files.new) result }
+    ensures names { Known (F.held files.old) (λ map. IsAmong (asked map depth place.now state.old directive.now) result) }
 {
     let wanted = match simple(alloc, depth, place, state, directive) {
         Ok(wanted) => wanted,
@@ -108,6 +112,7 @@ fn include<F: Files>(
     ensures held { F.held files.new ≡ F.held files.old }
     ensures later { F.faults files.old ≤ F.faults files.new }
     ensures blames { Blames (F.faults files.old) (F.faults files.new) result }
+    ensures names { Known (F.held files.old) (λ map. IsAmong (by_include (spec.reading map (depth - 1)) (asked map (depth - 1)) map place.now state.old wanted.now) result) }
 {
     let text = match fetch(alloc, files, wanted) {
         Ok(text) => text,

@@ -1,9 +1,10 @@
-ghost use Rattle.std.specs.Prelude.{◌≡◌, ◌≤◌, length, codes, IfOk};
+ghost use Rattle.std.specs.Prelude.{◌≡◌, ◌≤◌, length, codes, IfOk, Some};
 ghost use Rattle.sc_condition.specs.Verdict.{verdict, IsMeaning};
 ghost use Rattle.sc_pp.specs.Outcomes.{refusal};
 ghost use Rattle.sc_base.specs.declared.refusal.X.TheVariants as x;
 ghost use Rattle.sc_pp.specs.Preprocessing as spec;
 ghost use Rattle.sc_pp.specs.Answers as answers;
+ghost use Rattle.sc_pp.specs.Asked.{IsAmong, IsFileAmong, asked_in, asked_inside, asked_by_text};
 ghost use Rattle.sc_pp.specs.Answers.{Known, Answers, Blames, BlamesFile, Finds, RefusesFile};
 
 use crate::environment::Environment;
@@ -68,6 +69,7 @@ fn read_unit<F: Files>(
     ensures held { F.held files.new ≡ F.held files.old }
     ensures later { F.faults files.old ≤ F.faults files.new }
     ensures blames { Blames (F.faults files.old) (F.faults files.new) result }
+    ensures names { Known (F.held files.old) (λ map. IsAmong (asked_inside map name.now text.now) result) }
 {
     let Ok(mut state) = start(alloc, name) else {
         return Err(Failure::NoMemory);
@@ -105,6 +107,7 @@ fn sized_unit<F: Files>(
     ensures held { F.held files.new ≡ F.held files.old }
     ensures later { F.faults files.old ≤ F.faults files.new }
     ensures blames { Blames (F.faults files.old) (F.faults files.new) result }
+    ensures names { Known (F.held files.old) (λ map. IsAmong (asked_by_text map name.now (Some text.now)) result) }
 {
     if text.len() > MAX_SOURCE {
         return Err(long_unit(alloc, name));
@@ -127,7 +130,8 @@ fn long_unit(alloc: Global, name: &[u8]) -> Failure
 /// `Missing` where the file is not there, `TooLong` where it has more than 8,388,608 bytes, `Refused` with the first
 /// refusal in text order, its file and its line there: X1 for an open comment, X2 for a directive, X3 for the use of a
 /// macro, X4 for a file that is not there, X9 `paste`, `pragma` and `line`, X10 `source`, `include`, `identifier`,
-/// `macros`, `tokens` and `height`. `File` names a file that could not be read, only where the count of faults rose.
+/// `macros`, `tokens` and `height`. `File` is the name of a file that
+/// was asked for and could not be read, only where the count of faults rose.
 pub fn preprocess<F: Files>(
     alloc: Global,
     name: &str,
@@ -139,6 +143,7 @@ pub fn preprocess<F: Files>(
     ensures held { F.held files.new ≡ F.held files.old }
     ensures later { F.faults files.old ≤ F.faults files.new }
     ensures blames { BlamesFile (F.faults files.old) (F.faults files.new) result }
+    ensures names { Known (F.held files.old) (λ map. IsFileAmong (asked_in map name.now) result) }
 {
     match files.read(name) {
         FileGot::Bytes(text) => match sized_unit(alloc, name.as_bytes(), files, text.as_slice()) {

@@ -3,7 +3,7 @@ use Rattle.sc_macro.specs.Calls.{collect}
 use Rattle.sc_macro.proofs.call.collect.Given as goal
 
 abbrev pub invariant-collecting : goal.invariant-collecting
-invariant-collecting l = collect l.depth l.argument l.arguments l.rest ≡ collect 0 [] [] l.fn.rest
+invariant-collecting l = collect l.depth l.reading.0 l.arguments l.reading.1 ≡ collect 0 [] [] l.fn.rest
 
 abbrev pub decreases-collecting : goal.decreases-collecting
-decreases-collecting l = length l.rest
+decreases-collecting l = length l.reading.1

@@ -1,4 +1,4 @@
-use Rattle.std.proofs.Common.{◌-◌, arith, rules}
+use Rattle.std.proofs.Common.{◌-◌, ◌∙◌, arith, rules}
 use Rattle.sc_macro.specs.Expansion.{expand}
 use Rattle.sc_macro.proofs.Walks.{goes_on, fails, fails_as}
 use Rattle.sc_macro.proofs.LeftOver.{call_stops, call_done}
@@ -36,7 +36,7 @@ pub replace_call-returns-in_err-tokens-clause-gives : goal.replace_call-returns-
 replace_call-returns-in_err-tokens-clause-gives t c =
     let stops = call_stops (expand c.args.macros.now c.args.depth c.args.name.now.token.line) c.args.left.now c.expand_arguments.new.left c.args.name.now c.args.number c.args.definition.now c.args.call.arguments c.expand_arguments.new.arguments c.as_slice-2.result.now c.in_ok-whole.whole c.as_slice-3.result.now c.args.call.hide c.args.rest.now
     c.as_slice-wanted.result.now c.in_ok-moves.moves c.as_slice.result.now c.as_slice-chains.result.now c.as_slice-wanted.ensures c.as_slice-chains.ensures c.in_ok-moves.ensures c.as_slice.ensures
-    c.in_ok-whole.ensures.stays c.as_slice-2.ensures c.as_slice-3.ensures c.in_ok-whole.ensures.gives
+    c.in_ok-whole.ensures.stays (c.as_slice-2.ensures ∙ c.in_ok-written.ensures) c.as_slice-3.ensures c.in_ok-whole.ensures.gives
     c.in_err-tokens.field-0.0 c.expand_arguments.new.left c.args.rest.now c.in_err-tokens.ensures in
     search rules
 
@@ -44,5 +44,5 @@ pub replace_call-returns-clause-gives : goal.replace_call-returns-clause-gives
 replace_call-returns-clause-gives t c =
     call_done (expand c.args.macros.now c.args.depth c.args.name.now.token.line) c.args.left.now c.expand_arguments.new.left c.args.name.now c.args.number c.args.definition.now c.args.call.arguments c.expand_arguments.new.arguments c.as_slice-2.result.now c.in_ok-whole.whole c.as_slice-3.result.now c.args.call.hide c.args.rest.now
     c.as_slice-wanted.result.now c.in_ok-moves.moves c.as_slice.result.now c.as_slice-chains.result.now c.as_slice-wanted.ensures c.as_slice-chains.ensures c.in_ok-moves.ensures c.as_slice.ensures
-    c.in_ok-whole.ensures.stays c.as_slice-2.ensures c.as_slice-3.ensures c.in_ok-whole.ensures.gives
+    c.in_ok-whole.ensures.stays (c.as_slice-2.ensures ∙ c.in_ok-written.ensures) c.as_slice-3.ensures c.in_ok-whole.ensures.gives
     c.in_ok-tokens.tokens c.place.new.rest c.in_ok-common.field-0 c.in_ok-hide.hide c.in_ok-tokens.ensures c.in_ok-common.ensures c.in_ok-hide.ensures c.in_ok-place.ensures

@@ -4,6 +4,8 @@ use Rattle.sc_pp.specs.Directives.{test}
 use Rattle.sc_pp.specs.Preprocessing.{reading}
 use Rattle.sc_pp.specs.Reader.{run}
 use Rattle.sc_pp.specs.Answers.{Known}
+use Rattle.sc_pp.specs.Asked.{by_lines, asked}
+use Rattle.sc_pp.proofs.Naming.{IsWithin}
 use Rattle.sc_pp.proofs.reading.+reading.Given as goal
 
 abbrev pub decreases-read_lines : goal.decreases-read_lines
@@ -22,6 +24,7 @@ decreases-include g l = 4 * l.depth
 abbrev pub invariant-read_lines-lines : goal.invariant-read_lines-lines
 invariant-read_lines-lines g l = record {
   gives : Known (g.F.Files.held l.fn.files) (λ map. run State l.place.name (test l.place) (reading map l.depth l.place) l.lines l.state l.frames ≡ run State l.place.name (test l.place) (reading map l.depth l.place) l.fn.lines l.fn.state []);
+  names : Known (g.F.Files.held l.fn.files) (λ map. IsWithin (by_lines (reading map l.depth) (asked map l.depth) l.place l.lines l.state l.frames) (by_lines (reading map l.depth) (asked map l.depth) l.place l.fn.lines l.fn.state []));
   held : g.F.Files.held l.files ≡ g.F.Files.held l.fn.files;
   later : g.F.Files.faults l.fn.files ≤ g.F.Files.faults l.files;
 }

@@ -1,5 +1,5 @@
 use Rattle.std.proofs.Common.{◌≡◌, ◌++◌, length}
-use Rattle.sc_macro.proofs.call.compact.Given as goal
+use Rattle.sc_macro.proofs.reading.compact.Given as goal
 
 abbrev pub invariant-moving : goal.invariant-moving
 invariant-moving l = l.tokens ++ l.old ≡ l.fn.rest
