@@ -1,5 +1,5 @@
 // The sizes of a tree that the parser made.
-ghost use Rattle.std.specs.Prelude.{◌≡◌, ◌+◌, ◌≤◌, ◌×◌, true, IfOk};
+ghost use Rattle.std.specs.Prelude.{◌≡◌, ◌+◌, ◌≤◌, true, IfOk};
 ghost use Rattle.sc_tree.specs.Room.{room_of};
 ghost use Rattle.sc_tree.specs.Nodes.{expression_nodes, init_declarator_nodes, initial_nodes, specifiers_nodes, unit_nodes};
 
@@ -33,7 +33,7 @@ fn is_small_sum(e: &Expr) -> bool
 // A call of a name with a sum of two leaves, so that its sizes are small.
 fn is_small_call(e: &Expr) -> bool
     ensures room { result ≡ true → room_of e.now ≤ 3 }
-    ensures nodes { result ≡ true → expression_nodes e.now ≤ 5 }
+    ensures nodes { result ≡ true → initial_nodes e.now ≤ 6 }
 {
     match e {
         Expr::Call(_, f, args) => match args.as_slice() {
