@@ -1,3 +1,4 @@
 pub mod Marks
 pub mod Operands
 pub mod Places
+pub mod Expressions

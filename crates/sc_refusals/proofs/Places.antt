@@ -8,6 +8,7 @@ use Rattle.sc_tree.specs.declared.expression.Specifiers.{Specifiers}
 use Rattle.sc_tree.specs.declared.expression.Enumerator.{Enumerator}
 use Rattle.sc_tree.specs.declared.expression.Derivation.{Derivation}
 use Rattle.sc_tree.specs.declared.expression.Parameter.{Parameter}
+use Rattle.sc_symbol.specs.declared.kind.Mark.{Mark}
 use Rattle.sc_symbol.specs.declared.kind.Mark.TheVariants as mark
 use Rattle.sc_symbol.specs.declared.kind.Symbol.{Symbol}
 use Rattle.sc_symbol.specs.declared.kind.Kind.{Kind}
@@ -71,12 +72,17 @@ grouped fs mode.Abstract l cs h = refl
 grouped fs mode.Named l cs h = absurd cc
 grouped fs mode.Either l cs h = absurd cc
 
+-- what is named already stays
+kept : (kd : Kind) (which : Mark) → mark_of kd (no.LeftOut which) ≡ no.LeftOut which
+kept (k.LeftOut other) which = refl
+kept _ which = refl
+
 marked-explains : (t : Symbol) (p : Place) (d : List Symbol) (kd : Kind) (e : Trouble) → t.kind ≡ kd → Tells t p d (Err e) → Explains t p d (mark_of kd e)
 marked-explains t p d (k.LeftOut which) no.Syntax i h = inl i
 marked-explains t p d _ no.Syntax i h = tt
-marked-explains t p d _ (no.LeftOut mark.BitField) i h = inr h
-marked-explains t p d _ (no.LeftOut mark.OldStyle) i h = inr h
-marked-explains t p d _ (no.LeftOut mark.ImplicitInt) i h = inr h
+marked-explains t p d kd (no.LeftOut mark.BitField) i h = rw (kept kd mark.BitField) (inr h)
+marked-explains t p d kd (no.LeftOut mark.OldStyle) i h = rw (kept kd mark.OldStyle) (inr h)
+marked-explains t p d kd (no.LeftOut mark.ImplicitInt) i h = rw (kept kd mark.ImplicitInt) (inr h)
 marked-explains t p d _ (no.LeftOut which) i h = absurd h
 marked-explains t p d _ (no.Limit which) i h = h
 marked-explains t p d _ no.NoMemory i h = absurd h
