@@ -36,11 +36,11 @@ Why names ts no.NoMemory l = ⊥
 
 pub run-snoc : (ts : List Symbol) (t : Symbol) (c e : Config) → run c ts ≡ Ok e → run c (ts ++ t ∷ []) ≡ on_ok (λ d. Ok d) (step t e)
 run-snoc [] t c e h = ap (λ (r : Result Config Trouble). on_ok (λ z. on_ok (λ d. Ok d) (step t z)) r) h
-run-snoc (u ∷ us) t c e h = go (step u c) h
+run-snoc (u ∷ us) t c e h = go (λ d q. run-snoc us t d e q) (step u c) h
   where
-    go : (r : Result Config Trouble) → on_ok (λ d. run d us) r ≡ Ok e → on_ok (λ d. run d (us ++ t ∷ [])) r ≡ on_ok (λ d. Ok d) (step t e)
-    go (Ok d) h = run-snoc us t d e h
-    go (Err o) h = absurd cc
+    go : ((d : Config) → run d us ≡ Ok e → run d (us ++ t ∷ []) ≡ on_ok (λ d. Ok d) (step t e)) → (r : Result Config Trouble) → on_ok (λ d. run d us) r ≡ Ok e → on_ok (λ d. run d (us ++ t ∷ [])) r ≡ on_ok (λ d. Ok d) (step t e)
+    go rest (Ok d) h = rest d h
+    go rest (Err o) h = absurd cc
 
 one_more : (ts : List Symbol) (t : Symbol) (c e d : Config) → run c ts ≡ Ok e → step t e ≡ Ok d → run c (ts ++ t ∷ []) ≡ Ok d
 one_more ts t c e d h q = run-snoc ts t c e h ∙ ap (λ (r : Result Config Trouble). on_ok (λ d. Ok d) r) q
@@ -49,8 +49,11 @@ pub opened-snoc : (n : ℕ) (ts : List Symbol) (t : Symbol) → opened n (ts ++ 
 opened-snoc n [] t = refl
 opened-snoc n (u ∷ us) t = opened-snoc (opens_with n u.kind) us t
 
+err-same : {u v : Refused} → ◌≡◌ {A = Result Found Refused} (Err u) (Err v) → u ≡ v
+err-same h = cc
+
 err_trouble : {e o : Trouble} {m n : ℕ} → ◌≡◌ {A = Result Found Refused} (Err (refused e m)) (Err (refused o n)) → (e ≡ o) × (m ≡ n)
-err_trouble h = (cc, cc)
+err_trouble h = (ap (λ (r : Refused). r.trouble) (err-same h), ap (λ (r : Refused). r.line) (err-same h))
 
 -- the end shows no mark
 no_mark : (which : Mark) (p : Place) → Shows which k.End p → ⊥

@@ -77,6 +77,10 @@ kept : (kd : Kind) (which : Mark) → mark_of kd (no.LeftOut which) ≡ no.LeftO
 kept (k.LeftOut other) which = refl
 kept _ which = refl
 
+kept_limit : (kd : Kind) (which : Limit) → mark_of kd (no.Limit which) ≡ no.Limit which
+kept_limit (k.LeftOut other) which = refl
+kept_limit _ which = refl
+
 marked-explains : (t : Symbol) (p : Place) (d : List Symbol) (kd : Kind) (e : Trouble) → t.kind ≡ kd → Tells t p d (Err e) → Explains t p d (mark_of kd e)
 marked-explains t p d (k.LeftOut which) no.Syntax i h = inl i
 marked-explains t p d _ no.Syntax i h = tt
@@ -84,7 +88,7 @@ marked-explains t p d kd (no.LeftOut mark.BitField) i h = rw (kept kd mark.BitFi
 marked-explains t p d kd (no.LeftOut mark.OldStyle) i h = rw (kept kd mark.OldStyle) (inr h)
 marked-explains t p d kd (no.LeftOut mark.ImplicitInt) i h = rw (kept kd mark.ImplicitInt) (inr h)
 marked-explains t p d _ (no.LeftOut which) i h = absurd h
-marked-explains t p d _ (no.Limit which) i h = h
+marked-explains t p d kd (no.Limit which) i h = rw (kept_limit kd which) h
 marked-explains t p d _ no.NoMemory i h = absurd h
 
 parameter_tokens : {e c : Names} {ts : List Symbol} {v : Specifiers TypeWord} {x : Option Whole} → Typed true mode.Either e c ts v x → ParameterTokens true e (declare_in x c) ts (parameter_of v (declarator_in x))
