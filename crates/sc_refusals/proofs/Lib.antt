@@ -2,3 +2,5 @@ pub mod Marks
 pub mod Operands
 pub mod Places
 pub mod Expressions
+pub mod Units
+pub mod Answers
