@@ -56,7 +56,7 @@ err_trouble : {e o : Trouble} {m n : ℕ} → ◌≡◌ {A = Result Found Refuse
 err_trouble h = (ap (λ (r : Refused). r.trouble) (err-same h), ap (λ (r : Refused). r.line) (err-same h))
 
 -- the end shows no mark
-no_mark : (which : Mark) (p : Place) → Shows which k.End p → ⊥
+pub no_mark : (which : Mark) (p : Place) → Shows which k.End p → ⊥
 no_mark which p (inl h) = cc
 no_mark mark.BitField p (inr h) = let i = h.0 in cc
 no_mark mark.OldStyle p (inr h) = let i = h.0 in cc

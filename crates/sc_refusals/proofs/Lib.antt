@@ -3,4 +3,5 @@ pub mod Operands
 pub mod Places
 pub mod Expressions
 pub mod Units
-pub mod Answers
+pub mod Points
+pub mod Whole

@@ -23,6 +23,7 @@ use Rattle.sc_phrase.specs.declared.frame.Frame.TheVariants as f
 use Rattle.sc_phrase.specs.declared.frame.State.TheVariants as e
 use Rattle.sc_phrase.specs.declared.trouble.Trouble.{Trouble}
 use Rattle.sc_phrase.specs.declared.trouble.Trouble.TheVariants as trouble
+use Rattle.sc_phrase.specs.Types.{declarator_of}
 use Rattle.sc_phrase.specs.Machine.{Config, step}
 use Rattle.sc_unit.specs.declared.around.Head.{Head}
 use Rattle.sc_unit.specs.declared.around.Head.TheVariants as h
@@ -120,7 +121,7 @@ module _ (W : Trouble → Type 0) (N : Type 0) where
   declared_by-heard : (t : Symbol) (c : Names) (fs : List Around) (v : Specifiers TypeWord) (ds : List InitDeclarator) (x : Whole) (kd : Kind) → Heard (declared_by t c fs v ds x kd)
   declared_by-heard t c fs v ds x (k.Assign None) = tt
   declared_by-heard t c fs v ds x k.LeftBrace = body-heard t.line c fs v ds x
-  declared_by-heard t c fs v ds x kd = declarator_joins-heard c kd fs v ds _
+  declared_by-heard t c fs v ds x kd = declarator_joins-heard c kd fs v ds (init_declarator x.line (declarator_of x.line x.direct) None)
 
   declared-heard : (t : Symbol) (c : Names) (fs : List Around) (x : Whole) → Heard (declared t c fs x)
   declared-heard t c (a.Declaration v ds ∷ fs) x = declared_by-heard t (declare_as v.storage x.direct.identifier c) fs v ds x t.kind

@@ -21,7 +21,7 @@ use Rattle.sc_unit.specs.declared.around.Stage.TheVariants as at
 use Rattle.sc_unit.specs.Grammar.{IsUnit}
 use Rattle.sc_unit.specs.Machine.{Point, settle, is_else}
 use Rattle.sc_unit.specs.Machine as outer
-use Rattle.sc_unit.specs.Parse.{answer, word_of}
+use Rattle.sc_unit.specs.Parse.{answer, end_at, word_of}
 use Rattle.sc_unit.specs.Claims.{AreWithin, NoneBegins, last_line}
 use Rattle.sc_refusals.specs.Marks.{Shows}
 use Rattle.sc_refusals.specs.Limits.{Passes}
@@ -111,6 +111,13 @@ pub record TooDeep (tokens : List Symbol) (l : ℕ) : Type 0 where
   pub reads : outer.run outer.start before ≡ Ok p
   pub nested : IsNested t p
 
+-- The machine of units reads all of the tokens, and stands too deep behind them.
+pub record EndsTooDeep (tokens : List Symbol) (l : ℕ) : Type 0 where
+  pub p : Point
+  pub line : last_line 1 tokens ≡ l
+  pub reads : outer.run outer.start tokens ≡ Ok p
+  pub nested : IsNested (end_at l) p
+
 -- Tokens at the front pass the limit, and the last of them is on this line.
 pub record BeyondAt (tokens : List Symbol) (which : Limit) (l : ℕ) : Type 0 where
   pub before : List Symbol
@@ -127,6 +134,7 @@ pub data UnitLimit (tokens : List Symbol) : List ℕ → ℕ → Type 0 where
   in_tree : {which : Limit} {l : ℕ} → BeyondAt tokens which l → UnitLimit tokens (limit_word which) l
   in_brackets : {l : ℕ} → TooManyBrackets tokens l → UnitLimit tokens (codes "height") l
   in_blocks : {l : ℕ} → TooDeep tokens l → UnitLimit tokens (codes "height") l
+  behind_all : {l : ℕ} → EndsTooDeep tokens l → UnitLimit tokens (codes "height") l
 
 -- X9 is the answer only where that mark stands on the line.
 abbrev pub NamesUnitMark : Type 0

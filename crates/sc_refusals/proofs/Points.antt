@@ -1,10 +1,6 @@
--- Why tokens are no unit, or one beyond the limits.
-use Rattle.std.proofs.Common.{◌≡◌, ℕ, ◌≤◌, ◌<◌, Bool, true, false, List, [], ◌∷◌, ◌++◌, length, Option, Some, None, Ok, Err, refl, sym, ◌∙◌, ap, subst, arith, append_assoc, append-nil, ◌⊎◌, inl, inr}
-use Rattle.std.specs.Prelude.{nat_lt, if◌then◌else◌, Result, codes}
-use Rattle.std.proofs.lemmas.Bool.{ltb-true, ltb-false}
-use Rattle.sc_base.specs.declared.refusal.X.{X}
-use Rattle.sc_base.specs.declared.refusal.X.TheVariants as x
-use Rattle.sc_tree.specs.declared.statement.External.{External}
+-- What a step of the machine of units refuses.
+use Rattle.std.proofs.Common.{◌≡◌, ℕ, ◌≤◌, List, [], ◌∷◌, ◌++◌, Ok, Err, refl, sym, ◌∙◌, ap, arith, append_assoc, append-nil, inl, inr}
+use Rattle.std.specs.Prelude.{Result}
 use Rattle.sc_symbol.specs.declared.kind.Mark.{Mark}
 use Rattle.sc_symbol.specs.declared.kind.Mark.TheVariants as mark
 use Rattle.sc_symbol.specs.declared.kind.Symbol.{Symbol}
@@ -12,7 +8,6 @@ use Rattle.sc_symbol.specs.declared.kind.Kind.{Kind}
 use Rattle.sc_symbol.specs.declared.kind.Kind.TheVariants as k
 use Rattle.sc_symbol.specs.Names.{Names}
 use Rattle.sc_phrase.specs.declared.operand.Mode.TheVariants as mode
-use Rattle.sc_phrase.specs.declared.frame.Frame.{Frame}
 use Rattle.sc_phrase.specs.declared.frame.Frame.TheVariants as f
 use Rattle.sc_phrase.specs.declared.frame.State.TheVariants as e
 use Rattle.sc_phrase.specs.declared.trouble.Trouble.{Trouble}
@@ -20,33 +15,19 @@ use Rattle.sc_phrase.specs.declared.trouble.Trouble.TheVariants as trouble
 use Rattle.sc_phrase.specs.declared.trouble.Limit.{Limit}
 use Rattle.sc_phrase.specs.declared.trouble.Limit.TheVariants as limit
 use Rattle.sc_phrase.specs.Machine.{Config, Place, step}
-use Rattle.sc_parse_expr.specs.Brackets.{opens_with}
 use Rattle.sc_unit.specs.declared.around.Around.{Around}
 use Rattle.sc_unit.specs.declared.around.Around.TheVariants as a
-use Rattle.sc_unit.specs.declared.around.Stage.{Stage}
 use Rattle.sc_unit.specs.declared.around.Stage.TheVariants as at
 use Rattle.sc_unit.specs.declared.obstacle.Obstacle.{Obstacle}
 use Rattle.sc_unit.specs.declared.obstacle.Obstacle.TheVariants as no
-use Rattle.sc_unit.specs.Grammar as g
-use Rattle.sc_unit.specs.Grammar.{IsUnit}
-use Rattle.sc_unit.specs.Machine.{Point, Move, needs, place, mark_of, marked, advance, on_ok, run, start}
-use Rattle.sc_unit.specs.Parse.{Answer, word_of, refusal, next, end_at, ended, answer}
-use Rattle.sc_unit.specs.Claims.{AreWithin, NoneBegins, Fails, at_token as fails_at, at_end as fails_late, last_line}
-use Rattle.sc_unit.proofs.Runs.{Leads, same, passed, Limited}
-use Rattle.sc_unit.proofs.Units.{reads_all}
-use Rattle.sc_unit.proofs.Inside as n
-use Rattle.sc_unit.proofs.Inside.{Valid, Fine}
-use Rattle.sc_unit.proofs.Closing.{advance-fine}
-use Rattle.sc_unit.proofs.Answers.{fails}
-use Rattle.sc_unit.proofs.Taken.{taken}
+use Rattle.sc_unit.specs.Machine.{Point, Move, needs, place, mark_of, marked, advance}
+use Rattle.sc_unit.proofs.Inside.{Valid}
 use Rattle.sc_sound.proofs.Open as w
-use Rattle.sc_sound.proofs.Open.{Valid as Inner}
-use Rattle.sc_refusals.specs.Marks.{InContext, Shows}
+use Rattle.sc_refusals.specs.Marks.{Shows}
 use Rattle.sc_refusals.specs.Limits.{TooHigh, TooManyArguments, TooManyParameters, Passes}
 use Rattle.sc_refusals.specs.Refusals.{Explains, Explained}
-use Rattle.sc_refusals.specs.Claims.{opened, TooManyBrackets, place_in, around_of, IsNested, UnitMark, TooDeep, BeyondAt, UnitLimit, in_tree, in_brackets, in_blocks, limit_word}
+use Rattle.sc_refusals.specs.Claims.{place_in, IsNested}
 use Rattle.sc_refusals.proofs.Places.{step-explained}
-use Rattle.sc_refusals.proofs.Expressions.{opened-snoc}
 use Rattle.sc_refusals.proofs.Units.{Answered, Heard, semicolon-heard, colon-heard, initial_ends-heard, in_expression-heard, in_declarator-heard, in_specifiers-heard, due-heard, initial-heard, got-heard, left_paren-heard, expression_due-heard}
 
 -- Tokens that pass a limit pass it behind others too.
@@ -167,11 +148,11 @@ place-heard (c, (fs, at.Got x)) t d v = let q : Place = (f.Outer ∷ [], e.Due) 
 place-heard (c, (fs, at.Over)) t d v = tt
 
 -- why the token is not taken
-abbrev Told : Symbol → Point → List Symbol → Obstacle → Type 0
+abbrev pub Told : Symbol → Point → List Symbol → Obstacle → Type 0
 Told t p d (no.Inner o) = Explains t (place_in p.1.1) d o
 Told t p d no.Nesting = IsNested t p
 
-abbrev Tells : Symbol → Point → List Symbol → Move → Type 0
+abbrev pub Tells : Symbol → Point → List Symbol → Move → Type 0
 Tells t p d (Ok q) = Unit {0}
 Tells t p d (Err o) = Told t p d o
 
@@ -190,7 +171,7 @@ marked-told t p d (k.LeftOut other) (no.Inner trouble.NoMemory) i h = h
 marked-told t p d (k.LeftOut other) no.Nesting i h = h
 marked-told t p d _ o i h = h
 
-advance-told : (p : Point) (t : Symbol) (d : List Symbol) → Valid p d → Tells t p d (advance t p)
+pub advance-told : (p : Point) (t : Symbol) (d : List Symbol) → Valid p d → Tells t p d (advance t p)
 advance-told p t d v = go (place t p) (place-heard p t d v)
   where
     go : (m : Move) → Hears t p d m → Tells t p d (marked t.kind m)
