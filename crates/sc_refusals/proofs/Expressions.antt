@@ -1,5 +1,5 @@
 -- Why no expression is read.
-use Rattle.std.proofs.Common.{◌≡◌, ℕ, ◌+◌, ◌<◌, Bool, true, false, List, [], ◌∷◌, ◌++◌, Option, Some, None, Ok, Err, refl, sym, ◌∙◌, ap, subst, arith, append_assoc, append-nil, ◌⊎◌, inl, inr}
+use Rattle.std.proofs.Common.{◌≡◌, ℕ, ◌+◌, ◌<◌, Bool, true, false, List, [], ◌∷◌, ◌++◌, Option, Some, None, Ok, Err, refl, sym, ◌∙◌, ap, subst, arith, append_assoc, append-nil, inl, inr}
 use Rattle.std.specs.Prelude.{nat_lt, if◌then◌else◌, Result}
 use Rattle.std.proofs.lemmas.Bool.{ltb-true}
 use Rattle.sc_symbol.specs.declared.kind.Mark.{Mark}
@@ -24,7 +24,7 @@ use Rattle.sc_sound.proofs.Bodies.{Fine}
 use Rattle.sc_sound.proofs.Sound.{step-good}
 use Rattle.sc_refusals.specs.Marks.{Shows}
 use Rattle.sc_refusals.specs.Refusals.{Explains, Explained}
-use Rattle.sc_refusals.specs.Claims.{opened, TooManyBrackets, MarkIn, Beyond, LimitIn, in_tree, in_brackets}
+use Rattle.sc_refusals.specs.Claims.{opened, MarkIn, LimitIn, in_tree, in_brackets}
 use Rattle.sc_refusals.proofs.Places.{step-explained}
 
 -- why these tokens are refused so

@@ -1,6 +1,6 @@
 -- What each function of the machine refuses, and with which trouble.
-use Rattle.std.proofs.Common.{◌≡◌, ℕ, Bool, true, false, List, [], ◌∷◌, ◌++◌, length, Option, Some, None, Ok, Err, refl}
-use Rattle.std.specs.Prelude.{◌&&◌, nat_lt, nat_le, if◌then◌else◌}
+use Rattle.std.proofs.Common.{◌≡◌, ℕ, Bool, true, false, List, [], ◌∷◌, ◌++◌, Option, Some, None, Ok, Err, refl}
+use Rattle.std.specs.Prelude.{◌&&◌, nat_le}
 use Rattle.sc_tree.specs.declared.expression.Identifier.{Identifier}
 use Rattle.sc_tree.specs.declared.expression.Storage.{Storage}
 use Rattle.sc_tree.specs.declared.expression.TypeWord.{TypeWord}
@@ -17,11 +17,10 @@ use Rattle.sc_phrase.specs.declared.operand.Mode.{Mode}
 use Rattle.sc_phrase.specs.declared.operand.Mode.TheVariants as mode
 use Rattle.sc_phrase.specs.declared.frame.Frame.{Frame}
 use Rattle.sc_phrase.specs.declared.frame.Frame.TheVariants as f
-use Rattle.sc_phrase.specs.declared.frame.State.TheVariants as s
 use Rattle.sc_phrase.specs.declared.trouble.Trouble.TheVariants as no
 use Rattle.sc_phrase.specs.declared.trouble.Limit.{Limit}
 use Rattle.sc_phrase.specs.Kinds.{word_of, begins_type, begins_parameters}
-use Rattle.sc_phrase.specs.Types.{is_empty, has_words, no_words, with_word, no_direct, with_step, pointed, whole}
+use Rattle.sc_phrase.specs.Types.{is_empty, has_words, no_words, with_word, no_direct, pointed, whole}
 use Rattle.sc_phrase.specs.Grammar.{is_abstract}
 use Rattle.sc_phrase.specs.Machine.{Outcome, needs, finish, member, outer, declared, ungroup, level_ends, direct_ends, suffixes, bare_stars, bare, unnamed_member, without_name, direct, begin, stars, outer_specified, inner_specified, specified, goes_on, plain_name, nothing_yet, wordless, worded, at_word, at_storage, at_name, words, due, void, structure, tagged_structure, enumeration, tagged_enumeration, items, item, group_name, in_group, group, opens_parameters}
 use Rattle.sc_sound.proofs.Settling.{either}

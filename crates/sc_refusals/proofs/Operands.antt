@@ -1,5 +1,5 @@
 -- What the functions that read operands refuse.
-use Rattle.std.proofs.Common.{◌≡◌, ℕ, Bool, true, false, List, [], ◌∷◌, ◌++◌, length, Option, Some, None, Ok, refl}
+use Rattle.std.proofs.Common.{◌≡◌, ℕ, Bool, true, false, List, [], ◌∷◌, length, Option, Some, None, Ok, refl}
 use Rattle.std.specs.Prelude.{nat_lt, nat_le, if◌then◌else◌}
 use Rattle.sc_tree.specs.declared.operator.Unary.{Unary}
 use Rattle.sc_tree.specs.declared.operator.Postfix.{Postfix}
@@ -17,8 +17,7 @@ use Rattle.sc_phrase.specs.declared.frame.State.TheVariants as s
 use Rattle.sc_phrase.specs.declared.trouble.Limit.{Limit}
 use Rattle.sc_phrase.specs.declared.trouble.Limit.TheVariants as limit
 use Rattle.sc_phrase.specs.Kinds.{unary_of, postfix_of, binary_of, power_of, begins_type}
-use Rattle.sc_phrase.specs.Nodes.{text_node}
-use Rattle.sc_phrase.specs.Machine.{Outcome, stuck, needs, settle, fits, few, act, at_assign, at_question, close_then, at_comma, separate, close_paren, close_bracket, close_brace, close_all, at_operator, tight, settled, have, behind, at_postfix, empty_call, at_unary, need, offset_type, needed, opened, sized, sized_opened, texts, dotted, arrowed, offset_comma, offset_name, bracket}
+use Rattle.sc_phrase.specs.Machine.{Outcome, stuck, needs, settle, fits, few, act, at_assign, at_question, close_then, at_comma, separate, close_paren, close_bracket, close_brace, close_all, at_operator, tight, settled, have, behind, at_postfix, empty_call, at_unary, need, offset_type, needed, opened, sized, sized_opened, dotted, arrowed, offset_comma, offset_name, bracket}
 use Rattle.sc_sound.proofs.Settling.{either}
 use Rattle.sc_refusals.proofs.Marks.{Told, type-told}
 

@@ -1,6 +1,6 @@
 -- What a step of the machine of expressions refuses.
-use Rattle.std.proofs.Common.{◌≡◌, ℕ, ◌≤◌, Bool, true, false, not, List, [], ◌∷◌, ◌++◌, length, Option, Some, None, Ok, Err, refl, sym, ◌∙◌, ap, subst, arith, append_assoc, ◌⊎◌, inl, inr}
-use Rattle.std.specs.Prelude.{nat_lt, Result}
+use Rattle.std.proofs.Common.{◌≡◌, ℕ, ◌≤◌, Bool, true, false, not, List, [], ◌∷◌, ◌++◌, length, Option, Ok, Err, refl, ◌∙◌, ap, subst, arith, append_assoc, inl, inr}
+use Rattle.std.specs.Prelude.{nat_lt}
 use Rattle.std.proofs.lemmas.Bool.{ltb-true, ltb-false}
 use Rattle.sc_tree.specs.declared.expression.Expr.{Expr}
 use Rattle.sc_tree.specs.declared.expression.TypeWord.{TypeWord}
@@ -13,7 +13,7 @@ use Rattle.sc_symbol.specs.declared.kind.Mark.TheVariants as mark
 use Rattle.sc_symbol.specs.declared.kind.Symbol.{Symbol}
 use Rattle.sc_symbol.specs.declared.kind.Kind.{Kind}
 use Rattle.sc_symbol.specs.declared.kind.Kind.TheVariants as k
-use Rattle.sc_symbol.specs.Names.{Names, is_typed, enter}
+use Rattle.sc_symbol.specs.Names.{Names, is_typed}
 use Rattle.sc_phrase.specs.declared.operand.Operand.{Operand}
 use Rattle.sc_phrase.specs.declared.operand.Direct.{Direct}
 use Rattle.sc_phrase.specs.declared.operand.Whole.{Whole}
@@ -31,7 +31,7 @@ use Rattle.sc_phrase.specs.Nodes.{text_node}
 use Rattle.sc_phrase.specs.Types.{parameter_of, declarator_in, declare_in}
 use Rattle.sc_phrase.specs.Grammar as g
 use Rattle.sc_phrase.specs.Grammar.{Phrase, ParameterTokens}
-use Rattle.sc_phrase.specs.Machine.{Config, Place, Outcome, settle, have, texts, place, entered, enters, effect, mark_of, marked, on_ok, step, group_name, item_behind, under, item_ends, parameter_behind, parameter_ends, all_parameters_end}
+use Rattle.sc_phrase.specs.Machine.{Config, Place, Outcome, settle, have, texts, place, entered, enters, effect, mark_of, marked, on_ok, step, group_name, item_ends, parameter_behind, all_parameters_end}
 use Rattle.sc_sound.proofs.Levels.{level-positive, not_between}
 use Rattle.sc_sound.proofs.Open as w
 use Rattle.sc_sound.proofs.Open.{Open, Valid, Good, Holds, Typed, ParameterRead}

@@ -1,6 +1,6 @@
 -- What each function of the machine of units refuses.
-use Rattle.std.proofs.Common.{◌≡◌, ℕ, ◌≤◌, Bool, true, false, List, [], ◌∷◌, ◌++◌, length, Option, Some, None, Ok, Err, refl, arith}
-use Rattle.std.specs.Prelude.{◌&&◌, nat_lt, if◌then◌else◌, Result}
+use Rattle.std.proofs.Common.{◌≡◌, ℕ, ◌≤◌, List, [], ◌∷◌, ◌++◌, length, Option, Some, None, Ok, Err, refl}
+use Rattle.std.specs.Prelude.{◌&&◌, nat_lt, Result}
 use Rattle.std.proofs.lemmas.Bool.{ltb-false}
 use Rattle.sc_tree.specs.declared.expression.Expr.{Expr}
 use Rattle.sc_tree.specs.declared.expression.TypeWord.{TypeWord}
@@ -31,7 +31,7 @@ use Rattle.sc_unit.specs.declared.around.Around.{Around}
 use Rattle.sc_unit.specs.declared.around.Around.TheVariants as a
 use Rattle.sc_unit.specs.declared.obstacle.Obstacle.TheVariants as no
 use Rattle.sc_unit.specs.Trees.{declare_as, init_declarator, declaration_of, with_statement}
-use Rattle.sc_unit.specs.Machine.{Move, at_semicolon, at_paren, at_colon, declares, declarator_joins, declarator_ends, initial_joins, initial_ends, part_ends, whole_ends, is_optional, expression_ends, in_expression, begin, list_ends, initial, body, declared_by, declared, in_declarator, specified, in_specifiers, specifiers, begins_declaration, function_ends, block_ends, block_begins, statement, statement_due, external_due, is_early, item_due, is_outside, due, other_begins, until, behind, settle, is_else, got, left_paren, needs, ends_part, expression_due}
+use Rattle.sc_unit.specs.Machine.{Move, at_semicolon, at_paren, at_colon, declares, declarator_joins, declarator_ends, initial_joins, initial_ends, part_ends, whole_ends, is_optional, expression_ends, in_expression, list_ends, initial, body, declared_by, declared, in_declarator, specified, in_specifiers, specifiers, begins_declaration, function_ends, block_ends, block_begins, statement, statement_due, external_due, is_early, is_outside, due, other_begins, until, behind, settle, is_else, got, left_paren, needs, ends_part, expression_due}
 use Rattle.sc_unit.proofs.Keeping.{either}
 
 -- what is known of the answer of the machine of expressions
