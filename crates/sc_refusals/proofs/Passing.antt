@@ -1,5 +1,5 @@
 -- No token that is left out is taken.
-use Rattle.std.proofs.Common.{◌≡◌, ℕ, Bool, true, false, List, [], ◌∷◌, Option, Some, None, Ok, Err, refl}
+use Rattle.std.proofs.Common.{◌≡◌, ℕ, Bool, true, false, List, [], ◌∷◌, Option, Some, None, Ok, Err, sym, subst}
 use Rattle.std.specs.Prelude.{nat_lt, if◌then◌else◌, Result}
 use Rattle.sc_tree.specs.declared.expression.Storage.{Storage}
 use Rattle.sc_tree.specs.declared.expression.TypeWord.{TypeWord}
@@ -20,7 +20,7 @@ use Rattle.sc_phrase.specs.declared.frame.State.{State}
 use Rattle.sc_phrase.specs.declared.frame.State.TheVariants as s
 use Rattle.sc_phrase.specs.declared.trouble.Trouble.{Trouble}
 use Rattle.sc_phrase.specs.Nodes.{text_node}
-use Rattle.sc_phrase.specs.Types.{no_words, with_word, no_direct, pointed, whole}
+use Rattle.sc_phrase.specs.Types.{has_words, no_words, with_word, no_direct, pointed, whole}
 use Rattle.sc_phrase.specs.Machine.{Config, Outcome, settle, finish, declared, level_ends, direct_ends, suffixes, bare_stars, bare, without_name, direct, begin, stars, inner_specified, specified, wordless, worded, words, due, void, tagged_structure, tagged_enumeration, items, act, fits, settled, have, needed, opened, sized_opened, group, place, entered, enters, effect, marked, on_ok, step}
 use Rattle.sc_sound.proofs.Settling.{either}
 
@@ -73,7 +73,7 @@ module _ (w : Mark) where
   wordless-stops fs v (Some class) = tt
 
   worded-stops : (t : Symbol) (fs : List Frame) (v : Specifiers TypeWord) → t.kind ≡ k.LeftOut w → Halts (worded t fs v)
-  worded-stops t fs v i = either Halts _ _ _ (λ _. specified-stops t fs v i) (λ _. rw i (wordless-stops fs v v.storage))
+  worded-stops t fs v i = either Halts (has_words v.words) _ _ (λ _. specified-stops t fs v i) (λ _. subst (λ kd. Halts (wordless kd fs v v.storage)) (sym i) (wordless-stops fs v v.storage))
 
   words-stops : (typed : Bool) (t : Symbol) (fs : List Frame) (v : Specifiers TypeWord) → t.kind ≡ k.LeftOut w → Halts (words typed t fs v (k.LeftOut w))
   words-stops typed t fs v i = worded-stops t fs v i
@@ -106,28 +106,13 @@ module _ (w : Mark) where
   place-stops typed t fs (s.Arrow x) i = rw i tt
   place-stops typed t fs (s.OffsetComma l type) i = rw i tt
   place-stops typed t fs (s.OffsetName l type text) i = rw i tt
-  place-stops typed t fs s.Due i = at_due (due-stops typed t fs i)
-    where
-      at_due : Halts (due typed t fs (k.LeftOut w)) → Halts (due typed t fs t.kind)
-      at_due h = rw i h
-  place-stops typed t fs (s.Words v) i = at_words (words-stops typed t fs v i)
-    where
-      at_words : Halts (words typed t fs v (k.LeftOut w)) → Halts (words typed t fs v t.kind)
-      at_words h = rw i h
-  place-stops typed t fs (s.Void l) i = at_void (words-stops typed t fs (with_word (no_words l) word.Void) i)
-    where
-      at_void : Halts (void typed t fs l (k.LeftOut w)) → Halts (void typed t fs l t.kind)
-      at_void h = rw i h
+  place-stops typed t fs s.Due i = subst (λ kd. Halts (due typed t fs kd)) (sym i) (due-stops typed t fs i)
+  place-stops typed t fs (s.Words v) i = subst (λ kd. Halts (words typed t fs v kd)) (sym i) (words-stops typed t fs v i)
+  place-stops typed t fs (s.Void l) i = subst (λ kd. Halts (void typed t fs l kd)) (sym i) (words-stops typed t fs (with_word (no_words l) word.Void) i)
   place-stops typed t fs (s.Struct v l) i = rw i tt
-  place-stops typed t fs (s.StructTag v l tag) i = at_tag (words-stops typed t fs (with_word v (word.StructTag l tag)) i)
-    where
-      at_tag : Halts (tagged_structure typed t fs v l tag (k.LeftOut w)) → Halts (tagged_structure typed t fs v l tag t.kind)
-      at_tag h = rw i h
+  place-stops typed t fs (s.StructTag v l tag) i = subst (λ kd. Halts (tagged_structure typed t fs v l tag kd)) (sym i) (words-stops typed t fs (with_word v (word.StructTag l tag)) i)
   place-stops typed t fs (s.Enum v l) i = rw i tt
-  place-stops typed t fs (s.EnumTag v l tag) i = at_tag (words-stops typed t fs (with_word v (word.EnumTag l tag)) i)
-    where
-      at_tag : Halts (tagged_enumeration typed t fs v l tag (k.LeftOut w)) → Halts (tagged_enumeration typed t fs v l tag t.kind)
-      at_tag h = rw i h
+  place-stops typed t fs (s.EnumTag v l tag) i = subst (λ kd. Halts (tagged_enumeration typed t fs v l tag kd)) (sym i) (words-stops typed t fs (with_word v (word.EnumTag l tag)) i)
   place-stops typed t fs s.Items i = rw i (items-stops t fs)
   place-stops typed t fs (s.Item name) i = rw i tt
   place-stops typed t fs (s.Begin m) i = rw i (begin-stops t fs m)

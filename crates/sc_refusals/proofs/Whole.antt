@@ -28,13 +28,15 @@ use Rattle.sc_unit.proofs.Inside.{Valid, Fine}
 use Rattle.sc_unit.proofs.Closing.{advance-fine}
 use Rattle.sc_unit.proofs.Answers.{fails}
 use Rattle.sc_unit.proofs.Taken.{taken}
-use Rattle.sc_refusals.specs.Claims.{opened, UnitMark, UnitLimit, in_tree, in_brackets, in_blocks, behind_all}
+use Rattle.sc_refusals.specs.Claims as c
+use Rattle.sc_refusals.specs.Claims.{opened, Faulty, UnitMark, UnitLimit, in_tree, in_brackets, in_blocks, too_deep}
 use Rattle.sc_refusals.proofs.Expressions.{no_mark, opened-snoc}
+use Rattle.sc_refusals.proofs.Clear.{kept_so_far}
 use Rattle.sc_refusals.proofs.Points.{Told, Tells, advance-told}
 
 -- why the answer is this refusal
 abbrev Why : List Symbol → X × ℕ → Type 0
-Why ts (x.X5, l) = Unit {0}
+Why ts (x.X5, l) = Faulty ts l
 Why ts (x.X9 word, l) = UnitMark ts word l
 Why ts (x.X10 word, l) = UnitLimit ts word l
 Why ts _ = ⊥
@@ -78,31 +80,31 @@ last-snoc l [] t = refl
 last-snoc l (u ∷ us) t = last-snoc u.line us t
 
 at_token : (pre : List Symbol) (t : Symbol) (ts : List Symbol) (p : Point) (last : ℕ) (o : Obstacle) → run start pre ≡ Ok p → advance t p ≡ Err o → Told t p pre o → last_line 1 pre ≡ last → Why (pre ++ t ∷ ts) (refusal o last t.line)
-at_token pre t ts p last (no.Inner trouble.Syntax) r i h z = tt
+at_token pre t ts p last (no.Inner trouble.Syntax) r i h z = c.at_token pre t ts refl refl (kept_so_far pre start p r)
 at_token pre t ts p last (no.Inner (trouble.LeftOut which)) r i h z =
-    record { before = pre; t = t; us = ts; which = which; p = p; all = refl; line = refl; named = refl; reads = r; shows = h; none = none_begins (pre ++ t ∷ []) which (then_is pre t p (Err (no.Inner (trouble.LeftOut which))) r i) }
+    record { before = pre; t = t; us = ts; which = which; p = p; all = refl; line = refl; named = refl; reads = r; shows = h; none = none_begins (pre ++ t ∷ []) which (then_is pre t p (Err (no.Inner (trouble.LeftOut which))) r i); kept = kept_so_far pre start p r }
 at_token pre t ts p last (no.Inner (trouble.Limit limit.Height)) r i h z = in_tree {which = limit.Height} (record { before = pre; us = t ∷ ts; all = refl; line = z; passes = h })
 at_token pre t ts p last (no.Inner (trouble.Limit limit.Arguments)) r i h z = in_tree {which = limit.Arguments} (record { before = pre; us = t ∷ ts; all = refl; line = z; passes = h })
-at_token pre t ts p last (no.Inner trouble.NoMemory) r i h z = tt
+at_token pre t ts p last (no.Inner trouble.NoMemory) r i h z = absurd h
 at_token pre t ts p last no.Nesting r i h z = in_blocks (record { before = pre; t = t; us = ts; p = p; all = refl; line = refl; reads = r; nested = h })
 
 at_end : (pre : List Symbol) (p : Point) (last : ℕ) (o : Obstacle) → run start pre ≡ Ok p → Told (end_at last) p pre o → last_line 1 pre ≡ last → Why pre (refusal o last last)
-at_end pre p last (no.Inner trouble.Syntax) r h z = tt
+at_end pre p last (no.Inner trouble.Syntax) r h z = c.behind_all z (kept_so_far pre start p r)
 at_end pre p last (no.Inner (trouble.LeftOut which)) r h z = absurd (no_mark which _ h)
 at_end pre p last (no.Inner (trouble.Limit limit.Height)) r h z = in_tree {which = limit.Height} (record { before = pre; us = []; all = sym (append-nil pre); line = z; passes = h })
 at_end pre p last (no.Inner (trouble.Limit limit.Arguments)) r h z = in_tree {which = limit.Arguments} (record { before = pre; us = []; all = sym (append-nil pre); line = z; passes = h })
-at_end pre p last (no.Inner trouble.NoMemory) r h z = tt
-at_end pre p last no.Nesting r h z = behind_all (record { p = p; line = z; reads = r; nested = h })
+at_end pre p last (no.Inner trouble.NoMemory) r h z = absurd h
+at_end pre p last no.Nesting r h z = too_deep (record { p = p; line = z; reads = r; nested = h })
 
 err-same : {u v : X × ℕ} → ◌≡◌ {A = Answer} (Err u) (Err v) → u ≡ v
 err-same h = cc
 
-ended-why : (pre : List Symbol) (last : ℕ) (q : Point) (r : X × ℕ) → ended last q ≡ Err r → Why pre r
-ended-why pre last (c, (a.Unit items ∷ fs, at.Over)) r h = absurd cc
-ended-why pre last _ r h = subst (Why pre) (err-same h) tt
+ended-why : (pre : List Symbol) (last : ℕ) (q : Point) (r : X × ℕ) → Faulty pre last → ended last q ≡ Err r → Why pre r
+ended-why pre last (c, (a.Unit items ∷ fs, at.Over)) r z h = absurd cc
+ended-why pre last _ r z h = subst (Why pre) (err-same h) z
 
 whole_end : (pre : List Symbol) (p : Point) (last : ℕ) (r : X × ℕ) (m : Move) → run start pre ≡ Ok p → Tells (end_at last) p pre m → last_line 1 pre ≡ last → next (ended last) last last m ≡ Err r → Why pre r
-whole_end pre p last r (Ok q) i h z w = ended-why pre last q r w
+whole_end pre p last r (Ok q) i h z w = ended-why pre last q r (c.behind_all z (kept_so_far pre start p i)) w
 whole_end pre p last r (Err o) i h z w = subst (Why pre) (err-same w) (at_end pre p last o i h z)
 
 brackets : (pre : List Symbol) (t : Symbol) (ts : List Symbol) (r : X × ℕ) → 500 < opens_with (opened 0 pre) t.kind → ◌≡◌ {A = Answer} (Err (x.X10 (codes "height"), t.line)) (Err r) → Why (pre ++ t ∷ ts) r
@@ -127,6 +129,9 @@ why (t ∷ ts) pre last p r i v z h = deep
 
 whole : (ts : List Symbol) (r : X × ℕ) → answer 0 1 start ts ≡ Err r → Why ts r
 whole ts r h = why ts [] 1 start r refl (n.at_file g.no_external) refl h
+
+pub names_no_mark : (ts : List Symbol) (l : ℕ) → answer 0 1 start ts ≡ Err (x.X5, l) → Faulty ts l
+names_no_mark ts l h = whole ts (x.X5, l) h
 
 pub names_unit_mark : (ts : List Symbol) (word : List ℕ) (l : ℕ) → answer 0 1 start ts ≡ Err (x.X9 word, l) → UnitMark ts word l
 names_unit_mark ts word l h = whole ts (x.X9 word, l) h

@@ -23,7 +23,7 @@ use Rattle.sc_unit.specs.Machine.{Point, settle, is_else}
 use Rattle.sc_unit.specs.Machine as outer
 use Rattle.sc_unit.specs.Parse.{answer, end_at, word_of}
 use Rattle.sc_unit.specs.Claims.{AreWithin, NoneBegins, last_line}
-use Rattle.sc_refusals.specs.Marks.{Shows}
+use Rattle.sc_refusals.specs.Marks.{AreKept, Shows}
 use Rattle.sc_refusals.specs.Limits.{Passes}
 
 -- how many brackets are open behind the tokens, where n are before them
@@ -86,7 +86,7 @@ around_of t fs _ = fs
 abbrev pub IsNested : Symbol → Point → Type 0
 IsNested t p = ((t.kind ≡ k.LeftBrace) × (128 ≤ length p.0)) ⊎ (1502 ≤ length (around_of t p.1.0 p.1.1))
 
--- The machine of units reads the tokens up to one on this line, where this mark shows; no unit begins with the tokens through it.
+-- The machine of units reads the tokens up to one on this line, where this mark shows; none of them is left out by itself, and no unit begins with the tokens through it.
 pub record UnitMark (tokens : List Symbol) (word : List ℕ) (l : ℕ) : Type 0 where
   pub before : List Symbol
   pub t : Symbol
@@ -99,6 +99,12 @@ pub record UnitMark (tokens : List Symbol) (word : List ℕ) (l : ℕ) : Type 0 
   pub reads : outer.run outer.start before ≡ Ok p
   pub shows : Shows which t.kind (place_in p.1.1)
   pub none : NoneBegins (before ++ t ∷ [])
+  pub kept : AreKept before
+
+-- The tokens before one on this line are taken, or all, of which the last is on this line; none that was taken is left out by itself.
+pub data Faulty (tokens : List Symbol) (l : ℕ) : Type 0 where
+  at_token : (before : List Symbol) (t : Symbol) (us : List Symbol) → tokens ≡ before ++ t ∷ us → t.line ≡ l → AreKept before → Faulty tokens l
+  behind_all : last_line 1 tokens ≡ l → AreKept tokens → Faulty tokens l
 
 -- The machine of units reads the tokens up to one on this line, which stands too deep.
 pub record TooDeep (tokens : List Symbol) (l : ℕ) : Type 0 where
@@ -134,7 +140,11 @@ pub data UnitLimit (tokens : List Symbol) : List ℕ → ℕ → Type 0 where
   in_tree : {which : Limit} {l : ℕ} → BeyondAt tokens which l → UnitLimit tokens (limit_word which) l
   in_brackets : {l : ℕ} → TooManyBrackets tokens l → UnitLimit tokens (codes "height") l
   in_blocks : {l : ℕ} → TooDeep tokens l → UnitLimit tokens (codes "height") l
-  behind_all : {l : ℕ} → EndsTooDeep tokens l → UnitLimit tokens (codes "height") l
+  too_deep : {l : ℕ} → EndsTooDeep tokens l → UnitLimit tokens (codes "height") l
+
+-- X5 is the answer only where no token that is left out by itself stands before.
+abbrev pub NamesNoMark : Type 0
+NamesNoMark = (ts : List Symbol) (l : ℕ) → answer 0 1 outer.start ts ≡ Err (x.X5, l) → Faulty ts l
 
 -- X9 is the answer only where that mark stands on the line.
 abbrev pub NamesUnitMark : Type 0

@@ -2,6 +2,7 @@
 use Rattle.std.specs.Prelude.{◌≡◌, Bool, true, false, not, List, [], ◌∷◌, ◌⊎◌}
 use Rattle.sc_symbol.specs.declared.kind.Mark.{Mark}
 use Rattle.sc_symbol.specs.declared.kind.Mark.TheVariants as mark
+use Rattle.sc_symbol.specs.declared.kind.Symbol.{Symbol}
 use Rattle.sc_symbol.specs.declared.kind.Kind.{Kind}
 use Rattle.sc_symbol.specs.declared.kind.Kind.TheVariants as k
 use Rattle.sc_phrase.specs.declared.operand.Mode.TheVariants as mode
@@ -55,3 +56,8 @@ InContext which kind p = ⊥
 -- The token is left out itself, or such a mark in this place.
 abbrev pub Shows : Mark → Kind → Place → Type 0
 Shows which kind p = (kind ≡ k.LeftOut which) ⊎ InContext which kind p
+
+-- No token is left out by itself.
+abbrev pub AreKept : List Symbol → Type 0
+AreKept [] = Unit {0}
+AreKept (t ∷ ts) = ((which : Mark) → t.kind ≡ k.LeftOut which → ⊥) × AreKept ts
