@@ -1,6 +1,6 @@
 -- No token that is left out is taken.
-use Rattle.std.proofs.Common.{◌≡◌, ℕ, Bool, true, false, List, [], ◌∷◌, Option, Some, None, Ok, Err, sym, subst}
-use Rattle.std.specs.Prelude.{nat_lt, if◌then◌else◌, Result}
+use Rattle.std.proofs.Common.{◌≡◌, ℕ, Bool, List, [], ◌∷◌, Option, Some, None, Ok, Err, sym, subst}
+use Rattle.std.specs.Prelude.{nat_lt, Result}
 use Rattle.sc_tree.specs.declared.expression.Storage.{Storage}
 use Rattle.sc_tree.specs.declared.expression.TypeWord.{TypeWord}
 use Rattle.sc_tree.specs.declared.expression.TypeWord.TheVariants as word
@@ -8,7 +8,7 @@ use Rattle.sc_tree.specs.declared.expression.Specifiers.{Specifiers}
 use Rattle.sc_symbol.specs.declared.kind.Mark.{Mark}
 use Rattle.sc_symbol.specs.declared.kind.Symbol.{Symbol}
 use Rattle.sc_symbol.specs.declared.kind.Kind.TheVariants as k
-use Rattle.sc_symbol.specs.Names.{Names, is_typed}
+use Rattle.sc_symbol.specs.Names.{is_typed}
 use Rattle.sc_phrase.specs.declared.operand.Operand.{Operand}
 use Rattle.sc_phrase.specs.declared.operand.Direct.{Direct}
 use Rattle.sc_phrase.specs.declared.operand.Whole.{Whole}
@@ -18,10 +18,9 @@ use Rattle.sc_phrase.specs.declared.frame.Frame.{Frame}
 use Rattle.sc_phrase.specs.declared.frame.Frame.TheVariants as f
 use Rattle.sc_phrase.specs.declared.frame.State.{State}
 use Rattle.sc_phrase.specs.declared.frame.State.TheVariants as s
-use Rattle.sc_phrase.specs.declared.trouble.Trouble.{Trouble}
 use Rattle.sc_phrase.specs.Nodes.{text_node}
 use Rattle.sc_phrase.specs.Types.{has_words, no_words, with_word, no_direct, pointed, whole}
-use Rattle.sc_phrase.specs.Machine.{Config, Outcome, settle, finish, declared, level_ends, direct_ends, suffixes, bare_stars, bare, without_name, direct, begin, stars, inner_specified, specified, wordless, worded, words, due, void, tagged_structure, tagged_enumeration, items, act, fits, settled, have, needed, opened, sized_opened, group, place, entered, enters, effect, marked, on_ok, step}
+use Rattle.sc_phrase.specs.Machine.{Config, Outcome, settle, finish, declared, level_ends, suffixes, bare, direct, begin, specified, wordless, worded, words, due, void, tagged_structure, tagged_enumeration, items, have, group, place, entered, enters, effect, marked, on_ok, step}
 use Rattle.sc_sound.proofs.Settling.{either}
 
 abbrev pub Stops : {A E : Type 0} → Result A E → Type 0
