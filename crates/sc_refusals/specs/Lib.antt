@@ -1,0 +1,4 @@
+pub mod Marks
+pub mod Limits
+pub mod Refusals
+pub mod Claims

@@ -1,0 +1,6 @@
+mod expressions;
+mod limits;
+mod reading;
+mod refusals;
+mod showing;
+mod sizes;
