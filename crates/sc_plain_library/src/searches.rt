@@ -1,0 +1,134 @@
+// Comparisons and searches, byte by byte (ANSI 4.11.4, 4.11.5).
+ghost use Rattle.std.specs.Prelude.{◌≡◌, ◌==◌, if◌then◌else◌, IfOk};
+ghost use Rattle.sc_meaning.specs.Functions as spec;
+ghost use Rattle.sc_meaning.specs.Outcomes as outcome;
+ghost use Rattle.sc_meaning.specs.Values as value;
+ghost use Rattle.sc_plain_leaves.specs.Gives.{Gives};
+
+use crate::bytes::{byte_read, past};
+use sc_base::NoMemory;
+use sc_plain_leaves::{Stop, moved, sum};
+use sc_plain_world::World;
+use sc_values::{Answer, Value};
+
+// -1, as `getchar` gives it at the end of the input.
+const END_OF_FILE: u32 = 4_294_967_295;
+
+fn order_of(a: u8, b: u8) -> Value
+    ensures { result ≡ spec.order_of a b }
+{
+    if a < b {
+        Value::number(END_OF_FILE)
+    } else {
+        Value::number(if b < a { 1 } else { 0 })
+    }
+}
+
+/// At most `n` bytes are compared, the first argument's before the second's, up to the first difference, or to the zero
+/// byte where this is asked for.
+///
+/// # Errors
+///
+/// The rule that a load breaks.
+#[tactic(auto, using(crate::proofs::Mores::compared_more))]
+pub fn bytes_compared(
+    n: u64,
+    to_zero: bool,
+    p: &Value,
+    q: &Value,
+    world: &mut World,
+) -> Result<Answer, Stop>
+    ensures { Gives (spec.bytes_compared n to_zero p.now q.now 0 world.old) result world.new }
+{
+    let mut i = 0;
+    let mut left = n;
+    while left > 0 {
+        let a = byte_read(p, i, world)?;
+        let b = byte_read(q, i, world)?;
+        if a != b || to_zero && a == 0 {
+            return Ok(Answer::plain(order_of(a, b)));
+        }
+        i = sum(i, 1)?;
+        left -= 1;
+    }
+    Ok(Answer::plain(Value::null()))
+}
+
+/// `strcmp`.
+///
+/// # Errors
+///
+/// The rule that a load breaks.
+pub fn strcmp(p: &Value, q: &Value, world: &mut World) -> Result<Answer, Stop>
+    ensures { Gives (spec.strcmp p.now q.now world.old) result world.new }
+{
+    let n = past(world, p);
+    bytes_compared(n, true, p, q, world)
+}
+
+/// The first byte equal to `c`, up to the zero byte, of at most `n`.
+///
+/// # Errors
+///
+/// The rule that a load breaks.
+#[tactic(auto, using(crate::proofs::Mores::first_more))]
+pub fn first_found(n: u64, p: &Value, c: u32, world: &mut World) -> Result<Answer, Stop>
+    ensures { Gives (spec.first_found n p.now c 0 world.old) result world.new }
+{
+    let mut i = 0;
+    let mut left = n;
+    while left > 0 {
+        let b = byte_read(p, i, world)?;
+        if u32::from(b) == c {
+            return Ok(Answer::plain(moved(p, i, world.alloc())?));
+        }
+        if b == 0 {
+            return Ok(Answer::plain(Value::null()));
+        }
+        i = sum(i, 1)?;
+        left -= 1;
+    }
+    Ok(Answer::plain(Value::null()))
+}
+
+// The place of a byte where it is the one that is looked for, else the one that was found before.
+fn found_now(
+    b: u8,
+    c: u32,
+    p: &Value,
+    i: u32,
+    found: Value,
+    world: &World,
+) -> Result<Value, NoMemory>
+    ensures { IfOk result (λ v. v ≡ (if b == c then outcome.moved p.now i else found)) }
+{
+    if u32::from(b) == c {
+        moved(p, i, world.alloc())
+    } else {
+        Ok(found)
+    }
+}
+
+/// The last byte equal to `c`, up to the zero byte, of at most `n`.
+///
+/// # Errors
+///
+/// The rule that a load breaks.
+#[tactic(auto, using(crate::proofs::Mores::last_more))]
+pub fn last_found(n: u64, p: &Value, c: u32, world: &mut World) -> Result<Answer, Stop>
+    ensures { Gives (spec.last_found n p.now c 0 value.null world.old) result world.new }
+{
+    let mut i = 0;
+    let mut found = Value::null();
+    let mut left = n;
+    while left > 0 {
+        let b = byte_read(p, i, world)?;
+        found = found_now(b, c, p, i, found, world)?;
+        if b == 0 {
+            return Ok(Answer::plain(found));
+        }
+        i = sum(i, 1)?;
+        left -= 1;
+    }
+    Ok(Answer::plain(found))
+}
