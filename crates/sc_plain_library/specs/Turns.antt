@@ -19,10 +19,6 @@ turn_of g k rest (piece.Conv c n) w = and_then (converted g c k w) (λ t w. Done
 turn_of g k rest piece.End w = Done None w
 turn_of g k rest piece.Wrong w = refused g 1 w
 
--- bytes that are there already, before those that come
-abbrev pub before : List ℕ → List ℕ → World → Outcome (List ℕ)
-before done bs w = Done (done ++ bs) w
-
 -- a piece, and what follows it
 abbrev pub followed : (ℕ → List ℕ → World → Outcome (List ℕ)) → Option Turn → World → Outcome (List ℕ)
 followed later None w = Done [] w

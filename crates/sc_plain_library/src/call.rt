@@ -9,16 +9,16 @@ ghost use Rattle.sc_meaning.specs.Versions.{History};
 ghost use Rattle.sc_plain_leaves.specs.Gives.{Gives};
 ghost use Rattle.sc_plain_library.specs.Quiet.{IsQuiet};
 
-use crate::bytes::{bits_at, shown, text_at, value_at};
 use crate::characters::on_character;
-use crate::copies::{memcpy, memmove, memset, strcat, strcpy, strlen, strncpy};
 use crate::ends::{assert_fail, exit};
-use crate::heap::{calloc, free, malloc, realloc};
 use crate::numbers::{abs, atoi};
 use crate::printf::printf;
-use crate::searches::{bytes_compared, strchr, strcmp, strrchr};
 use sc_base::Key;
 use sc_meaning::LibFun;
+use sc_plain_bytes::{
+    bits_at, bytes_compared, calloc, free, malloc, memcpy, memmove, memset, realloc, shown, strcat,
+    strchr, strcmp, strcpy, strlen, strncpy, strrchr, text_at, value_at,
+};
 use sc_plain_leaves::Stop;
 use sc_plain_world::World;
 use sc_values::{Answer, Value};

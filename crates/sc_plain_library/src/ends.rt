@@ -7,8 +7,8 @@ ghost use Rattle.sc_meaning.specs.Outcomes as outcome;
 ghost use Rattle.sc_ops.specs.Numbers as numbers;
 ghost use Rattle.sc_plain_leaves.specs.Gives.{Gives};
 
-use crate::bytes::{shown, text_at};
 use sc_base::{Int, Items, NoMemory};
+use sc_plain_bytes::{shown, text_at};
 use sc_plain_leaves::{Stop, number_of};
 use sc_plain_world::World;
 use sc_values::{Answer, Value};

@@ -8,8 +8,7 @@ use Rattle.sc_meaning.specs.Outcomes.{Outcome, Done, and_then, unless, access_br
 use Rattle.sc_meaning.specs.Violations.{store_rule}
 use Rattle.sc_meaning.specs.Expressions.{either}
 use Rattle.sc_meaning.specs.Library.{byte_read, put_before, text_upto, writable, gives, block_size, class_from}
-use Rattle.sc_fmt.specs.Classes.{is_space}
-use Rattle.sc_meaning.specs.Functions.{bytes_compared, first_found, last_found, order_of, Seen, after_space}
+use Rattle.sc_meaning.specs.Functions.{bytes_compared, first_found, last_found, order_of}
 
 text_suc : (n : ℕ) (p : Value) (i : ℕ) (w : World) → text_upto (suc n) p i w ≡ and_then (byte_read p i w) (λ b w. either (b == 0) (Done []) (λ w. and_then (text_upto n p (i + 1) w) (put_before b)) w)
 text_suc n p i w = refl
@@ -58,14 +57,6 @@ pub class_more : (k n : ℕ) → k < 29 → class_from (29 - k) k n ≡ (if nat_
 class_more k n h =
     let e : 29 - k ≡ suc (29 - (k + 1)) = omega (arith, h) in
     ap (λ (m : ℕ). class_from m k n) e ∙ class_suc (29 - (k + 1)) k n
-
-space_suc : (n : ℕ) (p : Value) (i : ℕ) (w : World) → after_space (suc n) p i w ≡ and_then (byte_read p i w) (λ b w. either (is_space b) (after_space n p (i + 1)) (Done (record { at = i; byte = b })) w)
-space_suc n p i w = refl
-
-pub space_more : (n : ℕ) (p : Value) (i : ℕ) (w : World) → 0 < n → after_space n p i w ≡ and_then (byte_read p i w) (λ b w. either (is_space b) (after_space (n - 1) p (i + 1)) (Done (record { at = i; byte = b })) w)
-space_more n p i w h =
-    let e : n ≡ suc (n - 1) = omega (arith, h) in
-    ap (λ (m : ℕ). after_space m p i w) e ∙ space_suc (n - 1) p i w
 
 le_true : (m n : ℕ) → m ≤ n → nat_le m n ≡ true
 le_true m n h = grind (arith, nat_tests, h)

@@ -1,6 +1,6 @@
 use Rattle.sc_meaning.specs.Library.{class_of}
-use Rattle.sc_plain_library.proofs.Mores.{class_here, class_behind, class_last}
-use Rattle.sc_plain_library.proofs.heap.class_of.Goals as goal
+use Rattle.sc_plain_bytes.proofs.Mores.{class_here, class_behind, class_last}
+use Rattle.sc_plain_bytes.proofs.heap.class_of.Goals as goal
 
 pub returns-then-from-block_size-clause-class : goal.returns-then-from-block_size-clause-class
 returns-then-from-block_size-clause-class c =
