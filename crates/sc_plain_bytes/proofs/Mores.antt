@@ -4,7 +4,7 @@ use Rattle.std.proofs.lemmas.Bool.Decides.{nat_tests}
 use Rattle.std.specs.Prelude.{nat_le, ◌==◌, ◌&&◌, ◌||◌, if◌then◌else◌}
 use Rattle.sc_meaning.specs.Values.{Value, null}
 use Rattle.sc_meaning.specs.World.{World}
-use Rattle.sc_meaning.specs.Outcomes.{Outcome, Done, and_then, unless, access_breach, moved}
+use Rattle.sc_meaning.specs.Outcomes.{Done, and_then, unless, access_breach, moved}
 use Rattle.sc_meaning.specs.Violations.{store_rule}
 use Rattle.sc_meaning.specs.Expressions.{either}
 use Rattle.sc_meaning.specs.Library.{byte_read, put_before, text_upto, writable, gives, block_size, class_from}
