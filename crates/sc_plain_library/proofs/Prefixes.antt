@@ -1,6 +1,5 @@
 -- Bytes that are there already, before those that come.
-use Rattle.std.proofs.Common.{◌≡◌, ℕ, List, [], ◌∷◌, ◌++◌, refl, sym, ap, append_assoc}
-use Rattle.sc_meaning.specs.World.{World}
+use Rattle.std.proofs.Common.{◌≡◌, ℕ, List, ◌++◌, refl, sym, ap, append_assoc}
 use Rattle.sc_meaning.specs.Outcomes.{Outcome, Done, Over, and_then}
 use Rattle.sc_meaning.specs.Printf.{put_in_front}
 use Rattle.sc_plain_bytes.specs.Texts.{before}

@@ -1,5 +1,5 @@
 -- One piece of a format, and what follows it (ANSI 4.9.6.1).
-use Rattle.std.specs.Prelude.{ℕ, List, [], ◌++◌, take, drop, Option, Some, None}
+use Rattle.std.specs.Prelude.{ℕ, List, [], take, drop, Option, Some, None}
 use Rattle.sc_fmt.specs.declared.conversion.Piece.{Piece}
 use Rattle.sc_fmt.specs.declared.conversion.Piece.TheVariants as piece
 use Rattle.sc_meaning.specs.World.{World}

@@ -2,7 +2,6 @@
 ghost use Rattle.std.specs.Prelude.{◌≡◌, ◌+◌, ◌-◌, ◌*◌, ◌≤◌, ◌^◌, min, pos, neg_ℤ};
 ghost use Rattle.sc_base.specs.declared.integer.Int.TheVariants.{Int as PlainInt};
 ghost use Rattle.sc_meaning.specs.Functions as spec;
-ghost use Rattle.sc_meaning.specs.Library as library;
 ghost use Rattle.sc_meaning.specs.Outcomes as outcome;
 ghost use Rattle.sc_ops.specs.Numbers as numbers;
 ghost use Rattle.sc_plain_leaves.specs.Gives.{Gives};
