@@ -2,6 +2,7 @@
 ghost use Rattle.std.specs.Prelude.{◌≡◌, ◌+◌, ◌<◌, ◌-ℤ◌, pos, false, MatchOption, None, Some, IfOk, IfSome};
 ghost use Rattle.sc_meaning.specs.Values as value;
 ghost use Rattle.sc_meaning.specs.Violations as spec;
+ghost use Rattle.sc_rules.specs.Tests as tests;
 ghost use Rattle.std.specs.List.{list_all};
 
 use sc_base::{Kind, NoMemory, Rule};
@@ -75,7 +76,7 @@ pub fn is_misaligned(p: &Value, further: u32, n: u32) -> bool
 }
 
 fn is_constant_kind(kind: Kind) -> bool
-    ensures { result ≡ spec.is_constant_kind kind }
+    ensures { result ≡ tests.is_constant kind }
 {
     match kind {
         Kind::Const | Kind::Literal => true,
@@ -481,7 +482,7 @@ pub fn truth_rule(objects: &[Object], pointer: bool, v: &Value) -> Option<Rule>
 }
 
 fn is_heap(kind: Kind) -> bool
-    ensures { result ≡ spec.is_heap kind }
+    ensures { result ≡ tests.is_heap kind }
 {
     match kind {
         Kind::Heap => true,

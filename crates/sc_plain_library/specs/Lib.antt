@@ -1,0 +1,4 @@
+pub mod Quiet
+pub mod Turns
+pub mod Characters
+pub mod Sums

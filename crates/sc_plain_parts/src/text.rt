@@ -1,0 +1,147 @@
+// The texts of a run, and what is found in them (ANSI 3.1.2.2, 3.7).
+ghost use Rattle.std.specs.Prelude.{◌≡◌, MatchOption, None, Some};
+ghost use Rattle.sc_core.specs.Modules as modules;
+ghost use Rattle.sc_meaning.specs.Names as names;
+ghost use Rattle.sc_meaning.specs.Versions as spec;
+ghost use Rattle.sc_plain_parts.specs.Found.{callee_found};
+
+use crate::library::library_fun;
+use sc_base::{Form, Key, Name, Shared};
+use sc_core::{Core, Fun, StaticObj};
+use sc_meaning::LibFun;
+use sc_values::same_key;
+use std::marker::Model;
+
+/// A module's text with the form in which it runs; two texts with one number are the same text.
+#[derive(Drop)]
+pub struct Text {
+    pub number: u32,
+    pub core: Shared<Core>,
+    pub form: Form,
+}
+
+impl Model for Text {
+    ghost use Rattle.std.specs.Coded.{codes};
+    ghost use Rattle.sc_types.specs.contracts.ctype.CType as types;
+    ghost use Rattle.sc_types.specs.contracts.ctype.Signature as signatures;
+    ghost use Rattle.sc_core.specs.contracts.expression.CoreExpr as expressions;
+    ghost use Rattle.sc_core.specs.contracts.statement.CoreStmt as statements;
+    ghost use Rattle.sc_meaning.specs.Versions as spec;
+
+    ghost Value = { spec.Text };
+
+    ghost coded = { Prim.hlevel (codes, types.the_row.coded, signatures.the_row.coded, expressions.the_row.coded, statements.the_row.coded) };
+
+    ghost view = { λ t. record { number = t.number; core = t.core; form = t.form } };
+}
+
+/// What a key names when it is called.
+#[derive(Clone, Copy)]
+pub enum Callee<'a> {
+    Missing,
+    InText(&'a Text, &'a Fun),
+    InLibrary(LibFun),
+}
+
+// The function of a module that has this name, where its linkage is external, or internal, as is wanted.
+fn fun_named<'a>(core: &'a Core, name: &Name, external: bool) -> Option<&'a Fun>
+    ensures { MatchOption result (spec.if_external external (modules.function_of name.now core.now.funs) ≡ None) (λ f. spec.if_external external (modules.function_of name.now core.now.funs) ≡ Some f.now) }
+{
+    match core.fun(name) {
+        None => None,
+        Some(f) => {
+            if external {
+                if f.external { Some(f) } else { None }
+            } else {
+                if f.external { None } else { Some(f) }
+            }
+        }
+    }
+}
+
+// The function of a module that has this key.
+fn fun_by<'a>(key: &Key, core: &'a Core) -> Option<&'a Fun>
+    ensures { MatchOption result (spec.fun_by key.now.«module» key.now.name core.now ≡ None) (λ f. spec.fun_by key.now.«module» key.now.name core.now ≡ Some f.now) }
+{
+    match &key.module {
+        None => fun_named(core, &key.name, true),
+        Some(home) => {
+            if core.name == *home {
+                fun_named(core, &key.name, false)
+            } else {
+                None
+            }
+        }
+    }
+}
+
+// The library's function of this key.
+fn library_callee<'a>(key: &Key) -> Callee<'a>
+    ensures { callee_found result ≡ spec.library_callee key.now key.now.«module» }
+{
+    match &key.module {
+        None => match library_fun(&key.name) {
+            None => Callee::Missing,
+            Some(f) => Callee::InLibrary(f),
+        },
+        Some(_) => Callee::Missing,
+    }
+}
+
+/// The function of the first text that defines the key, else the library's.
+pub fn callee_of<'a>(texts: &'a [Text], key: &Key) -> Callee<'a>
+    ensures { callee_found result ≡ spec.callee_of texts.now key.now }
+{
+    for t in texts {
+        if let Some(f) = fun_by(key, t.core.get()) {
+            return Callee::InText(t, f);
+        }
+    }
+    library_callee(key)
+}
+
+/// An object of static storage duration, and the text that defines it.
+#[derive(Drop)]
+pub struct Definition<'a> {
+    pub text: &'a Text,
+    pub object: &'a StaticObj,
+}
+
+impl<'a> Model for Definition<'a> {
+    ghost use Rattle.std.specs.Coded.{codes};
+    ghost use Rattle.sc_types.specs.contracts.ctype.CType as types;
+    ghost use Rattle.sc_types.specs.contracts.ctype.Signature as signatures;
+    ghost use Rattle.sc_core.specs.contracts.expression.CoreExpr as expressions;
+    ghost use Rattle.sc_core.specs.contracts.statement.CoreStmt as statements;
+    ghost use Rattle.sc_meaning.specs.Versions as spec;
+
+    ghost Value = { spec.Definition };
+
+    ghost coded = { Prim.hlevel (codes, types.the_row.coded, signatures.the_row.coded, expressions.the_row.coded, statements.the_row.coded) };
+
+    ghost view = { λ d. record { text = d.text.now; object = d.object.now } };
+}
+
+// The object of a key among those of a module.
+fn object_by<'a>(objects: &'a [StaticObj], key: &Key) -> Option<&'a StaticObj>
+    ensures { MatchOption result (spec.object_by objects.now key.now ≡ None) (λ o. spec.object_by objects.now key.now ≡ Some o.now) }
+{
+    for o in objects {
+        if same_key(&o.key, key) {
+            return Some(o);
+        }
+    }
+    None
+}
+
+/// The object of the first text that defines the key.
+pub fn object_in<'a>(texts: &'a [Text], key: &Key) -> Option<Definition<'a>>
+    ensures { MatchOption result (spec.object_in texts.now key.now ≡ None) (λ d. spec.object_in texts.now key.now ≡ Some d) }
+{
+    for text in texts {
+        if let Some(object) = object_by(text.core.get().objects.as_slice(), key) {
+            return Some(Definition { text, object });
+        }
+    }
+    None
+}
