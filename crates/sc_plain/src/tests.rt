@@ -135,7 +135,6 @@ fn shown(alloc: Global, finished: &Finished) -> Result<Vec<u8>, NoMemory> {
         Ended::Undefined(told) => write_breach(&mut text, told, &finished.world)?,
         Ended::StackFull(key) => write_full(&mut text, key)?,
         Ended::BirthLimit => write(&mut text, b"birth limit")?,
-        Ended::Beyond(_) => write(&mut text, b"not computed")?,
         Ended::OutOfSteps => write(&mut text, b"out of steps")?,
         Ended::NoRoom => write(&mut text, b"no room")?,
     }

@@ -105,5 +105,5 @@ pub fn block_ends(
     first_dead(env.blocks.as_slice(), k, world)?;
     without_blocks(k, env);
     world.close_block()?;
-    Ok(ends(way, world)?)
+    ends(way, world)
 }

@@ -1,6 +1,7 @@
 // What a step on a body leaves (ANSI 3.6).
-ghost use Rattle.std.specs.Prelude.{◌≡◌, ◌∷◌, IfOk};
-ghost use Rattle.sc_meaning.specs.World as worlds;
+ghost use Rattle.std.specs.Prelude.{◌≡◌, ◌∷◌, IfOk, List};
+ghost use Rattle.sc_meaning.specs.Expressions as spec;
+ghost use Rattle.sc_machine.specs.declared.body.Pending.{Pending};
 ghost use Rattle.sc_machine.specs.Bodies as machine;
 ghost use Rattle.sc_machine.specs.declared.body.Doing.TheVariants as doing;
 ghost use Rattle.sc_plain_bodies.specs.declared.moves.Move.TheVariants as step;
@@ -35,8 +36,12 @@ pub fn within(e: &Shared<CoreExpr>, user: Use, world: &World) -> Result<Doing, N
 }
 
 /// A statement ends, in this way.
-pub fn ends(way: Way, world: &mut World) -> Result<Move, NoMemory>
-    ensures { IfOk result (λ m. (m ≡ step.Go (doing.Leave way)) × (world.new ≡ worlds.pass worlds.End world.old)) }
+///
+/// # Errors
+///
+/// `NoRoom` alone.
+pub fn ends(way: Way, world: &mut World) -> Result<Move, Stop>
+    ensures { (ss : List Pending) (env : spec.Env) → Moves (machine.ends way ss env world.old) result ss env world.new }
 {
     world.end()?;
     Ok(Move::Go(Doing::Leave(way)))

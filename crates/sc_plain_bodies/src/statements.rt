@@ -5,6 +5,7 @@ ghost use Rattle.sc_core.specs.declared.statement.CoreStmt.{out-CoreStmt};
 ghost use Rattle.sc_meaning.specs.Expressions as spec;
 ghost use Rattle.sc_meaning.specs.Statements as statement;
 ghost use Rattle.sc_machine.specs.Bodies as machine;
+ghost use Rattle.sc_machine.specs.Rests.{labels_in};
 ghost use Rattle.sc_machine.specs.declared.body.Pending.{Pending};
 ghost use Rattle.sc_machine.specs.declared.body.Pending.TheVariants as kind;
 ghost use Rattle.sc_machine.specs.declared.body.Doing.TheVariants as doing;
@@ -86,11 +87,12 @@ fn share_expression(e: &Option<Shared<CoreExpr>>) -> Result<Option<Shared<CoreEx
 fn first_next(
     l: u32,
     e: &Option<Shared<CoreExpr>>,
-    s: Shared<CoreStmt>,
+    s: &Shared<CoreStmt>,
     world: &World,
 ) -> Result<Move, Stop>
-    ensures { (ss : List Pending) (env : spec.Env) → Moves (machine.first_next l e.now s ss env world.now) result ss env world.now }
+    ensures { (ss : List Pending) (env : spec.Env) → Moves (machine.first_next l e.now s.now ss env world.now) result ss env world.now }
 {
+    let s = s.share()?;
     match e {
         None => Ok(turns(s)),
         Some(e) => on_line(l, e, Use::Turns(s), world),
@@ -129,6 +131,21 @@ fn if_next(
     on_line(l, e, Use::If(t, a, b), world)
 }
 
+// A `switch`.
+fn switch_next(
+    s: &Shared<CoreStmt>,
+    l: u32,
+    e: &Shared<CoreExpr>,
+    a: &Shared<CoreStmt>,
+    world: &World,
+) -> Result<Move, Stop>
+    ensures { (ss : List Pending) (env : spec.Env) → Moves (machine.Lines l (machine.within e.now (user.Switch (labels_in (out-CoreStmt s.now)) a.now)) ss env world.now) result ss env world.now }
+{
+    let s = s.share()?;
+    let a = a.share()?;
+    on_line(l, e, Use::Switch(Labels::of(s), a), world)
+}
+
 /// A statement has begun.
 ///
 /// # Errors
@@ -155,13 +172,10 @@ pub fn stmt_next(
         CoreStmt::Empty(l) => jump(*l, Way::normal(), stmts, env, world),
         CoreStmt::Expression(l, e) => on_line(*l, e, Use::Discard, world),
         CoreStmt::If(l, e, a, b) => if_next(*l, e, a, b, world),
-        CoreStmt::Switch(l, e, _, a) => {
-            let labels = Labels::of(s.share()?);
-            on_line(*l, e, Use::Switch(labels, a.share()?), world)
-        }
+        CoreStmt::Switch(l, e, _, a) => switch_next(&s, *l, e, a, world),
         CoreStmt::While(_, _, _) => Ok(turns(s)),
         CoreStmt::Do(_, _, _, _) => Ok(turns(s)),
-        CoreStmt::For(l, e, _, _, _) => first_next(*l, e, s.share()?, world),
+        CoreStmt::For(l, e, _, _, _) => first_next(*l, e, &s, world),
         CoreStmt::Case(_, a) => execs(a, Pending::End, stmts, env, world),
         CoreStmt::Default(_, a) => execs(a, Pending::End, stmts, env, world),
         CoreStmt::Continue(l) => jump(*l, Way::continued(), stmts, env, world),
@@ -245,6 +259,6 @@ pub fn turn_next(
         CoreStmt::While(l, e, a) => while_next(s, *l, e, a, world),
         CoreStmt::Do(_, a, m, e) => do_next(s, a, *m, e, stmts, env, world),
         CoreStmt::For(l, _, c, x, a) => holds_next(s, *l, c, x, a, stmts, env, world),
-        _ => Ok(ends(Way::normal(), world)?),
+        _ => ends(Way::normal(), world),
     }
 }

@@ -1,7 +1,6 @@
 // What a statement does with the answer of its whole expression (ANSI 3.6.3 to 3.6.6).
 ghost use Rattle.std.specs.Prelude.{◌∷◌, List};
 ghost use Rattle.sc_meaning.specs.Expressions as spec;
-ghost use Rattle.sc_meaning.specs.Statements as statement;
 ghost use Rattle.sc_machine.specs.Bodies as machine;
 ghost use Rattle.sc_machine.specs.declared.body.Pending.{Pending};
 ghost use Rattle.sc_machine.specs.declared.body.Pending.TheVariants as pending;
@@ -10,7 +9,7 @@ ghost use Rattle.sc_plain_bodies.specs.Moves.{Moves};
 
 use crate::moves::{Move, ends, execs, leaves, turns};
 use sc_base::{Shared, Stack};
-use sc_core::CoreStmt;
+use sc_core::{CoreExpr, CoreStmt};
 use sc_machine::{Doing, Labels, Pending, Pieces, Use};
 use sc_plain_leaves::{Stop, bits, scalar_size, set_at, tested};
 use sc_plain_parts::{initial_structure, used};
@@ -24,7 +23,7 @@ fn returns(a: Answer, world: &mut World) -> Result<Move, Stop>
     ensures { (ss : List Pending) (env : spec.Env) → Moves (machine.use_next user.Return a ss env world.old) result ss env world.new }
 {
     let v = used(a, world)?;
-    Ok(ends(Way::returned(Answer::plain(v)), world)?)
+    ends(Way::returned(Answer::plain(v)), world)
 }
 
 // The statement behind `else` begins, where there is one.
@@ -73,27 +72,48 @@ fn repeat_next(t: &CType, s: Shared<CoreStmt>, a: Answer, world: &mut World) -> 
     if tested(t, &v, world)? {
         Ok(turns(s))
     } else {
-        Ok(ends(Way::normal(), world)?)
+        ends(Way::normal(), world)
     }
 }
 
-// A `while` or a `for` has its condition.
-fn looped(
+// A `while` has its condition.
+fn while_next(
     t: &CType,
-    item: Pending,
+    s: Shared<CoreStmt>,
     body: &Shared<CoreStmt>,
     a: Answer,
     stmts: &mut Stack<Pending>,
     env: &Env,
     world: &mut World,
 ) -> Result<Move, Stop>
-    ensures { Moves (machine.tests t.now a (machine.execs body.now (item ∷ stmts.old) env.now) (machine.ends statement.Normal stmts.old env.now) world.old) result stmts.new env.now world.new }
+    ensures { Moves (machine.use_next (user.While t.now s body.now) a stmts.old env.now world.old) result stmts.new env.now world.new }
 {
     let v = used(a, world)?;
     if tested(t, &v, world)? {
-        execs(body, item, stmts, env, world)
+        execs(body, Pending::Again(s), stmts, env, world)
     } else {
-        Ok(ends(Way::normal(), world)?)
+        ends(Way::normal(), world)
+    }
+}
+
+// A `for` has its condition.
+fn for_next(
+    t: &CType,
+    s: Shared<CoreStmt>,
+    x: Option<Shared<CoreExpr>>,
+    body: &Shared<CoreStmt>,
+    a: Answer,
+    stmts: &mut Stack<Pending>,
+    env: &Env,
+    world: &mut World,
+) -> Result<Move, Stop>
+    ensures { Moves (machine.use_next (user.For t.now s x body.now) a stmts.old env.now world.old) result stmts.new env.now world.new }
+{
+    let v = used(a, world)?;
+    if tested(t, &v, world)? {
+        execs(body, Pending::Third(x, s), stmts, env, world)
+    } else {
+        ends(Way::normal(), world)
     }
 }
 
@@ -146,15 +166,35 @@ pub fn use_next(
     ensures { Moves (machine.use_next user a stmts.old env.now world.old) result stmts.new env.now world.new }
 {
     match user {
-        Use::Discard => Ok(ends(Way::normal(), world)?),
+        Use::Discard => ends(Way::normal(), world),
         Use::Turns(s) => Ok(turns(s)),
         Use::Return => returns(a, world),
-        Use::If(t, s, other) => if_next(&t, &s, &other, a, stmts, env, world),
-        Use::While(t, s, q) => looped(&t, Pending::Again(s), &q, a, stmts, env, world),
-        Use::Repeat(t, s) => repeat_next(&t, s, a, world),
-        Use::For(t, s, x, q) => looped(&t, Pending::Third(x, s), &q, a, stmts, env, world),
+        Use::If(t, s, other) => {
+            let next = if_next(&t, &s, &other, a, stmts, env, world);
+            drop(t);
+            next
+        }
+        Use::While(t, s, q) => {
+            let next = while_next(&t, s, &q, a, stmts, env, world);
+            drop(t);
+            next
+        }
+        Use::Repeat(t, s) => {
+            let next = repeat_next(&t, s, a, world);
+            drop(t);
+            next
+        }
+        Use::For(t, s, x, q) => {
+            let next = for_next(&t, s, x, &q, a, stmts, env, world);
+            drop(t);
+            next
+        }
         Use::Switch(labels, s) => switched(labels, s, a, world),
-        Use::Set(p, at, t, rest) => set_next(p, at, &t, rest, a, world),
+        Use::Set(p, at, t, rest) => {
+            let next = set_next(p, at, &t, rest, a, world);
+            drop(t);
+            next
+        }
         Use::Copy(p, n, rest) => copy_next(p, n, rest, a, world),
     }
 }

@@ -63,7 +63,7 @@ fn switch_next(way: Way, world: &mut World) -> Result<Move, Stop>
         Exit::Continued => Way::continued(),
         Exit::Returned(a) => Way::returned(a),
     };
-    Ok(ends(way, world)?)
+    ends(way, world)
 }
 
 // After a turn of a `while`: `continue` goes on as the body's end does, `break` ends the loop.
@@ -73,8 +73,8 @@ fn again_next(s: Shared<CoreStmt>, way: Way, world: &mut World) -> Result<Move, 
     match way.exit {
         Exit::Normal => Ok(turns(s)),
         Exit::Continued => Ok(turns(s)),
-        Exit::Broke => Ok(ends(Way::normal(), world)?),
-        Exit::Returned(a) => Ok(ends(Way::returned(a), world)?),
+        Exit::Broke => ends(Way::normal(), world),
+        Exit::Returned(a) => ends(Way::returned(a), world),
     }
 }
 
@@ -100,8 +100,8 @@ fn check_next(
     match way.exit {
         Exit::Normal => checked(l, e, s, world),
         Exit::Continued => checked(l, e, s, world),
-        Exit::Broke => Ok(ends(Way::normal(), world)?),
-        Exit::Returned(a) => Ok(ends(Way::returned(a), world)?),
+        Exit::Broke => ends(Way::normal(), world),
+        Exit::Returned(a) => ends(Way::returned(a), world),
     }
 }
 
@@ -130,8 +130,8 @@ fn third_next(
     match way.exit {
         Exit::Normal => third(x, s, world),
         Exit::Continued => third(x, s, world),
-        Exit::Broke => Ok(ends(Way::normal(), world)?),
-        Exit::Returned(a) => Ok(ends(Way::returned(a), world)?),
+        Exit::Broke => ends(Way::normal(), world),
+        Exit::Returned(a) => ends(Way::returned(a), world),
     }
 }
 
@@ -146,7 +146,7 @@ fn item_next(
     ensures { Moves (machine.item_next item way stmts.old env.old world.old) result stmts.new env.new world.new }
 {
     match item {
-        Pending::End => Ok(ends(way, world)?),
+        Pending::End => ends(way, world),
         Pending::Rest(rest) => rest_next(way, rest, stmts, env, world),
         Pending::EndBlock(k) => block_ends(k, way, stmts, env, world),
         Pending::EndSwitch => switch_next(way, world),
