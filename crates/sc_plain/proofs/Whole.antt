@@ -1,5 +1,5 @@
 -- From a run's steps to what the whole program does.
-use Rattle.std.proofs.Common.{◌≡◌, ℕ, zero, suc, ◌+◌, ◌<◌, List, [], refl, ap, sym, subst, ◌∙◌, arith, add-one, Option, Some, None, Result, Ok, Err}
+use Rattle.std.proofs.Common.{◌≡◌, ℕ, zero, suc, ◌+◌, ◌<◌, List, [], refl, ap, sym, subst, ◌∙◌, arith, add-one, Option, Some, None, Result, Ok, Err, ⊥, absurd}
 use Rattle.std.specs.Result.{IsErrAnd}
 use Rattle.std.proofs.lemmas.Result.{err_from_is_err_and}
 use Rattle.sc_meaning.specs.World.{World, tick}
@@ -8,14 +8,18 @@ use Rattle.sc_meaning.specs.Versions.{Text, History, callee_of, version_at}
 use Rattle.sc_meaning.specs.Changes.{settled, statics_born}
 use Rattle.sc_meaning.specs.Expressions.{Answer}
 use Rattle.sc_meaning.specs.Calls.{call}
-use Rattle.sc_meaning.specs.Behaviour.{Start, first_world, main_key, main_called, started, ending, ending_of, status_of}
+use Rattle.sc_meaning.specs.Behaviour.{Start, first_world, main_key, main_called, started, ending, status_of}
+use Rattle.sc_meaning.specs.Behaviour as behaviour
 use Rattle.sc_machine.specs.Runs as runs
 use Rattle.sc_machine.specs.Runs.{Caller, State, Answers, Ends}
 use Rattle.sc_machine.proofs.RunFollows.{answers_meaning, ends_meaning}
 use Rattle.sc_plain_leaves.specs.declared.stop.Stop.{Stop}
-use Rattle.sc_plain_leaves.specs.Gives.{ending_of}
+use Rattle.sc_plain_leaves.specs.Gives.{ending_of, Stops}
 use Rattle.sc_plain.specs.declared.drive.Reached.{Reached}
 use Rattle.sc_plain.specs.Steps.{Brings}
+use Rattle.sc_plain.specs.declared.run.Ended.{Ended}
+use Rattle.sc_plain.specs.declared.run.Ended.TheVariants as ended
+use Rattle.sc_plain.specs.Ends.{Finishes}
 use Rattle.sc_plain.specs.Steady as steady
 use Rattle.sc_plain.specs.Steady.{alone}
 use Rattle.sc_plain.proofs.Unchanged.{quiet, present, callee_step, same_run}
@@ -74,11 +78,11 @@ starts texts s n is =
     ∙ ap (λ r. and_then r (λ _ w. main_called n (alone texts) w)) (settles texts s)
 
 pub births_end : (texts : List Text) (s : Start) (n : ℕ) (e : Ending) → s.history ≡ alone texts → begun_in texts s ≡ Over e → ending n s ≡ e
-births_end texts s n e is p = ap ending_of (starts texts s n is ∙ ap (λ r. and_then r (λ _ w. main_called n (alone texts) w)) p)
+births_end texts s n e is p = ap behaviour.ending_of (starts texts s n is ∙ ap (λ r. and_then r (λ _ w. main_called n (alone texts) w)) p)
 
-comes : (texts : List Text) (s : Start) (n : ℕ) (w : World) (r : Outcome Answer) → s.history ≡ alone texts → begun_in texts s ≡ Done tt w → call n (alone texts) main_key [] (tick w) ≡ r → ending n s ≡ ending_of (and_then r (λ a w. Done a (tick w)))
+comes : (texts : List Text) (s : Start) (n : ℕ) (w : World) (r : Outcome Answer) → s.history ≡ alone texts → begun_in texts s ≡ Done tt w → call n (alone texts) main_key [] (tick w) ≡ r → ending n s ≡ behaviour.ending_of (and_then r (λ a w. Done a (tick w)))
 comes texts s n w r is p q =
-    ap ending_of (starts texts s n is ∙ ap (λ r. and_then r (λ _ w. main_called n (alone texts) w)) p ∙ ap (λ r. and_then r (λ a w. Done a (tick w))) q)
+    ap behaviour.ending_of (starts texts s n is ∙ ap (λ r. and_then r (λ _ w. main_called n (alone texts) w)) p ∙ ap (λ r. and_then r (λ a w. Done a (tick w))) q)
 
 pub run_ends : (texts : List Text) (s : Start) (k n : ℕ) (w : World) (e : Ending) → s.history ≡ alone texts → k < n → begun_in texts s ≡ Done tt w → steady.ran k (alone texts) texts (first_of texts w) ≡ Ends e → ending n s ≡ e
 run_ends texts s k n w e is lt p q =
@@ -87,3 +91,29 @@ run_ends texts s k n w e is lt p q =
 pub run_answers : (texts : List Text) (s : Start) (k n : ℕ) (w v : World) (a : Answer) → s.history ≡ alone texts → k < n → begun_in texts s ≡ Done tt w → steady.ran k (alone texts) texts (first_of texts w) ≡ Answers a [] v → ending n s ≡ Exit (status_of a) (tick v)
 run_answers texts s k n w v a is lt p q =
     comes texts s n w (Done a v) is p (answers_meaning (alone texts) k n main_key [] (tick w) v a (omega arith) (same_from k texts (tick w) ∙ q))
+
+-- What a part of the program answers, where the births end the run, the call of main ends it, or main comes back.
+pub births_finish : (texts : List Text) (s : Start) (steps : ℕ) (first w : World) (stop : Stop) → s.history ≡ alone texts → first ≡ first_world s → Stops (statics_born texts first) stop w → Finishes steps s (Err stop) w
+births_finish texts s steps first w stop is begins stops = λ n lt e p.
+    births_end texts s n e is (ap (statics_born texts) (sym begins) ∙ stops e p)
+
+pub call_finishes : (texts : List Text) (s : Start) (steps : ℕ) (first born w : World) (stop : Stop) → s.history ≡ alone texts → first ≡ first_world s → statics_born texts first ≡ Done tt born → ((e : Ending) → ending_of stop w ≡ Some e → steady.ran steps (alone texts) texts (first_of texts born) ≡ Ends e) → Finishes steps s (Err stop) w
+call_finishes texts s steps first born w stop is begins p q = λ n lt e r.
+    run_ends texts s steps n born e is lt (ap (statics_born texts) (sym begins) ∙ p) (q e r)
+
+told : (e : Ending) (status : ℕ) (w : World) → Some (Exit status w) ≡ Some e → Exit status w ≡ e
+told e status w p = cc
+
+pub answer_finishes : (texts : List Text) (s : Start) (steps : ℕ) (first born v w : World) (a : Answer) (status : ℕ) → s.history ≡ alone texts → first ≡ first_world s → statics_born texts first ≡ Done tt born → steady.ran steps (alone texts) texts (first_of texts born) ≡ Answers a [] v → status ≡ status_of a → w ≡ tick v → Finishes steps s (Ok (ended.Exit status)) w
+answer_finishes texts s steps first born v w a status is begins p q st back = λ n lt e r.
+    run_answers texts s steps n born v a is lt (ap (statics_born texts) (sym begins) ∙ p) q ∙ ap (λ st. Exit st (tick v)) (sym st) ∙ ap (Exit status) (sym back) ∙ told e status w r
+
+nothing_told : (e : Ending) → None ≡ Some e → ⊥
+nothing_told e p = cc
+
+pub steps_used_up : (s : Start) (steps : ℕ) (w : World) → Finishes steps s (Ok ended.OutOfSteps) w
+steps_used_up s steps w = λ n lt e r. absurd (nothing_told e r)
+
+-- a part that failed ends the whole, as `?` passes its end on
+pub finishes_here : (s : Start) (steps : ℕ) (r : Result Ended Stop) (stop : Stop) (w : World) → IsErrAnd r (λ e. e ≡ stop) → Finishes steps s (Err stop) w → Finishes steps s r w
+finishes_here s steps r stop w p f = let q = err_from_is_err_and r p in subst (λ r. Finishes steps s r w) (sym (q.1 ∙ ap (λ e. Err e) q.2)) f
