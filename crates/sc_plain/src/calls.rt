@@ -241,9 +241,9 @@ pub fn makes<'a>(
 ) -> Result<Going<'a>, Stop>
     ensures { (h : versions.History) → IsQuiet h → Steps (steady.made_unless (expressions.value_rule texts.now caller.env.text t.now v) h texts.now v vs.now (caller ∷ callers.old) world.old) result callers.new world.new }
 {
-    let rule = value_rule(world.alloc(), texts, caller.env.text, t, &v)?;
+    let rule = value_rule(world.alloc(), texts, caller.env.text, t, &v);
     callers.push(caller)?;
-    match rule {
+    match rule? {
         Some(rule) => {
             let told = call_breach(&v, world, rule)?;
             Err(Stop::Undefined(told))

@@ -44,8 +44,10 @@ fn reached(going: Going, callers: &Stack<Caller>) -> Reached
                 Reached::Nowhere
             }
         }
-        Going::Runs(_, _, _, _) => Reached::Nowhere,
-        Going::Makes(_, _, _, _) => Reached::Nowhere,
+        other => {
+            drop(other);
+            Reached::Nowhere
+        }
     }
 }
 

@@ -1,5 +1,6 @@
 // One step of a run, and a whole run (ANSI 2.1.2.2, 2.1.2.3).
-ghost use Rattle.std.specs.Prelude.{List};
+ghost use Rattle.std.specs.Prelude.{◌≡◌, List, IfOk};
+ghost use Rattle.sc_meaning.specs.Calls as spec;
 ghost use Rattle.sc_meaning.specs.Versions as versions;
 ghost use Rattle.sc_machine.specs.Runs as runs;
 ghost use Rattle.sc_plain_library.specs.Quiet.{IsQuiet};
@@ -8,14 +9,35 @@ ghost use Rattle.sc_plain.specs.Steps.{Brings, Is, Steps};
 
 use crate::calls::{answer_of, leave, makes, reach};
 use crate::going::{Active, Caller, Going};
-use sc_base::Stack;
+use sc_base::{NoMemory, Stack};
 use sc_machine::{Doing, Mode, Pending};
 use sc_plain_bodies::{Move, step_body};
 use sc_plain_leaves::Stop;
 use sc_plain_parts::Text;
 use sc_plain_steps::Env;
 use sc_plain_world::World;
-use sc_values::Answer;
+use sc_values::{Answer, Way};
+
+// A line is reached, before a run goes on.
+fn lined<'a>(l: u32, going: Going<'a>, world: &mut World) -> Result<Going<'a>, NoMemory>
+    ensures { IfOk result (λ g. (g ≡ going) × (world.new ≡ steady.on_line l world.old)) }
+{
+    match reach(l, world) {
+        Ok(()) => Ok(going),
+        Err(e) => {
+            drop(going);
+            Err(e)
+        }
+    }
+}
+
+// The answer of a call that ends.
+fn left(way: Way, active: &Active, world: &mut World) -> Result<Answer, NoMemory>
+    ensures { IfOk result (λ a. (a ≡ spec.answer_of way) × (world.new ≡ steady.without_call active.now.ids active.now.cost world.old)) }
+{
+    leave(active, world)?;
+    Ok(answer_of(way))
+}
 
 // One step of the innermost body.
 fn runs<'a>(
@@ -32,10 +54,7 @@ fn runs<'a>(
     let mut env = env;
     match step_body(doing, &mut stmts, &mut env, world)? {
         Move::Go(doing) => Ok(Going::Runs(doing, stmts, env, active)),
-        Move::Line(l, doing) => {
-            reach(l, world)?;
-            Ok(Going::Runs(doing, stmts, env, active))
-        }
+        Move::Line(l, doing) => Ok(lined(l, Going::Runs(doing, stmts, env, active), world)?),
         Move::Call(t, v, vs, items, user) => {
             let caller = Caller {
                 items,
@@ -46,10 +65,7 @@ fn runs<'a>(
             };
             Ok(Going::Makes(t, v, vs, caller))
         }
-        Move::Leave(way) => {
-            leave(&active, world)?;
-            Ok(Going::Answers(answer_of(way)))
-        }
+        Move::Leave(way) => Ok(Going::Answers(left(way, &active, world)?)),
     }
 }
 
