@@ -6,7 +6,7 @@ ghost use Rattle.sc_machine.specs.Bodies as machine;
 ghost use Rattle.sc_machine.specs.declared.body.Pending.TheVariants as kind;
 ghost use Rattle.sc_plain_bodies.specs.Moves.{Moves};
 
-use crate::moves::{Move, ends, leaves};
+use crate::moves::{Move, leaves};
 use sc_base::{Duplicate, Items, NoMemory, Stack};
 use sc_core::Auto;
 use sc_machine::{Pending, Statements};
@@ -105,5 +105,6 @@ pub fn block_ends(
     first_dead(env.blocks.as_slice(), k, world)?;
     without_blocks(k, env);
     world.close_block()?;
-    ends(way, world)
+    world.end()?;
+    Ok(leaves(way))
 }
