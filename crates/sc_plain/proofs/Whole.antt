@@ -17,8 +17,8 @@ use Rattle.sc_plain_leaves.specs.declared.stop.Stop.{Stop}
 use Rattle.sc_plain_leaves.specs.Gives.{ending_of, Stops}
 use Rattle.sc_plain.specs.declared.drive.Reached.{Reached}
 use Rattle.sc_plain.specs.Steps.{Brings}
-use Rattle.sc_plain.specs.declared.run.Ended.{Ended}
-use Rattle.sc_plain.specs.declared.run.Ended.TheVariants as ended
+use Rattle.sc_plain.specs.declared.running.Ended.{Ended}
+use Rattle.sc_plain.specs.declared.running.Ended.TheVariants as ended
 use Rattle.sc_plain.specs.Ends.{Finishes}
 use Rattle.sc_plain.specs.Steady as steady
 use Rattle.sc_plain.specs.Steady.{alone}

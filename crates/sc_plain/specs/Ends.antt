@@ -6,8 +6,8 @@ use Rattle.sc_meaning.specs.Versions.{Text}
 use Rattle.sc_meaning.specs.Behaviour.{Start, ending}
 use Rattle.sc_plain_leaves.specs.declared.stop.Stop.{Stop}
 use Rattle.sc_plain_leaves.specs.Gives.{ending_of}
-use Rattle.sc_plain.specs.declared.run.Ended.{Ended}
-use Rattle.sc_plain.specs.declared.run.Ended.TheVariants as ended
+use Rattle.sc_plain.specs.declared.running.Ended.{Ended}
+use Rattle.sc_plain.specs.declared.running.Ended.TheVariants as ended
 use Rattle.sc_plain.specs.Steady.{alone}
 
 -- nothing is said where no room was left, or where the steps were used up

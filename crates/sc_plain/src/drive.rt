@@ -33,7 +33,7 @@ fn is_over(going: &Going, callers: &Stack<Caller>) -> bool {
 
 // Where it is over.
 #[tactic(auto, using(crate::proofs::Whole::brought))]
-fn reached(going: Going, callers: &Stack<Caller>) -> Reached
+fn destination(going: Going, callers: &Stack<Caller>) -> Reached
     ensures { (h : versions.History) (texts : List versions.Text) (k : ℕ) (s : runs.State) (w : worlds.World) → Is s going callers.now w → Brings (steady.ran k h texts s) (Ok result) w }
 {
     match going {
@@ -71,5 +71,5 @@ pub fn drive<'a>(
         going = step_run(texts, going, callers, world)?;
         left -= 1;
     }
-    Ok(reached(going, callers))
+    Ok(destination(going, callers))
 }

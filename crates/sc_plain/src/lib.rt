@@ -5,10 +5,10 @@
 mod calls;
 mod drive;
 mod going;
-mod run;
+mod running;
 mod step;
 
-pub use run::{Ended, Finished, Limits, run};
+pub use running::{Ended, Finished, Limits, run};
 
 #[cfg(test)]
 mod reader;

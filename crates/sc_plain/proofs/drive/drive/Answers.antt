@@ -21,4 +21,4 @@ returns-in_err-going c = λ h q s i.
 pub returns : goal.returns
 returns c = λ h q s i.
     let p = c.stepping.invariant h q s i in
-    subst (λ t. Brings t c.reached.result c.stepping.world) p.2 (c.reached.ensures h c.args.texts.now c.stepping.left p.0 c.stepping.world p.1)
+    subst (λ t. Brings t c.destination.result c.stepping.world) p.2 (c.destination.ensures h c.args.texts.now c.stepping.left p.0 c.stepping.world p.1)

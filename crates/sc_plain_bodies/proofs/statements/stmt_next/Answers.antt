@@ -1,7 +1,8 @@
-use Rattle.std.proofs.Common.{◌≡◌, ℕ, List, Result, sym, subst}
+use Rattle.std.proofs.Common.{◌≡◌, ◌∙◌, ℕ, List, Result, ap, sym, subst}
 use Rattle.sc_core.specs.declared.expression.CoreExpr.{CoreExpr}
 use Rattle.sc_core.specs.declared.statement.CoreStmt.{CoreStmt, out-CoreStmt}
 use Rattle.sc_core.specs.declared.statement.CoreStmt.TheOpen.{CoreStmt-F}
+use Rattle.sc_core.specs.declared.statement.CoreStmt.TheVariants as statement
 use Rattle.sc_core.specs.declared.statement.SwitchLabel.{SwitchLabel}
 use Rattle.sc_meaning.specs.World.{World}
 use Rattle.sc_meaning.specs.Expressions.{Env}
@@ -21,5 +22,6 @@ switched s f l e labels a ss env w r is =
 
 pub returns-in-Switch : goal.returns-in-Switch
 returns-in-Switch c =
-    switched c.args.s (out-CoreStmt c.args.s) _ _ _ _ c.args.stmts.now c.args.env.now c.args.world.now c.switch_next.result
-    c.in-Switch.is (c.switch_next.ensures c.args.stmts.now c.args.env.now)
+    switched c.args.s (out-CoreStmt c.args.s) c.in-Switch.l c.in-Switch.e c.in-Switch.field-2 c.in-Switch.a c.args.stmts.now c.args.env.now c.args.world.now c.switch_next.result
+    (ap out-CoreStmt (sym c.get.ensures ∙ c.in-Switch.is) ∙ statement.outs-Switch c.in-Switch.l c.in-Switch.e c.in-Switch.field-2 c.in-Switch.a)
+    (c.switch_next.ensures c.args.stmts.now c.args.env.now)

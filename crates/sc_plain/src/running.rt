@@ -106,7 +106,7 @@ fn started(texts: &[Text], steps: u64, world: &mut World) -> Result<Ended, Stop>
 }
 
 // How an end is told.
-fn ended(given: Result<Ended, Stop>) -> Ended
+fn end_told(given: Result<Ended, Stop>) -> Ended
     ensures { (steps : ℕ) (s : behaviour.Start) (w : worlds.World) → Finishes steps s given w → EndsSo steps s result w }
 {
     match given {
@@ -130,6 +130,6 @@ pub fn run(
     ensures { IfOk result (λ r. EndsSo limits.steps (start_of texts.now limits.stack limits.heap input) r.ended r.world) }
 {
     let mut world = World::new(alloc, limits.stack, limits.heap, input)?;
-    let ended = ended(started(texts, limits.steps, &mut world));
+    let ended = end_told(started(texts, limits.steps, &mut world));
     Ok(Finished { ended, world })
 }
