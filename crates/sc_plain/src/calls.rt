@@ -239,7 +239,7 @@ pub fn makes<'a>(
     callers: &mut Stack<Caller<'a>>,
     world: &mut World,
 ) -> Result<Going<'a>, Stop>
-    ensures { (h : versions.History) → IsQuiet h → Steps (steady.made_unless (expressions.value_rule texts.now caller.env.text t.now v) h texts.now v vs.now (caller ∷ callers.old) world.old) result callers.new world.new }
+    ensures { (h : versions.History) → IsQuiet h → Steps (steady.made_unless (expressions.value_rule texts.now caller.entry.env.text t.now v) h texts.now v vs.now (caller.entry ∷ callers.old) world.old) result callers.new world.new }
 {
     let rule = value_rule(world.alloc(), texts, caller.env.text, t, &v);
     callers.push(caller)?;

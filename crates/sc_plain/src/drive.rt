@@ -34,7 +34,7 @@ fn is_over(going: &Going, callers: &Stack<Caller>) -> bool {
 // Where it is over.
 #[tactic(auto, using(crate::proofs::Whole::brought))]
 fn destination(going: Going, callers: &Stack<Caller>) -> Reached
-    ensures { (h : versions.History) (texts : List versions.Text) (k : ℕ) (s : runs.State) (w : worlds.World) → Is s going callers.now w → Brings (steady.ran k h texts s) (Ok result) w }
+    ensures { (h : versions.History) (texts : List versions.Text) (k : ℕ) (s : runs.State) (w : worlds.World) → Is s going.entry callers.now w → Brings (steady.ran k h texts s) (Ok result) w }
 {
     match going {
         Going::Answers(a) => {
@@ -63,7 +63,7 @@ pub fn drive<'a>(
     steps: u64,
     world: &mut World,
 ) -> Result<Reached, Stop>
-    ensures { (h : versions.History) → IsQuiet h → (s : runs.State) → Is s first callers.old world.old → Brings (steady.ran steps h texts.now s) result world.new }
+    ensures { (h : versions.History) → IsQuiet h → (s : runs.State) → Is s first.entry callers.old world.old → Brings (steady.ran steps h texts.now s) result world.new }
 {
     let mut going = first;
     let mut left = steps;

@@ -18,15 +18,22 @@ use sc_plain_steps::Env;
 use sc_plain_world::World;
 use sc_values::{Answer, Way};
 
-// A line is reached, before a run goes on.
-fn lined<'a>(l: u32, going: Going<'a>, world: &mut World) -> Result<Going<'a>, NoMemory>
-    ensures { IfOk result (λ g. (g ≡ going) × (world.new ≡ steady.on_line l world.old)) }
+// A line is reached, before a body goes on.
+fn lined<'a>(
+    l: u32,
+    doing: Doing,
+    stmts: Stack<Pending>,
+    env: Env<'a>,
+    active: Active,
+    world: &mut World,
+) -> Result<Going<'a>, Stop>
+    ensures { (cs : List runs.Caller) → Steps (runs.Runs doing stmts env.entry active cs (steady.on_line l world.old)) result cs world.new }
 {
     match reach(l, world) {
-        Ok(()) => Ok(going),
-        Err(e) => {
-            drop(going);
-            Err(e)
+        Ok(()) => Ok(Going::Runs(doing, stmts, env, active)),
+        Err(_) => {
+            drop(doing);
+            Err(Stop::NoRoom)
         }
     }
 }
@@ -48,13 +55,13 @@ fn runs<'a>(
     callers: &Stack<Caller<'a>>,
     world: &mut World,
 ) -> Result<Going<'a>, Stop>
-    ensures { (h : versions.History) (texts : List versions.Text) → Steps (steady.advance h texts (runs.Runs doing stmts env active callers.now world.old)) result callers.now world.new }
+    ensures { (h : versions.History) (texts : List versions.Text) → Steps (steady.advance h texts (runs.Runs doing stmts env.entry active callers.now world.old)) result callers.now world.new }
 {
     let mut stmts = stmts;
     let mut env = env;
     match step_body(doing, &mut stmts, &mut env, world)? {
         Move::Go(doing) => Ok(Going::Runs(doing, stmts, env, active)),
-        Move::Line(l, doing) => Ok(lined(l, Going::Runs(doing, stmts, env, active), world)?),
+        Move::Line(l, doing) => lined(l, doing, stmts, env, active, world),
         Move::Call(t, v, vs, items, user) => {
             let caller = Caller {
                 items,
@@ -93,7 +100,7 @@ pub fn step_run<'a>(
     callers: &mut Stack<Caller<'a>>,
     world: &mut World,
 ) -> Result<Going<'a>, Stop>
-    ensures { (h : versions.History) → IsQuiet h → (s : runs.State) → Is s going callers.old world.old → Steps (steady.advance h texts.now s) result callers.new world.new }
+    ensures { (h : versions.History) → IsQuiet h → (s : runs.State) → Is s going.entry callers.old world.old → Steps (steady.advance h texts.now s) result callers.new world.new }
 {
     match going {
         Going::Runs(doing, stmts, env, active) => runs(doing, stmts, env, active, callers, world),
