@@ -1,12 +1,12 @@
 -- A format is what its first piece writes, and the rest.
-use Rattle.std.proofs.Common.{◌≡◌, ℕ, suc, ◌-◌, ◌<◌, List, refl, ap, ◌∙◌, Option, Some, None, arith}
+use Rattle.std.proofs.Common.{◌≡◌, ℕ, suc, ◌-◌, ◌<◌, List, refl, ap, ◌∙◌, arith}
 use Rattle.sc_fmt.specs.declared.conversion.Piece.{Piece}
 use Rattle.sc_fmt.specs.declared.conversion.Piece.TheVariants as piece
 use Rattle.sc_fmt.specs.Format.{piece_of}
 use Rattle.sc_meaning.specs.World.{World}
 use Rattle.sc_meaning.specs.Outcomes.{Outcome, Done, Over, and_then}
-use Rattle.sc_meaning.specs.Printf.{Printed, formatted, piece_text, converted, put_in_front}
-use Rattle.sc_plain_library.specs.Turns.{Turn, turn_of, followed}
+use Rattle.sc_meaning.specs.Printf.{Printed, formatted, piece_text, converted}
+use Rattle.sc_plain_library.specs.Turns.{turn_of, followed}
 
 chain : {A B C : Type 0} (out : Outcome A) (f : A → World → Outcome B) (g : B → World → Outcome C) → and_then out (λ a w. and_then (f a w) g) ≡ and_then (and_then out f) g
 chain (Done a w) f g = refl

@@ -1,5 +1,5 @@
 -- A run in which nothing changes behind an event goes as one without versions, inside the library.
-use Rattle.std.proofs.Common.{◌≡◌, ℕ, ◌+◌, ◌%◌, true, List, [], ◌∷◌, ◌++◌, length, refl, sym, subst, ap, ◌∙◌}
+use Rattle.std.proofs.Common.{◌≡◌, ℕ, ◌+◌, ◌%◌, List, [], ◌∷◌, ◌++◌, length, refl, ap, ◌∙◌}
 use Rattle.sc_base.specs.declared.integer.Int.TheVariants.{Int as PlainInt}
 use Rattle.sc_base.specs.declared.key.Key.{Key}
 use Rattle.sc_ops.specs.Numbers.{number_of}

@@ -1,7 +1,7 @@
 -- Sums of digits, of which no more counts than that they are 2 ^ 32 or greater.
 use Rattle.std.proofs.Common.{◌≡◌, ℕ, zero, suc, ◌+◌, ◌-◌, ◌*◌, ◌^◌, ◌<◌, ◌≤◌, ◌%◌, Bool, true, false, refl, sym, ap, ◌∙◌, arith, List}
 use Rattle.std.proofs.lemmas.Bool.Decides.{nat_tests}
-use Rattle.std.specs.Prelude.{min, nat_lt, nat_le, ◌==◌, if◌then◌else◌, ℤ, pos, negsuc, neg_ℤ}
+use Rattle.std.specs.Prelude.{min, nat_lt, nat_le, ◌==◌, if◌then◌else◌, ℤ, pos, neg_ℤ}
 use Rattle.sc_base.specs.declared.key.Key.{Key}
 use Rattle.sc_fmt.specs.Format.{is_digit}
 use Rattle.sc_ops.specs.Numbers.{bits_of, is_in_range}

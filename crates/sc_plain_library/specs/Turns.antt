@@ -1,5 +1,5 @@
 -- One piece of a format, and what follows it (ANSI 4.9.6.1).
-use Rattle.std.specs.Prelude.{ℕ, List, [], ◌++◌, take, drop, Option, Some, None}
+use Rattle.std.specs.Prelude.{ℕ, List, [], take, drop, Option, Some, None}
 use Rattle.sc_fmt.specs.declared.conversion.Piece.{Piece}
 use Rattle.sc_fmt.specs.declared.conversion.Piece.TheVariants as piece
 use Rattle.sc_meaning.specs.World.{World}
@@ -18,10 +18,6 @@ turn_of g k rest (piece.Text n) w = Done (Some (record { text = take n rest; use
 turn_of g k rest (piece.Conv c n) w = and_then (converted g c k w) (λ t w. Done (Some (record { text = t.text; used = t.used; rest = drop n rest })) w)
 turn_of g k rest piece.End w = Done None w
 turn_of g k rest piece.Wrong w = refused g 1 w
-
--- bytes that are there already, before those that come
-abbrev pub before : List ℕ → List ℕ → World → Outcome (List ℕ)
-before done bs w = Done (done ++ bs) w
 
 -- a piece, and what follows it
 abbrev pub followed : (ℕ → List ℕ → World → Outcome (List ℕ)) → Option Turn → World → Outcome (List ℕ)

@@ -2,22 +2,23 @@
 ghost use Rattle.std.specs.Prelude.{◌≡◌, []};
 ghost use Rattle.sc_meaning.specs.Expressions as answers;
 ghost use Rattle.sc_meaning.specs.Functions as spec;
+ghost use Rattle.sc_meaning.specs.Library as library;
 ghost use Rattle.sc_meaning.specs.Outcomes as outcome;
 ghost use Rattle.sc_meaning.specs.World as worlds;
 ghost use Rattle.sc_meaning.specs.Versions.{History};
 ghost use Rattle.sc_plain_leaves.specs.Gives.{Gives};
 ghost use Rattle.sc_plain_library.specs.Quiet.{IsQuiet};
 
-use crate::bytes::{bits_at, past, shown, text_at, value_at};
 use crate::characters::on_character;
-use crate::copies::{memcpy, memmove, memset, strcat, strcpy, strlen, strncpy};
 use crate::ends::{assert_fail, exit};
-use crate::heap::{calloc, free, malloc, realloc};
 use crate::numbers::{abs, atoi};
 use crate::printf::printf;
-use crate::searches::{bytes_compared, first_found, last_found, strcmp};
 use sc_base::Key;
 use sc_meaning::LibFun;
+use sc_plain_bytes::{
+    bits_at, bytes_compared, calloc, free, malloc, memcpy, memmove, memset, realloc, shown, strcat,
+    strchr, strcmp, strcpy, strlen, strncpy, strrchr, text_at, value_at,
+};
 use sc_plain_leaves::Stop;
 use sc_plain_world::World;
 use sc_values::{Answer, Value};
@@ -83,42 +84,46 @@ fn srand(n: u32, world: &mut World) -> Result<Answer, Stop>
     Ok(Answer::nothing())
 }
 
-// The call of a function of the library, in a run that has no further version.
-fn called(f: LibFun, key: &Key, vs: &[Value], world: &mut World) -> Result<Answer, Stop>
+// The call of a function of the library, in a run that has no further version; `p` and `q` are its first two arguments.
+fn called(
+    f: LibFun,
+    key: &Key,
+    vs: &[Value],
+    p: &Value,
+    q: &Value,
+    world: &mut World,
+) -> Result<Answer, Stop>
+    requires first { p.now ≡ library.value_at vs.now 0 }
+    requires second { q.now ≡ library.value_at vs.now 1 }
     ensures { Gives (spec.library_call [] f key.now vs.now world.old) result world.new }
 {
-    let p = value_at(vs, 0, world)?;
-    let q = value_at(vs, 1, world)?;
-    let a = bits_at(vs, 0);
-    let b = bits_at(vs, 1);
-    let n = bits_at(vs, 2);
     match f {
-        LibFun::Putchar => putchar(a, world),
-        LibFun::Puts => puts(&p, world),
+        LibFun::Putchar => putchar(bits_at(vs, 0), world),
+        LibFun::Puts => puts(p, world),
         LibFun::Printf => printf(key, vs, world),
         LibFun::Getchar => getchar(world),
-        LibFun::Malloc => malloc(a, world),
-        LibFun::Calloc => calloc(a, b, world),
-        LibFun::Realloc => realloc(&p, b, world),
-        LibFun::Free => free(&p, world),
-        LibFun::Memcpy => memcpy(&p, &q, n, world),
-        LibFun::Memmove => memmove(&p, &q, n, world),
-        LibFun::Memset => memset(&p, b, n, world),
-        LibFun::Memcmp => bytes_compared(u64::from(n), false, &p, &q, world),
-        LibFun::Strlen => strlen(&p, world),
-        LibFun::Strcpy => strcpy(&p, &q, world),
-        LibFun::Strncpy => strncpy(&p, &q, n, world),
-        LibFun::Strcat => strcat(&p, &q, world),
-        LibFun::Strcmp => strcmp(&p, &q, world),
-        LibFun::Strncmp => bytes_compared(u64::from(n), true, &p, &q, world),
-        LibFun::Strchr => first_found(past(world, &p), &p, b % 256, world),
-        LibFun::Strrchr => last_found(past(world, &p), &p, b % 256, world),
-        LibFun::Atoi => atoi(key, vs, &p, world),
-        LibFun::Abs => abs(key, vs, a, world),
+        LibFun::Malloc => malloc(bits_at(vs, 0), world),
+        LibFun::Calloc => calloc(bits_at(vs, 0), bits_at(vs, 1), world),
+        LibFun::Realloc => realloc(p, bits_at(vs, 1), world),
+        LibFun::Free => free(p, world),
+        LibFun::Memcpy => memcpy(p, q, bits_at(vs, 2), world),
+        LibFun::Memmove => memmove(p, q, bits_at(vs, 2), world),
+        LibFun::Memset => memset(p, bits_at(vs, 1), bits_at(vs, 2), world),
+        LibFun::Memcmp => bytes_compared(bits_at(vs, 2), false, p, q, world),
+        LibFun::Strlen => strlen(p, world),
+        LibFun::Strcpy => strcpy(p, q, world),
+        LibFun::Strncpy => strncpy(p, q, bits_at(vs, 2), world),
+        LibFun::Strcat => strcat(p, q, world),
+        LibFun::Strcmp => strcmp(p, q, world),
+        LibFun::Strncmp => bytes_compared(bits_at(vs, 2), true, p, q, world),
+        LibFun::Strchr => strchr(p, bits_at(vs, 1), world),
+        LibFun::Strrchr => strrchr(p, bits_at(vs, 1), world),
+        LibFun::Atoi => atoi(key, vs, p, world),
+        LibFun::Abs => abs(key, vs, bits_at(vs, 0), world),
         LibFun::Rand => rand(world),
-        LibFun::Srand => srand(a, world),
-        LibFun::Exit => exit(a, world),
-        LibFun::AssertFail => assert_fail(&p, &q, n, world),
+        LibFun::Srand => srand(bits_at(vs, 0), world),
+        LibFun::Exit => exit(bits_at(vs, 0), world),
+        LibFun::AssertFail => assert_fail(p, q, bits_at(vs, 2), world),
         LibFun::Isalnum
         | LibFun::Isalpha
         | LibFun::Iscntrl
@@ -144,5 +149,7 @@ fn called(f: LibFun, key: &Key, vs: &[Value], world: &mut World) -> Result<Answe
 pub fn library_call(f: LibFun, key: &Key, vs: &[Value], world: &mut World) -> Result<Answer, Stop>
     ensures { (h : History) → IsQuiet h → Gives (spec.library_call h f key.now vs.now world.old) result world.new }
 {
-    called(f, key, vs, world)
+    let p = value_at(vs, 0, world)?;
+    let q = value_at(vs, 1, world)?;
+    called(f, key, vs, &p, &q, world)
 }

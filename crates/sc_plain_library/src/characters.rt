@@ -8,9 +8,9 @@ ghost use Rattle.sc_ops.specs.Operators as operators;
 ghost use Rattle.sc_plain_leaves.specs.Gives.{Gives};
 ghost use Rattle.sc_plain_library.specs.Characters.{value_of};
 
-use crate::bytes::{argument_breach, bits_at};
 use sc_base::Key;
 use sc_meaning::LibFun;
+use sc_plain_bytes::{argument_breach, bits_at};
 use sc_plain_leaves::Stop;
 use sc_plain_world::World;
 use sc_values::{Answer, Value};

@@ -1,14 +1,12 @@
 // Functions that end the run (ANSI 4.2.1.1, 4.10.4.3).
-ghost use Rattle.std.specs.Prelude.{◌≡◌, ◌∷◌, [], IfOk, decimal};
-ghost use Rattle.sc_base.specs.declared.integer.Int.TheVariants.{Int as PlainInt};
+ghost use Rattle.std.specs.Prelude.{◌≡◌, [], IfOk, decimal};
 ghost use Rattle.sc_meaning.specs.Functions as spec;
 ghost use Rattle.sc_meaning.specs.Library as library;
 ghost use Rattle.sc_meaning.specs.Outcomes as outcome;
-ghost use Rattle.sc_ops.specs.Numbers as numbers;
 ghost use Rattle.sc_plain_leaves.specs.Gives.{Gives};
 
-use crate::bytes::{shown, text_at};
 use sc_base::{Int, Items, NoMemory};
+use sc_plain_bytes::{shown, text_at};
 use sc_plain_leaves::{Stop, number_of};
 use sc_plain_world::World;
 use sc_values::{Answer, Value};

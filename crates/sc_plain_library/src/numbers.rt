@@ -2,15 +2,14 @@
 ghost use Rattle.std.specs.Prelude.{◌≡◌, ◌+◌, ◌-◌, ◌*◌, ◌≤◌, ◌^◌, min, pos, neg_ℤ};
 ghost use Rattle.sc_base.specs.declared.integer.Int.TheVariants.{Int as PlainInt};
 ghost use Rattle.sc_meaning.specs.Functions as spec;
-ghost use Rattle.sc_meaning.specs.Library as library;
 ghost use Rattle.sc_meaning.specs.Outcomes as outcome;
 ghost use Rattle.sc_ops.specs.Numbers as numbers;
 ghost use Rattle.sc_plain_leaves.specs.Gives.{Gives};
 ghost use Rattle.sc_plain_library.specs.Sums.{cut};
 
-use crate::bytes::{byte_read, past};
 use crate::characters::{is_digit, is_space, out_of_range};
 use sc_base::{Int, Key};
+use sc_plain_bytes::{byte_read, past};
 use sc_plain_leaves::{Stop, number_of, sum};
 use sc_plain_world::World;
 use sc_values::{Answer, Value};
@@ -35,7 +34,7 @@ impl Model for Seen {
 }
 
 // The first byte of a text that is no white space, of at most `n` that are read.
-#[tactic(auto, using(crate::proofs::Mores::space_more))]
+#[tactic(auto, using(crate::proofs::Spaces::space_more))]
 fn after_space(n: u64, p: &Value, world: &mut World) -> Result<Seen, Stop>
     ensures { Gives (spec.after_space n p.now 0 world.old) result world.new }
 {

@@ -12,9 +12,9 @@ ghost use Rattle.sc_plain_leaves.specs.Gives.{Gives};
 ghost use Rattle.sc_plain_leaves.specs.declared.stop.Stop.TheVariants as stop;
 ghost use Rattle.sc_plain_library.specs.Turns.{turn_of};
 
-use crate::bytes::{argument_breach, length_of, shown, text_at, text_upto, value_at};
 use sc_base::{Duplicate, Int, Items, Key, NoMemory};
 use sc_fmt::{Conv, Count, Piece, number, piece};
+use sc_plain_bytes::{argument_breach, length_of, shown, text_at, text_upto, value_at};
 use sc_plain_leaves::{Stop, bits, is_number, is_pointer, number_of, sum};
 use sc_plain_world::World;
 use sc_values::{Answer, Value};

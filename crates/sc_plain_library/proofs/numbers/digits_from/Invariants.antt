@@ -1,4 +1,4 @@
-use Rattle.std.proofs.Common.{◌≡◌, ◌≤◌, ◌^◌, ◌×◌}
+use Rattle.std.proofs.Common.{◌≡◌, ◌≤◌, ◌^◌}
 use Rattle.sc_meaning.specs.Functions as spec
 use Rattle.sc_meaning.specs.Outcomes.{and_then}
 use Rattle.sc_plain_library.specs.Sums.{cut}

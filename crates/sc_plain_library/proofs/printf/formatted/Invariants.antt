@@ -1,7 +1,7 @@
 use Rattle.std.proofs.Common.{◌≡◌, ◌+◌, length}
 use Rattle.sc_meaning.specs.Outcomes.{and_then}
 use Rattle.sc_meaning.specs.Printf as spec
-use Rattle.sc_plain_library.specs.Turns.{before}
+use Rattle.sc_plain_bytes.specs.Texts.{before}
 use Rattle.sc_plain_library.proofs.printf.formatted.Given as goal
 
 abbrev pub invariant-loop-left : goal.invariant-loop-left

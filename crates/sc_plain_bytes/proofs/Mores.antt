@@ -1,14 +1,14 @@
 -- One more turn of what is bounded by a number.
-use Rattle.std.proofs.Common.{◌≡◌, ℕ, suc, ◌+◌, ◌-◌, ◌<◌, Bool, not, [], refl, ap, ◌∙◌, arith}
+use Rattle.std.proofs.Common.{◌≡◌, ℕ, suc, ◌+◌, ◌-◌, ◌<◌, ◌≤◌, Bool, true, false, not, [], refl, sym, subst, ap, ◌∙◌, arith}
+use Rattle.std.proofs.lemmas.Bool.Decides.{nat_tests}
 use Rattle.std.specs.Prelude.{nat_le, ◌==◌, ◌&&◌, ◌||◌, if◌then◌else◌}
 use Rattle.sc_meaning.specs.Values.{Value, null}
 use Rattle.sc_meaning.specs.World.{World}
-use Rattle.sc_meaning.specs.Outcomes.{Outcome, Done, and_then, unless, access_breach, moved}
+use Rattle.sc_meaning.specs.Outcomes.{Done, and_then, unless, access_breach, moved}
 use Rattle.sc_meaning.specs.Violations.{store_rule}
 use Rattle.sc_meaning.specs.Expressions.{either}
 use Rattle.sc_meaning.specs.Library.{byte_read, put_before, text_upto, writable, gives, block_size, class_from}
-use Rattle.sc_fmt.specs.Classes.{is_space}
-use Rattle.sc_meaning.specs.Functions.{bytes_compared, first_found, last_found, order_of, Seen, after_space}
+use Rattle.sc_meaning.specs.Functions.{bytes_compared, first_found, last_found, order_of}
 
 text_suc : (n : ℕ) (p : Value) (i : ℕ) (w : World) → text_upto (suc n) p i w ≡ and_then (byte_read p i w) (λ b w. either (b == 0) (Done []) (λ w. and_then (text_upto n p (i + 1) w) (put_before b)) w)
 text_suc n p i w = refl
@@ -58,10 +58,24 @@ class_more k n h =
     let e : 29 - k ≡ suc (29 - (k + 1)) = omega (arith, h) in
     ap (λ (m : ℕ). class_from m k n) e ∙ class_suc (29 - (k + 1)) k n
 
-space_suc : (n : ℕ) (p : Value) (i : ℕ) (w : World) → after_space (suc n) p i w ≡ and_then (byte_read p i w) (λ b w. either (is_space b) (after_space n p (i + 1)) (Done (record { at = i; byte = b })) w)
-space_suc n p i w = refl
+le_true : (m n : ℕ) → m ≤ n → nat_le m n ≡ true
+le_true m n h = grind (arith, nat_tests, h)
 
-pub space_more : (n : ℕ) (p : Value) (i : ℕ) (w : World) → 0 < n → after_space n p i w ≡ and_then (byte_read p i w) (λ b w. either (is_space b) (after_space (n - 1) p (i + 1)) (Done (record { at = i; byte = b })) w)
-space_more n p i w h =
-    let e : n ≡ suc (n - 1) = omega (arith, h) in
-    ap (λ (m : ℕ). after_space m p i w) e ∙ space_suc (n - 1) p i w
+le_false : (m n : ℕ) → n < m → nat_le m n ≡ false
+le_false m n h = grind (arith, nat_tests, h)
+
+-- the class that is asked for is k, or one behind it, or the last one; the test is as the program makes it
+pub class_here : (k n m size chosen : ℕ) → k < 29 → class_from (29 - k) k n ≡ chosen → m ≡ n → size ≡ block_size k → m + 1 ≤ size → k ≡ chosen
+class_here k n m size chosen h e p q t =
+    let fits : n + 1 ≤ block_size k = subst (λ (b : ℕ). n + 1 ≤ b) q (subst (λ (a : ℕ). a + 1 ≤ size) p t) in
+    sym (class_more k n h ∙ ap (λ (b : Bool). if b then k else class_from (29 - (k + 1)) (k + 1) n) (le_true (n + 1) (block_size k) fits)) ∙ e
+
+pub class_behind : (k n m size chosen : ℕ) → k < 29 → class_from (29 - k) k n ≡ chosen → m ≡ n → size ≡ block_size k → size < m + 1 → class_from (29 - (k + 1)) (k + 1) n ≡ chosen
+class_behind k n m size chosen h e p q t =
+    let exceeds : block_size k < n + 1 = subst (λ (b : ℕ). b < n + 1) q (subst (λ (a : ℕ). size < a + 1) p t) in
+    sym (class_more k n h ∙ ap (λ (b : Bool). if b then k else class_from (29 - (k + 1)) (k + 1) n) (le_false (n + 1) (block_size k) exceeds)) ∙ e
+
+pub class_last : (k n chosen : ℕ) → 29 ≤ k → k ≤ 29 → class_from (29 - k) k n ≡ chosen → 29 ≡ chosen
+class_last k n chosen h j e =
+    let at_end : k ≡ 29 = omega (arith, h, j) in
+    sym (ap (λ (m : ℕ). class_from (29 - m) m n) at_end) ∙ e

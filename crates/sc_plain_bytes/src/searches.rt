@@ -1,6 +1,7 @@
 // Comparisons and searches, byte by byte (ANSI 4.11.4, 4.11.5).
-ghost use Rattle.std.specs.Prelude.{◌≡◌, ◌==◌, if◌then◌else◌, IfOk};
+ghost use Rattle.std.specs.Prelude.{◌≡◌, ◌%◌, ◌==◌, if◌then◌else◌, IfOk};
 ghost use Rattle.sc_meaning.specs.Functions as spec;
+ghost use Rattle.sc_meaning.specs.Library as library;
 ghost use Rattle.sc_meaning.specs.Outcomes as outcome;
 ghost use Rattle.sc_meaning.specs.Values as value;
 ghost use Rattle.sc_plain_leaves.specs.Gives.{Gives};
@@ -24,14 +25,10 @@ fn order_of(a: u8, b: u8) -> Value
     }
 }
 
-/// At most `n` bytes are compared, the first argument's before the second's, up to the first difference, or to the zero
-/// byte where this is asked for.
-///
-/// # Errors
-///
-/// The rule that a load breaks.
+// At most `n` bytes are compared, the first argument's before the second's, up to the first difference, or to the zero
+// byte where this is asked for.
 #[tactic(auto, using(crate::proofs::Mores::compared_more))]
-pub fn bytes_compared(
+fn compared_upto(
     n: u64,
     to_zero: bool,
     p: &Value,
@@ -54,6 +51,23 @@ pub fn bytes_compared(
     Ok(Answer::plain(Value::null()))
 }
 
+/// `memcmp` and `strncmp`: at most `n` bytes are compared, where this is asked for up to the zero byte.
+///
+/// # Errors
+///
+/// The rule that a load breaks.
+pub fn bytes_compared(
+    n: u32,
+    to_zero: bool,
+    p: &Value,
+    q: &Value,
+    world: &mut World,
+) -> Result<Answer, Stop>
+    ensures { Gives (spec.bytes_compared n to_zero p.now q.now 0 world.old) result world.new }
+{
+    compared_upto(u64::from(n), to_zero, p, q, world)
+}
+
 /// `strcmp`.
 ///
 /// # Errors
@@ -63,16 +77,12 @@ pub fn strcmp(p: &Value, q: &Value, world: &mut World) -> Result<Answer, Stop>
     ensures { Gives (spec.strcmp p.now q.now world.old) result world.new }
 {
     let n = past(world, p);
-    bytes_compared(n, true, p, q, world)
+    compared_upto(n, true, p, q, world)
 }
 
-/// The first byte equal to `c`, up to the zero byte, of at most `n`.
-///
-/// # Errors
-///
-/// The rule that a load breaks.
+// The first byte equal to `c`, up to the zero byte, of at most `n`.
 #[tactic(auto, using(crate::proofs::Mores::first_more))]
-pub fn first_found(n: u64, p: &Value, c: u32, world: &mut World) -> Result<Answer, Stop>
+fn first_found(n: u64, p: &Value, c: u32, world: &mut World) -> Result<Answer, Stop>
     ensures { Gives (spec.first_found n p.now c 0 world.old) result world.new }
 {
     let mut i = 0;
@@ -109,13 +119,9 @@ fn found_now(
     }
 }
 
-/// The last byte equal to `c`, up to the zero byte, of at most `n`.
-///
-/// # Errors
-///
-/// The rule that a load breaks.
+// The last byte equal to `c`, up to the zero byte, of at most `n`.
 #[tactic(auto, using(crate::proofs::Mores::last_more))]
-pub fn last_found(n: u64, p: &Value, c: u32, world: &mut World) -> Result<Answer, Stop>
+fn last_found(n: u64, p: &Value, c: u32, world: &mut World) -> Result<Answer, Stop>
     ensures { Gives (spec.last_found n p.now c 0 value.null world.old) result world.new }
 {
     let mut i = 0;
@@ -131,4 +137,26 @@ pub fn last_found(n: u64, p: &Value, c: u32, world: &mut World) -> Result<Answer
         left -= 1;
     }
     Ok(Answer::plain(found))
+}
+
+/// `strchr`: the first byte of a text, its zero byte included, that is equal to `c` as a byte.
+///
+/// # Errors
+///
+/// The rule that a load breaks.
+pub fn strchr(p: &Value, c: u32, world: &mut World) -> Result<Answer, Stop>
+    ensures { Gives (spec.first_found (library.past world.old p.now) p.now (c % 256) 0 world.old) result world.new }
+{
+    first_found(past(world, p), p, c % 256, world)
+}
+
+/// `strrchr`: the last such byte.
+///
+/// # Errors
+///
+/// The rule that a load breaks.
+pub fn strrchr(p: &Value, c: u32, world: &mut World) -> Result<Answer, Stop>
+    ensures { Gives (spec.last_found (library.past world.old p.now) p.now (c % 256) 0 value.null world.old) result world.new }
+{
+    last_found(past(world, p), p, c % 256, world)
 }

@@ -23,7 +23,6 @@ fn block_size(k: u32) -> u64
 }
 
 // The class of a request of n bytes.
-#[tactic(auto, using(crate::proofs::Mores::class_more))]
 fn class_of(n: u32) -> u32
     ensures class { result ≡ spec.class_of n }
     ensures bound { result < 30 }
