@@ -1,5 +1,6 @@
 -- In a run whose program does not change, the machine's step is the steady one.
-use Rattle.std.proofs.Common.{◌≡◌, ℕ, zero, suc, ◌+◌, Bool, true, false, nat_lt, List, [], ◌∷◌, slice_index_or, refl, ap, sym, ◌∙◌, Option, Some, None, add-one}
+use Rattle.std.proofs.Common.{◌≡◌, ℕ, zero, suc, ◌+◌, ◌==◌, Bool, true, false, nat_le, nat_lt, List, [], ◌∷◌, slice_index_or, refl, ap, sym, ◌∙◌, arith, Option, Some, None}
+use Rattle.std.proofs.lemmas.Bool.{cond-false, cond-true, le-leb, le-ltb, ne_eqb}
 use Rattle.sc_base.specs.declared.key.Key.{Key}
 use Rattle.sc_base.specs.declared.report.Rule.{Rule}
 use Rattle.sc_core.specs.declared.module.Fun.{Fun}
@@ -7,7 +8,7 @@ use Rattle.sc_meaning.specs.Values.{Value, Number, FunctionAt, Pointer}
 use Rattle.sc_meaning.specs.World.{World, Event, Enter, Leave, At, Out, Born, Happens, pass, Pop, Stack, OpenBlock}
 use Rattle.sc_meaning.specs.Outcomes.{Outcome, Done, Over, and_then, went}
 use Rattle.sc_meaning.specs.Versions.{Text, History, Callee, Missing, InText, InLibrary, callee_of, version_at}
-use Rattle.sc_meaning.specs.Changes.{settled_from, happened, reached, at_line}
+use Rattle.sc_meaning.specs.Changes.{changed_if, settled_from, happened, reached, at_line}
 use Rattle.sc_meaning.specs.Expressions.{value_rule}
 use Rattle.sc_meaning.specs.Statements.{Way, all_dead}
 use Rattle.sc_meaning.specs.Calls.{parameters, left, answer_of}
@@ -24,7 +25,9 @@ use Rattle.sc_plain.specs.Steady.{alone}
 
 -- one version changes nothing behind an event
 later : (n : ℕ) (texts : List Text) (w : World) → settled_from (n + 1) [] (alone texts) w ≡ went w
-later n texts w = rw add-one refl
+later n texts w =
+    cond-false (nat_lt (n + 1) 0) (went w) (and_then (changed_if (0 == n + 1) [] texts w) (λ _ w. went w)) (le-ltb (n + 1) 0 (omega arith))
+    ∙ ap (λ b. and_then (changed_if b [] texts w) (λ _ w. went w)) (ne_eqb 0 (n + 1) (λ e. omega arith))
 
 pub quiet : (texts : List Text) → IsQuiet (alone texts)
 quiet texts (Enter key home) w = later w.count texts (pass (Happens (Enter key home)) w)
@@ -33,8 +36,7 @@ quiet texts (At home line enter) w = later w.count texts (pass (Happens (At home
 quiet texts (Out byte) w = later w.count texts (pass (Happens (Out byte)) w)
 
 pub present : (texts : List Text) (n : ℕ) → version_at (alone texts) n ≡ texts
-present texts zero = refl
-present texts (suc n) = refl
+present texts n = cond-true (nat_le 0 n) texts [] (le-leb 0 n (omega arith))
 
 module _ (h : History) (texts : List Text) (still : IsQuiet h) (there : (n : ℕ) → version_at h n ≡ texts) where
   on_line : (l : ℕ) (mode : Doing) (ss : List Pending) (env : Env) (a : Active) (cs : List Caller) (w : World) → runs.then_goes (reached h l w) (λ _ w. Runs mode ss env a cs w) ≡ Runs mode ss env a cs (steady.on_line l w)

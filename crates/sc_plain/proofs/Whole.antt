@@ -1,5 +1,5 @@
 -- From a run's steps to what the whole program does.
-use Rattle.std.proofs.Common.{◌≡◌, ℕ, zero, suc, ◌+◌, ◌<◌, List, [], refl, ap, sym, subst, ◌∙◌, arith, add-one, Option, Some, None, Result, Ok, Err, ⊥, absurd}
+use Rattle.std.proofs.Common.{◌≡◌, ℕ, zero, suc, ◌+◌, ◌<◌, List, [], refl, ap, sym, subst, ◌∙◌, arith, add-one, Option, Some, None, Result, Ok, Err}
 use Rattle.std.specs.Result.{IsErrAnd}
 use Rattle.std.proofs.lemmas.Result.{err_from_is_err_and}
 use Rattle.sc_meaning.specs.World.{World, tick}
@@ -16,7 +16,8 @@ use Rattle.sc_machine.proofs.RunFollows.{answers_meaning, ends_meaning}
 use Rattle.sc_plain_leaves.specs.declared.stop.Stop.{Stop}
 use Rattle.sc_plain_leaves.specs.Gives.{ending_of, Stops}
 use Rattle.sc_plain.specs.declared.drive.Reached.{Reached}
-use Rattle.sc_plain.specs.Steps.{Brings}
+use Rattle.sc_plain.specs.declared.going.Going.{Going}
+use Rattle.sc_plain.specs.Steps.{Brings, Steps}
 use Rattle.sc_plain.specs.declared.running.Ended.{Ended}
 use Rattle.sc_plain.specs.declared.running.Ended.TheVariants as ended
 use Rattle.sc_plain.specs.Ends.{Finishes}
@@ -41,7 +42,11 @@ ended_there k h texts s e p = ap (steady.ran k h texts) p ∙ stays_ended k h te
 
 -- one step of those that are left
 pub one_less : (k j : ℕ) (h : History) (texts : List Text) (s : State) → k ≡ j + 1 → steady.ran k h texts s ≡ steady.ran j h texts (steady.advance h texts s)
-one_less k j h texts s is = ap (λ n. steady.ran n h texts s) (is ∙ add-one)
+one_less k j h texts s is = ap (λ n. steady.ran n h texts s) (is ∙ add-one j)
+
+-- a step from a state that is another one
+pub from_there : (h : History) (texts : List Text) (s t : State) (r : Result Going Stop) (cs : List Caller) (w : World) → s ≡ t → Steps (steady.advance h texts t) r cs w → Steps (steady.advance h texts s) r cs w
+from_there h texts s t r cs w is = subst (λ s. Steps (steady.advance h texts s) r cs w) (sym is)
 
 -- a step that failed ends the whole, as `?` passes its end on
 pub ends_here : (t : State) (r : Result Reached Stop) (s : Stop) (w : World) → IsErrAnd r (λ e. e ≡ s) → ((e : Ending) → ending_of s w ≡ Some e → t ≡ Ends e) → Brings t r w

@@ -1,5 +1,5 @@
 // One step of a run, and a whole run (ANSI 2.1.2.2, 2.1.2.3).
-ghost use Rattle.std.specs.Prelude.{◌≡◌, List, IfOk};
+ghost use Rattle.std.specs.Prelude.{List};
 ghost use Rattle.sc_meaning.specs.Calls as spec;
 ghost use Rattle.sc_meaning.specs.Versions as versions;
 ghost use Rattle.sc_machine.specs.Runs as runs;
@@ -9,7 +9,7 @@ ghost use Rattle.sc_plain.specs.Steps.{Brings, Is, Steps};
 
 use crate::calls::{answer_of, leave, makes, reach};
 use crate::going::{Active, Caller, Going};
-use sc_base::{NoMemory, Stack};
+use sc_base::Stack;
 use sc_machine::{Doing, Mode, Pending};
 use sc_plain_bodies::{Move, step_body};
 use sc_plain_leaves::Stop;
@@ -25,9 +25,10 @@ fn lined<'a>(
     stmts: Stack<Pending>,
     env: Env<'a>,
     active: Active,
+    callers: &Stack<Caller<'a>>,
     world: &mut World,
 ) -> Result<Going<'a>, Stop>
-    ensures { (cs : List runs.Caller) → Steps (runs.Runs doing stmts env.entry active cs (steady.on_line l world.old)) result cs world.new }
+    ensures { Steps (runs.Runs doing stmts env.entry active callers.now (steady.on_line l world.old)) result callers.now world.new }
 {
     match reach(l, world) {
         Ok(()) => Ok(Going::Runs(doing, stmts, env, active)),
@@ -38,12 +39,17 @@ fn lined<'a>(
     }
 }
 
-// The answer of a call that ends.
-fn left(way: Way, active: &Active, world: &mut World) -> Result<Answer, NoMemory>
-    ensures { IfOk result (λ a. (a ≡ spec.answer_of way) × (world.new ≡ steady.without_call active.now.ids active.now.cost world.old)) }
+// A call ends, and its answer goes to its caller.
+fn left<'a>(
+    way: Way,
+    active: &Active,
+    callers: &Stack<Caller<'a>>,
+    world: &mut World,
+) -> Result<Going<'a>, Stop>
+    ensures { Steps (runs.Answers (spec.answer_of way) callers.now (steady.without_call active.now.ids active.now.cost world.old)) result callers.now world.new }
 {
     leave(active, world)?;
-    Ok(answer_of(way))
+    Ok(Going::Answers(answer_of(way)))
 }
 
 // One step of the innermost body.
@@ -61,7 +67,7 @@ fn runs<'a>(
     let mut env = env;
     match step_body(doing, &mut stmts, &mut env, world)? {
         Move::Go(doing) => Ok(Going::Runs(doing, stmts, env, active)),
-        Move::Line(l, doing) => lined(l, doing, stmts, env, active, world),
+        Move::Line(l, doing) => lined(l, doing, stmts, env, active, callers, world),
         Move::Call(t, v, vs, items, user) => {
             let caller = Caller {
                 items,
@@ -72,7 +78,7 @@ fn runs<'a>(
             };
             Ok(Going::Makes(t, v, vs, caller))
         }
-        Move::Leave(way) => Ok(Going::Answers(left(way, &active, world)?)),
+        Move::Leave(way) => left(way, &active, callers, world),
     }
 }
 
