@@ -1,0 +1,33 @@
+-- How the program says that a run ended.
+use Rattle.std.specs.Prelude.{◌≡◌, ℕ, ◌<◌, List, Option, Some, None, Result, Ok, Err}
+use Rattle.sc_meaning.specs.World.{World}
+use Rattle.sc_meaning.specs.Outcomes.{Ending, Exit, Undefined, StackFull, BirthLimit}
+use Rattle.sc_meaning.specs.Versions.{Text}
+use Rattle.sc_meaning.specs.Behaviour.{Start, ending}
+use Rattle.sc_plain_leaves.specs.declared.stop.Stop.{Stop}
+use Rattle.sc_plain_leaves.specs.Gives.{ending_of}
+use Rattle.sc_plain.specs.declared.running.Ended.{Ended}
+use Rattle.sc_plain.specs.declared.running.Ended.TheVariants as ended
+use Rattle.sc_plain.specs.Steady.{alone}
+
+-- nothing is said where no room was left, or where the steps were used up
+abbrev pub end_of : Ended → World → Option Ending
+end_of (ended.Exit status) w = Some (Exit status w)
+end_of (ended.Undefined b) w = Some (Undefined b w)
+end_of (ended.StackFull key) w = Some (StackFull key w)
+end_of ended.BirthLimit w = Some (BirthLimit w)
+end_of ended.OutOfSteps w = None
+end_of ended.NoRoom w = None
+
+-- one program, which does not change
+abbrev pub start_of : List Text → ℕ → ℕ → List ℕ → Start
+start_of texts stack heap input = record { stack = stack; heap = heap; input = input; history = alone texts }
+
+-- so the run ends, at every bound greater than these steps
+abbrev pub EndsSo : ℕ → Start → Ended → World → Type 0
+EndsSo steps s ended w = (n : ℕ) → steps < n → (e : Ending) → end_of ended w ≡ Some e → ending n s ≡ e
+
+-- the same of what a part of the program answers
+abbrev pub Finishes : ℕ → Start → Result Ended Stop → World → Type 0
+Finishes steps s (Ok ended) w = EndsSo steps s ended w
+Finishes steps s (Err stop) w = (n : ℕ) → steps < n → (e : Ending) → ending_of stop w ≡ Some e → ending n s ≡ e

@@ -1,0 +1,28 @@
+-- How a step of the program on a run stands to the machine's step.
+use Rattle.std.specs.Prelude.{◌≡◌, List, [], Some, Result, Ok, Err}
+use Rattle.sc_meaning.specs.World.{World}
+use Rattle.sc_meaning.specs.Outcomes.{Ending}
+use Rattle.sc_machine.specs.Runs.{Caller, State, Runs, Makes, Answers, Ends}
+use Rattle.sc_plain_leaves.specs.declared.stop.Stop.{Stop}
+use Rattle.sc_plain_leaves.specs.Gives.{ending_of}
+use Rattle.sc_plain.specs.declared.drive.Reached.{Reached}
+use Rattle.sc_plain.specs.declared.drive.Reached.TheVariants as reached
+use Rattle.sc_plain.specs.declared.going.Going.{Going}
+use Rattle.sc_plain.specs.declared.going.Going.TheVariants as going
+
+-- the program goes on with this state
+abbrev pub Is : State → Going → List Caller → World → Type 0
+Is s (going.Runs doing ss env a) cs w = s ≡ Runs doing ss env a cs w
+Is s (going.Makes t v vs c) cs w = s ≡ Makes t v vs c cs w
+Is s (going.Answers a) cs w = s ≡ Answers a cs w
+
+-- the program's step is this one; where no room was left, nothing is said
+abbrev pub Steps : State → Result Going Stop → List Caller → World → Type 0
+Steps s (Ok g) cs w = Is s g cs w
+Steps s (Err stop) cs w = (e : Ending) → ending_of stop w ≡ Some e → s ≡ Ends e
+
+-- where a run was brought by these steps: to its answer, or to its end; nothing is said where the steps were used up
+abbrev pub Brings : State → Result Reached Stop → World → Type 0
+Brings s (Ok (reached.Answer a)) w = s ≡ Answers a [] w
+Brings s (Ok reached.Nowhere) w = Unit {0}
+Brings s (Err stop) w = (e : Ending) → ending_of stop w ≡ Some e → s ≡ Ends e

@@ -1,0 +1,75 @@
+// Steps one after another.
+ghost use Rattle.std.specs.Prelude.{ℕ, List, Ok};
+ghost use Rattle.sc_meaning.specs.Versions as versions;
+ghost use Rattle.sc_meaning.specs.World as worlds;
+ghost use Rattle.sc_machine.specs.Runs as runs;
+ghost use Rattle.sc_plain_library.specs.Quiet.{IsQuiet};
+ghost use Rattle.sc_plain.specs.Steady as steady;
+ghost use Rattle.sc_plain.specs.Steps.{Brings, Is};
+
+use crate::going::{Caller, Going};
+use crate::step::step_run;
+use sc_base::Stack;
+use sc_plain_leaves::Stop;
+use sc_plain_parts::Text;
+use sc_plain_world::World;
+use sc_values::Answer;
+
+/// Where a run was brought: to the answer of its first call, or not so far in so many steps.
+#[derive(Drop)]
+pub enum Reached {
+    Answer(Answer),
+    Nowhere,
+}
+
+// Whether a step leaves everything as it is.
+fn is_over(going: &Going, callers: &Stack<Caller>) -> bool {
+    match going {
+        Going::Answers(_) => callers.is_empty(),
+        Going::Runs(_, _, _, _) => false,
+        Going::Makes(_, _, _, _) => false,
+    }
+}
+
+// Where it is over.
+#[tactic(auto, using(crate::proofs::Whole::brought))]
+fn destination(going: Going, callers: &Stack<Caller>) -> Reached
+    ensures { (h : versions.History) (texts : List versions.Text) (k : ℕ) (s : runs.State) (w : worlds.World) → Is s going.entry callers.now w → Brings (steady.ran k h texts s) (Ok result) w }
+{
+    match going {
+        Going::Answers(a) => {
+            if callers.is_empty() {
+                Reached::Answer(a)
+            } else {
+                Reached::Nowhere
+            }
+        }
+        other => {
+            drop(other);
+            Reached::Nowhere
+        }
+    }
+}
+
+/// At most so many steps.
+///
+/// # Errors
+///
+/// How the run ends in them.
+pub fn drive<'a>(
+    texts: &'a [Text],
+    first: Going<'a>,
+    callers: &mut Stack<Caller<'a>>,
+    steps: u64,
+    world: &mut World,
+) -> Result<Reached, Stop>
+    ensures { (h : versions.History) → IsQuiet h → (s : runs.State) → Is s first.entry callers.old world.old → Brings (steady.ran steps h texts.now s) result world.new }
+{
+    let mut going = first;
+    let mut left = steps;
+    'stepping: while 0 < left && !is_over(&going, callers) {
+        going = step_run(texts, going, callers, world)?;
+        left -= 1;
+    }
+    Ok(destination(going, callers))
+}

@@ -1,0 +1,124 @@
+// One step of a run, and a whole run (ANSI 2.1.2.2, 2.1.2.3).
+ghost use Rattle.std.specs.Prelude.{List};
+ghost use Rattle.sc_meaning.specs.Calls as spec;
+ghost use Rattle.sc_meaning.specs.Versions as versions;
+ghost use Rattle.sc_machine.specs.Runs as runs;
+ghost use Rattle.sc_plain_library.specs.Quiet.{IsQuiet};
+ghost use Rattle.sc_plain.specs.Steady as steady;
+ghost use Rattle.sc_plain.specs.Steps.{Brings, Is, Steps};
+
+use crate::calls::{answer_of, leave, makes, reach};
+use crate::going::{Active, Caller, Going};
+use sc_base::Stack;
+use sc_machine::{Doing, Mode, Pending};
+use sc_plain_bodies::{Move, step_body};
+use sc_plain_leaves::Stop;
+use sc_plain_parts::Text;
+use sc_plain_steps::Env;
+use sc_plain_world::World;
+use sc_values::{Answer, Way};
+
+// A line is reached, before a body goes on.
+fn lined<'a>(
+    l: u32,
+    doing: Doing,
+    stmts: Stack<Pending>,
+    env: Env<'a>,
+    active: Active,
+    callers: &Stack<Caller<'a>>,
+    world: &mut World,
+) -> Result<Going<'a>, Stop>
+    ensures { Steps (runs.Runs doing stmts env.entry active callers.now (steady.on_line l world.old)) result callers.now world.new }
+{
+    match reach(l, world) {
+        Ok(()) => Ok(Going::Runs(doing, stmts, env, active)),
+        Err(_) => {
+            drop(doing);
+            Err(Stop::NoRoom)
+        }
+    }
+}
+
+// A call ends, and its answer goes to its caller.
+fn left<'a>(
+    way: Way,
+    active: &Active,
+    callers: &Stack<Caller<'a>>,
+    world: &mut World,
+) -> Result<Going<'a>, Stop>
+    ensures { Steps (runs.Answers (spec.answer_of way) callers.now (steady.without_call active.now.ids active.now.cost world.old)) result callers.now world.new }
+{
+    leave(active, world)?;
+    Ok(Going::Answers(answer_of(way)))
+}
+
+// One step of the innermost body.
+fn runs<'a>(
+    doing: Doing,
+    stmts: Stack<Pending>,
+    env: Env<'a>,
+    active: Active,
+    callers: &Stack<Caller<'a>>,
+    world: &mut World,
+) -> Result<Going<'a>, Stop>
+    ensures { (h : versions.History) (texts : List versions.Text) → Steps (steady.advance h texts (runs.Runs doing stmts env.entry active callers.now world.old)) result callers.now world.new }
+{
+    let mut stmts = stmts;
+    let mut env = env;
+    match step_body(doing, &mut stmts, &mut env, world)? {
+        Move::Go(doing) => Ok(Going::Runs(doing, stmts, env, active)),
+        Move::Line(l, doing) => lined(l, doing, stmts, env, active, callers, world),
+        Move::Call(t, v, vs, items, user) => {
+            let caller = Caller {
+                items,
+                user,
+                stmts,
+                env,
+                active,
+            };
+            Ok(Going::Makes(t, v, vs, caller))
+        }
+        Move::Leave(way) => left(way, &active, callers, world),
+    }
+}
+
+// An answer comes to the innermost caller.
+fn answers<'a>(a: Answer, callers: &mut Stack<Caller<'a>>, world: &World) -> Result<Going<'a>, Stop>
+    ensures { (h : versions.History) (texts : List versions.Text) → Steps (steady.advance h texts (runs.Answers a callers.old world.now)) result callers.new world.now }
+{
+    match callers.pop() {
+        None => Ok(Going::Answers(a)),
+        Some(c) => {
+            let doing = Doing::Within(Mode::Give(a), c.items, c.user);
+            Ok(Going::Runs(doing, c.stmts, c.env, c.active))
+        }
+    }
+}
+
+/// One step of a run: exactly the machine's, in a run in which nothing changes behind an event.
+///
+/// # Errors
+///
+/// How the run ends in it.
+pub fn step_run<'a>(
+    texts: &'a [Text],
+    going: Going<'a>,
+    callers: &mut Stack<Caller<'a>>,
+    world: &mut World,
+) -> Result<Going<'a>, Stop>
+    ensures { (h : versions.History) → IsQuiet h → (s : runs.State) → Is s going.entry callers.old world.old → Steps (steady.advance h texts.now s) result callers.new world.new }
+{
+    match going {
+        Going::Runs(doing, stmts, env, active) => runs(doing, stmts, env, active, callers, world),
+        Going::Makes(t, v, vs, caller) => makes(
+            texts,
+            &t,
+            v,
+            vs.as_slice(),
+            caller,
+            callers,
+            world,
+        ),
+        Going::Answers(a) => answers(a, callers, world),
+    }
+}

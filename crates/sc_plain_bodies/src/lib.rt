@@ -1,0 +1,13 @@
+//! One step of the plain program on a function's body: exactly the step of the machine. It may be slow.
+#![tactic(auto)]
+
+mod blocks;
+mod moves;
+mod pieces;
+mod statements;
+mod step;
+mod uses;
+mod ways;
+
+pub use moves::Move;
+pub use step::step_body;
