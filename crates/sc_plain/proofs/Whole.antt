@@ -53,7 +53,7 @@ pub ends_here : (t : State) (r : Result Reached Stop) (s : Stop) (w : World) →
 ends_here t r s w p f = let q = err_from_is_err_and r p in subst (λ r. Brings t r w) (sym (q.1 ∙ ap (λ e. Err e) q.2)) f
 
 -- the first state of the call of main
-abbrev first_of : List Text → World → State
+abbrev pub first_of : List Text → World → State
 first_of texts w = steady.callee_next (alone texts) main_key [] (callee_of texts main_key) [] (tick w)
 
 same_first : (texts : List Text) (w : World) → runs.callee_next (alone texts) main_key [] (callee_of (version_at (alone texts) w.count) main_key) [] w ≡ steady.callee_next (alone texts) main_key [] (callee_of texts main_key) [] w
