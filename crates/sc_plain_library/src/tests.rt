@@ -5,7 +5,7 @@ use sc_meaning::LibFun;
 use sc_plain_leaves::Stop;
 use sc_plain_parts::set_bytes;
 use sc_plain_world::{Change, Frame, Showing, World};
-use sc_values::{Held, Shape, Value};
+use sc_values::{Answer, Held, Shape, Value};
 use std::alloc::Global;
 use std::test::Fail;
 
@@ -53,21 +53,39 @@ fn world_of(alloc: Global, first: &[u8], second: &[u8]) -> Result<World, NoMemor
     Ok(world)
 }
 
+fn seen_answer(a: &Answer) -> Seen {
+    match &a.held {
+        Held::Plain(v) => match &v.shape {
+            Shape::Number(n) => Seen::Number(*n),
+            Shape::Pointer(o, i) => Seen::Place(*o, *i),
+            Shape::FunctionAt(_) => Seen::Other,
+        },
+        Held::Nothing => Seen::None,
+        _ => Seen::Other,
+    }
+}
+
+fn seen_stop(stop: &Stop) -> Seen {
+    match stop {
+        Stop::Undefined(told) => Seen::Broken(told.rule, told.argument),
+        Stop::Exit(status) => Seen::Exit(*status),
+        _ => Seen::Other,
+    }
+}
+
 fn seen_of(world: &mut World, f: LibFun, vs: &[Value]) -> Result<Seen, NoMemory> {
     let key = key(world.alloc(), b"f")?;
     match library_call(f, &key, vs, world) {
-        Ok(a) => Ok(match a.held {
-            Held::Plain(v) => match v.shape {
-                Shape::Number(n) => Seen::Number(n),
-                Shape::Pointer(o, i) => Seen::Place(o, i),
-                Shape::FunctionAt(_) => Seen::Other,
-            },
-            Held::Nothing => Seen::None,
-            _ => Seen::Other,
-        }),
-        Err(Stop::Undefined(told)) => Ok(Seen::Broken(told.rule, told.argument)),
-        Err(Stop::Exit(status)) => Ok(Seen::Exit(status)),
-        Err(_) => Ok(Seen::Other),
+        Ok(a) => {
+            let seen = seen_answer(&a);
+            drop(a);
+            Ok(seen)
+        }
+        Err(stop) => {
+            let seen = seen_stop(&stop);
+            drop(stop);
+            Ok(seen)
+        }
     }
 }
 
