@@ -196,8 +196,9 @@ impl Reader {
             "lit" => CoreExpr::Literal(l, type_of(alloc, "L")?, number(a)),
             "auto" => CoreExpr::Automatic(l, type_of(alloc, a)?, number(b), number(c)),
             "fn" => {
+                let key = key(alloc, a.as_bytes())?;
                 let of = CType::Function(Shared::new(alloc, signature(alloc, b)?)?);
-                CoreExpr::Function(l, of, key(alloc, a.as_bytes())?)
+                CoreExpr::Function(l, of, key)
             }
             _ => return Ok(false),
         };
@@ -206,11 +207,11 @@ impl Reader {
     }
 
     fn single(&mut self, word: &str, a: &str, b: &str) -> Result<bool, NoMemory> {
-        let t = type_of(self.alloc, a)?;
         let l = self.line;
         match word {
             "get" | "mem" | "addr" | "star" | "inc" | "neg" => {
                 let e = self.take()?;
+                let t = type_of(self.alloc, a)?;
                 self.put(single_of(word, l, t, number(b), e))?;
                 Ok(true)
             }
@@ -221,9 +222,9 @@ impl Reader {
     // What is called is given by its address.
     fn callee(&mut self, b: &str) -> Result<(), NoMemory> {
         let alloc = self.alloc;
+        let e = self.take()?;
         let of = CType::Function(Shared::new(alloc, signature(alloc, b)?)?);
         let t = pointer(alloc, of)?;
-        let e = self.take()?;
         self.put(CoreExpr::Convert(self.line, t, e))
     }
 
@@ -250,17 +251,14 @@ impl Reader {
 
     fn call(&mut self, a: &str, b: &str) -> Result<(), NoMemory> {
         let alloc = self.alloc;
-        let mut back = Vec::new(alloc);
+        let mut args = Vec::new(alloc);
         for _ in 0..number(b) {
-            back.push(self.take()?)?;
+            args.push(self.take()?)?;
         }
-        let mut args = Items::new(alloc);
-        while let Some(e) = back.pop() {
-            args.push(e)?;
-        }
+        args.reverse();
         let f = self.take()?;
         let t = type_of(alloc, a)?;
-        self.put(CoreExpr::Call(self.line, t, f, args))
+        self.put(CoreExpr::Call(self.line, t, f, Items::from_vec(args)))
     }
 
     fn simple(&mut self, word: &str) -> Result<bool, NoMemory> {
@@ -302,15 +300,12 @@ impl Reader {
     fn block(&mut self, a: &str) -> Result<(), NoMemory> {
         let alloc = self.alloc;
         let at = self.marks.pop().unwrap_or(0);
-        let mut back = Vec::new(alloc);
-        while at < self.stmts.len() {
-            back.push(self.last()?)?;
+        let mut inside = Vec::new(alloc);
+        for _ in at..self.stmts.len() {
+            inside.push(self.last()?)?;
         }
-        let mut inside = Items::new(alloc);
-        while let Some(s) = back.pop() {
-            inside.push(s)?;
-        }
-        self.statement(CoreStmt::Block(self.line, number(a), inside))
+        inside.reverse();
+        self.statement(CoreStmt::Block(self.line, number(a), Items::from_vec(inside)))
     }
 
     // An initialised declarator, of the pieces since the last one.
@@ -326,7 +321,10 @@ impl Reader {
     }
 
     fn object(&mut self, a: &str, b: &str) -> Result<(), NoMemory> {
-        let auto = Auto {
+        let Some(mut block) = self.blocks.pop() else {
+            return Err(NoMemory)
+        };
+        block.push(Auto {
             name: name(self.alloc, b"x")?,
             of: type_of(self.alloc, a)?,
             slot: Slot {
@@ -334,11 +332,8 @@ impl Reader {
                 size: number(b),
                 constant: false,
             },
-        };
-        if let Some(mut block) = self.blocks.pop() {
-            block.push(auto)?;
-            self.blocks.push(block)?;
-        }
+        })?;
+        self.blocks.push(block)?;
         Ok(())
     }
 
@@ -379,7 +374,9 @@ impl Reader {
             structs: structs(alloc)?,
             declared: Items::new(alloc),
         };
-        let number = self.texts.len() as u32;
+        let Ok(number) = u32::try_from(self.texts.len()) else {
+            return Err(NoMemory)
+        };
         self.texts.push(Text {
             number,
             core: Shared::new(alloc, core)?,

@@ -15,22 +15,34 @@ fn write(text: &mut Vec<u8>, more: &[u8]) -> Result<(), NoMemory> {
     Ok(())
 }
 
+// The places of a number's digits.
+const PLACES: [u64; 10] = [
+    1_000_000_000,
+    100_000_000,
+    10_000_000,
+    1_000_000,
+    100_000,
+    10_000,
+    1_000,
+    100,
+    10,
+    1,
+];
+
 // A number, the sign first.
 fn write_number(text: &mut Vec<u8>, n: i64) -> Result<(), NoMemory> {
     if n < 0 {
         text.push(45)?;
     }
     let mut rest = n.unsigned_abs();
-    let mut place: u64 = 1_000_000_000;
     let mut begun = false;
-    while 0 < place {
-        let digit = rest / place;
-        rest %= place;
+    for place in PLACES {
+        let digit = rest.checked_div(place).unwrap_or(0);
+        rest = rest.checked_rem(place).unwrap_or(0);
         if 0 < digit || begun || place == 1 {
             text.push(48 + (digit % 10) as u8)?;
             begun = true;
         }
-        place /= 10;
     }
     Ok(())
 }
