@@ -9,8 +9,3 @@ mod running;
 mod step;
 
 pub use running::{Ended, Finished, Limits, run};
-
-#[cfg(test)]
-mod reader;
-#[cfg(test)]
-mod tests;

@@ -8,6 +8,3 @@ mod numbers;
 mod printf;
 
 pub use call::library_call;
-
-#[cfg(test)]
-mod tests;

@@ -1,8 +1,8 @@
 // Functions of the library on texts and blocks that a test lays out: objects 1 and 2 have 16 bytes each.
-use crate::library_call;
 use sc_base::{Form, Items, Key, Kind, Name, NoMemory, Rule};
 use sc_meaning::LibFun;
 use sc_plain_leaves::Stop;
+use sc_plain_library::library_call;
 use sc_plain_parts::set_bytes;
 use sc_plain_world::{Change, Frame, Showing, World};
 use sc_values::{Answer, Held, Shape, Value};

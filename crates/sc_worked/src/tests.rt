@@ -1,7 +1,7 @@
 // Worked programs, as typed trees, with what they show.
 use crate::reader::Reader;
-use crate::{Ended, Finished, Limits, run};
 use sc_base::{Items, Key, NoMemory, Rule};
+use sc_plain::{Ended, Finished, Limits, run};
 use sc_plain_leaves::Breach;
 use sc_plain_world::{Change, Showing, World};
 use sc_values::{Shape, Value};
