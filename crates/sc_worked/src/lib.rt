@@ -1,9 +1,7 @@
-//! Tests of the plain program: worked programs as typed trees written in short, with what they show; calls of the library. They
-//! stand above what they run, so that nothing below is proved again for them.
+//! Tests of the plain program: worked programs as typed trees written in short, with what they show. They stand above what they
+//! run, so that nothing below is proved again for them.
 #![tactic(auto)]
 
-#[cfg(test)]
-mod library;
 #[cfg(test)]
 mod reader;
 #[cfg(test)]
