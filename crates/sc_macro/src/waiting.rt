@@ -52,6 +52,11 @@ impl<'a> Argument<'a> {
         }
     }
 
+    /// Whether more than half of the tokens were made.
+    pub fn is_mostly_made(&self) -> bool {
+        self.given.len() < self.made.as_slice().len()
+    }
+
     /// The same tokens. Those of the given list are not copied.
     pub fn copy(&self, alloc: Global) -> Result<Argument<'a>, NoMemory>
         ensures { IfOk result (λ a. a ≡ self.now) }

@@ -263,11 +263,41 @@ fn expand_argument<'a>(
     ensures stays { OnOk result (argument.new ≡ stay goes argument.old) }
     ensures falls { left.new ≤ left.old }
 {
+    if needed && !goes && argument.is_mostly_made() {
+        return expand_made(alloc, macros, depth, line, left, argument);
+    }
     let tokens = taken(alloc, argument, needed, goes)?;
     if needed {
         expand_at(alloc, macros, depth, line, left, tokens)
     } else {
         Ok(Items::new(alloc))
+    }
+}
+
+/// Expands an argument that stays. It becomes one list of its own, and the expansion reads that list, so that no depth
+/// copies it.
+#[cycle(expansion)]
+fn expand_made<'a>(
+    alloc: Global,
+    macros: &Macros,
+    depth: u32,
+    line: u32,
+    left: &mut u32,
+    argument: &mut Argument<'a>,
+) -> Result<Items<Marked>, Failure>
+    ensures gives { Expands (spec.expand macros.now depth line left.old argument.old) result left.new }
+    ensures stays { OnOk result (argument.new ≡ argument.old) }
+    ensures falls { left.new ≤ left.old }
+{
+    let tokens = mem::replace(argument, Argument::empty(alloc));
+    let own = tokens.into_items(alloc)?;
+    let part = Argument::of(Items::new(alloc), own.as_slice());
+    match expand_at(alloc, macros, depth, line, left, part) {
+        Ok(done) => {
+            *argument = Argument::of(own, &[]);
+            Ok(done)
+        }
+        Err(failure) => Err(failure),
     }
 }
 

@@ -5,19 +5,22 @@ use Rattle.sc_macro.proofs.walk.+expansion.Given as goal
 
 -- a list before its names' arguments, these after their replacement
 abbrev pub decreases-expand_at : goal.decreases-expand_at
-decreases-expand_at l = 5 * l.depth
+decreases-expand_at l = 6 * l.depth
 
 abbrev pub decreases-replace : goal.decreases-replace
-decreases-replace l = 5 * l.depth + 4
+decreases-replace l = 6 * l.depth + 5
 
 abbrev pub decreases-replace_call : goal.decreases-replace_call
-decreases-replace_call l = 5 * l.depth + 3
+decreases-replace_call l = 6 * l.depth + 4
 
 abbrev pub decreases-expand_arguments : goal.decreases-expand_arguments
-decreases-expand_arguments l = 5 * l.depth + 2
+decreases-expand_arguments l = 6 * l.depth + 3
 
 abbrev pub decreases-expand_argument : goal.decreases-expand_argument
-decreases-expand_argument l = 5 * l.depth + 1
+decreases-expand_argument l = 6 * l.depth + 2
+
+abbrev pub decreases-expand_made : goal.decreases-expand_made
+decreases-expand_made l = 6 * l.depth + 1
 
 abbrev pub invariant-expand_arguments-expanding : goal.invariant-expand_arguments-expanding
 invariant-expand_arguments-expanding l = record {
