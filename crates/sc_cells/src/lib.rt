@@ -2,7 +2,4 @@
 #![tactic(auto)]
 
 mod cells;
-#[cfg(test)]
-mod tests;
-
 pub use cells::Cells;

@@ -19,6 +19,3 @@ pub use operand::Operand;
 pub use operator::Operator;
 pub use reading::expression;
 pub use truth::{ConditionFault, condition};
-
-#[cfg(test)]
-mod tests;

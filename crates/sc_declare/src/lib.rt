@@ -25,6 +25,3 @@ pub use qualify::{is_constant, qualified, unqualified, with_const};
 pub use space::NameSpace;
 pub use storage::{Place, may_stand};
 pub use words::{BasicType, Word, named_type, type_words, words_type};
-
-#[cfg(test)]
-mod tests;

@@ -12,6 +12,3 @@ pub use classes::{
 pub use conversion::{Conv, Count, Piece};
 pub use numbers::number;
 pub use pieces::piece;
-
-#[cfg(test)]
-mod tests;

@@ -10,6 +10,3 @@ mod texts;
 pub use image::Image;
 pub use stub::{call_stub, jump_stub, lower, upper};
 pub use text::TextAt;
-
-#[cfg(test)]
-mod tests;

@@ -9,6 +9,3 @@ mod walk;
 pub use level::{Level, Place, Zeros, takes};
 pub use text::{Text, text_for};
 pub use walk::{Closed, Walk};
-
-#[cfg(test)]
-mod tests;

@@ -8,6 +8,3 @@ mod instruction;
 pub use decoding::decode;
 pub use encoding::encode;
 pub use instruction::{BranchOp, ImmOp, Instr, LoadOp, RegOp, StoreOp};
-
-#[cfg(test)]
-mod tests;

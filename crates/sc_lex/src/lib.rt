@@ -12,6 +12,3 @@ mod unclosed;
 pub use automaton::token_kind;
 pub use lexing::lex;
 pub use token::{Token, TokenKind};
-
-#[cfg(test)]
-mod tests;

@@ -14,6 +14,3 @@ pub use block::block_key;
 pub use frame::{Local, cost, place};
 pub use library::is_library_name;
 pub use link::{Declaration, Definition, Link, Links};
-
-#[cfg(test)]
-mod tests;

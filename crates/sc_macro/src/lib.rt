@@ -19,6 +19,3 @@ mod walk;
 
 pub use macros::{Macro, MacroKind, Macros, Part, is_fixed};
 pub use walk::expand;
-
-#[cfg(test)]
-mod tests;

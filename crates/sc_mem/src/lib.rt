@@ -10,6 +10,3 @@ mod words;
 
 pub use comparison::overlap;
 pub use memory::Memory;
-
-#[cfg(test)]
-mod tests;

@@ -3,8 +3,5 @@
 
 mod heap;
 mod objects;
-#[cfg(test)]
-mod tests;
-
 pub use heap::Heap;
 pub use objects::{BirthFault, Obj, Objects};

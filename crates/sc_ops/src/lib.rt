@@ -6,6 +6,3 @@ mod conversion;
 
 pub use arithmetic::arith;
 pub use conversion::convert;
-
-#[cfg(test)]
-mod tests;

@@ -7,6 +7,3 @@ mod whole;
 
 pub use machine::advance;
 pub use whole::{parse, unit};
-
-#[cfg(test)]
-mod tests;

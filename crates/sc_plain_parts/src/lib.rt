@@ -23,6 +23,3 @@ pub use operations::{
 };
 pub use statics::statics_born;
 pub use text::{Callee, Definition, Text, callee_of, object_in};
-
-#[cfg(test)]
-mod tests;

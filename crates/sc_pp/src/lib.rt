@@ -20,6 +20,3 @@ mod token;
 mod unit;
 
 pub use unit::{PpFault, preprocess};
-
-#[cfg(test)]
-mod tests;

@@ -17,6 +17,3 @@ pub use expression::{
 pub use nodes::node_count;
 pub use operator::{Binary, Postfix, Unary};
 pub use statement::{Block, External, Function, Statement, Unit};
-
-#[cfg(test)]
-mod tests;

@@ -16,6 +16,3 @@ pub use layout::{
     Layout, MAX_OBJECT, align_of, int_size, is_complete, is_object, offset_of, size_of,
 };
 pub use structs::Structs;
-
-#[cfg(test)]
-mod tests;

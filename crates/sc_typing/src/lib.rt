@@ -10,6 +10,3 @@ pub use choice::{Choice, conditional};
 pub use law::makes_formed;
 pub use operators::{Class, Plan, binary, class_of, comma};
 pub use storing::{Change, Target, assignment, compound};
-
-#[cfg(test)]
-mod tests;
