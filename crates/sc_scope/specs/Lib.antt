@@ -1,0 +1,6 @@
+pub mod Steps
+pub mod Scopes
+pub mod Words
+pub mod Tags
+pub mod Declarations
+pub mod Expressions
