@@ -1,4 +1,4 @@
-/* Prints what the C compiler's own operators give on 32 bits: rows of the tables in crates/sc_ops/src/tests/table.rt.
+/* Prints what the C compiler's own operators give on 32 bits: rows of the tables in crates/sc_suite_data/src/operators/table.rt.
    A result is its 32 bits; an undefined operation is 2^32 and the number of the rule (7: out of range, 8: division
    by zero, 9: shift count). Build: gcc -fwrapv arith.c */
 #include <stdint.h>

@@ -1,4 +1,4 @@
-/* Prints the table crates/sc_fmt/src/tests/table.rt: what the C library's printf
+/* Prints the table crates/sc_suite_data/src/formats/table.rt: what the C library's printf
    writes and its ctype calls answer. Each of the 32 sets of flags stands at each of ten values; kinds go round, and
    widths, precisions and modifiers are taken by a generator. Build: gcc number.c */
 #include <ctype.h>

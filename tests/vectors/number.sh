@@ -4,5 +4,5 @@ set -e
 here=$(dirname "$0")
 program=$(mktemp)
 gcc -w -o "$program" "$here/number.c"
-"$program" > "$here/../../crates/sc_fmt/src/tests/table.rt"
+"$program" > "$here/../../crates/sc_suite_data/src/formats/table.rt"
 rm "$program"

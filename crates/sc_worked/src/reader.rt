@@ -1,7 +1,9 @@
 // Reads programs for tests from a short form: the nodes of typed trees in postfix order, each a word with its numbers behind
 // colons. A type is one letter.
-use sc_base::{Bytes, Form, Int, Items, Key, Name, NoMemory, Op, Shared};
-use sc_core::{Auto, AutoInit, Core, CoreExpr, CoreStmt, Fun, Step, UnaryOperator};
+use sc_base::{Bytes, Duplicate, Form, Int, Items, Key, Name, NoMemory, Op, Shared};
+use sc_core::{
+    Auto, AutoInit, Core, CoreExpr, CoreStmt, Fun, Init, StaticObj, Step, UnaryOperator,
+};
 use sc_plain_parts::Text;
 use sc_program::{Slot, StaticId};
 use sc_types::{CType, Member, Signature, Structs};
@@ -19,6 +21,8 @@ pub struct Reader {
     blocks: Vec<Items<Auto>>,
     funs: Vec<Fun>,
     literals: Vec<Bytes>,
+    contents: Vec<Init>,
+    objects: Vec<StaticObj>,
     pub texts: Vec<Text>,
 }
 
@@ -145,6 +149,24 @@ fn literal(alloc: Global, text: &str) -> Result<Bytes, NoMemory> {
     Ok(Bytes::from_vec(bytes))
 }
 
+// The literals are born first, then the objects, each in their order.
+fn births(
+    alloc: Global,
+    home: &str,
+    literals: &[Bytes],
+    objects: &[StaticObj],
+) -> Result<Items<StaticId>, NoMemory> {
+    let mut births = Items::new(alloc);
+    for bytes in literals {
+        let home = name(alloc, home.as_bytes())?;
+        births.push(StaticId::Literal(home, Bytes::from_slice(alloc, bytes.as_slice())?))?;
+    }
+    for object in objects {
+        births.push(StaticId::Named(object.key.copy(alloc)?))?;
+    }
+    Ok(births)
+}
+
 impl Reader {
     pub fn new(alloc: Global) -> Reader {
         Reader {
@@ -157,6 +179,8 @@ impl Reader {
             blocks: Vec::new(alloc),
             funs: Vec::new(alloc),
             literals: Vec::new(alloc),
+            contents: Vec::new(alloc),
+            objects: Vec::new(alloc),
             texts: Vec::new(alloc),
         }
     }
@@ -195,6 +219,7 @@ impl Reader {
             "unum" => CoreExpr::Number(l, type_of(alloc, "u")?, number(a)),
             "lit" => CoreExpr::Literal(l, type_of(alloc, "L")?, number(a)),
             "auto" => CoreExpr::Automatic(l, type_of(alloc, a)?, number(b), number(c)),
+            "stat" => CoreExpr::Static(l, type_of(alloc, a)?, key(alloc, b.as_bytes())?),
             "fn" => {
                 let key = key(alloc, a.as_bytes())?;
                 let of = CType::Function(Shared::new(alloc, signature(alloc, b)?)?);
@@ -231,7 +256,7 @@ impl Reader {
     fn double(&mut self, word: &str, a: &str, b: &str) -> Result<bool, NoMemory> {
         let l = self.line;
         match word {
-            "idx" | "op" | "uop" | "cmp" | "set" | "copy" | "cop" => {
+            "idx" | "op" | "uop" | "cmp" | "diff" | "set" | "copy" | "cop" => {
                 let right = self.take()?;
                 let left = self.take()?;
                 let t = type_of(
@@ -353,6 +378,36 @@ impl Reader {
         Ok(())
     }
 
+    // A piece of a static object's contents, or the object that has those since the last one.
+    fn contents(&mut self, word: &str, a: &str, b: &str) -> Result<bool, NoMemory> {
+        match word {
+            "byte" => {
+                let byte = u8::try_from(number(a)).unwrap_or(0);
+                self.contents.push(Init::Byte(byte))?;
+            }
+            "past" => {
+                let id = StaticId::Named(key(self.alloc, a.as_bytes())?);
+                self.contents.push(Init::Address(id, number(b)))?;
+            }
+            "obj" => self.static_object(a, b)?,
+            _ => return Ok(false),
+        }
+        Ok(true)
+    }
+
+    fn static_object(&mut self, a: &str, b: &str) -> Result<(), NoMemory> {
+        let mut init = Vec::new(self.alloc);
+        std::mem::swap(&mut init, &mut self.contents);
+        self.objects.push(StaticObj {
+            key: key(self.alloc, a.as_bytes())?,
+            of: type_of(self.alloc, b)?,
+            constant: false,
+            line: self.line,
+            init: Items::from_vec(init),
+        })?;
+        Ok(())
+    }
+
     // The module ends.
     fn module(&mut self, a: &str) -> Result<(), NoMemory> {
         let alloc = self.alloc;
@@ -360,15 +415,13 @@ impl Reader {
         std::mem::swap(&mut funs, &mut self.funs);
         let mut literals = Vec::new(alloc);
         std::mem::swap(&mut literals, &mut self.literals);
-        let mut births = Items::new(alloc);
-        for bytes in &literals {
-            let home = name(alloc, a.as_bytes())?;
-            births.push(StaticId::Literal(home, Bytes::from_slice(alloc, bytes.as_slice())?))?;
-        }
+        let mut objects = Vec::new(alloc);
+        std::mem::swap(&mut objects, &mut self.objects);
+        let births = births(alloc, a, literals.as_slice(), objects.as_slice())?;
         let core = Core {
             name: name(alloc, a.as_bytes())?,
             funs: Items::from_vec(funs),
-            objects: Items::new(alloc),
+            objects: Items::from_vec(objects),
             literals: Items::from_vec(literals),
             births,
             structs: structs(alloc)?,
@@ -432,7 +485,7 @@ impl Reader {
         if self.leaf(first, a, b, c)? || self.single(first, a, b)? || self.double(first, a, b)? {
             return Ok(());
         }
-        if self.simple(first)? {
+        if self.simple(first)? || self.contents(first, a, b)? {
             return Ok(());
         }
         self.other(first, a, b, c)
@@ -464,6 +517,7 @@ fn double_of(
         "op" => CoreExpr::Binary(l, t, operator(a), left, right),
         "uop" => CoreExpr::Binary(l, t, operator(b), left, right),
         "cmp" => CoreExpr::Compare(l, t, operator(a), left, right),
+        "diff" => CoreExpr::Difference(l, t, number(b), left, right),
         "copy" => CoreExpr::AssignStructure(l, t, number(b), left, right),
         "cop" => CoreExpr::Compound(l, t, operator(b), Int::Int, left, right),
         _ => CoreExpr::Assign(l, t, left, right),

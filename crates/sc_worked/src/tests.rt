@@ -74,6 +74,9 @@ fn rule_name(rule: Rule) -> &'static [u8] {
         Rule::U7 => b"U7",
         Rule::U8 => b"U8",
         Rule::U9 => b"U9",
+        Rule::U10 => b"U10",
+        Rule::U11 => b"U11",
+        Rule::U12 => b"U12",
         Rule::U17 => b"U17",
         _ => b"?",
     }
@@ -280,74 +283,181 @@ const BLOCK: &str = "
 blk blk var:p:4 blk var:i:4 { { auto:i:2:0 num:1 set:i ; auto:p:1:0 auto:i:2:0 addr:p set:p ; }:2
 auto:p:1:0 get:p star:i get:i ret }:1 def:main:i:32 module:m";
 
+// 7 % 0.
+const REMAINDER: &str = "blk blk { num:7 num:0 op:rem ret }:1 def:main:i:16 module:m";
+
+// int a[10]; return a[10];
+const BEYOND: &str = "
+blk blk var:A:40 { auto:A:1:0 get:p num:10 idx:i:4 get:i ret }:1 def:main:i:64 module:m";
+
+// &a[11] == a.
+const FURTHER: &str = "
+blk blk var:A:40 { auto:A:1:0 get:p num:11 idx:i:4 addr:p auto:A:1:0 get:p cmp:eq ret }:1 def:main:i:64 module:m";
+
+// *(int *)&((char *)a)[1].
+const ASKEW: &str = "
+blk blk var:A:40 { auto:A:1:0 get:p get:q num:1 idx:c:1 addr:q get:p star:i get:i ret }:1 def:main:i:64 module:m";
+
+// *(int *)0.
+const NULL: &str = "blk blk { num:0 get:p star:i get:i ret }:1 def:main:i:16 module:m";
+
+// a < b, of two arrays.
+const UNORDERED: &str = "
+blk blk var:a:16 var:a:16 { auto:a:1:0 get:p auto:a:1:1 get:p cmp:lt ret }:1 def:main:i:48 module:m";
+
+// (&a[10] - &a[0]) + (&a[1] - &a[3]).
+const DISTANCES: &str = "
+blk blk var:A:40 { auto:A:1:0 get:p num:10 idx:i:4 addr:p auto:A:1:0 get:p num:0 idx:i:4 addr:p diff:i:4
+auto:A:1:0 get:p num:1 idx:i:4 addr:p auto:A:1:0 get:p num:3 idx:i:4 addr:p diff:i:4 op:add ret }:1
+def:main:i:64 module:m";
+
+// (int *)&((char *)a)[6] - a, and a - b, of two arrays.
+const BROKEN: &str = "
+blk blk var:A:40 { auto:A:1:0 get:p get:q num:6 idx:c:1 addr:q get:p auto:A:1:0 get:p diff:i:4 ret }:1
+def:main:i:64 module:m";
+
+const ACROSS: &str = "
+blk blk var:a:16 var:a:16 { auto:a:1:0 get:p auto:a:1:1 get:p diff:i:4 ret }:1 def:main:i:48 module:m";
+
+// char *e = &c + 1; char c = 7; return e[-1]; the pointer is born first, and is set when both objects are there.
+const STATIC: &str = "
+past:c:1 obj:e:q byte:7 obj:c:c
+blk blk { stat:q:e get:q num:1 neg:i idx:c:1 get:i ret }:1 def:main:i:16 module:m";
+
+// *(char *)"a" = 66;
+const WRITTEN: &str = "
+text:a blk blk { lit:0 get:t get:q star:c num:66 set:c ; num:0 ret }:1 def:main:i:16 module:m";
+
+// g(), which no module has, and puts() as a function without parameters.
+const MISSING: &str = "blk blk { fn:g:i at:i call:i:0 ret }:1 def:main:i:16 module:m";
+
+const UNLIKE: &str = "blk blk { fn:puts:i at:i call:i:0 ret }:1 def:main:i:16 module:m";
+
 const AMPLE: Limits = Limits {
     stack: 1_048_576,
     heap: 4_194_304,
     steps: 100_000,
 };
 
+const SMALL: Limits = Limits {
+    stack: 1024,
+    heap: 12_800,
+    steps: 100_000,
+};
+
+// Each program, what it may take, and what it shows.
+const PROGRAMS: [(&str, Limits, &str); 31] = [
+    (
+        CALLS,
+        AMPLE,
+        "f1\ng2\nf3\ng4\nf5\ng6\nf7\ng8\nf9\ng10\n> exit 10",
+    ),
+    (
+        NINE,
+        AMPLE,
+        "> violation U1 in sum at u:2 object 1 offset 36 size 4",
+    ),
+    (TEN, AMPLE, "> exit 45"),
+    (
+        LEAK,
+        AMPLE,
+        "> violation U3 in main at s:3 object 2 offset 0 size 4",
+    ),
+    (APART, AMPLE, "> exit 0"),
+    (
+        OVER,
+        AMPLE,
+        "> violation U7 in main at m:1 left 2147483647 right 1",
+    ),
+    (WRAPPED, AMPLE, "> exit 0"),
+    (DIVIDED, AMPLE, "-3 -1\n> exit 0"),
+    (
+        LEAST,
+        AMPLE,
+        "> violation U7 in main at m:1 left -2147483648 right -1",
+    ),
+    (
+        COPIED,
+        AMPLE,
+        "> violation U1 in main at t:3 object 2 offset 4 size 4",
+    ),
+    (ENDLESS, SMALL, "a\n> stack full entering f"),
+    (HEAP, SMALL, "100 1\n> exit 0"),
+    (
+        STEPPED,
+        AMPLE,
+        "> violation U7 in main at m:1 left 2147483647 right 1",
+    ),
+    (DEAD, AMPLE, "> violation U3 in main at m:1 left 0 right 0"),
+    (ORDER, AMPLE, "> exit 3"),
+    (COMPOUND, AMPLE, "> exit 10"),
+    (INITIAL, AMPLE, "> exit 0"),
+    (
+        BLOCK,
+        AMPLE,
+        "> violation U3 in main at m:1 object 2 offset 0 size 4",
+    ),
+    (
+        REMAINDER,
+        AMPLE,
+        "> violation U8 in main at m:1 left 7 right 0",
+    ),
+    (
+        BEYOND,
+        AMPLE,
+        "> violation U2 in main at m:1 object 1 offset 40 size 4",
+    ),
+    (
+        FURTHER,
+        AMPLE,
+        "> violation U5 in main at m:1 left 0 right 11",
+    ),
+    (
+        ASKEW,
+        AMPLE,
+        "> violation U10 in main at m:1 object 1 offset 1 size 4",
+    ),
+    (NULL, AMPLE, "> violation U4 in main at m:1 left 0 right 0"),
+    (
+        UNORDERED,
+        AMPLE,
+        "> violation U6 in main at m:1 left 0 right 0",
+    ),
+    (DISTANCES, AMPLE, "> exit 8"),
+    (
+        BROKEN,
+        AMPLE,
+        "> violation U5 in main at m:1 left 0 right 0",
+    ),
+    (
+        ACROSS,
+        AMPLE,
+        "> violation U6 in main at m:1 left 0 right 0",
+    ),
+    (STATIC, AMPLE, "> exit 7"),
+    (
+        WRITTEN,
+        AMPLE,
+        "> violation U11 in main at m:1 object 1 offset 0 size 1",
+    ),
+    (
+        MISSING,
+        AMPLE,
+        "> violation U17 in main at m:1 left 0 right 0",
+    ),
+    (
+        UNLIKE,
+        AMPLE,
+        "> violation U12 in main at m:1 left 0 right 0",
+    ),
+];
+
 #[test]
 fn programs_show_what_is_worked_out(rt: HostRuntime) -> Result<(), Fail> {
     let alloc = rt.alloc();
-    let small = Limits {
-        stack: 1024,
-        heap: 12_800,
-        steps: 100_000,
-    };
-    for (program, limits, expected) in [
-        (
-            CALLS,
-            AMPLE,
-            "f1\ng2\nf3\ng4\nf5\ng6\nf7\ng8\nf9\ng10\n> exit 10",
-        ),
-        (
-            NINE,
-            AMPLE,
-            "> violation U1 in sum at u:2 object 1 offset 36 size 4",
-        ),
-        (TEN, AMPLE, "> exit 45"),
-        (
-            LEAK,
-            AMPLE,
-            "> violation U3 in main at s:3 object 2 offset 0 size 4",
-        ),
-        (APART, AMPLE, "> exit 0"),
-        (
-            OVER,
-            AMPLE,
-            "> violation U7 in main at m:1 left 2147483647 right 1",
-        ),
-        (WRAPPED, AMPLE, "> exit 0"),
-        (DIVIDED, AMPLE, "-3 -1\n> exit 0"),
-        (
-            LEAST,
-            AMPLE,
-            "> violation U7 in main at m:1 left -2147483648 right -1",
-        ),
-        (
-            COPIED,
-            AMPLE,
-            "> violation U1 in main at t:3 object 2 offset 4 size 4",
-        ),
-        (ENDLESS, small, "a\n> stack full entering f"),
-        (HEAP, small, "100 1\n> exit 0"),
-        (
-            STEPPED,
-            AMPLE,
-            "> violation U7 in main at m:1 left 2147483647 right 1",
-        ),
-        (DEAD, AMPLE, "> violation U3 in main at m:1 left 0 right 0"),
-        (ORDER, AMPLE, "> exit 3"),
-        (COMPOUND, AMPLE, "> exit 10"),
-        (INITIAL, AMPLE, "> exit 0"),
-        (
-            BLOCK,
-            AMPLE,
-            "> violation U3 in main at m:1 object 2 offset 0 size 4",
-        ),
-    ] {
-        let text = ran(alloc, program, limits)?;
-        assert_eq!(rt; text.as_slice(), expected.as_bytes());
+    for (program, limits, expected) in &PROGRAMS {
+        let text = ran(alloc, program, *limits)?;
+        assert_eq!(rt; text.as_slice(), expected.as_bytes(), "{program}");
     }
     Ok(())
 }
