@@ -25,7 +25,6 @@ use Rattle.sc_primary.specs.Calls.{call}
 use Rattle.sc_primary.specs.Unary as prefix
 use Rattle.sc_typing.specs.Binary.{binary, comma}
 use Rattle.sc_typing.specs.Conditional.{conditional}
-use Rattle.sc_declare.specs.declared.words.Word.{Word}
 use Rattle.sc_declare.specs.declared.words.Word.TheVariants as w
 use Rattle.sc_declare.specs.declared.derivation.DeclaredType.{DeclaredType}
 use Rattle.sc_declare.specs.declared.derivation.Derived.{Derived}
@@ -142,20 +141,27 @@ in_parameter p done s =
 
 -- ---- structures and enumerations
 
+-- the members with one more of this type
+abbrev pub with_member : ℕ → Option Identifier → DeclaredType → List StructureMember → State → Checked (List StructureMember)
+with_member line name t done s = and_then (declarations.add_member s line name t done) (λ m. Ok m.1)
+
 abbrev pub one_member : DeclaredType → Declaring → Membering
-one_member base x done s = and_then (x.of base s) (λ r. and_then (declarations.add_member r.1 x.line x.name r.0 done) (λ m. Ok (m.1, r.1)))
+one_member base x done s = and_then (x.of base s) (λ r. keep r.1 (with_member x.line x.name r.0 done r.1))
 
 abbrev pub in_member : Level Member-F → Membering
 in_member m done s = and_then (in_specifiers m.specifiers s) (λ b. each (one_member b.0) m.declarators done b.1)
 
-abbrev pub value_of : Option Node → Checking (Option (ℕ × Int))
-value_of None s = Ok (None, s)
-value_of (Some e) s = and_then (constant e s) (λ r. Ok (Some r.0, r.1))
+-- an enumeration constant with its value
+abbrev pub valued : ℕ → List ℕ → Option ℕ → Node → Checking ℕ
+valued line name before e s = and_then (constant e s) (λ v. declarations.enumerator line name (Some v.0) before v.1)
 
--- an enumeration constant behind one with these bits
+-- the bits of an enumeration constant behind one with the bits `before`
+abbrev pub enumerator_bits : ℕ → List ℕ → Option ℕ → Option Node → Checking ℕ
+enumerator_bits line name before None s = declarations.enumerator line name None before s
+enumerator_bits line name before (Some e) s = valued line name before e s
+
 abbrev pub one_enumerator : Enumerator Node → Option ℕ → Checking (Option ℕ)
-one_enumerator x before s =
-    and_then (value_of x.value s) (λ v. and_then (declarations.enumerator x.line x.name v.0 before v.1) (λ r. Ok (Some r.0, r.1)))
+one_enumerator x before s = and_then (enumerator_bits x.line x.name before x.value s) (λ r. Ok (Some r.0, r.1))
 
 abbrev pub as_named : Checked (DeclaredType × State) → Checked (Specified × State)
 as_named r = and_then r (λ x. Ok (word.Named x.0, x.1))

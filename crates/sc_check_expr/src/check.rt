@@ -4,15 +4,16 @@ ghost use Rattle.sc_scope.specs.Steps.{GivesWith, each};
 ghost use Rattle.sc_check_expr.specs.Typed as spec;
 
 use crate::line::{in_register, line_of};
-use sc_base::{Duplicate, Int, Items, Name, Shared};
+use crate::parts::{copy_of, with_member};
+use sc_base::{Int, Items, Name, Shared};
 use sc_core::{CoreExpr, type_of};
 use sc_declare::{DeclaredType, Derived, MemberList, Parameters, Word};
 use sc_scope::{
-    CheckFault, Specified, State, Words, add_member, add_parameter, arrow, assign, binary, call,
-    cast, close_enumeration, close_structure, comma, conditional, constant as number,
-    constant_value, declared_type, derived_array, enter, enumeration_named, enumerator,
-    find_typedef, index, leave, list_type, member, name, offset_of, open_enumeration,
-    open_structure, postfix, size_of, string, structure_named, unary,
+    CheckFault, Specified, State, Words, add_parameter, arrow, assign, binary, call, cast,
+    close_enumeration, close_structure, comma, conditional, constant as number, constant_value,
+    declared_type, derived_array, enter, enumeration_named, enumerator, find_typedef, index, leave,
+    list_type, member, name, offset_of, open_enumeration, open_structure, postfix, size_of, string,
+    structure_named, unary,
 };
 use sc_tree::{
     Binary, Declarator, Derivation, Enumerator, Expr, Member, Parameter, Postfix, Specifiers,
@@ -46,7 +47,7 @@ pub fn expression(
         }
         Expr::Call(line, f, args) => {
             let f = expression(alloc, st, true, f.get())?;
-            call_with(alloc, st, *line, args.as_slice(), f)
+            call_with(alloc, st, *line, args, f)
         }
         Expr::Member(line, a, n) => member_of(alloc, st, *line, a.get(), n),
         Expr::Arrow(line, a, n) => member_behind(alloc, st, *line, a.get(), n),
@@ -114,12 +115,12 @@ fn call_with(
     alloc: Global,
     st: &mut State,
     line: u32,
-    args: &[Shared<Expr>],
+    args: &Items<Shared<Expr>>,
     f: Shared<CoreExpr>,
 ) -> Result<Shared<CoreExpr>, CheckFault>
     ensures { GivesWith (spec.of_one (each spec.one_argument (map spec.node args.now) []) (spec.by_call line f) st.old) result st.new }
 {
-    let args = arguments(alloc, st, args)?;
+    let args = arguments(alloc, st, args.as_slice())?;
     Ok(call(alloc, st, line, f, args.as_slice())?)
 }
 
@@ -443,9 +444,23 @@ fn declared_members(
     ensures { GivesWith (spec.membering m.now done st.old) result st.new }
 {
     let base = specifiers(alloc, st, &m.specifiers)?;
+    members_of(alloc, st, m.declarators.as_slice(), &base, done)
+}
+
+/// The members that these declarators declare, behind others.
+#[cycle(check)]
+fn members_of(
+    alloc: Global,
+    st: &mut State,
+    list: &[Declarator],
+    base: &DeclaredType,
+    done: MemberList,
+) -> Result<MemberList, CheckFault>
+    ensures { GivesWith (each (spec.one_member base.now) (map spec.declaring list.now) done st.old) result st.new }
+{
     let mut done = done;
-    for d in m.declarators.as_slice() {
-        done = one_member(alloc, st, d, &base, done)?;
+    for d in list {
+        done = one_member(alloc, st, d, base, done)?;
     }
     Ok(done)
 }
@@ -461,15 +476,9 @@ fn one_member(
 ) -> Result<MemberList, CheckFault>
     ensures { GivesWith (spec.one_member base.now (spec.declaring d.now) done st.old) result st.new }
 {
-    let mut done = done;
-    let of = base.of.copy(alloc)?;
-    let own = DeclaredType {
-        of,
-        depth: base.depth,
-    };
+    let own = copy_of(alloc, base)?;
     let t = declarator(alloc, st, d, own)?;
-    add_member(alloc, st, d.line, &d.identifier, t, &mut done)?;
-    Ok(done)
+    Ok(with_member(alloc, st, d.line, &d.identifier, t, done)?)
 }
 
 /// The constants of an enumeration (ANSI 3.5.2.2); the answer is the last one's 32 bits.
@@ -483,28 +492,29 @@ fn enumerators(
 {
     let mut before = None;
     for item in list {
-        before = one_enumerator(alloc, st, item, before)?;
+        let bits = match &item.value {
+            Some(e) => valued(alloc, st, e.get(), item.line, &item.name, before)?,
+            None => enumerator(alloc, st, item.line, &item.name, None, before)?,
+        };
+        before = Some(bits);
     }
     Ok(before)
 }
 
-/// An enumeration constant behind one with the 32 bits `before`; the answer is its own.
+/// An enumeration constant with its value, behind one with the 32 bits `before`; the answer is its own.
 #[cycle(check)]
-fn one_enumerator(
+fn valued(
     alloc: Global,
     st: &mut State,
-    item: &Enumerator,
+    e: &Expr,
+    line: u32,
+    name: &Name,
     before: Option<u32>,
-) -> Result<Option<u32>, CheckFault>
-    ensures { GivesWith (spec.one_enumerator (spec.enumerating item.now) before st.old) result st.new }
+) -> Result<u32, CheckFault>
+    ensures { GivesWith (spec.valued line name.now before (spec.node e.now) st.old) result st.new }
 {
-    match &item.value {
-        Some(e) => {
-            let value = constant(alloc, st, e.get())?;
-            Ok(Some(enumerator(alloc, st, item.line, &item.name, Some(value), before)?))
-        }
-        None => Ok(Some(enumerator(alloc, st, item.line, &item.name, None, before)?)),
-    }
+    let value = constant(alloc, st, e)?;
+    enumerator(alloc, st, line, name, Some(value), before)
 }
 
 /// The type that a declarator gives its name, from the type of the specifiers (ANSI 3.5.4).
