@@ -42,6 +42,7 @@ pub struct Past {
 }
 
 impl Model for Past {
+    ghost use Rattle.std.specs.Prelude.{◌≡◌, List};
     ghost use Rattle.sc_meaning.specs.World as spec;
     ghost use Rattle.sc_plain_world.specs.Outputs.{output};
 
