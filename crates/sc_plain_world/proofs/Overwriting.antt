@@ -1,5 +1,5 @@
 -- Bytes that are written over others, one after another from the last one on.
-use Rattle.std.proofs.Common.{◌≡◌, ◌+◌, ◌<◌, List, [], ◌∷◌, ◌++◌, length, take, drop, refl, sym, ap, ◌∙◌, arith}
+use Rattle.std.proofs.Common.{◌≡◌, ◌+◌, ◌<◌, List, [], ◌∷◌, ◌++◌, length, take, drop, sym, ap, ◌∙◌, arith}
 use Rattle.std.specs.Prelude.{ℕ, slice_set}
 use Rattle.std.proofs.lemmas.List.{take-set-le, drop-set, append-nil, append_assoc, length-append, take-append-drop}
 use Rattle.sc_meaning.specs.Values.{Cell}
