@@ -1,5 +1,6 @@
 -- From a run's steps to what the whole program does.
 use Rattle.std.proofs.Common.{◌≡◌, ℕ, zero, suc, ◌+◌, ◌<◌, Bool, true, false, List, [], refl, ap, sym, subst, ◌∙◌, arith, add-one, Option, Some, None, Result, Ok, Err}
+use Rattle.std.specs.Prelude.{◌↔◌, IsTrue}
 use Rattle.std.specs.Result.{IsErrAnd}
 use Rattle.std.proofs.lemmas.Result.{err_from_is_err_and}
 use Rattle.sc_meaning.specs.World.{World, tick}
@@ -26,6 +27,9 @@ use Rattle.sc_plain.specs.Steady as steady
 use Rattle.sc_plain.specs.Steady.{alone}
 use Rattle.sc_plain.proofs.Unchanged.{quiet, present, callee_step, same_run}
 
+not_empty : (c : Caller) (cs : List Caller) → c ∷ cs ≡ [] → ⊥
+not_empty c cs p = cc
+
 not_both : (b : Bool) → b ≡ false → b ≡ true → ⊥
 not_both b p q = cc
 
@@ -37,6 +41,18 @@ stays_answered (suc k) h texts a w = stays_answered k h texts a w
 pub stays_ended : (k : ℕ) (h : History) (texts : List Text) (e : Ending) → steady.ran k h texts (Ends e) ≡ Ends e
 stays_ended zero h texts e = refl
 stays_ended (suc k) h texts e = stays_ended k h texts e
+
+-- an answer is the run's where no caller waits
+over_if : (a : Answer) (cs : List Caller) (w : World) (b : Bool) → (IsTrue b ↔ (cs ≡ [])) → b ≡ is_over (Answers a cs w)
+over_if a [] w b e = e.1 refl
+over_if a (c ∷ cs) w true e = absurd (not_empty c cs (e.0 refl))
+over_if a (c ∷ cs) w false e = refl
+
+pub over_where : (s : State) (a : Answer) (cs : List Caller) (w : World) (b : Bool) → s ≡ Answers a cs w → (IsTrue b ↔ (cs ≡ [])) → b ≡ is_over s
+over_where s a cs w b is e = over_if a cs w b e ∙ sym (ap is_over is)
+
+pub goes_on : (s : State) (a : Answer) (cs : List Caller) (w : World) (b : Bool) → s ≡ Answers a cs w → (IsTrue b ↔ (cs ≡ [])) → b ≡ false → is_over s ≡ false
+goes_on s a cs w b is e no = sym (over_where s a cs w b is e) ∙ no
 
 -- a run that is over is where it is after any more steps
 pub over_there : (k : ℕ) (h : History) (texts : List Text) (t : State) (r : Reached) (w : World) → Brings t (Ok r) w → is_over t ≡ true → Brings (steady.ran k h texts t) (Ok r) w

@@ -24,6 +24,7 @@ pub enum Reached {
 }
 
 // Whether the run is over.
+#[tactic(auto, using(crate::proofs::Whole::over_where))]
 fn is_over(going: &Going, callers: &Stack<Caller>) -> bool
     ensures { (s : runs.State) (w : worlds.World) → Is s going.now callers.now w → result ≡ course.is_over s }
 {
@@ -35,6 +36,7 @@ fn is_over(going: &Going, callers: &Stack<Caller>) -> bool
 }
 
 // Where the run is.
+#[tactic(auto, using(crate::proofs::Whole::goes_on))]
 fn destination(going: Going, callers: &Stack<Caller>) -> Reached
     ensures { (s : runs.State) (w : worlds.World) → Is s going.entry callers.now w → Brings s (Ok result) w }
 {
@@ -46,8 +48,18 @@ fn destination(going: Going, callers: &Stack<Caller>) -> Reached
                 Reached::Nowhere
             }
         }
-        other => {
-            drop(other);
+        Going::Runs(doing, stmts, env, active) => {
+            drop(doing);
+            drop(stmts);
+            drop(env);
+            drop(active);
+            Reached::Nowhere
+        }
+        Going::Makes(t, v, vs, caller) => {
+            drop(t);
+            drop(v);
+            drop(vs);
+            drop(caller);
             Reached::Nowhere
         }
     }

@@ -18,13 +18,13 @@ returns-in_err-going c = λ h q s i.
     ends_here _ c.from_residual.result c.in_err-going.field-0.0 _ c.from_residual.ensures.1
     (λ e is. sym p.2 ∙ one_less c.stepping.left (c.stepping.left - 1) h c.args.texts.now p.0 (omega arith) ∙ ended_there (c.stepping.left - 1) h c.args.texts.now _ e (c.in_err-going.ensures h q p.0 p.1 e is))
 
-pub returns-in_stepping : goal.returns-in_stepping
-returns-in_stepping c = λ h q s i.
+pub returns-then-is_over : goal.returns-then-is_over
+returns-then-is_over c = λ h q s i.
     let p = c.stepping.invariant h q s i in
-    subst (λ t. Brings t (Ok c.destination-in_stepping.result) c.stepping.world) p.2
-    (over_there c.stepping.left h c.args.texts.now p.0 c.destination-in_stepping.result c.stepping.world (c.destination-in_stepping.ensures p.0 c.stepping.world p.1) (sym (c.is_over.ensures p.0 c.stepping.world p.1) ∙ c.in_is_over.is))
+    subst (λ t. Brings t (Ok c.destination.result) c.stepping.world) p.2
+    (over_there c.stepping.left h c.args.texts.now p.0 c.destination.result c.stepping.world (c.destination.ensures p.0 c.stepping.world p.1) (sym (c.is_over.ensures p.0 c.stepping.world p.1) ∙ c.if-is_over.true))
 
 pub returns : goal.returns
 returns c = λ h q s i.
     let p = c.stepping.invariant h q s i in
-    subst (λ t. Brings t (Ok c.destination.result) c.stepping.world) p.2 (none_left c.stepping.left h c.args.texts.now p.0 (Ok c.destination.result) c.stepping.world (omega arith) (c.destination.ensures p.0 c.stepping.world p.1))
+    subst (λ t. Brings t (Ok c.destination-2.result) c.stepping.world) p.2 (none_left c.stepping.left h c.args.texts.now p.0 (Ok c.destination-2.result) c.stepping.world (omega arith) (c.destination-2.ensures p.0 c.stepping.world p.1))
