@@ -1,5 +1,6 @@
 -- From a run's steps to what the whole program does.
-use Rattle.std.proofs.Common.{◌≡◌, ℕ, zero, suc, ◌+◌, ◌<◌, List, [], refl, ap, sym, subst, ◌∙◌, arith, add-one, Option, Some, None, Result, Ok, Err}
+use Rattle.std.proofs.Common.{◌≡◌, ℕ, zero, suc, ◌+◌, ◌<◌, Bool, true, false, List, [], refl, ap, sym, subst, ◌∙◌, arith, add-one, Option, Some, None, Result, Ok, Err}
+use Rattle.std.specs.Prelude.{◌↔◌, IsTrue}
 use Rattle.std.specs.Result.{IsErrAnd}
 use Rattle.std.proofs.lemmas.Result.{err_from_is_err_and}
 use Rattle.sc_meaning.specs.World.{World, tick}
@@ -17,13 +18,20 @@ use Rattle.sc_plain_leaves.specs.declared.stop.Stop.{Stop}
 use Rattle.sc_plain_leaves.specs.Gives.{ending_of, Stops}
 use Rattle.sc_plain.specs.declared.drive.Reached.{Reached}
 use Rattle.sc_plain.specs.declared.going.Going.{Going}
-use Rattle.sc_plain.specs.Steps.{Brings, Steps}
+use Rattle.sc_plain.specs.declared.drive.Reached.TheVariants as reached
+use Rattle.sc_plain.specs.Steps.{Brings, Steps, is_over}
 use Rattle.sc_plain.specs.declared.running.Ended.{Ended}
 use Rattle.sc_plain.specs.declared.running.Ended.TheVariants as ended
 use Rattle.sc_plain.specs.Ends.{Finishes}
 use Rattle.sc_plain.specs.Steady as steady
 use Rattle.sc_plain.specs.Steady.{alone}
 use Rattle.sc_plain.proofs.Unchanged.{quiet, present, callee_step, same_run}
+
+not_empty : (c : Caller) (cs : List Caller) → c ∷ cs ≡ [] → ⊥
+not_empty c cs p = cc
+
+not_both : (b : Bool) → b ≡ false → b ≡ true → ⊥
+not_both b p q = cc
 
 -- where nothing is left to be done, steps change nothing
 pub stays_answered : (k : ℕ) (h : History) (texts : List Text) (a : Answer) (w : World) → steady.ran k h texts (Answers a [] w) ≡ Answers a [] w
@@ -34,8 +42,22 @@ pub stays_ended : (k : ℕ) (h : History) (texts : List Text) (e : Ending) → s
 stays_ended zero h texts e = refl
 stays_ended (suc k) h texts e = stays_ended k h texts e
 
-pub brought : (k : ℕ) (h : History) (texts : List Text) (s : State) (a : Answer) (cs : List Caller) (w : World) → s ≡ Answers a cs w → cs ≡ [] → steady.ran k h texts s ≡ Answers a [] w
-brought k h texts s a cs w p q = ap (steady.ran k h texts) (p ∙ ap (λ cs. Answers a cs w) q) ∙ stays_answered k h texts a w
+-- an answer is the run's where no caller waits
+over_if : (a : Answer) (cs : List Caller) (w : World) (b : Bool) → (IsTrue b ↔ (cs ≡ [])) → b ≡ is_over (Answers a cs w)
+over_if a [] w b e = e.1 refl
+over_if a (c ∷ cs) w true e = absurd (not_empty c cs (e.0 refl))
+over_if a (c ∷ cs) w false e = refl
+
+pub over_where : (s : State) (a : Answer) (cs : List Caller) (w : World) (b : Bool) → s ≡ Answers a cs w → (IsTrue b ↔ (cs ≡ [])) → b ≡ is_over s
+over_where s a cs w b is e = over_if a cs w b e ∙ sym (ap is_over is)
+
+pub goes_on : (s : State) (a : Answer) (cs : List Caller) (w : World) (b : Bool) → s ≡ Answers a cs w → (IsTrue b ↔ (cs ≡ [])) → b ≡ false → is_over s ≡ false
+goes_on s a cs w b is e no = sym (over_where s a cs w b is e) ∙ no
+
+-- a run that is over is where it is after any more steps
+pub over_there : (k : ℕ) (h : History) (texts : List Text) (t : State) (r : Reached) (w : World) → Brings t (Ok r) w → is_over t ≡ true → Brings (steady.ran k h texts t) (Ok r) w
+over_there k h texts t (reached.Answer a) w p over = ap (steady.ran k h texts) p ∙ stays_answered k h texts a w
+over_there k h texts t reached.Nowhere w p over = absurd (not_both (is_over t) p over)
 
 pub ended_there : (k : ℕ) (h : History) (texts : List Text) (s : State) (e : Ending) → s ≡ Ends e → steady.ran k h texts s ≡ Ends e
 ended_there k h texts s e p = ap (steady.ran k h texts) p ∙ stays_ended k h texts e
@@ -43,6 +65,10 @@ ended_there k h texts s e p = ap (steady.ran k h texts) p ∙ stays_ended k h te
 -- one step of those that are left
 pub one_less : (k j : ℕ) (h : History) (texts : List Text) (s : State) → k ≡ j + 1 → steady.ran k h texts s ≡ steady.ran j h texts (steady.advance h texts s)
 one_less k j h texts s is = ap (λ n. steady.ran n h texts s) (is ∙ add-one j)
+
+-- no steps are left
+pub none_left : (k : ℕ) (h : History) (texts : List Text) (t : State) (r : Result Reached Stop) (w : World) → k ≡ 0 → Brings t r w → Brings (steady.ran k h texts t) r w
+none_left k h texts t r w is = subst (λ k. Brings (steady.ran k h texts t) r w) (sym is)
 
 -- a step from a state that is another one
 pub from_there : (h : History) (texts : List Text) (s t : State) (r : Result Going Stop) (cs : List Caller) (w : World) → s ≡ t → Steps (steady.advance h texts t) r cs w → Steps (steady.advance h texts s) r cs w
@@ -113,11 +139,8 @@ pub answer_finishes : (texts : List Text) (s : Start) (steps : ℕ) (first born 
 answer_finishes texts s steps first born v w a status is begins p q st back = λ n lt e r.
     run_answers texts s steps n born v a is lt (ap (statics_born texts) (sym begins) ∙ p) q ∙ ap (λ st. Exit st (tick v)) (sym st) ∙ ap (Exit status) (sym back) ∙ told e status w r
 
-nothing_told : (e : Ending) → None ≡ Some e → ⊥
-nothing_told e p = cc
-
-pub steps_used_up : (s : Start) (steps : ℕ) (w : World) → Finishes steps s (Ok ended.OutOfSteps) w
-steps_used_up s steps w = λ n lt e r. absurd (nothing_told e r)
+pub steps_used_up : (texts : List Text) (s : Start) (steps : ℕ) (first born w : World) → s.history ≡ alone texts → first ≡ first_world s → statics_born texts first ≡ Done tt born → is_over (steady.ran steps (alone texts) texts (first_of texts born)) ≡ false → Finishes steps s (Ok ended.OutOfSteps) w
+steps_used_up texts s steps first born w is begins p over = (texts, (is, (born, (ap (statics_born texts) (sym begins) ∙ p, over))))
 
 -- a part that failed ends the whole, as `?` passes its end on
 pub finishes_here : (s : Start) (steps : ℕ) (r : Result Ended Stop) (stop : Stop) (w : World) → IsErrAnd r (λ e. e ≡ stop) → Finishes steps s (Err stop) w → Finishes steps s r w

@@ -120,7 +120,7 @@ fn end_told(given: Result<Ended, Stop>) -> Ended
 }
 
 /// A run of a program that does not change, from its start on, in at most so many steps of the machine: how it ends, as the
-/// meaning has it at every bound greater than these steps.
+/// meaning has it at every bound greater than these steps. Where the steps were used up, the run was not over behind them.
 pub fn run(
     alloc: Global,
     texts: &[Text],

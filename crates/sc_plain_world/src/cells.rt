@@ -1,5 +1,5 @@
 // Lists of bytes of objects.
-ghost use Rattle.std.specs.Prelude.{◌≡◌, ◌+◌, length, take, drop, replicate, IfOk, map};
+ghost use Rattle.std.specs.Prelude.{◌≡◌, ◌-◌, ◌≤◌, length, take, drop, replicate, IfOk, map};
 ghost use Rattle.sc_meaning.specs.World as world;
 ghost use Rattle.sc_meaning.specs.Values as spec;
 
@@ -60,4 +60,37 @@ pub fn overwritten(
     let Some(end) = end else { return Err(NoMemory) };
     all.append(copy_cells(alloc, back(cells, end))?)?;
     Ok(all)
+}
+
+/// Bytes are written over others from an offset on, in place where all of them have a place.
+pub fn overwrite(
+    alloc: Global,
+    cells: &mut Items<Cell>,
+    at: u32,
+    new: Items<Cell>,
+) -> Result<(), NoMemory>
+    ensures { IfOk result (λ _. cells.new ≡ world.overwritten cells.old at new) }
+{
+    if let Some(end) = (at as usize).checked_add(new.len()) {
+        if end <= cells.len() {
+            write_over(cells, end, new);
+            return Ok(());
+        }
+    }
+    *cells = overwritten(alloc, cells.as_slice(), at, new.as_slice())?;
+    Ok(())
+}
+
+// Bytes are written over others up to an end, the last one first.
+#[tactic(auto, using(crate::proofs::Overwriting::overwritten_last))]
+fn write_over(cells: &mut Items<Cell>, end: usize, new: Items<Cell>)
+    requires { (length new ≤ end) × (end ≤ length cells.old) }
+    ensures { cells.new ≡ world.overwritten cells.old (end - length new) new }
+{
+    let mut rest = new;
+    let mut at = end;
+    'writing: while let Some(cell) = rest.pop() {
+        at -= 1;
+        cells.set(at, cell);
+    }
 }
