@@ -5,3 +5,8 @@ pub mod Nodes
 pub mod Operators
 pub mod Open
 pub mod Expressions
+pub mod Needs
+pub mod Statements
+pub mod Frames
+pub mod Contents
+pub mod Modules

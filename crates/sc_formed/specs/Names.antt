@@ -1,13 +1,15 @@
 -- What a module says of names and literals.
-use Rattle.std.specs.Prelude.{ℕ, Bool, true, false, not, ◌&&◌, if◌then◌else◌, List, [], ◌∷◌, length, map, position, slice_get, Option, Some, None, option_and_then}
+use Rattle.std.specs.Prelude.{◌≡◌, ℕ, ◌++◌, Bool, true, false, not, ◌&&◌, if◌then◌else◌, List, [], ◌∷◌, length, map, position, slice_get, Option, Some, None, option_and_then}
 use Rattle.std.specs.Option.{option_eq}
 use Rattle.std.specs.Str.{bytes_eq}
+use Rattle.std.specs.List.{list_any}
 use Rattle.sc_base.specs.declared.key.Key.{Key}
 use Rattle.sc_types.specs.declared.ctype.CType.{CType}
 use Rattle.sc_types.specs.declared.ctype.StructDef.{StructDef}
 use Rattle.sc_core.specs.declared.module.Core.{Core}
 use Rattle.sc_core.specs.declared.module.Declared.{Declared}
 use Rattle.sc_core.specs.declared.module.StaticObj.{StaticObj}
+use Rattle.sc_core.specs.declared.module.Fun.{Fun}
 use Rattle.sc_operand.specs.Types.{is_function}
 use Rattle.sc_formed.specs.Types.{same}
 
@@ -41,3 +43,27 @@ fits_function structs of (Some d) = same structs of d.of
 -- a name of a function, which is declared with a compatible type
 abbrev pub is_declared_function : Core → CType → Key → Bool
 is_declared_function core of key = is_function of && fits_function core.structs of (declared_as key core.declared)
+
+-- the function of this name
+abbrev pub function_as : List ℕ → List Fun → Option Fun
+function_as name funs = option_and_then (slice_get funs) (position (λ f. bytes_eq name f.name) funs)
+
+-- whether these bytes are a literal of the module
+abbrev pub is_literal_of : List (List ℕ) → List ℕ → Bool
+is_literal_of literals bytes = list_any (bytes_eq bytes) literals
+
+-- none of these is among those before it
+abbrev pub are_new : {A : Type 0} → (A → A → Bool) → List A → List A → Bool
+are_new eq done [] = true
+are_new eq done (x ∷ xs) = not (list_any (eq x) done) && are_new eq (done ++ x ∷ []) xs
+
+abbrev pub distinct : {A : Type 0} → (A → A → Bool) → List A → Bool
+distinct eq xs = are_new eq [] xs
+
+abbrev pub where_distinct : {A : Type 0} → (A → A → Bool) → List A → Option (List A)
+where_distinct eq xs = if distinct eq xs then Some xs else None
+
+-- a key at the end of a list, where it is new
+abbrev pub Adds : {A : Type 0} → (A → A → Bool) → A → List A → List A → Bool → Type 0
+Adds eq x old new true = (list_any (eq x) old ≡ false) × (new ≡ old ++ x ∷ [])
+Adds eq x old new false = list_any (eq x) old ≡ true

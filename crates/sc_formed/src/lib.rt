@@ -2,11 +2,18 @@
 #![tactic(auto)]
 
 mod agreement;
+mod contents;
 mod expressions;
+mod frames;
+mod module;
 mod names;
+mod needs;
 mod nodes;
 mod open;
 mod operators;
+mod statements;
 mod values;
 
 pub use agreement::alike;
+pub use module::is_formed;
+pub use needs::{Need, most_arguments, need_of, room};

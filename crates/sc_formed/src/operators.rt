@@ -205,7 +205,7 @@ pub(crate) fn is_assignment(structs: &Structs, of: &CType, a: &CoreExpr, b: &Cor
         && is_value_for(structs, type_of(a), b)
 }
 
-fn is_structure(shape: Shape) -> bool
+pub(crate) fn is_structure(shape: Shape) -> bool
     ensures { result ≡ spec.is_structure shape }
 {
     match shape {
