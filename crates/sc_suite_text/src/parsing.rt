@@ -1,7 +1,7 @@
 // Units and texts that are none, from the standard's grammar.
 mod table;
 
-use sc_base::{Fault, Items, NoMemory, Refusal, X};
+use sc_base::{Fault, Items, NoMemory, X};
 use sc_lex::{Token, TokenKind, lex};
 use sc_parse::parse;
 use sc_tree::Unit;
