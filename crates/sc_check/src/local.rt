@@ -27,7 +27,7 @@ enum Duration {
     Automatic(bool),
 }
 
-fn duration(storage: Option<Storage>, of: &CType) -> Duration {
+fn duration_of(storage: Option<Storage>, of: &CType) -> Duration {
     match storage {
         Some(Storage::Typedef) => Duration::Typedef,
         _ if is_function(of) => Duration::Function,
@@ -229,7 +229,7 @@ fn object(
     if !may_be_object(&m.st.structs, &x.of) {
         return Err(rule(x.line));
     }
-    match duration(x.storage, &x.of) {
+    match duration_of(x.storage, &x.of) {
         Duration::Static => static_local(alloc, m, f, x, given),
         Duration::Automatic(register) => automatic(alloc, &mut m.st, open, x, register, given),
         _ => Ok(()),
@@ -244,7 +244,7 @@ fn typed(
     x: &Declared,
     given: &Option<Initializer>,
 ) -> Result<(), UnitFault> {
-    match duration(x.storage, &x.of) {
+    match duration_of(x.storage, &x.of) {
         Duration::Function => {
             if may_stand(Place::BlockFunction, x.storage) {
                 linked_local(alloc, m, x, given)
