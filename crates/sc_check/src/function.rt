@@ -3,7 +3,6 @@
 use crate::fault::{UnitFault, rule};
 use crate::linked::{Declared, link, name_link};
 use crate::local::local;
-use crate::needs::{Needs, statement as needs_of};
 use crate::progress::{Around, Body, Translation};
 use crate::renumber::renumbered;
 use crate::statement::block;
@@ -12,6 +11,7 @@ use sc_base::{Duplicate, Items, Name, NoMemory, Shared};
 use sc_check_expr::{declarator, parameters, specifiers};
 use sc_core::{CoreStmt, Fun};
 use sc_declare::{Place, defined_parameter, may_stand};
+use sc_formed::{most_arguments, room};
 use sc_linkage::{Local, cost, place as placed};
 use sc_scope::{Meaning, State, enter, leave};
 use sc_tree::{Declarator, Derivation, Function, Identifier, Parameter, Specifiers};
@@ -126,11 +126,12 @@ fn made(
     alloc: Global,
     head: &Head,
     blocks: &[Items<Local>],
-    needs: Needs,
     body: Shared<CoreStmt>,
 ) -> Result<Fun, UnitFault> {
-    let cost = cost(head.line, blocks, needs.room, needs.args)?;
-    let blocks = placed(alloc, blocks, needs.room, needs.args)?;
+    let room = room(body.get());
+    let args = most_arguments(body.get());
+    let cost = cost(head.line, blocks, room, args)?;
+    let blocks = placed(alloc, blocks, room, args)?;
     let name = head.id.name.copy(alloc)?;
     let of = head.of.copy(alloc)?;
     Ok(Fun {
@@ -162,8 +163,7 @@ fn body_of(
         f.body.declarations.as_slice(),
         f.body.statements.as_slice(),
     )?;
-    let needs = needs_of(core.get());
-    made(alloc, head, body.blocks.as_slice(), needs, core)
+    made(alloc, head, body.blocks.as_slice(), core)
 }
 
 fn begun(

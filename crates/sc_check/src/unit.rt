@@ -1,5 +1,6 @@
 // A unit, from its tree to its typed tree (ANSI 3.7).
-ghost use Rattle.std.specs.Prelude.{◌≡◌};
+ghost use Rattle.std.specs.Prelude.{◌≡◌, IfOk, true};
+ghost use Rattle.sc_formed.specs.Modules.{formed};
 
 use crate::fault::UnitFault;
 use crate::file::declare_file;
@@ -10,6 +11,7 @@ use sc_base::{Bytes, Duplicate, Fault, Items, Name, NoMemory};
 use sc_check_initial::zeros;
 use sc_core::{Core, Declared, Init, StaticObj};
 use sc_declare::is_constant;
+use sc_formed::is_formed;
 use sc_linkage::{Definition, Link, born};
 use sc_program::StaticId;
 use sc_scope::{Literals, State};
@@ -118,7 +120,9 @@ struct Ending {
     births: Items<StaticId>,
 }
 
-fn ending(alloc: Global, name: &Name, m: &mut Translation) -> Result<Ending, UnitFault> {
+fn at_end(alloc: Global, name: &Name, m: &mut Translation) -> Result<Ending, UnitFault>
+    ensures { IfOk result (λ end. end.home ≡ name.now) }
+{
     let declared = m.links.finish(alloc, &m.st.structs)?;
     add_objects(alloc, m, declared.as_slice())?;
     let literals = texts(alloc, &m.st.literals)?;
@@ -168,10 +172,12 @@ fn module(m: Translation, end: Ending) -> Core
 
 fn read(alloc: Global, name: &Name, m: &mut Translation, unit: &Unit) -> Result<Ending, UnitFault> {
     externals(alloc, m, unit)?;
-    ending(alloc, name, m)
+    at_end(alloc, name, m)
 }
 
-fn checked(alloc: Global, name: &Name, unit: &Unit) -> Result<Core, UnitFault> {
+fn checked(alloc: Global, name: &Name, unit: &Unit) -> Result<Core, UnitFault>
+    ensures { IfOk result (λ core. core.name ≡ name.now) }
+{
     let mut m = Translation::new(alloc, name.copy(alloc)?);
     match read(alloc, name, &mut m, unit) {
         Ok(end) => Ok(module(m, end)),
@@ -182,14 +188,35 @@ fn checked(alloc: Global, name: &Name, unit: &Unit) -> Result<Core, UnitFault> {
     }
 }
 
-/// The typed tree of a unit of the module with this name. A refusal's file is empty.
+/// The module, whose laws are looked at once more: one that has them not, which no unit gives, is answered as want of memory.
+fn lawful(alloc: Global, core: Core) -> Result<Core, Fault>
+    ensures same { IfOk result (λ kept. kept ≡ core) }
+    ensures formed { IfOk result (λ kept. formed kept ≡ true) }
+{
+    match is_formed(alloc, &core) {
+        Ok(true) => Ok(core),
+        Ok(false) => {
+            drop(core);
+            Err(Fault::NoMemory)
+        }
+        Err(_) => {
+            drop(core);
+            Err(Fault::NoMemory)
+        }
+    }
+}
+
+/// The typed tree of a unit of the module with this name (ANSI 3.7). A refusal's file is empty.
 ///
 /// # Errors
 ///
 /// The first refusal in the order in which constructs end: X6 to X10.
-pub fn check(alloc: Global, name: &Name, unit: &Unit) -> Result<Core, Fault> {
+pub fn check(alloc: Global, name: &Name, unit: &Unit) -> Result<Core, Fault>
+    ensures name { IfOk result (λ core. core.name ≡ name.now) }
+    ensures formed { IfOk result (λ core. formed core ≡ true) }
+{
     match checked(alloc, name, unit) {
-        Ok(core) => Ok(core),
+        Ok(core) => lawful(alloc, core),
         Err(fault) => Err(told(alloc, fault)),
     }
 }
