@@ -160,8 +160,8 @@ fn body_of(
         Around::OUTSIDE,
         false,
         f.body.line,
-        f.body.declarations.as_slice(),
         f.body.statements.as_slice(),
+        f.body.declarations.as_slice(),
     )?;
     made(alloc, head, body.blocks.as_slice(), core)
 }

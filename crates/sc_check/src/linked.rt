@@ -1,4 +1,7 @@
 // Declarations of names with linkage (ANSI 3.1.2.2).
+ghost use Rattle.std.specs.Prelude.{◌≡◌, IfOk, OnOk};
+ghost use Rattle.sc_check.specs.Faults.{GivesWith};
+ghost use Rattle.sc_check.specs.Linked as spec;
 
 use crate::fault::{UnitFault, rule};
 use crate::progress::Translation;
@@ -22,7 +25,9 @@ pub(crate) struct Declared<'a> {
 }
 
 /// Whether the meaning of a name has linkage. An object of a block with static storage duration has a key of another name.
-fn has_linkage(name: &Name, meaning: &Meaning) -> bool {
+fn has_linkage(name: &Name, meaning: &Meaning) -> bool
+    ensures { result ≡ spec.has_linkage name.now meaning.now }
+{
     match meaning {
         Meaning::Function(_, _) => true,
         Meaning::Static(_, key) => key.name == *name,
@@ -31,14 +36,18 @@ fn has_linkage(name: &Name, meaning: &Meaning) -> bool {
 }
 
 /// Whether a name with linkage may be declared in the innermost scope (ANSI 3.5).
-fn may_link(st: &State, name: &Name) -> bool {
+fn may_link(st: &State, name: &Name) -> bool
+    ensures { result ≡ spec.may_link name.now st.now }
+{
     match st.names.find_innermost(st.began.names, name) {
         Some(meaning) => has_linkage(name, meaning),
         None => true,
     }
 }
 
-fn declaration(alloc: Global, x: &Declared) -> Result<Declaration, NoMemory> {
+fn declaration(alloc: Global, x: &Declared) -> Result<Declaration, NoMemory>
+    ensures { IfOk result (λ d. d ≡ spec.declaration x.now) }
+{
     let name = x.id.name.copy(alloc)?;
     let of = x.of.copy(alloc)?;
     Ok(Declaration {
@@ -50,7 +59,9 @@ fn declaration(alloc: Global, x: &Declared) -> Result<Declaration, NoMemory> {
     })
 }
 
-fn meaning_of(alloc: Global, link: &Link) -> Result<Meaning, NoMemory> {
+fn meaning_of(alloc: Global, link: &Link) -> Result<Meaning, NoMemory>
+    ensures { IfOk result (λ m. m ≡ spec.meaning_of link.now) }
+{
     let of = link.of.copy(alloc)?;
     let key = link.key.copy(alloc)?;
     if is_function(&of) {
@@ -66,7 +77,9 @@ pub(crate) fn name_link(
     m: &mut Translation,
     place: usize,
     name: &Name,
-) -> Result<(), NoMemory> {
+) -> Result<(), NoMemory>
+    ensures { OnOk result (m.new ≡ spec.name_link place name.now m.old) }
+{
     let Some(link) = m.links.as_slice().get(place) else {
         return Ok(());
     };
@@ -76,7 +89,9 @@ pub(crate) fn name_link(
 }
 
 /// A place for the contents of each name with linkage.
-fn make_contents(m: &mut Translation) -> Result<(), NoMemory> {
+fn make_contents(m: &mut Translation) -> Result<(), NoMemory>
+    ensures { OnOk result (m.new ≡ spec.with_links m.old.links m.old) }
+{
     let count = m.links.as_slice().len();
     for _ in m.contents.len()..count {
         m.contents.push(None)?;
@@ -90,7 +105,9 @@ fn make_contents(m: &mut Translation) -> Result<(), NoMemory> {
 ///
 /// - `Rule` (X7): the innermost scope has the name without linkage, or earlier declarations have another type or linkage.
 /// - `Main` (X9 `main`): `main` with external linkage and another type.
-pub(crate) fn link(alloc: Global, m: &mut Translation, x: &Declared) -> Result<usize, UnitFault> {
+pub(crate) fn link(alloc: Global, m: &mut Translation, x: &Declared) -> Result<usize, UnitFault>
+    ensures { GivesWith (spec.link x.now m.old) result m.new }
+{
     if !may_link(&m.st, &x.id.name) {
         return Err(rule(x.line));
     }
@@ -133,7 +150,9 @@ pub(crate) fn name_type(
     line: u32,
     name: &Name,
     of: DeclaredType,
-) -> Result<(), UnitFault> {
+) -> Result<(), UnitFault>
+    ensures { GivesWith (spec.name_type line name.now of m.old) result m.new }
+{
     let name = name.copy(alloc)?;
     m.st.declare(alloc, line, name, Meaning::Typedef(of))?;
     Ok(())

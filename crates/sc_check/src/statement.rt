@@ -172,8 +172,8 @@ fn listed(
     f: &mut Body,
     around: Around,
     switched: bool,
-    before: Items<Shared<CoreStmt>>,
     statements: &[Statement],
+    before: Items<Shared<CoreStmt>>,
 ) -> Result<Items<Shared<CoreStmt>>, UnitFault> {
     let mut done = before;
     for s in statements {
@@ -198,11 +198,11 @@ pub(crate) fn block(
     around: Around,
     switched: bool,
     line: u32,
-    declarations: &[Declaration],
     statements: &[Statement],
+    declarations: &[Declaration],
 ) -> Result<Shared<CoreStmt>, UnitFault> {
     let (number, initialized) = declared(alloc, m, f, declarations)?;
-    let all = listed(alloc, m, f, around, switched, initialized, statements)?;
+    let all = listed(alloc, m, f, around, switched, statements, initialized)?;
     node(alloc, CoreStmt::Block(line, number, all))
 }
 
@@ -215,8 +215,8 @@ fn inner_block(
     around: Around,
     switched: bool,
     line: u32,
-    declarations: &[Declaration],
     statements: &[Statement],
+    declarations: &[Declaration],
 ) -> Result<Shared<CoreStmt>, UnitFault> {
     let outer = enter(&mut m.st);
     let core = block(
@@ -226,8 +226,8 @@ fn inner_block(
         around,
         switched,
         line,
-        declarations,
         statements,
+        declarations,
     )?;
     leave(&mut m.st, outer);
     Ok(core)
@@ -235,25 +235,18 @@ fn inner_block(
 
 // ---- statements with parts
 
+/// The statement behind `else`.
 #[cycle(statements)]
-fn if_statement(
+fn branch(
     alloc: Global,
     m: &mut Translation,
     f: &mut Body,
     around: Around,
-    line: u32,
-    e: &Expr,
-    first: &Statement,
-    second: &Option<Shared<Statement>>,
-) -> Result<Shared<CoreStmt>, UnitFault> {
-    let e = condition(alloc, &mut m.st, e)?;
-    let first = statement(alloc, m, f, around.part(), first)?;
-    match second {
-        Some(second) => {
-            let second = statement(alloc, m, f, around.part(), second.get())?;
-            node(alloc, CoreStmt::If(line, e, first, Some(second)))
-        }
-        None => node(alloc, CoreStmt::If(line, e, first, None)),
+    s: &Option<Shared<Statement>>,
+) -> Result<Option<Shared<CoreStmt>>, UnitFault> {
+    match s {
+        Some(s) => Ok(Some(statement(alloc, m, f, around, s.get())?)),
+        None => Ok(None),
     }
 }
 
@@ -274,8 +267,8 @@ fn switch_body(
             around,
             true,
             *line,
-            declarations.as_slice(),
             statements.as_slice(),
+            declarations.as_slice(),
         ),
         _ => statement(alloc, m, f, around.listed(0), body),
     }
@@ -288,8 +281,8 @@ fn switch_statement(
     f: &mut Body,
     around: Around,
     line: u32,
-    e: &Expr,
     body: &Statement,
+    e: &Expr,
 ) -> Result<Shared<CoreStmt>, UnitFault> {
     let (e, of) = selector(alloc, &mut m.st, e)?;
     open_switch(alloc, f, of)?;
@@ -305,8 +298,8 @@ fn while_statement(
     f: &mut Body,
     around: Around,
     line: u32,
-    e: &Expr,
     body: &Statement,
+    e: &Expr,
 ) -> Result<Shared<CoreStmt>, UnitFault> {
     let e = condition(alloc, &mut m.st, e)?;
     let body = statement(alloc, m, f, around.looped(), body)?;
@@ -348,10 +341,10 @@ fn for_statement(
     f: &mut Body,
     around: Around,
     line: u32,
+    body: &Statement,
     first: &Option<Shared<Expr>>,
     second: &Option<Shared<Expr>>,
     third: &Option<Shared<Expr>>,
-    body: &Statement,
 ) -> Result<Shared<CoreStmt>, UnitFault> {
     let (first, second) = for_expressions(alloc, &mut m.st, first, second)?;
     let third = optional_value(alloc, &mut m.st, third)?;
@@ -367,8 +360,8 @@ fn case_statement(
     f: &mut Body,
     around: Around,
     line: u32,
-    e: &Expr,
     below: &Statement,
+    e: &Expr,
 ) -> Result<Shared<CoreStmt>, UnitFault> {
     let (bits, _) = constant(alloc, &mut m.st, e)?;
     let below = statement(alloc, m, f, around, below)?;
@@ -413,28 +406,31 @@ pub(crate) fn statement(
             around.part(),
             false,
             *line,
-            declarations.as_slice(),
             statements.as_slice(),
+            declarations.as_slice(),
         ),
         Statement::Empty(line) => node(alloc, CoreStmt::Empty(*line)),
         Statement::Expression(line, e) => expression_statement(alloc, &mut m.st, *line, e.get()),
         Statement::If(line, e, a, b) => {
-            if_statement(alloc, m, f, around, *line, e.get(), a.get(), b)
+            let e = condition(alloc, &mut m.st, e.get())?;
+            let a = statement(alloc, m, f, around.part(), a.get())?;
+            let b = branch(alloc, m, f, around.part(), b)?;
+            node(alloc, CoreStmt::If(*line, e, a, b))
         }
         Statement::Switch(line, e, body) => {
-            switch_statement(alloc, m, f, around, *line, e.get(), body.get())
+            switch_statement(alloc, m, f, around, *line, body.get(), e.get())
         }
         Statement::While(line, e, body) => {
-            while_statement(alloc, m, f, around, *line, e.get(), body.get())
+            while_statement(alloc, m, f, around, *line, body.get(), e.get())
         }
         Statement::Do(line, body, at, e) => {
             do_statement(alloc, m, f, around, *line, body.get(), *at, e.get())
         }
         Statement::For(line, a, b, c, body) => {
-            for_statement(alloc, m, f, around, *line, a, b, c, body.get())
+            for_statement(alloc, m, f, around, *line, body.get(), a, b, c)
         }
         Statement::Case(line, e, below) => {
-            case_statement(alloc, m, f, around, *line, e.get(), below.get())
+            case_statement(alloc, m, f, around, *line, below.get(), e.get())
         }
         Statement::Default(line, below) => {
             default_statement(alloc, m, f, around, *line, below.get())
