@@ -1,4 +1,8 @@
 // The contents of an object of static storage duration (ANSI 3.5.7): its bytes in order.
+ghost use Rattle.std.specs.Prelude.{◌≡◌, ◌++◌, ◌-◌, IfOk, OnOk};
+ghost use Rattle.sc_scope.specs.Steps.{Says, and_then};
+ghost use Rattle.sc_check_initial.specs.Values.{Gives, behind};
+ghost use Rattle.sc_check_initial.specs.Contents as spec;
 
 use crate::fault::not_constant;
 use sc_base::{Bytes, Duplicate, Items, Name, NoMemory};
@@ -11,19 +15,23 @@ use std::alloc::Global;
 
 /// The bytes so far, and the offset behind the last of them.
 #[derive(Drop)]
-struct Contents {
-    end: usize,
-    items: Items<Init>,
+pub(crate) struct Contents {
+    pub(crate) end: usize,
+    pub(crate) items: Items<Init>,
 }
 
-fn put_zeros(count: usize, items: &mut Items<Init>) -> Result<(), NoMemory> {
+fn put_zeros(count: usize, items: &mut Items<Init>) -> Result<(), NoMemory>
+    ensures { OnOk result (items.new ≡ items.old ++ spec.zero_bytes count) }
+{
     for _ in 0..count {
         items.push(Init::Byte(0))?;
     }
     Ok(())
 }
 
-fn put_bytes(bytes: &[u8], items: &mut Items<Init>) -> Result<(), NoMemory> {
+fn put_bytes(bytes: &[u8], items: &mut Items<Init>) -> Result<(), NoMemory>
+    ensures { OnOk result (items.new ≡ items.old ++ spec.bytes bytes.now) }
+{
     for b in bytes {
         items.push(Init::Byte(*b))?;
     }
@@ -31,12 +39,16 @@ fn put_bytes(bytes: &[u8], items: &mut Items<Init>) -> Result<(), NoMemory> {
 }
 
 /// The low bytes of a number, the lowest first.
-fn put_number(size: u32, n: u32, items: &mut Items<Init>) -> Result<(), NoMemory> {
+fn put_number(size: u32, n: u32, items: &mut Items<Init>) -> Result<(), NoMemory>
+    ensures { OnOk result (items.new ≡ items.old ++ spec.number size n) }
+{
     let bytes = n.to_le_bytes();
     put_bytes(&bytes[..size.min(4) as usize], items)
 }
 
-fn literal(alloc: Global, name: &Name, bytes: &Bytes) -> Result<StaticId, NoMemory> {
+fn literal(alloc: Global, name: &Name, bytes: &Bytes) -> Result<StaticId, NoMemory>
+    ensures { IfOk result (λ x. x ≡ StaticId.Literal name.now bytes.now) }
+{
     let name = name.copy(alloc)?;
     let bytes = bytes.copy(alloc)?;
     Ok(StaticId::Literal(name, bytes))
@@ -49,7 +61,9 @@ fn identity(
     literals: &Literals,
     line: u32,
     base: &Base,
-) -> Result<Option<StaticId>, CheckFault> {
+) -> Result<Option<StaticId>, CheckFault>
+    ensures { Says (spec.identity home.now literals.now line base.now) result }
+{
     match base {
         Base::Null => Ok(None),
         Base::Static(key) => Ok(Some(StaticId::Named(key.copy(alloc)?))),
@@ -68,7 +82,9 @@ fn put_address(
     line: u32,
     place: &Located,
     items: &mut Items<Init>,
-) -> Result<(), CheckFault> {
+) -> Result<(), CheckFault>
+    ensures { Gives (behind items.old (spec.address home.now literals.now line place.now)) result items.new }
+{
     match identity(alloc, home, literals, line, &place.base)? {
         Some(id) => items.push(Init::Address(id, place.offset))?,
         None => put_zeros(4, items)?,
@@ -76,7 +92,9 @@ fn put_address(
     Ok(())
 }
 
-fn scalar_size(of: &CType) -> u32 {
+fn scalar_size(of: &CType) -> u32
+    ensures { result ≡ spec.scalar_size of.now }
+{
     match of {
         CType::Int(kind, _) => int_size(*kind),
         _ => 4,
@@ -92,7 +110,9 @@ fn put_constant(
     of: &CType,
     e: &CoreExpr,
     items: &mut Items<Init>,
-) -> Result<(), CheckFault> {
+) -> Result<(), CheckFault>
+    ensures { Gives (behind items.old (spec.constant home.now literals.now line of.now e.now)) result items.new }
+{
     match of {
         CType::Int(kind, _) => {
             let value = integer_constant(line, e)?;
@@ -107,7 +127,9 @@ fn put_constant(
 }
 
 /// Zero bytes up to an offset.
-fn pad(at: usize, done: &mut Contents) -> Result<(), NoMemory> {
+fn pad(at: usize, done: &mut Contents) -> Result<(), NoMemory>
+    ensures { OnOk result (done.new ≡ record done.old { items = done.old.items ++ spec.zero_bytes (at - done.old.end) }) }
+{
     put_zeros(at.saturating_sub(done.end), &mut done.items)
 }
 
@@ -118,7 +140,9 @@ fn put_piece(
     line: u32,
     piece: &AutoInit,
     done: &mut Contents,
-) -> Result<(), CheckFault> {
+) -> Result<(), CheckFault>
+    ensures { Gives (spec.one_piece home.now literals.now line piece.now done.old) result done.new }
+{
     match piece {
         AutoInit::Value(at, of, e) => {
             pad(*at as usize, done)?;
@@ -145,7 +169,9 @@ pub(crate) fn contents(
     line: u32,
     size: u32,
     pieces: &[AutoInit],
-) -> Result<Items<Init>, CheckFault> {
+) -> Result<Items<Init>, CheckFault>
+    ensures { Says (spec.contents home.now literals.now line size pieces.now) result }
+{
     let mut done = Contents {
         end: 0,
         items: Items::new(alloc),
@@ -159,7 +185,9 @@ pub(crate) fn contents(
 }
 
 /// The contents of an object of static storage duration that has no initialiser (ANSI 3.5.7): as many zero bytes as it has bytes.
-pub fn zeros(alloc: Global, structs: &Structs, of: &CType) -> Result<Items<Init>, NoMemory> {
+pub fn zeros(alloc: Global, structs: &Structs, of: &CType) -> Result<Items<Init>, NoMemory>
+    ensures { IfOk result (λ all. all ≡ spec.zeros structs.now of.now) }
+{
     let mut items = Items::new(alloc);
     if let Some(size) = object_size(structs, of) {
         put_zeros(size as usize, &mut items)?;
