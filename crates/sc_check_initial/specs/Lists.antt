@@ -61,7 +61,7 @@ abbrev pub is_single_string : List Item → Bool
 is_single_string xs = string_in (single_of xs)
 
 abbrev pub when : Bool → Listing → Listing → Listing
-when yes then_ other = if yes then then_ else other
+when b then_ other = if b then then_ else other
 
 abbrev pub listing_by : TypeLevel → CType → List Item → Listing
 listing_by (CType-F.Array u n) of xs = when (is_single_string xs && places.takes true of) listing.Single listing.Aggregate

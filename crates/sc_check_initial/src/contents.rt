@@ -162,7 +162,7 @@ fn put_piece(
 }
 
 /// The bytes of an object of this size with these pieces, which are in the order of offsets; the others are zero.
-pub(crate) fn contents(
+pub(crate) fn contents_of(
     alloc: Global,
     home: &Name,
     literals: &Literals,

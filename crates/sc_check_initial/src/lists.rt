@@ -5,7 +5,7 @@ ghost use Rattle.sc_check_initial.specs.Values.{Gives};
 ghost use Rattle.sc_check_initial.specs.Lists as spec;
 
 use crate::fault::rule;
-use crate::places::{Filling, Listing, ended, listing, place_of};
+use crate::places::{Filling, Listing, ended, listing_of, place_of};
 use crate::tree::all_typed;
 use crate::value::put_expression;
 use sc_declare::{Failure, Refused};
@@ -84,7 +84,7 @@ fn put_list(
 ) -> Result<u32, CheckFault>
     ensures { GivesWith (spec.list_at constant line (map spec.item items.now) p (fill.old, st.old)) result (fill.new, st.new) }
 {
-    match listing(&p.of, items) {
+    match listing_of(&p.of, items) {
         Listing::Single => put_single(alloc, st, constant, fill, line, items, &p),
         Listing::Aggregate => {
             fill.walk.begin(line, true, p)?;

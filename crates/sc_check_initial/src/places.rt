@@ -50,7 +50,7 @@ fn when(yes: bool, then: Listing, other: Listing) -> Listing
 }
 
 /// What a list stands for: a scalar takes one expression, with or without braces.
-pub(crate) fn listing(of: &CType, items: &[Initializer]) -> Listing
+pub(crate) fn listing_of(of: &CType, items: &[Initializer]) -> Listing
     ensures { result ≡ spec.listing_of of.now (map spec.item items.now) }
 {
     match of {

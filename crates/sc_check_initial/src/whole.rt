@@ -3,7 +3,7 @@ ghost use Rattle.std.specs.Prelude.{◌≡◌, IfOk, true, false};
 ghost use Rattle.sc_scope.specs.Steps.{Says, GivesWith};
 ghost use Rattle.sc_check_initial.specs.Whole as spec;
 
-use crate::contents::contents;
+use crate::contents::contents_of;
 use crate::fault::rule;
 use crate::lists::put_at;
 use crate::places::{Filling, whole};
@@ -135,7 +135,7 @@ fn static_contents(
     ensures { Says (spec.static_contents home.now line of.now pieces.now st.now) result }
 {
     match object_size(&st.structs, of) {
-        Some(size) => contents(alloc, home, &st.literals, line, size, pieces),
+        Some(size) => contents_of(alloc, home, &st.literals, line, size, pieces),
         None => Err(rule(line)),
     }
 }
