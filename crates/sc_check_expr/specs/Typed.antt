@@ -13,6 +13,9 @@ use Rattle.sc_tree.specs.declared.expression.Derivation.TheOpen.{Derivation-F, E
 use Rattle.sc_tree.specs.declared.expression.Specifiers.{Specifiers}
 use Rattle.sc_tree.specs.declared.expression.Enumerator.{Enumerator}
 use Rattle.sc_tree.specs.declared.expression.Identifier.{Identifier}
+use Rattle.sc_tree.specs.declared.operator.Binary.{Binary}
+use Rattle.sc_tree.specs.declared.operator.Unary.{Unary}
+use Rattle.sc_tree.specs.declared.operator.Postfix.{Postfix}
 use Rattle.sc_core.specs.declared.expression.CoreExpr.{CoreExpr}
 use Rattle.sc_core.specs.Types.{type_of}
 use Rattle.sc_operand.specs.Constants.{integer_constant}
@@ -22,7 +25,6 @@ use Rattle.sc_primary.specs.Calls.{call}
 use Rattle.sc_primary.specs.Unary as prefix
 use Rattle.sc_typing.specs.Binary.{binary, comma}
 use Rattle.sc_typing.specs.Conditional.{conditional}
-use Rattle.sc_declare.specs.declared.words.Word.{Word}
 use Rattle.sc_declare.specs.declared.words.Word.TheVariants as w
 use Rattle.sc_declare.specs.declared.derivation.DeclaredType.{DeclaredType}
 use Rattle.sc_declare.specs.declared.derivation.Derived.{Derived}
@@ -118,13 +120,20 @@ in_declarator x = record { line = x.line; name = x.identifier; of = type_by x.li
 abbrev pub no_parameters : Parameters
 no_parameters = record { types = []; depth = 0 }
 
+-- an array with its size (3.5.4.2)
+abbrev pub sized : ℕ → Node → Checking Derived
+sized line n s = and_then (constant n s) (λ r. keep r.1 (declarations.derived_array line r.0))
+
 -- The parameters have a scope of their own (3.1.2.1).
+abbrev pub prototype : List Parametering → Checking Derived
+prototype ps s = and_then (each one ps no_parameters (enter s)) (λ r. Ok (d.Function r.0, leave s.began r.1))
+
 abbrev pub in_derivation : Level Derivation-F → Deriving
 in_derivation (Derivation-F.Pointer c) line s = Ok (d.Pointer c, s)
 in_derivation (Derivation-F.Array None) line s = Ok (d.Array 0, s)
-in_derivation (Derivation-F.Array (Some n)) line s = and_then (constant n s) (λ r. keep r.1 (declarations.derived_array line r.0))
+in_derivation (Derivation-F.Array (Some n)) line s = sized line n s
 in_derivation Derivation-F.Function line s = Ok (d.Function no_parameters, s)
-in_derivation (Derivation-F.Prototype ps) line s = and_then (each one ps no_parameters (enter s)) (λ r. Ok (d.Function r.0, leave s.began r.1))
+in_derivation (Derivation-F.Prototype ps) line s = prototype ps s
 
 abbrev pub in_parameter : Level Parameter-F → Parametering
 in_parameter p done s =
@@ -132,20 +141,27 @@ in_parameter p done s =
 
 -- ---- structures and enumerations
 
+-- the members with one more of this type
+abbrev pub with_member : ℕ → Option Identifier → DeclaredType → List StructureMember → State → Checked (List StructureMember)
+with_member line name t done s = and_then (declarations.add_member s line name t done) (λ m. Ok m.1)
+
 abbrev pub one_member : DeclaredType → Declaring → Membering
-one_member base x done s = and_then (x.of base s) (λ r. and_then (declarations.add_member r.1 x.line x.name r.0 done) (λ m. Ok (m.1, r.1)))
+one_member base x done s = and_then (x.of base s) (λ r. keep r.1 (with_member x.line x.name r.0 done r.1))
 
 abbrev pub in_member : Level Member-F → Membering
 in_member m done s = and_then (in_specifiers m.specifiers s) (λ b. each (one_member b.0) m.declarators done b.1)
 
-abbrev pub value_of : Option Node → Checking (Option (ℕ × Int))
-value_of None s = Ok (None, s)
-value_of (Some e) s = and_then (constant e s) (λ r. Ok (Some r.0, r.1))
+-- an enumeration constant with its value
+abbrev pub valued : ℕ → List ℕ → Option ℕ → Node → Checking ℕ
+valued line name before e s = and_then (constant e s) (λ v. declarations.enumerator line name (Some v.0) before v.1)
 
--- an enumeration constant behind one with these bits
+-- the bits of an enumeration constant behind one with the bits `before`
+abbrev pub enumerator_bits : ℕ → List ℕ → Option ℕ → Option Node → Checking ℕ
+enumerator_bits line name before None s = declarations.enumerator line name None before s
+enumerator_bits line name before (Some e) s = valued line name before e s
+
 abbrev pub one_enumerator : Enumerator Node → Option ℕ → Checking (Option ℕ)
-one_enumerator x before s =
-    and_then (value_of x.value s) (λ v. and_then (declarations.enumerator x.line x.name v.0 before v.1) (λ r. Ok (Some r.0, r.1)))
+one_enumerator x before s = and_then (enumerator_bits x.line x.name before x.value s) (λ r. Ok (Some r.0, r.1))
 
 abbrev pub as_named : Checked (DeclaredType × State) → Checked (Specified × State)
 as_named r = and_then r (λ x. Ok (word.Named x.0, x.1))
@@ -211,26 +227,72 @@ of_two p q rule s = and_then (p s) (λ x. of_one q (rule x.0) x.1)
 abbrev pub of_three : {A B D C S : Type 0} → (S → Checked (A × S)) → (S → Checked (B × S)) → (S → Checked (D × S)) → (A → B → D → S → Checked C) → S → Checked (C × S)
 of_three p q r rule s = and_then (p s) (λ x. of_two q r (rule x.0) x.1)
 
+-- an operand, which is not what a call calls
+abbrev pub operand : Node → Checking CoreExpr
+operand e = e.typed false
+
+-- The rules of the constructs, over what their parts have given.
+abbrev pub by_offset_of : ℕ → List ℕ → DeclaredType → State → Checked CoreExpr
+by_offset_of l n t s = typing (leaf.offset_of_member s.structs l t.of n)
+
+abbrev pub by_index : ℕ → CoreExpr → CoreExpr → State → Checked CoreExpr
+by_index l a b s = typing (part.index s.structs l a b)
+
+abbrev pub by_call : ℕ → CoreExpr → List CoreExpr → State → Checked CoreExpr
+by_call l f args s = typing (call s.structs l f args)
+
+abbrev pub by_member : ℕ → List ℕ → CoreExpr → State → Checked CoreExpr
+by_member l n a s = typing (part.member s.structs l a n)
+
+abbrev pub by_arrow : ℕ → List ℕ → CoreExpr → State → Checked CoreExpr
+by_arrow l n a s = typing (part.arrow s.structs l a n)
+
+abbrev pub by_postfix : ℕ → Postfix → CoreExpr → State → Checked CoreExpr
+by_postfix l o a s = made.postfix l o a s
+
+abbrev pub by_unary : ℕ → Unary → Bool → CoreExpr → State → Checked CoreExpr
+by_unary l o register a s = made.unary l o register a s
+
+abbrev pub by_size_of_operand : ℕ → CoreExpr → State → Checked CoreExpr
+by_size_of_operand l a s = typing (leaf.size_of_type s.structs l (type_of a))
+
+abbrev pub by_size_of_type : ℕ → DeclaredType → State → Checked CoreExpr
+by_size_of_type l t s = typing (leaf.size_of_type s.structs l t.of)
+
+abbrev pub by_cast : ℕ → DeclaredType → CoreExpr → State → Checked CoreExpr
+by_cast l t a s = typing (prefix.cast s.structs l t.of a)
+
+abbrev pub by_binary : ℕ → Binary → CoreExpr → CoreExpr → State → Checked CoreExpr
+by_binary l o a b s = typing (binary s.structs l o a b)
+
+abbrev pub by_conditional : ℕ → CoreExpr → CoreExpr → CoreExpr → State → Checked CoreExpr
+by_conditional l a b e s = typing (conditional s.structs l a b e)
+
+abbrev pub by_assign : ℕ → Option Binary → CoreExpr → CoreExpr → State → Checked CoreExpr
+by_assign l o a b s = made.assign l o a b s
+
+abbrev pub by_comma : ℕ → CoreExpr → CoreExpr → State → Checked CoreExpr
+by_comma l a b s = Ok (comma l a b)
+
 -- Operands from the left, a type before its operand, then the construct itself.
 abbrev pub typed_by : Level Expr-F → Bool → Checking CoreExpr
 typed_by (Expr-F.Name l n) called s = keep s (made.name l called n s)
 typed_by (Expr-F.Constant l k) called s = keep s (typing (leaf.constant l k))
 typed_by (Expr-F.String l t) called s = made.string l t s
-typed_by (Expr-F.OffsetOf l t n) called s = of_one t (λ t s. typing (leaf.offset_of_member s.structs l t.of n)) s
-typed_by (Expr-F.Index l a b) called s = of_two (a.typed false) (b.typed false) (λ a b s. typing (part.index s.structs l a b)) s
-typed_by (Expr-F.Call l f args) called s = of_two (f.typed true) (each one_argument args []) (λ f args s. typing (call s.structs l f args)) s
-typed_by (Expr-F.Member l a n) called s = of_one (a.typed false) (λ a s. typing (part.member s.structs l a n)) s
-typed_by (Expr-F.Arrow l a n) called s = of_one (a.typed false) (λ a s. typing (part.arrow s.structs l a n)) s
-typed_by (Expr-F.Postfix l o a) called s = of_one (a.typed false) (made.postfix l o) s
-typed_by (Expr-F.Unary l o a) called s = of_one (a.typed false) (made.unary l o (a.register s)) s
-typed_by (Expr-F.SizeOf l a) called s = of_one (unevaluated a) (λ a s. typing (leaf.size_of_type s.structs l (type_of a))) s
-typed_by (Expr-F.SizeOfType l t) called s = of_one t (λ t s. typing (leaf.size_of_type s.structs l t.of)) s
-typed_by (Expr-F.Cast l t a) called s = of_two t (a.typed false) (λ t a s. typing (prefix.cast s.structs l t.of a)) s
-typed_by (Expr-F.Binary l o a b) called s = of_two (a.typed false) (b.typed false) (λ a b s. typing (binary s.structs l o a b)) s
-typed_by (Expr-F.Conditional l a b e) called s =
-    of_three (a.typed false) (b.typed false) (e.typed false) (λ a b e s. typing (conditional s.structs l a b e)) s
-typed_by (Expr-F.Assign l o a b) called s = of_two (a.typed false) (b.typed false) (made.assign l o) s
-typed_by (Expr-F.Comma l a b) called s = of_two (a.typed false) (b.typed false) (λ a b s. Ok (comma l a b)) s
+typed_by (Expr-F.OffsetOf l t n) called s = of_one t (by_offset_of l n) s
+typed_by (Expr-F.Index l a b) called s = of_two (operand a) (operand b) (by_index l) s
+typed_by (Expr-F.Call l f args) called s = of_two (f.typed true) (each one_argument args []) (by_call l) s
+typed_by (Expr-F.Member l a n) called s = of_one (operand a) (by_member l n) s
+typed_by (Expr-F.Arrow l a n) called s = of_one (operand a) (by_arrow l n) s
+typed_by (Expr-F.Postfix l o a) called s = of_one (operand a) (by_postfix l o) s
+typed_by (Expr-F.Unary l o a) called s = of_one (operand a) (by_unary l o (a.register s)) s
+typed_by (Expr-F.SizeOf l a) called s = of_one (unevaluated a) (by_size_of_operand l) s
+typed_by (Expr-F.SizeOfType l t) called s = of_one t (by_size_of_type l) s
+typed_by (Expr-F.Cast l t a) called s = of_two t (operand a) (by_cast l) s
+typed_by (Expr-F.Binary l o a b) called s = of_two (operand a) (operand b) (by_binary l o) s
+typed_by (Expr-F.Conditional l a b e) called s = of_three (operand a) (operand b) (operand e) (by_conditional l) s
+typed_by (Expr-F.Assign l o a b) called s = of_two (operand a) (operand b) (by_assign l o) s
+typed_by (Expr-F.Comma l a b) called s = of_two (operand a) (operand b) (by_comma l) s
 
 abbrev pub in_expression : Level Expr-F → Node
 in_expression e = record { line = line_by e; register = register_by e; typed = typed_by e }

@@ -4,6 +4,7 @@
 
 mod check;
 mod line;
+mod parts;
 
 pub use check::{constant, declarator, expression, parameters, specifiers, type_name};
 pub use line::line_of;

@@ -14,9 +14,8 @@ invariant-specifiers-loop-w l = each one_word (map wording (drop l.w-index l.w-i
 abbrev pub invariant-members-loop-m : goal.invariant-members-loop-m
 invariant-members-loop-m l = each one (map membering (drop l.m-index l.list)) l.done l.st ≡ each one (map membering l.list) [] l.fn.st
 
-abbrev pub invariant-declared_members-loop-d : goal.invariant-declared_members-loop-d
-invariant-declared_members-loop-d l =
-    each (one_member l.base) (map declaring (drop l.d-index l.d-items)) l.done l.st ≡ each (one_member l.base) (map declaring l.d-items) l.initial.done l.initial.st
+abbrev pub invariant-members_of-loop-d : goal.invariant-members_of-loop-d
+invariant-members_of-loop-d l = each (one_member l.base) (map declaring (drop l.d-index l.list)) l.done l.st ≡ each (one_member l.base) (map declaring l.list) l.fn.done l.fn.st
 
 abbrev pub invariant-enumerators-loop-item : goal.invariant-enumerators-loop-item
 invariant-enumerators-loop-item l = each one_enumerator (map enumerating (drop l.item-index l.list)) l.before l.st ≡ each one_enumerator (map enumerating l.list) None l.fn.st
