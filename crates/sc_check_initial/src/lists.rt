@@ -1,12 +1,16 @@
 // The recursion over lists of initialisers (ANSI 3.5.7).
+ghost use Rattle.std.specs.Prelude.{map};
+ghost use Rattle.sc_scope.specs.Steps.{GivesWith};
+ghost use Rattle.sc_check_initial.specs.Values.{Gives};
+ghost use Rattle.sc_check_initial.specs.Lists as spec;
 
 use crate::fault::rule;
-use crate::places::{Filling, Listing, ended, listing, place_of};
+use crate::places::{Filling, Listing, ended, listing_of, place_of};
 use crate::tree::all_typed;
 use crate::value::put_expression;
-use sc_declare::Failure;
+use sc_declare::{Failure, Refused};
 use sc_initial::Place;
-use sc_scope::{CheckFault, State};
+use sc_scope::{CheckFault, Problem, State};
 use sc_tree::Initializer;
 use std::alloc::Global;
 
@@ -15,15 +19,12 @@ fn without_place(
     alloc: Global,
     st: &mut State,
     items: &[Initializer],
-    failure: Failure,
-) -> Result<(), CheckFault> {
-    match failure {
-        Failure::NoMemory => Err(CheckFault::NoMemory),
-        Failure::Refused(_) => {
-            all_typed(alloc, st, items)?;
-            Err(CheckFault::from(failure))
-        }
-    }
+    why: Refused,
+) -> Result<(), CheckFault>
+    ensures { Gives (spec.without_place (map spec.item items.now) why st.old) result st.new }
+{
+    all_typed(alloc, st, items)?;
+    Err(CheckFault::Found(Problem::Declaring(why)))
 }
 
 /// The items of a list, each in its place.
@@ -33,13 +34,16 @@ fn put_items(
     st: &mut State,
     fill: &mut Filling,
     items: &[Initializer],
-) -> Result<(), CheckFault> {
+) -> Result<(), CheckFault>
+    ensures { Gives (spec.items (map spec.item items.now) (fill.old, st.old)) result (fill.new, st.new) }
+{
     for (i, item) in items.iter().enumerate() {
         match place_of(alloc, &st.structs, &mut fill.walk, item) {
             Ok(p) => {
                 put_at(alloc, st, true, fill, item, p)?;
             }
-            Err(failure) => return without_place(alloc, st, &items[i..], failure),
+            Err(Failure::Refused(why)) => return without_place(alloc, st, &items[i..], why),
+            Err(Failure::NoMemory) => return Err(CheckFault::NoMemory),
         }
     }
     Ok(())
@@ -55,7 +59,9 @@ pub(crate) fn put_at(
     fill: &mut Filling,
     given: &Initializer,
     p: Place,
-) -> Result<u32, CheckFault> {
+) -> Result<u32, CheckFault>
+    ensures { GivesWith ((spec.item given.now).at constant p (fill.old, st.old)) result (fill.new, st.new) }
+{
     match given {
         Initializer::Expression(line, e) => {
             put_expression(alloc, st, constant, *line, e.get(), &p, &mut fill.pieces)
@@ -75,8 +81,10 @@ fn put_list(
     line: u32,
     items: &[Initializer],
     p: Place,
-) -> Result<u32, CheckFault> {
-    match listing(&p.of, items) {
+) -> Result<u32, CheckFault>
+    ensures { GivesWith (spec.list_at constant line (map spec.item items.now) p (fill.old, st.old)) result (fill.new, st.new) }
+{
+    match listing_of(&p.of, items) {
         Listing::Single => put_single(alloc, st, constant, fill, line, items, &p),
         Listing::Aggregate => {
             fill.walk.begin(line, true, p)?;
@@ -99,7 +107,9 @@ fn put_single(
     line: u32,
     items: &[Initializer],
     p: &Place,
-) -> Result<u32, CheckFault> {
+) -> Result<u32, CheckFault>
+    ensures { GivesWith (spec.single_at constant line (spec.single_of (map spec.item items.now)) p.now (fill.old, st.old)) result (fill.new, st.new) }
+{
     match items {
         [Initializer::Expression(own, e)] => {
             put_expression(alloc, st, constant, *own, e.get(), p, &mut fill.pieces)

@@ -1,4 +1,11 @@
 // What one expression gives its place (ANSI 3.5.7).
+ghost use Rattle.std.specs.Prelude.{◌≡◌, ◌++◌, OnOk, Ok};
+ghost use Rattle.sc_core.specs.declared.statement.AutoInit.TheVariants as item;
+ghost use Rattle.sc_operand.specs.Types as types;
+ghost use Rattle.sc_operand.specs.Steps.{Says};
+ghost use Rattle.sc_declare.specs.Outcomes as outcomes;
+ghost use Rattle.sc_scope.specs.Steps.{GivesWith};
+ghost use Rattle.sc_check_initial.specs.Values as spec;
 
 use crate::fault::rule;
 use crate::tree::is_string;
@@ -17,7 +24,9 @@ use sc_types::{CType, Structs};
 use std::alloc::Global;
 
 /// A constant of the value's type (ANSI 3.4): an integer constant expression, or an address constant.
-fn is_constant(alloc: Global, line: u32, e: &CoreExpr) -> Result<(), TypeFault> {
+fn is_constant(alloc: Global, line: u32, e: &CoreExpr) -> Result<(), TypeFault>
+    ensures { Says (spec.is_constant line e.now) result }
+{
     match type_of(e) {
         CType::Int(_, _) => {
             integer_constant(line, e)?;
@@ -30,7 +39,9 @@ fn is_constant(alloc: Global, line: u32, e: &CoreExpr) -> Result<(), TypeFault> 
     }
 }
 
-fn allowed(alloc: Global, constant: bool, line: u32, e: &CoreExpr) -> Result<(), TypeFault> {
+fn allowed(alloc: Global, constant: bool, line: u32, e: &CoreExpr) -> Result<(), TypeFault>
+    ensures { Says (spec.allowed constant line e.now) result }
+{
     if constant {
         is_constant(alloc, line, e)
     } else {
@@ -38,7 +49,9 @@ fn allowed(alloc: Global, constant: bool, line: u32, e: &CoreExpr) -> Result<(),
     }
 }
 
-fn scalar_piece(at: u32, of: &CType, value: Shared<CoreExpr>) -> Result<AutoInit, TypeFault> {
+fn scalar_piece(at: u32, of: &CType, value: Shared<CoreExpr>) -> Result<AutoInit, TypeFault>
+    ensures { Says (Ok (item.Value at (types.plain of.now) value)) result }
+{
     let of = plain(of)?;
     Ok(AutoInit::Value(at, of, value))
 }
@@ -50,7 +63,9 @@ fn scalar(
     line: u32,
     p: &Place,
     e: Shared<CoreExpr>,
-) -> Result<AutoInit, TypeFault> {
+) -> Result<AutoInit, TypeFault>
+    ensures { Says (spec.scalar structs.now constant line p.now e) result }
+{
     let value = assigned(alloc, structs, line, &p.of, e)?;
     allowed(alloc, constant, line, value.get())?;
     scalar_piece(p.at, &p.of, value)
@@ -62,7 +77,9 @@ fn structure_piece(
     line: u32,
     of: &CType,
     value: Shared<CoreExpr>,
-) -> Result<AutoInit, TypeFault> {
+) -> Result<AutoInit, TypeFault>
+    ensures { Says (spec.structure_piece structs.now constant line of.now value) result }
+{
     if constant {
         return Err(refusal(Cause::NotConstant, line));
     }
@@ -79,7 +96,9 @@ fn structure(
     line: u32,
     of: &CType,
     e: Shared<CoreExpr>,
-) -> Result<AutoInit, TypeFault> {
+) -> Result<AutoInit, TypeFault>
+    ensures { Says (spec.structure structs.now constant line of.now e) result }
+{
     let value = assigned(alloc, structs, line, of, e)?;
     structure_piece(structs, constant, line, of, value)
 }
@@ -92,7 +111,9 @@ fn piece(
     line: u32,
     p: &Place,
     e: Shared<CoreExpr>,
-) -> Result<AutoInit, TypeFault> {
+) -> Result<AutoInit, TypeFault>
+    ensures { Says (spec.value_piece structs.now constant line p.now e) result }
+{
     match &p.of {
         CType::Struct(_, _) => structure(alloc, structs, constant, line, &p.of, e),
         _ => scalar(alloc, structs, constant, line, p, e),
@@ -100,7 +121,9 @@ fn piece(
 }
 
 /// The bytes of a string from a place's beginning, and zero bytes up to its end.
-fn put_text(p: &Place, text: Text, pieces: &mut Items<AutoInit>) -> Result<(), NoMemory> {
+fn put_text(p: &Place, text: Text, pieces: &mut Items<AutoInit>) -> Result<(), NoMemory>
+    ensures { OnOk result (pieces.new ≡ pieces.old ++ spec.text_pieces p.now text) }
+{
     let Text {
         length: _,
         bytes,
@@ -120,7 +143,9 @@ fn text(
     bytes: &Bytes,
     p: &Place,
     pieces: &mut Items<AutoInit>,
-) -> Result<u32, Failure> {
+) -> Result<u32, Failure>
+    ensures { outcomes.GivesWith (spec.text line size bytes.now p.now pieces.old) result pieces.new }
+{
     let text = text_for(alloc, line, size, bytes)?;
     let length = text.length;
     put_text(p, text, pieces)?;
@@ -135,7 +160,9 @@ fn string(
     e: &Expr,
     p: &Place,
     pieces: &mut Items<AutoInit>,
-) -> Result<u32, CheckFault> {
+) -> Result<u32, CheckFault>
+    ensures { GivesWith (spec.string line size e.now p.now pieces.old) result pieces.new }
+{
     match e {
         Expr::String(_, Some(bytes)) => Ok(text(alloc, line, size, bytes, p, pieces)?),
         _ => Err(rule(line)),
@@ -151,7 +178,9 @@ fn array(
     e: &Expr,
     p: &Place,
     pieces: &mut Items<AutoInit>,
-) -> Result<u32, CheckFault> {
+) -> Result<u32, CheckFault>
+    ensures { GivesWith (spec.array line size e.now p.now (pieces.old, st.old)) result (pieces.new, st.new) }
+{
     if is_string(e) && takes(true, &p.of) {
         return string(alloc, line, size, e, p, pieces);
     }
@@ -167,7 +196,9 @@ fn single(
     line: u32,
     e: &Expr,
     p: &Place,
-) -> Result<AutoInit, CheckFault> {
+) -> Result<AutoInit, CheckFault>
+    ensures { GivesWith (spec.single constant line e.now p.now st.old) result st.new }
+{
     let core = expression(alloc, st, false, e)?;
     Ok(piece(alloc, &st.structs, constant, line, p, core)?)
 }
@@ -181,7 +212,9 @@ pub(crate) fn put_expression(
     e: &Expr,
     p: &Place,
     pieces: &mut Items<AutoInit>,
-) -> Result<u32, CheckFault> {
+) -> Result<u32, CheckFault>
+    ensures { GivesWith (spec.expression constant line e.now p.now (pieces.old, st.old)) result (pieces.new, st.new) }
+{
     match &p.of {
         CType::Array(_, size) => array(alloc, st, line, *size, e, p, pieces),
         _ => {
