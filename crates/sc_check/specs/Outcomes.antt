@@ -8,10 +8,10 @@ use Rattle.sc_base.specs.declared.refusal.Fault.TheVariants as translation
 use Rattle.sc_operand.specs.Causes.{kind_of}
 use Rattle.sc_declare.specs.Outcomes.{word}
 use Rattle.sc_scope.specs.declared.fault.Problem.TheVariants as problem
-use Rattle.sc_check.specs.declared.fault.Finding.{Finding}
-use Rattle.sc_check.specs.declared.fault.Finding.TheVariants as finding
-use Rattle.sc_check.specs.declared.fault.UnitFault.{UnitFault}
-use Rattle.sc_check.specs.declared.fault.UnitFault.TheVariants as fault
+use Rattle.sc_check_body.specs.declared.fault.Finding.{Finding}
+use Rattle.sc_check_body.specs.declared.fault.Finding.TheVariants as finding
+use Rattle.sc_check_body.specs.declared.fault.UnitFault.{UnitFault}
+use Rattle.sc_check_body.specs.declared.fault.UnitFault.TheVariants as fault
 
 abbrev pub kind : Finding → X
 kind (finding.Construct (problem.Typing d)) = kind_of d.cause

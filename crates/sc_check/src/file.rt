@@ -1,10 +1,10 @@
 // Declarations at file scope (ANSI 3.7).
 
-use crate::alone::{declarator_type, declare_alone};
-use crate::fault::{UnitFault, rule};
-use crate::linked::{Declared, link, name_link, name_type, no_initializer};
-use crate::progress::Translation;
 use sc_base::{Duplicate, NoMemory};
+use sc_check_body::{
+    Declared, Translation, UnitFault, declarator_type, declare_alone, link, name_link, name_type,
+    no_initializer, rule,
+};
 use sc_check_expr::specifiers;
 use sc_check_initial::static_initializer;
 use sc_declare::{DeclaredType, Place, may_stand};

@@ -1,13 +1,10 @@
 // Definitions of functions (ANSI 3.7.1).
 
-use crate::fault::{UnitFault, rule};
-use crate::linked::{Declared, link, name_link};
-use crate::local::local;
-use crate::progress::{Around, Body, Translation};
 use crate::renumber::renumbered;
-use crate::statement::block;
-use indexmap::IndexMap;
-use sc_base::{Duplicate, Items, Name, NoMemory, Shared};
+use sc_base::{Duplicate, Items, NoMemory, Shared};
+use sc_check_body::{
+    Around, Body, Declared, Translation, UnitFault, block, link, local_of, name_link, rule,
+};
 use sc_check_expr::{declarator, parameters, specifiers};
 use sc_core::{CoreStmt, Fun};
 use sc_declare::{Place, defined_parameter, may_stand};
@@ -74,7 +71,7 @@ fn parameter_local(alloc: Global, st: &State, p: &Parameter) -> Result<Local, Un
         return Err(rule(p.line));
     };
     match st.names.find(&id.name) {
-        Some(Meaning::Automatic(of, _, _, _)) => local(alloc, &st.structs, p.line, &id.name, of),
+        Some(Meaning::Automatic(of, _, _, _)) => local_of(alloc, &st.structs, p.line, &id.name, of),
         _ => Err(rule(p.line)),
     }
 }
@@ -92,25 +89,6 @@ fn parameter_locals(
         locals.push(own)?;
     }
     Ok(locals)
-}
-
-fn new_body(
-    alloc: Global,
-    name: &Name,
-    gives: &CType,
-    locals: Items<Local>,
-) -> Result<Body, NoMemory> {
-    let mut blocks = Items::new(alloc);
-    blocks.push(locals)?;
-    let name = name.copy(alloc)?;
-    let result = gives.copy(alloc)?;
-    Ok(Body {
-        name,
-        result,
-        blocks,
-        counts: IndexMap::new(alloc),
-        switches: Vec::new(alloc),
-    })
 }
 
 /// What a definition says before its body.
@@ -173,7 +151,7 @@ fn begun(
     list: &[Parameter],
 ) -> Result<Body, UnitFault> {
     let locals = parameter_locals(alloc, st, list)?;
-    Ok(new_body(alloc, &head.id.name, &head.of.result, locals)?)
+    Ok(Body::new(alloc, &head.id.name, &head.of.result, locals)?)
 }
 
 /// The body with the parameters in its scope (ANSI 3.1.2.1).

@@ -2,8 +2,8 @@
 ghost use Rattle.std.specs.Prelude.{◌≡◌, [], IfOk};
 ghost use Rattle.sc_check.specs.Outcomes as spec;
 
-use crate::fault::{Finding, UnitFault};
 use sc_base::{Bytes, Fault, NoMemory, Refusal, X};
+use sc_check_body::{Finding, UnitFault};
 use sc_declare::{Failure, told as declaring};
 use sc_operand::kind_of;
 use sc_scope::Problem;

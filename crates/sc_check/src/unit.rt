@@ -2,12 +2,11 @@
 ghost use Rattle.std.specs.Prelude.{◌≡◌, IfOk, true};
 ghost use Rattle.sc_formed.specs.Modules.{formed};
 
-use crate::fault::UnitFault;
 use crate::file::declare_file;
 use crate::function::define_function;
 use crate::outcome::told;
-use crate::progress::Translation;
 use sc_base::{Bytes, Duplicate, Fault, Items, Name, NoMemory};
+use sc_check_body::{Translation, UnitFault};
 use sc_check_initial::zeros;
 use sc_core::{Core, Declared, Init, StaticObj};
 use sc_declare::is_constant;

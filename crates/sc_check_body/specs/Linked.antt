@@ -11,9 +11,9 @@ use Rattle.sc_scope.specs.declared.state.Meaning.{Meaning}
 use Rattle.sc_scope.specs.declared.state.Meaning.TheVariants as m
 use Rattle.sc_scope.specs.declared.state.State.{State}
 use Rattle.sc_scope.specs.Scopes as scopes
-use Rattle.sc_check.specs.declared.linked.Declared.{Declared}
-use Rattle.sc_check.specs.declared.progress.Translation.{Translation}
-use Rattle.sc_check.specs.Faults.{Checked, and_then, declaring, within, rule}
+use Rattle.sc_check_body.specs.declared.linked.Declared.{Declared}
+use Rattle.sc_check_body.specs.declared.progress.Translation.{Translation}
+use Rattle.sc_check_body.specs.Faults.{Checked, and_then, declaring, within, rule}
 
 -- what is asked of, and may change, what the text has given so far
 abbrev pub Translating : Type 0 → Type 0

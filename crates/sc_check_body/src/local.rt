@@ -47,7 +47,7 @@ fn may_be_object(structs: &Structs, of: &CType) -> bool {
 }
 
 /// An object of a block's table, in its final type.
-pub(crate) fn local(
+pub fn local_of(
     alloc: Global,
     structs: &Structs,
     line: u32,
@@ -142,9 +142,9 @@ fn completed(
     match given {
         Some(given) => {
             let of = initialized(alloc, st, open, x, register, given)?;
-            local(alloc, &st.structs, x.line, &x.id.name, &of)
+            local_of(alloc, &st.structs, x.line, &x.id.name, &of)
         }
-        None => local(alloc, &st.structs, x.line, &x.id.name, &x.of),
+        None => local_of(alloc, &st.structs, x.line, &x.id.name, &x.of),
     }
 }
 
@@ -349,7 +349,7 @@ fn declare(
 /// As its specifiers, declarators and initialisers; `Rule` (X7) for an object that is not complete, a name that the scope has
 /// without linkage, a function with another storage class than `extern`, and an initialiser of a function, a typedef or
 /// an `extern` object.
-pub(crate) fn declare_local(
+pub fn declare_local(
     alloc: Global,
     m: &mut Translation,
     f: &mut Body,

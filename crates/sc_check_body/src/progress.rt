@@ -1,7 +1,7 @@
 // What the text of a unit has given up to a place, and what is open there.
 
 use indexmap::{IndexMap, IndexSet};
-use sc_base::{Int, Items, Name, NoMemory, Shared};
+use sc_base::{Duplicate, Int, Items, Name, NoMemory, Shared, Stack};
 use sc_core::{CoreStmt, Fun, Init, StaticObj, SwitchLabel};
 use sc_linkage::{Birth, Links, Local};
 use sc_scope::State;
@@ -12,7 +12,7 @@ use std::alloc::Global;
 /// initialiser gives its object; what is born, in the order of the text, with how many of the literals it tells; the objects of
 /// blocks with static storage duration; and the functions.
 #[derive(Drop)]
-pub(crate) struct Translation {
+pub struct Translation {
     pub home: Name,
     pub st: State,
     pub links: Links,
@@ -25,7 +25,7 @@ pub(crate) struct Translation {
 
 impl Translation {
     /// Nothing yet, at the beginning of a unit, which takes no memory.
-    pub(crate) fn new(alloc: Global, home: Name) -> Translation {
+    pub fn new(alloc: Global, home: Name) -> Translation {
         Translation {
             home,
             st: State::new(alloc),
@@ -39,7 +39,7 @@ impl Translation {
     }
 
     /// Notes the literals that have appeared since.
-    pub(crate) fn note_literals(&mut self) -> Result<(), NoMemory> {
+    pub fn note_literals(&mut self) -> Result<(), NoMemory> {
         let count = self.st.literals.len();
         for at in self.literals..count {
             let Ok(number) = u32::try_from(at) else {
@@ -52,7 +52,7 @@ impl Translation {
     }
 
     /// Notes a birth behind the literals that have appeared before it; the answer is its place in the order of births.
-    pub(crate) fn note(&mut self, birth: Birth) -> Result<usize, NoMemory> {
+    pub fn note(&mut self, birth: Birth) -> Result<usize, NoMemory> {
         self.note_literals()?;
         let place = self.noted.len();
         self.noted.push(birth)?;
@@ -63,7 +63,7 @@ impl Translation {
 /// A `switch` whose body is being checked: the type of its controlling expression, the values of its labels, whether `default` is
 /// among them, and the labels.
 #[derive(Drop)]
-pub(crate) struct OpenSwitch {
+pub struct OpenSwitch {
     pub of: Int,
     pub values: IndexSet<u32>,
     pub has_default: bool,
@@ -73,17 +73,39 @@ pub(crate) struct OpenSwitch {
 /// A function whose body is being checked: its name, the type of its result, the objects of each block so far, how many static
 /// objects of each name its blocks have had, and the `switch` statements that are open.
 #[derive(Drop)]
-pub(crate) struct Body {
+pub struct Body {
     pub name: Name,
     pub result: CType,
     pub blocks: Items<Items<Local>>,
     pub counts: IndexMap<Name, u32>,
-    pub switches: Vec<OpenSwitch>,
+    pub switches: Stack<OpenSwitch>,
+}
+
+impl Body {
+    /// The body of the function with this name, whose result has this type and whose parameters are these objects.
+    pub fn new(
+        alloc: Global,
+        name: &Name,
+        gives: &CType,
+        parameters: Items<Local>,
+    ) -> Result<Body, NoMemory> {
+        let mut blocks = Items::new(alloc);
+        blocks.push(parameters)?;
+        let name = name.copy(alloc)?;
+        let result = gives.copy(alloc)?;
+        Ok(Body {
+            name,
+            result,
+            blocks,
+            counts: IndexMap::new(alloc),
+            switches: Stack::new(alloc),
+        })
+    }
 }
 
 /// A block whose declarations are being checked: its number, its objects, and its initialised automatic objects.
 #[derive(Drop)]
-pub(crate) struct OpenBlock {
+pub struct OpenBlock {
     pub number: u32,
     pub locals: Items<Local>,
     pub initialized: Items<Shared<CoreStmt>>,
@@ -92,7 +114,7 @@ pub(crate) struct OpenBlock {
 /// Where a statement stands: whether it is in a loop, whether in a loop or a `switch`, and its place in the list of the innermost
 /// `switch`'s body, where it stands there.
 #[derive(Clone, Copy, Debug, PartialEq, Eq)]
-pub(crate) struct Around {
+pub struct Around {
     pub in_loop: bool,
     pub may_break: bool,
     pub at: Option<u32>,
@@ -100,19 +122,19 @@ pub(crate) struct Around {
 
 impl Around {
     /// The body of a function.
-    pub(crate) const OUTSIDE: Around = Around {
+    pub const OUTSIDE: Around = Around {
         in_loop: false,
         may_break: false,
         at: None,
     };
 
     /// A part of a statement here, which is in no list of a `switch`.
-    pub(crate) fn part(self) -> Around {
+    pub fn part(self) -> Around {
         Around { at: None, ..self }
     }
 
     /// The body of a loop here.
-    pub(crate) fn looped(self) -> Around {
+    pub fn looped(self) -> Around {
         Around {
             in_loop: true,
             may_break: true,
@@ -121,7 +143,7 @@ impl Around {
     }
 
     /// The body of a `switch` here.
-    pub(crate) fn switched(self) -> Around {
+    pub fn switched(self) -> Around {
         Around {
             may_break: true,
             at: None,
@@ -130,7 +152,7 @@ impl Around {
     }
 
     /// A statement at this place of the list of a `switch`'s body.
-    pub(crate) fn listed(self, at: u32) -> Around {
+    pub fn listed(self, at: u32) -> Around {
         Around {
             at: Some(at),
             ..self

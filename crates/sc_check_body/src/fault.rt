@@ -24,7 +24,7 @@ pub enum UnitFault {
 }
 
 impl From<NoMemory> for UnitFault {
-    ghost use Rattle.sc_check.specs.declared.fault.UnitFault.TheVariants as f;
+    ghost use Rattle.sc_check_body.specs.declared.fault.UnitFault.TheVariants as f;
 
     ghost from_gives = { λ _ e. e ≡ f.NoMemory };
 
@@ -34,7 +34,7 @@ impl From<NoMemory> for UnitFault {
 }
 
 impl From<CheckFault> for UnitFault {
-    ghost use Rattle.sc_check.specs.Faults.{of_check};
+    ghost use Rattle.sc_check_body.specs.Faults.{of_check};
 
     ghost from_gives = { λ x e. e ≡ of_check x };
 
@@ -47,7 +47,7 @@ impl From<CheckFault> for UnitFault {
 }
 
 impl From<TypeFault> for UnitFault {
-    ghost use Rattle.sc_check.specs.Faults.{of_typing};
+    ghost use Rattle.sc_check_body.specs.Faults.{of_typing};
 
     ghost from_gives = { λ x e. e ≡ of_typing x };
 
@@ -60,7 +60,7 @@ impl From<TypeFault> for UnitFault {
 }
 
 impl From<Failure> for UnitFault {
-    ghost use Rattle.sc_check.specs.Faults.{of_declaring};
+    ghost use Rattle.sc_check_body.specs.Faults.{of_declaring};
 
     ghost from_gives = { λ x e. e ≡ of_declaring x };
 
@@ -73,7 +73,7 @@ impl From<Failure> for UnitFault {
 }
 
 /// The refusal of a construct of this line by a rule of declarations or statements (X7).
-pub(crate) fn rule(line: u32) -> UnitFault
+pub fn rule(line: u32) -> UnitFault
     ensures { result ≡ UnitFault.Found (Finding.Construct (Problem.Declaring (record { reason = Reason.Rule; line = line }))) }
 {
     UnitFault::Found(Finding::Construct(Problem::Declaring(Refused {

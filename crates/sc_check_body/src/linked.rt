@@ -1,7 +1,7 @@
 // Declarations of names with linkage (ANSI 3.1.2.2).
 ghost use Rattle.std.specs.Prelude.{◌≡◌, IfOk, OnOk};
-ghost use Rattle.sc_check.specs.Faults.{GivesWith};
-ghost use Rattle.sc_check.specs.Linked as spec;
+ghost use Rattle.sc_check_body.specs.Faults.{GivesWith};
+ghost use Rattle.sc_check_body.specs.Linked as spec;
 
 use crate::fault::{UnitFault, rule};
 use crate::progress::Translation;
@@ -17,7 +17,7 @@ use std::alloc::Global;
 
 /// A declarator whose type is known: the line of its first token, its name, its storage class and its type.
 #[derive(Drop)]
-pub(crate) struct Declared<'a> {
+pub struct Declared<'a> {
     pub line: u32,
     pub id: &'a Identifier,
     pub storage: Option<Storage>,
@@ -72,7 +72,7 @@ fn meaning_of(alloc: Global, link: &Link) -> Result<Meaning, NoMemory>
 }
 
 /// The name in the innermost scope, with the composite type of its declarations so far.
-pub(crate) fn name_link(
+pub fn name_link(
     alloc: Global,
     m: &mut Translation,
     place: usize,
@@ -105,7 +105,7 @@ fn make_contents(m: &mut Translation) -> Result<(), NoMemory>
 ///
 /// - `Rule` (X7): the innermost scope has the name without linkage, or earlier declarations have another type or linkage.
 /// - `Main` (X9 `main`): `main` with external linkage and another type.
-pub(crate) fn link(alloc: Global, m: &mut Translation, x: &Declared) -> Result<usize, UnitFault>
+pub fn link(alloc: Global, m: &mut Translation, x: &Declared) -> Result<usize, UnitFault>
     ensures { GivesWith (spec.link x.now m.old) result m.new }
 {
     if !may_link(&m.st, &x.id.name) {
@@ -124,7 +124,7 @@ pub(crate) fn link(alloc: Global, m: &mut Translation, x: &Declared) -> Result<u
 /// # Errors
 ///
 /// `Rule` (X7): it has one; before that as the expressions of it.
-pub(crate) fn no_initializer(
+pub fn no_initializer(
     alloc: Global,
     m: &mut Translation,
     line: u32,
@@ -144,7 +144,7 @@ pub(crate) fn no_initializer(
 /// # Errors
 ///
 /// `Rule` (X7): the innermost scope has the name.
-pub(crate) fn name_type(
+pub fn name_type(
     alloc: Global,
     m: &mut Translation,
     line: u32,

@@ -42,7 +42,7 @@ fn specifiers_alone(alloc: Global, st: &mut State, list: &Specifiers) -> Result<
 /// # Errors
 ///
 /// `Rule` (X7): it declares nothing, or has a storage class that may not stand here; before that as its specifiers.
-pub(crate) fn declare_alone(
+pub fn declare_alone(
     alloc: Global,
     st: &mut State,
     place: Place,
@@ -57,7 +57,7 @@ pub(crate) fn declare_alone(
 }
 
 /// The type that one of several declarators gives its name.
-pub(crate) fn declarator_type(
+pub fn declarator_type(
     alloc: Global,
     st: &mut State,
     base: &DeclaredType,

@@ -191,7 +191,7 @@ fn listed(
 
 /// A block whose scope is there.
 #[cycle(statements)]
-pub(crate) fn block(
+pub fn block(
     alloc: Global,
     m: &mut Translation,
     f: &mut Body,
@@ -391,7 +391,7 @@ fn default_statement(
 /// a `switch` no integer; for `break`, `continue` and labels outside of what they belong to; for equal labels; for a `return`
 /// whose value the result does not take. X9 `casedepth` and X10 `cases` of labels.
 #[cycle(statements)]
-pub(crate) fn statement(
+pub fn statement(
     alloc: Global,
     m: &mut Translation,
     f: &mut Body,

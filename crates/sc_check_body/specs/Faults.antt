@@ -10,10 +10,10 @@ use Rattle.sc_scope.specs.declared.fault.Problem.TheVariants as problem
 use Rattle.sc_scope.specs.declared.fault.CheckFault.{CheckFault}
 use Rattle.sc_scope.specs.declared.fault.CheckFault.TheVariants as below
 use Rattle.sc_scope.specs.Steps.{of_type_fault, of_failure}
-use Rattle.sc_check.specs.declared.fault.Finding.{Finding}
-use Rattle.sc_check.specs.declared.fault.Finding.TheVariants as finding
-use Rattle.sc_check.specs.declared.fault.UnitFault.{UnitFault}
-use Rattle.sc_check.specs.declared.fault.UnitFault.TheVariants as fault
+use Rattle.sc_check_body.specs.declared.fault.Finding.{Finding}
+use Rattle.sc_check_body.specs.declared.fault.Finding.TheVariants as finding
+use Rattle.sc_check_body.specs.declared.fault.UnitFault.{UnitFault}
+use Rattle.sc_check_body.specs.declared.fault.UnitFault.TheVariants as fault
 
 abbrev pub Checked : Type 0 → Type 0
 Checked A = Result A Finding
