@@ -12,19 +12,19 @@ most = 1023
 
 -- The values of `case` labels differ in the type of the controlling expression, and there are not too many.
 abbrev pub may_add_case : ℕ → ℕ → OpenSwitch → Checked (Unit {0})
-may_add_case line bits open =
-    if list_any (nat_eq (converted bits open.of)) open.values.keys then rule line
-    else if nat_lt (length open.values.keys) most then Ok tt else Err (finding.Cases line)
+may_add_case line bits switch =
+    if list_any (nat_eq (converted bits switch.of)) switch.values.keys then rule line
+    else if nat_lt (length switch.values.keys) most then Ok tt else Err (finding.Cases line)
 
 abbrev pub may_add_default : ℕ → OpenSwitch → Checked (Unit {0})
-may_add_default line open = if open.has_default then rule line else Ok tt
+may_add_default line switch = if switch.has_default then rule line else Ok tt
 
 abbrev pub may_add : ℕ → Option ℕ → OpenSwitch → Checked (Unit {0})
-may_add line (Some bits) open = may_add_case line bits open
-may_add line None open = may_add_default line open
+may_add line (Some bits) switch = may_add_case line bits switch
+may_add line None switch = may_add_default line switch
 
 -- A label stands in the list of the innermost `switch`'s body; the first of these rules that it breaks is told.
 abbrev pub may_label : ℕ → Option ℕ → Option ℕ → List OpenSwitch → Checked (Unit {0})
 may_label line value at [] = rule line
-may_label line value None (open ∷ outer) = Err (finding.CaseDepth line)
-may_label line value (Some at) (open ∷ outer) = may_add line value open
+may_label line value None (switch ∷ outer) = Err (finding.CaseDepth line)
+may_label line value (Some at) (switch ∷ outer) = may_add line value switch

@@ -18,47 +18,47 @@ const MAX_CASES: usize = 1023;
 
 /// Begins a `switch` on this type.
 pub fn open_switch(alloc: Global, f: &mut Body, of: Int) -> Result<(), NoMemory> {
-    let open = OpenSwitch {
+    let switch = OpenSwitch {
         of,
         values: IndexSet::new(alloc),
         has_default: false,
         labels: Items::new(alloc),
     };
-    f.switches.push(open)
+    f.switches.push(switch)
 }
 
 /// Ends the innermost `switch`; the answer is its labels.
 pub fn close_switch(alloc: Global, f: &mut Body) -> Items<SwitchLabel> {
     match f.switches.pop() {
-        Some(open) => open.labels,
+        Some(switch) => switch.labels,
         None => Items::new(alloc),
     }
 }
 
-fn has_value(open: &OpenSwitch, value: u32) -> bool
-    ensures { result ≡ list_any (nat_eq value) open.now.values.keys }
+fn has_value(switch: &OpenSwitch, value: u32) -> bool
+    ensures { result ≡ list_any (nat_eq value) switch.now.values.keys }
 {
-    open.values.contains(&value)
+    switch.values.contains(&value)
 }
 
 /// One more value, which is not there yet.
-fn note_value(open: &mut OpenSwitch, value: u32) -> Result<(), NoMemory>
-    requires { list_any (nat_eq value) open.old.values.keys ≡ false }
-    ensures values { OnOk result (open.new.values.keys ≡ open.old.values.keys ++ value ∷ []) }
-    ensures labels { open.new.labels ≡ open.old.labels }
+fn note_value(switch: &mut OpenSwitch, value: u32) -> Result<(), NoMemory>
+    requires { list_any (nat_eq value) switch.old.values.keys ≡ false }
+    ensures values { OnOk result (switch.new.values.keys ≡ switch.old.values.keys ++ value ∷ []) }
+    ensures labels { switch.new.labels ≡ switch.old.labels }
 {
-    open.values.insert(value)?;
+    switch.values.insert(value)?;
     Ok(())
 }
 
 /// One more label, and its value where it is new.
-fn add_value(open: &mut OpenSwitch, value: u32, at: u32) -> Result<(), NoMemory>
-    requires { list_any (nat_eq value) open.old.values.keys ≡ false }
-    ensures values { OnOk result (open.new.values.keys ≡ open.old.values.keys ++ value ∷ []) }
-    ensures label { OnOk result (open.new.labels ≡ open.old.labels ++ record { value = Some value; at = at } ∷ []) }
+fn add_value(switch: &mut OpenSwitch, value: u32, at: u32) -> Result<(), NoMemory>
+    requires { list_any (nat_eq value) switch.old.values.keys ≡ false }
+    ensures values { OnOk result (switch.new.values.keys ≡ switch.old.values.keys ++ value ∷ []) }
+    ensures label { OnOk result (switch.new.labels ≡ switch.old.labels ++ record { value = Some value; at = at } ∷ []) }
 {
-    note_value(open, value)?;
-    open.labels.push(SwitchLabel {
+    note_value(switch, value)?;
+    switch.labels.push(SwitchLabel {
         value: Some(value),
         at,
     })
@@ -70,19 +70,19 @@ fn add_value(open: &mut OpenSwitch, value: u32, at: u32) -> Result<(), NoMemory>
 ///
 /// - `Rule` (X7): the `switch` has the value already.
 /// - `Cases` (X10 `cases`): the `switch` has as many `case` labels as it may have.
-fn add_case(open: &mut OpenSwitch, line: u32, bits: u32, at: u32) -> Result<(), UnitFault>
-    ensures answer { Says (spec.may_add_case line bits open.old) result }
-    ensures values { OnOk result (open.new.values.keys ≡ open.old.values.keys ++ converted bits open.old.of ∷ []) }
-    ensures label { OnOk result (open.new.labels ≡ open.old.labels ++ record { value = Some (converted bits open.old.of); at = at } ∷ []) }
+fn add_case(switch: &mut OpenSwitch, line: u32, bits: u32, at: u32) -> Result<(), UnitFault>
+    ensures answer { Says (spec.may_add_case line bits switch.old) result }
+    ensures values { OnOk result (switch.new.values.keys ≡ switch.old.values.keys ++ converted bits switch.old.of ∷ []) }
+    ensures label { OnOk result (switch.new.labels ≡ switch.old.labels ++ record { value = Some (converted bits switch.old.of); at = at } ∷ []) }
 {
-    let value = convert(bits, open.of);
-    if has_value(open, value) {
+    let value = convert(bits, switch.of);
+    if has_value(switch, value) {
         return Err(rule(line));
     }
-    if open.values.len() >= MAX_CASES {
+    if switch.values.len() >= MAX_CASES {
         return Err(UnitFault::Found(Finding::Cases(line)));
     }
-    add_value(open, value, at)?;
+    add_value(switch, value, at)?;
     Ok(())
 }
 
@@ -91,25 +91,25 @@ fn add_case(open: &mut OpenSwitch, line: u32, bits: u32, at: u32) -> Result<(), 
 /// # Errors
 ///
 /// `Rule` (X7): the `switch` has one already.
-fn add_default(open: &mut OpenSwitch, line: u32, at: u32) -> Result<(), UnitFault>
-    ensures answer { Says (spec.may_add_default line open.old) result }
-    ensures noted { OnOk result (open.new.has_default ≡ true) }
-    ensures label { OnOk result (open.new.labels ≡ open.old.labels ++ record { value = None; at = at } ∷ []) }
+fn add_default(switch: &mut OpenSwitch, line: u32, at: u32) -> Result<(), UnitFault>
+    ensures answer { Says (spec.may_add_default line switch.old) result }
+    ensures noted { OnOk result (switch.new.has_default ≡ true) }
+    ensures label { OnOk result (switch.new.labels ≡ switch.old.labels ++ record { value = None; at = at } ∷ []) }
 {
-    if open.has_default {
+    if switch.has_default {
         return Err(rule(line));
     }
-    open.has_default = true;
-    open.labels.push(SwitchLabel { value: None, at })?;
+    switch.has_default = true;
+    switch.labels.push(SwitchLabel { value: None, at })?;
     Ok(())
 }
 
-fn add(open: &mut OpenSwitch, line: u32, value: Option<u32>, at: u32) -> Result<(), UnitFault>
-    ensures { Says (spec.may_add line value open.old) result }
+fn add(switch: &mut OpenSwitch, line: u32, value: Option<u32>, at: u32) -> Result<(), UnitFault>
+    ensures { Says (spec.may_add line value switch.old) result }
 {
     match value {
-        Some(bits) => add_case(open, line, bits, at),
-        None => add_default(open, line, at),
+        Some(bits) => add_case(switch, line, bits, at),
+        None => add_default(switch, line, at),
     }
 }
 
@@ -129,18 +129,18 @@ pub fn add_label(
 ) -> Result<(), UnitFault>
     ensures { Says (spec.may_label line value at f.old.switches) result }
 {
-    let Some(open) = f.switches.pop() else {
+    let Some(switch) = f.switches.pop() else {
         return Err(rule(line));
     };
-    let mut open = open;
+    let mut switch = switch;
     let Some(at) = at else {
-        drop(open);
+        drop(switch);
         return Err(UnitFault::Found(Finding::CaseDepth(line)));
     };
-    match add(&mut open, line, value, at) {
-        Ok(()) => Ok(f.switches.push(open)?),
+    match add(&mut switch, line, value, at) {
+        Ok(()) => Ok(f.switches.push(switch)?),
         Err(fault) => {
-            drop(open);
+            drop(switch);
             Err(fault)
         }
     }
