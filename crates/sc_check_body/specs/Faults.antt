@@ -22,6 +22,10 @@ abbrev pub and_then : {A B : Type 0} → Checked A → (A → Checked B) → Che
 and_then (Ok a) f = f a
 and_then (Err e) f = Err e
 
+-- a value, and what is in scope as before
+abbrev pub keep : {A S : Type 0} → S → Checked A → Checked (A × S)
+keep s r = and_then r (λ a. Ok (a, s))
+
 -- what a part of the unit refuses
 abbrev pub within : {A : Type 0} → Result A Problem → Checked A
 within (Ok a) = Ok a

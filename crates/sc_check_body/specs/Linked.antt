@@ -1,5 +1,5 @@
 -- Declarations of names with linkage (ANSI 3.1.2.2).
-use Rattle.std.specs.Prelude.{ℕ, ◌-◌, Bool, true, false, if◌then◌else◌, List, [], ◌∷◌, ◌++◌, length, replicate, slice_get, Option, Some, None, Ok}
+use Rattle.std.specs.Prelude.{ℕ, nat_lt, Bool, true, false, if◌then◌else◌, List, [], ◌∷◌, ◌++◌, length, slice_get, Option, Some, None, Ok}
 use Rattle.std.specs.Str.{bytes_eq}
 use Rattle.sc_linkage.specs.declared.link.Declaration.{Declaration}
 use Rattle.sc_linkage.specs.declared.link.Link.{Link}
@@ -54,13 +54,13 @@ abbrev pub name_link : ℕ → List ℕ → Translation → Translation
 name_link place name x = name_link_by name (slice_get x.links place) x
 
 -- each link has a place for its contents
-abbrev pub with_links : List Link → Translation → Translation
-with_links links x = record x { links = links; contents = x.contents ++ replicate (length links - length x.contents) None }
+abbrev pub with_contents : Translation → Translation
+with_contents x = if nat_lt (length x.contents) (length x.links) then record x { contents = x.contents ++ None ∷ [] } else x
 
 abbrev pub link : Declared → Translating ℕ
 link d x =
     if may_link d.id.now.name x.st
-    then and_then (declaring (declare x.st.structs x.home (declaration d) x.links)) (λ r. Ok (r.0, with_links r.1 x))
+    then and_then (declaring (declare x.st.structs x.home (declaration d) x.links)) (λ r. Ok (r.0, with_contents (record x { links = r.1 })))
     else rule d.line
 
 abbrev pub name_type : ℕ → List ℕ → DeclaredType → Translating (Unit {0})

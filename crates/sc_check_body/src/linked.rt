@@ -88,15 +88,15 @@ pub fn name_link(
     m.st.names.declare(alloc, name, meaning)
 }
 
-/// A place for the contents of each name with linkage.
+/// A place for the contents of the last name with linkage, where it has none.
 fn make_contents(m: &mut Translation) -> Result<(), NoMemory>
-    ensures { OnOk result (m.new ≡ spec.with_links m.old.links m.old) }
+    ensures { OnOk result (m.new ≡ spec.with_contents m.old) }
 {
-    let count = m.links.as_slice().len();
-    for _ in m.contents.len()..count {
-        m.contents.push(None)?;
+    if m.contents.len() < m.links.as_slice().len() {
+        m.contents.push(None)
+    } else {
+        Ok(())
     }
-    Ok(())
 }
 
 /// A declaration of a name with linkage; the answer is its place among the names with linkage.

@@ -1,4 +1,9 @@
 // Statements (ANSI 3.6).
+ghost use Rattle.std.specs.Prelude.{◌≡◌, Ok, if◌then◌else◌};
+ghost use Rattle.std.specs.Option.{option_map};
+ghost use Rattle.sc_check_expr.specs.Typed.{node as node_of};
+ghost use Rattle.sc_check_body.specs.Faults.{Says, GivesWith, rule as refuses};
+ghost use Rattle.sc_check_body.specs.Statements as spec;
 
 use crate::fault::{UnitFault, rule};
 use crate::labels::{add_label, close_switch, open_switch};
@@ -13,14 +18,18 @@ use sc_tree::{Declaration, Expr, Statement};
 use sc_types::promote;
 use std::alloc::Global;
 
-fn node(alloc: Global, s: CoreStmt) -> Result<Shared<CoreStmt>, UnitFault> {
+fn node(alloc: Global, s: CoreStmt) -> Result<Shared<CoreStmt>, UnitFault>
+    ensures { Says (Ok s) result }
+{
     Ok(Shared::new(alloc, s)?)
 }
 
 // ---- expressions of statements
 
 /// The value of a full expression (ANSI 3.6).
-fn value(alloc: Global, st: &mut State, e: &Expr) -> Result<Shared<CoreExpr>, UnitFault> {
+fn value(alloc: Global, st: &mut State, e: &Expr) -> Result<Shared<CoreExpr>, UnitFault>
+    ensures { GivesWith (spec.value (node_of e.now) st.old) result st.new }
+{
     let core = expression(alloc, st, false, e)?;
     Ok(valued(alloc, line_of(e), core)?)
 }
@@ -29,7 +38,9 @@ fn optional_value(
     alloc: Global,
     st: &mut State,
     e: &Option<Shared<Expr>>,
-) -> Result<Option<Shared<CoreExpr>>, UnitFault> {
+) -> Result<Option<Shared<CoreExpr>>, UnitFault>
+    ensures { GivesWith (spec.optional spec.value (option_map node_of e.now) st.old) result st.new }
+{
     match e {
         Some(e) => Ok(Some(value(alloc, st, e.get())?)),
         None => Ok(None),
@@ -37,7 +48,9 @@ fn optional_value(
 }
 
 /// A controlling expression, which is a scalar.
-fn condition(alloc: Global, st: &mut State, e: &Expr) -> Result<Shared<CoreExpr>, UnitFault> {
+fn condition(alloc: Global, st: &mut State, e: &Expr) -> Result<Shared<CoreExpr>, UnitFault>
+    ensures { GivesWith (spec.condition (node_of e.now) st.old) result st.new }
+{
     let core = value(alloc, st, e)?;
     if is_scalar(shape_of(&st.structs, type_of(core.get()))) {
         Ok(core)
@@ -50,14 +63,18 @@ fn optional_condition(
     alloc: Global,
     st: &mut State,
     e: &Option<Shared<Expr>>,
-) -> Result<Option<Shared<CoreExpr>>, UnitFault> {
+) -> Result<Option<Shared<CoreExpr>>, UnitFault>
+    ensures { GivesWith (spec.optional spec.condition (option_map node_of e.now) st.old) result st.new }
+{
     match e {
         Some(e) => Ok(Some(condition(alloc, st, e.get())?)),
         None => Ok(None),
     }
 }
 
-fn promoted(st: &State, core: &CoreExpr) -> Option<Int> {
+fn promoted(st: &State, core: &CoreExpr) -> Option<Int>
+    ensures { result ≡ spec.promoted st.now.structs core.now }
+{
     match shape_of(&st.structs, type_of(core)) {
         Shape::Integer(kind) => Some(promote(kind)),
         _ => None,
@@ -65,7 +82,9 @@ fn promoted(st: &State, core: &CoreExpr) -> Option<Int> {
 }
 
 /// The controlling expression of a `switch`, an integer, in its promoted type.
-fn selector(alloc: Global, st: &mut State, e: &Expr) -> Result<(Shared<CoreExpr>, Int), UnitFault> {
+fn selector(alloc: Global, st: &mut State, e: &Expr) -> Result<(Shared<CoreExpr>, Int), UnitFault>
+    ensures { GivesWith (spec.selector (node_of e.now) st.old) result st.new }
+{
     let core = value(alloc, st, e)?;
     match promoted(st, core.get()) {
         Some(of) => Ok((to_int(alloc, line_of(e), of, core)?, of)),
@@ -80,7 +99,9 @@ fn returned(
     f: &Body,
     line: u32,
     e: &Expr,
-) -> Result<Shared<CoreExpr>, UnitFault> {
+) -> Result<Shared<CoreExpr>, UnitFault>
+    ensures { GivesWith (spec.returned line f.now.result (node_of e.now) st.old) result st.new }
+{
     let core = expression(alloc, st, false, e)?;
     if is_void(&f.result) {
         return Err(rule(line));
@@ -120,7 +141,9 @@ fn jump(
     line: u32,
     may_stand: bool,
     s: CoreStmt,
-) -> Result<Shared<CoreStmt>, UnitFault> {
+) -> Result<Shared<CoreStmt>, UnitFault>
+    ensures { Says (if may_stand then Ok s else refuses line) result }
+{
     if may_stand {
         node(alloc, s)
     } else {
