@@ -1,4 +1,7 @@
 // Definitions of functions (ANSI 3.7.1).
+ghost use Rattle.std.specs.Prelude.{◌≡◌, slice_get, IfOk};
+ghost use Rattle.sc_types.specs.declared.ctype.CType.{out-CType};
+ghost use Rattle.sc_check.specs.Units as spec;
 
 use crate::renumber::renumbered;
 use sc_base::{Duplicate, Items, NoMemory, Shared};
@@ -43,7 +46,9 @@ fn definition_type(
     }
 }
 
-fn signature_of(alloc: Global, of: &CType) -> Result<Option<Signature>, NoMemory> {
+fn signature_of(alloc: Global, of: &CType) -> Result<Option<Signature>, NoMemory>
+    ensures { IfOk result (λ s. s ≡ spec.signature_by (out-CType of.now)) }
+{
     match of {
         CType::Function(signature) => Ok(Some(signature.get().copy(alloc)?)),
         _ => Ok(None),
@@ -170,7 +175,9 @@ fn with_body(
     outcome
 }
 
-fn is_external(m: &Translation, place: usize) -> bool {
+fn is_external(m: &Translation, place: usize) -> bool
+    ensures { result ≡ spec.is_external_by (slice_get m.now.links place) }
+{
     match m.links.as_slice().get(place) {
         Some(link) => link.key.module.is_none(),
         None => false,

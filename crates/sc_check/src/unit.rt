@@ -1,6 +1,7 @@
 // A unit, from its tree to its typed tree (ANSI 3.7).
 ghost use Rattle.std.specs.Prelude.{◌≡◌, IfOk, true};
 ghost use Rattle.sc_formed.specs.Modules.{formed};
+ghost use Rattle.sc_check.specs.Units as spec;
 
 use crate::file::declare_file;
 use crate::function::define_function;
@@ -44,7 +45,9 @@ fn texts(alloc: Global, literals: &Literals) -> Result<Items<Bytes>, NoMemory> {
     Ok(all)
 }
 
-fn is_object(link: &Link) -> bool {
+fn is_object(link: &Link) -> bool
+    ensures { result ≡ spec.is_object link.now.definition }
+{
     match link.definition {
         Definition::Tentative(_, _) | Definition::Initialized(_, _) => true,
         Definition::Missing | Definition::Body => false,
@@ -57,14 +60,18 @@ fn contents(
     structs: &Structs,
     of: &CType,
     given: Option<Items<Init>>,
-) -> Result<Items<Init>, NoMemory> {
+) -> Result<Items<Init>, NoMemory>
+    ensures { IfOk result (λ init. init ≡ spec.contents structs.now of.now given) }
+{
     match given {
         Some(init) => Ok(init),
         None => zeros(alloc, structs, of),
     }
 }
 
-fn object(alloc: Global, declared: &Declared, init: Items<Init>) -> Result<StaticObj, NoMemory> {
+fn object(alloc: Global, declared: &Declared, init: Items<Init>) -> Result<StaticObj, NoMemory>
+    ensures { IfOk result (λ x. x ≡ spec.object declared.now init) }
+{
     let key = declared.key.copy(alloc)?;
     let of = declared.of.copy(alloc)?;
     Ok(StaticObj {

@@ -57,11 +57,11 @@ name_link place name x = name_link_by name (slice_get x.links place) x
 abbrev pub with_contents : Translation → Translation
 with_contents x = if nat_lt (length x.contents) (length x.links) then record x { contents = x.contents ++ None ∷ [] } else x
 
+abbrev pub declare_link : Declaration → Translating ℕ
+declare_link d x = and_then (declaring (declare x.st.structs x.home d x.links)) (λ r. Ok (r.0, with_contents (record x { links = r.1 })))
+
 abbrev pub link : Declared → Translating ℕ
-link d x =
-    if may_link d.id.now.name x.st
-    then and_then (declaring (declare x.st.structs x.home (declaration d) x.links)) (λ r. Ok (r.0, with_contents (record x { links = r.1 })))
-    else rule d.line
+link d x = if may_link d.id.now.name x.st then declare_link (declaration d) x else rule d.line
 
 abbrev pub name_type : ℕ → List ℕ → DeclaredType → Translating (Unit {0})
 name_type line name t x = and_then (within (scopes.declare line name (m.Typedef t) x.st)) (λ r. Ok (tt, record x { st = r.1 }))

@@ -99,6 +99,21 @@ fn make_contents(m: &mut Translation) -> Result<(), NoMemory>
     }
 }
 
+fn declare_link(alloc: Global, m: &mut Translation, d: &Declaration) -> Result<usize, UnitFault>
+    ensures { GivesWith (spec.declare_link d.now m.old) result m.new }
+{
+    let place = m.links.declare(alloc, &m.st.structs, &m.home, d)?;
+    make_contents(m)?;
+    Ok(place)
+}
+
+fn new_link(alloc: Global, m: &mut Translation, x: &Declared) -> Result<usize, UnitFault>
+    ensures { GivesWith (spec.declare_link (spec.declaration x.now) m.old) result m.new }
+{
+    let d = declaration(alloc, x)?;
+    declare_link(alloc, m, &d)
+}
+
 /// A declaration of a name with linkage; the answer is its place among the names with linkage.
 ///
 /// # Errors
@@ -108,15 +123,11 @@ fn make_contents(m: &mut Translation) -> Result<(), NoMemory>
 pub fn link(alloc: Global, m: &mut Translation, x: &Declared) -> Result<usize, UnitFault>
     ensures { GivesWith (spec.link x.now m.old) result m.new }
 {
-    if !may_link(&m.st, &x.id.name) {
-        return Err(rule(x.line));
+    if may_link(&m.st, &x.id.name) {
+        new_link(alloc, m, x)
+    } else {
+        Err(rule(x.line))
     }
-    let declaration = declaration(alloc, x)?;
-    let place = m
-        .links
-        .declare(alloc, &m.st.structs, &m.home, &declaration)?;
-    make_contents(m)?;
-    Ok(place)
 }
 
 /// A declarator that may have no initialiser (ANSI 3.5.7).
