@@ -1,0 +1,4 @@
+pub mod Faults
+pub mod Linked
+pub mod Labels
+pub mod Statements
