@@ -1,8 +1,7 @@
 -- An item without place refuses its list.
-use Rattle.std.proofs.Common.{◌≡◌, ℕ, suc, true, ◌+◌, ◌<◌, List, ◌∷◌, drop, map, length, get_or, sym, ◌∙◌, ap, subst}
+use Rattle.std.proofs.Common.{◌≡◌, ℕ, suc, true, ◌<◌, List, ◌∷◌, drop, map, length, get_or, sym, ◌∙◌, ap, subst}
 use Rattle.std.specs.Prelude.{Err}
 use Rattle.std.proofs.Math.Seq.{drop-cons}
-use Rattle.std.proofs.Math.Numerals.{add-one}
 use Rattle.sc_tree.specs.declared.declaration.Initializer.{Initializer}
 use Rattle.sc_declare.specs.declared.failure.Refused.{Refused}
 use Rattle.sc_declare.specs.declared.failure.Failure.{Failure}
