@@ -1,5 +1,5 @@
 -- The items of lists, each in its place (ANSI 3.5.7).
-use Rattle.std.specs.Prelude.{ℕ, ◌+◌, ◌*◌, min, Bool, true, false, ◌&&◌, if◌then◌else◌, List, [], ◌∷◌, ◌++◌, length, map, Option, Some, None, is_some, option_map, Ok, Err}
+use Rattle.std.specs.Prelude.{◌≡◌, ℕ, ◌+◌, ◌*◌, min, Bool, true, false, ◌&&◌, if◌then◌else◌, List, [], ◌∷◌, ◌++◌, length, map, Option, Some, None, is_some, option_map, Ok, Err}
 use Rattle.sc_types.specs.declared.ctype.CType.{CType, out-CType}
 use Rattle.sc_types.specs.declared.ctype.CType.TheOpen.{CType-F}
 use Rattle.sc_types.specs.declared.ctype.StructDef.{StructDef}
@@ -9,13 +9,17 @@ use Rattle.sc_tree.specs.declared.declaration.Initializer.TheOpen.{Initializer-F
 use Rattle.sc_core.specs.declared.statement.AutoInit.{AutoInit}
 use Rattle.sc_core.specs.declared.statement.AutoInit.TheVariants as piece
 use Rattle.sc_declare.specs.declared.failure.Refused.{Refused}
+use Rattle.sc_declare.specs.declared.failure.Failure.{Failure}
+use Rattle.sc_declare.specs.declared.failure.Failure.TheVariants as failure
 use Rattle.sc_declare.specs.Outcomes.{Outcome}
 use Rattle.sc_initial.specs.declared.level.Level.{Level}
 use Rattle.sc_initial.specs.declared.level.Place.{Place}
 use Rattle.sc_initial.specs.declared.level.Zeros.{Zeros}
 use Rattle.sc_initial.specs.Places as places
 use Rattle.sc_scope.specs.declared.state.State.{State}
-use Rattle.sc_scope.specs.Steps.{Checked, and_then, declaring}
+use Rattle.sc_scope.specs.declared.fault.CheckFault.{CheckFault}
+use Rattle.sc_scope.specs.declared.fault.CheckFault.TheVariants as fault
+use Rattle.sc_scope.specs.Steps.{Checked, Fails, and_then, declaring}
 use Rattle.sc_check_expr.specs.Typed.{node}
 use Rattle.sc_check_initial.specs.declared.places.Filling.{Filling}
 use Rattle.sc_check_initial.specs.declared.places.Listing.{Listing}
@@ -92,8 +96,13 @@ abbrev pub ended : Filled → ℕ × Filled
 ended w = (places.count_at_end w.0.walk.levels, (closed w.1.structs w.0, w.1))
 
 -- no place: the expressions of the rest come first, since the list ends behind them
-abbrev pub without_place : {A : Type 0} → List Item → Refused → State → Checked A
+abbrev pub without_place : List Item → Refused → State → Checked Filled
 without_place xs r s = and_then (all_typed xs s) (λ u. declaring (Err r))
+
+-- what the code answers there, where want of memory may be the cause
+abbrev pub Unplaced : List Item → Failure → State → CheckFault → Type 0
+Unplaced xs (failure.Refused r) s f = Fails (without_place xs r s) f
+Unplaced xs failure.NoMemory s f = f ≡ fault.NoMemory
 
 abbrev pub placed : {A : Type 0} → Outcome (Place × List Level) → (Refused → Checked A) → (Place → List Level → Checked A) → Checked A
 placed (Ok x) none some = some x.0 x.1

@@ -11,7 +11,7 @@ use Rattle.sc_core.specs.declared.statement.AutoInit.{AutoInit}
 use Rattle.sc_operand.specs.Types.{object_size}
 use Rattle.sc_initial.specs.declared.level.Place.{Place}
 use Rattle.sc_scope.specs.declared.state.State.{State}
-use Rattle.sc_scope.specs.Steps.{Checked, and_then, keep}
+use Rattle.sc_scope.specs.Steps.{Checked, and_then}
 use Rattle.sc_scope.specs.Scopes.{Checking}
 use Rattle.sc_check_initial.specs.declared.places.Filling.{Filling}
 use Rattle.sc_check_initial.specs.Values.{TypeLevel, misfit}

@@ -1,6 +1,6 @@
 // The recursion over lists of initialisers (ANSI 3.5.7).
-ghost use Rattle.std.specs.Prelude.{map};
-ghost use Rattle.sc_scope.specs.Steps.{GivesWith};
+ghost use Rattle.std.specs.Prelude.{◌≤◌, length, drop, map};
+ghost use Rattle.sc_scope.specs.Steps.{Fails, GivesWith};
 ghost use Rattle.sc_check_initial.specs.Values.{Gives};
 ghost use Rattle.sc_check_initial.specs.Lists as spec;
 
@@ -14,17 +14,31 @@ use sc_scope::{CheckFault, Problem, State};
 use sc_tree::Initializer;
 use std::alloc::Global;
 
-/// The refusal of items that have no place, behind those of their own expressions.
+/// The refusal of items that have no place for this cause.
+fn all_refused(alloc: Global, st: &mut State, items: &[Initializer], why: Refused) -> CheckFault
+    ensures { Fails (spec.without_place (map spec.item items.now) why st.old) result }
+{
+    match all_typed(alloc, st, items) {
+        Ok(()) => CheckFault::Found(Problem::Declaring(why)),
+        Err(fault) => fault,
+    }
+}
+
+/// The refusal of the items from one on that has no place, behind those of their own expressions.
 fn without_place(
     alloc: Global,
     st: &mut State,
     items: &[Initializer],
-    why: Refused,
-) -> Result<(), CheckFault>
-    ensures { Gives (spec.without_place (map spec.item items.now) why st.old) result st.new }
+    from: usize,
+    failure: Failure,
+) -> CheckFault
+    requires { from ≤ length items.now }
+    ensures { spec.Unplaced (map spec.item (drop from items.now)) failure st.old result }
 {
-    all_typed(alloc, st, items)?;
-    Err(CheckFault::Found(Problem::Declaring(why)))
+    match failure {
+        Failure::Refused(why) => all_refused(alloc, st, &items[from..], why),
+        Failure::NoMemory => CheckFault::NoMemory,
+    }
 }
 
 /// The items of a list, each in its place.
@@ -42,8 +56,7 @@ fn put_items(
             Ok(p) => {
                 put_at(alloc, st, true, fill, item, p)?;
             }
-            Err(Failure::Refused(why)) => return without_place(alloc, st, &items[i..], why),
-            Err(Failure::NoMemory) => return Err(CheckFault::NoMemory),
+            Err(failure) => return Err(without_place(alloc, st, items, i, failure)),
         }
     }
     Ok(())
