@@ -51,16 +51,12 @@ abbrev pub is_body_of : List StructDef → Fun → Option Declared → Bool
 is_body_of structs f None = false
 is_body_of structs f (Some d) = is_of_level structs f.of (out-CType d.of)
 
--- a function is declared, with a compatible type
+abbrev pub is_body : Core → Fun → Bool
+is_body core f = is_body_of core.structs f (declared_as (key_of core f) core.declared)
+
 abbrev pub bodies : Core → List Fun → Bool
 bodies core [] = true
-bodies core (f ∷ fs) = is_body_of core.structs f (declared_as (key_of core f) core.declared) && bodies core fs
-
--- Names stand for one thing each.
-abbrev pub has_names : Core → Bool
-has_names core =
-    distinct key_eq (map (λ d. d.key) core.declared) && distinct key_eq (map (λ x. x.key) core.objects) && distinct bytes_eq (map (λ f. f.name) core.funs)
-    && distinct bytes_eq core.literals
+bodies core (f ∷ fs) = is_body core f && bodies core fs
 
 -- Each function is declared, each object and literal is born once, each name is defined as it says, and all keep their laws.
 abbrev pub is_lawful : Core → Bool
@@ -68,6 +64,16 @@ is_lawful core =
     bodies core core.funs && are_born core
     && (declarations core core.declared && objects core core.objects && literals_end core.literals && functions core core.funs)
 
+-- literals, functions, objects and names with linkage stand for one thing each
+abbrev pub with_literals : Core → Bool
+with_literals core = distinct bytes_eq core.literals && is_lawful core
+
+abbrev pub with_functions : Core → Bool
+with_functions core = distinct bytes_eq (map (λ f. f.name) core.funs) && with_literals core
+
+abbrev pub with_objects : Core → Bool
+with_objects core = distinct key_eq (map (λ x. x.key) core.objects) && with_functions core
+
 -- A formed module.
 abbrev pub formed : Core → Bool
-formed core = has_names core && is_lawful core
+formed core = distinct key_eq (map (λ d. d.key) core.declared) && with_objects core

@@ -60,8 +60,10 @@ are_new eq done (x ∷ xs) = not (list_any (eq x) done) && are_new eq (done ++ x
 abbrev pub distinct : {A : Type 0} → (A → A → Bool) → List A → Bool
 distinct eq xs = are_new eq [] xs
 
-abbrev pub where_distinct : {A : Type 0} → (A → A → Bool) → List A → Option (List A)
-where_distinct eq xs = if distinct eq xs then Some xs else None
+-- what an index of these keys is, where they are distinct
+abbrev pub Indexes : {A : Type 0} → (A → A → Bool) → List A → Option (List A) → Type 0
+Indexes eq xs None = distinct eq xs ≡ false
+Indexes eq xs (Some keys) = (distinct eq xs ≡ true) × (keys ≡ xs)
 
 -- a key at the end of a list, where it is new
 abbrev pub Adds : {A : Type 0} → (A → A → Bool) → A → List A → List A → Bool → Type 0

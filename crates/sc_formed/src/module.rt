@@ -1,5 +1,5 @@
 // What a checked module is.
-ghost use Rattle.std.specs.Prelude.{◌≡◌, IfOk};
+ghost use Rattle.std.specs.Prelude.{◌≡◌, IfOk, map};
 ghost use Rattle.sc_types.specs.declared.ctype.CType.{out-CType};
 ghost use Rattle.sc_formed.specs.Names.{declared_as, function_as};
 ghost use Rattle.sc_formed.specs.Modules as spec;
@@ -11,7 +11,8 @@ use crate::names::{
     Indexed, declared_as, declared_keys, function_as, function_names, literal_texts, object_as,
     object_keys,
 };
-use sc_base::{Duplicate, Key, NoMemory};
+use indexmap::IndexSet;
+use sc_base::{Duplicate, Key, Name, NoMemory};
 use sc_core::{Core, Declared, Fun};
 use sc_operand::is_function;
 use sc_types::{CType, Signature, Structs};
@@ -107,13 +108,21 @@ fn is_body_of(m: &Indexed, f: &Fun, key: &Key) -> bool
     }
 }
 
+fn is_body(alloc: Global, m: &Indexed, f: &Fun) -> Result<bool, NoMemory>
+    ensures { IfOk result (λ yes. yes ≡ spec.is_body m.now.core.now f.now) }
+{
+    let key = key_of(alloc, m.core, f)?;
+    let yes = is_body_of(m, f, &key);
+    drop(key);
+    Ok(yes)
+}
+
 /// Whether each function is declared with a compatible type.
 fn bodies(alloc: Global, m: &Indexed, funs: &[Fun]) -> Result<bool, NoMemory>
     ensures { IfOk result (λ yes. yes ≡ spec.bodies m.now.core.now funs.now) }
 {
     for f in funs {
-        let key = key_of(alloc, m.core, f)?;
-        if !is_body_of(m, f, &key) {
+        if !is_body(alloc, m, f)? {
             return Ok(false);
         }
     }
@@ -139,6 +148,59 @@ fn is_lawful(alloc: Global, m: &Indexed) -> Result<bool, NoMemory>
     )
 }
 
+fn with_literals(
+    alloc: Global,
+    core: &Core,
+    declared: IndexSet<Key>,
+    objects: IndexSet<Key>,
+    funs: IndexSet<Name>,
+) -> Result<bool, NoMemory>
+    requires declared { declared.keys ≡ map (λ d. d.key) core.now.declared }
+    requires objects { objects.keys ≡ map (λ x. x.key) core.now.objects }
+    requires funs { funs.keys ≡ map (λ f. f.name) core.now.funs }
+    ensures { IfOk result (λ yes. yes ≡ spec.with_literals core.now) }
+{
+    match literal_texts(alloc, core.literals.as_slice())? {
+        Some(literals) => {
+            let m = Indexed {
+                core,
+                declared,
+                objects,
+                funs,
+                literals,
+            };
+            is_lawful(alloc, &m)
+        }
+        None => Ok(false),
+    }
+}
+
+fn with_functions(
+    alloc: Global,
+    core: &Core,
+    declared: IndexSet<Key>,
+    objects: IndexSet<Key>,
+) -> Result<bool, NoMemory>
+    requires declared { declared.keys ≡ map (λ d. d.key) core.now.declared }
+    requires objects { objects.keys ≡ map (λ x. x.key) core.now.objects }
+    ensures { IfOk result (λ yes. yes ≡ spec.with_functions core.now) }
+{
+    match function_names(alloc, core.funs.as_slice())? {
+        Some(funs) => with_literals(alloc, core, declared, objects, funs),
+        None => Ok(false),
+    }
+}
+
+fn with_objects(alloc: Global, core: &Core, declared: IndexSet<Key>) -> Result<bool, NoMemory>
+    requires { declared.keys ≡ map (λ d. d.key) core.now.declared }
+    ensures { IfOk result (λ yes. yes ≡ spec.with_objects core.now) }
+{
+    match object_keys(alloc, core.objects.as_slice())? {
+        Some(objects) => with_functions(alloc, core, declared, objects),
+        None => Ok(false),
+    }
+}
+
 /// Whether a module is formed: what an interpreter and a code generator may rest on. Names stand for one thing each, and are
 /// declared as defined just where they are; each function, object and literal keeps its laws; each object and literal is born
 /// once.
@@ -149,24 +211,8 @@ fn is_lawful(alloc: Global, m: &Indexed) -> Result<bool, NoMemory>
 pub fn is_formed(alloc: Global, core: &Core) -> Result<bool, NoMemory>
     ensures { IfOk result (λ yes. yes ≡ spec.formed core.now) }
 {
-    let Some(declared) = declared_keys(alloc, core.declared.as_slice())? else {
-        return Ok(false);
-    };
-    let Some(objects) = object_keys(alloc, core.objects.as_slice())? else {
-        return Ok(false);
-    };
-    let Some(funs) = function_names(alloc, core.funs.as_slice())? else {
-        return Ok(false);
-    };
-    let Some(literals) = literal_texts(alloc, core.literals.as_slice())? else {
-        return Ok(false);
-    };
-    let m = Indexed {
-        core,
-        declared,
-        objects,
-        funs,
-        literals,
-    };
-    is_lawful(alloc, &m)
+    match declared_keys(alloc, core.declared.as_slice())? {
+        Some(declared) => with_objects(alloc, core, declared),
+        None => Ok(false),
+    }
 }

@@ -136,10 +136,8 @@ pub(crate) fn add_key(alloc: Global, keys: &mut IndexSet<Key>, key: &Key) -> Res
     ensures { IfOk result (λ new. spec.Adds spec.key_eq key.now keys.old.keys keys.new.keys new) }
 {
     let key = key.copy(alloc)?;
-    match keys.insert(key) {
-        Ok(new) => Ok(new),
-        Err(_) => Err(NoMemory),
-    }
+    let new = keys.insert(key)?;
+    Ok(new)
 }
 
 fn add_name(alloc: Global, names: &mut IndexSet<Name>, name: &Name) -> Result<bool, NoMemory>
@@ -171,7 +169,7 @@ pub(crate) fn declared_keys(
     alloc: Global,
     declared: &[Declared],
 ) -> Result<Option<IndexSet<Key>>, NoMemory>
-    ensures { IfOk result (λ r. option_map (λ s. s.keys) r ≡ spec.where_distinct spec.key_eq (map (λ d. d.key) declared.now)) }
+    ensures { IfOk result (λ r. spec.Indexes spec.key_eq (map (λ d. d.key) declared.now) (option_map (λ s. s.keys) r)) }
 {
     let mut keys = IndexSet::new(alloc);
     for d in declared {
@@ -187,7 +185,7 @@ pub(crate) fn object_keys(
     alloc: Global,
     objects: &[StaticObj],
 ) -> Result<Option<IndexSet<Key>>, NoMemory>
-    ensures { IfOk result (λ r. option_map (λ s. s.keys) r ≡ spec.where_distinct spec.key_eq (map (λ x. x.key) objects.now)) }
+    ensures { IfOk result (λ r. spec.Indexes spec.key_eq (map (λ x. x.key) objects.now) (option_map (λ s. s.keys) r)) }
 {
     let mut keys = IndexSet::new(alloc);
     for x in objects {
@@ -203,7 +201,7 @@ pub(crate) fn function_names(
     alloc: Global,
     funs: &[Fun],
 ) -> Result<Option<IndexSet<Name>>, NoMemory>
-    ensures { IfOk result (λ r. option_map (λ s. s.keys) r ≡ spec.where_distinct bytes_eq (map (λ f. f.name) funs.now)) }
+    ensures { IfOk result (λ r. spec.Indexes bytes_eq (map (λ f. f.name) funs.now) (option_map (λ s. s.keys) r)) }
 {
     let mut names = IndexSet::new(alloc);
     for f in funs {
@@ -219,7 +217,7 @@ pub(crate) fn literal_texts(
     alloc: Global,
     literals: &[Bytes],
 ) -> Result<Option<IndexSet<Bytes>>, NoMemory>
-    ensures { IfOk result (λ r. option_map (λ s. s.keys) r ≡ spec.where_distinct bytes_eq literals.now) }
+    ensures { IfOk result (λ r. spec.Indexes bytes_eq literals.now (option_map (λ s. s.keys) r)) }
 {
     let mut texts = IndexSet::new(alloc);
     for text in literals {
