@@ -1,5 +1,5 @@
 -- From a run's steps to what the whole program does.
-use Rattle.std.proofs.Common.{◌≡◌, ℕ, zero, suc, ◌+◌, ◌<◌, Bool, true, false, List, [], refl, ap, sym, subst, ◌∙◌, arith, add-one, Option, Some, None, Result, Ok, Err}
+use Rattle.std.proofs.Common.{◌≡◌, ℕ, zero, suc, ◌+◌, ◌<◌, Bool, true, false, List, [], ◌∷◌, refl, ap, sym, subst, ◌∙◌, arith, add-one, Option, Some, None, Result, Ok, Err}
 use Rattle.std.specs.Prelude.{◌↔◌, IsTrue}
 use Rattle.std.specs.Result.{IsErrAnd}
 use Rattle.std.proofs.lemmas.Result.{err_from_is_err_and}
@@ -52,7 +52,7 @@ pub over_where : (s : State) (a : Answer) (cs : List Caller) (w : World) (b : Bo
 over_where s a cs w b is e = over_if a cs w b e ∙ sym (ap is_over is)
 
 pub goes_on : (s : State) (a : Answer) (cs : List Caller) (w : World) (b : Bool) → s ≡ Answers a cs w → (IsTrue b ↔ (cs ≡ [])) → b ≡ false → is_over s ≡ false
-goes_on s a cs w b is e no = sym (over_where s a cs w b is e) ∙ no
+goes_on s a cs w b is e not_over = sym (over_where s a cs w b is e) ∙ not_over
 
 -- a run that is over is where it is after any more steps
 pub over_there : (k : ℕ) (h : History) (texts : List Text) (t : State) (r : Reached) (w : World) → Brings t (Ok r) w → is_over t ≡ true → Brings (steady.ran k h texts t) (Ok r) w
@@ -140,7 +140,7 @@ answer_finishes texts s steps first born v w a status is begins p q st back = λ
     run_answers texts s steps n born v a is lt (ap (statics_born texts) (sym begins) ∙ p) q ∙ ap (λ st. Exit st (tick v)) (sym st) ∙ ap (Exit status) (sym back) ∙ told e status w r
 
 pub steps_used_up : (texts : List Text) (s : Start) (steps : ℕ) (first born w : World) → s.history ≡ alone texts → first ≡ first_world s → statics_born texts first ≡ Done tt born → is_over (steady.ran steps (alone texts) texts (first_of texts born)) ≡ false → Finishes steps s (Ok ended.OutOfSteps) w
-steps_used_up texts s steps first born w is begins p over = (texts, (is, (born, (ap (statics_born texts) (sym begins) ∙ p, over))))
+steps_used_up texts s steps first born w is begins p over = (texts, is, born, ap (statics_born texts) (sym begins) ∙ p, over)
 
 -- a part that failed ends the whole, as `?` passes its end on
 pub finishes_here : (s : Start) (steps : ℕ) (r : Result Ended Stop) (stop : Stop) (w : World) → IsErrAnd r (λ e. e ≡ stop) → Finishes steps s (Err stop) w → Finishes steps s r w
