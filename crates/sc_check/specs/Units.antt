@@ -1,6 +1,6 @@
 -- The objects and functions that a unit has at its end (ANSI 3.7).
-use Rattle.std.specs.Prelude.{ℕ, Bool, true, false, List, Option, Some, None, is_none}
-use Rattle.sc_types.specs.declared.ctype.CType.{CType, out-CType}
+use Rattle.std.specs.Prelude.{Bool, true, false, List, Option, Some, None, is_none}
+use Rattle.sc_types.specs.declared.ctype.CType.{CType}
 use Rattle.sc_types.specs.declared.ctype.CType.TheOpen.{CType-F}
 use Rattle.sc_types.specs.declared.ctype.Signature.{Signature}
 use Rattle.sc_types.specs.declared.ctype.StructDef.{StructDef}

@@ -176,7 +176,9 @@ fn module(m: Translation, end: Ending) -> Core
     }
 }
 
-fn read(alloc: Global, name: &Name, m: &mut Translation, unit: &Unit) -> Result<Ending, UnitFault> {
+fn read(alloc: Global, name: &Name, m: &mut Translation, unit: &Unit) -> Result<Ending, UnitFault>
+    ensures { IfOk result (λ end. end.home ≡ name.now) }
+{
     externals(alloc, m, unit)?;
     at_end(alloc, name, m)
 }

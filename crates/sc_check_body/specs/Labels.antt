@@ -1,5 +1,5 @@
 -- The labels of a `switch` (ANSI 3.6.1, 3.6.4.2).
-use Rattle.std.specs.Prelude.{ℕ, Bool, nat_eq, nat_lt, if◌then◌else◌, List, [], ◌∷◌, length, Option, Some, None, Ok, Err}
+use Rattle.std.specs.Prelude.{ℕ, nat_eq, nat_lt, if◌then◌else◌, List, [], ◌∷◌, length, Option, Some, None, Ok, Err}
 use Rattle.std.specs.List.{list_any}
 use Rattle.sc_ops.specs.Numbers.{converted}
 use Rattle.sc_check_body.specs.declared.fault.Finding.TheVariants as finding

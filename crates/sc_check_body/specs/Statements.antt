@@ -1,5 +1,5 @@
 -- The expressions of statements (ANSI 3.6).
-use Rattle.std.specs.Prelude.{ℕ, Bool, true, false, if◌then◌else◌, List, [], ◌∷◌, Option, Some, None, Ok}
+use Rattle.std.specs.Prelude.{ℕ, false, if◌then◌else◌, List, Option, Some, None, Ok}
 use Rattle.sc_base.specs.declared.integer.Int.{Int}
 use Rattle.sc_types.specs.declared.ctype.CType.{CType}
 use Rattle.sc_types.specs.declared.ctype.StructDef.{StructDef}
