@@ -1,2 +1,2 @@
 pub mod Indexes
-pub mod Trees
+pub mod Lengths

@@ -17,7 +17,7 @@ use Rattle.sc_core.specs.declared.module.Init.{Init}
 use Rattle.sc_core.specs.declared.module.Init.TheVariants as init
 use Rattle.sc_core.specs.declared.module.StaticObj.{StaticObj}
 use Rattle.sc_operand.specs.Types.{is_const, is_function}
-use Rattle.sc_formed.specs.Types.{same}
+use Rattle.sc_laws.specs.Types.{same}
 use Rattle.sc_formed.specs.Names.{key_eq, declared_as, object_as, is_literal_of, distinct}
 
 abbrev pub is_home_name : Core → Option (List ℕ) → Bool

@@ -7,11 +7,11 @@ use Rattle.sc_core.specs.declared.expression.CoreExpr.TheOpen.{CoreExpr-F}
 use Rattle.sc_core.specs.declared.module.Auto.{Auto}
 use Rattle.sc_core.specs.declared.module.Core.{Core}
 use Rattle.sc_formed.specs.Open.{is_open}
-use Rattle.sc_formed.specs.Types.{same}
+use Rattle.sc_laws.specs.Types.{same}
 use Rattle.sc_formed.specs.Names.{is_static, is_declared_function}
-use Rattle.sc_formed.specs.Values.{converts}
-use Rattle.sc_formed.specs.Nodes.{is_number, is_literal, is_element, is_call, is_member, is_arrow, is_step, is_address, is_indirection, is_unary, is_cast}
-use Rattle.sc_formed.specs.Operators.{is_binary, is_offset, is_difference, is_compare, is_logical, is_choice, is_assignment, is_copy, is_compound, is_movement, is_sequence}
+use Rattle.sc_laws.specs.Values.{converts}
+use Rattle.sc_laws.specs.Nodes.{is_number, is_literal, is_element, is_call, is_member, is_arrow, is_step, is_address, is_indirection, is_unary, is_cast}
+use Rattle.sc_laws.specs.Operators.{is_binary, is_offset, is_difference, is_compare, is_logical, is_choice, is_assignment, is_copy, is_compound, is_movement, is_sequence}
 use Rattle.sc_core.specs.Types.{type_of}
 
 -- the parameter or automatic object at a place of a block

@@ -11,10 +11,10 @@ use Rattle.sc_core.specs.declared.module.Auto.{Auto}
 use Rattle.sc_core.specs.declared.module.Fun.{Fun}
 use Rattle.sc_core.specs.declared.module.Core.{Core}
 use Rattle.sc_operand.specs.Types.{is_const}
-use Rattle.sc_formed.specs.declared.needs.Need.{Need}
+use Rattle.sc_laws.specs.declared.needs.Need.{Need}
 use Rattle.sc_formed.specs.declared.statements.Body.{Body}
-use Rattle.sc_formed.specs.Types.{alike}
-use Rattle.sc_formed.specs.Needs.{need_of_statement}
+use Rattle.sc_laws.specs.Types.{alike}
+use Rattle.sc_laws.specs.Needs.{need_of_statement}
 use Rattle.sc_formed.specs.Statements.{statement}
 
 -- an object takes the least multiple of 4 that is greater than its size

@@ -11,7 +11,7 @@ use Rattle.sc_core.specs.declared.module.Core.{Core}
 use Rattle.sc_core.specs.declared.module.Declared.{Declared}
 use Rattle.sc_core.specs.declared.module.Fun.{Fun}
 use Rattle.sc_operand.specs.Types.{Level, is_function}
-use Rattle.sc_formed.specs.Types.{same, alike}
+use Rattle.sc_laws.specs.Types.{same, alike}
 use Rattle.sc_formed.specs.Names.{key_eq, declared_as, object_as, function_as, distinct}
 use Rattle.sc_formed.specs.Frames.{functions}
 use Rattle.sc_formed.specs.Contents.{is_home, objects, literals_end, are_born}

@@ -11,7 +11,7 @@ use Rattle.sc_core.specs.declared.module.Declared.{Declared}
 use Rattle.sc_core.specs.declared.module.StaticObj.{StaticObj}
 use Rattle.sc_core.specs.declared.module.Fun.{Fun}
 use Rattle.sc_operand.specs.Types.{is_function}
-use Rattle.sc_formed.specs.Types.{same}
+use Rattle.sc_laws.specs.Types.{same}
 
 abbrev pub key_eq : Key → Key → Bool
 key_eq a b = option_eq bytes_eq a.«module» b.«module» && bytes_eq a.name b.name

@@ -17,8 +17,8 @@ use Rattle.sc_core.specs.declared.module.Core.{Core}
 use Rattle.sc_operand.specs.Types.{shape, is_scalar, is_void}
 use Rattle.sc_formed.specs.declared.statements.Body.{Body}
 use Rattle.sc_formed.specs.Open.{is_open}
-use Rattle.sc_formed.specs.Values.{is_done, is_condition, is_promoted_value, is_value_for}
-use Rattle.sc_formed.specs.Operators.{is_structure}
+use Rattle.sc_laws.specs.Values.{is_done, is_condition, is_promoted_value, is_value_for}
+use Rattle.sc_laws.specs.Operators.{is_structure}
 use Rattle.sc_formed.specs.Expressions.{expression, auto_at}
 
 -- a formed expression without value, or whose value is let go

@@ -4,11 +4,11 @@ ghost use Rattle.std.specs.Str.{bytes_eq};
 ghost use Rattle.sc_formed.specs.Contents as spec;
 ghost use Rattle.sc_formed.specs.Names.{is_literal_of, distinct, key_eq, declared_as};
 
-use crate::agreement::{same, same_bool};
 use crate::names::{Indexed, add_key, add_text, declared_as, is_literal_of, object_as};
 use indexmap::IndexSet;
 use sc_base::{Bytes, Key, Name, NoMemory};
 use sc_core::{Core, Init, StaticObj};
+use sc_laws::{same, same_bool};
 use sc_operand::{is_const, is_function};
 use sc_program::StaticId;
 use sc_types::{is_object, size_of};

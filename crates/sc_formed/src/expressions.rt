@@ -4,20 +4,15 @@ ghost use Rattle.sc_formed.specs.Open.{numbers};
 ghost use Rattle.sc_formed.specs.Expressions as spec;
 ghost use Rattle.sc_core.specs.declared.expression.CoreExpr.{out-CoreExpr};
 
-use crate::agreement::same;
 use crate::names::{Indexed, is_declared_function, is_static};
-use crate::nodes::{
-    is_address, is_arrow, is_call, is_cast, is_element, is_indirection, is_literal, is_member,
-    is_number, is_step, is_unary,
-};
 use crate::open::{Open, is_open};
-use crate::operators::{
-    is_assignment, is_binary, is_choice, is_compare, is_compound, is_copy, is_difference,
-    is_logical, is_movement, is_offset, is_sequence,
-};
-use crate::values::converts;
 use sc_base::{Items, Shared};
 use sc_core::{Auto, CoreExpr, type_of};
+use sc_laws::{
+    converts, is_address, is_arrow, is_assignment, is_binary, is_call, is_cast, is_choice,
+    is_compare, is_compound, is_copy, is_difference, is_element, is_indirection, is_literal,
+    is_logical, is_member, is_movement, is_number, is_offset, is_sequence, is_step, is_unary, same,
+};
 use sc_types::{CType, Structs};
 
 /// Whether an object with this type stands at a place of a block.

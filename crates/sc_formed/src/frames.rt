@@ -2,13 +2,12 @@
 ghost use Rattle.std.specs.Prelude.{◌≡◌, ◌≤◌, ◌<◌, ◌^◌, IfSome, slice_get};
 ghost use Rattle.sc_formed.specs.Frames as spec;
 
-use crate::agreement::{alike, same_bool};
 use crate::names::Indexed;
-use crate::needs::{Need, need_of_statement};
 use crate::open::{inside, outside};
 use crate::statements::{Body, statement};
 use sc_base::Items;
 use sc_core::{Auto, CoreStmt, Fun};
+use sc_laws::{Need, alike, need_of_statement, same_bool};
 use sc_operand::is_const;
 use sc_types::{CType, MAX_FRAME, Structs, is_object, size_of};
 

@@ -4,7 +4,6 @@ ghost use Rattle.sc_types.specs.declared.ctype.CType.{out-CType};
 ghost use Rattle.sc_formed.specs.Names.{declared_as, function_as};
 ghost use Rattle.sc_formed.specs.Modules as spec;
 
-use crate::agreement::{alike, same, same_bool};
 use crate::contents::{are_born, is_home, literals_end, objects};
 use crate::frames::functions;
 use crate::names::{
@@ -14,6 +13,7 @@ use crate::names::{
 use indexmap::IndexSet;
 use sc_base::{Duplicate, Key, Name, NoMemory};
 use sc_core::{Core, Declared, Fun};
+use sc_laws::{alike, same, same_bool};
 use sc_operand::is_function;
 use sc_types::{CType, Signature, Structs};
 use std::alloc::Global;

@@ -4,10 +4,10 @@ ghost use Rattle.std.specs.Option.{option_copied, option_map};
 ghost use Rattle.std.specs.Str.{bytes_eq};
 ghost use Rattle.sc_formed.specs.Names as spec;
 
-use crate::agreement::same;
 use indexmap::IndexSet;
 use sc_base::{Bytes, Duplicate, Key, Name, NoMemory};
 use sc_core::{Core, Declared, Fun, StaticObj};
+use sc_laws::same;
 use sc_operand::is_function;
 use sc_types::CType;
 use std::alloc::Global;

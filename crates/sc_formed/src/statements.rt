@@ -9,10 +9,9 @@ ghost use Rattle.sc_formed.specs.Statements as spec;
 use crate::expressions::expression;
 use crate::names::Indexed;
 use crate::open::{Open, inside, is_open};
-use crate::operators::is_structure;
-use crate::values::{is_condition, is_done, is_promoted_value, is_value_for};
 use sc_base::Shared;
 use sc_core::{Auto, AutoInit, CoreExpr, CoreStmt, Fun, SwitchLabel};
+use sc_laws::{is_condition, is_done, is_promoted_value, is_structure, is_value_for};
 use sc_operand::{is_scalar, is_void, shape_of};
 use sc_types::{CType, is_object, size_of};
 

@@ -1,4 +1,4 @@
-use Rattle.sc_formed.proofs.Trees.{parameters-length}
+use Rattle.sc_formed.proofs.Lengths.{parameters-length}
 use Rattle.sc_formed.proofs.frames.parameters.Goals as goal
 
 pub returns-then-params-autos : goal.returns-then-params-autos

@@ -1,4 +1,4 @@
-use Rattle.sc_formed.proofs.Trees.{types-length}
+use Rattle.sc_formed.proofs.Lengths.{types-length}
 use Rattle.sc_formed.proofs.module.parameters.Goals as goal
 
 pub returns-then-ps-qs : goal.returns-then-ps-qs

@@ -1,6 +1,6 @@
 // What operators between operands ask of them (ANSI 3.3.5 to 3.3.17).
 ghost use Rattle.std.specs.Prelude.{◌≡◌};
-ghost use Rattle.sc_formed.specs.Operators as spec;
+ghost use Rattle.sc_laws.specs.Operators as spec;
 ghost use Rattle.sc_types.specs.declared.ctype.CType.{out-CType};
 ghost use Rattle.sc_core.specs.Types.{type_of};
 
@@ -49,7 +49,7 @@ fn binary_of(kind: Kind, of: &CType, j: Int, k: Int) -> bool
 }
 
 /// An operator on two integers (ANSI 3.3.5 to 3.3.12).
-pub(crate) fn is_binary(structs: &Structs, of: &CType, op: Op, a: &CoreExpr, b: &CoreExpr) -> bool
+pub fn is_binary(structs: &Structs, of: &CType, op: Op, a: &CoreExpr, b: &CoreExpr) -> bool
     ensures { result ≡ spec.is_binary structs.now of.now op a.now b.now }
 {
     match (value(structs, a), value(structs, b)) {
@@ -80,14 +80,7 @@ fn is_plus(op: Op) -> bool
 }
 
 /// A pointer to objects of this size and an integer, of which the pointer is on the left with `-` (ANSI 3.3.6).
-pub(crate) fn is_offset(
-    structs: &Structs,
-    of: &CType,
-    op: Op,
-    n: u32,
-    a: &CoreExpr,
-    b: &CoreExpr,
-) -> bool
+pub fn is_offset(structs: &Structs, of: &CType, op: Op, n: u32, a: &CoreExpr, b: &CoreExpr) -> bool
     ensures { result ≡ spec.is_offset structs.now of.now op n a.now b.now }
 {
     match (value(structs, a), value(structs, b)) {
@@ -111,13 +104,7 @@ fn is_difference_of(n: u32, a: Shape, b: Shape) -> bool
 }
 
 /// Two pointers to objects of one type, of this size (ANSI 3.3.6).
-pub(crate) fn is_difference(
-    structs: &Structs,
-    of: &CType,
-    n: u32,
-    a: &CoreExpr,
-    b: &CoreExpr,
-) -> bool
+pub fn is_difference(structs: &Structs, of: &CType, n: u32, a: &CoreExpr, b: &CoreExpr) -> bool
     ensures { result ≡ spec.is_difference structs.now of.now n a.now b.now }
 {
     is_int_of(Int::Int, of)
@@ -146,7 +133,7 @@ fn compares(kind: Kind, a: Shape, b: Shape, alike: bool, joined: bool) -> bool
 
 /// Two pointers: to objects of one type, or for equality ones that go together, or a null pointer constant (ANSI 3.3.8,
 /// 3.3.9).
-pub(crate) fn is_compare(structs: &Structs, of: &CType, op: Op, a: &CoreExpr, b: &CoreExpr) -> bool
+pub fn is_compare(structs: &Structs, of: &CType, op: Op, a: &CoreExpr, b: &CoreExpr) -> bool
     ensures { result ≡ spec.is_compare structs.now of.now op a.now b.now }
 {
     let alike = targets_alike(structs, type_of(a), type_of(b));
@@ -162,7 +149,7 @@ pub(crate) fn is_compare(structs: &Structs, of: &CType, op: Op, a: &CoreExpr, b:
 }
 
 /// `&&` and `||` on scalars (ANSI 3.3.13, 3.3.14).
-pub(crate) fn is_logical(structs: &Structs, of: &CType, a: &CoreExpr, b: &CoreExpr) -> bool
+pub fn is_logical(structs: &Structs, of: &CType, a: &CoreExpr, b: &CoreExpr) -> bool
     ensures { result ≡ spec.is_logical structs.now of.now a.now b.now }
 {
     is_int_of(Int::Int, of) && is_condition(structs, a) && is_condition(structs, b)
@@ -180,13 +167,7 @@ fn is_chosen(shape: Shape) -> bool
 }
 
 /// A scalar, and two values of the result's type (ANSI 3.3.15).
-pub(crate) fn is_choice(
-    structs: &Structs,
-    of: &CType,
-    a: &CoreExpr,
-    b: &CoreExpr,
-    d: &CoreExpr,
-) -> bool
+pub fn is_choice(structs: &Structs, of: &CType, a: &CoreExpr, b: &CoreExpr, d: &CoreExpr) -> bool
     ensures { result ≡ spec.is_choice structs.now of.now a.now b.now d.now }
 {
     is_condition(structs, a)
@@ -197,7 +178,7 @@ pub(crate) fn is_choice(
 }
 
 /// `=` on scalars: a place, and a value of its type (ANSI 3.3.16.1).
-pub(crate) fn is_assignment(structs: &Structs, of: &CType, a: &CoreExpr, b: &CoreExpr) -> bool
+pub fn is_assignment(structs: &Structs, of: &CType, a: &CoreExpr, b: &CoreExpr) -> bool
     ensures { result ≡ spec.is_assignment structs.now of.now a.now b.now }
 {
     writes(structs, of, a)
@@ -205,7 +186,8 @@ pub(crate) fn is_assignment(structs: &Structs, of: &CType, a: &CoreExpr, b: &Cor
         && is_value_for(structs, type_of(a), b)
 }
 
-pub(crate) fn is_structure(shape: Shape) -> bool
+/// Whether a type of this shape is a structure.
+pub fn is_structure(shape: Shape) -> bool
     ensures { result ≡ spec.is_structure shape }
 {
     match shape {
@@ -215,7 +197,7 @@ pub(crate) fn is_structure(shape: Shape) -> bool
 }
 
 /// `=` on structures of this size (ANSI 3.3.16.1).
-pub(crate) fn is_copy(structs: &Structs, of: &CType, n: u32, a: &CoreExpr, b: &CoreExpr) -> bool
+pub fn is_copy(structs: &Structs, of: &CType, n: u32, a: &CoreExpr, b: &CoreExpr) -> bool
     ensures { result ≡ spec.is_copy structs.now of.now n a.now b.now }
 {
     writes(structs, of, a)
@@ -246,7 +228,7 @@ fn compound_shapes(kind: Kind, k: Int, a: Shape, b: Shape) -> bool
 
 /// A compound assignment on integers works in the common type of place and value, which the value has; a shift in the
 /// promoted type of the place (ANSI 3.3.16.2).
-pub(crate) fn is_compound(
+pub fn is_compound(
     structs: &Structs,
     of: &CType,
     op: Op,
@@ -275,7 +257,7 @@ fn moves(op: Op, n: u32, a: Shape, b: Shape) -> bool
 }
 
 /// `+=` and `-=` on a pointer to objects of this size (ANSI 3.3.16.2).
-pub(crate) fn is_movement(
+pub fn is_movement(
     structs: &Structs,
     of: &CType,
     op: Op,
@@ -289,7 +271,7 @@ pub(crate) fn is_movement(
 }
 
 /// `a, b` (ANSI 3.3.17).
-pub(crate) fn is_sequence(structs: &Structs, of: &CType, a: &CoreExpr, b: &CoreExpr) -> bool
+pub fn is_sequence(structs: &Structs, of: &CType, a: &CoreExpr, b: &CoreExpr) -> bool
     ensures { result ≡ spec.is_sequence structs.now of.now a.now b.now }
 {
     is_done(a) && is_done(b) && is_plain_of(structs, of, type_of(b))

@@ -1,11 +1,10 @@
 // The value of an operand, and what C converts by itself (ANSI 3.2).
 ghost use Rattle.std.specs.Prelude.{◌≡◌};
-ghost use Rattle.sc_formed.specs.Values as spec;
+ghost use Rattle.sc_laws.specs.Values as spec;
 ghost use Rattle.sc_types.specs.declared.ctype.CType.{out-CType};
 ghost use Rattle.sc_core.specs.Types.{type_of};
 
-use crate::agreement::{alike, is_promoted, same_int, takes};
-use sc_base::Int;
+use crate::agreement::{alike, is_promoted, takes};
 use sc_core::{CoreExpr, type_of};
 use sc_operand::{
     Shape, is_const, is_lvalue, is_null, is_place, is_scalar, is_zero_constant, shape_of,
@@ -13,7 +12,7 @@ use sc_operand::{
 use sc_types::{CType, Structs};
 
 /// Whether no conversion is left to make of an operand: a scalar has been read, an array that could be is a pointer.
-pub(crate) fn is_done(e: &CoreExpr) -> bool
+pub fn is_done(e: &CoreExpr) -> bool
     ensures { result ≡ spec.is_done e.now }
 {
     match type_of(e) {
@@ -38,24 +37,14 @@ pub(crate) fn value(structs: &Structs, e: &CoreExpr) -> Shape
 }
 
 /// Whether this is a value that can be compared with 0.
-pub(crate) fn is_condition(structs: &Structs, e: &CoreExpr) -> bool
+pub fn is_condition(structs: &Structs, e: &CoreExpr) -> bool
     ensures { result ≡ spec.is_condition structs.now e.now }
 {
     is_scalar(value(structs, e))
 }
 
-/// Whether this is a value of this integer type.
-pub(crate) fn is_integer_value(structs: &Structs, k: Int, e: &CoreExpr) -> bool
-    ensures { result ≡ spec.is_integer_value structs.now k e.now }
-{
-    match value(structs, e) {
-        Shape::Integer(j) => same_int(j, k),
-        _ => false,
-    }
-}
-
 /// Whether this is a value of an integer type to which integers are promoted.
-pub(crate) fn is_promoted_value(structs: &Structs, e: &CoreExpr) -> bool
+pub fn is_promoted_value(structs: &Structs, e: &CoreExpr) -> bool
     ensures { result ≡ spec.is_promoted_value structs.now e.now }
 {
     match value(structs, e) {
@@ -65,7 +54,7 @@ pub(crate) fn is_promoted_value(structs: &Structs, e: &CoreExpr) -> bool
 }
 
 /// Whether this is a value as an object of this type takes it.
-pub(crate) fn is_value_for(structs: &Structs, of: &CType, e: &CoreExpr) -> bool
+pub fn is_value_for(structs: &Structs, of: &CType, e: &CoreExpr) -> bool
     ensures { result ≡ spec.is_value_for structs.now of.now e.now }
 {
     is_done(e) && alike(structs, of, type_of(e))
@@ -124,7 +113,7 @@ fn converts_type(structs: &Structs, to: &CType, a: &CoreExpr) -> bool
 }
 
 /// Whether C converts this operand to this type by itself, by one conversion for all that it makes there.
-pub(crate) fn converts(structs: &Structs, to: &CType, a: &CoreExpr) -> bool
+pub fn converts(structs: &Structs, to: &CType, a: &CoreExpr) -> bool
     ensures { result ≡ spec.converts structs.now to.now a.now }
 {
     !is_convert(a) && !is_const(to) && converts_type(structs, to, a)

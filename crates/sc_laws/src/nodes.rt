@@ -1,7 +1,7 @@
 // What each construct of a typed tree asks of its parts (ANSI 3.3).
 ghost use Rattle.std.specs.Prelude.{◌≡◌, ◌≤◌, ◌<◌, ◌^◌, slice_get, map};
 ghost use Rattle.std.specs.Option.{option_copied};
-ghost use Rattle.sc_formed.specs.Nodes as spec;
+ghost use Rattle.sc_laws.specs.Nodes as spec;
 ghost use Rattle.sc_types.specs.Layouts.{rounded};
 ghost use Rattle.sc_types.specs.declared.ctype.CType.{out-CType};
 ghost use Rattle.sc_core.specs.Types.{type_of};
@@ -18,7 +18,7 @@ use sc_ops::convert;
 use sc_types::{CType, Member, Signature, Structs, align_of, is_object, size_of};
 
 /// A number of an integer type, as its 32 bits (ANSI 3.1.3).
-pub(crate) fn is_number(of: &CType, n: u32) -> bool
+pub fn is_number(of: &CType, n: u32) -> bool
     ensures { result ≡ spec.is_number of.now n }
 {
     match of {
@@ -37,7 +37,7 @@ fn is_text_type(of: &CType, n: usize) -> bool
 }
 
 /// A literal of the table, an array of all its bytes (ANSI 3.1.4).
-pub(crate) fn is_literal(literals: &[Bytes], of: &CType, n: u32) -> bool
+pub fn is_literal(literals: &[Bytes], of: &CType, n: u32) -> bool
     ensures { result ≡ spec.is_literal literals.now of.now n }
 {
     match literals.get(n as usize) {
@@ -47,7 +47,7 @@ pub(crate) fn is_literal(literals: &[Bytes], of: &CType, n: u32) -> bool
 }
 
 /// `a[b]`: one operand is a pointer to objects of this type and size, the other an integer (ANSI 3.3.2.1).
-pub(crate) fn is_element(structs: &Structs, of: &CType, n: u32, a: &CoreExpr, b: &CoreExpr) -> bool
+pub fn is_element(structs: &Structs, of: &CType, n: u32, a: &CoreExpr, b: &CoreExpr) -> bool
     ensures { result ≡ spec.is_element structs.now of.now n a.now b.now }
 {
     match (value(structs, a), value(structs, b)) {
@@ -113,12 +113,7 @@ fn calls(structs: &Structs, of: &CType, f: &CType, args: &[Shared<CoreExpr>]) ->
 }
 
 /// A call of what a pointer to a function points to (ANSI 3.3.2.2).
-pub(crate) fn is_call(
-    structs: &Structs,
-    of: &CType,
-    f: &CoreExpr,
-    args: &[Shared<CoreExpr>],
-) -> bool
+pub fn is_call(structs: &Structs, of: &CType, f: &CoreExpr, args: &[Shared<CoreExpr>]) -> bool
     ensures { result ≡ spec.is_call structs.now of.now f.now args.now }
 {
     is_done(f) && calls(structs, of, type_of(f), args)
@@ -156,7 +151,7 @@ fn stands_among(structs: &Structs, qualifier: bool, of: &CType, n: u32, members:
 }
 
 /// The member of a complete structure at this offset, of its type (ANSI 3.3.2.3).
-pub(crate) fn is_member(structs: &Structs, of: &CType, n: u32, structure: &CType) -> bool
+pub fn is_member(structs: &Structs, of: &CType, n: u32, structure: &CType) -> bool
     ensures { result ≡ spec.is_member structs.now of.now n structure.now }
 {
     match structure {
@@ -177,7 +172,7 @@ fn is_pointed(structs: &Structs, of: &CType, n: u32, pointer: &CType) -> bool
 }
 
 /// The member at this offset of what a pointer points to (ANSI 3.3.2.3).
-pub(crate) fn is_arrow(structs: &Structs, of: &CType, n: u32, a: &CoreExpr) -> bool
+pub fn is_arrow(structs: &Structs, of: &CType, n: u32, a: &CoreExpr) -> bool
     ensures { result ≡ spec.is_arrow structs.now of.now n a.now }
 {
     is_done(a) && is_pointed(structs, of, n, type_of(a))
@@ -207,21 +202,21 @@ fn is_step_of(n: u32, shape: Shape) -> bool
 }
 
 /// `++` and `--` on an integer or a pointer to objects of this size (ANSI 3.3.2.4, 3.3.3.1).
-pub(crate) fn is_step(structs: &Structs, of: &CType, n: u32, a: &CoreExpr) -> bool
+pub fn is_step(structs: &Structs, of: &CType, n: u32, a: &CoreExpr) -> bool
     ensures { result ≡ spec.is_step structs.now of.now n a.now }
 {
     writes(structs, of, a) && is_step_of(n, shape_of(structs, type_of(a)))
 }
 
 /// The address of a place or of a function (ANSI 3.3.3.2).
-pub(crate) fn is_address(structs: &Structs, of: &CType, a: &CoreExpr) -> bool
+pub fn is_address(structs: &Structs, of: &CType, a: &CoreExpr) -> bool
     ensures { result ≡ spec.is_address structs.now of.now a.now }
 {
     (is_function(type_of(a)) || is_lvalue(a)) && !is_const(of) && points_to(structs, of, type_of(a))
 }
 
 /// What a pointer points to: a function, an array, or an object of a complete type (ANSI 3.3.3.2).
-pub(crate) fn is_indirection(structs: &Structs, of: &CType, a: &CoreExpr) -> bool
+pub fn is_indirection(structs: &Structs, of: &CType, a: &CoreExpr) -> bool
     ensures { result ≡ spec.is_indirection structs.now of.now a.now }
 {
     is_done(a)
@@ -242,7 +237,7 @@ fn unary_of(of: &CType, op: UnaryOperator, shape: Shape) -> bool
 }
 
 /// `+ - ~` on a promoted integer of the same type, `!` on a scalar (ANSI 3.3.3.3).
-pub(crate) fn is_unary(structs: &Structs, of: &CType, op: UnaryOperator, a: &CoreExpr) -> bool
+pub fn is_unary(structs: &Structs, of: &CType, op: UnaryOperator, a: &CoreExpr) -> bool
     ensures { result ≡ spec.is_unary structs.now of.now op a.now }
 {
     unary_of(of, op, value(structs, a))
@@ -289,7 +284,7 @@ fn casts(to: Shape, from: Shape, a: &CoreExpr) -> bool
 
 /// A cast: anything to `void`, an integer to an integer, a pointer to a pointer of its kind, the constant 0 to a pointer
 /// (ANSI 3.3.4).
-pub(crate) fn is_cast(structs: &Structs, of: &CType, a: &CoreExpr) -> bool
+pub fn is_cast(structs: &Structs, of: &CType, a: &CoreExpr) -> bool
     ensures { result ≡ spec.is_cast structs.now of.now a.now }
 {
     is_done(a) && !is_const(of) && casts(shape_of(structs, of), value(structs, a), a)

@@ -16,11 +16,11 @@ use Rattle.sc_operand.specs.declared.shape.Shape.{Shape}
 use Rattle.sc_operand.specs.declared.shape.Shape.TheVariants as s
 use Rattle.sc_operand.specs.Types.{shape, is_const, is_pointer, is_scalar}
 use Rattle.sc_operand.specs.Constants.{is_null}
-use Rattle.sc_formed.specs.declared.operators.Kind.{Kind}
-use Rattle.sc_formed.specs.declared.operators.Kind.TheVariants as kind
-use Rattle.sc_formed.specs.Types.{is_plain_of, targets_alike, targets_join, is_promoted, is_int_of}
-use Rattle.sc_formed.specs.Values.{is_done, value, is_condition, is_integer_value, is_promoted_value, is_value_for}
-use Rattle.sc_formed.specs.Nodes.{writes}
+use Rattle.sc_laws.specs.declared.operators.Kind.{Kind}
+use Rattle.sc_laws.specs.declared.operators.Kind.TheVariants as kind
+use Rattle.sc_laws.specs.Types.{is_plain_of, targets_alike, targets_join, is_promoted, is_int_of}
+use Rattle.sc_laws.specs.Values.{is_done, value, is_condition, is_promoted_value, is_value_for}
+use Rattle.sc_laws.specs.Nodes.{writes}
 
 -- the operators with one rule each
 abbrev pub kind_of : Op → Kind

@@ -1,6 +1,6 @@
 use Rattle.std.proofs.Common.{◌≡◌, map, drop}
-use Rattle.sc_formed.specs.Needs.{need_of_piece, beside, all}
-use Rattle.sc_formed.proofs.needs.pieces.Given as goal
+use Rattle.sc_laws.specs.Needs.{need_of_piece, beside, all}
+use Rattle.sc_laws.proofs.needs.pieces.Given as goal
 
 -- what is to come stands beside what was seen
 abbrev pub invariant-loop-piece : goal.invariant-loop-piece

@@ -1,9 +1,9 @@
 use Rattle.std.proofs.Common.{◌≡◌, ℕ, List, map, ◌∙◌, ap}
 use Rattle.sc_core.specs.declared.expression.CoreExpr.{CoreExpr}
-use Rattle.sc_formed.specs.declared.needs.Need.{Need}
-use Rattle.sc_formed.specs.Needs.{need, beside, in_order, most}
-use Rattle.sc_formed.proofs.Trees.{called, call_needs}
-use Rattle.sc_formed.proofs.needs.+needs.Goals as goal
+use Rattle.sc_laws.specs.declared.needs.Need.{Need}
+use Rattle.sc_laws.specs.Needs.{need, beside, in_order, most}
+use Rattle.sc_laws.proofs.Calls.{called, call_needs}
+use Rattle.sc_laws.proofs.needs.+needs.Goals as goal
 
 pub need_of-returns-in-Call : goal.need_of-returns-in-Call
 need_of-returns-in-Call t c =

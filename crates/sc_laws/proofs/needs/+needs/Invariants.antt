@@ -1,6 +1,6 @@
 use Rattle.std.proofs.Common.{◌≡◌, ◌+◌, map, drop}
-use Rattle.sc_formed.specs.Needs.{need, beside, in_order}
-use Rattle.sc_formed.proofs.needs.+needs.Given as goal
+use Rattle.sc_laws.specs.Needs.{need, beside, in_order}
+use Rattle.sc_laws.proofs.needs.+needs.Given as goal
 
 -- what is to come stands beside what was seen
 abbrev pub invariant-arguments-loop-i : goal.invariant-arguments-loop-i

@@ -1,6 +1,6 @@
 use Rattle.std.proofs.Common.{◌≡◌, ◌≤◌, ◌<◌, ◌^◌, drop}
-use Rattle.sc_formed.specs.Nodes.{stands_among}
-use Rattle.sc_formed.proofs.nodes.stands_among.Given as goal
+use Rattle.sc_laws.specs.Nodes.{stands_among}
+use Rattle.sc_laws.proofs.nodes.stands_among.Given as goal
 
 -- what the rest gives from here is what all give from the beginning
 abbrev pub invariant-loop-member : goal.invariant-loop-member

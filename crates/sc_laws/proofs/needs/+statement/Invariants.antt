@@ -1,6 +1,6 @@
 use Rattle.std.proofs.Common.{◌≡◌, map, drop}
-use Rattle.sc_formed.specs.Needs.{need_of_statement, beside, all}
-use Rattle.sc_formed.proofs.needs.+statement.Given as goal
+use Rattle.sc_laws.specs.Needs.{need_of_statement, beside, all}
+use Rattle.sc_laws.proofs.needs.+statement.Given as goal
 
 -- what is to come stands beside what was seen
 abbrev pub invariant-statements-loop-s : goal.invariant-statements-loop-s

@@ -1,10 +1,8 @@
 -- The value of an operand, and what C converts by itself (ANSI 3.2).
 use Rattle.std.specs.Prelude.{Bool, true, false, not, ◌&&◌, ◌||◌, if◌then◌else◌, List}
-use Rattle.sc_base.specs.declared.integer.Int.{Int}
 use Rattle.sc_types.specs.declared.ctype.CType.{CType, out-CType}
 use Rattle.sc_types.specs.declared.ctype.CType.TheOpen.{CType-F}
 use Rattle.sc_types.specs.declared.ctype.StructDef.{StructDef}
-use Rattle.sc_types.specs.Compatibility.{same_int}
 use Rattle.sc_core.specs.declared.expression.CoreExpr.{CoreExpr, out-CoreExpr}
 use Rattle.sc_core.specs.declared.expression.CoreExpr.TheOpen.{CoreExpr-F}
 use Rattle.sc_core.specs.Types.{type_of}
@@ -13,7 +11,7 @@ use Rattle.sc_operand.specs.declared.shape.Shape.TheVariants as s
 use Rattle.sc_operand.specs.Types.{Level, shape, is_const, is_scalar}
 use Rattle.sc_operand.specs.Operands.{is_lvalue, is_place}
 use Rattle.sc_operand.specs.Constants.{is_null, is_zero, folded}
-use Rattle.sc_formed.specs.Types.{alike, is_promoted, takes_level}
+use Rattle.sc_laws.specs.Types.{alike, is_promoted, takes_level}
 
 -- no conversion is left to make (3.2.2.1): a scalar has been read, an array that could be is a pointer, a function too
 abbrev pub done_level : CoreExpr → Level → Bool
@@ -34,14 +32,6 @@ value structs e = if is_done e then shape structs (type_of e) else s.Other
 -- a value that can be compared with 0 (3.6.4.1)
 abbrev pub is_condition : List StructDef → CoreExpr → Bool
 is_condition structs e = is_scalar (value structs e)
-
-abbrev pub is_integer_shape : Int → Shape → Bool
-is_integer_shape k (s.Integer j) = same_int j k
-is_integer_shape k _ = false
-
--- a value of this integer type
-abbrev pub is_integer_value : List StructDef → Int → CoreExpr → Bool
-is_integer_value structs k e = is_integer_shape k (value structs e)
 
 abbrev pub is_promoted_shape : Shape → Bool
 is_promoted_shape (s.Integer k) = is_promoted k

@@ -1,6 +1,6 @@
 // Which types go together in a typed tree (ANSI 3.1.2.6, 3.2.2.3, 3.3.16.1).
 ghost use Rattle.std.specs.Prelude.{◌≡◌};
-ghost use Rattle.sc_formed.specs.Types as spec;
+ghost use Rattle.sc_laws.specs.Types as spec;
 ghost use Rattle.sc_types.specs.Compatibility.{same_int, same_length, same_bool};
 ghost use Rattle.sc_types.specs.declared.ctype.CType.{out-CType};
 
@@ -20,14 +20,15 @@ fn same_length(n: u32, m: u32) -> bool
     n == m || n == 0 || m == 0
 }
 
-pub(crate) fn same_bool(a: bool, b: bool) -> bool
+/// Whether two truth values are equal.
+pub fn same_bool(a: bool, b: bool) -> bool
     ensures { result ≡ same_bool a b }
 {
     a == b
 }
 
 /// Whether two types of a module are compatible, qualifiers and all.
-pub(crate) fn same(structs: &Structs, t: &CType, u: &CType) -> bool
+pub fn same(structs: &Structs, t: &CType, u: &CType) -> bool
     ensures { result ≡ spec.same structs.now t.now u.now }
 {
     compatible(t, structs, u, structs, true)

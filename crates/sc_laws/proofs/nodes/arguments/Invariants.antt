@@ -1,6 +1,6 @@
 use Rattle.std.proofs.Common.{◌≡◌, drop}
-use Rattle.sc_formed.specs.Nodes.{arguments}
-use Rattle.sc_formed.proofs.nodes.arguments.Given as goal
+use Rattle.sc_laws.specs.Nodes.{arguments}
+use Rattle.sc_laws.proofs.nodes.arguments.Given as goal
 
 -- what the rest gives from here is what all give from the beginning
 abbrev pub invariant-loop-i : goal.invariant-loop-i

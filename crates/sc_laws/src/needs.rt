@@ -1,6 +1,6 @@
 // What a function's frame keeps room for.
 ghost use Rattle.std.specs.Prelude.{◌≡◌, ◌≤◌, min, length, map};
-ghost use Rattle.sc_formed.specs.Needs as spec;
+ghost use Rattle.sc_laws.specs.Needs as spec;
 
 use sc_base::Shared;
 use sc_core::{AutoInit, CoreExpr, CoreStmt};

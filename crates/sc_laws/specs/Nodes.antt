@@ -24,8 +24,8 @@ use Rattle.sc_operand.specs.declared.shape.Shape.TheVariants as s
 use Rattle.sc_operand.specs.Types.{Level, shape, is_const, is_function, is_array, is_void, is_pointer, is_scalar}
 use Rattle.sc_operand.specs.Operands.{is_lvalue}
 use Rattle.sc_operand.specs.Constants.{is_null, is_zero, folded}
-use Rattle.sc_formed.specs.Types.{same, alike, is_plain_of, is_member_type, targets_alike, targets_join, points_to, is_promoted, is_int_of}
-use Rattle.sc_formed.specs.Values.{is_done, value, is_condition, is_integer_value, is_promoted_value, is_value_for}
+use Rattle.sc_laws.specs.Types.{same, alike, is_plain_of, is_member_type, targets_alike, targets_join, points_to, is_promoted, is_int_of}
+use Rattle.sc_laws.specs.Values.{is_done, value, is_condition, is_promoted_value, is_value_for}
 
 abbrev pub number_level : Level → ℕ → Bool
 number_level (CType-F.Int k c) n = not c && converted n k == n

@@ -6,7 +6,7 @@ use Rattle.sc_core.specs.declared.statement.AutoInit.{AutoInit}
 use Rattle.sc_core.specs.declared.statement.AutoInit.TheVariants as piece
 use Rattle.sc_core.specs.declared.statement.CoreStmt.{CoreStmt, fold-CoreStmt}
 use Rattle.sc_core.specs.declared.statement.CoreStmt.TheOpen.{CoreStmt-F}
-use Rattle.sc_formed.specs.declared.needs.Need.{Need}
+use Rattle.sc_laws.specs.declared.needs.Need.{Need}
 
 -- numbers above are counted as this one
 abbrev pub most : ℕ

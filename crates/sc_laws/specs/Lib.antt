@@ -1,0 +1,5 @@
+pub mod Types
+pub mod Values
+pub mod Nodes
+pub mod Operators
+pub mod Needs
