@@ -1,0 +1,56 @@
+-- What it is for a module to be translated, and for its text to be refused (ANSI 2.1.1.2).
+use Rattle.std.specs.Prelude.{◌≡◌, ℕ, ◌<◌, true, List, Option, Some, None, Result, Ok, Err, IsSomeAnd, ⊤}
+use Rattle.sc_base.specs.declared.refusal.Refusal.{Refusal}
+use Rattle.sc_base.specs.declared.refusal.X.{X}
+use Rattle.sc_core.specs.declared.module.Core.{Core}
+use Rattle.sc_formed.specs.Formed.{formed}
+use Rattle.sc_lex.specs.declared.token.Token.{Token}
+use Rattle.sc_outside.specs.Causes.{Rose}
+use Rattle.sc_outside.specs.Stored.{FileMap}
+use Rattle.sc_pp.specs.declared.unit.PpFault.{PpFault}
+use Rattle.sc_pp.specs.declared.unit.PpFault.TheVariants as pp
+use Rattle.sc_pp.specs.Preprocessing.{preprocessed}
+use Rattle.sc_pp.specs.Answers.{Known}
+use Rattle.sc_token.specs.Symbols.{symbols}
+use Rattle.sc_tree.specs.declared.statement.External.{External}
+use Rattle.sc_unit.specs.Machine.{start}
+use Rattle.sc_unit.specs.Parse.{answer}
+use Rattle.sc_build.specs.declared.build.BuildFault.{BuildFault}
+use Rattle.sc_build.specs.declared.build.BuildFault.TheVariants as fault
+
+-- what preprocessing answers to a file, where the files are known
+abbrev pub Reads : Option FileMap → List ℕ → Result (List Token) PpFault → Type 0
+Reads held file outcome = Known held (λ map. preprocessed map file ≡ outcome)
+
+-- the tokens are a unit of the grammar, which has these functions and declarations
+abbrev pub IsUnit : List Token → List External → Type 0
+IsUnit tokens items = answer 0 1 start (symbols tokens) ≡ Ok items
+
+-- The module in a file: its tokens, which are a unit, and of which the rules of types make a module.
+pub record Builds (held : Option FileMap) (file name : List ℕ) (core : Core) : Type 0 where
+  pub tokens : List Token
+  pub items : List External
+  pub reads : Reads held file (Ok tokens)
+  pub parses : IsUnit tokens items
+  pub named : core.name ≡ name
+  pub formed : formed core ≡ true
+
+-- Where the first refusal of a file comes from: preprocessing; the grammar, where preprocessing refuses nothing; the rules
+-- of types, where the grammar refuses nothing.
+pub data Refuses (held : Option FileMap) (file : List ℕ) : Refusal → Type 0 where
+  in_preprocessing : (r : Refusal) → Reads held file (Err (pp.Refused r)) → Refuses held file r
+  in_grammar : (tokens : List Token) (kind : X) (line : ℕ) → Reads held file (Ok tokens) → answer 0 1 start (symbols tokens) ≡ Err (kind, line) → Refuses held file (record { kind = kind; file = file; line = line })
+  in_types : (tokens : List Token) (items : List External) (kind : X) (line : ℕ) → Reads held file (Ok tokens) → IsUnit tokens items → Refuses held file (record { kind = kind; file = file; line = line })
+
+-- what the code answers
+abbrev pub Answers : Option FileMap → ℕ → ℕ → List ℕ → List ℕ → Result Core BuildFault → Type 0
+Answers held before now file name (Ok core) = Builds held file name core
+Answers held before now file name (Err (fault.Refused r)) = Refuses held file r
+Answers held before now file name (Err fault.Missing) = Reads held file (Err pp.Missing)
+Answers held before now file name (Err fault.TooLong) = Reads held file (Err pp.TooLong)
+Answers held before now file name (Err (fault.File asked)) = Rose before now
+Answers held before now file name (Err fault.NoMemory) = ⊤
+
+-- the same behind preprocessing
+abbrev pub Checks : List Token → List ℕ → List ℕ → Result Core BuildFault → Type 0
+Checks tokens file name result = (held : Option FileMap) (before now : ℕ) → Reads held file (Ok tokens) → Answers held before now file name result
