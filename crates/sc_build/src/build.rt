@@ -1,4 +1,7 @@
 // A module is translated (ANSI 2.1.1.2).
+ghost use Rattle.std.specs.Prelude.{◌≡◌, ◌≤◌, List};
+ghost use Rattle.sc_lex.specs.declared.token.Token.{Token};
+ghost use Rattle.sc_build.specs.Builds.{Answers, Checks, IsUnit, InFile, of_files};
 
 use sc_base::{Bytes, Fault, Items, Name, Refusal};
 use sc_check::check;
@@ -22,7 +25,9 @@ pub enum BuildFault {
 }
 
 // What preprocessing fails with.
-fn of_files(fault: PpFault) -> BuildFault {
+fn of_files(fault: PpFault) -> BuildFault
+    ensures { result ≡ of_files fault }
+{
     match fault {
         PpFault::Refused(refusal) => BuildFault::Refused(refusal),
         PpFault::Missing => BuildFault::Missing,
@@ -33,7 +38,9 @@ fn of_files(fault: PpFault) -> BuildFault {
 }
 
 // A refusal of the grammar or of the rules of types, which stands in the module's own file.
-fn in_file(alloc: Global, file: &str, fault: Fault) -> BuildFault {
+fn in_file(alloc: Global, file: &str, fault: Fault) -> BuildFault
+    ensures { InFile file.now fault result }
+{
     match fault {
         Fault::NoMemory => BuildFault::NoMemory,
         Fault::Refused(refusal) => match Bytes::from_slice(alloc, file.as_bytes()) {
@@ -47,8 +54,10 @@ fn in_file(alloc: Global, file: &str, fault: Fault) -> BuildFault {
     }
 }
 
-// The module of some tokens.
-fn checked(alloc: Global, name: &Name, file: &str, unit: Unit) -> Result<Core, BuildFault> {
+// The module of a unit.
+fn checked(alloc: Global, name: &Name, file: &str, unit: Unit) -> Result<Core, BuildFault>
+    ensures { (tokens : List Token) → IsUnit tokens unit.items → Checks tokens file.now name.now result }
+{
     let outcome = check(alloc, name, &unit);
     drop(unit);
     match outcome {
@@ -58,7 +67,9 @@ fn checked(alloc: Global, name: &Name, file: &str, unit: Unit) -> Result<Core, B
 }
 
 // The module of some tokens.
-fn parsed(alloc: Global, name: &Name, file: &str, tokens: &[Token]) -> Result<Core, BuildFault> {
+fn parsed(alloc: Global, name: &Name, file: &str, tokens: &[Token]) -> Result<Core, BuildFault>
+    ensures { Checks tokens.now file.now name.now result }
+{
     match parse(alloc, tokens) {
         Ok(unit) => checked(alloc, name, file, unit),
         Err(fault) => Err(in_file(alloc, file, fault)),
@@ -73,7 +84,11 @@ pub fn build<F: Files>(
     name: &Name,
     file: &str,
     files: &mut F,
-) -> Result<Core, BuildFault> {
+) -> Result<Core, BuildFault>
+    ensures answers { Answers (F.held files.old) (F.faults files.old) (F.faults files.new) file.now name.now result }
+    ensures held { F.held files.new ≡ F.held files.old }
+    ensures later { F.faults files.old ≤ F.faults files.new }
+{
     match preprocess(alloc, file, files) {
         Ok(tokens) => parsed(alloc, name, file, tokens.as_slice()),
         Err(fault) => Err(of_files(fault)),

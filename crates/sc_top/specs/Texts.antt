@@ -9,6 +9,8 @@ use Rattle.sc_top.specs.declared.answer.Answer.{Answer}
 use Rattle.sc_top.specs.declared.answer.Answer.TheVariants as answer
 use Rattle.sc_top.specs.declared.answer.Denied.{Denied}
 use Rattle.sc_top.specs.declared.answer.Denied.TheVariants as denied
+use Rattle.sc_top.specs.declared.joining.Conflict.{Conflict}
+use Rattle.sc_top.specs.declared.joining.Conflict.TheVariants as conflict
 
 -- the kind of a refusal, with its word
 abbrev pub kind_text : X → List ℕ
@@ -31,18 +33,21 @@ area_text area.Modules = codes "C14 modules"
 area_text area.Stubs = codes "C14 stubs"
 area_text area.Static = codes "C14 static"
 
+abbrev pub conflict_text : Conflict → List ℕ
+conflict_text (conflict.Doubled name other) = codes "C6 " ++ name ++ codes " " ++ other
+conflict_text (conflict.Clash name other) = codes "C7 " ++ name ++ codes " " ++ other
+conflict_text (conflict.Space a) = area_text a
+
 abbrev pub denied_text : Denied → List ℕ
 denied_text denied.UnknownCommand = codes "C1"
 denied_text denied.BadArguments = codes "C2"
 denied_text denied.ModuleThere = codes "C4"
 denied_text (denied.Translation r) = refusal_text r
-denied_text (denied.Doubled name other) = codes "C6 " ++ name ++ codes " " ++ other
-denied_text (denied.Clash name other) = codes "C7 " ++ name ++ codes " " ++ other
+denied_text (denied.Conflict c) = conflict_text c
 denied_text (denied.NoFile file) = codes "C8 " ++ file
 denied_text denied.RunActive = codes "C10"
 denied_text denied.NotAtStop = codes "C12"
 denied_text denied.NoMain = codes "C13"
-denied_text (denied.Space a) = area_text a
 denied_text (denied.FileFault file) = codes "C15 " ++ file
 denied_text (denied.TooLong file) = codes "C19 " ++ file
 
