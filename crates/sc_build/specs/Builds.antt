@@ -29,6 +29,13 @@ Reads held file outcome = Known held (λ map. preprocessed map file ≡ outcome)
 abbrev pub IsUnit : List Token → List External → Type 0
 IsUnit tokens items = answer 0 1 start (symbols tokens) ≡ Ok items
 
+-- there is no such file, or it is longer than a file may be
+abbrev pub IsMissing : Option FileMap → List ℕ → Type 0
+IsMissing held file = Reads held file (Err pp.Missing)
+
+abbrev pub IsTooLong : Option FileMap → List ℕ → Type 0
+IsTooLong held file = Reads held file (Err pp.TooLong)
+
 -- preprocessing asks for this file
 abbrev pub Asks : Option FileMap → List ℕ → List ℕ → Type 0
 Asks held file asked = Known held (λ map. Contains (asked_in map file) asked)
@@ -53,8 +60,8 @@ pub data Refuses (held : Option FileMap) (file : List ℕ) : Refusal → Type 0 
 abbrev pub Answers : Option FileMap → ℕ → ℕ → List ℕ → List ℕ → Result Core BuildFault → Type 0
 Answers held before now file name (Ok core) = Builds held file name core
 Answers held before now file name (Err (fault.Refused r)) = Refuses held file r
-Answers held before now file name (Err fault.Missing) = Reads held file (Err pp.Missing)
-Answers held before now file name (Err fault.TooLong) = Reads held file (Err pp.TooLong)
+Answers held before now file name (Err fault.Missing) = IsMissing held file
+Answers held before now file name (Err fault.TooLong) = IsTooLong held file
 Answers held before now file name (Err (fault.File asked)) = Asks held file asked × Rose before now
 Answers held before now file name (Err fault.NoMemory) = ⊤
 

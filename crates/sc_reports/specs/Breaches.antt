@@ -1,5 +1,5 @@
 -- What is said of an undefined step.
-use Rattle.std.specs.Prelude.{ℕ, zero, suc, ◌++◌, List, [], ◌∷◌, Option, Some, None, codes, decimal}
+use Rattle.std.specs.Prelude.{ℕ, ◌++◌, ◌==◌, if◌then◌else◌, List, [], ◌∷◌, Option, Some, None, codes, decimal}
 use Rattle.sc_base.specs.declared.integer.Int.{Int}
 use Rattle.sc_base.specs.declared.integer.Int.TheVariants.{UInt}
 use Rattle.sc_base.specs.declared.key.Key.{Key}
@@ -35,22 +35,25 @@ operands_text b objects =
     ++ codes " right " ++ value_text objects (operand b.rule b.op b.right_int) b.right
 
 -- An access has bytes, an operator has none.
-abbrev pub access_or_operands : ℕ → Breach → List Object → List ℕ
-access_or_operands zero b objects = operands_text b objects
-access_or_operands (suc size) b objects = codes " " ++ access_text b.at ++ codes " size " ++ decimal (suc size)
+abbrev pub access_or_operands : Breach → List Object → List ℕ
+access_or_operands b objects =
+    if b.size == 0 then operands_text b objects else codes " " ++ access_text b.at ++ codes " size " ++ decimal b.size
 
 abbrev pub name_text : Option Key → List ℕ
 name_text None = []
 name_text (Some key) = key_text key
 
 -- what is said of an undefined step behind its place
+abbrev pub call_text : Breach → List ℕ
+call_text b = codes " call " ++ name_text b.name ++ codes " argument " ++ decimal b.argument
+
 abbrev pub tail_text : Rule → Breach → List Object → List ℕ
 tail_text rule.U12 b objects = codes " value " ++ value_text objects shown.Address b.left
 tail_text rule.U13 b objects = []
 tail_text rule.U14 b objects = codes " value " ++ value_text objects shown.Address b.left
-tail_text rule.U16 b objects = codes " call " ++ name_text b.name ++ codes " argument " ++ decimal b.argument
+tail_text rule.U16 b objects = call_text b
 tail_text rule.U17 b objects = codes " name " ++ name_text b.name
-tail_text _ b objects = access_or_operands b.size b objects
+tail_text _ b objects = access_or_operands b objects
 
 -- the module of the innermost call
 abbrev pub home_of : List Frame → List ℕ

@@ -28,12 +28,15 @@ stop_text turns ended.OutOfSteps w = Some (codes "paused after " ++ decimal turn
 stop_text turns ended.NoRoom w = None
 
 -- a line that is not ended yet is ended before an answer
-abbrev pub line_end_after : Option ℕ → List ℕ
-line_end_after None = []
-line_end_after (Some b) = if b == 10 then [] else 10 ∷ []
+abbrev pub line_end_behind : Option ℕ → List ℕ
+line_end_behind None = []
+line_end_behind (Some b) = if b == 10 then [] else 10 ∷ []
+
+abbrev pub line_end_after : List ℕ → List ℕ
+line_end_after bytes = line_end_behind (slice_get bytes (length bytes - 1))
 
 abbrev pub on_new_line : List ℕ → List ℕ → List ℕ
-on_new_line bytes said = bytes ++ line_end_after (slice_get bytes (length bytes - 1)) ++ codes "> " ++ said ++ codes "\n"
+on_new_line bytes said = bytes ++ line_end_after bytes ++ codes "> " ++ said ++ codes "\n"
 
 abbrev pub behind_output : List ℕ → Option (List ℕ) → Option (List ℕ)
 behind_output bytes None = None

@@ -1,5 +1,5 @@
 -- How values are shown: numbers, pointers and functions.
-use Rattle.std.specs.Prelude.{ℕ, zero, suc, ◌++◌, ◌==◌, Bool, true, false, if◌then◌else◌, List, [], Option, Some, None, codes, decimal}
+use Rattle.std.specs.Prelude.{ℕ, ◌++◌, ◌==◌, Bool, true, false, if◌then◌else◌, List, [], Option, Some, None, codes, decimal}
 use Rattle.std.specs.Fmt.{signed_decimal}
 use Rattle.sc_base.specs.declared.integer.Int.{Int}
 use Rattle.sc_ops.specs.Numbers.{number_of}
@@ -20,14 +20,19 @@ abbrev pub life_text : Option Object → List ℕ
 life_text None = codes "dead "
 life_text (Some o) = if o.live then [] else codes "dead "
 
+abbrev pub pointer_text : List Object → ℕ → ℕ → List ℕ
+pointer_text objects o i = life_text (object_at objects o) ++ codes "object " ++ decimal o ++ codes " + " ++ decimal i
+
 abbrev pub value_text : List Object → Shown → Value → List ℕ
 value_text objects how (Number n) = number_text how n
 value_text objects how (FunctionAt key) = codes "function " ++ key_text key
-value_text objects how (Pointer o i) = life_text (object_at objects o) ++ codes "object " ++ decimal o ++ codes " + " ++ decimal i
+value_text objects how (Pointer o i) = pointer_text objects o i
 
 -- the place of an access
+abbrev pub no_place_text : ℕ → List ℕ
+no_place_text n = if n == 0 then codes "null" else codes "number " ++ decimal n
+
 abbrev pub access_text : Value → List ℕ
-access_text (Number zero) = codes "null"
-access_text (Number (suc n)) = codes "number " ++ decimal (suc n)
+access_text (Number n) = no_place_text n
 access_text (FunctionAt key) = codes "function " ++ key_text key
 access_text (Pointer o i) = codes "object " ++ decimal o ++ codes " offset " ++ decimal i

@@ -65,7 +65,7 @@ fn operands_text(alloc: Global, b: &Breach, objects: &[Object]) -> Result<Vec<u8
 }
 
 fn access_or_operands(alloc: Global, b: &Breach, objects: &[Object]) -> Result<Vec<u8>, NoMemory>
-    ensures { IfOk result (λ text. text.items ≡ spec.access_or_operands b.now.size b.now objects.now) }
+    ensures { IfOk result (λ text. text.items ≡ spec.access_or_operands b.now objects.now) }
 {
     if b.size == 0 {
         return operands_text(alloc, b, objects);
@@ -99,7 +99,7 @@ fn value_tail(alloc: Global, v: &Value, objects: &[Object]) -> Result<Vec<u8>, N
 }
 
 fn call_tail(alloc: Global, b: &Breach) -> Result<Vec<u8>, NoMemory>
-    ensures { IfOk result (λ text. text.items ≡ spec.tail_text Rule.U16 b.now []) }
+    ensures { IfOk result (λ text. text.items ≡ spec.call_text b.now) }
 {
     let name = name_text(alloc, &b.name)?;
     let mut text = Vec::new(alloc);
@@ -111,7 +111,7 @@ fn call_tail(alloc: Global, b: &Breach) -> Result<Vec<u8>, NoMemory>
 }
 
 fn name_tail(alloc: Global, b: &Breach) -> Result<Vec<u8>, NoMemory>
-    ensures { IfOk result (λ text. text.items ≡ spec.tail_text Rule.U17 b.now []) }
+    ensures { IfOk result (λ text. text.items ≡ codes " name " ++ spec.name_text b.now.name) }
 {
     let name = name_text(alloc, &b.name)?;
     let mut text = Vec::new(alloc);

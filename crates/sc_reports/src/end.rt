@@ -27,14 +27,18 @@ fn output_of(alloc: Global, trail: &[Item]) -> Result<Vec<u8>, NoMemory>
     Ok(bytes)
 }
 
-fn byte_of(item: &Item) -> Option<u8> {
+fn byte_of(item: &Item) -> Option<u8>
+    ensures { spec.bytes_of item.now ≡ list_of result }
+{
     match &item.change {
         Change::Happens(event) => shown_byte(event),
         _ => None,
     }
 }
 
-fn shown_byte(event: &Event) -> Option<u8> {
+fn shown_byte(event: &Event) -> Option<u8>
+    ensures { spec.bytes_of (Happens event.now) ≡ list_of result }
+{
     match &event.showing {
         Showing::Out(b) => Some(*b),
         _ => None,
@@ -97,7 +101,9 @@ fn stop_text(
 }
 
 // A line that is not ended yet is ended before an answer.
-fn line_end_after(bytes: &[u8]) -> &'static [u8] {
+fn line_end_after(bytes: &[u8]) -> &'static [u8]
+    ensures { result.now ≡ spec.line_end_after bytes.now }
+{
     match bytes.last() {
         None => b"",
         Some(b) => {

@@ -1,6 +1,9 @@
 // How values are shown: numbers, pointers and functions.
-ghost use Rattle.std.specs.Prelude.{◌≡◌, IfOk};
+ghost use Rattle.std.specs.Prelude.{◌≡◌, ◌++◌, IfOk, codes, decimal};
+ghost use Rattle.std.specs.Fmt.{signed_decimal};
+ghost use Rattle.sc_meaning.specs.World.{object_at as at};
 ghost use Rattle.sc_reports.specs.Places as spec;
+ghost use Rattle.sc_reports.specs.Words.{key_text};
 
 use crate::word::{put, put_decimal, put_key, put_signed};
 use sc_base::{Int, Key, NoMemory};
@@ -21,26 +24,52 @@ pub enum Shown {
 pub fn number_text(alloc: Global, how: Shown, n: u32) -> Result<Vec<u8>, NoMemory>
     ensures { IfOk result (λ text. text.items ≡ spec.number_text how n) }
 {
-    let mut text = Vec::new(alloc);
     match how {
-        Shown::Integer(i) => put_signed(&mut text, alloc, number_of(i, n))?,
-        Shown::Bits => put_decimal(&mut text, alloc, n)?,
-        Shown::Address => put_address(&mut text, alloc, n)?,
+        Shown::Integer(i) => integer_text(alloc, number_of(i, n)),
+        Shown::Bits => decimal_text(alloc, n),
+        Shown::Address => address_text(alloc, n),
     }
+}
+
+fn integer_text(alloc: Global, n: i64) -> Result<Vec<u8>, NoMemory>
+    ensures { IfOk result (λ text. text.items ≡ signed_decimal n) }
+{
+    let mut text = Vec::new(alloc);
+    put_signed(&mut text, alloc, n)?;
     Ok(text)
 }
 
-fn put_address(text: &mut Vec<u8>, alloc: Global, n: u32) -> Result<(), NoMemory> {
+fn decimal_text(alloc: Global, n: u32) -> Result<Vec<u8>, NoMemory>
+    ensures { IfOk result (λ text. text.items ≡ decimal n) }
+{
+    let mut text = Vec::new(alloc);
+    put_decimal(&mut text, alloc, n)?;
+    Ok(text)
+}
+
+fn null_text(alloc: Global) -> Result<Vec<u8>, NoMemory>
+    ensures { IfOk result (λ text. text.items ≡ codes "null") }
+{
+    let mut text = Vec::new(alloc);
+    put(&mut text, b"null")?;
+    Ok(text)
+}
+
+fn address_text(alloc: Global, n: u32) -> Result<Vec<u8>, NoMemory>
+    ensures { IfOk result (λ text. text.items ≡ spec.number_text Shown.Address n) }
+{
     if n == 0 {
-        put(text, b"null")
+        null_text(alloc)
     } else {
-        put_decimal(text, alloc, n)
+        decimal_text(alloc, n)
     }
 }
 
-/// Nothing for an object that lives.
-fn life_text(object: Option<&Object>) -> &'static [u8] {
-    match object {
+// Nothing for an object that lives.
+fn life_text(objects: &[Object], id: u32) -> &'static [u8]
+    ensures { result.now ≡ spec.life_text (at objects.now id) }
+{
+    match object_at(objects, id) {
         Some(o) => {
             if o.live { b"" } else { b"dead " }
         }
@@ -48,16 +77,20 @@ fn life_text(object: Option<&Object>) -> &'static [u8] {
     }
 }
 
-fn function_text(alloc: Global, key: &Key) -> Result<Vec<u8>, NoMemory> {
+fn function_text(alloc: Global, key: &Key) -> Result<Vec<u8>, NoMemory>
+    ensures { IfOk result (λ text. text.items ≡ codes "function " ++ key_text key.now) }
+{
     let mut text = Vec::new(alloc);
     put(&mut text, b"function ")?;
     put_key(&mut text, alloc, key)?;
     Ok(text)
 }
 
-fn pointer_text(alloc: Global, objects: &[Object], o: u32, i: u32) -> Result<Vec<u8>, NoMemory> {
+fn pointer_text(alloc: Global, objects: &[Object], o: u32, i: u32) -> Result<Vec<u8>, NoMemory>
+    ensures { IfOk result (λ text. text.items ≡ spec.pointer_text objects.now o i) }
+{
     let mut text = Vec::new(alloc);
-    put(&mut text, life_text(object_at(objects, o)))?;
+    put(&mut text, life_text(objects, o))?;
     put(&mut text, b"object ")?;
     put_decimal(&mut text, alloc, o)?;
     put(&mut text, b" + ")?;
@@ -81,7 +114,9 @@ pub fn value_text(
     }
 }
 
-fn place_text(alloc: Global, o: u32, i: u32) -> Result<Vec<u8>, NoMemory> {
+fn place_text(alloc: Global, o: u32, i: u32) -> Result<Vec<u8>, NoMemory>
+    ensures { IfOk result (λ text. text.items ≡ codes "object " ++ decimal o ++ codes " offset " ++ decimal i) }
+{
     let mut text = Vec::new(alloc);
     put(&mut text, b"object ")?;
     put_decimal(&mut text, alloc, o)?;
@@ -90,14 +125,22 @@ fn place_text(alloc: Global, o: u32, i: u32) -> Result<Vec<u8>, NoMemory> {
     Ok(text)
 }
 
-fn no_place_text(alloc: Global, n: u32) -> Result<Vec<u8>, NoMemory> {
-    let mut text = Vec::new(alloc);
+fn no_place_text(alloc: Global, n: u32) -> Result<Vec<u8>, NoMemory>
+    ensures { IfOk result (λ text. text.items ≡ spec.no_place_text n) }
+{
     if n == 0 {
-        put(&mut text, b"null")?;
+        null_text(alloc)
     } else {
-        put(&mut text, b"number ")?;
-        put_decimal(&mut text, alloc, n)?;
+        numbered_text(alloc, n)
     }
+}
+
+fn numbered_text(alloc: Global, n: u32) -> Result<Vec<u8>, NoMemory>
+    ensures { IfOk result (λ text. text.items ≡ codes "number " ++ decimal n) }
+{
+    let mut text = Vec::new(alloc);
+    put(&mut text, b"number ")?;
+    put_decimal(&mut text, alloc, n)?;
     Ok(text)
 }
 

@@ -58,7 +58,7 @@ fn clash_or_full(
 }
 
 /// Why a module, with which the modules take this room, does not go with those that are present.
-pub fn conflict(
+pub fn conflict_of(
     alloc: Global,
     texts: &[Text],
     core: &Core,
