@@ -4,7 +4,7 @@ use sc_meaning::LibFun;
 use sc_plain_leaves::Stop;
 use sc_plain_library::library_call;
 use sc_plain_parts::set_bytes;
-use sc_plain_world::{Change, Frame, Showing, World};
+use sc_plain_world::{Frame, World};
 use sc_values::{Answer, Held, Shape, Value};
 use std::alloc::Global;
 use std::test::Fail;
@@ -92,12 +92,8 @@ fn seen_of(world: &mut World, f: LibFun, vs: &[Value]) -> Result<Seen, NoMemory>
 // The bytes that were written, in their order.
 fn written(alloc: Global, world: &World) -> Result<Vec<u8>, NoMemory> {
     let mut bytes = Vec::new(alloc);
-    for item in world.trail() {
-        if let Change::Happens(event) = &item.change {
-            if let Showing::Out(b) = &event.showing {
-                bytes.push(*b)?;
-            }
-        }
+    for b in world.output() {
+        bytes.push(*b)?;
     }
     Ok(bytes)
 }

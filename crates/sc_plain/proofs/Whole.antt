@@ -1,5 +1,5 @@
 -- From a run's steps to what the whole program does.
-use Rattle.std.proofs.Common.{◌≡◌, ℕ, zero, suc, ◌+◌, ◌<◌, List, [], refl, ap, sym, subst, ◌∙◌, arith, add-one, Option, Some, None, Result, Ok, Err}
+use Rattle.std.proofs.Common.{◌≡◌, ℕ, zero, suc, ◌+◌, ◌<◌, Bool, true, false, List, [], refl, ap, sym, subst, ◌∙◌, arith, add-one, Option, Some, None, Result, Ok, Err}
 use Rattle.std.specs.Result.{IsErrAnd}
 use Rattle.std.proofs.lemmas.Result.{err_from_is_err_and}
 use Rattle.sc_meaning.specs.World.{World, tick}
@@ -17,13 +17,17 @@ use Rattle.sc_plain_leaves.specs.declared.stop.Stop.{Stop}
 use Rattle.sc_plain_leaves.specs.Gives.{ending_of, Stops}
 use Rattle.sc_plain.specs.declared.drive.Reached.{Reached}
 use Rattle.sc_plain.specs.declared.going.Going.{Going}
-use Rattle.sc_plain.specs.Steps.{Brings, Steps}
+use Rattle.sc_plain.specs.declared.drive.Reached.TheVariants as reached
+use Rattle.sc_plain.specs.Steps.{Brings, Steps, is_over}
 use Rattle.sc_plain.specs.declared.running.Ended.{Ended}
 use Rattle.sc_plain.specs.declared.running.Ended.TheVariants as ended
 use Rattle.sc_plain.specs.Ends.{Finishes}
 use Rattle.sc_plain.specs.Steady as steady
 use Rattle.sc_plain.specs.Steady.{alone}
 use Rattle.sc_plain.proofs.Unchanged.{quiet, present, callee_step, same_run}
+
+not_both : (b : Bool) → b ≡ false → b ≡ true → ⊥
+not_both b p q = cc
 
 -- where nothing is left to be done, steps change nothing
 pub stays_answered : (k : ℕ) (h : History) (texts : List Text) (a : Answer) (w : World) → steady.ran k h texts (Answers a [] w) ≡ Answers a [] w
@@ -34,8 +38,10 @@ pub stays_ended : (k : ℕ) (h : History) (texts : List Text) (e : Ending) → s
 stays_ended zero h texts e = refl
 stays_ended (suc k) h texts e = stays_ended k h texts e
 
-pub brought : (k : ℕ) (h : History) (texts : List Text) (s : State) (a : Answer) (cs : List Caller) (w : World) → s ≡ Answers a cs w → cs ≡ [] → steady.ran k h texts s ≡ Answers a [] w
-brought k h texts s a cs w p q = ap (steady.ran k h texts) (p ∙ ap (λ cs. Answers a cs w) q) ∙ stays_answered k h texts a w
+-- a run that is over is where it is after any more steps
+pub over_there : (k : ℕ) (h : History) (texts : List Text) (t : State) (r : Reached) (w : World) → Brings t (Ok r) w → is_over t ≡ true → Brings (steady.ran k h texts t) (Ok r) w
+over_there k h texts t (reached.Answer a) w p over = ap (steady.ran k h texts) p ∙ stays_answered k h texts a w
+over_there k h texts t reached.Nowhere w p over = absurd (not_both (is_over t) p over)
 
 pub ended_there : (k : ℕ) (h : History) (texts : List Text) (s : State) (e : Ending) → s ≡ Ends e → steady.ran k h texts s ≡ Ends e
 ended_there k h texts s e p = ap (steady.ran k h texts) p ∙ stays_ended k h texts e
@@ -43,6 +49,10 @@ ended_there k h texts s e p = ap (steady.ran k h texts) p ∙ stays_ended k h te
 -- one step of those that are left
 pub one_less : (k j : ℕ) (h : History) (texts : List Text) (s : State) → k ≡ j + 1 → steady.ran k h texts s ≡ steady.ran j h texts (steady.advance h texts s)
 one_less k j h texts s is = ap (λ n. steady.ran n h texts s) (is ∙ add-one j)
+
+-- no steps are left
+pub none_left : (k : ℕ) (h : History) (texts : List Text) (t : State) (r : Result Reached Stop) (w : World) → k ≡ 0 → Brings t r w → Brings (steady.ran k h texts t) r w
+none_left k h texts t r w is = subst (λ k. Brings (steady.ran k h texts t) r w) (sym is)
 
 -- a step from a state that is another one
 pub from_there : (h : History) (texts : List Text) (s t : State) (r : Result Going Stop) (cs : List Caller) (w : World) → s ≡ t → Steps (steady.advance h texts t) r cs w → Steps (steady.advance h texts s) r cs w

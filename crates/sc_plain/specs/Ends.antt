@@ -1,16 +1,18 @@
 -- How the program says that a run ended.
-use Rattle.std.specs.Prelude.{◌≡◌, ℕ, ◌<◌, List, Option, Some, None, Result, Ok, Err}
-use Rattle.sc_meaning.specs.World.{World}
-use Rattle.sc_meaning.specs.Outcomes.{Ending, Exit, Undefined, StackFull, BirthLimit}
-use Rattle.sc_meaning.specs.Versions.{Text}
-use Rattle.sc_meaning.specs.Behaviour.{Start, ending}
+use Rattle.std.specs.Prelude.{◌≡◌, ℕ, ◌<◌, false, List, [], Option, Some, None, Result, Ok, Err}
+use Rattle.sc_meaning.specs.World.{World, tick}
+use Rattle.sc_meaning.specs.Outcomes.{Done, Ending, Exit, Undefined, StackFull, BirthLimit}
+use Rattle.sc_meaning.specs.Versions.{Text, callee_of}
+use Rattle.sc_meaning.specs.Changes.{statics_born}
+use Rattle.sc_meaning.specs.Behaviour.{Start, ending, first_world, main_key}
 use Rattle.sc_plain_leaves.specs.declared.stop.Stop.{Stop}
 use Rattle.sc_plain_leaves.specs.Gives.{ending_of}
 use Rattle.sc_plain.specs.declared.running.Ended.{Ended}
 use Rattle.sc_plain.specs.declared.running.Ended.TheVariants as ended
-use Rattle.sc_plain.specs.Steady.{alone}
+use Rattle.sc_plain.specs.Steady.{alone, callee_next, ran}
+use Rattle.sc_plain.specs.Steps.{is_over}
 
--- nothing is said where no room was left, or where the steps were used up
+-- no end is said where no room was left, or where the steps were used up
 abbrev pub end_of : Ended → World → Option Ending
 end_of (ended.Exit status) w = Some (Exit status w)
 end_of (ended.Undefined b) w = Some (Undefined b w)
@@ -31,3 +33,23 @@ EndsSo steps s ended w = (n : ℕ) → steps < n → (e : Ending) → end_of end
 abbrev pub Finishes : ℕ → Start → Result Ended Stop → World → Type 0
 Finishes steps s (Ok ended) w = EndsSo steps s ended w
 Finishes steps s (Err stop) w = (n : ℕ) → steps < n → (e : Ending) → ending_of stop w ≡ Some e → ending n s ≡ e
+
+-- the run is not over after these steps of the call of main, behind the births
+abbrev pub LastsLonger : ℕ → List Text → Start → Type 0
+LastsLonger steps texts s =
+    (born : World) × (statics_born texts (first_world s) ≡ Done tt born)
+    × (is_over (ran steps (alone texts) texts (callee_next (alone texts) main_key [] (callee_of texts main_key) [] (tick born))) ≡ false)
+
+-- only a run that lasts longer uses its steps up
+abbrev pub Lasts : ℕ → List Text → Start → Ended → Type 0
+Lasts steps texts s ended.OutOfSteps = LastsLonger steps texts s
+Lasts steps texts s (ended.Exit status) = Unit {0}
+Lasts steps texts s (ended.Undefined b) = Unit {0}
+Lasts steps texts s (ended.StackFull key) = Unit {0}
+Lasts steps texts s ended.BirthLimit = Unit {0}
+Lasts steps texts s ended.NoRoom = Unit {0}
+
+-- the same of what a part of the program answers
+abbrev pub LastsIn : ℕ → List Text → Start → Result Ended Stop → Type 0
+LastsIn steps texts s (Ok ended) = Lasts steps texts s ended
+LastsIn steps texts s (Err stop) = Unit {0}

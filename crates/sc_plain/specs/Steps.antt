@@ -1,5 +1,5 @@
 -- How a step of the program on a run stands to the machine's step.
-use Rattle.std.specs.Prelude.{◌≡◌, List, [], Some, Result, Ok, Err}
+use Rattle.std.specs.Prelude.{◌≡◌, List, [], ◌∷◌, Some, Result, Ok, Err, Bool, true, false}
 use Rattle.sc_meaning.specs.World.{World}
 use Rattle.sc_meaning.specs.Outcomes.{Ending}
 use Rattle.sc_machine.specs.Runs.{Caller, State, Runs, Makes, Answers, Ends}
@@ -21,8 +21,16 @@ abbrev pub Steps : State → Result Going Stop → List Caller → World → Typ
 Steps s (Ok g) cs w = Is s g cs w
 Steps s (Err stop) cs w = (e : Ending) → ending_of stop w ≡ Some e → s ≡ Ends e
 
--- where a run was brought by these steps: to its answer, or to its end; nothing is said where the steps were used up
+-- a run is over in this state: at the answer of its first call, or at its end
+abbrev pub is_over : State → Bool
+is_over (Runs doing ss env a cs w) = false
+is_over (Makes t v vs c cs w) = false
+is_over (Answers a [] w) = true
+is_over (Answers a (c ∷ cs) w) = false
+is_over (Ends e) = true
+
+-- where a run was brought by these steps: to its answer, to its end, or not so far
 abbrev pub Brings : State → Result Reached Stop → World → Type 0
 Brings s (Ok (reached.Answer a)) w = s ≡ Answers a [] w
-Brings s (Ok reached.Nowhere) w = Unit {0}
+Brings s (Ok reached.Nowhere) w = is_over s ≡ false
 Brings s (Err stop) w = (e : Ending) → ending_of stop w ≡ Some e → s ≡ Ends e

@@ -1,11 +1,12 @@
 // Steps one after another.
-ghost use Rattle.std.specs.Prelude.{ℕ, List, Ok};
+ghost use Rattle.std.specs.Prelude.{◌≡◌, Ok};
 ghost use Rattle.sc_meaning.specs.Versions as versions;
 ghost use Rattle.sc_meaning.specs.World as worlds;
 ghost use Rattle.sc_machine.specs.Runs as runs;
 ghost use Rattle.sc_plain_library.specs.Quiet.{IsQuiet};
 ghost use Rattle.sc_plain.specs.Steady as steady;
 ghost use Rattle.sc_plain.specs.Steps.{Brings, Is};
+ghost use Rattle.sc_plain.specs.Steps as course;
 
 use crate::going::{Caller, Going};
 use crate::step::step_run;
@@ -22,8 +23,10 @@ pub enum Reached {
     Nowhere,
 }
 
-// Whether a step leaves everything as it is.
-fn is_over(going: &Going, callers: &Stack<Caller>) -> bool {
+// Whether the run is over.
+fn is_over(going: &Going, callers: &Stack<Caller>) -> bool
+    ensures { (s : runs.State) (w : worlds.World) → Is s going.now callers.now w → result ≡ course.is_over s }
+{
     match going {
         Going::Answers(_) => callers.is_empty(),
         Going::Runs(_, _, _, _) => false,
@@ -31,10 +34,9 @@ fn is_over(going: &Going, callers: &Stack<Caller>) -> bool {
     }
 }
 
-// Where it is over.
-#[tactic(auto, using(crate::proofs::Whole::brought))]
+// Where the run is.
 fn destination(going: Going, callers: &Stack<Caller>) -> Reached
-    ensures { (h : versions.History) (texts : List versions.Text) (k : ℕ) (s : runs.State) (w : worlds.World) → Is s going.entry callers.now w → Brings (steady.ran k h texts s) (Ok result) w }
+    ensures { (s : runs.State) (w : worlds.World) → Is s going.entry callers.now w → Brings s (Ok result) w }
 {
     match going {
         Going::Answers(a) => {
@@ -51,7 +53,7 @@ fn destination(going: Going, callers: &Stack<Caller>) -> Reached
     }
 }
 
-/// At most so many steps.
+/// At most so many steps, as many as are given where the run is not over before.
 ///
 /// # Errors
 ///
@@ -67,7 +69,10 @@ pub fn drive<'a>(
 {
     let mut going = first;
     let mut left = steps;
-    'stepping: while 0 < left && !is_over(&going, callers) {
+    'stepping: while 0 < left {
+        if is_over(&going, callers) {
+            return Ok(destination(going, callers));
+        }
         going = step_run(texts, going, callers, world)?;
         left -= 1;
     }

@@ -32,7 +32,10 @@ pub fn byte_read(p: &Value, i: u32, world: &mut World) -> Result<u8, Stop>
         let told = access_breach(p, i, 1, world, rule)?;
         return Err(Stop::Undefined(told));
     }
-    let found = byte(number_of_cells(cells_read(world.objects(), p, i, 1))?)?;
+    let Some(cells) = cells_read(world.objects(), p, i, 1) else {
+        return Err(Stop::NoRoom)
+    };
+    let found = byte(number_of_cells(cells)?)?;
     world.tick()?;
     Ok(found)
 }

@@ -125,7 +125,10 @@ pub fn loaded(t: &CType, p: &Value, further: u32, world: &World) -> Result<Value
         let told = access_breach(p, further, n, world, rule)?;
         return Err(Stop::Undefined(told));
     }
-    let found = value_of_cells(world.alloc(), cells_read(world.objects(), p, further, n))?;
+    let Some(cells) = cells_read(world.objects(), p, further, n) else {
+        return Err(Stop::NoRoom)
+    };
+    let found = value_of_cells(world.alloc(), cells)?;
     Ok(as_type(t, found))
 }
 

@@ -1,5 +1,5 @@
 // The tests of undefined steps, each by its rule, over objects by number (ANSI 3.2.2.1, 3.3, 4.10.3).
-ghost use Rattle.std.specs.Prelude.{◌≡◌, ◌+◌, ◌<◌, ◌-ℤ◌, pos, false, MatchOption, None, Some, IfOk, IfSome};
+ghost use Rattle.std.specs.Prelude.{◌≡◌, ◌+◌, ◌<◌, ◌-ℤ◌, pos, true, false, MatchOption, None, Some, IfOk, IfSome};
 ghost use Rattle.sc_meaning.specs.Values as value;
 ghost use Rattle.sc_meaning.specs.Violations as spec;
 ghost use Rattle.sc_rules.specs.Tests as tests;
@@ -200,13 +200,13 @@ pub fn pointer_of(cells: &[Cell]) -> Option<&Value>
     }
 }
 
-/// The bytes that an access reads.
-pub fn cells_read<'a>(objects: &'a [Object], p: &Value, further: u32, n: u32) -> &'a [Cell]
-    ensures { result.now ≡ spec.cells_read objects.now p.now further n }
+/// The bytes that an access reads, where its object is not dead.
+pub fn cells_read<'a>(objects: &'a [Object], p: &Value, further: u32, n: u32) -> Option<&'a [Cell]>
+    ensures { MatchOption result (spec.is_dead objects.now p.now ≡ true) (λ cells. cells.now ≡ spec.cells_read objects.now p.now further n) }
 {
     match &p.shape {
-        Shape::Number(_) => &[],
-        Shape::FunctionAt(_) => &[],
+        Shape::Number(_) => Some(&[]),
+        Shape::FunctionAt(_) => Some(&[]),
         Shape::Pointer(o, i) => cells_at(objects, *o, u64::from(*i) + u64::from(further), n),
     }
 }
@@ -227,7 +227,9 @@ pub fn load_rule(objects: &[Object], p: &Value, further: u32, n: u32, pointer: b
     if is_misaligned(p, further, n) {
         return Some(Rule::U10);
     }
-    let cells = cells_read(objects, p, further, n);
+    let Some(cells) = cells_read(objects, p, further, n) else {
+        return Some(Rule::U3)
+    };
     if reads_unwritten(cells) {
         return Some(Rule::U1);
     }

@@ -1,3 +1,4 @@
 pub mod Cells
 pub mod Showings
 pub mod Happenings
+pub mod Outputs

@@ -1,5 +1,5 @@
 // Lists of bytes of objects.
-ghost use Rattle.std.specs.Prelude.{◌≡◌, ◌+◌, length, take, drop, replicate, IfOk, map};
+ghost use Rattle.std.specs.Prelude.{◌≡◌, ◌+◌, ◌≤◌, length, take, drop, replicate, IfOk, map};
 ghost use Rattle.sc_meaning.specs.World as world;
 ghost use Rattle.sc_meaning.specs.Values as spec;
 
@@ -60,4 +60,33 @@ pub fn overwritten(
     let Some(end) = end else { return Err(NoMemory) };
     all.append(copy_cells(alloc, back(cells, end))?)?;
     Ok(all)
+}
+
+/// Bytes are written over others from an offset on, in place where all of them have a place.
+pub fn overwrite(
+    alloc: Global,
+    cells: &mut Items<Cell>,
+    at: u32,
+    new: Items<Cell>,
+) -> Result<(), NoMemory>
+    ensures { IfOk result (λ _. cells.new ≡ world.overwritten cells.old at new) }
+{
+    let from = at as usize;
+    if from <= cells.len() && new.len() <= cells.len() - from {
+        write_over(cells, from, new);
+    } else {
+        *cells = overwritten(alloc, cells.as_slice(), at, new.as_slice())?;
+    }
+    Ok(())
+}
+
+// Bytes are written over others, the last one first.
+fn write_over(cells: &mut Items<Cell>, from: usize, new: Items<Cell>)
+    requires { from + length new ≤ length cells.old }
+    ensures { cells.new ≡ world.overwritten cells.old from new }
+{
+    let mut rest = new;
+    'writing: while let Some(cell) = rest.pop() {
+        cells.set(from + rest.len(), cell);
+    }
 }

@@ -7,6 +7,7 @@ use sc_base::{Duplicate, Items, Key, Kind, Name, NoMemory};
 use sc_program::StaticId;
 use std::alloc::Global;
 use std::marker::Model;
+use std::snapshot::Snapshot;
 
 /// What is shown.
 #[derive(Drop)]
@@ -90,7 +91,7 @@ fn entering(alloc: Global, key: &Key, home: &Name) -> Result<Event, NoMemory>
     Ok(Event::enter(key, home))
 }
 
-/// What happens.
+/// What happens. What only the trail is told of is a snapshot, which takes no room.
 #[derive(Drop)]
 pub enum Change {
     Work(u32),
@@ -99,7 +100,7 @@ pub enum Change {
     Happens(Event),
     Birth(u32, Kind),
     Death(u32),
-    Put(u32, u32, Items<Cell>),
+    Put(u32, u32, Snapshot<Items<Cell>>),
     Copy(u32, u32, u32, u32, u32),
     TakeFree(u32),
     TakeNew(u64),
@@ -107,9 +108,9 @@ pub enum Change {
     Stack(u64),
     Read,
     Seed(u32),
-    Push(Frame),
+    Push(Snapshot<Frame>),
     Pop,
-    OpenBlock(Born),
+    OpenBlock(Snapshot<Born>),
     CloseBlock,
     Name(StaticId, u32),
     Unname(StaticId),

@@ -1,12 +1,14 @@
 // Objects, their bytes, and active calls (ANSI 3.1.2.4).
-ghost use Rattle.std.specs.Prelude.{◌≡◌, IfOk};
+ghost use Rattle.std.specs.Prelude.{◌≡◌, false, true, IfOk, MatchOption};
 ghost use Rattle.sc_meaning.specs.Values as spec;
 ghost use Rattle.sc_meaning.specs.World as world;
 
+use crate::cells::overwrite;
 use sc_base::{Duplicate, Form, Items, Key, Kind, Name, NoMemory};
 use sc_values::Value;
 use std::alloc::Global;
 use std::marker::Model;
+use std::snapshot::Snapshot;
 
 /// What a byte holds.
 #[derive(Drop)]
@@ -70,21 +72,71 @@ impl Duplicate for Cell {
     }
 }
 
-/// An object: its size in bytes, its kind, whether it lives, and its bytes.
+/// An object: its size in bytes, its kind, whether it lives, and its bytes, of which a dead one keeps no room.
 #[derive(Drop)]
 pub struct Object {
     pub size: u32,
     pub kind: Kind,
     pub live: bool,
-    pub cells: Items<Cell>,
+    cells: Items<Cell>,
+    last: Snapshot<Items<Cell>>,
 }
 
 impl Model for Object {
+    ghost use Rattle.std.specs.Prelude.{if◌then◌else◌};
     ghost use Rattle.sc_meaning.specs.World as world;
 
     ghost Value = { world.Object };
 
-    ghost view = { λ o. record { size = o.size; kind = o.kind; live = o.live; cells = o.cells } };
+    ghost view = { λ o. record { size = o.size; kind = o.kind; live = o.live; cells = if o.live then o.cells else o.last.value } };
+}
+
+impl Object {
+    /// An object that lives, and has these bytes.
+    pub fn living(size: u32, kind: Kind, cells: Items<Cell>) -> Object
+        ensures { result ≡ record { size = size; kind = kind; live = true; cells = cells } }
+    {
+        let last = Snapshot::of(&cells);
+        Object {
+            size,
+            kind,
+            live: true,
+            cells,
+            last,
+        }
+    }
+
+    /// The bytes, where it lives.
+    pub fn cells(&self) -> Option<&[Cell]>
+        ensures { MatchOption result (self.now.live ≡ false) (λ cells. cells.now ≡ self.now.cells) }
+    {
+        if self.live {
+            Some(self.cells.as_slice())
+        } else {
+            None
+        }
+    }
+
+    /// It dies.
+    pub fn end(&mut self, alloc: Global)
+        ensures { self.new ≡ record self.old { live = false } }
+    {
+        if self.live {
+            self.last = Snapshot::of(&self.cells);
+            self.cells = Items::new(alloc);
+            self.live = false;
+        }
+    }
+
+    /// Bytes are written from an offset on, where it lives.
+    pub fn write(&mut self, alloc: Global, at: u32, new: Items<Cell>) -> Result<(), NoMemory>
+        ensures { IfOk result (λ _. self.new ≡ record self.old { cells = world.overwritten self.old.cells at new }) }
+    {
+        if !self.live {
+            return Err(NoMemory);
+        }
+        overwrite(alloc, &mut self.cells, at, new)
+    }
 }
 
 /// An entered block, and its objects by their numbers.

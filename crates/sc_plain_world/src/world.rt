@@ -1,17 +1,21 @@
 // The world of a run, and the single changes to it.
-ghost use Rattle.std.specs.Prelude.{◌≡◌, ℕ, ◌+◌, ◌-◌, ◌∷◌, ◌++◌, [], List, length, IfOk, MatchOption, None, Some, slice_index, slice_set, replicate};
+ghost use Rattle.std.specs.Prelude.{◌≡◌, true, false, not, ℕ, ◌+◌, ◌-◌, ◌∷◌, ◌++◌, [], List, length, IfOk, MatchOption, None, Some, slice_index, slice_set, replicate};
+ghost use Rattle.sc_meaning.specs.Violations.{of_object};
 ghost use Rattle.sc_meaning.specs.World as spec;
 ghost use Rattle.sc_plain_world.specs.Happenings.{item_of};
+ghost use Rattle.sc_plain_world.specs.Outputs.{output};
 
-use crate::cells::{back, copy_cells, front, overwritten, unwritten};
+use crate::cells::{back, copy_cells, front, unwritten};
 use crate::event::{Change, Event, Item, Showing};
 use crate::names::{Named, named_in, without_name};
 use crate::object::{Born, Cell, Frame, Object};
+use crate::past::Past;
 use sc_base::{Duplicate, Items, Kind, NoMemory, Stack};
 use sc_program::StaticId;
 use std::alloc::Global;
 use std::marker::Model;
 use std::mem;
+use std::snapshot::Snapshot;
 
 /// The classes of the heap's blocks.
 const CLASSES: usize = 29;
@@ -22,7 +26,7 @@ pub struct World {
     alloc: Global,
     stack: u64,
     heap: u64,
-    objects: Items<Object>,
+    objects: Vec<Object>,
     used: u64,
     free: Items<u64>,
     made: u64,
@@ -33,7 +37,7 @@ pub struct World {
     enters: u64,
     count: u64,
     begun: u64,
-    trail: Items<Item>,
+    past: Past,
 }
 
 impl Model for World {
@@ -41,7 +45,7 @@ impl Model for World {
 
     ghost Value = { spec.World };
 
-    ghost view = { λ w. record { stack = w.stack; heap = w.heap; objects = w.objects; used = w.used; free = w.free; made = w.made; input = w.input; seed = w.seed; frames = w.frames; names = w.names; enters = w.enters; count = w.count; begun = w.begun; trail = w.trail } };
+    ghost view = { λ w. record { stack = w.stack; heap = w.heap; objects = w.objects.items; used = w.used; free = w.free; made = w.made; input = w.input; seed = w.seed; frames = w.frames; names = w.names; enters = w.enters; count = w.count; begun = w.begun; trail = w.past } };
 }
 
 // One more.
@@ -62,15 +66,6 @@ pub fn object_at(objects: &[Object], id: u32) -> Option<&Object>
         return None;
     }
     objects.get(id as usize - 1)
-}
-
-// Puts another object in the place of one.
-fn put_object(objects: &mut Items<Object>, id: u32, new: Object)
-    ensures { objects.new ≡ spec.with_object objects.old id new }
-{
-    if id != 0 && id as usize <= objects.len() {
-        objects.set(id as usize - 1, new);
-    }
 }
 
 // The innermost call gets a line.
@@ -137,7 +132,7 @@ impl World {
             alloc,
             stack,
             heap,
-            objects: Items::new(alloc),
+            objects: Vec::new(alloc),
             used: 0,
             free,
             made: 0,
@@ -148,7 +143,7 @@ impl World {
             enters: 0,
             count: 0,
             begun: 0,
-            trail: Items::new(alloc),
+            past: Past::new(alloc),
         })
     }
 
@@ -254,19 +249,18 @@ impl World {
         self.seed
     }
 
-    /// All that happened so far.
-    pub fn trail(&self) -> &[Item]
-        ensures { result.now ≡ self.now.trail }
+    /// The bytes that were written so far.
+    pub fn output(&self) -> &[u8]
+        ensures { result.now ≡ output self.now.trail }
     {
-        self.trail.as_slice()
+        self.past.written()
     }
 
     // The trail keeps what happened.
     fn keep(&mut self, change: Change) -> Result<(), NoMemory>
         ensures { IfOk result (λ _. self.new ≡ record self.old { trail = self.old.trail ++ item_of change ∷ [] }) }
     {
-        self.trail.push(Item { change })?;
-        Ok(())
+        self.past.push(Item { change })
     }
 
     /// Some units of work.
@@ -318,12 +312,7 @@ impl World {
         ensures { IfOk result (λ _. self.new ≡ spec.pass (spec.Birth size kind) self.old) }
     {
         let cells = unwritten(self.alloc, size)?;
-        self.objects.push(Object {
-            size,
-            kind,
-            live: true,
-            cells,
-        })?;
+        self.objects.push(Object::living(size, kind, cells))?;
         self.keep(Change::Birth(size, kind))
     }
 
@@ -331,7 +320,7 @@ impl World {
     pub fn death(&mut self, id: u32) -> Result<(), NoMemory>
         ensures { IfOk result (λ _. self.new ≡ spec.pass (spec.Death id) self.old) }
     {
-        end_object(self.alloc, &mut self.objects, id)?;
+        end_object(self.alloc, &mut self.objects, id);
         self.keep(Change::Death(id))
     }
 
@@ -339,19 +328,19 @@ impl World {
     pub fn put(&mut self, id: u32, at: u32, new: Items<Cell>) -> Result<(), NoMemory>
         ensures { IfOk result (λ _. self.new ≡ spec.pass (spec.Put id at new) self.old) }
     {
-        write_object(self.alloc, &mut self.objects, id, at, new.as_slice())?;
-        self.keep(Change::Put(id, at, new))
+        self.keep(Change::Put(id, at, Snapshot::of(&new)))?;
+        write_object(self.alloc, &mut self.objects, id, at, new)
     }
 
     /// So many bytes go to an object and offset from an object and offset.
     pub fn copy(&mut self, to: u32, at: u32, from: u32, off: u32, n: u32) -> Result<(), NoMemory>
         ensures { IfOk result (λ _. self.new ≡ spec.pass (spec.Copy to at from off n) self.old) }
     {
-        let moved = copy_cells(
-            self.alloc,
-            cells_at(self.objects.as_slice(), from, u64::from(off), n),
-        )?;
-        write_object(self.alloc, &mut self.objects, to, at, moved.as_slice())?;
+        let Some(cells) = cells_at(self.objects.as_slice(), from, u64::from(off), n) else {
+            return Err(NoMemory)
+        };
+        let moved = copy_cells(self.alloc, cells)?;
+        write_object(self.alloc, &mut self.objects, to, at, moved)?;
         self.keep(Change::Copy(to, at, from, off, n))
     }
 
@@ -412,8 +401,8 @@ impl World {
     pub fn push(&mut self, frame: Frame) -> Result<(), NoMemory>
         ensures { IfOk result (λ _. self.new ≡ spec.pass (spec.Push frame) self.old) }
     {
-        self.frames.push(frame.copy(self.alloc)?)?;
-        self.keep(Change::Push(frame))
+        self.keep(Change::Push(Snapshot::of(&frame)))?;
+        self.frames.push(frame)
     }
 
     /// The innermost call is no longer active.
@@ -428,8 +417,8 @@ impl World {
     pub fn open_block(&mut self, born: Born) -> Result<(), NoMemory>
         ensures { IfOk result (λ _. self.new ≡ spec.pass (spec.OpenBlock born) self.old) }
     {
-        put_block(&mut self.frames, born.copy(self.alloc)?)?;
-        self.keep(Change::OpenBlock(born))
+        self.keep(Change::OpenBlock(Snapshot::of(&born)))?;
+        put_block(&mut self.frames, born)
     }
 
     /// The last block of the innermost call is left.
@@ -463,52 +452,40 @@ impl World {
     }
 }
 
-// An object dies, and keeps its bytes.
-fn end_object(alloc: Global, objects: &mut Items<Object>, id: u32) -> Result<(), NoMemory>
-    ensures { IfOk result (λ _. objects.new ≡ spec.ended objects.old id (spec.object_at objects.old id)) }
+// An object dies.
+fn end_object(alloc: Global, objects: &mut Vec<Object>, id: u32)
+    ensures { objects.new.items ≡ spec.ended objects.old.items id (spec.object_at objects.old.items id) }
 {
-    let Some(old) = object_at(objects.as_slice(), id) else {
-        return Ok(())
-    };
-    let new = Object {
-        size: old.size,
-        kind: old.kind,
-        live: false,
-        cells: copy_cells(alloc, old.cells.as_slice())?,
-    };
-    put_object(objects, id, new);
-    Ok(())
+    if id != 0 && id as usize <= objects.len() {
+        objects[id as usize - 1].end(alloc);
+    }
 }
 
 // Bytes of an object are written.
 fn write_object(
     alloc: Global,
-    objects: &mut Items<Object>,
+    objects: &mut Vec<Object>,
     id: u32,
     at: u32,
-    new: &[Cell],
+    new: Items<Cell>,
 ) -> Result<(), NoMemory>
-    ensures { IfOk result (λ _. objects.new ≡ spec.written objects.old id at new.now (spec.object_at objects.old id)) }
+    ensures { IfOk result (λ _. objects.new.items ≡ spec.written objects.old.items id at new (spec.object_at objects.old.items id)) }
 {
-    let Some(old) = object_at(objects.as_slice(), id) else {
-        return Ok(())
-    };
-    let new = Object {
-        size: old.size,
-        kind: old.kind,
-        live: old.live,
-        cells: overwritten(alloc, old.cells.as_slice(), at, new)?,
-    };
-    put_object(objects, id, new);
-    Ok(())
+    if id == 0 || objects.len() < id as usize {
+        return Ok(());
+    }
+    objects[id as usize - 1].write(alloc, at, new)
 }
 
-/// The `n` bytes of an object from an offset on.
-pub fn cells_at(objects: &[Object], id: u32, at: u64, n: u32) -> &[Cell]
-    ensures { result.now ≡ spec.cells_at objects.now id at n }
+/// The `n` bytes of an object from an offset on, where it is not dead.
+pub fn cells_at(objects: &[Object], id: u32, at: u64, n: u32) -> Option<&[Cell]>
+    ensures { MatchOption result (of_object false (λ o. not o.live) (spec.object_at objects.now id) ≡ true) (λ cells. cells.now ≡ spec.cells_at objects.now id at n) }
 {
     match object_at(objects, id) {
-        None => &[],
-        Some(o) => front(back(o.cells.as_slice(), at), n),
+        None => Some(&[]),
+        Some(o) => match o.cells() {
+            None => None,
+            Some(cells) => Some(front(back(cells, at), n)),
+        },
     }
 }

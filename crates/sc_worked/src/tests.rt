@@ -3,7 +3,7 @@ use crate::reader::Reader;
 use sc_base::{Items, Key, NoMemory, Rule};
 use sc_plain::{Ended, Finished, Limits, run};
 use sc_plain_leaves::Breach;
-use sc_plain_world::{Change, Showing, World};
+use sc_plain_world::World;
 use sc_values::{Shape, Value};
 use std::alloc::Global;
 use std::test::Fail;
@@ -49,12 +49,8 @@ fn write_number(text: &mut Vec<u8>, n: i64) -> Result<(), NoMemory> {
 
 // The bytes that were written, each line whole.
 fn write_output(text: &mut Vec<u8>, world: &World) -> Result<(), NoMemory> {
-    for item in world.trail() {
-        if let Change::Happens(event) = &item.change {
-            if let Showing::Out(b) = &event.showing {
-                text.push(*b)?;
-            }
-        }
+    for b in world.output() {
+        text.push(*b)?;
     }
     match text.last() {
         None | Some(10) => {}
