@@ -1,22 +1,14 @@
 -- What is said of the end of a run: the bytes that it wrote, and behind them a line on how it ended.
-use Rattle.std.specs.Prelude.{ℕ, zero, suc, ◌++◌, ◌==◌, ◌-◌, if◌then◌else◌, List, [], ◌∷◌, length, slice_get, Option, Some, None, codes, decimal}
+use Rattle.std.specs.Prelude.{ℕ, ◌++◌, ◌==◌, ◌-◌, if◌then◌else◌, List, [], ◌∷◌, length, slice_get, Option, Some, None, codes, decimal}
 use Rattle.std.specs.Fmt.{signed_decimal}
 use Rattle.sc_base.specs.declared.integer.Int.TheVariants.{Int as PlainInt}
 use Rattle.sc_ops.specs.Numbers.{number_of}
-use Rattle.sc_meaning.specs.World.{World, Event, Item, Happens, Out}
+use Rattle.sc_meaning.specs.World.{World}
+use Rattle.sc_plain_world.specs.Outputs.{output}
 use Rattle.sc_plain.specs.declared.running.Ended.{Ended}
 use Rattle.sc_plain.specs.declared.running.Ended.TheVariants as ended
 use Rattle.sc_reports.specs.Words.{key_text}
 use Rattle.sc_reports.specs.Breaches.{breach_text}
-
--- the bytes that were written
-abbrev pub bytes_of : Item → List ℕ
-bytes_of (Happens (Out b)) = b ∷ []
-bytes_of _ = []
-
-abbrev pub output_of : List Item → List ℕ
-output_of [] = []
-output_of (i ∷ is) = bytes_of i ++ output_of is
 
 -- how a run ended, after so many turns at most; nothing is said where no memory was left
 abbrev pub stop_text : ℕ → Ended → World → Option (List ℕ)
@@ -43,4 +35,4 @@ behind_output bytes None = None
 behind_output bytes (Some said) = Some (on_new_line bytes said)
 
 abbrev pub end_text : ℕ → Ended → World → Option (List ℕ)
-end_text turns e w = behind_output (output_of w.trail) (stop_text turns e w)
+end_text turns e w = behind_output (output w.trail) (stop_text turns e w)

@@ -11,39 +11,8 @@ use crate::word::{put, put_key, put_signed};
 use sc_base::{Int, Key, NoMemory};
 use sc_plain::{Ended, Finished};
 use sc_plain_leaves::number_of;
-use sc_plain_world::{Change, Event, Item, Showing, World};
+use sc_plain_world::World;
 use std::alloc::Global;
-
-// The bytes that a run wrote.
-fn output_of(alloc: Global, trail: &[Item]) -> Result<Vec<u8>, NoMemory>
-    ensures { IfOk result (λ bytes. bytes.items ≡ spec.output_of trail.now) }
-{
-    let mut bytes = Vec::new(alloc);
-    for item in trail {
-        if let Some(b) = byte_of(item) {
-            bytes.push(b)?;
-        }
-    }
-    Ok(bytes)
-}
-
-fn byte_of(item: &Item) -> Option<u8>
-    ensures { spec.bytes_of item.now ≡ list_of result }
-{
-    match &item.change {
-        Change::Happens(event) => shown_byte(event),
-        _ => None,
-    }
-}
-
-fn shown_byte(event: &Event) -> Option<u8>
-    ensures { spec.bytes_of (Happens event.now) ≡ list_of result }
-{
-    match &event.showing {
-        Showing::Out(b) => Some(*b),
-        _ => None,
-    }
-}
 
 fn exit_text(alloc: Global, status: u32) -> Result<Vec<u8>, NoMemory>
     ensures { IfOk result (λ text. text.items ≡ codes "exit " ++ signed_decimal (number_of PlainInt status)) }
@@ -133,6 +102,5 @@ pub fn end_text(
     ensures { IfOk result (λ text. Some text.items ≡ spec.end_text turns finished.now.ended finished.now.world) }
 {
     let said = stop_text(alloc, turns, &finished.ended, &finished.world)?;
-    let bytes = output_of(alloc, finished.world.trail())?;
-    on_new_line(alloc, bytes.as_slice(), said.as_slice())
+    on_new_line(alloc, finished.world.output(), said.as_slice())
 }

@@ -1,11 +1,11 @@
 -- What `run` answers, by the meaning of the program that the modules are.
-use Rattle.std.specs.Prelude.{◌≡◌, ℕ, List, [], Option, Some, None}
-use Rattle.sc_meaning.specs.Behaviour.{main_key}
+use Rattle.std.specs.Prelude.{◌≡◌, ℕ, List, [], Some}
+use Rattle.sc_meaning.specs.Behaviour.{main_key, Start}
 use Rattle.sc_meaning.specs.Versions.{Text, callee_of, Missing}
 use Rattle.sc_meaning.specs.World.{World}
 use Rattle.sc_plain.specs.declared.running.Ended.{Ended}
 use Rattle.sc_plain.specs.declared.running.Ended.TheVariants as ended
-use Rattle.sc_plain.specs.Ends.{EndsSo, start_of}
+use Rattle.sc_plain.specs.Ends.{EndsSo, Lasts, start_of}
 use Rattle.sc_reports.specs.Ends.{end_text}
 use Rattle.sc_top.specs.declared.running.Run.{Run}
 use Rattle.sc_top.specs.declared.running.Run.TheVariants as run
@@ -16,10 +16,14 @@ use Rattle.sc_top.specs.declared.state.State.TheVariants as state
 abbrev pub HasNoMain : List Text → Type 0
 HasNoMain modules = callee_of modules main_key ≡ Missing
 
--- A run of these modules, with 50,000,000 turns, 1,048,576 bytes of stack and 4,194,304 of heap, ended so, as the meaning
--- has it.
-abbrev pub Ends : List Text → Ended → World → Type 0
-Ends modules e w = EndsSo 50000000 (start_of modules 1048576 4194304 []) e w
+-- the program of the modules, with 1,048,576 bytes of stack, 4,194,304 of heap, and no input
+abbrev pub program_of : List Text → Start
+program_of modules = start_of modules 1048576 4194304 []
+
+-- The program ended so, as the meaning has it; only where the run lasts longer than 50,000,000 turns these are used up.
+pub record Ends (modules : List Text) (e : Ended) (w : World) : Type 0 where
+  pub ends : EndsSo 50000000 (program_of modules) e w
+  pub lasts : Lasts 50000000 modules (program_of modules) e
 
 -- the state behind a run
 abbrev pub state_after : Ended → State
