@@ -18,8 +18,8 @@ use Rattle.sc_token.specs.Symbols.{symbols}
 use Rattle.sc_tree.specs.declared.statement.External.{External}
 use Rattle.sc_unit.specs.Machine.{start}
 use Rattle.sc_unit.specs.Parse.{answer}
-use Rattle.sc_build.specs.declared.build.BuildFault.{BuildFault}
-use Rattle.sc_build.specs.declared.build.BuildFault.TheVariants as fault
+use Rattle.sc_build.specs.declared.building.BuildFault.{BuildFault}
+use Rattle.sc_build.specs.declared.building.BuildFault.TheVariants as fault
 
 -- what preprocessing answers to a file, where the files are known
 abbrev pub Reads : Option FileMap → List ℕ → Result (List Token) PpFault → Type 0

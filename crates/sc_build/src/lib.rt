@@ -1,6 +1,6 @@
 //! From the files of a folder to a checked module: preprocessing, the grammar, and the rules of types.
 #![tactic(auto)]
 
-mod build;
+mod building;
 
-pub use build::{BuildFault, build};
+pub use building::{BuildFault, build};

@@ -28,8 +28,8 @@ abbrev pub same_external : Declared → Declared → Bool
 same_external d e = not (is_internal d.key.«module») && not (is_internal e.key.«module») && bytes_eq d.key.name e.key.name
 
 -- both define one external name
-abbrev pub both_define : Core → Declared → Core → Declared → Bool
-both_define a d b e = d.defined && e.defined && same_external d e
+abbrev pub both_define : Declared → Declared → Bool
+both_define d e = d.defined && e.defined && same_external d e
 
 -- both declare one external name, with types that do not go together
 abbrev pub disagree : Core → Declared → Core → Declared → Bool
@@ -37,7 +37,7 @@ disagree a d b e = same_external d e && not (compatible d.of a.structs e.of b.st
 
 -- what two declarations of one external name must not be
 abbrev pub holds : Test → Core → Declared → Core → Declared → Bool
-holds test.BothDefine a d b e = both_define a d b e
+holds test.BothDefine a d b e = both_define d e
 holds test.Disagree a d b e = disagree a d b e
 
 abbrev pub some_declared : (Declared → Bool) → List Declared → Bool

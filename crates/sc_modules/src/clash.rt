@@ -2,7 +2,6 @@
 ghost use Rattle.std.specs.Prelude.{◌≡◌, None};
 ghost use Rattle.std.specs.Ordering.{nat_cmp, is_lt};
 ghost use Rattle.std.specs.Cmp.Lexicographic.{slice_cmp};
-ghost use Rattle.sc_core.specs.declared.module.Core.{Core as Module};
 ghost use Rattle.sc_modules.specs.Clashes as spec;
 
 use sc_base::Name;
@@ -62,7 +61,7 @@ fn same_external(d: &Declared, e: &Declared) -> bool
 }
 
 fn both_define(d: &Declared, e: &Declared) -> bool
-    ensures { (a b : Module) → result ≡ spec.both_define a d.now b e.now }
+    ensures { result ≡ spec.both_define d.now e.now }
 {
     d.defined && e.defined && same_external(d, e)
 }
