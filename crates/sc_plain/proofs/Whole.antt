@@ -123,11 +123,8 @@ pub answer_finishes : (texts : List Text) (s : Start) (steps : ℕ) (first born 
 answer_finishes texts s steps first born v w a status is begins p q st back = λ n lt e r.
     run_answers texts s steps n born v a is lt (ap (statics_born texts) (sym begins) ∙ p) q ∙ ap (λ st. Exit st (tick v)) (sym st) ∙ ap (Exit status) (sym back) ∙ told e status w r
 
-nothing_told : (e : Ending) → None ≡ Some e → ⊥
-nothing_told e p = cc
-
-pub steps_used_up : (s : Start) (steps : ℕ) (w : World) → Finishes steps s (Ok ended.OutOfSteps) w
-steps_used_up s steps w = λ n lt e r. absurd (nothing_told e r)
+pub steps_used_up : (texts : List Text) (s : Start) (steps : ℕ) (first born w : World) → s.history ≡ alone texts → first ≡ first_world s → statics_born texts first ≡ Done tt born → is_over (steady.ran steps (alone texts) texts (first_of texts born)) ≡ false → Finishes steps s (Ok ended.OutOfSteps) w
+steps_used_up texts s steps first born w is begins p over = (texts, (is, (born, (ap (statics_born texts) (sym begins) ∙ p, over))))
 
 -- a part that failed ends the whole, as `?` passes its end on
 pub finishes_here : (s : Start) (steps : ℕ) (r : Result Ended Stop) (stop : Stop) (w : World) → IsErrAnd r (λ e. e ≡ stop) → Finishes steps s (Err stop) w → Finishes steps s r w

@@ -12,7 +12,7 @@ use Rattle.sc_plain.specs.declared.running.Ended.TheVariants as ended
 use Rattle.sc_plain.specs.Steady.{alone, callee_next, ran}
 use Rattle.sc_plain.specs.Steps.{is_over}
 
--- no end is said where no room was left, or where the steps were used up
+-- no end is told where no room was left, or where the steps were used up
 abbrev pub end_of : Ended → World → Option Ending
 end_of (ended.Exit status) w = Some (Exit status w)
 end_of (ended.Undefined b) w = Some (Undefined b w)
@@ -25,31 +25,18 @@ end_of ended.NoRoom w = None
 abbrev pub start_of : List Text → ℕ → ℕ → List ℕ → Start
 start_of texts stack heap input = record { stack = stack; heap = heap; input = input; history = alone texts }
 
--- so the run ends, at every bound greater than these steps
+-- the run is not over after these steps of the call of main, behind the births
+abbrev pub LastsLonger : ℕ → Start → Type 0
+LastsLonger steps s =
+    (texts : List Text) × (s.history ≡ alone texts) × (born : World) × (statics_born texts (first_world s) ≡ Done tt born)
+    × (is_over (ran steps (alone texts) texts (callee_next (alone texts) main_key [] (callee_of texts main_key) [] (tick born))) ≡ false)
+
+-- so the run ends, at every bound greater than these steps; only one that lasts longer uses its steps up
 abbrev pub EndsSo : ℕ → Start → Ended → World → Type 0
+EndsSo steps s ended.OutOfSteps w = LastsLonger steps s
 EndsSo steps s ended w = (n : ℕ) → steps < n → (e : Ending) → end_of ended w ≡ Some e → ending n s ≡ e
 
 -- the same of what a part of the program answers
 abbrev pub Finishes : ℕ → Start → Result Ended Stop → World → Type 0
 Finishes steps s (Ok ended) w = EndsSo steps s ended w
 Finishes steps s (Err stop) w = (n : ℕ) → steps < n → (e : Ending) → ending_of stop w ≡ Some e → ending n s ≡ e
-
--- the run is not over after these steps of the call of main, behind the births
-abbrev pub LastsLonger : ℕ → List Text → Start → Type 0
-LastsLonger steps texts s =
-    (born : World) × (statics_born texts (first_world s) ≡ Done tt born)
-    × (is_over (ran steps (alone texts) texts (callee_next (alone texts) main_key [] (callee_of texts main_key) [] (tick born))) ≡ false)
-
--- only a run that lasts longer uses its steps up
-abbrev pub Lasts : ℕ → List Text → Start → Ended → Type 0
-Lasts steps texts s ended.OutOfSteps = LastsLonger steps texts s
-Lasts steps texts s (ended.Exit status) = Unit {0}
-Lasts steps texts s (ended.Undefined b) = Unit {0}
-Lasts steps texts s (ended.StackFull key) = Unit {0}
-Lasts steps texts s ended.BirthLimit = Unit {0}
-Lasts steps texts s ended.NoRoom = Unit {0}
-
--- the same of what a part of the program answers
-abbrev pub LastsIn : ℕ → List Text → Start → Result Ended Stop → Type 0
-LastsIn steps texts s (Ok ended) = Lasts steps texts s ended
-LastsIn steps texts s (Err stop) = Unit {0}

@@ -1,10 +1,10 @@
 // A whole run (ANSI 2.1.2.2, 2.1.2.3).
-ghost use Rattle.std.specs.Prelude.{◌≡◌, [], ℕ, List, IfOk};
+ghost use Rattle.std.specs.Prelude.{◌≡◌, [], ℕ, IfOk};
 ghost use Rattle.sc_meaning.specs.Behaviour as behaviour;
 ghost use Rattle.sc_meaning.specs.Versions as versions;
 ghost use Rattle.sc_meaning.specs.World as worlds;
 ghost use Rattle.sc_plain_library.specs.Quiet.{IsQuiet};
-ghost use Rattle.sc_plain.specs.Ends.{EndsSo, Finishes, Lasts, LastsIn, start_of};
+ghost use Rattle.sc_plain.specs.Ends.{EndsSo, Finishes, start_of};
 ghost use Rattle.sc_plain.specs.Steady as steady;
 ghost use Rattle.sc_plain.specs.Steps.{Brings, Steps};
 
@@ -93,8 +93,7 @@ fn main_called(texts: &[Text], steps: u64, world: &mut World) -> Result<Reached,
 
 // From the births on.
 fn started(texts: &[Text], steps: u64, world: &mut World) -> Result<Ended, Stop>
-    ensures ends { (s : behaviour.Start) → s.history ≡ steady.alone texts.now → world.old ≡ behaviour.first_world s → Finishes steps s result world.new }
-    ensures lasts { (s : behaviour.Start) → world.old ≡ behaviour.first_world s → LastsIn steps texts.now s result }
+    ensures { (s : behaviour.Start) → s.history ≡ steady.alone texts.now → world.old ≡ behaviour.first_world s → Finishes steps s result world.new }
 {
     statics_born(texts, world)?;
     match main_called(texts, steps, world)? {
@@ -108,8 +107,7 @@ fn started(texts: &[Text], steps: u64, world: &mut World) -> Result<Ended, Stop>
 
 // How an end is told.
 fn end_told(given: Result<Ended, Stop>) -> Ended
-    ensures ends { (steps : ℕ) (s : behaviour.Start) (w : worlds.World) → Finishes steps s given w → EndsSo steps s result w }
-    ensures lasts { (steps : ℕ) (texts : List versions.Text) (s : behaviour.Start) → LastsIn steps texts s given → Lasts steps texts s result }
+    ensures { (steps : ℕ) (s : behaviour.Start) (w : worlds.World) → Finishes steps s given w → EndsSo steps s result w }
 {
     match given {
         Ok(end) => end,
@@ -129,8 +127,7 @@ pub fn run(
     limits: Limits,
     input: Items<u8>,
 ) -> Result<Finished, NoMemory>
-    ensures ends { IfOk result (λ r. EndsSo limits.steps (start_of texts.now limits.stack limits.heap input) r.ended r.world) }
-    ensures lasts { IfOk result (λ r. Lasts limits.steps texts.now (start_of texts.now limits.stack limits.heap input) r.ended) }
+    ensures { IfOk result (λ r. EndsSo limits.steps (start_of texts.now limits.stack limits.heap input) r.ended r.world) }
 {
     let mut world = World::new(alloc, limits.stack, limits.heap, input)?;
     let ended = end_told(started(texts, limits.steps, &mut world));

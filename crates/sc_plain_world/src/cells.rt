@@ -1,5 +1,5 @@
 // Lists of bytes of objects.
-ghost use Rattle.std.specs.Prelude.{◌≡◌, ◌+◌, ◌≤◌, length, take, drop, replicate, IfOk, map};
+ghost use Rattle.std.specs.Prelude.{◌≡◌, ◌-◌, ◌≤◌, length, take, drop, replicate, IfOk, map};
 ghost use Rattle.sc_meaning.specs.World as world;
 ghost use Rattle.sc_meaning.specs.Values as spec;
 
@@ -71,22 +71,26 @@ pub fn overwrite(
 ) -> Result<(), NoMemory>
     ensures { IfOk result (λ _. cells.new ≡ world.overwritten cells.old at new) }
 {
-    let from = at as usize;
-    if from <= cells.len() && new.len() <= cells.len() - from {
-        write_over(cells, from, new);
-    } else {
-        *cells = overwritten(alloc, cells.as_slice(), at, new.as_slice())?;
+    if let Some(end) = (at as usize).checked_add(new.len()) {
+        if end <= cells.len() {
+            write_over(cells, end, new);
+            return Ok(());
+        }
     }
+    *cells = overwritten(alloc, cells.as_slice(), at, new.as_slice())?;
     Ok(())
 }
 
-// Bytes are written over others, the last one first.
-fn write_over(cells: &mut Items<Cell>, from: usize, new: Items<Cell>)
-    requires { from + length new ≤ length cells.old }
-    ensures { cells.new ≡ world.overwritten cells.old from new }
+// Bytes are written over others up to an end, the last one first.
+#[tactic(auto, using(crate::proofs::Overwriting::overwritten_last))]
+fn write_over(cells: &mut Items<Cell>, end: usize, new: Items<Cell>)
+    requires { (length new ≤ end) × (end ≤ length cells.old) }
+    ensures { cells.new ≡ world.overwritten cells.old (end - length new) new }
 {
     let mut rest = new;
+    let mut at = end;
     'writing: while let Some(cell) = rest.pop() {
-        cells.set(from + rest.len(), cell);
+        at -= 1;
+        cells.set(at, cell);
     }
 }

@@ -66,6 +66,17 @@ fn byte_of(item: &Item) -> Option<u8>
     }
 }
 
+// The bytes after what an item writes.
+fn note(item: &Item, written: &mut Items<u8>) -> Result<(), NoMemory>
+    ensures ok { OnOk result (written.new ≡ written.old ++ written_by item.now) }
+    ensures err { OnErr result (written.new ≡ written.old) }
+{
+    match byte_of(item) {
+        None => Ok(()),
+        Some(byte) => written.push(byte),
+    }
+}
+
 impl Past {
     /// Nothing happened yet.
     pub fn new(alloc: Global) -> Past
@@ -78,14 +89,13 @@ impl Past {
     }
 
     /// One thing more happened. Where memory runs out, none did.
-    pub fn push(&mut self, item: Item) -> Result<(), NoMemory>
-        ensures ok { OnOk result (self.new ≡ self.old ++ item ∷ []) }
+    #[tactic(auto, using(crate::proofs::Outputs::output_last))]
+    pub fn push(&mut self, item: &Item) -> Result<(), NoMemory>
+        ensures ok { OnOk result (self.new ≡ self.old ++ item.now ∷ []) }
         ensures err { OnErr result (self.new ≡ self.old) }
     {
-        if let Some(byte) = byte_of(&item) {
-            self.written.push(byte)?;
-        }
-        self.trail = Trail::with(&self.trail, &item);
+        note(item, &mut self.written)?;
+        self.trail = Trail::with(&self.trail, item);
         Ok(())
     }
 

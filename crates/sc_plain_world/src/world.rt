@@ -260,7 +260,10 @@ impl World {
     fn keep(&mut self, change: Change) -> Result<(), NoMemory>
         ensures { IfOk result (λ _. self.new ≡ record self.old { trail = self.old.trail ++ item_of change ∷ [] }) }
     {
-        self.past.push(Item { change })
+        let item = Item { change };
+        let kept = self.past.push(&item);
+        drop(item);
+        kept
     }
 
     /// Some units of work.

@@ -3,7 +3,7 @@ use Rattle.sc_plain.specs.Steady as steady
 use Rattle.sc_plain.specs.Steady.{alone}
 use Rattle.sc_plain.specs.Steps.{Brings}
 use Rattle.sc_plain.proofs.Unchanged.{quiet}
-use Rattle.sc_plain.proofs.Whole.{answer_finishes, call_finishes, finishes_here, first_of}
+use Rattle.sc_plain.proofs.Whole.{answer_finishes, call_finishes, finishes_here, first_of, steps_used_up}
 use Rattle.sc_plain.proofs.running.started.Goals as goal
 
 pub returns-in_err-a : goal.returns-in_err-a
@@ -19,3 +19,9 @@ returns-in_ok-tick-in-Answer c = λ s is begins.
     (subst (λ r. Brings (steady.ran c.args.steps (alone c.args.texts.now) c.args.texts.now (first_of c.args.texts.now c.statics_born.new.world)) (Ok r) c.main_called.new.world) c.in-Answer.is
     (c.in_ok-a.ensures (alone c.args.texts.now) (quiet c.args.texts.now)))
     c.status_of.ensures c.in_ok-tick-in-Answer.ensures
+
+pub returns-in-Nowhere : goal.returns-in-Nowhere
+returns-in-Nowhere c = λ s is begins.
+    steps_used_up c.args.texts.now s c.args.steps c.args.world.now c.statics_born.new.world c.main_called.new.world is begins c.in_ok-statics_born.ensures
+    (subst (λ r. Brings (steady.ran c.args.steps (alone c.args.texts.now) c.args.texts.now (first_of c.args.texts.now c.statics_born.new.world)) (Ok r) c.main_called.new.world) c.in-Nowhere.is
+    (c.in_ok-a.ensures (alone c.args.texts.now) (quiet c.args.texts.now)))
