@@ -5,7 +5,7 @@ use Rattle.sc_base.specs.declared.refusal.X.{X}
 use Rattle.sc_base.specs.declared.refusal.Fault.{Fault}
 use Rattle.sc_base.specs.declared.refusal.Fault.TheVariants as base
 use Rattle.sc_core.specs.declared.module.Core.{Core}
-use Rattle.sc_formed.specs.Formed.{formed}
+use Rattle.sc_formed.specs.Modules.{formed}
 use Rattle.sc_lex.specs.declared.token.Token.{Token}
 use Rattle.sc_outside.specs.Causes.{Rose}
 use Rattle.sc_outside.specs.Stored.{FileMap}
