@@ -58,11 +58,15 @@ fn in_file(alloc: Global, file: &str, fault: Fault) -> BuildFault
 fn checked(alloc: Global, name: &Name, file: &str, unit: Unit) -> Result<Core, BuildFault>
     ensures { (tokens : List Token) → IsUnit tokens unit.items → Checks tokens file.now name.now result }
 {
-    let outcome = check(alloc, name, &unit);
-    drop(unit);
-    match outcome {
-        Ok(core) => Ok(core),
-        Err(fault) => Err(in_file(alloc, file, fault)),
+    match check(alloc, name, &unit) {
+        Ok(core) => {
+            drop(unit);
+            Ok(core)
+        }
+        Err(fault) => {
+            drop(unit);
+            Err(in_file(alloc, file, fault))
+        }
     }
 }
 
