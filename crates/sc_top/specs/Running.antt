@@ -5,7 +5,7 @@ use Rattle.sc_meaning.specs.Versions.{Text, callee_of, Missing}
 use Rattle.sc_meaning.specs.World.{World}
 use Rattle.sc_plain.specs.declared.running.Ended.{Ended}
 use Rattle.sc_plain.specs.declared.running.Ended.TheVariants as ended
-use Rattle.sc_plain.specs.Ends.{EndsSo, Lasts, start_of}
+use Rattle.sc_plain.specs.Ends.{EndsSo, start_of}
 use Rattle.sc_reports.specs.Ends.{end_text}
 use Rattle.sc_top.specs.declared.running.Run.{Run}
 use Rattle.sc_top.specs.declared.running.Run.TheVariants as run
@@ -20,10 +20,9 @@ HasNoMain modules = callee_of modules main_key ≡ Missing
 abbrev pub program_of : List Text → Start
 program_of modules = start_of modules 1048576 4194304 []
 
--- The program ended so, as the meaning has it; only where the run lasts longer than 50,000,000 turns these are used up.
-pub record Ends (modules : List Text) (e : Ended) (w : World) : Type 0 where
-  pub ends : EndsSo 50000000 (program_of modules) e w
-  pub lasts : Lasts 50000000 modules (program_of modules) e
+-- The program ended so, as the meaning has it; or it lasts longer than 50,000,000 turns.
+abbrev pub Ends : List Text → Ended → World → Type 0
+Ends modules e w = EndsSo 50000000 (program_of modules) e w
 
 -- the state behind a run
 abbrev pub state_after : Ended → State
