@@ -1,5 +1,5 @@
 -- What `run` answers, by the meaning of the program that the modules are.
-use Rattle.std.specs.Prelude.{◌≡◌, ℕ, List, [], Some}
+use Rattle.std.specs.Prelude.{◌≡◌, ℕ, Bool, true, false, if◌then◌else◌, List, [], Some}
 use Rattle.sc_meaning.specs.Behaviour.{main_key, Start}
 use Rattle.sc_meaning.specs.Versions.{Text, callee_of, Missing}
 use Rattle.sc_meaning.specs.World.{World}
@@ -24,10 +24,13 @@ program_of modules = start_of modules 1048576 4194304 []
 abbrev pub Ends : List Text → Ended → World → Type 0
 Ends modules e w = EndsSo 50000000 (program_of modules) e w
 
--- the state behind a run
+-- the state behind a run, which is paused where its turns were used up
+abbrev pub is_paused : Ended → Bool
+is_paused ended.OutOfSteps = true
+is_paused _ = false
+
 abbrev pub state_after : Ended → State
-state_after ended.OutOfSteps = state.Paused
-state_after _ = state.Ended
+state_after e = if is_paused e then state.Paused else state.Ended
 
 -- what is said of a run that ended so, and the state behind it
 abbrev pub IsSaid : Ended → World → List ℕ → State → Type 0

@@ -63,21 +63,40 @@ pub fn run_of(alloc: Global, texts: &[Text]) -> Run
         steps: TURNS,
     };
     match run(alloc, texts, limits, Items::new(alloc)) {
-        Ok(finished) => told(alloc, finished),
+        Ok(finished) => {
+            let said = told(alloc, &finished);
+            drop(finished);
+            said
+        }
         Err(_) => Run::NoMemory,
     }
 }
 
 // What is said of a run.
-fn told(alloc: Global, finished: Finished) -> Run
-    ensures { spec.Tells finished.ended finished.world result }
+fn told(alloc: Global, finished: &Finished) -> Run
+    ensures { spec.Tells finished.now.ended finished.now.world result }
 {
-    let Ok(text) = end_text(alloc, TURNS, &finished) else {
+    let Ok(text) = end_text(alloc, TURNS, finished) else {
         return Run::NoMemory;
     };
     let text = Bytes::from_vec(text);
-    match finished.ended {
-        Ended::OutOfSteps => Run::Paused(text),
-        _ => Run::Ended(text),
+    if is_paused(&finished.ended) {
+        Run::Paused(text)
+    } else {
+        Run::Ended(text)
+    }
+}
+
+// Whether a run has used its turns up.
+fn is_paused(ended: &Ended) -> bool
+    ensures { result ≡ spec.is_paused ended.now }
+{
+    match ended {
+        Ended::OutOfSteps => true,
+        Ended::Exit(_) => false,
+        Ended::Undefined(_) => false,
+        Ended::StackFull(_) => false,
+        Ended::BirthLimit => false,
+        Ended::NoRoom => false,
     }
 }
