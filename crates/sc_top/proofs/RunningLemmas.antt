@@ -5,7 +5,10 @@ use Rattle.sc_meaning.specs.World.{World}
 use Rattle.sc_plain.specs.declared.running.Ended.{Ended}
 use Rattle.sc_top.specs.Plain.{Plain}
 use Rattle.sc_top.specs.Running.{Ends, HasNoMain, RunGives, RunsSo, Tells}
-use Rattle.sc_top.specs.Transcript.{Goes, IsOpen, IsPaused, in_state}
+use Rattle.sc_top.specs.Commands.{IsAnswered}
+use Rattle.sc_top.specs.Transcript.{Moment, AnswersTo, Stays, Goes, IsOpen, IsPaused, in_state}
+use Rattle.sc_top.specs.declared.command.Command.{Command}
+use Rattle.sc_top.specs.declared.command.Command.TheVariants as command
 use Rattle.sc_top.specs.declared.answer.Answer.TheVariants as answer
 use Rattle.sc_top.specs.declared.answer.Denied.TheVariants as denied
 use Rattle.sc_top.specs.declared.running.Run.{Run}
@@ -39,3 +42,15 @@ goes_to old text s open_ gives = (s, (open_, gives), refl)
 
 pub goes_nowhere : (old : Plain) → Goes old answer.NoMemory (in_state state.Ended old)
 goes_nowhere old = (state.Ended, inr refl, refl)
+
+still : (m : Moment) → Stays m m
+still m = record { session = refl; held = refl }
+
+-- want of memory before a command is carried out
+pub unanswered : (m : Moment) (c : Command) → IsAnswered c → AnswersTo m c answer.NoMemory m
+unanswered m command.Nothing h = absurd h
+unanswered m (command.Load name) h = (tt, still m)
+unanswered m command.Run h = (m.session, (m.session.state, inl refl, refl), refl)
+unanswered m command.Quit h = (tt, still m)
+unanswered m command.Unknown h = (tt, still m)
+unanswered m command.BadArguments h = (tt, still m)

@@ -7,4 +7,4 @@ use Rattle.sc_build.proofs.building.build.Goals as goal
 pub returns-in-Err-clause-answers : goal.returns-in-Err-clause-answers
 returns-in-Err-clause-answers g c =
     let P : BuildFault → Type 0 = λ f. Answers (g.F.Files.held c.args.files.now) (g.F.Files.faults c.args.files.now) (g.F.Files.faults c.preprocess.new.files) c.args.file.now c.args.name.now (Err f) in
-    subst P (sym c.of_files.ensures) (files_fail _ _ _ _ _ c.in-Err.fault c.in-Err.ensures.gives c.in-Err.ensures.blames c.in-Err.ensures.names)
+    subst P (sym c.of_files.ensures) (files_fail (g.F.Files.held c.args.files.now) (g.F.Files.faults c.args.files.now) (g.F.Files.faults c.preprocess.new.files) c.args.file.now c.args.name.now c.in-Err.fault c.in-Err.ensures.gives c.in-Err.ensures.blames c.in-Err.ensures.names)
