@@ -1,6 +1,8 @@
 -- What `run` answers.
 use Rattle.std.proofs.Common.{◌≡◌, List, ℕ, refl, sym, subst, inl, inr}
-use Rattle.sc_meaning.specs.Versions.{Text}
+use Rattle.sc_base.specs.declared.key.Key.{Key}
+use Rattle.sc_meaning.specs.Behaviour.{main_key}
+use Rattle.sc_meaning.specs.Versions.{Text, callee_of, Missing}
 use Rattle.sc_meaning.specs.World.{World}
 use Rattle.sc_plain.specs.declared.running.Ended.{Ended}
 use Rattle.sc_top.specs.Plain.{Plain}
@@ -54,3 +56,7 @@ unanswered m command.Run h = (m.session, (m.session.state, inl refl, refl), refl
 unanswered m command.Quit h = (tt, still m)
 unanswered m command.Unknown h = (tt, still m)
 unanswered m command.BadArguments h = (tt, still m)
+
+-- no module defines `main`
+pub without_main : (modules : List Text) (key : Key) → key ≡ main_key → callee_of modules key ≡ Missing → HasNoMain modules
+without_main modules key e missing = subst (λ k. callee_of modules k ≡ Missing) e missing

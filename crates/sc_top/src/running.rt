@@ -1,5 +1,5 @@
 // The program of the modules is run.
-ghost use Rattle.std.specs.Prelude.{◌≡◌, IfOk};
+ghost use Rattle.std.specs.Prelude.{◌≡◌, false, IfOk};
 ghost use Rattle.sc_meaning.specs.Behaviour.{main_key};
 ghost use Rattle.sc_meaning.specs.Versions as versions;
 ghost use Rattle.sc_top.specs.Running as spec;
@@ -39,7 +39,9 @@ fn main_key(alloc: Global) -> Result<Key, NoMemory>
 }
 
 // Whether a module defines `main`, with external linkage.
-fn has_main(texts: &[Text], key: &Key) -> bool {
+fn has_main(texts: &[Text], key: &Key) -> bool
+    ensures { result ≡ false → versions.callee_of texts.now key.now ≡ versions.Missing }
+{
     match callee_of(texts, key) {
         Callee::Missing => false,
         Callee::InLibrary(_) => true,
