@@ -1,0 +1,69 @@
+-- From what each phase answers to the answer of all.
+use Rattle.std.proofs.Common.{◌≡◌, ℕ, List, Option, Result, Ok, Err, true, refl, sym, subst}
+use Rattle.sc_base.specs.declared.refusal.Fault.{Fault}
+use Rattle.sc_base.specs.declared.refusal.Fault.TheVariants as base
+use Rattle.sc_core.specs.declared.module.Core.{Core}
+use Rattle.sc_formed.specs.Modules.{formed}
+use Rattle.sc_lex.specs.declared.token.Token.{Token}
+use Rattle.sc_outside.specs.Stored.{FileMap}
+use Rattle.sc_pp.specs.declared.unit.PpFault.{PpFault}
+use Rattle.sc_pp.specs.declared.unit.PpFault.TheVariants as pp
+use Rattle.sc_pp.specs.Preprocessing.{preprocessed}
+use Rattle.sc_pp.specs.Answers.{Known, BlamesFile}
+use Rattle.sc_pp.specs.Answers as read
+use Rattle.sc_pp.specs.Asked.{asked_in, IsFileAmong}
+use Rattle.sc_token.specs.Symbols.{symbols}
+use Rattle.sc_tree.specs.declared.statement.External.{External}
+use Rattle.sc_unit.specs.Machine.{start}
+use Rattle.sc_unit.specs.Parse.{answer, Gives}
+use Rattle.sc_build.specs.declared.building.BuildFault.{BuildFault}
+use Rattle.sc_build.specs.declared.building.BuildFault.TheVariants as fault
+use Rattle.sc_build.specs.Builds.{Answers, Checks, Reads, IsUnit, Refuses, in_preprocessing, in_grammar, in_types, InFile, of_files}
+
+-- preprocessing fails
+pub files_fail : (held : Option FileMap) (before now : ℕ) (file name : List ℕ) (f : PpFault)
+    → Known held (λ map. read.Answers (preprocessed map file) (Err f))
+    → BlamesFile {A = List Token} before now (Err f)
+    → Known held (λ map. IsFileAmong {A = List Token} (asked_in map file) (Err f))
+    → Answers held before now file name (Err (of_files f))
+files_fail held before now file name (pp.Refused r) gives blames names = in_preprocessing r gives
+files_fail held before now file name pp.Missing gives blames names = gives
+files_fail held before now file name pp.TooLong gives blames names = gives
+files_fail held before now file name (pp.File asked) gives blames names = (λ map known. names map known asked refl, blames asked refl)
+files_fail held before now file name pp.NoMemory gives blames names = tt
+
+-- the grammar refuses the tokens
+pub grammar_fails : (tokens : List Token) (file name : List ℕ) (f : Fault) (q : BuildFault)
+    → Gives (answer 0 1 start (symbols tokens)) (Err f) → InFile file f q → Checks tokens file name (Err q)
+grammar_fails tokens file name (base.Refused r) (fault.Refused q) gives e held before now reads =
+    subst (Refuses held file) (sym e) (in_grammar tokens r.kind r.line reads gives.0)
+grammar_fails tokens file name (base.Refused r) fault.Missing gives e held before now reads = absurd e
+grammar_fails tokens file name (base.Refused r) fault.TooLong gives e held before now reads = absurd e
+grammar_fails tokens file name (base.Refused r) (fault.File asked) gives e held before now reads = absurd e
+grammar_fails tokens file name (base.Refused r) fault.NoMemory gives e held before now reads = tt
+grammar_fails tokens file name base.NoMemory (fault.Refused q) gives e held before now reads = absurd e
+grammar_fails tokens file name base.NoMemory fault.Missing gives e held before now reads = absurd e
+grammar_fails tokens file name base.NoMemory fault.TooLong gives e held before now reads = absurd e
+grammar_fails tokens file name base.NoMemory (fault.File asked) gives e held before now reads = absurd e
+grammar_fails tokens file name base.NoMemory fault.NoMemory gives e held before now reads = tt
+
+-- the rules of types refuse the unit
+pub types_fail : (tokens : List Token) (items : List External) (file name : List ℕ) (f : Fault) (q : BuildFault)
+    → IsUnit tokens items → InFile file f q → Checks tokens file name (Err q)
+types_fail tokens items file name (base.Refused r) (fault.Refused q) unit e held before now reads =
+    subst (Refuses held file) (sym e) (in_types tokens items r.kind r.line reads unit)
+types_fail tokens items file name (base.Refused r) fault.Missing unit e held before now reads = absurd e
+types_fail tokens items file name (base.Refused r) fault.TooLong unit e held before now reads = absurd e
+types_fail tokens items file name (base.Refused r) (fault.File asked) unit e held before now reads = absurd e
+types_fail tokens items file name (base.Refused r) fault.NoMemory unit e held before now reads = tt
+types_fail tokens items file name base.NoMemory (fault.Refused q) unit e held before now reads = absurd e
+types_fail tokens items file name base.NoMemory fault.Missing unit e held before now reads = absurd e
+types_fail tokens items file name base.NoMemory fault.TooLong unit e held before now reads = absurd e
+types_fail tokens items file name base.NoMemory (fault.File asked) unit e held before now reads = absurd e
+types_fail tokens items file name base.NoMemory fault.NoMemory unit e held before now reads = tt
+
+-- the module is there
+pub succeeds : (tokens : List Token) (items : List External) (file name : List ℕ) (core : Core)
+    → IsUnit tokens items → core.name ≡ name → formed core ≡ true → Checks tokens file name (Ok core)
+succeeds tokens items file name core unit named law held before now reads =
+    record { tokens = tokens; items = items; reads = reads; parses = unit; named = named; formed = law }

@@ -1,0 +1,85 @@
+-- What it is for a module to be translated, and for its text to be refused (ANSI 2.1.1.2).
+use Rattle.std.specs.Prelude.{◌≡◌, ℕ, true, List, Contains, Option, Some, None, Result, Ok, Err, ⊤}
+use Rattle.sc_base.specs.declared.refusal.Refusal.{Refusal}
+use Rattle.sc_base.specs.declared.refusal.X.{X}
+use Rattle.sc_base.specs.declared.refusal.Fault.{Fault}
+use Rattle.sc_base.specs.declared.refusal.Fault.TheVariants as base
+use Rattle.sc_core.specs.declared.module.Core.{Core}
+use Rattle.sc_formed.specs.Modules.{formed}
+use Rattle.sc_lex.specs.declared.token.Token.{Token}
+use Rattle.sc_outside.specs.Causes.{Rose}
+use Rattle.sc_outside.specs.Stored.{FileMap}
+use Rattle.sc_pp.specs.declared.unit.PpFault.{PpFault}
+use Rattle.sc_pp.specs.declared.unit.PpFault.TheVariants as pp
+use Rattle.sc_pp.specs.Preprocessing.{preprocessed}
+use Rattle.sc_pp.specs.Answers.{Known}
+use Rattle.sc_pp.specs.Asked.{asked_in}
+use Rattle.sc_token.specs.Symbols.{symbols}
+use Rattle.sc_tree.specs.declared.statement.External.{External}
+use Rattle.sc_unit.specs.Machine.{start}
+use Rattle.sc_unit.specs.Parse.{answer}
+use Rattle.sc_build.specs.declared.building.BuildFault.{BuildFault}
+use Rattle.sc_build.specs.declared.building.BuildFault.TheVariants as fault
+
+-- what preprocessing answers to a file, where the files are known
+abbrev pub Reads : Option FileMap → List ℕ → Result (List Token) PpFault → Type 0
+Reads held file outcome = Known held (λ map. preprocessed map file ≡ outcome)
+
+-- the tokens are a unit of the grammar, which has these functions and declarations
+abbrev pub IsUnit : List Token → List External → Type 0
+IsUnit tokens items = answer 0 1 start (symbols tokens) ≡ Ok items
+
+-- there is no such file, or it is longer than a file may be
+abbrev pub IsMissing : Option FileMap → List ℕ → Type 0
+IsMissing held file = Reads held file (Err pp.Missing)
+
+abbrev pub IsTooLong : Option FileMap → List ℕ → Type 0
+IsTooLong held file = Reads held file (Err pp.TooLong)
+
+-- preprocessing asks for this file
+abbrev pub Asks : Option FileMap → List ℕ → List ℕ → Type 0
+Asks held file asked = Known held (λ map. Contains (asked_in map file) asked)
+
+-- The module in a file: its tokens, which are a unit, and of which the rules of types make a module.
+pub record Builds (held : Option FileMap) (file name : List ℕ) (core : Core) : Type 0 where
+  pub tokens : List Token
+  pub items : List External
+  pub reads : Reads held file (Ok tokens)
+  pub parses : IsUnit tokens items
+  pub named : core.name ≡ name
+  pub formed : formed core ≡ true
+
+-- Where the first refusal of a file comes from: preprocessing; the grammar, where preprocessing refuses nothing; the rules
+-- of types, where the grammar refuses nothing.
+pub data Refuses (held : Option FileMap) (file : List ℕ) : Refusal → Type 0 where
+  in_preprocessing : (r : Refusal) → Reads held file (Err (pp.Refused r)) → Refuses held file r
+  in_grammar : (tokens : List Token) (kind : X) (line : ℕ) → Reads held file (Ok tokens) → answer 0 1 start (symbols tokens) ≡ Err (kind, line) → Refuses held file (record { kind = kind; file = file; line = line })
+  in_types : (tokens : List Token) (items : List External) (kind : X) (line : ℕ) → Reads held file (Ok tokens) → IsUnit tokens items → Refuses held file (record { kind = kind; file = file; line = line })
+
+-- what the code answers
+abbrev pub Answers : Option FileMap → ℕ → ℕ → List ℕ → List ℕ → Result Core BuildFault → Type 0
+Answers held before now file name (Ok core) = Builds held file name core
+Answers held before now file name (Err (fault.Refused r)) = Refuses held file r
+Answers held before now file name (Err fault.Missing) = IsMissing held file
+Answers held before now file name (Err fault.TooLong) = IsTooLong held file
+Answers held before now file name (Err (fault.File asked)) = Asks held file asked × Rose before now
+Answers held before now file name (Err fault.NoMemory) = ⊤
+
+-- the same behind preprocessing
+abbrev pub Checks : List Token → List ℕ → List ℕ → Result Core BuildFault → Type 0
+Checks tokens file name result = (held : Option FileMap) (before now : ℕ) → Reads held file (Ok tokens) → Answers held before now file name result
+
+-- what preprocessing fails with
+abbrev pub of_files : PpFault → BuildFault
+of_files (pp.Refused r) = fault.Refused r
+of_files pp.Missing = fault.Missing
+of_files pp.TooLong = fault.TooLong
+of_files (pp.File name) = fault.File name
+of_files pp.NoMemory = fault.NoMemory
+
+-- a refusal of the grammar or of the rules of types stands in the module's own file
+abbrev pub InFile : List ℕ → Fault → BuildFault → Type 0
+InFile file (base.Refused r) (fault.Refused q) = q ≡ record { kind = r.kind; file = file; line = r.line }
+InFile file (base.Refused r) fault.NoMemory = Unit {0}
+InFile file base.NoMemory fault.NoMemory = Unit {0}
+InFile file _ _ = ⊥

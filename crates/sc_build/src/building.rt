@@ -1,0 +1,100 @@
+// A module is translated (ANSI 2.1.1.2).
+ghost use Rattle.std.specs.Prelude.{◌≡◌, ◌≤◌, List};
+ghost use Rattle.sc_lex.specs.declared.token.Token.{Token};
+ghost use Rattle.sc_build.specs.Builds.{Answers, Checks, IsUnit, InFile, of_files};
+
+use sc_base::{Bytes, Fault, Items, Name, Refusal};
+use sc_check::check;
+use sc_core::Core;
+use sc_lex::Token;
+use sc_outside::Files;
+use sc_parse::parse;
+use sc_pp::{PpFault, preprocess};
+use sc_tree::Unit;
+use std::alloc::Global;
+
+/// Why there is no module: its text is refused; its file is missing or has more than 8,388,608 bytes; a file could not be
+/// read; no memory was left.
+#[derive(Drop)]
+pub enum BuildFault {
+    Refused(Refusal),
+    Missing,
+    TooLong,
+    File(Bytes),
+    NoMemory,
+}
+
+// What preprocessing fails with.
+fn of_files(fault: PpFault) -> BuildFault
+    ensures { result ≡ of_files fault }
+{
+    match fault {
+        PpFault::Refused(refusal) => BuildFault::Refused(refusal),
+        PpFault::Missing => BuildFault::Missing,
+        PpFault::TooLong => BuildFault::TooLong,
+        PpFault::File(name) => BuildFault::File(name),
+        PpFault::NoMemory => BuildFault::NoMemory,
+    }
+}
+
+// A refusal of the grammar or of the rules of types, which stands in the module's own file.
+fn in_file(alloc: Global, file: &str, fault: Fault) -> BuildFault
+    ensures { InFile file.now fault result }
+{
+    match fault {
+        Fault::NoMemory => BuildFault::NoMemory,
+        Fault::Refused(refusal) => match Bytes::from_slice(alloc, file.as_bytes()) {
+            Ok(file) => BuildFault::Refused(Refusal {
+                kind: refusal.kind,
+                file,
+                line: refusal.line,
+            }),
+            Err(_) => BuildFault::NoMemory,
+        },
+    }
+}
+
+// The module of a unit.
+fn checked(alloc: Global, name: &Name, file: &str, unit: Unit) -> Result<Core, BuildFault>
+    ensures { (tokens : List Token) → IsUnit tokens unit.items → Checks tokens file.now name.now result }
+{
+    match check(alloc, name, &unit) {
+        Ok(core) => {
+            drop(unit);
+            Ok(core)
+        }
+        Err(fault) => {
+            drop(unit);
+            Err(in_file(alloc, file, fault))
+        }
+    }
+}
+
+// The module of some tokens.
+fn parsed(alloc: Global, name: &Name, file: &str, tokens: &[Token]) -> Result<Core, BuildFault>
+    ensures { Checks tokens.now file.now name.now result }
+{
+    match parse(alloc, tokens) {
+        Ok(unit) => checked(alloc, name, file, unit),
+        Err(fault) => Err(in_file(alloc, file, fault)),
+    }
+}
+
+/// The module in a file, with this name. The refusal of a text is the first of preprocessing, with the file in which its
+/// line stands; else the grammar's, else that of the rules of types, in the module's own file. `File` is the name of a file
+/// that was asked for and could not be read, only where the count of faults rose.
+pub fn build<F: Files>(
+    alloc: Global,
+    name: &Name,
+    file: &str,
+    files: &mut F,
+) -> Result<Core, BuildFault>
+    ensures answers { Answers (F.held files.old) (F.faults files.old) (F.faults files.new) file.now name.now result }
+    ensures held { F.held files.new ≡ F.held files.old }
+    ensures later { F.faults files.old ≤ F.faults files.new }
+{
+    match preprocess(alloc, file, files) {
+        Ok(tokens) => parsed(alloc, name, file, tokens.as_slice()),
+        Err(fault) => Err(of_files(fault)),
+    }
+}

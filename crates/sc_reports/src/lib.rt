@@ -1,0 +1,10 @@
+//! What is said of the end of a run.
+#![tactic(auto)]
+
+mod breach;
+mod end;
+mod place;
+mod word;
+
+pub use end::end_text;
+pub use word::rule_text;

@@ -1,0 +1,5 @@
+//! Tests of whole sessions over memory.
+#![tactic(auto)]
+
+#[cfg(test)]
+mod sessions;

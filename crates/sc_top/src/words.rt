@@ -1,0 +1,50 @@
+// The words of a line, one at a time from the front.
+ghost use Rattle.std.specs.Prelude.{◌≡◌, ℕ, [], ◌∷◌, length, IfSome, IfNone};
+ghost use Rattle.std.specs.List.{take_while};
+ghost use Rattle.sc_top.specs.Words.{words_of, is_space, is_letter, is_name_byte, is_word_byte};
+
+pub fn is_letter(b: u8) -> bool
+    ensures { result ≡ is_letter b }
+{
+    (65 <= b && b <= 90) || (97 <= b && b <= 122)
+}
+
+pub fn is_name_byte(b: u8) -> bool
+    ensures { result ≡ is_name_byte b }
+{
+    is_letter(b) || (48 <= b && b <= 57) || b == 95
+}
+
+fn is_space(b: u8) -> bool
+    ensures { result ≡ is_space b }
+{
+    b == 32 || b == 9 || b == 13
+}
+
+// How many bytes stand before the next word.
+fn skipped(text: &[u8]) -> usize
+    ensures { result ≡ length (take_while is_space text.now) }
+{
+    text.iter().take_while(|b| is_space(**b)).count()
+}
+
+// How many bytes at the front are of a word.
+fn joined(text: &[u8]) -> usize
+    ensures { result ≡ length (take_while is_word_byte text.now) }
+{
+    text.iter().take_while(|b| !is_space(**b)).count()
+}
+
+/// The first word, and what stands behind it.
+pub fn next_word<'a>(text: &'a [u8]) -> Option<(&'a [u8], &'a [u8])>
+    ensures none { IfNone result (words_of text.now ≡ []) }
+    ensures some { IfSome result (λ found. words_of text.now ≡ found.0.now ∷ words_of found.1.now) }
+{
+    let start = skipped(text);
+    let (_, rest) = text.split_at(start);
+    if rest.is_empty() {
+        return None;
+    }
+    let count = joined(rest);
+    Some(rest.split_at(count))
+}
