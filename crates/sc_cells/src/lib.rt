@@ -2,4 +2,5 @@
 #![tactic(auto)]
 
 mod cells;
+
 pub use cells::Cells;

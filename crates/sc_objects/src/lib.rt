@@ -3,5 +3,6 @@
 
 mod heap;
 mod objects;
+
 pub use heap::Heap;
 pub use objects::{BirthFault, Obj, Objects};

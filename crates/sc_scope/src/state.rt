@@ -1,5 +1,6 @@
 // What is in scope, and what a unit's text has given so far.
-ghost use Rattle.std.specs.Prelude.{◌≡◌, [], ◌∷◌, ◌++◌, length, position, is_some, false, OnOk};
+ghost use Rattle.std.specs.Prelude.{◌≡◌, [], ◌∷◌, ◌++◌, length, position, slice_get, is_some, false, OnOk};
+ghost use Rattle.std.specs.Option.{option_copied};
 ghost use Rattle.std.specs.List.{list_any};
 ghost use Rattle.std.specs.Str.{bytes_eq};
 ghost use Rattle.sc_scope.specs.Steps.{GivesWith};
@@ -53,6 +54,13 @@ impl Literals {
         ensures { result ≡ length self.now }
     {
         self.texts.len()
+    }
+
+    /// The literal at a place.
+    pub fn get(&self, at: usize) -> Option<&Bytes>
+        ensures { option_copied result ≡ slice_get self.now at }
+    {
+        self.texts.get_index(at)
     }
 
     /// The place of a literal.

@@ -1,0 +1,249 @@
+// Definitions of functions (ANSI 3.7.1).
+
+use crate::fault::{UnitFault, rule};
+use crate::linked::{Declared, link, name_link};
+use crate::local::local;
+use crate::needs::{Needs, statement as needs_of};
+use crate::progress::{Around, Body, Translation};
+use crate::renumber::renumbered;
+use crate::statement::block;
+use indexmap::IndexMap;
+use sc_base::{Duplicate, Items, Name, NoMemory, Shared};
+use sc_check_expr::{declarator, parameters, specifiers};
+use sc_core::{CoreStmt, Fun};
+use sc_declare::{Place, defined_parameter, may_stand};
+use sc_linkage::{Local, cost, place as placed};
+use sc_scope::{Meaning, State, enter, leave};
+use sc_tree::{Declarator, Derivation, Function, Identifier, Parameter, Specifiers};
+use sc_types::{CType, Signature};
+use std::alloc::Global;
+
+/// The parameters of a declarator that is itself that of a function.
+fn own_parameters(d: &Declarator) -> Option<&[Parameter]> {
+    match d.derivations.as_slice().first() {
+        Some(Derivation::Prototype(list)) => Some(list.as_slice()),
+        Some(Derivation::Function) => Some(&[]),
+        _ => None,
+    }
+}
+
+/// The type of the function, as it is where the parameters stand in the scope of its body. The structures that the list of parameters
+/// declares are made there once more, so that they are counted on.
+fn definition_type(
+    alloc: Global,
+    st: &mut State,
+    list: &Specifiers,
+    d: &Declarator,
+) -> Result<CType, UnitFault> {
+    let base = specifiers(alloc, st, list)?;
+    let before = st.structs.as_slice().len();
+    let of = declarator(alloc, st, d, base)?;
+    let count = st.structs.as_slice().len();
+    if count > before {
+        Ok(renumbered(alloc, &of.of, before, count - before)?)
+    } else {
+        Ok(of.of)
+    }
+}
+
+fn signature_of(alloc: Global, of: &CType) -> Result<Option<Signature>, NoMemory> {
+    match of {
+        CType::Function(signature) => Ok(Some(signature.get().copy(alloc)?)),
+        _ => Ok(None),
+    }
+}
+
+fn identifier_of(p: &Parameter) -> Option<&Identifier> {
+    match &p.declarator {
+        Some(d) => d.identifier.as_ref(),
+        None => None,
+    }
+}
+
+/// Each parameter has a name and a complete object type.
+fn complete_parameters(st: &State, list: &[Parameter], types: &[CType]) -> Result<(), UnitFault> {
+    for (p, of) in list.iter().zip(types.iter()) {
+        defined_parameter(&st.structs, p.line, identifier_of(p).is_some(), of)?;
+    }
+    Ok(())
+}
+
+/// A parameter in the scope that has it.
+fn parameter_local(alloc: Global, st: &State, p: &Parameter) -> Result<Local, UnitFault> {
+    let Some(id) = identifier_of(p) else {
+        return Err(rule(p.line));
+    };
+    match st.names.find(&id.name) {
+        Some(Meaning::Automatic(of, _, _, _)) => local(alloc, &st.structs, p.line, &id.name, of),
+        _ => Err(rule(p.line)),
+    }
+}
+
+/// The parameters, declared in the scope of the body, which is there; they are block 0.
+fn parameter_locals(
+    alloc: Global,
+    st: &mut State,
+    list: &[Parameter],
+) -> Result<Items<Local>, UnitFault> {
+    let types = parameters(alloc, st, list)?;
+    drop(types);
+    let mut locals = Items::new(alloc);
+    for p in list {
+        let own = parameter_local(alloc, st, p)?;
+        locals.push(own)?;
+    }
+    Ok(locals)
+}
+
+fn new_body(
+    alloc: Global,
+    name: &Name,
+    gives: &CType,
+    locals: Items<Local>,
+) -> Result<Body, NoMemory> {
+    let mut blocks = Items::new(alloc);
+    blocks.push(locals)?;
+    let name = name.copy(alloc)?;
+    let result = gives.copy(alloc)?;
+    Ok(Body {
+        name,
+        result,
+        blocks,
+        counts: IndexMap::new(alloc),
+        switches: Vec::new(alloc),
+    })
+}
+
+/// What a definition says before its body.
+#[derive(Drop)]
+struct Head<'a> {
+    line: u32,
+    id: &'a Identifier,
+    external: bool,
+    of: Signature,
+}
+
+fn made(
+    alloc: Global,
+    head: &Head,
+    blocks: &[Items<Local>],
+    needs: Needs,
+    body: Shared<CoreStmt>,
+) -> Result<Fun, UnitFault> {
+    let cost = cost(head.line, blocks, needs.room, needs.args)?;
+    let blocks = placed(alloc, blocks, needs.room, needs.args)?;
+    let name = head.id.name.copy(alloc)?;
+    let of = head.of.copy(alloc)?;
+    Ok(Fun {
+        name,
+        external: head.external,
+        line: head.id.line,
+        of,
+        blocks,
+        cost,
+        body,
+    })
+}
+
+/// The body with the parameters in its scope (ANSI 3.1.2.1).
+fn with_body(
+    alloc: Global,
+    m: &mut Translation,
+    head: &Head,
+    list: &[Parameter],
+    f: &Function,
+) -> Result<Fun, UnitFault> {
+    let outer = enter(&mut m.st);
+    let locals = parameter_locals(alloc, &mut m.st, list)?;
+    let mut body = new_body(alloc, &head.id.name, &head.of.result, locals)?;
+    let core = block(
+        alloc,
+        m,
+        &mut body,
+        Around::OUTSIDE,
+        false,
+        f.body.line,
+        f.body.declarations.as_slice(),
+        f.body.statements.as_slice(),
+    )?;
+    leave(&mut m.st, outer);
+    let needs = needs_of(core.get());
+    made(alloc, head, body.blocks.as_slice(), needs, core)
+}
+
+fn is_external(m: &Translation, place: usize) -> bool {
+    match m.links.as_slice().get(place) {
+        Some(link) => link.key.module.is_none(),
+        None => false,
+    }
+}
+
+/// The name of the function, at file scope; the answer is its place among the names with linkage.
+fn named(alloc: Global, m: &mut Translation, x: &Declared) -> Result<usize, UnitFault> {
+    let place = link(alloc, m, x)?;
+    m.links.begin_function(x.line, place)?;
+    name_link(alloc, m, place, &x.id.name)?;
+    Ok(place)
+}
+
+/// A definition whose declarator is that of a function with these parameters.
+fn defined(
+    alloc: Global,
+    m: &mut Translation,
+    f: &Function,
+    id: &Identifier,
+    list: &[Parameter],
+) -> Result<(), UnitFault> {
+    let line = f.declarator.line;
+    let of = definition_type(alloc, &mut m.st, &f.specifiers, &f.declarator)?;
+    let Some(signature) = signature_of(alloc, &of)? else {
+        return Err(rule(line));
+    };
+    if !may_stand(Place::Definition, f.specifiers.storage) {
+        return Err(rule(line));
+    }
+    complete_parameters(&m.st, list, signature.params.as_slice())?;
+    let x = Declared {
+        line,
+        id,
+        storage: f.specifiers.storage,
+        of,
+    };
+    let place = named(alloc, m, &x)?;
+    let head = Head {
+        line: f.line,
+        id,
+        external: is_external(m, place),
+        of: signature,
+    };
+    let fun = with_body(alloc, m, &head, list, f)?;
+    m.links.end_function(f.line, place)?;
+    m.funs.push(fun)?;
+    Ok(())
+}
+
+/// The type of a declarator that defines no function, whose own refusals come first.
+fn wrong_declarator(alloc: Global, m: &mut Translation, f: &Function) -> UnitFault {
+    match definition_type(alloc, &mut m.st, &f.specifiers, &f.declarator) {
+        Ok(_) => rule(f.declarator.line),
+        Err(fault) => fault,
+    }
+}
+
+/// A definition of a function.
+///
+/// # Errors
+///
+/// As its specifiers, its declarator and its body. Its own: `Rule` (X7) for a declarator that is not itself that of a function,
+/// another storage class than `extern` and `static`, a parameter without a name or a complete type, declarations that do not agree, and a second body; X9
+/// `main` and `libraryname`; X10 `frame`.
+pub(crate) fn define_function(
+    alloc: Global,
+    m: &mut Translation,
+    f: &Function,
+) -> Result<(), UnitFault> {
+    match (&f.declarator.identifier, own_parameters(&f.declarator)) {
+        (Some(id), Some(list)) => defined(alloc, m, f, id, list),
+        _ => Err(wrong_declarator(alloc, m, f)),
+    }
+}

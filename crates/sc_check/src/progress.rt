@@ -1,0 +1,139 @@
+// What the text of a unit has given up to a place, and what is open there.
+
+use indexmap::{IndexMap, IndexSet};
+use sc_base::{Int, Items, Name, NoMemory, Shared};
+use sc_core::{CoreStmt, Fun, Init, StaticObj, SwitchLabel};
+use sc_linkage::{Birth, Links, Local};
+use sc_scope::State;
+use sc_types::CType;
+use std::alloc::Global;
+
+/// A unit that is being checked: its module's name; what is in scope; the names with linkage, and beside each the contents that an
+/// initialiser gives its object; what is born, in the order of the text, with how many of the literals it tells; the objects of
+/// blocks with static storage duration; and the functions.
+#[derive(Drop)]
+pub(crate) struct Translation {
+    pub home: Name,
+    pub st: State,
+    pub links: Links,
+    pub contents: Items<Option<Items<Init>>>,
+    pub noted: Items<Birth>,
+    pub literals: usize,
+    pub objects: Items<StaticObj>,
+    pub funs: Items<Fun>,
+}
+
+impl Translation {
+    /// Nothing yet, at the beginning of a unit, which takes no memory.
+    pub(crate) fn new(alloc: Global, home: Name) -> Translation {
+        Translation {
+            home,
+            st: State::new(alloc),
+            links: Links::new(alloc),
+            contents: Items::new(alloc),
+            noted: Items::new(alloc),
+            literals: 0,
+            objects: Items::new(alloc),
+            funs: Items::new(alloc),
+        }
+    }
+
+    /// Notes the literals that have appeared since.
+    pub(crate) fn note_literals(&mut self) -> Result<(), NoMemory> {
+        let count = self.st.literals.len();
+        for at in self.literals..count {
+            let Ok(number) = u32::try_from(at) else {
+                return Err(NoMemory);
+            };
+            self.noted.push(Birth::Literal(number))?;
+        }
+        self.literals = count;
+        Ok(())
+    }
+
+    /// Notes a birth behind the literals that have appeared before it; the answer is its place in the order of births.
+    pub(crate) fn note(&mut self, birth: Birth) -> Result<usize, NoMemory> {
+        self.note_literals()?;
+        let place = self.noted.len();
+        self.noted.push(birth)?;
+        Ok(place)
+    }
+}
+
+/// A `switch` whose body is being checked: the type of its controlling expression, the values of its labels, whether `default` is
+/// among them, and the labels.
+#[derive(Drop)]
+pub(crate) struct OpenSwitch {
+    pub of: Int,
+    pub values: IndexSet<u32>,
+    pub has_default: bool,
+    pub labels: Items<SwitchLabel>,
+}
+
+/// A function whose body is being checked: its name, the type of its result, the objects of each block so far, how many static
+/// objects of each name its blocks have had, and the `switch` statements that are open.
+#[derive(Drop)]
+pub(crate) struct Body {
+    pub name: Name,
+    pub result: CType,
+    pub blocks: Items<Items<Local>>,
+    pub counts: IndexMap<Name, u32>,
+    pub switches: Vec<OpenSwitch>,
+}
+
+/// A block whose declarations are being checked: its number, its objects, and its initialised automatic objects.
+#[derive(Drop)]
+pub(crate) struct OpenBlock {
+    pub number: u32,
+    pub locals: Items<Local>,
+    pub initialized: Items<Shared<CoreStmt>>,
+}
+
+/// Where a statement stands: whether it is in a loop, whether in a loop or a `switch`, and its place in the list of the innermost
+/// `switch`'s body, where it stands there.
+#[derive(Clone, Copy, Debug, PartialEq, Eq)]
+pub(crate) struct Around {
+    pub in_loop: bool,
+    pub may_break: bool,
+    pub at: Option<u32>,
+}
+
+impl Around {
+    /// The body of a function.
+    pub(crate) const OUTSIDE: Around = Around {
+        in_loop: false,
+        may_break: false,
+        at: None,
+    };
+
+    /// A part of a statement here, which is in no list of a `switch`.
+    pub(crate) fn part(self) -> Around {
+        Around { at: None, ..self }
+    }
+
+    /// The body of a loop here.
+    pub(crate) fn looped(self) -> Around {
+        Around {
+            in_loop: true,
+            may_break: true,
+            at: None,
+        }
+    }
+
+    /// The body of a `switch` here.
+    pub(crate) fn switched(self) -> Around {
+        Around {
+            may_break: true,
+            at: None,
+            ..self
+        }
+    }
+
+    /// A statement at this place of the list of a `switch`'s body.
+    pub(crate) fn listed(self, at: u32) -> Around {
+        Around {
+            at: Some(at),
+            ..self
+        }
+    }
+}
