@@ -2,11 +2,11 @@
 
 use crate::alone::{declarator_type, declare_alone};
 use crate::fault::{UnitFault, rule};
-use crate::initial::static_initializer;
 use crate::linked::{Declared, link, name_link, name_type, no_initializer};
 use crate::progress::Translation;
 use sc_base::{Duplicate, NoMemory};
 use sc_check_expr::specifiers;
+use sc_check_initial::static_initializer;
 use sc_declare::{DeclaredType, Place, may_stand};
 use sc_linkage::Birth;
 use sc_operand::is_function;
@@ -32,7 +32,7 @@ fn initialize(
     given: &Initializer,
 ) -> Result<(), UnitFault> {
     let of = type_so_far(alloc, m, place)?;
-    let (of, init) = static_initializer(alloc, &mut m.st, x.line, &of, given)?;
+    let (of, init) = static_initializer(alloc, &mut m.st, &m.home, &of, given)?;
     m.links.initialize(alloc, x.line, number, &of, place)?;
     if place < m.contents.len() {
         m.contents.set(place, Some(init));

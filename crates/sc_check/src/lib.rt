@@ -6,7 +6,6 @@ mod alone;
 mod fault;
 mod file;
 mod function;
-mod initial;
 mod labels;
 mod linked;
 mod local;

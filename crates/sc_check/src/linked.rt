@@ -3,10 +3,11 @@
 use crate::fault::{UnitFault, rule};
 use crate::progress::Translation;
 use sc_base::{Duplicate, Name, NoMemory};
-use sc_check_expr::expression;
+use sc_check_initial::typed;
+use sc_declare::DeclaredType;
 use sc_linkage::{Declaration, Link};
 use sc_operand::is_function;
-use sc_scope::{CheckFault, Meaning, State};
+use sc_scope::{Meaning, State};
 use sc_tree::{Identifier, Initializer, Storage};
 use sc_types::CType;
 use std::alloc::Global;
@@ -101,23 +102,6 @@ pub(crate) fn link(alloc: Global, m: &mut Translation, x: &Declared) -> Result<u
     Ok(place)
 }
 
-/// What the expressions of an initialiser refuse.
-fn visit(alloc: Global, st: &mut State, given: &Initializer) -> Result<(), CheckFault> {
-    match given {
-        Initializer::Expression(_, e) => {
-            let value = expression(alloc, st, false, e.get())?;
-            drop(value);
-            Ok(())
-        }
-        Initializer::List(_, all) => {
-            for one in all.as_slice() {
-                visit(alloc, st, one)?;
-            }
-            Ok(())
-        }
-    }
-}
-
 /// A declarator that may have no initialiser (ANSI 3.5.7).
 ///
 /// # Errors
@@ -131,7 +115,7 @@ pub(crate) fn no_initializer(
 ) -> Result<(), UnitFault> {
     match given {
         Some(given) => {
-            visit(alloc, &mut m.st, given)?;
+            typed(alloc, &mut m.st, given)?;
             Err(rule(line))
         }
         None => Ok(()),
@@ -148,7 +132,7 @@ pub(crate) fn name_type(
     m: &mut Translation,
     line: u32,
     name: &Name,
-    of: sc_declare::DeclaredType,
+    of: DeclaredType,
 ) -> Result<(), UnitFault> {
     let name = name.copy(alloc)?;
     m.st.declare(alloc, line, name, Meaning::Typedef(of))?;

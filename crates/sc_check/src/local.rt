@@ -2,11 +2,11 @@
 
 use crate::alone::{declarator_type, declare_alone};
 use crate::fault::{UnitFault, rule};
-use crate::initial::{automatic_initializer, static_initializer, zeros};
 use crate::linked::{Declared, link, name_link, name_type, no_initializer};
 use crate::progress::{Body, OpenBlock, Translation};
 use sc_base::{Duplicate, Items, Key, Name, NoMemory, Shared};
 use sc_check_expr::specifiers;
+use sc_check_initial::{automatic_initializer, static_initializer, zeros};
 use sc_core::{AutoInit, CoreStmt, Init, StaticObj};
 use sc_declare::{DeclaredType, Place, is_constant, may_stand};
 use sc_linkage::{Birth, Local, block_key};
@@ -98,7 +98,7 @@ fn initialized(
     register: bool,
     given: &Initializer,
 ) -> Result<CType, UnitFault> {
-    let (of, pieces) = automatic_initializer(alloc, st, x.line, &x.of, given)?;
+    let (of, pieces) = automatic_initializer(alloc, st, &x.of, given)?;
     initialize(alloc, open, x.id.line, pieces)?;
     let meaning = automatic_meaning(&of, alloc, open, register)?;
     st.names.declare(alloc, x.id.name.copy(alloc)?, meaning)?;
@@ -161,11 +161,12 @@ fn empty_contents(
 fn contents(
     alloc: Global,
     st: &mut State,
+    home: &Name,
     x: &Declared,
     given: &Option<Initializer>,
 ) -> Result<(CType, Items<Init>), UnitFault> {
     match given {
-        Some(given) => Ok(static_initializer(alloc, st, x.line, &x.of, given)?),
+        Some(given) => Ok(static_initializer(alloc, st, home, &x.of, given)?),
         None => empty_contents(alloc, &st.structs, x),
     }
 }
@@ -177,7 +178,7 @@ fn static_object(
     x: &Declared,
     given: &Option<Initializer>,
 ) -> Result<(), UnitFault> {
-    let (of, init) = contents(alloc, &mut m.st, x, given)?;
+    let (of, init) = contents(alloc, &mut m.st, &m.home, x, given)?;
     let constant = is_constant(&of);
     let meaning = Meaning::Static(of.copy(alloc)?, key.copy(alloc)?);
     m.st.names.declare(alloc, x.id.name.copy(alloc)?, meaning)?;

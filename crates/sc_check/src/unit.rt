@@ -3,10 +3,10 @@
 use crate::fault::UnitFault;
 use crate::file::declare_file;
 use crate::function::define_function;
-use crate::initial::zeros;
 use crate::outcome::told;
 use crate::progress::Translation;
 use sc_base::{Bytes, Duplicate, Fault, Items, Name, NoMemory};
+use sc_check_initial::zeros;
 use sc_core::{Core, Declared, Init, StaticObj};
 use sc_declare::is_constant;
 use sc_linkage::{Definition, Link, born};

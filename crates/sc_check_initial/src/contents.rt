@@ -1,0 +1,171 @@
+// The contents of an object of static storage duration (ANSI 3.5.7): its bytes in order.
+
+use crate::fault::not_constant;
+use sc_base::{Bytes, Duplicate, Items, Name, NoMemory};
+use sc_core::{AutoInit, CoreExpr, Init};
+use sc_operand::{Base, Located, address_constant, integer_constant, object_size};
+use sc_program::StaticId;
+use sc_scope::{CheckFault, Literals};
+use sc_types::{CType, Structs, int_size};
+use std::alloc::Global;
+
+/// The bytes so far, and the offset behind the last of them.
+#[derive(Drop)]
+struct Contents {
+    end: usize,
+    items: Items<Init>,
+}
+
+/// What an address is an address of: the module's name, and its literals.
+struct Home<'a> {
+    name: &'a Name,
+    literals: &'a Literals,
+}
+
+fn put_zeros(count: usize, items: &mut Items<Init>) -> Result<(), NoMemory> {
+    for _ in 0..count {
+        items.push(Init::Byte(0))?;
+    }
+    Ok(())
+}
+
+fn put_bytes(bytes: &[u8], items: &mut Items<Init>) -> Result<(), NoMemory> {
+    for b in bytes {
+        items.push(Init::Byte(*b))?;
+    }
+    Ok(())
+}
+
+/// The low bytes of a number, the lowest first.
+fn put_number(size: u32, n: u32, items: &mut Items<Init>) -> Result<(), NoMemory> {
+    let bytes = n.to_le_bytes();
+    put_bytes(&bytes[..size.min(4) as usize], items)
+}
+
+fn literal(alloc: Global, name: &Name, bytes: &Bytes) -> Result<StaticId, NoMemory> {
+    let name = name.copy(alloc)?;
+    let bytes = bytes.copy(alloc)?;
+    Ok(StaticId::Literal(name, bytes))
+}
+
+/// What an address is one of, `None` where it is null.
+fn identity(
+    alloc: Global,
+    home: &Home<'_>,
+    line: u32,
+    base: &Base,
+) -> Result<Option<StaticId>, CheckFault> {
+    match base {
+        Base::Null => Ok(None),
+        Base::Static(key) => Ok(Some(StaticId::Named(key.copy(alloc)?))),
+        Base::Function(key) => Ok(Some(StaticId::Named(key.copy(alloc)?))),
+        Base::Literal(n) => match home.literals.get(*n as usize) {
+            Some(bytes) => Ok(Some(literal(alloc, home.name, bytes)?)),
+            None => Err(not_constant(line)),
+        },
+    }
+}
+
+fn put_address(
+    alloc: Global,
+    home: &Home<'_>,
+    line: u32,
+    place: &Located,
+    items: &mut Items<Init>,
+) -> Result<(), CheckFault> {
+    match identity(alloc, home, line, &place.base)? {
+        Some(id) => items.push(Init::Address(id, place.offset))?,
+        None => put_zeros(4, items)?,
+    }
+    Ok(())
+}
+
+fn scalar_size(of: &CType) -> u32 {
+    match of {
+        CType::Int(kind, _) => int_size(*kind),
+        _ => 4,
+    }
+}
+
+/// A constant in the type of its place.
+fn put_constant(
+    alloc: Global,
+    home: &Home<'_>,
+    line: u32,
+    of: &CType,
+    e: &CoreExpr,
+    items: &mut Items<Init>,
+) -> Result<(), CheckFault> {
+    match of {
+        CType::Int(kind, _) => {
+            let value = integer_constant(line, e)?;
+            put_number(int_size(*kind), value.0, items)?;
+            Ok(())
+        }
+        _ => {
+            let place = address_constant(alloc, line, e)?;
+            put_address(alloc, home, line, &place, items)
+        }
+    }
+}
+
+/// Zero bytes up to an offset.
+fn pad(at: usize, done: &mut Contents) -> Result<(), NoMemory> {
+    put_zeros(at.saturating_sub(done.end), &mut done.items)
+}
+
+fn put_piece(
+    alloc: Global,
+    home: &Home<'_>,
+    line: u32,
+    piece: &AutoInit,
+    done: &mut Contents,
+) -> Result<(), CheckFault> {
+    match piece {
+        AutoInit::Value(at, of, e) => {
+            pad(*at as usize, done)?;
+            put_constant(alloc, home, line, of, e.get(), &mut done.items)?;
+            done.end = *at as usize + scalar_size(of) as usize;
+            Ok(())
+        }
+        AutoInit::Text(at, bytes) => {
+            pad(*at as usize, done)?;
+            put_bytes(bytes.as_slice(), &mut done.items)?;
+            done.end = *at as usize + bytes.as_slice().len();
+            Ok(())
+        }
+        AutoInit::Zero(_, _) => Ok(()),
+        AutoInit::Structure(_, _) => Err(not_constant(line)),
+    }
+}
+
+/// The bytes of an object of this size with these pieces, which are in the order of offsets; the others are zero.
+pub(crate) fn contents(
+    alloc: Global,
+    name: &Name,
+    literals: &Literals,
+    line: u32,
+    size: u32,
+    pieces: &[AutoInit],
+) -> Result<Items<Init>, CheckFault> {
+    let home = Home { name, literals };
+    let mut done = Contents {
+        end: 0,
+        items: Items::new(alloc),
+    };
+    for piece in pieces {
+        put_piece(alloc, &home, line, piece, &mut done)?;
+    }
+    pad(size as usize, &mut done)?;
+    let Contents { end: _, items } = done;
+    Ok(items)
+}
+
+/// The contents of an object of static storage duration that has no initialiser (ANSI 3.5.7): as many zero bytes as it has bytes.
+pub fn zeros(alloc: Global, structs: &Structs, of: &CType) -> Result<Items<Init>, NoMemory> {
+    let mut items = Items::new(alloc);
+    if let Some(size) = object_size(structs, of) {
+        put_zeros(size as usize, &mut items)?;
+    }
+    Ok(items)
+}

@@ -1,0 +1,74 @@
+// What of an initialiser is looked at without its object.
+
+use sc_base::Shared;
+use sc_check_expr::expression;
+use sc_scope::{CheckFault, State};
+use sc_tree::{Expr, Initializer};
+use std::alloc::Global;
+
+/// The line of an initialiser's first token.
+pub(crate) fn line_of(given: &Initializer) -> u32 {
+    match given {
+        Initializer::Expression(line, _) => *line,
+        Initializer::List(line, _) => *line,
+    }
+}
+
+pub(crate) fn is_string(e: &Expr) -> bool {
+    match e {
+        Expr::String(_, _) => true,
+        _ => false,
+    }
+}
+
+/// Whether a list has one item alone, which is an expression.
+pub(crate) fn is_single(items: &[Initializer]) -> bool {
+    match items {
+        [Initializer::Expression(_, _)] => true,
+        _ => false,
+    }
+}
+
+/// Whether a list has one item alone, which is a string.
+pub(crate) fn is_single_string(items: &[Initializer]) -> bool {
+    match items {
+        [Initializer::Expression(_, e)] => is_string(e.get()),
+        _ => false,
+    }
+}
+
+/// Types an expression for its refusals and literals alone.
+pub(crate) fn typed_expression(
+    alloc: Global,
+    st: &mut State,
+    e: &Shared<Expr>,
+) -> Result<(), CheckFault> {
+    let core = expression(alloc, st, false, e.get())?;
+    drop(core);
+    Ok(())
+}
+
+/// Types the expressions of an initialiser, in their order, where it has no place.
+///
+/// # Errors
+///
+/// As `sc_check_expr::expression`.
+#[cycle(typed)]
+pub fn typed(alloc: Global, st: &mut State, given: &Initializer) -> Result<(), CheckFault> {
+    match given {
+        Initializer::Expression(_, e) => typed_expression(alloc, st, e),
+        Initializer::List(_, items) => all_typed(alloc, st, items.as_slice()),
+    }
+}
+
+#[cycle(typed)]
+pub(crate) fn all_typed(
+    alloc: Global,
+    st: &mut State,
+    items: &[Initializer],
+) -> Result<(), CheckFault> {
+    for item in items {
+        typed(alloc, st, item)?;
+    }
+    Ok(())
+}
