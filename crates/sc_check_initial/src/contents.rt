@@ -16,12 +16,6 @@ struct Contents {
     items: Items<Init>,
 }
 
-/// What an address is an address of: the module's name, and its literals.
-struct Home<'a> {
-    name: &'a Name,
-    literals: &'a Literals,
-}
-
 fn put_zeros(count: usize, items: &mut Items<Init>) -> Result<(), NoMemory> {
     for _ in 0..count {
         items.push(Init::Byte(0))?;
@@ -51,7 +45,8 @@ fn literal(alloc: Global, name: &Name, bytes: &Bytes) -> Result<StaticId, NoMemo
 /// What an address is one of, `None` where it is null.
 fn identity(
     alloc: Global,
-    home: &Home<'_>,
+    home: &Name,
+    literals: &Literals,
     line: u32,
     base: &Base,
 ) -> Result<Option<StaticId>, CheckFault> {
@@ -59,8 +54,8 @@ fn identity(
         Base::Null => Ok(None),
         Base::Static(key) => Ok(Some(StaticId::Named(key.copy(alloc)?))),
         Base::Function(key) => Ok(Some(StaticId::Named(key.copy(alloc)?))),
-        Base::Literal(n) => match home.literals.get(*n as usize) {
-            Some(bytes) => Ok(Some(literal(alloc, home.name, bytes)?)),
+        Base::Literal(n) => match literals.get(*n as usize) {
+            Some(bytes) => Ok(Some(literal(alloc, home, bytes)?)),
             None => Err(not_constant(line)),
         },
     }
@@ -68,12 +63,13 @@ fn identity(
 
 fn put_address(
     alloc: Global,
-    home: &Home<'_>,
+    home: &Name,
+    literals: &Literals,
     line: u32,
     place: &Located,
     items: &mut Items<Init>,
 ) -> Result<(), CheckFault> {
-    match identity(alloc, home, line, &place.base)? {
+    match identity(alloc, home, literals, line, &place.base)? {
         Some(id) => items.push(Init::Address(id, place.offset))?,
         None => put_zeros(4, items)?,
     }
@@ -90,7 +86,8 @@ fn scalar_size(of: &CType) -> u32 {
 /// A constant in the type of its place.
 fn put_constant(
     alloc: Global,
-    home: &Home<'_>,
+    home: &Name,
+    literals: &Literals,
     line: u32,
     of: &CType,
     e: &CoreExpr,
@@ -104,7 +101,7 @@ fn put_constant(
         }
         _ => {
             let place = address_constant(alloc, line, e)?;
-            put_address(alloc, home, line, &place, items)
+            put_address(alloc, home, literals, line, &place, items)
         }
     }
 }
@@ -116,7 +113,8 @@ fn pad(at: usize, done: &mut Contents) -> Result<(), NoMemory> {
 
 fn put_piece(
     alloc: Global,
-    home: &Home<'_>,
+    home: &Name,
+    literals: &Literals,
     line: u32,
     piece: &AutoInit,
     done: &mut Contents,
@@ -124,7 +122,7 @@ fn put_piece(
     match piece {
         AutoInit::Value(at, of, e) => {
             pad(*at as usize, done)?;
-            put_constant(alloc, home, line, of, e.get(), &mut done.items)?;
+            put_constant(alloc, home, literals, line, of, e.get(), &mut done.items)?;
             done.end = *at as usize + scalar_size(of) as usize;
             Ok(())
         }
@@ -142,19 +140,18 @@ fn put_piece(
 /// The bytes of an object of this size with these pieces, which are in the order of offsets; the others are zero.
 pub(crate) fn contents(
     alloc: Global,
-    name: &Name,
+    home: &Name,
     literals: &Literals,
     line: u32,
     size: u32,
     pieces: &[AutoInit],
 ) -> Result<Items<Init>, CheckFault> {
-    let home = Home { name, literals };
     let mut done = Contents {
         end: 0,
         items: Items::new(alloc),
     };
     for piece in pieces {
-        put_piece(alloc, &home, line, piece, &mut done)?;
+        put_piece(alloc, home, literals, line, piece, &mut done)?;
     }
     pad(size as usize, &mut done)?;
     let Contents { end: _, items } = done;
