@@ -315,4 +315,24 @@ struct s { int m; }; void f(void) { struct s { int n; }; struct s x; x.m = 1; } 
 struct s { int m; }; void f(void) { struct s; struct s *y; y->m = 1; } => X7 1
 struct s { int m; }; void f(void) { struct s *y; y->m = 1; } => taken
 int f(struct s *p); struct s { int m; }; void g(struct s *y) { f(y); } => X7 1
-struct s; int f(struct s *p); struct s { int m; }; void g(struct s *y) { f(y); } => taken";
+struct s; int f(struct s *p); struct s { int m; }; void g(struct s *y) { f(y); } => taken
+static int i; void f(void) { int i; { extern int i; i = 1; } } => taken
+int f(int a, int (*g)(int a)); => taken
+int f(int a, int (*g)(int a, char a)); => X7 1
+int (*f(int a))(int a) { return 0; } => taken
+int (*(*f(int a))(char b))[3] { return 0; } => taken
+typedef int T; void f(T T) { T = 1; } => taken
+typedef int T; void f(int (T)); => taken
+typedef int T; void f(int (T)) { } => X7 1
+typedef int T; void f(int T) { T = 1; } => taken
+typedef int T; void f(void) { int T = 1; T = T + 1; } => taken
+int f(int x) { return sizeof(int (*)[x ? 1 : 1]); } => X8 1
+int f(int x) { return sizeof(int[sizeof x]); } => taken
+int a[2], *p = a, i = 1; => taken
+int i, f(int), *g(void), (*h)(int); => taken
+extern int i, f(int); => taken
+int i, i(void); => X7 1
+struct s { int m; } x, *p = &x, f; => taken
+struct s { struct s *p, *q[2]; } x; void f(void) { x.p = x.q[0]; x.q[1]->p->q[0] = 0; } => taken
+struct a { struct b *p; }; struct b { struct a q; }; struct b x; void f(void) { x.q.p->q.p = &x; } => taken
+struct a { struct b p; }; struct b { int m; }; => X7 1";

@@ -7,21 +7,58 @@ use std::test::Fail;
 /// How many, the answer, and the texts: what stands before, what is repeated with a number behind it, what stands behind the number, and
 /// what stands behind all.
 const COUNTS: &[(u32, &str, [&str; 4])] = &[
-    (1023, "taken", ["void f(int i) { switch (i) {", " case ", ":", " ; default: ; } }"]),
-    (1024, "X10 cases 2", ["void f(int i) { switch (i) {\n", " case ", ": ;", " } }"]),
-    (1023, "taken", ["void f(int i) { switch (i) {", " case ", ": ;", " } }"]),
+    (
+        1023,
+        "taken",
+        [
+            "void f(int i) { switch (i) {",
+            " case ",
+            ":",
+            " ; default: ; } }",
+        ],
+    ),
+    (
+        1024,
+        "X10 cases 2",
+        ["void f(int i) { switch (i) {\n", " case ", ": ;", " } }"],
+    ),
+    (
+        1023,
+        "taken",
+        ["void f(int i) { switch (i) {", " case ", ": ;", " } }"],
+    ),
     (10000, "taken", ["", "int a", ";", " int *p = &a9999;"]),
     (10000, "taken", ["", "int f", "(int a) { return a; }", ""]),
-    (10000, "taken", ["void f(void) {", " int a", ";", " a9999 = 1; }"]),
-    (10000, "taken", ["void f(void) {", " static int a", " = 1;", " a9999 = 2; }"]),
+    (
+        10000,
+        "taken",
+        ["void f(void) {", " int a", ";", " a9999 = 1; }"],
+    ),
+    (
+        10000,
+        "taken",
+        ["void f(void) {", " static int a", " = 1;", " a9999 = 2; }"],
+    ),
     (10000, "taken", ["enum {", " a", ",", " }; int b[a9999];"]),
-    (10000, "taken", ["struct s {", " int a", ";", " } x; int *p = &x.a9999;"]),
-    (10000, "taken", ["", "struct s", " { int m; };", " struct s9999 x;"]),
+    (
+        10000,
+        "taken",
+        ["struct s {", " int a", ";", " } x; int *p = &x.a9999;"],
+    ),
+    (
+        10000,
+        "taken",
+        ["", "struct s", " { int m; };", " struct s9999 x;"],
+    ),
     (10000, "taken", ["", "typedef int t", ";", " t9999 x;"]),
     (10000, "taken", ["char *p[] = {", " \"", "\",", " };"]),
     (65536, "taken", ["char a[65536] = {", " ", ",", " };"]),
     (65536, "X7 1", ["char a[65535] = {", " ", ",", " };"]),
-    (16384, "taken", ["void f(void) { int a[16384] = {", " ", ",", " }; }"]),
+    (
+        16384,
+        "taken",
+        ["void f(void) { int a[16384] = {", " ", ",", " }; }"],
+    ),
     (16384, "taken", ["char a[] = \"", "", "", "\";"]),
 ];
 
@@ -44,10 +81,18 @@ const NESTS: &[(u32, [&str; 5])] = &[
     (126, ["void f(void) {", " {", " int a;", " }", " }"]),
     (1499, ["void f(int i) {", " while (i)", " ;", "", " }"]),
     (1499, ["void f(int i) {", " if (i) ; else", " ;", "", " }"]),
-    (499, ["struct s {", " struct {", " int a;", " } b;", " } x;"]),
+    (
+        499,
+        ["struct s {", " struct {", " int a;", " } b;", " } x;"],
+    ),
 ];
 
-fn put_counted(text: &mut String, alloc: Global, count: u32, parts: &[&str; 4]) -> Result<(), NoMemory> {
+fn put_counted(
+    text: &mut String,
+    alloc: Global,
+    count: u32,
+    parts: &[&str; 4],
+) -> Result<(), NoMemory> {
     let [_, each, close, _] = parts;
     for number in 0..count {
         let digits = format!(in alloc; "{number}")?;
@@ -79,7 +124,10 @@ fn counts(rt: HostRuntime) -> Result<(), Fail> {
     let alloc = rt.alloc();
     for (count, wanted, parts) in COUNTS {
         let [before, each, _, _] = parts;
-        assert!(rt; is_count_right(alloc, *count, parts, wanted), "{count} {before} {each}");
+        assert!(rt;
+            is_count_right(alloc, *count, parts, wanted),
+            "{count} {before} {each}"
+        );
     }
     Ok(())
 }
@@ -114,7 +162,10 @@ fn nests(rt: HostRuntime) -> Result<(), Fail> {
     let alloc = rt.alloc();
     for (count, parts) in NESTS {
         let [before, each, _, _, _] = parts;
-        assert!(rt; is_nest_taken(alloc, *count, parts), "{count} {before} {each}");
+        assert!(rt;
+            is_nest_taken(alloc, *count, parts),
+            "{count} {before} {each}"
+        );
     }
     Ok(())
 }

@@ -473,4 +473,20 @@ f(@i ? p@: q) => X7 2
 i,@p =@1 => X7 2
 a[@i[@j]] => X7 2
 !@x => X7 1
-sizeof(@x * 2) => X7 2";
+sizeof(@x * 2) => X7 2
+i ? f : g => X7 1
+i ? f : (void *)0 => taken
+i ? (void *)0 : 0 => taken
+p = 1 ? 0 : 5 => taken
+p = !1 => taken
+p = 'a' - 97 => taken
+p = 0 ? 0 : 5 => X7 1
+p = i ? 0 : 0 => X7 1
+p = 0 && i => X7 1
+p = 1 / 0 => X7 1
+p == (i ? 0 : 0) => X7 1
+vc = i ? vc : 0 => taken
+cy = i ? y : cy => taken
+y = i ? y : cy => X7 1
+fp = i ? f : fp => taken
+g(), g() => taken";
