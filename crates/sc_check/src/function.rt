@@ -3,7 +3,6 @@
 use crate::fault::{UnitFault, rule};
 use crate::linked::{Declared, link, name_link};
 use crate::local::local;
-use crate::needs::{Needs, statement as needs_of};
 use crate::progress::{Around, Body, Translation};
 use crate::renumber::renumbered;
 use crate::statement::block;
@@ -12,6 +11,7 @@ use sc_base::{Duplicate, Items, Name, NoMemory, Shared};
 use sc_check_expr::{declarator, parameters, specifiers};
 use sc_core::{CoreStmt, Fun};
 use sc_declare::{Place, defined_parameter, may_stand};
+use sc_formed::{most_arguments, room};
 use sc_linkage::{Local, cost, place as placed};
 use sc_scope::{Meaning, State, enter, leave};
 use sc_tree::{Declarator, Derivation, Function, Identifier, Parameter, Specifiers};
@@ -85,8 +85,7 @@ fn parameter_locals(
     st: &mut State,
     list: &[Parameter],
 ) -> Result<Items<Local>, UnitFault> {
-    let types = parameters(alloc, st, list)?;
-    drop(types);
+    drop(parameters(alloc, st, list)?);
     let mut locals = Items::new(alloc);
     for p in list {
         let own = parameter_local(alloc, st, p)?;
@@ -127,11 +126,12 @@ fn made(
     alloc: Global,
     head: &Head,
     blocks: &[Items<Local>],
-    needs: Needs,
     body: Shared<CoreStmt>,
 ) -> Result<Fun, UnitFault> {
-    let cost = cost(head.line, blocks, needs.room, needs.args)?;
-    let blocks = placed(alloc, blocks, needs.room, needs.args)?;
+    let room = room(body.get());
+    let args = most_arguments(body.get());
+    let cost = cost(head.line, blocks, room, args)?;
+    let blocks = placed(alloc, blocks, room, args)?;
     let name = head.id.name.copy(alloc)?;
     let of = head.of.copy(alloc)?;
     Ok(Fun {
@@ -145,6 +145,37 @@ fn made(
     })
 }
 
+/// The body, whose scope has the parameters already.
+fn body_of(
+    alloc: Global,
+    m: &mut Translation,
+    body: &mut Body,
+    head: &Head,
+    f: &Function,
+) -> Result<Fun, UnitFault> {
+    let core = block(
+        alloc,
+        m,
+        body,
+        Around::OUTSIDE,
+        false,
+        f.body.line,
+        f.body.declarations.as_slice(),
+        f.body.statements.as_slice(),
+    )?;
+    made(alloc, head, body.blocks.as_slice(), core)
+}
+
+fn begun(
+    alloc: Global,
+    st: &mut State,
+    head: &Head,
+    list: &[Parameter],
+) -> Result<Body, UnitFault> {
+    let locals = parameter_locals(alloc, st, list)?;
+    Ok(new_body(alloc, &head.id.name, &head.of.result, locals)?)
+}
+
 /// The body with the parameters in its scope (ANSI 3.1.2.1).
 fn with_body(
     alloc: Global,
@@ -154,21 +185,11 @@ fn with_body(
     f: &Function,
 ) -> Result<Fun, UnitFault> {
     let outer = enter(&mut m.st);
-    let locals = parameter_locals(alloc, &mut m.st, list)?;
-    let mut body = new_body(alloc, &head.id.name, &head.of.result, locals)?;
-    let core = block(
-        alloc,
-        m,
-        &mut body,
-        Around::OUTSIDE,
-        false,
-        f.body.line,
-        f.body.declarations.as_slice(),
-        f.body.statements.as_slice(),
-    )?;
+    let mut body = begun(alloc, &mut m.st, head, list)?;
+    let outcome = body_of(alloc, m, &mut body, head, f);
+    drop(body);
     leave(&mut m.st, outer);
-    let needs = needs_of(core.get());
-    made(alloc, head, body.blocks.as_slice(), needs, core)
+    outcome
 }
 
 fn is_external(m: &Translation, place: usize) -> bool {
@@ -186,25 +207,35 @@ fn named(alloc: Global, m: &mut Translation, x: &Declared) -> Result<usize, Unit
     Ok(place)
 }
 
-/// A definition whose declarator is that of a function with these parameters.
-fn defined(
+/// The type of a definition whose declarator is that of a function with these parameters.
+fn function_type(
     alloc: Global,
-    m: &mut Translation,
+    st: &mut State,
     f: &Function,
-    id: &Identifier,
     list: &[Parameter],
-) -> Result<(), UnitFault> {
-    let line = f.declarator.line;
-    let of = definition_type(alloc, &mut m.st, &f.specifiers, &f.declarator)?;
+) -> Result<(CType, Signature), UnitFault> {
+    let of = definition_type(alloc, st, &f.specifiers, &f.declarator)?;
     let Some(signature) = signature_of(alloc, &of)? else {
-        return Err(rule(line));
+        return Err(rule(f.declarator.line));
     };
     if !may_stand(Place::Definition, f.specifiers.storage) {
-        return Err(rule(line));
+        return Err(rule(f.declarator.line));
     }
-    complete_parameters(&m.st, list, signature.params.as_slice())?;
+    complete_parameters(st, list, signature.params.as_slice())?;
+    Ok((of, signature))
+}
+
+/// What such a definition says before its body, and its place among the names with linkage.
+fn headed<'a>(
+    alloc: Global,
+    m: &mut Translation,
+    f: &'a Function,
+    id: &'a Identifier,
+    list: &[Parameter],
+) -> Result<(Head<'a>, usize), UnitFault> {
+    let (of, signature) = function_type(alloc, &mut m.st, f, list)?;
     let x = Declared {
-        line,
+        line: f.declarator.line,
         id,
         storage: f.specifiers.storage,
         of,
@@ -216,6 +247,17 @@ fn defined(
         external: is_external(m, place),
         of: signature,
     };
+    Ok((head, place))
+}
+
+fn defined(
+    alloc: Global,
+    m: &mut Translation,
+    f: &Function,
+    id: &Identifier,
+    list: &[Parameter],
+) -> Result<(), UnitFault> {
+    let (head, place) = headed(alloc, m, f, id, list)?;
     let fun = with_body(alloc, m, &head, list, f)?;
     m.links.end_function(f.line, place)?;
     m.funs.push(fun)?;
@@ -225,7 +267,10 @@ fn defined(
 /// The type of a declarator that defines no function, whose own refusals come first.
 fn wrong_declarator(alloc: Global, m: &mut Translation, f: &Function) -> UnitFault {
     match definition_type(alloc, &mut m.st, &f.specifiers, &f.declarator) {
-        Ok(_) => rule(f.declarator.line),
+        Ok(of) => {
+            drop(of);
+            rule(f.declarator.line)
+        }
         Err(fault) => fault,
     }
 }

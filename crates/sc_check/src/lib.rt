@@ -9,7 +9,6 @@ mod function;
 mod labels;
 mod linked;
 mod local;
-mod needs;
 mod outcome;
 mod progress;
 mod renumber;

@@ -27,7 +27,7 @@ enum Duration {
     Automatic(bool),
 }
 
-fn duration(storage: Option<Storage>, of: &CType) -> Duration {
+fn duration_of(storage: Option<Storage>, of: &CType) -> Duration {
     match storage {
         Some(Storage::Typedef) => Duration::Typedef,
         _ if is_function(of) => Duration::Function,
@@ -89,6 +89,19 @@ fn initialize(
     open.initialized.push(Shared::new(alloc, statement)?)
 }
 
+fn name_automatic(
+    alloc: Global,
+    st: &mut State,
+    open: &OpenBlock,
+    name: &Name,
+    of: &CType,
+    register: bool,
+) -> Result<(), NoMemory> {
+    let meaning = automatic_meaning(of, alloc, open, register)?;
+    let name = name.copy(alloc)?;
+    st.names.declare(alloc, name, meaning)
+}
+
 /// An automatic object with its initialiser, which completes its type; the answer is that type.
 fn initialized(
     alloc: Global,
@@ -100,9 +113,39 @@ fn initialized(
 ) -> Result<CType, UnitFault> {
     let (of, pieces) = automatic_initializer(alloc, st, &x.of, given)?;
     initialize(alloc, open, x.id.line, pieces)?;
-    let meaning = automatic_meaning(&of, alloc, open, register)?;
-    st.names.declare(alloc, x.id.name.copy(alloc)?, meaning)?;
+    name_automatic(alloc, st, open, &x.id.name, &of, register)?;
     Ok(of)
+}
+
+fn declare_automatic(
+    alloc: Global,
+    st: &mut State,
+    open: &OpenBlock,
+    x: &Declared,
+    register: bool,
+) -> Result<(), UnitFault> {
+    let meaning = automatic_meaning(&x.of, alloc, open, register)?;
+    let name = x.id.name.copy(alloc)?;
+    st.declare(alloc, x.line, name, meaning)?;
+    Ok(())
+}
+
+/// The object in its final type.
+fn completed(
+    alloc: Global,
+    st: &mut State,
+    open: &mut OpenBlock,
+    x: &Declared,
+    register: bool,
+    given: &Option<Initializer>,
+) -> Result<Local, UnitFault> {
+    match given {
+        Some(given) => {
+            let of = initialized(alloc, st, open, x, register, given)?;
+            local(alloc, &st.structs, x.line, &x.id.name, &of)
+        }
+        None => local(alloc, &st.structs, x.line, &x.id.name, &x.of),
+    }
 }
 
 fn automatic(
@@ -113,15 +156,8 @@ fn automatic(
     register: bool,
     given: &Option<Initializer>,
 ) -> Result<(), UnitFault> {
-    let meaning = automatic_meaning(&x.of, alloc, open, register)?;
-    st.declare(alloc, x.line, x.id.name.copy(alloc)?, meaning)?;
-    let own = match given {
-        Some(given) => {
-            let of = initialized(alloc, st, open, x, register, given)?;
-            local(alloc, &st.structs, x.line, &x.id.name, &of)?
-        }
-        None => local(alloc, &st.structs, x.line, &x.id.name, &x.of)?,
-    };
+    declare_automatic(alloc, st, open, x, register)?;
+    let own = completed(alloc, st, open, x, register, given)?;
     open.locals.push(own)?;
     Ok(())
 }
@@ -171,6 +207,31 @@ fn contents(
     }
 }
 
+fn static_meaning(alloc: Global, of: &CType, key: &Key) -> Result<Meaning, NoMemory> {
+    let of = of.copy(alloc)?;
+    let key = key.copy(alloc)?;
+    Ok(Meaning::Static(of, key))
+}
+
+fn name_static(
+    alloc: Global,
+    st: &mut State,
+    name: &Name,
+    of: &CType,
+    key: &Key,
+) -> Result<(), NoMemory> {
+    let meaning = static_meaning(alloc, of, key)?;
+    let name = name.copy(alloc)?;
+    st.names.declare(alloc, name, meaning)
+}
+
+fn declare_static(alloc: Global, st: &mut State, x: &Declared, key: &Key) -> Result<(), UnitFault> {
+    let meaning = static_meaning(alloc, &x.of, key)?;
+    let name = x.id.name.copy(alloc)?;
+    st.declare(alloc, x.line, name, meaning)?;
+    Ok(())
+}
+
 fn static_object(
     alloc: Global,
     m: &mut Translation,
@@ -179,9 +240,8 @@ fn static_object(
     given: &Option<Initializer>,
 ) -> Result<(), UnitFault> {
     let (of, init) = contents(alloc, &mut m.st, &m.home, x, given)?;
+    name_static(alloc, &mut m.st, &x.id.name, &of, &key)?;
     let constant = is_constant(&of);
-    let meaning = Meaning::Static(of.copy(alloc)?, key.copy(alloc)?);
-    m.st.names.declare(alloc, x.id.name.copy(alloc)?, meaning)?;
     m.objects.push(StaticObj {
         key,
         of,
@@ -201,8 +261,7 @@ fn static_local(
     given: &Option<Initializer>,
 ) -> Result<(), UnitFault> {
     let key = new_key(alloc, m, f, &x.id.name)?;
-    let meaning = Meaning::Static(x.of.copy(alloc)?, key.copy(alloc)?);
-    m.st.declare(alloc, x.line, x.id.name.copy(alloc)?, meaning)?;
+    declare_static(alloc, &mut m.st, x, &key)?;
     static_object(alloc, m, key, x, given)
 }
 
@@ -229,7 +288,7 @@ fn object(
     if !may_be_object(&m.st.structs, &x.of) {
         return Err(rule(x.line));
     }
-    match duration(x.storage, &x.of) {
+    match duration_of(x.storage, &x.of) {
         Duration::Static => static_local(alloc, m, f, x, given),
         Duration::Automatic(register) => automatic(alloc, &mut m.st, open, x, register, given),
         _ => Ok(()),
@@ -244,7 +303,7 @@ fn typed(
     x: &Declared,
     given: &Option<Initializer>,
 ) -> Result<(), UnitFault> {
-    match duration(x.storage, &x.of) {
+    match duration_of(x.storage, &x.of) {
         Duration::Function => {
             if may_stand(Place::BlockFunction, x.storage) {
                 linked_local(alloc, m, x, given)

@@ -1,48 +1,63 @@
 // The refusal of translation that a finding stands for.
-ghost use Rattle.std.specs.Prelude.{◌≡◌};
+ghost use Rattle.std.specs.Prelude.{◌≡◌, [], IfOk};
+ghost use Rattle.sc_check.specs.Outcomes as spec;
 
 use crate::fault::{Finding, UnitFault};
 use sc_base::{Bytes, Fault, NoMemory, Refusal, X};
 use sc_declare::{Failure, told as declaring};
-use sc_operand::{Diagnostic, kind_of};
+use sc_operand::kind_of;
 use sc_scope::Problem;
 use std::alloc::Global;
 
+fn left_out(alloc: Global, word: &[u8]) -> Result<X, NoMemory>
+    ensures { IfOk result (λ x. x ≡ X.X9 word.now) }
+{
+    Ok(X::X9(Bytes::from_slice(alloc, word)?))
+}
+
+fn limit(alloc: Global, word: &[u8]) -> Result<X, NoMemory>
+    ensures { IfOk result (λ x. x ≡ X.X10 word.now) }
+{
+    Ok(X::X10(Bytes::from_slice(alloc, word)?))
+}
+
 /// The refusal of this kind; its file stays empty.
-fn refused(alloc: Global, kind: Result<X, NoMemory>, line: u32) -> Fault {
+fn refused(alloc: Global, kind: X, line: u32) -> Fault
+    ensures { result ≡ Fault.Refused (record { kind = kind; file = []; line = line }) }
+{
+    Fault::Refused(Refusal {
+        kind,
+        file: Bytes::from_vec(Vec::new(alloc)),
+        line,
+    })
+}
+
+fn told_by(alloc: Global, kind: Result<X, NoMemory>, line: u32) -> Fault
+    ensures { spec.TellsKind kind line result }
+{
     match kind {
-        Ok(kind) => Fault::Refused(Refusal {
-            kind,
-            file: Bytes::from_vec(Vec::new(alloc)),
-            line,
-        }),
+        Ok(kind) => refused(alloc, kind, line),
         Err(_) => Fault::NoMemory,
     }
 }
 
-fn typing(alloc: Global, d: Diagnostic) -> Fault {
-    refused(alloc, kind_of(alloc, d.cause), d.line)
-}
-
-fn left_out(alloc: Global, word: &[u8]) -> Result<X, NoMemory> {
-    Ok(X::X9(Bytes::from_slice(alloc, word)?))
-}
-
-fn limit(alloc: Global, word: &[u8]) -> Result<X, NoMemory> {
-    Ok(X::X10(Bytes::from_slice(alloc, word)?))
+fn found(alloc: Global, finding: Finding) -> Fault
+    ensures { spec.Tells (UnitFault.Found finding) result }
+{
+    match finding {
+        Finding::CaseDepth(line) => told_by(alloc, left_out(alloc, b"casedepth"), line),
+        Finding::Cases(line) => told_by(alloc, limit(alloc, b"cases"), line),
+        Finding::Construct(Problem::Typing(d)) => told_by(alloc, kind_of(alloc, d.cause), d.line),
+        Finding::Construct(Problem::Declaring(r)) => declaring(alloc, Failure::Refused(r)),
+    }
 }
 
 /// The refusal of translation that stops a unit.
-pub(crate) fn told(alloc: Global, fault: UnitFault) -> Fault {
+pub(crate) fn told(alloc: Global, fault: UnitFault) -> Fault
+    ensures { spec.Tells fault result }
+{
     match fault {
         UnitFault::NoMemory => Fault::NoMemory,
-        UnitFault::Found(Finding::CaseDepth(line)) => {
-            refused(alloc, left_out(alloc, b"casedepth"), line)
-        }
-        UnitFault::Found(Finding::Cases(line)) => refused(alloc, limit(alloc, b"cases"), line),
-        UnitFault::Found(Finding::Construct(Problem::Typing(d))) => typing(alloc, d),
-        UnitFault::Found(Finding::Construct(Problem::Declaring(r))) => {
-            declaring(alloc, Failure::Refused(r))
-        }
+        UnitFault::Found(finding) => found(alloc, finding),
     }
 }

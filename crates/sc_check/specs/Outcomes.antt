@@ -1,0 +1,37 @@
+-- The refusal of translation that a finding stands for.
+use Rattle.std.specs.Prelude.{ℕ, ◌≡◌, [], Result, Ok, Err, codes}
+use Rattle.sc_base.specs.declared.NoMemory.{NoMemory}
+use Rattle.sc_base.specs.declared.refusal.X.{X}
+use Rattle.sc_base.specs.declared.refusal.X.TheVariants as x
+use Rattle.sc_base.specs.declared.refusal.Fault.{Fault}
+use Rattle.sc_base.specs.declared.refusal.Fault.TheVariants as translation
+use Rattle.sc_operand.specs.Causes.{kind_of}
+use Rattle.sc_declare.specs.Outcomes.{word}
+use Rattle.sc_scope.specs.declared.fault.Problem.TheVariants as problem
+use Rattle.sc_check.specs.declared.fault.Finding.{Finding}
+use Rattle.sc_check.specs.declared.fault.Finding.TheVariants as finding
+use Rattle.sc_check.specs.declared.fault.UnitFault.{UnitFault}
+use Rattle.sc_check.specs.declared.fault.UnitFault.TheVariants as fault
+
+abbrev pub kind : Finding → X
+kind (finding.Construct (problem.Typing d)) = kind_of d.cause
+kind (finding.Construct (problem.Declaring r)) = word r.reason
+kind (finding.CaseDepth line) = x.X9 (codes "casedepth")
+kind (finding.Cases line) = x.X10 (codes "cases")
+
+abbrev pub line_of : Finding → ℕ
+line_of (finding.Construct (problem.Typing d)) = d.line
+line_of (finding.Construct (problem.Declaring r)) = r.line
+line_of (finding.CaseDepth line) = line
+line_of (finding.Cases line) = line
+
+-- what is told of a fault; the file stays empty
+abbrev pub Tells : UnitFault → Fault → Type 0
+Tells fault.NoMemory f = f ≡ translation.NoMemory
+Tells (fault.Found x) translation.NoMemory = Unit {0}
+Tells (fault.Found x) (translation.Refused s) = s ≡ record { kind = kind x; file = []; line = line_of x }
+
+-- of a kind whose word may lack memory
+abbrev pub TellsKind : Result X NoMemory → ℕ → Fault → Type 0
+TellsKind (Ok k) line f = f ≡ translation.Refused (record { kind = k; file = []; line = line })
+TellsKind (Err e) line f = f ≡ translation.NoMemory

@@ -1,0 +1,12 @@
+pub mod Types
+pub mod Names
+pub mod Values
+pub mod Nodes
+pub mod Operators
+pub mod Open
+pub mod Expressions
+pub mod Needs
+pub mod Statements
+pub mod Frames
+pub mod Contents
+pub mod Modules
