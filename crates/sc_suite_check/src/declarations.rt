@@ -335,4 +335,5 @@ int i, i(void); => X7 1
 struct s { int m; } x, *p = &x, f; => taken
 struct s { struct s *p, *q[2]; } x; void f(void) { x.p = x.q[0]; x.q[1]->p->q[0] = 0; } => taken
 struct a { struct b *p; }; struct b { struct a q; }; struct b x; void f(void) { x.q.p->q.p = &x; } => taken
-struct a { struct b p; }; struct b { int m; }; => X7 1";
+struct a { struct b p; }; struct b { int m; }; => X7 1
+enum e { A }; enum e; => taken";

@@ -226,4 +226,8 @@ void f(int i) { int a[2] = i; } => X7 1
 void f(int i) { int a[2] = { i * 2, 1 }; } => X8 1
 void f(void) { int a = und; } => X6 1
 void f(int *p) { int@a =@p; } => X7 3
-void f(int *p) { int a =@p *@2; } => X7 2";
+void f(int *p) { int a =@p *@2; } => X7 2
+int *p = (int *)0 + 0; => taken
+int *p = (int *)0 + 1; => X8 1
+struct s { int m, n; }; int *p = &((struct s *)0)->m; => taken
+struct s { int m, n; }; int *p = &((struct s *)0)->n; => X8 1";

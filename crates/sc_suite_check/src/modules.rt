@@ -117,7 +117,8 @@ int f(void) { return 0; } => declared f defined at 1
 static int i; => declared m:i defined at 1
 extern int i; => declared i at 1
 int@i; => declared i defined at 2
-void f(void) {@extern int@i; } => declared i at 3";
+void f(void) {@extern int@i; } => declared i at 3
+struct s { int m, n; }; int *p = &((struct s *)0)->m; => object p 00000000";
 
 fn holds(all: &[Bytes], wanted: &[u8]) -> bool {
     for line in all {
