@@ -39,4 +39,4 @@ typedef int ********************************T; T f(void); => X10 height 1
 void f(void) { char a[1048576], b[1048576], c[1048576], d[1048576], e[1048576]; } => taken
 struct s { char a[1048576]; }; void f(void) { struct s a, b, c, d, e, f, g, h, i, j, k, l, m, n, o; } => taken
 struct s { char a[1048576]; };@void@f(void) { struct s a, b, c, d, e, f, g, h, i, j, k, l, m, n, o, p; } => X10 frame 2
-struct s { char a[1048576]; }; void f(void) { static struct s a, b, c, d, e, f, g, h, i, j, k, l, m, n, o, p; } => taken";
+struct s { char a[1048576]; }; void f(void) { static struct s p; struct s a, b, c, d, e, f, g, h, i, j, k, l, m, n, o; } => taken";
