@@ -38,11 +38,7 @@ pub fn put_bytes(line: &mut Vec<u8>, bytes: &[u8]) -> Result<(), NoMemory> {
 }
 
 /// A name with internal linkage stands behind its module's.
-pub fn put_name(
-    line: &mut Vec<u8>,
-    module: &Option<Name>,
-    name: &Name,
-) -> Result<(), NoMemory> {
+pub fn put_name(line: &mut Vec<u8>, module: &Option<Name>, name: &Name) -> Result<(), NoMemory> {
     if let Some(module) = module {
         put(line, module.as_slice())?;
         line.push(b':')?;

@@ -36,11 +36,7 @@ fn put_block(alloc: Global, line: &mut Vec<u8>, block: &[Auto]) -> Result<(), No
     Ok(())
 }
 
-fn put_blocks(
-    alloc: Global,
-    line: &mut Vec<u8>,
-    blocks: &[Items<Auto>],
-) -> Result<(), NoMemory> {
+fn put_blocks(alloc: Global, line: &mut Vec<u8>, blocks: &[Items<Auto>]) -> Result<(), NoMemory> {
     for block in blocks {
         put_block(alloc, line, block.as_slice())?;
     }
