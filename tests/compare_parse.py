@@ -8,10 +8,9 @@ second reading: pp.py (`preprocess(name, files)`) and parse.py (`parse(tokens)`)
 of a unit that is read, and kind, word and line of a refusal; the file too where preprocessing refuses.
 """
 import os
-import subprocess
 import sys
 
-from units import Files, refused, units
+from units import Files, compare, refused
 
 
 def wanted(folder, name):
@@ -27,25 +26,8 @@ def wanted(folder, name):
     return 'ok %d' % len(unit.a)
 
 
-def given(program, folder, name):
-    run = subprocess.run([program, name], cwd=folder, capture_output=True)
-    if run.returncode:
-        return 'status %d' % run.returncode
-    return run.stdout.decode('latin-1').rstrip('\n')
-
-
-def main():
-    program = os.path.abspath(sys.argv[1])
-    read = refusals = differ = 0
-    for folder, name in units(sys.argv[2]):
-        want, got = wanted(folder, name), given(program, folder, name)
-        read += want.startswith('ok')
-        refusals += not want.startswith('ok')
-        if want != got:
-            differ += 1
-            print('%s: wanted %s, got %s' % (os.path.join(folder, name), want, got))
-    print('%d units read, %d refused, %d differ' % (read, refusals, differ))
-    return 1 if differ else 0
+def differences(want, got):
+    return [] if want == got else ['wanted %s, got %s' % (want, got)]
 
 
 if __name__ == '__main__':
@@ -58,4 +40,4 @@ if __name__ == '__main__':
     import pp
     # labels, `goto` and unions are left out
     common.Stage.now = 3
-    sys.exit(main())
+    sys.exit(compare(sys.argv[1], sys.argv[2], wanted, differences))

@@ -1,5 +1,7 @@
-"""Shared by the scripts that compare a program with a second reading of C: the units of a folder, the files of one, a refusal's text."""
+"""Shared by the scripts that compare a program with a second reading of C: the units of a folder, the files of one, a refusal's text,
+and the comparison itself."""
 import os
+import subprocess
 
 
 class Files:
@@ -28,3 +30,28 @@ def units(folder):
         for name in sorted(names):
             if name.endswith('.c'):
                 yield root, name
+
+
+def given(program, folder, name):
+    """What the program prints for a unit of a folder."""
+    run = subprocess.run([program, name], cwd=folder, capture_output=True)
+    if run.returncode:
+        return 'status %d' % run.returncode
+    return run.stdout.decode('latin-1').rstrip('\n')
+
+
+def compare(program, folder, wanted, differences):
+    """Runs the program on each unit of a folder and prints where it differs from `wanted(folder, name)`, a text that begins with `ok`
+    or is a refusal. `differences(want, got)` gives the lines to print, none where the two agree. The result is the exit status."""
+    program = os.path.abspath(program)
+    read = refusals = differ = 0
+    for where, name in units(folder):
+        want = wanted(where, name)
+        read += want.startswith('ok')
+        refusals += not want.startswith('ok')
+        lines = differences(want, given(program, where, name))
+        differ += bool(lines)
+        for line in lines:
+            print('%s: %s' % (os.path.join(where, name), line))
+    print('%d units read, %d refused, %d differ' % (read, refusals, differ))
+    return 1 if differ else 0
