@@ -51,12 +51,7 @@ fn words(alloc: Global, bytes: &[u8]) -> Result<Vec<u8>, NoMemory>
 }
 
 // How a run ended.
-fn stop_text(
-    alloc: Global,
-    turns: u64,
-    ended: &Ended,
-    world: &World,
-) -> Result<Vec<u8>, NoMemory>
+fn stop_text(alloc: Global, turns: u64, ended: &Ended, world: &World) -> Result<Vec<u8>, NoMemory>
     ensures { IfOk result (λ text. Some text.items ≡ spec.stop_text turns ended.now world.now) }
 {
     match ended {
@@ -75,9 +70,7 @@ fn line_end_after(bytes: &[u8]) -> &'static [u8]
 {
     match bytes.last() {
         None => b"",
-        Some(b) => {
-            if *b == 10 { b"" } else { b"\n" }
-        }
+        Some(b) => { if *b == 10 { b"" } else { b"\n" } }
     }
 }
 
@@ -94,11 +87,7 @@ fn on_new_line(alloc: Global, bytes: &[u8], said: &[u8]) -> Result<Vec<u8>, NoMe
 
 /// What is said of the end of a run that was given so many turns: the bytes that it wrote, and behind them a line on how
 /// it ended.
-pub fn end_text(
-    alloc: Global,
-    turns: u64,
-    finished: &Finished,
-) -> Result<Vec<u8>, NoMemory>
+pub fn end_text(alloc: Global, turns: u64, finished: &Finished) -> Result<Vec<u8>, NoMemory>
     ensures { IfOk result (λ text. Some text.items ≡ spec.end_text turns finished.now.ended finished.now.world) }
 {
     let said = stop_text(alloc, turns, &finished.ended, &finished.world)?;

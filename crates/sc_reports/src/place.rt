@@ -70,9 +70,7 @@ fn life_text(objects: &[Object], id: u32) -> &'static [u8]
     ensures { result.now ≡ spec.life_text (at objects.now id) }
 {
     match object_at(objects, id) {
-        Some(o) => {
-            if o.live { b"" } else { b"dead " }
-        }
+        Some(o) => { if o.live { b"" } else { b"dead " } }
         None => b"dead ",
     }
 }

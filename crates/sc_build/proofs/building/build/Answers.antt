@@ -12,5 +12,5 @@ returns-in-Err-clause-answers g c =
 pub returns-in-Ok-clause-answers : goal.returns-in-Ok-clause-answers
 returns-in-Ok-clause-answers g c =
     let reads : Reads (g.F.Files.held c.args.files.now) c.args.file.now (Ok c.as_slice.result.now) =
-        λ map known. c.in-Ok.ensures.gives map known ∙ ap Ok (sym c.as_slice.ensures) in
+    λ map known. c.in-Ok.ensures.gives map known ∙ ap Ok (sym c.as_slice.ensures) in
     c.parsed.ensures (g.F.Files.held c.args.files.now) (g.F.Files.faults c.args.files.now) (g.F.Files.faults c.preprocess.new.files) reads
