@@ -1,7 +1,7 @@
-use Rattle.std.proofs.Common.{◌≡◌, Err, subst, ◌∙◌}
+use Rattle.std.proofs.Common.{Err, subst}
 use Rattle.sc_outside.specs.Causes.{Rose}
-use Rattle.sc_build.specs.Builds.{Answers, Refuses, Asks, IsMissing, IsTooLong}
-use Rattle.sc_top.proofs.LoadingLemmas.{untranslated, unfound, too_large, unreadable, without_memory}
+use Rattle.sc_build.specs.Builds.{Answers, Refuses, Asks}
+use Rattle.sc_top.proofs.LoadingLemmas.{untranslated, unreadable, without_memory}
 use Rattle.sc_top.proofs.session.unbuilt.Goals as goal
 
 pub returns-in-Refused : goal.returns-in-Refused
