@@ -1,12 +1,17 @@
 -- What each construct of a typed tree asks of its parts (ANSI 3.3).
-use Rattle.std.specs.Prelude.{ℕ, ◌+◌, ◌==◌, nat_lt, nat_le, Bool, true, false, not, ◌&&◌, ◌||◌, List, [], ◌∷◌, length, slice_get, Option, Some, None}
+use Rattle.std.specs.Prelude.{ℕ, ◌+◌, ◌==◌, nat_lt, nat_le, Bool, true, false, not, ◌&&◌, ◌||◌, if◌then◌else◌, List, [], ◌∷◌, length, slice_get, Option, Some, None}
+use Rattle.sc_base.specs.declared.integer.Int.{Int}
 use Rattle.sc_base.specs.declared.integer.Int.TheVariants as i
+use Rattle.sc_base.specs.declared.operator.Op.{Op}
+use Rattle.sc_base.specs.declared.operator.Op.TheVariants as op
 use Rattle.sc_types.specs.declared.ctype.CType.{CType, out-CType}
 use Rattle.sc_types.specs.declared.ctype.CType.TheVariants as t
 use Rattle.sc_types.specs.declared.ctype.CType.TheOpen.{CType-F}
 use Rattle.sc_types.specs.declared.ctype.Signature.{Signature}
 use Rattle.sc_types.specs.declared.ctype.Member.{Member}
 use Rattle.sc_types.specs.declared.ctype.StructDef.{StructDef}
+use Rattle.sc_types.specs.Compatibility.{same_int}
+use Rattle.sc_types.specs.Conversions.{promote, usual}
 use Rattle.sc_types.specs.Layouts.{rounded, size_in, align_in, members_in}
 use Rattle.sc_types.specs.Tables.{is_object}
 use Rattle.sc_ops.specs.Numbers.{converted}
@@ -16,11 +21,11 @@ use Rattle.sc_core.specs.declared.expression.CoreExpr.{CoreExpr}
 use Rattle.sc_core.specs.Types.{type_of}
 use Rattle.sc_operand.specs.declared.shape.Shape.{Shape}
 use Rattle.sc_operand.specs.declared.shape.Shape.TheVariants as s
-use Rattle.sc_operand.specs.Types.{Level, shape, is_const, is_function, is_array, is_pointer, is_scalar}
+use Rattle.sc_operand.specs.Types.{Level, shape, is_const, is_function, is_array, is_void, is_pointer, is_scalar}
 use Rattle.sc_operand.specs.Operands.{is_lvalue}
-use Rattle.sc_operand.specs.Constants.{is_zero, folded}
-use Rattle.sc_laws.specs.Types.{is_plain_of, is_member_type, points_to, is_promoted, is_int_of}
-use Rattle.sc_laws.specs.Values.{is_done, value, is_value_for}
+use Rattle.sc_operand.specs.Constants.{is_null, is_zero, folded}
+use Rattle.sc_laws.specs.Types.{same, alike, is_plain_of, is_member_type, targets_alike, targets_join, points_to, is_promoted, is_int_of}
+use Rattle.sc_laws.specs.Values.{is_done, value, is_condition, is_promoted_value, is_value_for}
 
 abbrev pub number_level : Level → ℕ → Bool
 number_level (CType-F.Int k c) n = not c && converted n k == n

@@ -1,5 +1,5 @@
 -- What operators between operands ask of them (ANSI 3.3.5 to 3.3.17).
-use Rattle.std.specs.Prelude.{ℕ, ◌==◌, Bool, true, false, not, ◌&&◌, ◌||◌, List}
+use Rattle.std.specs.Prelude.{ℕ, ◌==◌, Bool, true, false, not, ◌&&◌, ◌||◌, if◌then◌else◌, List}
 use Rattle.sc_base.specs.declared.integer.Int.{Int}
 use Rattle.sc_base.specs.declared.integer.Int.TheVariants as i
 use Rattle.sc_base.specs.declared.operator.Op.{Op}
@@ -19,7 +19,7 @@ use Rattle.sc_operand.specs.Constants.{is_null}
 use Rattle.sc_laws.specs.declared.operators.Kind.{Kind}
 use Rattle.sc_laws.specs.declared.operators.Kind.TheVariants as kind
 use Rattle.sc_laws.specs.Types.{is_plain_of, targets_alike, targets_join, is_promoted, is_int_of}
-use Rattle.sc_laws.specs.Values.{is_done, value, is_condition, is_value_for}
+use Rattle.sc_laws.specs.Values.{is_done, value, is_condition, is_promoted_value, is_value_for}
 use Rattle.sc_laws.specs.Nodes.{writes}
 
 -- the operators with one rule each

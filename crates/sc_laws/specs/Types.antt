@@ -1,5 +1,5 @@
 -- Which types go together in a typed tree (ANSI 3.1.2.6, 3.2.2.3, 3.3.16.1).
-use Rattle.std.specs.Prelude.{◌==◌, Bool, true, false, not, ◌&&◌, ◌||◌, List}
+use Rattle.std.specs.Prelude.{ℕ, ◌==◌, Bool, true, false, not, ◌&&◌, ◌||◌, List}
 use Rattle.sc_base.specs.declared.integer.Int.{Int}
 use Rattle.sc_types.specs.declared.ctype.CType.{CType, out-CType, fold-CType}
 use Rattle.sc_types.specs.declared.ctype.CType.TheOpen.{CType-F}

@@ -1,7 +1,7 @@
-use Rattle.std.proofs.Common.{List, map, ◌∙◌, ap}
+use Rattle.std.proofs.Common.{◌≡◌, ℕ, List, map, ◌∙◌, ap}
 use Rattle.sc_core.specs.declared.expression.CoreExpr.{CoreExpr}
 use Rattle.sc_laws.specs.declared.needs.Need.{Need}
-use Rattle.sc_laws.specs.Needs.{need, in_order}
+use Rattle.sc_laws.specs.Needs.{need, beside, in_order, most}
 use Rattle.sc_laws.proofs.Calls.{called, call_needs}
 use Rattle.sc_laws.proofs.needs.+needs.Goals as goal
 

@@ -1,4 +1,4 @@
-use Rattle.std.proofs.Common.{◌≡◌, ◌<◌, ◌^◌, drop}
+use Rattle.std.proofs.Common.{◌≡◌, ◌≤◌, ◌<◌, ◌^◌, drop}
 use Rattle.sc_laws.specs.Nodes.{stands_among}
 use Rattle.sc_laws.proofs.nodes.stands_among.Given as goal
 
