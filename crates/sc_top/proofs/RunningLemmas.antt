@@ -1,11 +1,14 @@
 -- What is answered to `run`, and where no memory is left.
-use Rattle.std.proofs.Common.{◌≡◌, List, refl, subst, inl}
+use Rattle.std.proofs.Common.{◌≡◌, ℕ, List, refl, subst, inl}
 use Rattle.sc_base.specs.declared.key.Key.{Key}
 use Rattle.sc_meaning.specs.Behaviour.{main_key}
 use Rattle.sc_meaning.specs.Versions.{Text, callee_of, Missing}
 use Rattle.sc_top.specs.Commands.{IsAnswered}
-use Rattle.sc_top.specs.Running.{HasNoMain}
-use Rattle.sc_top.specs.Transcript.{Moment, AnswersTo, Stays}
+use Rattle.sc_top.specs.Plain.{Plain}
+use Rattle.sc_top.specs.Running.{HasNoMain, RunGives, RunsSo}
+use Rattle.sc_top.specs.Transcript.{Moment, AnswersTo, Stays, Goes, IsOpen, in_state}
+use Rattle.sc_top.specs.declared.running.Run.{Run}
+use Rattle.sc_top.specs.declared.state.State.{State}
 use Rattle.sc_top.specs.declared.answer.Answer.TheVariants as answer
 use Rattle.sc_top.specs.declared.command.Command.{Command}
 use Rattle.sc_top.specs.declared.command.Command.TheVariants as command
@@ -25,3 +28,7 @@ unanswered m command.BadArguments h = (tt, still m)
 -- no module defines `main`
 pub without_main : (modules : List Text) (key : Key) → key ≡ main_key → callee_of modules key ≡ Missing → HasNoMain modules
 without_main modules key e missing = subst (λ k. callee_of modules k ≡ Missing) e missing
+
+-- the program ran, and the session has the state behind it
+pub went : (old new : Plain) (modules : List Text) (text : List ℕ) (s : State) (code told : Run) → IsOpen old.state → modules ≡ old.modules → new ≡ in_state s old → code ≡ told → (RunsSo modules told → RunGives modules text s) → RunsSo modules code → Goes old (answer.Ran text) new
+went old new modules text s code told opens same is comes gives so = (s, (opens, subst (λ m. RunGives m text s) same (gives (subst (RunsSo modules) comes so))), is)
