@@ -52,10 +52,12 @@ pub fn is_answer(alloc: Global, answer: &Result<Core, Fault>, wanted: &str) -> b
 /// A text with its lines: `@` stands for the end of a line, since no token of C has it.
 pub fn with_lines(alloc: Global, text: &str) -> Result<String, NoMemory> {
     let mut whole = String::new(alloc);
+    let mut is_begun = false;
     for line in text.split('@') {
-        if !whole.is_empty() {
+        if is_begun {
             whole.push_str("\n")?;
         }
+        is_begun = true;
         whole.push_str(line)?;
     }
     Ok(whole)
