@@ -245,7 +245,7 @@ fn defined(
     let (head, place) = headed(alloc, m, f, id, list)?;
     let fun = with_body(alloc, m, &head, list, f)?;
     m.links.end_function(f.line, place)?;
-    m.funs.push(fun)?;
+    m.funs.push(Shared::new(alloc, fun)?)?;
     Ok(())
 }
 

@@ -20,7 +20,7 @@ pub struct Translation {
     pub noted: Items<Birth>,
     pub literals: usize,
     pub objects: Items<StaticObj>,
-    pub funs: Items<Fun>,
+    pub funs: Items<Shared<Fun>>,
 }
 
 impl Translation {

@@ -1,5 +1,5 @@
 -- The contents of an object of static storage duration (ANSI 3.5.7): its bytes in order.
-use Rattle.std.specs.Prelude.{ℕ, ◌+◌, ◌-◌, min, List, [], ◌∷◌, ◌++◌, length, map, take, Option, Some, None, slice_get, replicate, Ok}
+use Rattle.std.specs.Prelude.{ℕ, zero, suc, ◌+◌, ◌-◌, min, List, [], ◌∷◌, ◌++◌, length, map, take, Option, Some, None, slice_get, Ok}
 use Rattle.std.specs.Int.{w32, to_le_bytes}
 use Rattle.sc_types.specs.declared.ctype.CType.{CType, out-CType}
 use Rattle.sc_types.specs.declared.ctype.CType.TheOpen.{CType-F}
@@ -22,8 +22,10 @@ use Rattle.sc_scope.specs.Steps.{Checked, and_then, typing}
 use Rattle.sc_check_initial.specs.declared.contents.Contents.{Contents}
 use Rattle.sc_check_initial.specs.Values.{TypeLevel, no_constant}
 
+-- so many zero bytes, as one piece
 abbrev pub zero_bytes : ℕ → List Init
-zero_bytes count = replicate count (init.Byte 0)
+zero_bytes zero = []
+zero_bytes (suc k) = init.Zeros (suc k) ∷ []
 
 abbrev pub bytes : List ℕ → List Init
 bytes = map (λ b. init.Byte b)

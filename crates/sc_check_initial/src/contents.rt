@@ -23,10 +23,13 @@ pub(crate) struct Contents {
 fn put_zeros(count: usize, items: &mut Items<Init>) -> Result<(), NoMemory>
     ensures { OnOk result (items.new ≡ items.old ++ spec.zero_bytes count) }
 {
-    for _ in 0..count {
-        items.push(Init::Byte(0))?;
+    if count == 0 {
+        return Ok(());
     }
-    Ok(())
+    let Ok(count) = u32::try_from(count) else {
+        return Err(NoMemory);
+    };
+    items.push(Init::Zeros(count))
 }
 
 fn put_bytes(bytes: &[u8], items: &mut Items<Init>) -> Result<(), NoMemory>

@@ -32,6 +32,8 @@ pub struct Fun {
 #[derive(Drop)]
 pub enum Init {
     Byte(u8),
+    /// So many zero bytes, one after another.
+    Zeros(u32),
     /// Four bytes: the address of an object or function, and an offset in bytes, modulo 2 to the 32.
     Address(StaticId, u32),
 }
@@ -62,7 +64,7 @@ pub struct Declared {
 #[derive(Drop)]
 pub struct Core {
     pub name: Name,
-    pub funs: Items<Fun>,
+    pub funs: Items<Shared<Fun>>,
     pub objects: Items<StaticObj>,
     pub literals: Items<Bytes>,
     pub births: Items<StaticId>,
@@ -71,15 +73,25 @@ pub struct Core {
 }
 
 impl Core {
-    /// The function of this name, where the module defines one.
-    pub fn fun(&self, name: &Name) -> Option<&Fun>
+    /// The function of this name, where the module defines one, to be shared.
+    pub fn shared_fun(&self, name: &Name) -> Option<&Shared<Fun>>
         ensures { MatchOption result (spec.function_of name.now self.now.funs ≡ None) (λ f. spec.function_of name.now self.now.funs ≡ Some f.now) }
     {
         for f in self.funs.as_slice() {
-            if f.name == *name {
+            if f.get().name == *name {
                 return Some(f);
             }
         }
         None
+    }
+
+    /// The function of this name, where the module defines one.
+    pub fn fun(&self, name: &Name) -> Option<&Fun>
+        ensures { MatchOption result (spec.function_of name.now self.now.funs ≡ None) (λ f. spec.function_of name.now self.now.funs ≡ Some f.now) }
+    {
+        match self.shared_fun(name) {
+            Some(f) => Some(f.get()),
+            None => None,
+        }
     }
 }

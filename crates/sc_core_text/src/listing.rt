@@ -1,7 +1,7 @@
 // The lines of a module.
 
 use crate::words::{put, put_byte, put_key, put_name, put_number, put_static};
-use sc_base::{Bytes, Items, NoMemory};
+use sc_base::{Bytes, Items, NoMemory, Shared};
 use sc_core::{Auto, Core, Declared, Fun, Init, StaticObj};
 use sc_program::{Slot, StaticId};
 use std::alloc::Global;
@@ -70,10 +70,18 @@ fn put_address(
     Ok(())
 }
 
+fn put_zeros(line: &mut Vec<u8>, count: u32) -> Result<(), NoMemory> {
+    for _ in 0..count {
+        put_byte(line, 0)?;
+    }
+    Ok(())
+}
+
 fn put_contents(alloc: Global, line: &mut Vec<u8>, contents: &[Init]) -> Result<(), NoMemory> {
     for part in contents {
         match part {
             Init::Byte(byte) => put_byte(line, *byte)?,
+            Init::Zeros(count) => put_zeros(line, *count)?,
             Init::Address(id, offset) => put_address(alloc, line, id, *offset)?,
         }
     }
@@ -104,9 +112,9 @@ fn declared(alloc: Global, declared: &Declared) -> Result<Bytes, NoMemory> {
     Ok(Bytes::from_vec(line))
 }
 
-fn functions(alloc: Global, all: &[Fun], lines: &mut Items<Bytes>) -> Result<(), NoMemory> {
+fn functions(alloc: Global, all: &[Shared<Fun>], lines: &mut Items<Bytes>) -> Result<(), NoMemory> {
     for fun in all {
-        lines.push(function(alloc, fun)?)?;
+        lines.push(function(alloc, fun.get())?)?;
     }
     Ok(())
 }

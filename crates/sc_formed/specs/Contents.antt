@@ -1,5 +1,5 @@
 -- What holds of the objects of a module, its literals, and the order of births.
-use Rattle.std.specs.Prelude.{ℕ, ◌+◌, ◌-◌, ◌%◌, ◌==◌, nat_lt, Bool, true, false, not, ◌&&◌, ◌||◌, if◌then◌else◌, List, [], ◌∷◌, ◌++◌, length, map, slice_get, Option, Some, None, is_some, is_none, option_and_then}
+use Rattle.std.specs.Prelude.{ℕ, ◌+◌, ◌-◌, ◌%◌, ◌==◌, nat_le, nat_lt, Bool, true, false, not, ◌&&◌, ◌||◌, if◌then◌else◌, List, [], ◌∷◌, ◌++◌, length, map, slice_get, Option, Some, None, is_some, is_none, option_and_then}
 use Rattle.std.specs.List.{list_any}
 use Rattle.std.specs.Option.{option_eq}
 use Rattle.std.specs.Str.{bytes_eq}
@@ -39,10 +39,11 @@ is_addressed core (id.Literal home bytes) = is_own_literal core home bytes
 abbrev pub when : Bool → ℕ → Option ℕ
 when b n = if b then Some n else None
 
--- where a piece of contents ends: a byte, or the four bytes of an address at a multiple of 4
-abbrev pub init_end : Core → ℕ → Init → Option ℕ
-init_end core at (init.Byte b) = Some (at + 1)
-init_end core at (init.Address what n) = when (at % 4 == 0 && is_addressed core what) (at + 4)
+-- where a piece of an object's contents ends: a byte, at least one zero byte inside the object, or the four bytes of an address at a multiple of 4
+abbrev pub init_end : Core → ℕ → ℕ → Init → Option ℕ
+init_end core size at (init.Byte b) = Some (at + 1)
+init_end core size at (init.Zeros n) = when (nat_lt 0 n && nat_le (at + n) size) (at + n)
+init_end core size at (init.Address what n) = when (at % 4 == 0 && is_addressed core what) (at + 4)
 
 abbrev pub goes_on : (ℕ → Bool) → Option ℕ → Bool
 goes_on f None = false
@@ -51,7 +52,7 @@ goes_on f (Some end) = f end
 -- contents that stand at a place are as many bytes as are left up to the object's size
 abbrev pub fills : Core → ℕ → ℕ → List Init → Bool
 fills core at size [] = at == size
-fills core at size (x ∷ xs) = nat_lt at size && goes_on (λ end. fills core end size xs) (init_end core at x)
+fills core at size (x ∷ xs) = nat_lt at size && goes_on (λ end. fills core end size xs) (init_end core size at x)
 
 abbrev pub is_filled : Core → StaticObj → Bool
 is_filled core x = is_object core.structs x.of && fills core 0 (size_in core.structs x.of) x.init

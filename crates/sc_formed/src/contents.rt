@@ -1,5 +1,5 @@
 // What holds of the objects of a module, its literals, and the order of births.
-ghost use Rattle.std.specs.Prelude.{◌≡◌, ◌<◌, ◌≤◌, ◌^◌, IfOk, IfSome, length};
+ghost use Rattle.std.specs.Prelude.{◌≡◌, ◌<◌, ◌≤◌, ◌^◌, ◌+◌, ◌&&◌, nat_le, nat_lt, IfOk, IfSome, length};
 ghost use Rattle.std.specs.Str.{bytes_eq};
 ghost use Rattle.sc_formed.specs.Contents as spec;
 ghost use Rattle.sc_formed.specs.Names.{is_literal_of, distinct, key_eq, declared_as};
@@ -41,13 +41,26 @@ fn is_addressed(m: &Indexed, what: &StaticId) -> bool
     }
 }
 
-/// Where a piece of contents ends: a byte, or the four bytes of an address at a multiple of 4.
-fn init_end(m: &Indexed, at: u32, piece: &Init) -> Option<u32>
+/// Where so many zero bytes of an object end, where there is at least one and they are inside it.
+fn zeros_end(size: u32, at: u32, n: u32) -> Option<u32>
+    ensures { result ≡ spec.when (nat_lt 0 n && nat_le (at + n) size) (at + n) }
+{
+    if 0 < n && u64::from(at) + u64::from(n) <= u64::from(size) {
+        Some(at + n)
+    } else {
+        None
+    }
+}
+
+/// Where a piece of the contents of an object of so many bytes ends: a byte, at least one zero byte inside the object, or the four
+/// bytes of an address at a multiple of 4.
+fn init_end(m: &Indexed, size: u32, at: u32, piece: &Init) -> Option<u32>
     requires { at < 2 ^ 31 }
-    ensures { result ≡ spec.init_end m.now.core.now at piece.now }
+    ensures { result ≡ spec.init_end m.now.core.now size at piece.now }
 {
     match piece {
         Init::Byte(_) => Some(at + 1),
+        Init::Zeros(n) => zeros_end(size, at, *n),
         Init::Address(what, _) => {
             if at % 4 == 0 && is_addressed(m, what) {
                 Some(at + 4)
@@ -68,7 +81,7 @@ fn is_filled_to(m: &Indexed, size: u32, init: &[Init]) -> bool
         if at >= size {
             return false;
         }
-        match init_end(m, at, piece) {
+        match init_end(m, size, at, piece) {
             Some(end) => at = end,
             None => return false,
         }

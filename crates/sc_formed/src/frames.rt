@@ -5,7 +5,7 @@ ghost use Rattle.sc_formed.specs.Frames as spec;
 use crate::names::Indexed;
 use crate::open::{inside, outside};
 use crate::statements::{Body, statement};
-use sc_base::Items;
+use sc_base::{Items, Shared};
 use sc_core::{Auto, CoreStmt, Fun};
 use sc_laws::{Need, alike, need_of_statement, same_bool};
 use sc_operand::is_const;
@@ -145,11 +145,11 @@ fn is_function(m: &Indexed, f: &Fun) -> bool
 }
 
 /// Whether all functions are.
-pub(crate) fn functions(m: &Indexed, funs: &[Fun]) -> bool
+pub(crate) fn functions(m: &Indexed, funs: &[Shared<Fun>]) -> bool
     ensures { result ≡ spec.functions m.now.core.now funs.now }
 {
     for f in funs {
-        if !is_function(m, f) {
+        if !is_function(m, f.get()) {
             return false;
         }
     }

@@ -11,7 +11,7 @@ use crate::names::{
     object_keys,
 };
 use indexmap::IndexSet;
-use sc_base::{Duplicate, Key, Name, NoMemory};
+use sc_base::{Duplicate, Key, Name, NoMemory, Shared};
 use sc_core::{Core, Declared, Fun};
 use sc_laws::{alike, same, same_bool};
 use sc_operand::is_function;
@@ -118,11 +118,11 @@ fn is_body(alloc: Global, m: &Indexed, f: &Fun) -> Result<bool, NoMemory>
 }
 
 /// Whether each function is declared with a compatible type.
-fn bodies(alloc: Global, m: &Indexed, funs: &[Fun]) -> Result<bool, NoMemory>
+fn bodies(alloc: Global, m: &Indexed, funs: &[Shared<Fun>]) -> Result<bool, NoMemory>
     ensures { IfOk result (λ yes. yes ≡ spec.bodies m.now.core.now funs.now) }
 {
     for f in funs {
-        if !is_body(alloc, m, f)? {
+        if !is_body(alloc, m, f.get())? {
             return Ok(false);
         }
     }

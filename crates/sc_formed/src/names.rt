@@ -5,7 +5,7 @@ ghost use Rattle.std.specs.Str.{bytes_eq};
 ghost use Rattle.sc_formed.specs.Names as spec;
 
 use indexmap::IndexSet;
-use sc_base::{Bytes, Duplicate, Key, Name, NoMemory};
+use sc_base::{Bytes, Duplicate, Key, Name, NoMemory, Shared};
 use sc_core::{Core, Declared, Fun, StaticObj};
 use sc_laws::same;
 use sc_operand::is_function;
@@ -105,11 +105,11 @@ pub(crate) fn is_declared_function(m: &Indexed, of: &CType, key: &Key) -> bool
     is_function(of) && fits_function(m, of, key)
 }
 
-fn function_at(funs: &[Fun], i: usize) -> Option<&Fun>
+fn function_at(funs: &[Shared<Fun>], i: usize) -> Option<&Fun>
     ensures { option_copied result ≡ slice_get funs.now i }
 {
     match funs.get(i) {
-        Some(f) => Some(f),
+        Some(f) => Some(f.get()),
         None => None,
     }
 }
@@ -199,13 +199,13 @@ pub(crate) fn object_keys(
 /// The names of the functions, where they are distinct.
 pub(crate) fn function_names(
     alloc: Global,
-    funs: &[Fun],
+    funs: &[Shared<Fun>],
 ) -> Result<Option<IndexSet<Name>>, NoMemory>
     ensures { IfOk result (λ r. spec.Indexes bytes_eq (map (λ f. f.name) funs.now) (option_map (λ s. s.keys) r)) }
 {
     let mut names = IndexSet::new(alloc);
     for f in funs {
-        if !add_name(alloc, &mut names, &f.name)? {
+        if !add_name(alloc, &mut names, &f.get().name)? {
             return Ok(None);
         }
     }

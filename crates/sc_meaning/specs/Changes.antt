@@ -20,6 +20,7 @@ born size kind w =
 
 abbrev pub piece_size : Init → ℕ
 piece_size (init.Byte b) = 1
+piece_size (init.Zeros n) = n
 piece_size (init.Address id at) = 4
 
 abbrev pub contents_size : List Init → ℕ
@@ -81,6 +82,7 @@ address_cells None = replicate 4 Unwritten
 
 abbrev pub piece_cells : List Text → World → Init → List Cell
 piece_cells texts w (init.Byte b) = Byte b ∷ []
+piece_cells texts w (init.Zeros n) = replicate n (Byte 0)
 piece_cells texts w (init.Address id at) = address_cells (address_of texts id (named_in w.names id) at w)
 
 abbrev pub contents : List Text → World → List Init → List Cell

@@ -1,5 +1,5 @@
 -- The versions of a run: which texts are present, and what is found in them.
-use Rattle.std.specs.Prelude.{ℕ, ◌==◌, ◌&&◌, ◌||◌, Bool, true, false, not, nat_le, if◌then◌else◌, List, [], ◌∷◌, ◌++◌, Option, Some, None}
+use Rattle.std.specs.Prelude.{ℕ, ◌==◌, ◌&&◌, ◌||◌, Bool, true, false, not, nat_le, if◌then◌else◌, List, [], ◌∷◌, ◌++◌, replicate, Option, Some, None}
 use Rattle.std.specs.Str.{bytes_eq}
 use Rattle.sc_base.specs.declared.key.Key.{Key}
 use Rattle.sc_base.specs.declared.memory.Form.{Form}
@@ -89,16 +89,29 @@ abbrev pub object_in : List Text → Key → Option Definition
 object_in [] key = None
 object_in (t ∷ ts) key = or_else t (object_by t.core.objects key) (object_in ts key)
 
--- the same initial contents, as they are written
+-- a run of zero bytes, byte by byte
+abbrev pub spread : Init → List Init
+spread (init.Byte b) = init.Byte b ∷ []
+spread (init.Zeros n) = replicate n (init.Byte 0)
+spread (init.Address a i) = init.Address a i ∷ []
+
+abbrev pub spread_all : List Init → List Init
+spread_all [] = []
+spread_all (a ∷ ps) = spread a ++ spread_all ps
+
 abbrev pub same_piece : Init → Init → Bool
 same_piece (init.Byte a) (init.Byte b) = a == b
 same_piece (init.Address a i) (init.Address b j) = same_id a b && (i == j)
 same_piece _ _ = false
 
+abbrev pub same_pieces : List Init → List Init → Bool
+same_pieces [] [] = true
+same_pieces (a ∷ ps) (b ∷ qs) = same_piece a b && same_pieces ps qs
+same_pieces _ _ = false
+
+-- the same initial contents, byte by byte
 abbrev pub same_contents : List Init → List Init → Bool
-same_contents [] [] = true
-same_contents (a ∷ ps) (b ∷ qs) = same_piece a b && same_contents ps qs
-same_contents _ _ = false
+same_contents ps qs = same_pieces (spread_all ps) (spread_all qs)
 
 -- Whether an object stays as one version follows another: its type is the same, and where it is constant its initial
 -- contents too. Structures of one text are the same by their numbers, of two texts by the rule across modules.

@@ -11,7 +11,7 @@ ghost use Rattle.sc_plain.specs.Steady as steady;
 ghost use Rattle.sc_plain.specs.Steps.{Steps};
 
 use crate::going::{Active, Caller, Going};
-use sc_base::{Duplicate, Items, Key, NoMemory, Stack};
+use sc_base::{Duplicate, Items, Key, NoMemory, Shared, Stack};
 use sc_core::{Auto, Fun};
 use sc_machine::Doing;
 use sc_meaning::LibFun;
@@ -119,14 +119,14 @@ fn enter_event(key: &Key, t: &Text, world: &World) -> Result<Event, NoMemory>
 }
 
 // The parameters are there, and the body begins behind the event of its call.
-fn begins<'a>(
+fn begins(
     key: &Key,
-    t: &'a Text,
-    f: &'a Fun,
-    callers: &Stack<Caller<'a>>,
+    t: &Text,
+    f: &Shared<Fun>,
+    callers: &Stack<Caller>,
     ids: Items<u32>,
     world: &mut World,
-) -> Result<Going<'a>, Stop>
+) -> Result<Going, Stop>
     ensures { Steps (steady.begins key.now t.now f.now callers.now ids world.old) result callers.now world.new }
 {
     let alloc = world.alloc();
@@ -135,49 +135,49 @@ fn begins<'a>(
     blocks.push(born.copy(alloc)?)?;
     let active = Active {
         ids: born.copy(alloc)?.ids,
-        cost: f.cost,
+        cost: f.get().cost,
     };
     world.open_block(born)?;
     let event = enter_event(key, t, world)?;
     world.happens(event)?;
     let env = Env {
-        text: t,
-        fun: f,
+        text: t.copy(alloc)?,
+        fun: f.share()?,
         blocks,
     };
-    Ok(Going::Runs(Doing::Exec(f.body.share()?), Stack::new(alloc), env, active))
+    Ok(Going::Runs(Doing::Exec(f.get().body.share()?), Stack::new(alloc), env, active))
 }
 
 // A function of a text is called, where the stack has room for it.
-fn enters<'a>(
+fn enters(
     key: Key,
-    t: &'a Text,
-    f: &'a Fun,
+    t: &Text,
+    f: &Shared<Fun>,
     vs: &[Value],
-    callers: &Stack<Caller<'a>>,
+    callers: &Stack<Caller>,
     world: &mut World,
-) -> Result<Going<'a>, Stop>
+) -> Result<Going, Stop>
     ensures { Steps (steady.enters (nat_lt world.old.stack (world.old.used + f.now.cost)) key t.now f.now vs.now callers.now world.old) result callers.now world.new }
 {
-    let Some(used) = world.used().checked_add(u64::from(f.cost)) else {
+    let Some(used) = world.used().checked_add(u64::from(f.get().cost)) else {
         return Err(Stop::NoRoom)
     };
     if world.stack() < used {
         return Err(Stop::StackFull(key));
     }
-    push_frame(&key, t, f, used, world)?;
-    let ids = parameters(parameters_of(f), vs, world)?;
+    push_frame(&key, t, f.get(), used, world)?;
+    let ids = parameters(parameters_of(f.get()), vs, world)?;
     begins(&key, t, f, callers, ids, world)
 }
 
 // A function of the library is called.
-fn library_next<'a>(
+fn library_next(
     f: LibFun,
     key: &Key,
     vs: &[Value],
-    callers: &Stack<Caller<'a>>,
+    callers: &Stack<Caller>,
     world: &mut World,
-) -> Result<Going<'a>, Stop>
+) -> Result<Going, Stop>
     ensures { (h : versions.History) → IsQuiet h → Steps (steady.callee_next h key.now vs.now (versions.InLibrary f) callers.now world.old) result callers.now world.new }
 {
     let a = library_call(f, key, vs, world)?;
@@ -189,13 +189,13 @@ fn library_next<'a>(
 /// # Errors
 ///
 /// `U17` where it names nothing, `StackFull`, `BirthLimit`, and what a function of the library ends with.
-pub fn key_next<'a>(
-    texts: &'a [Text],
+pub fn key_next(
+    texts: &[Text],
     key: Key,
     vs: &[Value],
-    callers: &Stack<Caller<'a>>,
+    callers: &Stack<Caller>,
     world: &mut World,
-) -> Result<Going<'a>, Stop>
+) -> Result<Going, Stop>
     ensures { (h : versions.History) → IsQuiet h → Steps (steady.callee_next h key vs.now (versions.callee_of texts.now key) callers.now world.old) result callers.now world.new }
 {
     match callee_of(texts, &key) {
@@ -209,13 +209,13 @@ pub fn key_next<'a>(
 }
 
 // A call of a value that may be called.
-fn value_next<'a>(
-    texts: &'a [Text],
+fn value_next(
+    texts: &[Text],
     v: Value,
     vs: &[Value],
-    callers: &Stack<Caller<'a>>,
+    callers: &Stack<Caller>,
     world: &mut World,
-) -> Result<Going<'a>, Stop>
+) -> Result<Going, Stop>
     ensures { (h : versions.History) → IsQuiet h → Steps (steady.value_next h texts.now v vs.now callers.now world.old) result callers.now world.new }
 {
     match v.shape {
@@ -230,18 +230,18 @@ fn value_next<'a>(
 /// # Errors
 ///
 /// `U12` where the value is no function of its type, `U17` where its key names nothing, `StackFull`, `BirthLimit`.
-pub fn makes<'a>(
-    texts: &'a [Text],
+pub fn makes(
+    texts: &[Text],
     t: &CType,
     v: Value,
     vs: &[Value],
-    caller: Caller<'a>,
-    callers: &mut Stack<Caller<'a>>,
+    caller: Caller,
+    callers: &mut Stack<Caller>,
     world: &mut World,
-) -> Result<Going<'a>, Stop>
-    ensures { (h : versions.History) → IsQuiet h → Steps (steady.made_unless (expressions.value_rule texts.now caller.entry.env.text t.now v) h texts.now v vs.now (caller.entry ∷ callers.old) world.old) result callers.new world.new }
+) -> Result<Going, Stop>
+    ensures { (h : versions.History) → IsQuiet h → Steps (steady.made_unless (expressions.value_rule texts.now caller.env.text t.now v) h texts.now v vs.now (caller ∷ callers.old) world.old) result callers.new world.new }
 {
-    let rule = value_rule(world.alloc(), texts, caller.env.text, t, &v);
+    let rule = value_rule(world.alloc(), texts, &caller.env.text, t, &v);
     callers.push(caller)?;
     match rule? {
         Some(rule) => {

@@ -38,7 +38,7 @@ fn is_over(going: &Going, callers: &Stack<Caller>) -> bool
 // Where the run is.
 #[tactic(auto, using(crate::proofs::Whole::goes_on))]
 fn destination(going: Going, callers: &Stack<Caller>) -> Reached
-    ensures { (s : runs.State) (w : worlds.World) → Is s going.entry callers.now w → Brings s (Ok result) w }
+    ensures { (s : runs.State) (w : worlds.World) → Is s going callers.now w → Brings s (Ok result) w }
 {
     match going {
         Going::Answers(a) => {
@@ -70,14 +70,14 @@ fn destination(going: Going, callers: &Stack<Caller>) -> Reached
 /// # Errors
 ///
 /// How the run ends in them.
-pub fn drive<'a>(
-    texts: &'a [Text],
-    first: Going<'a>,
-    callers: &mut Stack<Caller<'a>>,
+pub fn drive(
+    texts: &[Text],
+    first: Going,
+    callers: &mut Stack<Caller>,
     steps: u64,
     world: &mut World,
 ) -> Result<Reached, Stop>
-    ensures { (h : versions.History) → IsQuiet h → (s : runs.State) → Is s first.entry callers.old world.old → Brings (steady.ran steps h texts.now s) result world.new }
+    ensures { (h : versions.History) → IsQuiet h → (s : runs.State) → Is s first callers.old world.old → Brings (steady.ran steps h texts.now s) result world.new }
 {
     let mut going = first;
     let mut left = steps;

@@ -24,15 +24,15 @@ impl Model for Active {
 
 /// A caller that waits for an answer, with what is pending in it.
 #[derive(Drop)]
-pub struct Caller<'a> {
+pub struct Caller {
     pub items: Stack<Item>,
     pub user: Use,
     pub stmts: Stack<Pending>,
-    pub env: Env<'a>,
+    pub env: Env,
     pub active: Active,
 }
 
-impl<'a> Model for Caller<'a> {
+impl Model for Caller {
     ghost use Rattle.std.specs.Coded.{codes};
     ghost use Rattle.sc_types.specs.contracts.ctype.CType as types;
     ghost use Rattle.sc_types.specs.contracts.ctype.Signature as signatures;
@@ -50,8 +50,8 @@ impl<'a> Model for Caller<'a> {
 /// What a run does next, beside the callers that wait: a body runs; a call is to be made; or an answer comes to the
 /// innermost caller, or is the run's where none waits.
 #[derive(Drop)]
-pub enum Going<'a> {
-    Runs(Doing, Stack<Pending>, Env<'a>, Active),
-    Makes(CType, Value, Items<Value>, Caller<'a>),
+pub enum Going {
+    Runs(Doing, Stack<Pending>, Env, Active),
+    Makes(CType, Value, Items<Value>, Caller),
     Answers(Answer),
 }

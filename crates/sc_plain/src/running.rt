@@ -68,11 +68,11 @@ fn status_of(a: &Answer) -> u32
 }
 
 // The call of `main` goes out.
-fn first<'a>(
-    texts: &'a [Text],
-    callers: &Stack<Caller<'a>>,
+fn first(
+    texts: &[Text],
+    callers: &Stack<Caller>,
     world: &mut World,
-) -> Result<Going<'a>, Stop>
+) -> Result<Going, Stop>
     ensures { (h : versions.History) → IsQuiet h → Steps (steady.callee_next h behaviour.main_key [] (versions.callee_of texts.now behaviour.main_key) callers.now (worlds.tick world.old)) result callers.now world.new }
 {
     let alloc = world.alloc();

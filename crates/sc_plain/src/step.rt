@@ -19,16 +19,16 @@ use sc_plain_world::World;
 use sc_values::{Answer, Way};
 
 // A line is reached, before a body goes on.
-fn lined<'a>(
+fn lined(
     l: u32,
     doing: Doing,
     stmts: Stack<Pending>,
-    env: Env<'a>,
+    env: Env,
     active: Active,
-    callers: &Stack<Caller<'a>>,
+    callers: &Stack<Caller>,
     world: &mut World,
-) -> Result<Going<'a>, Stop>
-    ensures { Steps (runs.Runs doing stmts env.entry active callers.now (steady.on_line l world.old)) result callers.now world.new }
+) -> Result<Going, Stop>
+    ensures { Steps (runs.Runs doing stmts env active callers.now (steady.on_line l world.old)) result callers.now world.new }
 {
     match reach(l, world) {
         Ok(()) => Ok(Going::Runs(doing, stmts, env, active)),
@@ -40,12 +40,12 @@ fn lined<'a>(
 }
 
 // A call ends, and its answer goes to its caller.
-fn left<'a>(
+fn left(
     way: Way,
     active: &Active,
-    callers: &Stack<Caller<'a>>,
+    callers: &Stack<Caller>,
     world: &mut World,
-) -> Result<Going<'a>, Stop>
+) -> Result<Going, Stop>
     ensures { Steps (runs.Answers (spec.answer_of way) callers.now (steady.without_call active.now.ids active.now.cost world.old)) result callers.now world.new }
 {
     leave(active, world)?;
@@ -53,15 +53,15 @@ fn left<'a>(
 }
 
 // One step of the innermost body.
-fn runs<'a>(
+fn runs(
     doing: Doing,
     stmts: Stack<Pending>,
-    env: Env<'a>,
+    env: Env,
     active: Active,
-    callers: &Stack<Caller<'a>>,
+    callers: &Stack<Caller>,
     world: &mut World,
-) -> Result<Going<'a>, Stop>
-    ensures { (h : versions.History) (texts : List versions.Text) → Steps (steady.advance h texts (runs.Runs doing stmts env.entry active callers.now world.old)) result callers.now world.new }
+) -> Result<Going, Stop>
+    ensures { (h : versions.History) (texts : List versions.Text) → Steps (steady.advance h texts (runs.Runs doing stmts env active callers.now world.old)) result callers.now world.new }
 {
     let mut stmts = stmts;
     let mut env = env;
@@ -83,7 +83,7 @@ fn runs<'a>(
 }
 
 // An answer comes to the innermost caller.
-fn answers<'a>(a: Answer, callers: &mut Stack<Caller<'a>>, world: &World) -> Result<Going<'a>, Stop>
+fn answers(a: Answer, callers: &mut Stack<Caller>, world: &World) -> Result<Going, Stop>
     ensures { (h : versions.History) (texts : List versions.Text) → Steps (steady.advance h texts (runs.Answers a callers.old world.now)) result callers.new world.now }
 {
     match callers.pop() {
@@ -100,13 +100,13 @@ fn answers<'a>(a: Answer, callers: &mut Stack<Caller<'a>>, world: &World) -> Res
 /// # Errors
 ///
 /// How the run ends in it.
-pub fn step_run<'a>(
-    texts: &'a [Text],
-    going: Going<'a>,
-    callers: &mut Stack<Caller<'a>>,
+pub fn step_run(
+    texts: &[Text],
+    going: Going,
+    callers: &mut Stack<Caller>,
     world: &mut World,
-) -> Result<Going<'a>, Stop>
-    ensures { (h : versions.History) → IsQuiet h → (s : runs.State) → Is s going.entry callers.old world.old → Steps (steady.advance h texts.now s) result callers.new world.new }
+) -> Result<Going, Stop>
+    ensures { (h : versions.History) → IsQuiet h → (s : runs.State) → Is s going callers.old world.old → Steps (steady.advance h texts.now s) result callers.new world.new }
 {
     match going {
         Going::Runs(doing, stmts, env, active) => runs(doing, stmts, env, active, callers, world),

@@ -17,10 +17,10 @@ use sc_plain_world::{Born, World};
 use sc_values::Way;
 
 // The objects that a block has.
-fn block_autos<'a>(env: &Env<'a>, b: u32) -> &'a [Auto]
+fn block_autos(env: &Env, b: u32) -> &[Auto]
     ensures { result.now ≡ spec.block_autos env.now b }
 {
-    match env.fun.blocks.as_slice().get(b as usize) {
+    match env.fun.get().blocks.as_slice().get(b as usize) {
         Some(autos) => autos.as_slice(),
         None => &[],
     }

@@ -80,7 +80,7 @@ fn signature_rule(
 {
     match callee {
         Callee::Missing => Ok(Some(Rule::U17)),
-        Callee::InText(u, f) => Ok(rule_if(has_signature(alloc, t, s, u, f)?)),
+        Callee::InText(u, f) => Ok(rule_if(has_signature(alloc, t, s, u, f.get())?)),
         Callee::InLibrary(f) => Ok(rule_if(takes(f, s.get()))),
     }
 }

@@ -1,5 +1,5 @@
 // Objects of static storage duration and literals: their births and their first contents (ANSI 3.1.2.4, 3.5.7).
-ghost use Rattle.std.specs.Prelude.{◌≡◌, ◌+◌, [], ◌∷◌, length, map, IfOk};
+ghost use Rattle.std.specs.Prelude.{◌≡◌, ◌+◌, [], ◌∷◌, length, map, replicate, IfOk};
 ghost use Rattle.sc_base.specs.declared.memory.Kind.TheVariants as kind;
 ghost use Rattle.sc_meaning.specs.Changes as spec;
 ghost use Rattle.sc_meaning.specs.Values as value;
@@ -22,6 +22,7 @@ fn piece_size(piece: &Init) -> u32
 {
     match piece {
         Init::Byte(_) => 1,
+        Init::Zeros(n) => *n,
         Init::Address(_, _) => 4,
     }
 }
@@ -164,12 +165,24 @@ fn byte_cells(byte: u8, alloc: Global) -> Result<Items<Cell>, NoMemory>
     Ok(cells)
 }
 
+// So many bytes that are zero.
+fn zero_cells(n: u32, alloc: Global) -> Result<Items<Cell>, NoMemory>
+    ensures { IfOk result (λ cells. cells ≡ replicate n (value.Byte 0)) }
+{
+    let mut cells = Items::new(alloc);
+    for _ in 0..n {
+        cells.push(Cell::byte(0))?;
+    }
+    Ok(cells)
+}
+
 fn piece_cells(texts: &[Text], world: &World, piece: &Init) -> Result<Items<Cell>, NoMemory>
     ensures { IfOk result (λ cells. cells ≡ spec.piece_cells texts.now world.now piece.now) }
 {
     let alloc = world.alloc();
     match piece {
         Init::Byte(b) => byte_cells(*b, alloc),
+        Init::Zeros(n) => zero_cells(*n, alloc),
         Init::Address(id, at) => address_cells(address_of(texts, id, *at, world)?, alloc),
     }
 }

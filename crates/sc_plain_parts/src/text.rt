@@ -6,10 +6,11 @@ ghost use Rattle.sc_meaning.specs.Versions as spec;
 ghost use Rattle.sc_plain_parts.specs.Found.{callee_found};
 
 use crate::library::library_fun;
-use sc_base::{Form, Key, Name, Shared};
+use sc_base::{Duplicate, Form, Key, Name, NoMemory, Shared};
 use sc_core::{Core, Fun, StaticObj};
 use sc_meaning::LibFun;
 use sc_values::same_key;
+use std::alloc::Global;
 use std::marker::Model;
 
 /// A module's text with the form in which it runs; two texts with one number are the same text.
@@ -35,32 +36,42 @@ impl Model for Text {
     ghost view = { λ t. record { number = t.number; core = t.core; form = t.form } };
 }
 
+impl Duplicate for Text {
+    fn copy(&self, _: Global) -> Result<Text, NoMemory> {
+        Ok(Text {
+            number: self.number,
+            core: self.core.share()?,
+            form: self.form,
+        })
+    }
+}
+
 /// What a key names when it is called.
 #[derive(Clone, Copy)]
 pub enum Callee<'a> {
     Missing,
-    InText(&'a Text, &'a Fun),
+    InText(&'a Text, &'a Shared<Fun>),
     InLibrary(LibFun),
 }
 
 // The function of a module that has this name, where its linkage is external, or internal, as is wanted.
-fn fun_named<'a>(core: &'a Core, name: &Name, external: bool) -> Option<&'a Fun>
+fn fun_named<'a>(core: &'a Core, name: &Name, external: bool) -> Option<&'a Shared<Fun>>
     ensures { MatchOption result (spec.if_external external (modules.function_of name.now core.now.funs) ≡ None) (λ f. spec.if_external external (modules.function_of name.now core.now.funs) ≡ Some f.now) }
 {
-    match core.fun(name) {
+    match core.shared_fun(name) {
         None => None,
         Some(f) => {
             if external {
-                if f.external { Some(f) } else { None }
+                if f.get().external { Some(f) } else { None }
             } else {
-                if f.external { None } else { Some(f) }
+                if f.get().external { None } else { Some(f) }
             }
         }
     }
 }
 
 // The function of a module that has this key.
-fn fun_by<'a>(key: &Key, core: &'a Core) -> Option<&'a Fun>
+fn fun_by<'a>(key: &Key, core: &'a Core) -> Option<&'a Shared<Fun>>
     ensures { MatchOption result (spec.fun_by key.now.«module» key.now.name core.now ≡ None) (λ f. spec.fun_by key.now.«module» key.now.name core.now ≡ Some f.now) }
 {
     match &key.module {

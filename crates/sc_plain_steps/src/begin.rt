@@ -90,7 +90,7 @@ pub fn expr_next(
 {
     match e.get() {
         CoreExpr::Number(_, _, n) => number(*n, world),
-        CoreExpr::Literal(_, _, i) => literal(env.text, *i, world),
+        CoreExpr::Literal(_, _, i) => literal(&env.text, *i, world),
         CoreExpr::Automatic(_, _, b, i) => automatic(env.blocks.as_slice(), *b, *i, world),
         CoreExpr::Static(_, _, key) => named(key, world),
         CoreExpr::Function(_, _, key) => function(key, world),

@@ -1,6 +1,6 @@
 // What the names of a running call stand for (ANSI 3.1.2.4).
 
-use sc_base::Items;
+use sc_base::{Items, Shared};
 use sc_core::Fun;
 use sc_plain_parts::Text;
 use sc_plain_world::Born;
@@ -8,13 +8,13 @@ use std::marker::Model;
 
 /// What a running call's names stand for: its text, its function, and its entered blocks, outermost first.
 #[derive(Drop)]
-pub struct Env<'a> {
-    pub text: &'a Text,
-    pub fun: &'a Fun,
+pub struct Env {
+    pub text: Text,
+    pub fun: Shared<Fun>,
     pub blocks: Items<Born>,
 }
 
-impl<'a> Model for Env<'a> {
+impl Model for Env {
     ghost use Rattle.std.specs.Coded.{codes};
     ghost use Rattle.sc_types.specs.contracts.ctype.CType as types;
     ghost use Rattle.sc_types.specs.contracts.ctype.Signature as signatures;
@@ -26,5 +26,5 @@ impl<'a> Model for Env<'a> {
 
     ghost coded = { Prim.hlevel (codes, types.the_row.coded, signatures.the_row.coded, expressions.the_row.coded, statements.the_row.coded) };
 
-    ghost view = { λ e. record { text = e.text.now; fun = e.fun.now; blocks = e.blocks } };
+    ghost view = { λ e. record { text = e.text; fun = e.fun; blocks = e.blocks } };
 }

@@ -19,7 +19,7 @@ pub struct Reader {
     marks: Vec<usize>,
     pieces: Vec<AutoInit>,
     blocks: Vec<Items<Auto>>,
-    funs: Vec<Fun>,
+    funs: Vec<Shared<Fun>>,
     literals: Vec<Bytes>,
     contents: Vec<Init>,
     objects: Vec<StaticObj>,
@@ -366,7 +366,7 @@ impl Reader {
         let mut blocks = Vec::new(self.alloc);
         std::mem::swap(&mut blocks, &mut self.blocks);
         let body = self.last()?;
-        self.funs.push(Fun {
+        let fun = Fun {
             name: name(self.alloc, a.as_bytes())?,
             external: true,
             line: self.line,
@@ -374,7 +374,8 @@ impl Reader {
             blocks: Items::from_vec(blocks),
             cost: number(c),
             body,
-        })?;
+        };
+        self.funs.push(Shared::new(self.alloc, fun)?)?;
         Ok(())
     }
 
