@@ -6,5 +6,5 @@ mod end;
 mod place;
 mod word;
 
-pub use end::end_text;
+pub use end::{on_new_line, stop_text};
 pub use word::rule_text;
