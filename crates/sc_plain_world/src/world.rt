@@ -7,10 +7,10 @@ ghost use Rattle.sc_plain_world.specs.Outputs.{output};
 
 use crate::cells::{back, copy_cells, front, unwritten};
 use crate::event::{Change, Event, Item, Showing};
-use crate::names::{Named, named_in, without_name};
+use crate::names::{Named, keyed_in, named_in, without_name};
 use crate::object::{Born, Cell, Frame, Object};
 use crate::past::Past;
-use sc_base::{Duplicate, Items, Kind, NoMemory, Stack};
+use sc_base::{Duplicate, Items, Key, Kind, NoMemory, Stack};
 use sc_program::StaticId;
 use std::alloc::Global;
 use std::marker::Model;
@@ -209,6 +209,13 @@ impl World {
         ensures { result ≡ spec.named_in self.now.names id.now }
     {
         named_in(self.names.as_slice(), id)
+    }
+
+    /// The object with the name that a key is.
+    pub fn keyed(&self, key: &Key) -> Option<u32>
+        ensures { result ≡ spec.named_in self.now.names (StaticId.Named key.now) }
+    {
+        keyed_in(self.names.as_slice(), key)
     }
 
     /// How many calls were entered.
