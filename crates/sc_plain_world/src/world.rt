@@ -3,7 +3,7 @@ ghost use Rattle.std.specs.Prelude.{◌≡◌, true, false, not, ℕ, ◌+◌, �
 ghost use Rattle.sc_meaning.specs.Violations.{of_object};
 ghost use Rattle.sc_meaning.specs.World as spec;
 ghost use Rattle.sc_plain_world.specs.Happenings.{item_of};
-ghost use Rattle.sc_plain_world.specs.Outputs.{output};
+ghost use Rattle.sc_plain_world.specs.Outputs.{bytes_moved, output};
 
 use crate::cells::{back, copy_cells, front, unwritten};
 use crate::event::{Change, Event, Item, Showing};
@@ -261,6 +261,20 @@ impl World {
         ensures { result.now ≡ output self.now.trail }
     {
         self.past.written()
+    }
+
+    /// The units of work that were done so far.
+    pub fn work_done(&self) -> u64
+        ensures { result ≡ spec.work self.now.trail }
+    {
+        self.past.work()
+    }
+
+    /// The bytes that births and copies of structures touched so far.
+    pub fn moved(&self) -> u64
+        ensures { result ≡ bytes_moved self.now.trail }
+    {
+        self.past.moved()
     }
 
     // The trail keeps what happened.
