@@ -56,10 +56,13 @@ conflict modules numbers core = or_else (name_conflict modules core) (full modul
 abbrev pub with_module : List Text → ℕ → Core → List Text
 with_module modules loaded core = modules ++ record { number = loaded; core = core; form = Source } ∷ []
 
--- the modules where one is translated anew
+-- the modules where one is translated anew, which keeps its number
+abbrev pub anew : Text → Core → Text
+anew t core = record { number = t.number; core = core; form = Source }
+
 abbrev pub in_place : List Text → Core → List Text
 in_place [] core = []
-in_place (t ∷ ts) core = if is_other core t then t ∷ in_place ts core else record { number = t.number; core = core; form = Source } ∷ ts
+in_place (t ∷ ts) core = if is_other core t then t ∷ in_place ts core else anew t core ∷ ts
 
 -- the modules without one
 abbrev pub without : List ℕ → List Text → List Text
@@ -90,5 +93,6 @@ Takes modules numbers core placed taken.NoMemory after new = (after ≡ modules)
 -- the place of the module that has a module's name
 pub record IsPlace (modules : List Text) (core : Core) (i : ℕ) : Type 0 where
   pub inside : i < length modules
-  pub one : (t : Text) → slice_get modules i ≡ Some t
-      → in_place modules core ≡ slice_set modules i (record { number = t.number; core = core; form = Source })
+  pub old : Text
+  pub stands : slice_get modules i ≡ Some old
+  pub placed : in_place modules core ≡ slice_set modules i (anew old core)

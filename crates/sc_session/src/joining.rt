@@ -132,8 +132,8 @@ pub fn take_new(
 fn place_of(core: &Core, texts: &[Text]) -> Option<usize>
     ensures { MatchOption result (spec.in_place texts.now core.now ≡ texts.now) (λ i. spec.IsPlace texts.now core.now i) }
 {
-    for (i, t) in texts.iter().enumerate() {
-        if !is_other(core, t) {
+    for i in 0..texts.len() {
+        if !is_other(core, &texts[i]) {
             return Some(i);
         }
     }

@@ -1,5 +1,5 @@
 // A session: the modules that are present, the stops, a run, and the commands that change them.
-ghost use Rattle.std.specs.Prelude.{◌≡◌, ◌≤◌, ℕ, List, Option, true, false, None, Some, Err, OnOk, OnErr, IfOk, string_bytes};
+ghost use Rattle.std.specs.Prelude.{◌≡◌, ◌≤◌, ℕ, List, Option, true, false, None, Err, OnErr, IfOk, string_bytes};
 ghost use Rattle.sc_build.specs.Builds.{Answers};
 ghost use Rattle.sc_outside.specs.Stored.{FileMap};
 ghost use Rattle.sc_words.specs.Commands.{IsNamed, IsFile};
@@ -312,7 +312,7 @@ impl Session {
 
     // The run of the program goes from its start on.
     fn start(&mut self, alloc: Global, input: Items<u8>) -> Result<Bytes, NoMemory>
-        ensures ok { OnOk result (λ text. going.Begins self.old input text self.new) }
+        ensures ok { IfOk result (λ text. going.Begins self.old input text self.new) }
         ensures err { OnErr result (going.IsCutOff self.old self.new) }
     {
         let stops = places(alloc, self.stops.as_slice())?;
