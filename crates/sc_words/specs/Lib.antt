@@ -1,0 +1,5 @@
+pub mod Commands
+pub mod Lines
+pub mod Parts
+pub mod Stops
+pub mod Texts
