@@ -1,8 +1,7 @@
 // The options, as `clap` reads and explains them.
 ghost use Rattle.std.specs.Prelude.{◌≡◌, true, false, IfOk, IfErr, map, string_bytes, codes};
-ghost use Rattle.clap.specs.Words.{kind_of, rows_of, found_of, rule_of, takes, first_value};
-ghost use Rattle.clap.specs.Simple.{matches_of};
-ghost use Rattle.sc_words.specs.CommandLine.{saber, option_rule};
+ghost use Rattle.clap.specs.Words.{kind_of, rows_of, found_of, rule_of, first_value};
+ghost use Rattle.sc_words.specs.CommandLine.{option_rule, takes_words, rows_in};
 ghost use Rattle.sc_words.specs.Options.{is_listed, all, value_of};
 
 use clap::error::ErrorKind;
@@ -18,8 +17,8 @@ fn option_named<'a>(alloc: Global, name: &'a str) -> Arg<'a>
 
 // What `clap` reads in the words.
 fn parsed<'a>(alloc: Global, words: &'a [String]) -> Result<ArgMatches<'a>, Error>
-    ensures rows { IfOk result (λ matches. rows_of (found_of matches) ≡ matches_of saber (map string_bytes words.entry.now)) }
-    ensures passes { takes saber (map string_bytes words.entry.now) ≡ true → IfErr result (λ e. kind_of e ≡ ErrorKind.OutOfMemory) }
+    ensures rows { IfOk result (λ matches. rows_of (found_of matches) ≡ rows_in (map string_bytes words.entry.now)) }
+    ensures passes { takes_words (map string_bytes words.entry.now) ≡ true → IfErr result (λ e. kind_of e ≡ ErrorKind.OutOfMemory) }
 {
     let stack = option_named(alloc, "stack");
     let heap = option_named(alloc, "heap");
@@ -34,7 +33,7 @@ fn parsed<'a>(alloc: Global, words: &'a [String]) -> Result<ArgMatches<'a>, Erro
 
 /// The values of the options in words that are options with their values. Only memory fails.
 pub fn matches_of<'a>(alloc: Global, words: &'a [String]) -> Result<ArgMatches<'a>, Error>
-    requires { is_listed all (map string_bytes words.entry.now) ≡ true }
+    requires { is_listed all (map string_bytes words.now) ≡ true }
     ensures stack { IfOk result (λ matches. first_value (found_of matches) (codes "stack") ≡ value_of (codes "--stack") (map string_bytes words.entry.now)) }
     ensures heap { IfOk result (λ matches. first_value (found_of matches) (codes "heap") ≡ value_of (codes "--heap") (map string_bytes words.entry.now)) }
     ensures turns { IfOk result (λ matches. first_value (found_of matches) (codes "turns") ≡ value_of (codes "--turns") (map string_bytes words.entry.now)) }
