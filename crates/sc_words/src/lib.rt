@@ -9,11 +9,12 @@ mod line;
 mod listed;
 mod options;
 mod part;
+mod range;
 mod stop;
 mod verb;
 
 pub use answer::{Answer, answer_text};
 pub use command::{Command, read_command};
-pub use options::{Options, WordsFault, read_words};
 pub use denied::{Area, Denied};
+pub use options::{Options, WordsFault, read_words};
 pub use stop::{Event, StopAt, Walk, matched};
