@@ -145,7 +145,12 @@ fn begins(
         fun: f.share()?,
         blocks,
     };
-    Ok(Going::Runs(Doing::Exec(f.get().body.share()?), Stack::new(alloc), env, active))
+    Ok(Going::Runs(
+        Doing::Exec(f.get().body.share()?),
+        Stack::new(alloc),
+        env,
+        active,
+    ))
 }
 
 // A function of a text is called, where the stack has room for it.
