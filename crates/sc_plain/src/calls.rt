@@ -224,7 +224,10 @@ fn value_next(
     ensures { (h : versions.History) → IsQuiet h → Steps (steady.value_next h texts.now v vs.now callers.now world.old) result callers.now world.new }
 {
     match v.shape {
-        Shape::FunctionAt(key) => key_next(texts, key, vs, callers, world),
+        Shape::FunctionAt(key) => {
+            let key = key.get().copy(world.alloc())?;
+            key_next(texts, key, vs, callers, world)
+        }
         Shape::Number(_) => Ok(Going::Answers(Answer::nothing())),
         Shape::Pointer(_, _) => Ok(Going::Answers(Answer::nothing())),
     }
