@@ -1,12 +1,12 @@
 -- What `where`, `print` and `list` show.
-use Rattle.std.specs.Prelude.{◌≡◌, ℕ, List, [], ◌∷◌, ◌++◌, Option, Some, None, codes}
+use Rattle.std.specs.Prelude.{◌≡◌, ℕ, List, [], ◌∷◌, ◌++◌, Option, Some, None, codes, decimal}
 use Rattle.sc_base.specs.declared.key.Key.{Key}
 use Rattle.sc_meaning.specs.Versions.{Text}
 use Rattle.sc_meaning.specs.World.{World}
 use Rattle.sc_show.specs.Frames.{where_lines}
 use Rattle.sc_show.specs.Listings.{module_lines, fun_lines}
 use Rattle.sc_show.specs.Visible.{print_line}
-use Rattle.sc_words.specs.Texts.{stop_line}
+use Rattle.sc_words.specs.Texts.{stop_text}
 use Rattle.sc_words.specs.declared.answer.Answer.{Answer}
 use Rattle.sc_words.specs.declared.answer.Answer.TheVariants as answer
 use Rattle.sc_words.specs.declared.denied.Denied.TheVariants as denied
@@ -17,9 +17,12 @@ use Rattle.sc_session.specs.declared.stops.Stop.{Stop}
 use Rattle.sc_session.specs.Plain.{Plain}
 use Rattle.sc_session.specs.Going.{IsWorldOf, RunsIn}
 
+abbrev pub stop_line : Stop → List ℕ
+stop_line s = codes "> stop " ++ decimal s.number ++ stop_text s.place ++ codes "\n"
+
 abbrev pub stop_lines : List Stop → List ℕ
 stop_lines [] = []
-stop_lines (s ∷ stops) = stop_line s.number s.place ++ stop_lines stops
+stop_lines (s ∷ stops) = stop_line s ++ stop_lines stops
 
 abbrev pub state_line : State → List ℕ
 state_line state.Idle = codes "> idle\n"
