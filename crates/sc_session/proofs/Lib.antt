@@ -1,3 +1,4 @@
 pub mod NameLemmas
 pub mod PlaceLemmas
-pub mod StateLemmas
+pub mod ShowLemmas
+pub mod GoingLemmas

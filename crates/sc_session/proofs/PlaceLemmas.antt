@@ -1,5 +1,5 @@
 -- The place of a module among the others.
-use Rattle.std.proofs.Common.{◌≡◌, ◌<◌, ◌≤◌, ℕ, zero, suc, ◌+◌, true, false, List, [], ◌∷◌, length, refl, ap, sym, subst, arith, Option, Some, None}
+use Rattle.std.proofs.Common.{◌≡◌, ◌<◌, ◌≤◌, ℕ, zero, suc, ◌+◌, true, false, List, [], ◌∷◌, length, get_or, refl, ap, sym, subst, arith, Option, Some, None}
 use Rattle.std.specs.Prelude.{slice_get, slice_set}
 use Rattle.std.proofs.lemmas.Option.{slice_get_within}
 use Rattle.sc_core.specs.declared.module.Core.{Core}
@@ -43,3 +43,8 @@ place_found core n ts t before get other = record {
   stands = get;
   placed = placed core n ts t before get other;
 }
+
+pub there : (ts : List Text) (i : ℕ) (t : Text) → i < length ts → t ≡ get_or ts i t → slice_get ts i ≡ Some t
+there [] i t inside is = absurd (omega arith)
+there (x ∷ ts) zero t inside is = ap Some (sym is)
+there (x ∷ ts) (suc i) t inside is = let less : i < length ts = omega arith in there ts i t less is
