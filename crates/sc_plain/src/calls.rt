@@ -145,7 +145,12 @@ fn begins(
         fun: f.share()?,
         blocks,
     };
-    Ok(Going::Runs(Doing::Exec(f.get().body.share()?), Stack::new(alloc), env, active))
+    Ok(Going::Runs(
+        Doing::Exec(f.get().body.share()?),
+        Stack::new(alloc),
+        env,
+        active,
+    ))
 }
 
 // A function of a text is called, where the stack has room for it.
@@ -219,7 +224,10 @@ fn value_next(
     ensures { (h : versions.History) → IsQuiet h → Steps (steady.value_next h texts.now v vs.now callers.now world.old) result callers.now world.new }
 {
     match v.shape {
-        Shape::FunctionAt(key) => key_next(texts, key, vs, callers, world),
+        Shape::FunctionAt(key) => {
+            let key = key.get().copy(world.alloc())?;
+            key_next(texts, key, vs, callers, world)
+        }
         Shape::Number(_) => Ok(Going::Answers(Answer::nothing())),
         Shape::Pointer(_, _) => Ok(Going::Answers(Answer::nothing())),
     }

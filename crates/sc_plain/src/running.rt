@@ -68,11 +68,7 @@ fn status_of(a: &Answer) -> u32
 }
 
 // The call of `main` goes out.
-fn first(
-    texts: &[Text],
-    callers: &Stack<Caller>,
-    world: &mut World,
-) -> Result<Going, Stop>
+fn first(texts: &[Text], callers: &Stack<Caller>, world: &mut World) -> Result<Going, Stop>
     ensures { (h : versions.History) → IsQuiet h → Steps (steady.callee_next h behaviour.main_key [] (versions.callee_of texts.now behaviour.main_key) callers.now (worlds.tick world.old)) result callers.now world.new }
 {
     let alloc = world.alloc();

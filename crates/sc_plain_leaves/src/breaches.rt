@@ -45,7 +45,7 @@ pub fn moved(p: &Value, k: u32, alloc: Global) -> Result<Value, NoMemory>
 {
     match &p.shape {
         Shape::Number(n) => Ok(Value::number(*n)),
-        Shape::FunctionAt(f) => Ok(Value::function(f.copy(alloc)?)),
+        Shape::FunctionAt(f) => Ok(Value::function(f.share()?)),
         Shape::Pointer(o, i) => Ok(Value::pointer(*o, sum(*i, k)?)),
     }
 }

@@ -143,7 +143,7 @@ pub fn placed(p: &Value, at: i64, alloc: Global) -> Result<Value, NoMemory>
 {
     match &p.shape {
         Shape::Number(n) => Ok(Value::number(*n)),
-        Shape::FunctionAt(k) => Ok(Value::function(k.copy(alloc)?)),
+        Shape::FunctionAt(k) => Ok(Value::function(k.share()?)),
         Shape::Pointer(o, _) => Ok(Value::pointer(*o, natural(at)?)),
     }
 }

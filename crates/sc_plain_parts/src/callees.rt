@@ -125,6 +125,6 @@ pub fn value_rule(
     match &v.shape {
         Shape::Number(_) => Ok(Some(Rule::U12)),
         Shape::Pointer(_, _) => Ok(Some(Rule::U12)),
-        Shape::FunctionAt(key) => key_rule(alloc, texts, t, s, key),
+        Shape::FunctionAt(key) => key_rule(alloc, texts, t, s, key.get()),
     }
 }

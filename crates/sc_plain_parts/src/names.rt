@@ -51,8 +51,7 @@ pub fn undefined_name(key: &Key, world: &World) -> Result<Breach, NoMemory>
 pub fn static_place(key: &Key, world: &mut World) -> Result<Answer, Stop>
     ensures { Gives (spec.static_at key.now (named_in world.old.names (id.Named key.now)) world.old) result world.new }
 {
-    let id = StaticId::Named(key.copy(world.alloc())?);
-    match world.named(&id) {
+    match world.keyed(key) {
         None => {
             let told = undefined_name(key, world)?;
             Err(Stop::Undefined(told))
@@ -93,7 +92,7 @@ fn name_in(v: &Value, world: &World) -> Result<Option<Key>, NoMemory>
     ensures { IfOk result (λ name. name ≡ spec.name_in v.now) }
 {
     match &v.shape {
-        Shape::FunctionAt(key) => Ok(Some(key.copy(world.alloc())?)),
+        Shape::FunctionAt(key) => Ok(Some(key.get().copy(world.alloc())?)),
         Shape::Number(_) => Ok(None),
         Shape::Pointer(_, _) => Ok(None),
     }

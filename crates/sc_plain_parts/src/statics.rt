@@ -9,7 +9,7 @@ ghost use Rattle.sc_plain_leaves.specs.Gives.{Gives};
 
 use crate::births::born;
 use crate::text::{Callee, Definition, Text, callee_of, object_in};
-use sc_base::{Bytes, Duplicate, Items, Key, Kind, NoMemory};
+use sc_base::{Bytes, Duplicate, Items, Key, Kind, NoMemory, Shared};
 use sc_core::Init;
 use sc_plain_leaves::{Stop, pieces, sum};
 use sc_plain_world::{Cell, Object, World, object_at, unwritten};
@@ -114,13 +114,20 @@ fn address_in(objects: &[Object], o: u32, at: u32) -> Option<Value>
     }
 }
 
+fn function_at(key: &Key, alloc: Global) -> Result<Value, NoMemory>
+    ensures { IfOk result (λ v. v ≡ value.FunctionAt key.now) }
+{
+    let key = key.copy(alloc)?;
+    Ok(Value::function(Shared::new(alloc, key)?))
+}
+
 fn fun_address(texts: &[Text], key: &Key, alloc: Global) -> Result<Option<Value>, NoMemory>
     ensures { IfOk result (λ v. v ≡ spec.fun_address (versions.callee_of texts.now key.now) key.now) }
 {
     match callee_of(texts, key) {
         Callee::Missing => Ok(None),
-        Callee::InText(_, _) => Ok(Some(Value::function(key.copy(alloc)?))),
-        Callee::InLibrary(_) => Ok(Some(Value::function(key.copy(alloc)?))),
+        Callee::InText(_, _) => Ok(Some(function_at(key, alloc)?)),
+        Callee::InLibrary(_) => Ok(Some(function_at(key, alloc)?)),
     }
 }
 

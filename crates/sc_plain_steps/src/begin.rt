@@ -71,6 +71,7 @@ fn function(key: &Key, world: &mut World) -> Result<Next, Stop>
     ensures { (is : List Item) → Advances (machine.gives is (spec.at_place (value.FunctionAt key.now) world.old)) result is world.new }
 {
     let key = key.copy(world.alloc())?;
+    let key = Shared::new(world.alloc(), key)?;
     let a = at_place(Value::function(key), world)?;
     Ok(gives(a))
 }

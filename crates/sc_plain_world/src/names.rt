@@ -2,7 +2,7 @@
 ghost use Rattle.std.specs.Prelude.{◌≡◌, IfOk};
 ghost use Rattle.sc_meaning.specs.World as spec;
 
-use sc_base::{Duplicate, Items, NoMemory};
+use sc_base::{Duplicate, Items, Key, NoMemory};
 use sc_program::StaticId;
 use sc_values::same_key;
 use std::alloc::Global;
@@ -39,16 +39,33 @@ pub fn same_id(a: &StaticId, b: &StaticId) -> bool
 pub fn named_in(names: &[Named], id: &StaticId) -> Option<u32>
     ensures { result ≡ spec.named_in names.now id.now }
 {
-    match names {
-        [] => None,
-        [n, rest @ ..] => {
-            if same_id(&n.id, id) {
-                Some(n.object)
-            } else {
-                named_in(rest, id)
-            }
+    for n in names {
+        if same_id(&n.id, id) {
+            return Some(n.object);
         }
     }
+    None
+}
+
+fn is_named(id: &StaticId, key: &Key) -> bool
+    ensures { result ≡ spec.same_id id.now (StaticId.Named key.now) }
+{
+    match id {
+        StaticId::Named(k) => same_key(k, key),
+        StaticId::Literal(_, _) => false,
+    }
+}
+
+/// The object with the name that a key is.
+pub fn keyed_in(names: &[Named], key: &Key) -> Option<u32>
+    ensures { result ≡ spec.named_in names.now (StaticId.Named key.now) }
+{
+    for n in names {
+        if is_named(&n.id, key) {
+            return Some(n.object);
+        }
+    }
+    None
 }
 
 /// The names without one.

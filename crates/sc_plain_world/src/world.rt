@@ -3,14 +3,14 @@ ghost use Rattle.std.specs.Prelude.{◌≡◌, true, false, not, ℕ, ◌+◌, �
 ghost use Rattle.sc_meaning.specs.Violations.{of_object};
 ghost use Rattle.sc_meaning.specs.World as spec;
 ghost use Rattle.sc_plain_world.specs.Happenings.{item_of};
-ghost use Rattle.sc_plain_world.specs.Outputs.{output};
+ghost use Rattle.sc_plain_world.specs.Outputs.{bytes_moved, output};
 
 use crate::cells::{back, copy_cells, front, unwritten};
 use crate::event::{Change, Event, Item, Showing};
-use crate::names::{Named, named_in, without_name};
+use crate::names::{Named, keyed_in, named_in, without_name};
 use crate::object::{Born, Cell, Frame, Object};
 use crate::past::Past;
-use sc_base::{Duplicate, Items, Kind, NoMemory, Stack};
+use sc_base::{Duplicate, Items, Key, Kind, NoMemory, Stack};
 use sc_program::StaticId;
 use std::alloc::Global;
 use std::marker::Model;
@@ -211,6 +211,13 @@ impl World {
         named_in(self.names.as_slice(), id)
     }
 
+    /// The object with the name that a key is.
+    pub fn keyed(&self, key: &Key) -> Option<u32>
+        ensures { result ≡ spec.named_in self.now.names (StaticId.Named key.now) }
+    {
+        keyed_in(self.names.as_slice(), key)
+    }
+
     /// How many calls were entered.
     pub fn enters(&self) -> u64
         ensures { result ≡ self.now.enters }
@@ -254,6 +261,20 @@ impl World {
         ensures { result.now ≡ output self.now.trail }
     {
         self.past.written()
+    }
+
+    /// The units of work that were done so far.
+    pub fn work_done(&self) -> u64
+        ensures { result ≡ spec.work self.now.trail }
+    {
+        self.past.work()
+    }
+
+    /// The bytes that births and copies of structures touched so far.
+    pub fn moved(&self) -> u64
+        ensures { result ≡ bytes_moved self.now.trail }
+    {
+        self.past.moved()
     }
 
     // The trail keeps what happened.

@@ -107,7 +107,7 @@ pub fn value_text(
 {
     match &v.shape {
         Shape::Number(n) => number_text(alloc, how, *n),
-        Shape::FunctionAt(key) => function_text(alloc, key),
+        Shape::FunctionAt(key) => function_text(alloc, key.get()),
         Shape::Pointer(o, i) => pointer_text(alloc, objects, *o, *i),
     }
 }
@@ -148,7 +148,7 @@ pub fn access_text(alloc: Global, v: &Value) -> Result<Vec<u8>, NoMemory>
 {
     match &v.shape {
         Shape::Number(n) => no_place_text(alloc, *n),
-        Shape::FunctionAt(key) => function_text(alloc, key),
+        Shape::FunctionAt(key) => function_text(alloc, key.get()),
         Shape::Pointer(o, i) => place_text(alloc, *o, *i),
     }
 }

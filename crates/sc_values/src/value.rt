@@ -2,7 +2,7 @@
 ghost use Rattle.std.specs.Prelude.{◌≡◌, IfOk, Bool};
 ghost use Rattle.sc_meaning.specs.Values as spec;
 
-use sc_base::{Duplicate, Key, NoMemory};
+use sc_base::{Duplicate, Key, NoMemory, Shared};
 use std::alloc::Global;
 use std::marker::Model;
 
@@ -10,7 +10,7 @@ use std::marker::Model;
 #[derive(Drop)]
 pub enum Shape {
     Number(u32),
-    FunctionAt(Key),
+    FunctionAt(Shared<Key>),
     Pointer(u32, u32),
 }
 
@@ -48,7 +48,7 @@ impl Value {
     }
 
     /// A function.
-    pub fn function(key: Key) -> Value
+    pub fn function(key: Shared<Key>) -> Value
         ensures { result ≡ spec.FunctionAt key }
     {
         Value {
@@ -71,7 +71,7 @@ impl Value {
     {
         match (&self.shape, &other.shape) {
             (Shape::Number(a), Shape::Number(b)) => *a == *b,
-            (Shape::FunctionAt(a), Shape::FunctionAt(b)) => same_key(a, b),
+            (Shape::FunctionAt(a), Shape::FunctionAt(b)) => same_key(a.get(), b.get()),
             (Shape::Pointer(o, i), Shape::Pointer(p, j)) => *o == *p && *i == *j,
             _ => false,
         }
@@ -91,10 +91,10 @@ pub fn same_key(a: &Key, b: &Key) -> bool
 }
 
 impl Duplicate for Value {
-    fn copy(&self, alloc: Global) -> Result<Value, NoMemory> {
+    fn copy(&self, _: Global) -> Result<Value, NoMemory> {
         match &self.shape {
             Shape::Number(n) => Ok(Value::number(*n)),
-            Shape::FunctionAt(key) => Ok(Value::function(key.copy(alloc)?)),
+            Shape::FunctionAt(key) => Ok(Value::function(key.share()?)),
             Shape::Pointer(o, i) => Ok(Value::pointer(*o, *i)),
         }
     }
