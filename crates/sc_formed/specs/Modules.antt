@@ -61,8 +61,8 @@ bodies core (f ∷ fs) = is_body core f && bodies core fs
 -- Each function is declared, each object and literal is born once, each name is defined as it says, and all keep their laws.
 abbrev pub is_lawful : Core → Bool
 is_lawful core =
-    bodies core core.funs && are_born core
-    && (declarations core core.declared && objects core core.objects && literals_end core.literals && functions core core.funs)
+    bodies core core.funs && are_born core && functions core core.funs
+    && (declarations core core.declared && objects core core.objects && literals_end core.literals)
 
 -- literals, functions, objects and names with linkage stand for one thing each
 abbrev pub with_literals : Core → Bool
