@@ -1,5 +1,5 @@
 // The world of a run, and the single changes to it.
-ghost use Rattle.std.specs.Prelude.{◌≡◌, true, false, not, ℕ, ◌+◌, ◌-◌, ◌∷◌, ◌++◌, [], List, length, IfOk, MatchOption, None, Some, slice_index, slice_set, replicate};
+ghost use Rattle.std.specs.Prelude.{◌≡◌, true, false, not, ℕ, ◌+◌, ◌-◌, ◌∷◌, ◌++◌, [], List, length, reverse, IfOk, MatchOption, None, Some, slice_index, slice_set, replicate};
 ghost use Rattle.sc_meaning.specs.Violations.{of_object};
 ghost use Rattle.sc_meaning.specs.World as spec;
 ghost use Rattle.sc_plain_world.specs.Happenings.{item_of};
@@ -202,6 +202,13 @@ impl World {
         ensures { MatchOption result (self.now.frames ≡ []) (λ top. (below : List spec.Frame) × (self.now.frames ≡ top.now ∷ below)) }
     {
         self.frames.top()
+    }
+
+    /// The active calls, from the outermost in.
+    pub fn frames(&self) -> &[Frame]
+        ensures { reverse result.now ≡ self.now.frames }
+    {
+        self.frames.as_slice()
     }
 
     /// The object with a name.
