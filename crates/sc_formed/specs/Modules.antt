@@ -1,5 +1,5 @@
 -- What a checked module is: what an interpreter and a code generator may rest on.
-use Rattle.std.specs.Prelude.{ℕ, Bool, true, false, not, ◌&&◌, ◌||◌, if◌then◌else◌, List, [], ◌∷◌, map, position, slice_get, Option, Some, None, is_some, is_none, option_and_then}
+use Rattle.std.specs.Prelude.{Bool, true, false, ◌&&◌, if◌then◌else◌, List, [], ◌∷◌, map, Option, Some, None, is_some, is_none}
 use Rattle.std.specs.Str.{bytes_eq}
 use Rattle.sc_base.specs.declared.key.Key.{Key}
 use Rattle.sc_types.specs.declared.ctype.CType.{CType, out-CType}

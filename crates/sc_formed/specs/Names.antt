@@ -1,5 +1,5 @@
 -- What a module says of names and literals.
-use Rattle.std.specs.Prelude.{◌≡◌, ℕ, nat_eq, ◌++◌, Bool, true, false, not, ◌&&◌, if◌then◌else◌, List, [], ◌∷◌, length, map, position, slice_get, Option, Some, None, option_and_then}
+use Rattle.std.specs.Prelude.{◌≡◌, ℕ, nat_eq, ◌++◌, Bool, true, false, not, ◌&&◌, List, [], ◌∷◌, position, slice_get, Option, Some, None, option_and_then}
 use Rattle.std.specs.Option.{option_eq}
 use Rattle.std.specs.Str.{bytes_eq}
 use Rattle.std.specs.List.{list_any}
