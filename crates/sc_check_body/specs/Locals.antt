@@ -212,13 +212,16 @@ abbrev pub one_declarator : Option Storage → DeclaredType → InitDeclarator �
 one_declarator class base x u w =
     and_then (in_unit (in_scope (λ s. within (declarator_type base x.declarator s))) w) (λ t. named_by x.line x.declarator.identifier class x.initializer t.0 t.1)
 
-abbrev pub declarators : Declaration → List InitDeclarator → Declaring
-declarators d xs w =
-    and_then (in_unit (in_scope (λ s. within (specifying d.specifiers s))) w) (λ b. each (one_declarator d.specifiers.storage b.0) xs tt b.1)
+abbrev pub declare_each : Option Storage → DeclaredType → List InitDeclarator → Declaring
+declare_each class base xs w = each (one_declarator class base) xs tt w
+
+abbrev pub declarators : Declaration → Declaring
+declarators d w =
+    and_then (in_unit (in_scope (λ s. within (specifying d.specifiers s))) w) (λ b. declare_each d.specifiers.storage b.0 d.declarators b.1)
 
 abbrev pub declare_by : Declaration → List InitDeclarator → Declaring
 declare_by d [] w = in_unit (in_scope (declare_alone place.Block d)) w
-declare_by d (x ∷ xs) w = declarators d (x ∷ xs) w
+declare_by d (x ∷ xs) w = declarators d w
 
 -- a declaration of a block
 abbrev pub declare_local : Declaration → Declaring
