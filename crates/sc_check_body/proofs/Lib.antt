@@ -1,1 +1,2 @@
 mod Births
+mod Turns
