@@ -128,21 +128,20 @@ fn branch(
     }
 }
 
-/// `if` and `else`, behind the condition (ANSI 3.6.4.1).
+/// `if` with its condition and its statement, and the statement behind `else` (ANSI 3.6.4.1).
 #[cycle(statements)]
-fn branches(
+fn otherwise(
     alloc: Global,
     m: &mut Translation,
     f: &mut Body,
     around: Around,
     line: u32,
-    a: &Statement,
     b: &Option<Shared<Statement>>,
     e: Shared<CoreExpr>,
+    a: Shared<CoreStmt>,
 ) -> Result<Shared<CoreStmt>, UnitFault>
-    ensures { GivesWith (spec.branches line e (spec.standing a.now) (option_map spec.standing b.now) around (m.old, f.old)) result (m.new, f.new) }
+    ensures { GivesWith (spec.otherwise line e a (option_map spec.standing b.now) around (m.old, f.old)) result (m.new, f.new) }
 {
-    let a = statement(alloc, m, f, around.part(), a)?;
     let b = branch(alloc, m, f, around.part(), b)?;
     node(alloc, CoreStmt::If(line, e, a, b))
 }
@@ -365,7 +364,8 @@ fn statement(
         Statement::Expression(line, e) => expression_statement(alloc, &mut m.st, *line, e.get()),
         Statement::If(line, e, a, b) => {
             let e = condition(alloc, &mut m.st, e.get())?;
-            branches(alloc, m, f, around, *line, a.get(), b, e)
+            let a = statement(alloc, m, f, around.part(), a.get())?;
+            otherwise(alloc, m, f, around, *line, b, e, a)
         }
         Statement::Switch(line, e, body) => {
             switch_statement(alloc, m, f, around, *line, body.get(), e.get())
