@@ -10,7 +10,6 @@ use Rattle.sc_tree.specs.declared.statement.Statement.TheOpen.{Statement-F}
 use Rattle.sc_core.specs.declared.expression.CoreExpr.{CoreExpr}
 use Rattle.sc_core.specs.declared.statement.CoreStmt.{CoreStmt}
 use Rattle.sc_core.specs.declared.statement.CoreStmt.TheVariants as s
-use Rattle.sc_core.specs.declared.statement.SwitchLabel.{SwitchLabel}
 use Rattle.sc_scope.specs.declared.state.Marks.{Marks}
 use Rattle.sc_scope.specs.declared.state.State.{State}
 use Rattle.sc_scope.specs.Scopes as scopes

@@ -1,5 +1,5 @@
 -- Declarations of a block (ANSI 3.5, 3.6.2).
-use Rattle.std.specs.Prelude.{ℕ, ◌==◌, Bool, true, false, if◌then◌else◌, List, [], ◌∷◌, ◌++◌, length, Option, Some, None, is_some, Ok}
+use Rattle.std.specs.Prelude.{ℕ, ◌==◌, Bool, true, false, ◌||◌, if◌then◌else◌, List, [], ◌∷◌, ◌++◌, length, Option, Some, None, is_some, Ok}
 use Rattle.sc_base.specs.declared.key.Key.{Key}
 use Rattle.sc_types.specs.declared.ctype.CType.{CType, out-CType}
 use Rattle.sc_types.specs.declared.ctype.CType.TheOpen.{CType-F}
@@ -77,7 +77,7 @@ is_typedef (Some storage.Typedef) = true
 is_typedef _ = false
 
 abbrev pub may_by : CType-F CType Signature → List StructDef → CType → Bool
-may_by (CType-F.Array u n) structs of = if n == 0 then true else is_some (object_size structs of)
+may_by (CType-F.Array u n) structs of = n == 0 || is_some (object_size structs of)
 may_by _ structs of = is_some (object_size structs of)
 
 -- An object has a complete type; the size of an array may be left to its initialiser.
@@ -92,7 +92,7 @@ local_by line name of None = rule line
 abbrev pub local_of : List StructDef → ℕ → List ℕ → CType → Checked Local
 local_of structs line name of = local_by line name of (object_size structs of)
 
--- one more name in scope, which hides the others
+-- one more name in scope, which hides an outer one
 abbrev pub naming : List ℕ → Meaning → State → State
 naming name meaning s = record s { names = (name, meaning) ∷ s.names }
 

@@ -1,12 +1,11 @@
 // Statements (ANSI 3.6).
 ghost use Rattle.std.specs.Prelude.{◌≡◌, map, IfOk};
 ghost use Rattle.std.specs.Option.{option_map};
-ghost use Rattle.sc_check_body.specs.Faults.{Says, GivesWith};
-ghost use Rattle.sc_check_body.specs.Progress as place;
+ghost use Rattle.sc_check_body.specs.Faults.{GivesWith};
 ghost use Rattle.sc_check_body.specs.Blocks as spec;
 
-use crate::controlling::{condition, optional_condition, optional_value, selector};
 use crate::declarations::declared;
+use crate::expressions::{condition, optional_condition, optional_value, selector};
 use crate::fault::UnitFault;
 use crate::labels::{add_label, close_switch, open_switch};
 use crate::progress::{Around, Body, Translation};
