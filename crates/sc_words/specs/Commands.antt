@@ -1,0 +1,140 @@
+-- What a line asks for.
+use Rattle.std.specs.Prelude.{◌≡◌, ℕ, Bool, true, false, ◌&&◌, List, [], ◌∷◌, length, if◌then◌else◌, ◌==◌, nat_le, codes, Option, Some, None}
+use Rattle.std.specs.Str.{bytes_eq}
+use Rattle.sc_words.specs.Lines.{words_of}
+use Rattle.sc_words.specs.Parts.{is_module_name, is_identifier, is_file_name, is_numeral, number_of, parts_of}
+use Rattle.sc_words.specs.declared.stop.StopAt.TheVariants.{InFun, AtLine}
+use Rattle.sc_words.specs.declared.verb.Verb.{Verb}
+use Rattle.sc_words.specs.declared.verb.Verb.TheVariants as verb
+use Rattle.sc_words.specs.declared.command.Command.{Command}
+use Rattle.sc_words.specs.declared.command.Command.TheVariants as command
+
+-- the commands by their first words
+abbrev pub verb_of : List ℕ → Option Verb
+verb_of word =
+    if bytes_eq word (codes "load") then Some verb.Load
+    else (if bytes_eq word (codes "unload") then Some verb.Unload
+    else (if bytes_eq word (codes "edit") then Some verb.Edit
+    else (if bytes_eq word (codes "run") then Some verb.Run
+    else (if bytes_eq word (codes "stop") then Some verb.Stop
+    else (if bytes_eq word (codes "delete") then Some verb.Delete
+    else (if bytes_eq word (codes "step") then Some verb.Step
+    else (if bytes_eq word (codes "next") then Some verb.Next
+    else (if bytes_eq word (codes "cont") then Some verb.Cont
+    else (if bytes_eq word (codes "where") then Some verb.Where
+    else (if bytes_eq word (codes "print") then Some verb.Print
+    else (if bytes_eq word (codes "list") then Some verb.List
+    else (if bytes_eq word (codes "reset") then Some verb.Reset
+    else (if bytes_eq word (codes "quit") then Some verb.Quit else None)))))))))))))
+
+-- ---- the further words
+
+-- there are none
+abbrev pub alone : Command → List (List ℕ) → Command
+alone asked [] = asked
+alone asked (word ∷ words) = command.BadArguments
+
+abbrev pub load_of : List (List ℕ) → Command
+load_of (name ∷ []) = if is_module_name name then command.Load name else command.BadArguments
+load_of _ = command.BadArguments
+
+abbrev pub unload_of : List (List ℕ) → Command
+unload_of (name ∷ []) = if is_module_name name then command.Unload name else command.BadArguments
+unload_of _ = command.BadArguments
+
+abbrev pub edit_of : List (List ℕ) → Command
+edit_of (name ∷ []) = if is_module_name name then command.Edit name None else command.BadArguments
+edit_of (name ∷ file ∷ []) =
+    if is_module_name name && is_file_name file then command.Edit name (Some file) else command.BadArguments
+edit_of _ = command.BadArguments
+
+abbrev pub run_of : List (List ℕ) → Command
+run_of [] = command.Run None
+run_of (file ∷ []) = if is_file_name file then command.Run (Some file) else command.BadArguments
+run_of _ = command.BadArguments
+
+-- a function, or a module and a function that it defines, with a colon between them
+abbrev pub in_function : List ℕ → Option (List ℕ × List ℕ) → Command
+in_function place None = if is_identifier place then command.Stop (InFun None place) else command.BadArguments
+in_function place (Some parts) =
+    if is_module_name parts.0 && is_identifier parts.1 then command.Stop (InFun (Some parts.0) parts.1)
+    else command.BadArguments
+
+-- a module and a line, with a colon between them
+abbrev pub at_line : Option (List ℕ × List ℕ) → Command
+at_line None = command.BadArguments
+at_line (Some parts) =
+    if is_module_name parts.0 && is_numeral 9 parts.1 then command.Stop (AtLine parts.0 (number_of parts.1))
+    else command.BadArguments
+
+abbrev pub stop_of : List (List ℕ) → Command
+stop_of (how ∷ place ∷ []) =
+    if bytes_eq how (codes "in") then in_function place (parts_of place)
+    else (if bytes_eq how (codes "at") then at_line (parts_of place) else command.BadArguments)
+stop_of _ = command.BadArguments
+
+abbrev pub delete_of : List (List ℕ) → Command
+delete_of (number ∷ []) =
+    if is_numeral 9 number then command.Delete (number_of number) else command.BadArguments
+delete_of _ = command.BadArguments
+
+abbrev pub print_of : List (List ℕ) → Command
+print_of (name ∷ []) = if is_identifier name then command.Print name else command.BadArguments
+print_of _ = command.BadArguments
+
+-- ---- the whole line
+
+abbrev pub command_by : Verb → List (List ℕ) → Command
+command_by verb.Load words = load_of words
+command_by verb.Unload words = unload_of words
+command_by verb.Edit words = edit_of words
+command_by verb.Run words = run_of words
+command_by verb.Stop words = stop_of words
+command_by verb.Delete words = delete_of words
+command_by verb.Step words = alone command.Step words
+command_by verb.Next words = alone command.Next words
+command_by verb.Cont words = alone command.Cont words
+command_by verb.Where words = alone command.Frames words
+command_by verb.Print words = print_of words
+command_by verb.List words = alone command.List words
+command_by verb.Reset words = alone command.Reset words
+command_by verb.Quit words = alone command.Quit words
+
+-- the first word is no command; or the line has more than 1,024 bytes
+abbrev pub asked : Bool → Option Verb → List (List ℕ) → Command
+asked fits None words = command.Unknown
+asked false (Some v) words = command.BadArguments
+asked true (Some v) words = command_by v words
+
+-- a word that begins a comment
+abbrev pub is_comment : List ℕ → Bool
+is_comment [] = false
+is_comment (b ∷ bytes) = b == 35
+
+-- a line without words, or whose first word begins with `#`, asks for nothing
+abbrev pub command_of_words : Bool → List (List ℕ) → Command
+command_of_words fits [] = command.Nothing
+command_of_words fits (word ∷ words) =
+    if is_comment word then command.Nothing else asked fits (verb_of word) words
+
+abbrev pub command_of : List ℕ → Command
+command_of line = command_of_words (nat_le (length line) 1024) (words_of line)
+
+-- ---- what is known of a command
+
+abbrev pub IsFile : Option (List ℕ) → Type 0
+IsFile None = Unit {0}
+IsFile (Some file) = is_file_name file ≡ true
+
+-- its module is a module's name, and its file a file's
+abbrev pub IsNamed : Command → Type 0
+IsNamed (command.Load name) = is_module_name name ≡ true
+IsNamed (command.Unload name) = is_module_name name ≡ true
+IsNamed (command.Edit name file) = (is_module_name name ≡ true) × IsFile file
+IsNamed (command.Run file) = IsFile file
+IsNamed _ = Unit {0}
+
+-- only a line without an answer asks for nothing
+abbrev pub IsAnswered : Command → Type 0
+IsAnswered command.Nothing = ⊥
+IsAnswered _ = Unit {0}

@@ -1,0 +1,7 @@
+pub mod CommandLine
+pub mod Commands
+pub mod Lines
+pub mod Options
+pub mod Parts
+pub mod Stops
+pub mod Texts

@@ -1,0 +1,224 @@
+// The texts of answers.
+ghost use Rattle.std.specs.Prelude.{◌≡◌, ◌++◌, IfOk, OnOk, codes, decimal};
+ghost use Rattle.sc_words.specs.Texts as spec;
+
+use crate::denied::{Area, Denied};
+use crate::stop::StopAt;
+use sc_base::{Bytes, Name, NoMemory, Refusal, X};
+use std::alloc::Global;
+
+/// What a command is answered.
+#[derive(Debug, Drop)]
+pub enum Answer {
+    /// Nothing: the line has no answer.
+    Silent,
+    Loaded(Name),
+    Unloaded(Name),
+    Edited(Name),
+    /// A stop was set, with its number.
+    StopSet(u32, StopAt),
+    Deleted(u32),
+    /// What a run wrote, and where it stopped, as a text.
+    Ran(Bytes),
+    /// What a command shows, as lines that are written already.
+    Shown(Bytes),
+    Reset,
+    Bye,
+    Refused(Denied),
+    NoMemory,
+}
+
+// Puts bytes behind a text.
+fn put(text: &mut Vec<u8>, bytes: &[u8]) -> Result<(), NoMemory>
+    ensures { OnOk result (text.new.items ≡ text.old.items ++ bytes.now) }
+{
+    text.extend_from_slice(bytes)?;
+    Ok(())
+}
+
+fn words(alloc: Global, bytes: &[u8]) -> Result<Vec<u8>, NoMemory>
+    ensures { IfOk result (λ text. text.items ≡ bytes.now) }
+{
+    let text = Vec::from_slice(alloc, bytes)?;
+    Ok(text)
+}
+
+// Words, and one behind them.
+fn with_word(alloc: Global, front: &[u8], word: &[u8]) -> Result<Vec<u8>, NoMemory>
+    ensures { IfOk result (λ text. text.items ≡ front.now ++ word.now) }
+{
+    let mut text = Vec::from_slice(alloc, front)?;
+    put(&mut text, word)?;
+    Ok(text)
+}
+
+// Words, and a number behind them.
+fn with_number(alloc: Global, front: &[u8], number: u32) -> Result<Vec<u8>, NoMemory>
+    ensures { IfOk result (λ text. text.items ≡ front.now ++ decimal number) }
+{
+    let digits = number.to_string(alloc)?;
+    let mut text = Vec::from_slice(alloc, front)?;
+    put(&mut text, digits.as_bytes())?;
+    Ok(text)
+}
+
+// Words, and two behind them.
+fn with_two(alloc: Global, front: &[u8], name: &Name, other: &Name) -> Result<Vec<u8>, NoMemory>
+    ensures { IfOk result (λ text. text.items ≡ front.now ++ name.now ++ codes " " ++ other.now) }
+{
+    let mut text = Vec::from_slice(alloc, front)?;
+    put(&mut text, name.as_slice())?;
+    put(&mut text, b" ")?;
+    put(&mut text, other.as_slice())?;
+    Ok(text)
+}
+
+// The kind of a refusal, with its word.
+fn kind_text(alloc: Global, kind: &X) -> Result<Vec<u8>, NoMemory>
+    ensures { IfOk result (λ text. text.items ≡ spec.kind_text kind.now) }
+{
+    match kind {
+        X::X1 => words(alloc, b"X1"),
+        X::X2 => words(alloc, b"X2"),
+        X::X3 => words(alloc, b"X3"),
+        X::X4 => words(alloc, b"X4"),
+        X::X5 => words(alloc, b"X5"),
+        X::X6 => words(alloc, b"X6"),
+        X::X7 => words(alloc, b"X7"),
+        X::X8 => words(alloc, b"X8"),
+        X::X9(word) => with_word(alloc, b"X9 ", word.as_slice()),
+        X::X10(word) => with_word(alloc, b"X10 ", word.as_slice()),
+    }
+}
+
+fn refusal_text(alloc: Global, refusal: &Refusal) -> Result<Vec<u8>, NoMemory>
+    ensures { IfOk result (λ text. text.items ≡ spec.refusal_text refusal.now) }
+{
+    let kind = kind_text(alloc, &refusal.kind)?;
+    let line = refusal.line.to_string(alloc)?;
+    let mut text = Vec::from_slice(alloc, b"C5 ")?;
+    put(&mut text, kind.as_slice())?;
+    put(&mut text, b" ")?;
+    put(&mut text, refusal.file.as_slice())?;
+    put(&mut text, b":")?;
+    put(&mut text, line.as_bytes())?;
+    Ok(text)
+}
+
+fn area_text(area: Area) -> &'static [u8]
+    ensures { result.now ≡ spec.area_text area }
+{
+    match area {
+        Area::Modules => b"C14 modules",
+        Area::Stubs => b"C14 stubs",
+        Area::Static => b"C14 static",
+    }
+}
+
+fn denied_text(alloc: Global, denied: &Denied) -> Result<Vec<u8>, NoMemory>
+    ensures { IfOk result (λ text. text.items ≡ spec.denied_text denied.now) }
+{
+    match denied {
+        Denied::UnknownCommand => words(alloc, b"C1"),
+        Denied::BadArguments => words(alloc, b"C2"),
+        Denied::NoModule => words(alloc, b"C3"),
+        Denied::ModuleThere => words(alloc, b"C4"),
+        Denied::Translation(refusal) => refusal_text(alloc, refusal),
+        Denied::Doubled(name, other) => with_two(alloc, b"C6 ", name, other),
+        Denied::Clash(name, other) => with_two(alloc, b"C7 ", name, other),
+        Denied::NoFile(file) => with_word(alloc, b"C8 ", file.as_slice()),
+        Denied::RunActive => words(alloc, b"C10"),
+        Denied::NoRun => words(alloc, b"C11"),
+        Denied::NotAtStop => words(alloc, b"C12"),
+        Denied::NoMain => words(alloc, b"C13"),
+        Denied::Space(area) => words(alloc, area_text(*area)),
+        Denied::FileFault(file) => with_word(alloc, b"C15 ", file.as_slice()),
+        Denied::NotVisible(name) => with_word(alloc, b"C16 ", name.as_slice()),
+        Denied::NoStop(number) => with_number(alloc, b"C18 ", *number),
+        Denied::TooLong(file) => with_word(alloc, b"C19 ", file.as_slice()),
+    }
+}
+
+// A line of these words.
+fn line_of(alloc: Global, front: &[u8], said: &[u8]) -> Result<Bytes, NoMemory>
+    ensures { IfOk result (λ text. text ≡ front.now ++ said.now ++ codes "\n") }
+{
+    let mut text = Vec::from_slice(alloc, front)?;
+    put(&mut text, said)?;
+    put(&mut text, b"\n")?;
+    Ok(Bytes::from_vec(text))
+}
+
+fn refused_line(alloc: Global, denied: &Denied) -> Result<Bytes, NoMemory>
+    ensures { IfOk result (λ text. text ≡ codes "> refused " ++ spec.denied_text denied.now ++ codes "\n") }
+{
+    let said = denied_text(alloc, denied)?;
+    line_of(alloc, b"> refused ", said.as_slice())
+}
+
+// A function behind the module that defines it, where one is named.
+fn fun_text(alloc: Global, home: &Option<Name>, fun: &Name) -> Result<Vec<u8>, NoMemory>
+    ensures { IfOk result (λ text. text.items ≡ spec.fun_text home.now fun.now) }
+{
+    let Some(home) = home else {
+        return with_word(alloc, b" in ", fun.as_slice());
+    };
+    let mut text = with_word(alloc, b" in ", home.as_slice())?;
+    put(&mut text, b":")?;
+    put(&mut text, fun.as_slice())?;
+    Ok(text)
+}
+
+fn line_text(alloc: Global, home: &Name, line: u32) -> Result<Vec<u8>, NoMemory>
+    ensures { IfOk result (λ text. text.items ≡ codes " at " ++ home.now ++ codes ":" ++ decimal line) }
+{
+    let digits = line.to_string(alloc)?;
+    let mut text = with_word(alloc, b" at ", home.as_slice())?;
+    put(&mut text, b":")?;
+    put(&mut text, digits.as_bytes())?;
+    Ok(text)
+}
+
+fn stop_text(alloc: Global, stop: &StopAt) -> Result<Vec<u8>, NoMemory>
+    ensures { IfOk result (λ text. text.items ≡ spec.stop_text stop.now) }
+{
+    match stop {
+        StopAt::InFun(module, fun) => fun_text(alloc, module, fun),
+        StopAt::AtLine(module, line) => line_text(alloc, module, *line),
+    }
+}
+
+fn stop_line(alloc: Global, number: u32, stop: &StopAt) -> Result<Bytes, NoMemory>
+    ensures { IfOk result (λ text. text ≡ codes "> stop " ++ decimal number ++ spec.stop_text stop.now ++ codes "\n") }
+{
+    let front = with_number(alloc, b"> stop ", number)?;
+    let place = stop_text(alloc, stop)?;
+    line_of(alloc, front.as_slice(), place.as_slice())
+}
+
+fn deleted_line(alloc: Global, number: u32) -> Result<Bytes, NoMemory>
+    ensures { IfOk result (λ text. text ≡ codes "> deleted " ++ decimal number ++ codes "\n") }
+{
+    let digits = number.to_string(alloc)?;
+    line_of(alloc, b"> deleted ", digits.as_bytes())
+}
+
+/// The text of an answer: one line behind `> `, or the lines that it carries.
+pub fn answer_text(alloc: Global, answer: &Answer) -> Result<Bytes, NoMemory>
+    ensures { IfOk result (λ text. text ≡ spec.text_of answer.now) }
+{
+    match answer {
+        Answer::Silent => Ok(Bytes::from_vec(Vec::new(alloc))),
+        Answer::Loaded(name) => line_of(alloc, b"> loaded ", name.as_slice()),
+        Answer::Unloaded(name) => line_of(alloc, b"> unloaded ", name.as_slice()),
+        Answer::Edited(name) => line_of(alloc, b"> edited ", name.as_slice()),
+        Answer::StopSet(number, stop) => stop_line(alloc, *number, stop),
+        Answer::Deleted(number) => deleted_line(alloc, *number),
+        Answer::Ran(text) => Bytes::from_slice(alloc, text.as_slice()),
+        Answer::Shown(lines) => Bytes::from_slice(alloc, lines.as_slice()),
+        Answer::Reset => Bytes::from_slice(alloc, b"> reset\n"),
+        Answer::Bye => Bytes::from_slice(alloc, b"> bye\n"),
+        Answer::Refused(denied) => refused_line(alloc, denied),
+        Answer::NoMemory => Bytes::from_slice(alloc, b"> no memory\n"),
+    }
+}

@@ -1,0 +1,274 @@
+// What a line asks for.
+ghost use Rattle.std.specs.Prelude.{◌≡◌, [], ◌∷◌, IfOk, OnErr, IfSome, IfNone};
+ghost use Rattle.sc_words.specs.Lines.{words_of};
+ghost use Rattle.sc_words.specs.Parts.{parts_of};
+ghost use Rattle.sc_words.specs.Commands.{command_of, command_by, alone, load_of, unload_of, edit_of, run_of, stop_of, in_function, at_line, delete_of, print_of, is_comment, IsNamed, IsAnswered};
+
+use crate::line::next_word;
+use crate::part::{
+    is_file_name, is_identifier, is_module_name, is_numeral, name_of, parts_of, small_number_of,
+};
+use crate::stop::StopAt;
+use crate::verb::{Verb, verb_of};
+use sc_base::{Name, NoMemory};
+use std::alloc::Global;
+
+/// The most bytes that a command's line may have.
+pub const MAX_COMMAND_LEN: usize = 1024;
+
+/// What a line asks for. A module's name is a letter and up to 30 letters, digits or underscores; a file is 1 to 63
+/// letters, digits, `_`, `.` or `-`, and does not begin with `.` or `-`.
+#[derive(Debug, Drop)]
+pub enum Command {
+    /// A line without words, or a comment.
+    Nothing,
+    /// `load M`
+    Load(Name),
+    /// `unload M`
+    Unload(Name),
+    /// `edit M`, or `edit M FILE`
+    Edit(Name, Option<Name>),
+    /// `run`, or `run FILE`
+    Run(Option<Name>),
+    /// `stop in F`, `stop in M:F` or `stop at M:N`
+    Stop(StopAt),
+    /// `delete K`
+    Delete(u32),
+    Step,
+    Next,
+    Cont,
+    /// `where`
+    Frames,
+    /// `print NAME`
+    Print(Name),
+    List,
+    Reset,
+    Quit,
+    /// The first word is no command.
+    Unknown,
+    /// The further words are not the command's, or the line is too long.
+    BadArguments,
+}
+
+/// What a line asks for, without the line feed at its end.
+pub fn read_command(alloc: Global, line: &[u8]) -> Result<Command, NoMemory>
+    ensures command { IfOk result (λ command. command ≡ command_of line.now) }
+    ensures named { IfOk result IsNamed }
+    ensures no_memory { OnErr result (IsAnswered (command_of line.now)) }
+{
+    let Some((word, rest)) = next_word(line) else {
+        return Ok(Command::Nothing);
+    };
+    if is_comment(word) {
+        return Ok(Command::Nothing);
+    }
+    let Some(verb) = verb_of(word) else {
+        return Ok(Command::Unknown);
+    };
+    if line.len() > MAX_COMMAND_LEN {
+        return Ok(Command::BadArguments);
+    }
+    command_by(alloc, verb, rest)
+}
+
+fn is_comment(word: &[u8]) -> bool
+    ensures { result ≡ is_comment word.now }
+{
+    match word {
+        [first, ..] => *first == b'#',
+        [] => false,
+    }
+}
+
+fn command_by(alloc: Global, verb: Verb, rest: &[u8]) -> Result<Command, NoMemory>
+    ensures command { IfOk result (λ command. command ≡ command_by verb (words_of rest.now)) }
+    ensures named { IfOk result IsNamed }
+    ensures no_memory { OnErr result (IsAnswered (command_by verb (words_of rest.now))) }
+{
+    match verb {
+        Verb::Load => load_of(alloc, rest),
+        Verb::Unload => unload_of(alloc, rest),
+        Verb::Edit => edit_of(alloc, rest),
+        Verb::Run => run_of(alloc, rest),
+        Verb::Stop => stop_of(alloc, rest),
+        Verb::Delete => Ok(delete_of(rest)),
+        Verb::Print => print_of(alloc, rest),
+        Verb::Step => Ok(alone(Command::Step, rest)),
+        Verb::Next => Ok(alone(Command::Next, rest)),
+        Verb::Cont => Ok(alone(Command::Cont, rest)),
+        Verb::Where => Ok(alone(Command::Frames, rest)),
+        Verb::List => Ok(alone(Command::List, rest)),
+        Verb::Reset => Ok(alone(Command::Reset, rest)),
+        Verb::Quit => Ok(alone(Command::Quit, rest)),
+    }
+}
+
+// A command that has no further words.
+fn alone(command: Command, rest: &[u8]) -> Command
+    ensures { result ≡ alone command (words_of rest.now) }
+{
+    if next_word(rest).is_none() {
+        return command;
+    }
+    Command::BadArguments
+}
+
+fn load_of(alloc: Global, rest: &[u8]) -> Result<Command, NoMemory>
+    ensures command { IfOk result (λ command. command ≡ load_of (words_of rest.now)) }
+    ensures named { IfOk result IsNamed }
+    ensures no_memory { OnErr result (IsAnswered (load_of (words_of rest.now))) }
+{
+    let Some((name, rest)) = next_word(rest) else {
+        return Ok(Command::BadArguments);
+    };
+    if next_word(rest).is_some() || !is_module_name(name) {
+        return Ok(Command::BadArguments);
+    }
+    let name = name_of(alloc, name)?;
+    Ok(Command::Load(name))
+}
+
+fn unload_of(alloc: Global, rest: &[u8]) -> Result<Command, NoMemory>
+    ensures command { IfOk result (λ command. command ≡ unload_of (words_of rest.now)) }
+    ensures named { IfOk result IsNamed }
+    ensures no_memory { OnErr result (IsAnswered (unload_of (words_of rest.now))) }
+{
+    let Some((name, rest)) = next_word(rest) else {
+        return Ok(Command::BadArguments);
+    };
+    if next_word(rest).is_some() || !is_module_name(name) {
+        return Ok(Command::BadArguments);
+    }
+    let name = name_of(alloc, name)?;
+    Ok(Command::Unload(name))
+}
+
+fn edit_of(alloc: Global, rest: &[u8]) -> Result<Command, NoMemory>
+    ensures command { IfOk result (λ command. command ≡ edit_of (words_of rest.now)) }
+    ensures named { IfOk result IsNamed }
+    ensures no_memory { OnErr result (IsAnswered (edit_of (words_of rest.now))) }
+{
+    let Some((name, rest)) = next_word(rest) else {
+        return Ok(Command::BadArguments);
+    };
+    if !is_module_name(name) {
+        return Ok(Command::BadArguments);
+    }
+    let Some((file, rest)) = next_word(rest) else {
+        let name = name_of(alloc, name)?;
+        return Ok(Command::Edit(name, None));
+    };
+    if next_word(rest).is_some() || !is_file_name(file) {
+        return Ok(Command::BadArguments);
+    }
+    let name = name_of(alloc, name)?;
+    let file = name_of(alloc, file)?;
+    Ok(Command::Edit(name, Some(file)))
+}
+
+fn run_of(alloc: Global, rest: &[u8]) -> Result<Command, NoMemory>
+    ensures command { IfOk result (λ command. command ≡ run_of (words_of rest.now)) }
+    ensures named { IfOk result IsNamed }
+    ensures no_memory { OnErr result (IsAnswered (run_of (words_of rest.now))) }
+{
+    let Some((file, rest)) = next_word(rest) else {
+        return Ok(Command::Run(None));
+    };
+    if next_word(rest).is_some() || !is_file_name(file) {
+        return Ok(Command::BadArguments);
+    }
+    let file = name_of(alloc, file)?;
+    Ok(Command::Run(Some(file)))
+}
+
+fn stop_of(alloc: Global, rest: &[u8]) -> Result<Command, NoMemory>
+    ensures command { IfOk result (λ command. command ≡ stop_of (words_of rest.now)) }
+    ensures named { IfOk result IsNamed }
+    ensures no_memory { OnErr result (IsAnswered (stop_of (words_of rest.now))) }
+{
+    let Some((how, rest)) = next_word(rest) else {
+        return Ok(Command::BadArguments);
+    };
+    let Some((place, rest)) = next_word(rest) else {
+        return Ok(Command::BadArguments);
+    };
+    if next_word(rest).is_some() {
+        return Ok(Command::BadArguments);
+    }
+    match how {
+        b"in" => in_function(alloc, place),
+        b"at" => at_line(alloc, place),
+        _ => Ok(Command::BadArguments),
+    }
+}
+
+fn in_function(alloc: Global, place: &[u8]) -> Result<Command, NoMemory>
+    ensures command { IfOk result (λ command. command ≡ in_function place.now (parts_of place.now)) }
+    ensures named { IfOk result IsNamed }
+    ensures no_memory { OnErr result (IsAnswered (in_function place.now (parts_of place.now))) }
+{
+    let Some((module, fun)) = parts_of(place) else {
+        return in_external(alloc, place);
+    };
+    if !is_module_name(module) || !is_identifier(fun) {
+        return Ok(Command::BadArguments);
+    }
+    let module = name_of(alloc, module)?;
+    let fun = name_of(alloc, fun)?;
+    Ok(Command::Stop(StopAt::InFun(Some(module), fun)))
+}
+
+fn in_external(alloc: Global, fun: &[u8]) -> Result<Command, NoMemory>
+    ensures command { IfOk result (λ command. command ≡ in_function fun.now None) }
+    ensures named { IfOk result IsNamed }
+    ensures no_memory { OnErr result (IsAnswered (in_function fun.now None)) }
+{
+    if !is_identifier(fun) {
+        return Ok(Command::BadArguments);
+    }
+    let fun = name_of(alloc, fun)?;
+    Ok(Command::Stop(StopAt::InFun(None, fun)))
+}
+
+fn at_line(alloc: Global, place: &[u8]) -> Result<Command, NoMemory>
+    ensures command { IfOk result (λ command. command ≡ at_line (parts_of place.now)) }
+    ensures named { IfOk result IsNamed }
+    ensures no_memory { OnErr result (IsAnswered (at_line (parts_of place.now))) }
+{
+    let Some((module, digits)) = parts_of(place) else {
+        return Ok(Command::BadArguments);
+    };
+    if !is_module_name(module) || !is_numeral(9, digits) {
+        return Ok(Command::BadArguments);
+    }
+    let line = small_number_of(digits);
+    let module = name_of(alloc, module)?;
+    Ok(Command::Stop(StopAt::AtLine(module, line)))
+}
+
+fn delete_of(rest: &[u8]) -> Command
+    ensures { result ≡ delete_of (words_of rest.now) }
+{
+    let Some((digits, rest)) = next_word(rest) else {
+        return Command::BadArguments;
+    };
+    if next_word(rest).is_some() || !is_numeral(9, digits) {
+        return Command::BadArguments;
+    }
+    Command::Delete(small_number_of(digits))
+}
+
+fn print_of(alloc: Global, rest: &[u8]) -> Result<Command, NoMemory>
+    ensures command { IfOk result (λ command. command ≡ print_of (words_of rest.now)) }
+    ensures named { IfOk result IsNamed }
+    ensures no_memory { OnErr result (IsAnswered (print_of (words_of rest.now))) }
+{
+    let Some((name, rest)) = next_word(rest) else {
+        return Ok(Command::BadArguments);
+    };
+    if next_word(rest).is_some() || !is_identifier(name) {
+        return Ok(Command::BadArguments);
+    }
+    let name = name_of(alloc, name)?;
+    Ok(Command::Print(name))
+}

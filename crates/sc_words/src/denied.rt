@@ -1,0 +1,52 @@
+// Why commands are refused.
+use sc_base::{Bytes, Name, Refusal};
+
+/// A limit of the workspace.
+#[derive(Clone, Copy, Debug, PartialEq, Eq)]
+pub enum Area {
+    /// 64 modules.
+    Modules,
+    /// 65,536 functions in a session.
+    Stubs,
+    /// 1,048,576 bytes of static objects.
+    Static,
+}
+
+/// Why a command is refused.
+#[derive(Debug, Drop)]
+pub enum Denied {
+    /// The first word is no command.
+    UnknownCommand,
+    /// The further words are not the command's, or the line is too long.
+    BadArguments,
+    /// The module is absent.
+    NoModule,
+    /// A module of that name is present.
+    ModuleThere,
+    /// The module's text is refused.
+    Translation(Refusal),
+    /// Two modules would define the external name: the other one.
+    Doubled(Name, Name),
+    /// Two modules would declare the external name with types that are not compatible: the other one.
+    Clash(Name, Name),
+    /// The file is not there.
+    NoFile(Bytes),
+    /// A run is active, and no other can begin.
+    RunActive,
+    /// There is no run.
+    NoRun,
+    /// The run is not at a stop.
+    NotAtStop,
+    /// No module defines `main`.
+    NoMain,
+    /// A limit would be exceeded.
+    Space(Area),
+    /// The file could not be read.
+    FileFault(Bytes),
+    /// The name stands for nothing that can be shown.
+    NotVisible(Name),
+    /// There is no stop of that number.
+    NoStop(u32),
+    /// The file has more than 8,388,608 bytes.
+    TooLong(Bytes),
+}

@@ -1,0 +1,121 @@
+// What the words behind the program's name ask for.
+ghost use Rattle.std.specs.Prelude.{◌≡◌, ◌↔◌, None, Some, IfOk, IsErrOf, map, option_map, string_bytes};
+ghost use Rattle.sc_words.specs.Options.{options_of, options_from, number_or, folder_or, stack_range, heap_range, turns_range};
+
+use crate::command_line::matches_of;
+use crate::listed::are_listed;
+use crate::range::{heap_in, stack_in, turns_in};
+use sc_base::Bytes;
+use std::alloc::Global;
+
+/// What the workspace was asked for: the bytes of the stack and of the heap, the turns of each go, and the folder.
+#[derive(Debug, Drop, PartialEq, Eq)]
+pub struct Options {
+    /// 4,096 to 16,777,216 bytes, a multiple of 16; 1,048,576 where nothing is said.
+    pub stack: u32,
+    /// Up to 67,108,864 bytes, a multiple of 16; 4,194,304 where nothing is said.
+    pub heap: u32,
+    /// 1 to 1,000,000,000 turns; 50,000,000 where nothing is said.
+    pub turns: u64,
+    /// Not empty; `.` where nothing is said.
+    pub dir: Bytes,
+}
+
+/// Why words ask for nothing.
+#[derive(Clone, Copy, Debug, PartialEq, Eq)]
+pub enum WordsFault {
+    /// The words are not in the language.
+    Bad,
+    NoMemory,
+}
+
+fn stack_or(value: Option<&str>) -> Option<u32>
+    ensures { result ≡ number_or stack_range (option_map (λ text. text.now) value.entry) }
+{
+    match value {
+        Some(value) => stack_in(value.as_bytes()),
+        None => Some(1048576),
+    }
+}
+
+fn heap_or(value: Option<&str>) -> Option<u32>
+    ensures { result ≡ number_or heap_range (option_map (λ text. text.now) value.entry) }
+{
+    match value {
+        Some(value) => heap_in(value.as_bytes()),
+        None => Some(4194304),
+    }
+}
+
+fn turns_or(value: Option<&str>) -> Option<u64>
+    ensures { result ≡ number_or turns_range (option_map (λ text. text.now) value.entry) }
+{
+    match value {
+        Some(value) => turns_in(value.as_bytes()),
+        None => Some(50000000),
+    }
+}
+
+fn folder_or<'a>(value: Option<&'a str>) -> &'a [u8]
+    ensures { result.now ≡ folder_or (option_map (λ text. text.now) value.entry) }
+{
+    match value {
+        Some(value) => value.as_bytes(),
+        None => b".",
+    }
+}
+
+// What the values of the four options ask for.
+fn options_from(
+    alloc: Global,
+    stack: Option<&str>,
+    heap: Option<&str>,
+    turns: Option<&str>,
+    dir: Option<&str>,
+) -> Result<Options, WordsFault>
+    ensures ok { IfOk result (λ options. options_from (option_map (λ text. text.now) stack.entry) (option_map (λ text. text.now) heap.entry)
+        (option_map (λ text. text.now) turns.entry) (option_map (λ text. text.now) dir.entry) ≡ Some options) }
+    ensures bad { IsErrOf result WordsFault.Bad ↔ (options_from (option_map (λ text. text.now) stack.entry) (option_map (λ text. text.now) heap.entry)
+        (option_map (λ text. text.now) turns.entry) (option_map (λ text. text.now) dir.entry) ≡ None) }
+{
+    let Some(stack) = stack_or(stack) else {
+        return Err(WordsFault::Bad);
+    };
+    let Some(heap) = heap_or(heap) else {
+        return Err(WordsFault::Bad);
+    };
+    let Some(turns) = turns_or(turns) else {
+        return Err(WordsFault::Bad);
+    };
+    match Bytes::from_slice(alloc, folder_or(dir)) {
+        Ok(dir) => Ok(Options {
+            stack,
+            heap,
+            turns,
+            dir,
+        }),
+        Err(_) => Err(WordsFault::NoMemory),
+    }
+}
+
+/// What the words behind the program's name ask for. They are options with their values, in any order, each at most
+/// once: `--stack N` and `--heap N` (bytes, multiples of 16), `--turns N` and `--dir D`. A value does not begin with
+/// `-`, and a number has 1 to 10 decimal digits.
+pub fn read_words(alloc: Global, words: &[String]) -> Result<Options, WordsFault>
+    ensures ok { IfOk result (λ options. options_of (map string_bytes words.now) ≡ Some options) }
+    ensures bad { IsErrOf result WordsFault.Bad ↔ (options_of (map string_bytes words.now) ≡ None) }
+{
+    if !are_listed(words) {
+        return Err(WordsFault::Bad);
+    }
+    match matches_of(alloc, words) {
+        Ok(matches) => options_from(
+            alloc,
+            matches.get_str("stack"),
+            matches.get_str("heap"),
+            matches.get_str("turns"),
+            matches.get_str("dir"),
+        ),
+        Err(_) => Err(WordsFault::NoMemory),
+    }
+}
