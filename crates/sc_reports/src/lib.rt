@@ -7,4 +7,5 @@ mod place;
 mod word;
 
 pub use end::end_text;
-pub use word::rule_text;
+pub use place::{Shown, value_text};
+pub use word::{key_text, put, put_decimal, put_key, rule_text};
