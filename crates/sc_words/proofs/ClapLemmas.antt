@@ -1,6 +1,6 @@
 -- The walk of `clap` over options and their values.
 use Rattle.std.proofs.Common.{◌≡◌, ◌∙◌, ◌&&◌, ◌||◌, ◌⊎◌, inl, inr, ℕ, Bool, true, false, not, List, [], ◌∷◌, ◌++◌, Option, Some, None, cond, refl, sym, ap, ap₂, subst, codes, true≢false, eqb, is_some, Result, IfOk}
-use Rattle.std.specs.List.{find, fold, list_all, list_any}
+use Rattle.std.specs.List.{fold, list_all}
 use Rattle.std.specs.Option.{option_map_or, option_or}
 use Rattle.std.specs.Str.{bytes_eq}
 use Rattle.std.proofs.lemmas.Slice.Eq.{bytes_eq-Decides}
@@ -12,7 +12,7 @@ use Rattle.clap.proofs.WalkLemmas.{first_value-rows}
 use Rattle.clap.specs.Lexer.{strip_byte}
 use Rattle.clap.specs.Simple.{Shape, entered, filled, with_index}
 use Rattle.clap.specs.Values.{reading_of}
-use Rattle.clap.specs.Walk.{Held, Walk, at_row, finished, has_row, more_values, nothing_held, reading_by, default_rows, settled_rows, walk, walk_from, walked, with_default}
+use Rattle.clap.specs.Walk.{Held, Walk, finished, has_row, more_values, settled_rows, walked, with_default}
 use Rattle.clap.specs.Walk.Waiting.{idle, option}
 use Rattle.clap.specs.Takes.{default_passes, entered_passes, is_valid, settle_passes, turn_passes, walk_passes}
 use Rattle.clap.specs.declared.builder.value_parser.ValueParser.TheVariants as vp
@@ -21,7 +21,7 @@ use Rattle.clap.proofs.OnLiterals.{clap_on_literals}
 use Rattle.sc_words.specs.CommandLine.{option_rule, saber, takes_words, rows_in}
 use Rattle.sc_words.specs.Options.{fits, is_listed, is_value, taken, value_of, all}
 use Rattle.sc_words.specs.declared.listed.Left.{Left}
-use Rattle.sc_words.proofs.RowLemmas.{either, or-false, or_none, at_row-absent, without-absent, has_row-added, first_of-absent, first_of-other, first_of-new}
+use Rattle.sc_words.proofs.RowLemmas.{or-false, or_none, at_row-absent, without-absent, has_row-added, first_of-absent, first_of-other, first_of-new}
 
 abbrev top : Shape
 top = (built saber).top

@@ -1,7 +1,7 @@
 -- The command that is made.
 use Rattle.std.proofs.Common.{◌≡◌, ◌∙◌, ap, ap₂, refl, true, false, codes, List, Result, IfOk, IfErr}
 use Rattle.std.proofs.lemmas.Result.{IfErr-weaker, IfOk-weaker}
-use Rattle.clap.specs.Words.{AddsArg, App, HasMatchesOf, Rule, Text, app_of, found_of, is_simple, kind_of, matches_of, new_app, rows_of, rule_of, takes, with_rule}
+use Rattle.clap.specs.Words.{AddsArg, App, HasMatchesOf, Text, app_of, found_of, is_simple, kind_of, matches_of, new_app, rows_of, rule_of, takes, with_rule}
 use Rattle.clap.specs.Simple.{Shape, app_of_fields, on_top}
 use Rattle.clap.specs.declared.builder.command.Command.TheViews.{out-Command as fields_of}
 use Rattle.clap.specs.declared.builder.arg.Arg.{Arg}

@@ -3,7 +3,7 @@ use Rattle.std.proofs.Common.{◌≡◌, ◌&&◌, ◌⊎◌, inl, inr, ℕ, Boo
 use Rattle.std.specs.Option.{option_map_or}
 use Rattle.std.specs.Str.{bytes_eq}
 use Rattle.std.proofs.lemmas.Slice.Eq.{bytes_eq-Decides}
-use Rattle.sc_words.specs.Options.{fits, is_listed, is_value, number_in, number_or, options_by, options_in, options_of, stack_range, heap_range, turns_range, taken, value_of, all}
+use Rattle.sc_words.specs.Options.{fits, is_listed, is_value, number_or, options_by, options_in, options_of, stack_range, heap_range, turns_range, taken, value_of, all}
 use Rattle.sc_words.specs.declared.listed.Left.{Left}
 
 both : (a b : Bool) → (a && b) ≡ true → (a ≡ true) × (b ≡ true)

@@ -1,10 +1,8 @@
 -- What a line asks for.
 use Rattle.std.specs.Prelude.{◌≡◌, ℕ, Bool, true, false, ◌&&◌, List, [], ◌∷◌, length, if◌then◌else◌, ◌==◌, nat_le, codes, Option, Some, None}
-use Rattle.std.specs.Option.{option_map_or}
 use Rattle.std.specs.Str.{bytes_eq}
 use Rattle.sc_words.specs.Lines.{words_of}
 use Rattle.sc_words.specs.Parts.{is_module_name, is_identifier, is_file_name, is_numeral, number_of, parts_of}
-use Rattle.sc_words.specs.declared.stop.StopAt.{StopAt}
 use Rattle.sc_words.specs.declared.stop.StopAt.TheVariants.{InFun, AtLine}
 use Rattle.sc_words.specs.declared.verb.Verb.{Verb}
 use Rattle.sc_words.specs.declared.verb.Verb.TheVariants as verb

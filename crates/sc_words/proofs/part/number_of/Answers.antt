@@ -1,4 +1,4 @@
-use Rattle.std.proofs.Common.{◌≡◌, ◌<◌, length, get_or, refl, arith}
+use Rattle.std.proofs.Common.{◌<◌, length, get_or, refl, arith}
 use Rattle.sc_words.proofs.NumberLemmas.{Step, step_of}
 use Rattle.sc_words.proofs.part.number_of.Goals as goal
 

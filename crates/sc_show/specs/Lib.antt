@@ -1,0 +1,7 @@
+pub mod Lines
+pub mod Frames
+pub mod Contents
+pub mod Tasks
+pub mod Visible
+pub mod Numbers
+pub mod Listings

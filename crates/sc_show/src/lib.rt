@@ -1,0 +1,15 @@
+//! What a session shows of its modules and of a run that stopped: active calls, values of objects, modules, functions.
+#![tactic(auto)]
+
+mod contents;
+mod frames;
+mod layouts;
+mod listing;
+mod names;
+mod numbers;
+mod tasks;
+
+pub use frames::where_lines;
+pub use listing::{fun_lines, module_lines};
+pub use names::{Seen, print_line, visible};
+pub use numbers::Numbers;
