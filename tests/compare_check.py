@@ -8,10 +8,7 @@ second reading: pp.py (`preprocess(name, files)`), parse.py (`parse(tokens)`) an
 word and line of a refusal, and of a unit that is taken its births in their order and, in any order, the frames of its functions, its
 objects with their bytes, and its declarations.
 """
-import os
-import sys
-
-from units import Files, compare, refused
+from reading import main
 
 
 def key_text(key):
@@ -55,24 +52,16 @@ def declaration(link):
     return 'declared %s%s at %d' % (key_text(link.key), ' defined' if link.defined else '', link.line)
 
 
-def text_of(core):
+def module_text(core):
     lines = [function(one) for one in core.funs.values()]
     lines += [static(one) for one in core.objects]
     lines += [declaration(one) for one in core.declared]
     return '\n'.join(['ok', ' '.join(['births'] + [birth(one) for one in core.births])] + lines)
 
 
-def wanted(folder, name):
-    try:
-        tokens = pp.preprocess(name, Files(folder))
-    except common.Refusal as refusal:
-        return refused(refusal, name)
-    try:
-        unit = parse.parse([token for token in tokens if token.kind != 'Newline'])
-        return text_of(check.check(unit, name.split('.')[0]))
-    except common.Refusal as refusal:
-        refusal.file = None
-        return refused(refusal, name)
+def text_of(unit, name):
+    import check
+    return module_text(check.check(unit, name.split('.')[0]))
 
 
 def differences(want, got):
@@ -83,14 +72,4 @@ def differences(want, got):
 
 
 if __name__ == '__main__':
-    if len(sys.argv) != 4:
-        sys.exit(__doc__)
-    sys.path.insert(0, os.path.abspath(sys.argv[3]))
-    sys.setrecursionlimit(100000)
-    import check
-    import common
-    import parse
-    import pp
-    # labels, `goto` and unions are left out
-    common.Stage.now = 3
-    sys.exit(compare(sys.argv[1], sys.argv[2], wanted, differences))
+    main(__doc__, text_of, differences)

@@ -83,9 +83,13 @@ body_end core f = statement core f f.body (0 ∷ []) at_start 1
 abbrev pub has_body : Core → Fun → Bool
 has_body core f = numbers_up_to (length f.blocks) (body_end core f)
 
--- A function: its parameters are block 0.
+-- the parameters are block 0, and the body is a block
+abbrev pub has_start : Core → Fun → Bool
+has_start core f = has_parameters core.structs f.of.params (slice_get f.blocks 0) && is_block f.body
+
+-- A function.
 abbrev pub is_function : Core → Fun → Bool
-is_function core f = has_parameters core.structs f.of.params (slice_get f.blocks 0) && is_block f.body && has_body core f && is_frame core.structs f
+is_function core f = has_start core f && has_body core f && is_frame core.structs f
 
 abbrev pub functions : Core → List Fun → Bool
 functions core [] = true

@@ -1,5 +1,5 @@
 -- What a checked module is: what an interpreter and a code generator may rest on.
-use Rattle.std.specs.Prelude.{ℕ, Bool, true, false, not, ◌&&◌, ◌||◌, if◌then◌else◌, List, [], ◌∷◌, map, position, slice_get, Option, Some, None, is_some, is_none, option_and_then}
+use Rattle.std.specs.Prelude.{Bool, true, false, ◌&&◌, if◌then◌else◌, List, [], ◌∷◌, map, Option, Some, None, is_some, is_none}
 use Rattle.std.specs.Str.{bytes_eq}
 use Rattle.sc_base.specs.declared.key.Key.{Key}
 use Rattle.sc_types.specs.declared.ctype.CType.{CType, out-CType}
@@ -61,8 +61,8 @@ bodies core (f ∷ fs) = is_body core f && bodies core fs
 -- Each function is declared, each object and literal is born once, each name is defined as it says, and all keep their laws.
 abbrev pub is_lawful : Core → Bool
 is_lawful core =
-    bodies core core.funs && are_born core
-    && (declarations core core.declared && objects core core.objects && literals_end core.literals && functions core core.funs)
+    bodies core core.funs && are_born core && functions core core.funs
+    && (declarations core core.declared && objects core core.objects && literals_end core.literals)
 
 -- literals, functions, objects and names with linkage stand for one thing each
 abbrev pub with_literals : Core → Bool

@@ -1,5 +1,5 @@
 -- What a module says of names and literals.
-use Rattle.std.specs.Prelude.{◌≡◌, ℕ, ◌++◌, Bool, true, false, not, ◌&&◌, if◌then◌else◌, List, [], ◌∷◌, length, map, position, slice_get, Option, Some, None, option_and_then}
+use Rattle.std.specs.Prelude.{◌≡◌, ℕ, nat_eq, ◌++◌, Bool, true, false, not, ◌&&◌, List, [], ◌∷◌, position, slice_get, Option, Some, None, option_and_then}
 use Rattle.std.specs.Option.{option_eq}
 use Rattle.std.specs.Str.{bytes_eq}
 use Rattle.std.specs.List.{list_any}
@@ -51,6 +51,10 @@ function_as name funs = option_and_then (slice_get funs) (position (λ f. bytes_
 -- whether these bytes are a literal of the module
 abbrev pub is_literal_of : List (List ℕ) → List ℕ → Bool
 is_literal_of literals bytes = list_any (bytes_eq bytes) literals
+
+-- the values of two labels of a `switch`, none for `default`
+abbrev pub value_eq : Option ℕ → Option ℕ → Bool
+value_eq a b = option_eq nat_eq a b
 
 -- none of these is among those before it
 abbrev pub are_new : {A : Type 0} → (A → A → Bool) → List A → List A → Bool

@@ -1,7 +1,5 @@
 -- What holds of every statement of a typed tree (ANSI 3.6), and how its blocks are numbered.
-use Rattle.std.specs.Prelude.{ℕ, ◌+◌, ◌==◌, nat_eq, nat_lt, nat_le, Bool, true, false, not, ◌&&◌, ◌||◌, if◌then◌else◌, List, [], ◌∷◌, length, map, Option, Some, None, is_some, option_and_then}
-use Rattle.std.specs.List.{list_any}
-use Rattle.std.specs.Option.{option_eq}
+use Rattle.std.specs.Prelude.{ℕ, ◌+◌, ◌==◌, nat_lt, nat_le, Bool, true, false, not, ◌&&◌, ◌||◌, if◌then◌else◌, List, [], ◌∷◌, length, map, Option, Some, None, is_some, option_and_then}
 use Rattle.sc_types.specs.declared.ctype.CType.{CType}
 use Rattle.sc_types.specs.Layouts.{size_in}
 use Rattle.sc_types.specs.Tables.{is_object}
@@ -16,6 +14,7 @@ use Rattle.sc_core.specs.declared.module.Fun.{Fun}
 use Rattle.sc_core.specs.declared.module.Core.{Core}
 use Rattle.sc_operand.specs.Types.{shape, is_scalar, is_void}
 use Rattle.sc_formed.specs.declared.statements.Body.{Body}
+use Rattle.sc_formed.specs.Names.{value_eq, distinct}
 use Rattle.sc_formed.specs.Open.{is_open}
 use Rattle.sc_laws.specs.Values.{is_done, is_condition, is_promoted_value, is_value_for}
 use Rattle.sc_laws.specs.Operators.{is_structure}
@@ -76,21 +75,30 @@ pieces_of core f around (Some x) ps = is_some (pieces_end core f around x.of x.s
 abbrev pub is_initialized : Core → Fun → List ℕ → ℕ → ℕ → List AutoInit → Bool
 is_initialized core f around block n ps = is_open around block && pieces_of core f around (auto_at f.blocks block n) ps
 
-abbrev pub same_label : SwitchLabel → SwitchLabel → Bool
-same_label l m = option_eq nat_eq l.value m.value
+-- each place is below the number of the body's statements
+abbrev pub are_below : ℕ → List SwitchLabel → Bool
+are_below n [] = true
+are_below n (l ∷ ls) = nat_lt l.at n && are_below n ls
 
 -- each value once, `default` too, and each place below the number of the body's statements (3.6.1, 3.6.4.2)
 abbrev pub are_labels : ℕ → List SwitchLabel → Bool
-are_labels n [] = true
-are_labels n (l ∷ ls) = nat_lt l.at n && not (list_any (same_label l) ls) && are_labels n ls
+are_labels n ls = are_below n ls && distinct value_eq (map (λ l. l.value) ls)
 
 -- a body that is no block is a list of itself alone
 abbrev pub items_layer : CoreStmt-F CoreStmt → ℕ
 items_layer (CoreStmt-F.Block l n ss) = length ss
 items_layer _ = 1
 
+-- a formed value in a promoted type
+abbrev pub is_selector : Core → Fun → List ℕ → CoreExpr → Bool
+is_selector core f around e = expression core f.blocks around e && is_promoted_value core.structs e
+
 abbrev pub is_switch : Core → Fun → List ℕ → CoreExpr → List SwitchLabel → CoreStmt → Bool
-is_switch core f around e labels s = expression core f.blocks around e && is_promoted_value core.structs e && are_labels (items_layer (out-CoreStmt s)) labels
+is_switch core f around e labels s = is_selector core f around e && are_labels (items_layer (out-CoreStmt s)) labels
+
+-- the three expressions of a `for`
+abbrev pub is_head : Core → Fun → List ℕ → Option CoreExpr → Option CoreExpr → Option CoreExpr → Bool
+is_head core f around first e after = whole_or_none core f around first && test_or_none core f around e && whole_or_none core f around after
 
 -- a value of the result's type, in a function that gives one (3.6.6.4)
 abbrev pub is_return : Core → Fun → List ℕ → Option CoreExpr → Bool
@@ -130,7 +138,7 @@ level core f (CoreStmt-F.Switch _ _ _ p) (CoreStmt-F.Switch l e labels s) around
 level core f (CoreStmt-F.While _ _ p) (CoreStmt-F.While l e s) around body next = when (is_test core f around e) (p s around (of_loop body) next)
 level core f (CoreStmt-F.Do _ p _ _) (CoreStmt-F.Do l s line e) around body next = when (is_test core f around e) (p s around (of_loop body) next)
 level core f (CoreStmt-F.For _ _ _ _ p) (CoreStmt-F.For l first e after s) around body next =
-    when (whole_or_none core f around first && test_or_none core f around e && whole_or_none core f around after) (p s around (of_loop body) next)
+    when (is_head core f around first e after) (p s around (of_loop body) next)
 level core f (CoreStmt-F.Case _ p) (CoreStmt-F.Case l s) around body next = when body.in_switch (p s around body next)
 level core f (CoreStmt-F.Default _ p) (CoreStmt-F.Default l s) around body next = when body.in_switch (p s around body next)
 level core f (CoreStmt-F.Continue _) (CoreStmt-F.Continue l) around body next = when body.in_loop (Some next)

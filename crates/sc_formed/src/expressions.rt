@@ -91,88 +91,38 @@ pub(crate) fn expression(m: &Indexed, blocks: &[Items<Auto>], around: &Open, e: 
     ensures { result ≡ spec.expression m.now.core.now blocks.now (numbers around.now) e.now }
 {
     match e {
-        CoreExpr::Number(_, _, _) => node(m, blocks, around, e),
-        CoreExpr::Literal(_, _, _) => node(m, blocks, around, e),
-        CoreExpr::Automatic(_, _, _, _) => node(m, blocks, around, e),
-        CoreExpr::Static(_, _, _) => node(m, blocks, around, e),
-        CoreExpr::Function(_, _, _) => node(m, blocks, around, e),
+        CoreExpr::Number(_, _, _)
+        | CoreExpr::Literal(_, _, _)
+        | CoreExpr::Automatic(_, _, _, _)
+        | CoreExpr::Static(_, _, _)
+        | CoreExpr::Function(_, _, _) => node(m, blocks, around, e),
         CoreExpr::Call(_, _, f, args) => {
             all(m, blocks, around, args.as_slice())
                 && expression(m, blocks, around, f.get())
                 && node(m, blocks, around, e)
         }
-        CoreExpr::Member(_, _, _, a) => expression(m, blocks, around, a.get())
-            && node(m, blocks, around, e),
-        CoreExpr::Arrow(_, _, _, a) => expression(m, blocks, around, a.get())
-            && node(m, blocks, around, e),
-        CoreExpr::Step(_, _, _, _, a) => expression(m, blocks, around, a.get())
-            && node(m, blocks, around, e),
-        CoreExpr::Address(_, _, a) => expression(m, blocks, around, a.get())
-            && node(m, blocks, around, e),
-        CoreExpr::Indirection(_, _, a) => expression(m, blocks, around, a.get())
-            && node(m, blocks, around, e),
-        CoreExpr::Unary(_, _, _, a) => expression(m, blocks, around, a.get())
-            && node(m, blocks, around, e),
-        CoreExpr::Cast(_, _, a) => expression(m, blocks, around, a.get())
-            && node(m, blocks, around, e),
-        CoreExpr::Convert(_, _, a) => expression(m, blocks, around, a.get())
-            && node(m, blocks, around, e),
-        CoreExpr::Index(_, _, _, a, b) => {
-            expression(m, blocks, around, a.get())
-                && expression(m, blocks, around, b.get())
-                && node(m, blocks, around, e)
+        CoreExpr::Member(_, _, _, a)
+        | CoreExpr::Arrow(_, _, _, a)
+        | CoreExpr::Step(_, _, _, _, a)
+        | CoreExpr::Address(_, _, a)
+        | CoreExpr::Indirection(_, _, a)
+        | CoreExpr::Unary(_, _, _, a)
+        | CoreExpr::Cast(_, _, a)
+        | CoreExpr::Convert(_, _, a) => {
+            expression(m, blocks, around, a.get()) && node(m, blocks, around, e)
         }
-        CoreExpr::Binary(_, _, _, a, b) => {
-            expression(m, blocks, around, a.get())
-                && expression(m, blocks, around, b.get())
-                && node(m, blocks, around, e)
-        }
-        CoreExpr::Offset(_, _, _, _, a, b) => {
-            expression(m, blocks, around, a.get())
-                && expression(m, blocks, around, b.get())
-                && node(m, blocks, around, e)
-        }
-        CoreExpr::Difference(_, _, _, a, b) => {
-            expression(m, blocks, around, a.get())
-                && expression(m, blocks, around, b.get())
-                && node(m, blocks, around, e)
-        }
-        CoreExpr::Compare(_, _, _, a, b) => {
-            expression(m, blocks, around, a.get())
-                && expression(m, blocks, around, b.get())
-                && node(m, blocks, around, e)
-        }
-        CoreExpr::And(_, _, a, b) => {
-            expression(m, blocks, around, a.get())
-                && expression(m, blocks, around, b.get())
-                && node(m, blocks, around, e)
-        }
-        CoreExpr::Or(_, _, a, b) => {
-            expression(m, blocks, around, a.get())
-                && expression(m, blocks, around, b.get())
-                && node(m, blocks, around, e)
-        }
-        CoreExpr::Assign(_, _, a, b) => {
-            expression(m, blocks, around, a.get())
-                && expression(m, blocks, around, b.get())
-                && node(m, blocks, around, e)
-        }
-        CoreExpr::AssignStructure(_, _, _, a, b) => {
-            expression(m, blocks, around, a.get())
-                && expression(m, blocks, around, b.get())
-                && node(m, blocks, around, e)
-        }
-        CoreExpr::Compound(_, _, _, _, a, b) => {
-            expression(m, blocks, around, a.get())
-                && expression(m, blocks, around, b.get())
-                && node(m, blocks, around, e)
-        }
-        CoreExpr::CompoundOffset(_, _, _, _, a, b) => {
-            expression(m, blocks, around, a.get())
-                && expression(m, blocks, around, b.get())
-                && node(m, blocks, around, e)
-        }
-        CoreExpr::Comma(_, _, a, b) => {
+        CoreExpr::Index(_, _, _, a, b)
+        | CoreExpr::Binary(_, _, _, a, b)
+        | CoreExpr::Offset(_, _, _, _, a, b)
+        | CoreExpr::Difference(_, _, _, a, b)
+        | CoreExpr::Compare(_, _, _, a, b)
+        | CoreExpr::And(_, _, a, b)
+        | CoreExpr::Or(_, _, a, b)
+        | CoreExpr::Assign(_, _, a, b)
+        | CoreExpr::AssignStructure(_, _, _, a, b)
+        | CoreExpr::Compound(_, _, _, _, a, b)
+        | CoreExpr::CompoundOffset(_, _, _, _, a, b)
+        | CoreExpr::Comma(_, _, a, b) => {
             expression(m, blocks, around, a.get())
                 && expression(m, blocks, around, b.get())
                 && node(m, blocks, around, e)

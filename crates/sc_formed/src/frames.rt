@@ -1,11 +1,11 @@
 // What holds of a function: its parameters, its blocks, where its objects stand in the frame, and what the frame costs.
-ghost use Rattle.std.specs.Prelude.{◌≡◌, ◌≤◌, ◌<◌, ◌^◌, IfSome, slice_get};
+ghost use Rattle.std.specs.Prelude.{◌≡◌, ◌≤◌, ◌<◌, ◌^◌, IfOk, IfSome, slice_get};
 ghost use Rattle.sc_formed.specs.Frames as spec;
 
 use crate::names::Indexed;
 use crate::open::{inside, outside};
 use crate::statements::{Body, statement};
-use sc_base::{Items, Shared};
+use sc_base::{Items, NoMemory, Shared};
 use sc_core::{Auto, CoreStmt, Fun};
 use sc_laws::{Need, alike, need_of_statement, same_bool};
 use sc_operand::is_const;
@@ -119,8 +119,8 @@ fn is_block(s: &CoreStmt) -> bool
 }
 
 /// Whether every block of the body has its number and its table.
-fn has_blocks(m: &Indexed, f: &Fun) -> bool
-    ensures { result ≡ spec.has_body m.now.core.now f.now }
+fn has_blocks(m: &Indexed, f: &Fun) -> Result<bool, NoMemory>
+    ensures { IfOk result (λ yes. yes ≡ spec.has_body m.now.core.now f.now) }
 {
     let nothing = outside();
     let around = inside(0, &nothing);
@@ -128,30 +128,41 @@ fn has_blocks(m: &Indexed, f: &Fun) -> bool
         in_loop: false,
         in_switch: false,
     };
-    match statement(m, f, &around, body, f.body.get(), 1) {
-        Some(n) => n == f.blocks.len(),
-        None => false,
+    match statement(m, f, &around, body, f.body.get(), 1)? {
+        Some(n) => Ok(n == f.blocks.len()),
+        None => Ok(false),
     }
 }
 
-/// Whether a function is formed (ANSI 3.7.1): its parameters are block 0, its body is block 1.
-fn is_function(m: &Indexed, f: &Fun) -> bool
-    ensures { result ≡ spec.is_function m.now.core.now f.now }
+/// Whether a function's parameters are block 0, and its body is a block.
+fn has_start(m: &Indexed, f: &Fun) -> bool
+    ensures { result ≡ spec.has_start m.now.core.now f.now }
 {
     has_parameters(&m.core.structs, f.of.params.as_slice(), f.blocks.as_slice())
         && is_block(f.body.get())
-        && has_blocks(m, f)
-        && is_frame(&m.core.structs, f)
+}
+
+/// Whether a function is formed (ANSI 3.7.1): its parameters are block 0, its body is block 1.
+fn is_function(m: &Indexed, f: &Fun) -> Result<bool, NoMemory>
+    ensures { IfOk result (λ yes. yes ≡ spec.is_function m.now.core.now f.now) }
+{
+    if !has_start(m, f) {
+        return Ok(false);
+    }
+    if !has_blocks(m, f)? {
+        return Ok(false);
+    }
+    Ok(is_frame(&m.core.structs, f))
 }
 
 /// Whether all functions are.
-pub(crate) fn functions(m: &Indexed, funs: &[Shared<Fun>]) -> bool
-    ensures { result ≡ spec.functions m.now.core.now funs.now }
+pub(crate) fn functions(m: &Indexed, funs: &[Shared<Fun>]) -> Result<bool, NoMemory>
+    ensures { IfOk result (λ yes. yes ≡ spec.functions m.now.core.now funs.now) }
 {
     for f in funs {
-        if !is_function(m, f.get()) {
-            return false;
+        if !is_function(m, f.get())? {
+            return Ok(false);
         }
     }
-    true
+    Ok(true)
 }

@@ -140,11 +140,13 @@ fn is_lawful(alloc: Global, m: &Indexed) -> Result<bool, NoMemory>
     if !are_born(alloc, m)? {
         return Ok(false);
     }
+    if !functions(m, core.funs.as_slice())? {
+        return Ok(false);
+    }
     Ok(
         declarations(m, core.declared.as_slice())
             && objects(m, core.objects.as_slice())
-            && literals_end(core.literals.as_slice())
-            && functions(m, core.funs.as_slice()),
+            && literals_end(core.literals.as_slice()),
     )
 }
 
@@ -163,6 +165,7 @@ fn with_literals(
     match literal_texts(alloc, core.literals.as_slice())? {
         Some(literals) => {
             let m = Indexed {
+                alloc,
                 core,
                 declared,
                 objects,

@@ -12,9 +12,10 @@ use sc_operand::is_function;
 use sc_types::CType;
 use std::alloc::Global;
 
-/// A module, with the places of the names that it declares and of its objects.
+/// A module, with the places of the names that it declares and of its objects, and the allocator of tables that its laws want.
 #[derive(Drop)]
 pub(crate) struct Indexed<'a> {
+    pub alloc: Global,
     pub core: &'a Core,
     pub declared: IndexSet<Key>,
     pub objects: IndexSet<Key>,
@@ -159,6 +160,19 @@ pub(crate) fn add_text(
 {
     let text = text.copy(alloc)?;
     match texts.insert(text) {
+        Ok(new) => Ok(new),
+        Err(_) => Err(NoMemory),
+    }
+}
+
+/// Adds a value of a label, none for `default`; the answer says whether it is new.
+pub(crate) fn add_value(
+    values: &mut IndexSet<Option<u32>>,
+    value: Option<u32>,
+) -> Result<bool, NoMemory>
+    ensures { IfOk result (λ new. spec.Adds spec.value_eq value values.old.keys values.new.keys new) }
+{
+    match values.insert(value) {
         Ok(new) => Ok(new),
         Err(_) => Err(NoMemory),
     }

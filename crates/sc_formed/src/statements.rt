@@ -1,19 +1,21 @@
 // What holds of every statement of a typed tree (ANSI 3.6), and how its blocks are numbered.
-ghost use Rattle.std.specs.Prelude.{◌≡◌, ◌+◌, Some, None, length};
-ghost use Rattle.std.specs.List.{list_any};
+ghost use Rattle.std.specs.Prelude.{◌≡◌, ◌+◌, Some, None, IfOk, length, map};
 ghost use Rattle.sc_core.specs.declared.statement.CoreStmt.{out-CoreStmt};
 ghost use Rattle.sc_formed.specs.Expressions.{auto_at};
+ghost use Rattle.sc_formed.specs.Names.{distinct, value_eq};
 ghost use Rattle.sc_formed.specs.Open.{numbers};
 ghost use Rattle.sc_formed.specs.Statements as spec;
 
 use crate::expressions::expression;
-use crate::names::Indexed;
+use crate::names::{Indexed, add_value};
 use crate::open::{Open, inside, is_open};
-use sc_base::Shared;
+use indexmap::IndexSet;
+use sc_base::{NoMemory, Shared};
 use sc_core::{Auto, AutoInit, CoreExpr, CoreStmt, Fun, SwitchLabel};
 use sc_laws::{is_condition, is_done, is_promoted_value, is_structure, is_value_for};
 use sc_operand::{is_scalar, is_void, shape_of};
 use sc_types::{CType, is_object, size_of};
+use std::alloc::Global;
 
 /// Whether a statement stands in the body of a loop, of a `switch` (ANSI 3.6.6).
 #[derive(Clone, Copy, Debug, PartialEq, Eq)]
@@ -193,34 +195,40 @@ fn is_initialized(
     is_open(around, block) && pieces_of(m, f, around, block, n, pieces)
 }
 
-fn same_label(l: &SwitchLabel, k: &SwitchLabel) -> bool
-    ensures { result ≡ spec.same_label l.now k.now }
+/// Whether each place is below the number of the body's statements.
+fn are_below(n: usize, labels: &[SwitchLabel]) -> bool
+    ensures { result ≡ spec.are_below n labels.now }
 {
-    l.value == k.value
-}
-
-fn is_among(l: &SwitchLabel, labels: &[SwitchLabel]) -> bool
-    ensures { result ≡ list_any (spec.same_label l.now) labels.now }
-{
-    for k in labels {
-        if same_label(l, k) {
-            return true;
-        }
-    }
-    false
-}
-
-/// Whether each value is there once, `default` too, and each place is below the number of the body's statements
-/// (ANSI 3.6.1, 3.6.4.2).
-fn are_labels(n: usize, labels: &[SwitchLabel]) -> bool
-    ensures { result ≡ spec.are_labels n labels.now }
-{
-    for (i, l) in labels.iter().enumerate() {
-        if l.at as usize >= n || is_among(l, &labels[i + 1..]) {
+    for l in labels {
+        if l.at as usize >= n {
             return false;
         }
     }
     true
+}
+
+/// Whether each value is there once, `default` too.
+fn are_distinct(alloc: Global, labels: &[SwitchLabel]) -> Result<bool, NoMemory>
+    ensures { IfOk result (λ yes. yes ≡ distinct value_eq (map (λ l. l.value) labels.now)) }
+{
+    let mut values = IndexSet::new(alloc);
+    for l in labels {
+        if !add_value(&mut values, l.value)? {
+            return Ok(false);
+        }
+    }
+    Ok(true)
+}
+
+/// Whether each value is there once, `default` too, and each place is below the number of the body's statements
+/// (ANSI 3.6.1, 3.6.4.2).
+fn are_labels(alloc: Global, n: usize, labels: &[SwitchLabel]) -> Result<bool, NoMemory>
+    ensures { IfOk result (λ yes. yes ≡ spec.are_labels n labels.now) }
+{
+    if !are_below(n, labels) {
+        return Ok(false);
+    }
+    are_distinct(alloc, labels)
 }
 
 fn items_of(s: &CoreStmt) -> usize
@@ -232,6 +240,12 @@ fn items_of(s: &CoreStmt) -> usize
     }
 }
 
+fn is_selector(m: &Indexed, f: &Fun, around: &Open, e: &CoreExpr) -> bool
+    ensures { result ≡ spec.is_selector m.now.core.now f.now (numbers around.now) e.now }
+{
+    expression(m, f.blocks.as_slice(), around, e) && is_promoted_value(&m.core.structs, e)
+}
+
 fn is_switch(
     m: &Indexed,
     f: &Fun,
@@ -239,12 +253,13 @@ fn is_switch(
     e: &CoreExpr,
     labels: &[SwitchLabel],
     s: &CoreStmt,
-) -> bool
-    ensures { result ≡ spec.is_switch m.now.core.now f.now (numbers around.now) e.now labels.now s.now }
+) -> Result<bool, NoMemory>
+    ensures { IfOk result (λ yes. yes ≡ spec.is_switch m.now.core.now f.now (numbers around.now) e.now labels.now s.now) }
 {
-    expression(m, f.blocks.as_slice(), around, e)
-        && is_promoted_value(&m.core.structs, e)
-        && are_labels(items_of(s), labels)
+    if !is_selector(m, f, around, e) {
+        return Ok(false);
+    }
+    are_labels(m.alloc, items_of(s), labels)
 }
 
 fn is_return(m: &Indexed, f: &Fun, around: &Open, e: &Option<Shared<CoreExpr>>) -> bool
@@ -254,6 +269,21 @@ fn is_return(m: &Indexed, f: &Fun, around: &Open, e: &Option<Shared<CoreExpr>>) 
         Some(e) => !is_void(&f.of.result) && is_given(m, f, around, &f.of.result, e.get()),
         None => true,
     }
+}
+
+fn is_head(
+    m: &Indexed,
+    f: &Fun,
+    around: &Open,
+    first: &Option<Shared<CoreExpr>>,
+    e: &Option<Shared<CoreExpr>>,
+    after: &Option<Shared<CoreExpr>>,
+) -> bool
+    ensures { result ≡ spec.is_head m.now.core.now f.now (numbers around.now) first.now e.now after.now }
+{
+    whole_or_none(m, f, around, first)
+        && test_or_none(m, f, around, e)
+        && whole_or_none(m, f, around, after)
 }
 
 fn when(yes: bool, next: usize) -> Option<usize>
@@ -272,8 +302,8 @@ pub(crate) fn statement(
     body: Body,
     s: &CoreStmt,
     next: usize,
-) -> Option<usize>
-    ensures { result ≡ spec.statement m.now.core.now f.now s.now (numbers around.now) body next }
+) -> Result<Option<usize>, NoMemory>
+    ensures { IfOk result (λ end. end ≡ spec.statement m.now.core.now f.now s.now (numbers around.now) body next) }
 {
     match s {
         CoreStmt::Block(_, n, items) => {
@@ -281,73 +311,54 @@ pub(crate) fn statement(
                 let here = inside(*n, around);
                 statements(m, f, &here, body, items.as_slice(), next + 1)
             } else {
-                None
+                Ok(None)
             }
         }
-        CoreStmt::Initialize(_, block, n, pieces) => when(
+        CoreStmt::Initialize(_, block, n, pieces) => Ok(when(
             is_initialized(m, f, around, *block, *n, pieces.as_slice()),
             next,
-        ),
-        CoreStmt::Empty(_) => Some(next),
-        CoreStmt::Expression(_, e) => when(is_whole(m, f, around, e.get()), next),
+        )),
+        CoreStmt::Empty(_) => Ok(Some(next)),
+        CoreStmt::Expression(_, e) => Ok(when(is_whole(m, f, around, e.get()), next)),
         CoreStmt::If(_, e, s, other) => {
             if !is_test(m, f, around, e.get()) {
-                return None;
+                return Ok(None);
             }
-            let next = statement(m, f, around, body, s.get(), next)?;
+            let Some(next) = statement(m, f, around, body, s.get(), next)? else {
+                return Ok(None);
+            };
             match other {
                 Some(other) => statement(m, f, around, body, other.get(), next),
-                None => Some(next),
+                None => Ok(Some(next)),
             }
         }
         CoreStmt::Switch(_, e, labels, s) => {
-            if is_switch(m, f, around, e.get(), labels.as_slice(), s.get()) {
-                statement(m, f, around, of_switch(body), s.get(), next)
-            } else {
-                None
+            if !is_switch(m, f, around, e.get(), labels.as_slice(), s.get())? {
+                return Ok(None);
             }
+            statement(m, f, around, of_switch(body), s.get(), next)
         }
-        CoreStmt::While(_, e, s) => {
-            if is_test(m, f, around, e.get()) {
-                statement(m, f, around, of_loop(body), s.get(), next)
-            } else {
-                None
+        CoreStmt::While(_, e, s) | CoreStmt::Do(_, s, _, e) => {
+            if !is_test(m, f, around, e.get()) {
+                return Ok(None);
             }
-        }
-        CoreStmt::Do(_, s, _, e) => {
-            if is_test(m, f, around, e.get()) {
-                statement(m, f, around, of_loop(body), s.get(), next)
-            } else {
-                None
-            }
+            statement(m, f, around, of_loop(body), s.get(), next)
         }
         CoreStmt::For(_, first, e, after, s) => {
-            if whole_or_none(m, f, around, first)
-                && test_or_none(m, f, around, e)
-                && whole_or_none(m, f, around, after)
-            {
-                statement(m, f, around, of_loop(body), s.get(), next)
-            } else {
-                None
+            if !is_head(m, f, around, first, e, after) {
+                return Ok(None);
             }
+            statement(m, f, around, of_loop(body), s.get(), next)
         }
-        CoreStmt::Case(_, s) => {
-            if body.in_switch {
-                statement(m, f, around, body, s.get(), next)
-            } else {
-                None
+        CoreStmt::Case(_, s) | CoreStmt::Default(_, s) => {
+            if !body.in_switch {
+                return Ok(None);
             }
+            statement(m, f, around, body, s.get(), next)
         }
-        CoreStmt::Default(_, s) => {
-            if body.in_switch {
-                statement(m, f, around, body, s.get(), next)
-            } else {
-                None
-            }
-        }
-        CoreStmt::Continue(_) => when(body.in_loop, next),
-        CoreStmt::Break(_) => when(body.in_loop || body.in_switch, next),
-        CoreStmt::Return(_, e) => when(is_return(m, f, around, e), next),
+        CoreStmt::Continue(_) => Ok(when(body.in_loop, next)),
+        CoreStmt::Break(_) => Ok(when(body.in_loop || body.in_switch, next)),
+        CoreStmt::Return(_, e) => Ok(when(is_return(m, f, around, e), next)),
     }
 }
 
@@ -360,15 +371,15 @@ fn statements(
     body: Body,
     items: &[Shared<CoreStmt>],
     next: usize,
-) -> Option<usize>
-    ensures { result ≡ spec.all_of m.now.core.now f.now items.now (numbers around.now) body next }
+) -> Result<Option<usize>, NoMemory>
+    ensures { IfOk result (λ end. end ≡ spec.all_of m.now.core.now f.now items.now (numbers around.now) body next) }
 {
     let mut at = next;
     for s in items {
-        match statement(m, f, around, body, s.get(), at) {
+        match statement(m, f, around, body, s.get(), at)? {
             Some(next) => at = next,
-            None => return None,
+            None => return Ok(None),
         }
     }
-    Some(at)
+    Ok(Some(at))
 }

@@ -179,6 +179,14 @@ fn counted_written(
     Ok(Answer::plain(to.copy(world.alloc())?))
 }
 
+// `strncpy` of at least one byte.
+fn counted_copied(to: &Value, from: &Value, n: u32, world: &mut World) -> Result<Answer, Stop>
+    ensures { Gives (outcome.and_then (library.text_upto n from.now 0 world.old) (λ text w. outcome.and_then (library.apart to.now n from.now (spec.read_count n text) w) (λ _ w. outcome.and_then (library.bytes_written to.now 0 (text ++ replicate (n - length text) 0) w) (λ _ w. library.gives to.now w)))) result world.new }
+{
+    let text = text_upto(u64::from(n), from, world)?;
+    counted_written(to, from, n, text.as_slice(), world)
+}
+
 /// `strncpy`.
 ///
 /// # Errors
@@ -190,8 +198,7 @@ pub fn strncpy(to: &Value, from: &Value, n: u32, world: &mut World) -> Result<An
     if n == 0 {
         return Ok(Answer::plain(to.copy(world.alloc())?));
     }
-    let text = text_upto(u64::from(n), from, world)?;
-    counted_written(to, from, n, text.as_slice(), world)
+    counted_copied(to, from, n, world)
 }
 
 /// `strlen`.

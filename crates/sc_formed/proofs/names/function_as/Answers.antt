@@ -1,4 +1,4 @@
-use Rattle.std.proofs.Common.{◌≡◌, List, None, Some, ◌∙◌, ap}
+use Rattle.std.proofs.Common.{List, None, Some, ◌∙◌, ap}
 use Rattle.std.specs.Prelude.{slice_get}
 use Rattle.std.specs.Str.{bytes_eq}
 use Rattle.sc_core.specs.declared.module.Fun.{Fun}

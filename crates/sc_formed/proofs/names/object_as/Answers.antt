@@ -1,4 +1,4 @@
-use Rattle.std.proofs.Common.{◌≡◌, List, None, Some, ◌∙◌, ap}
+use Rattle.std.proofs.Common.{List, None, Some, ◌∙◌, ap}
 use Rattle.std.specs.Prelude.{slice_get}
 use Rattle.sc_formed.specs.Names.{key_eq}
 use Rattle.sc_core.specs.declared.module.StaticObj.{StaticObj}
