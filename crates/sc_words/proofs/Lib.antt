@@ -1,4 +1,6 @@
+pub mod ClapLemmas
 pub mod CommandLemmas
 pub mod LineLemmas
 pub mod NumberLemmas
 pub mod OptionLemmas
+pub mod RowLemmas

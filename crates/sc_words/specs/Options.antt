@@ -1,10 +1,10 @@
 -- The language of the words behind the program's name, and what they ask for.
-use Rattle.std.specs.Prelude.{ℕ, ◌%◌, Bool, true, false, not, ◌&&◌, List, [], ◌∷◌, if◌then◌else◌, ◌==◌, nat_le, codes, Option, Some, None}
+use Rattle.std.specs.Prelude.{ℕ, ◌%◌, Bool, true, false, not, ◌&&◌, List, [], ◌∷◌, if◌then◌else◌, ◌==◌, nat_le, codes, Option, Some, None, is_some}
 use Rattle.std.specs.Option.{option_map_or}
 use Rattle.std.specs.Str.{bytes_eq}
 use Rattle.sc_words.specs.Parts.{is_numeral, number_of}
 use Rattle.sc_words.specs.declared.options.Options.{Options}
-use Rattle.sc_words.specs.declared.options.Range.{Range}
+use Rattle.sc_words.specs.declared.range.Range.{Range}
 use Rattle.sc_words.specs.declared.listed.Left.{Left}
 
 -- the options that may still be given
@@ -24,19 +24,6 @@ abbrev pub is_value : List ℕ → Bool
 is_value [] = true
 is_value (b ∷ bytes) = not (b == 45)
 
--- options, each behind it a value, in any order, each at most once
-abbrev pub is_listed : Left → List (List ℕ) → Bool
-is_listed left [] = true
-is_listed left (name ∷ []) = false
-is_listed left (name ∷ value ∷ words) =
-    is_value value && option_map_or (λ fewer. is_listed fewer words) (taken left name) false
-
--- the value behind an option
-abbrev pub value_of : List ℕ → List (List ℕ) → Option (List ℕ)
-value_of name [] = None
-value_of name (word ∷ []) = None
-value_of name (word ∷ value ∷ words) = if bytes_eq word name then Some value else value_of name words
-
 -- a number of 1 to 10 digits in the range
 abbrev pub number_in : Range → List ℕ → Option ℕ
 number_in range value =
@@ -44,16 +31,8 @@ number_in range value =
     && number_of value % range.unit == 0
     then Some (number_of value) else None
 
-abbrev pub number_or : Range → Option (List ℕ) → Option ℕ
-number_or range None = Some range.default
-number_or range (Some value) = number_in range value
-
--- a folder is not empty; the present one is `.`
-abbrev pub folder_of : Option (List ℕ) → Option (List ℕ)
-folder_of None = Some (codes ".")
-folder_of (Some []) = None
-folder_of (Some (b ∷ bytes)) = Some (b ∷ bytes)
-
+-- The stack has 4,096 to 16,777,216 bytes and the heap up to 67,108,864, each a multiple of 16; a go has 1 to
+-- 1,000,000,000 turns.
 abbrev pub stack_range : Range
 stack_range = record { default = 1048576; low = 4096; high = 16777216; unit = 16 }
 
@@ -63,15 +42,52 @@ heap_range = record { default = 4194304; low = 0; high = 67108864; unit = 16 }
 abbrev pub turns_range : Range
 turns_range = record { default = 50000000; low = 1; high = 1000000000; unit = 1 }
 
-abbrev pub options_by : Option ℕ → Option ℕ → Option ℕ → Option (List ℕ) → Option Options
-options_by (Some stack) (Some heap) (Some turns) (Some dir) =
+-- a folder is not empty
+abbrev pub is_folder : List ℕ → Bool
+is_folder [] = false
+is_folder (b ∷ bytes) = true
+
+-- the value of an option is right
+abbrev pub fits : List ℕ → List ℕ → Bool
+fits name value =
+    if bytes_eq name (codes "--stack") then is_some (number_in stack_range value)
+    else (if bytes_eq name (codes "--heap") then is_some (number_in heap_range value)
+    else (if bytes_eq name (codes "--turns") then is_some (number_in turns_range value)
+    else is_folder value))
+
+-- options, each behind it a value that fits it, in any order, each at most once
+abbrev pub is_listed : Left → List (List ℕ) → Bool
+is_listed left [] = true
+is_listed left (name ∷ []) = false
+is_listed left (name ∷ value ∷ words) =
+    (is_value value && fits name value) && option_map_or (λ fewer. is_listed fewer words) (taken left name) false
+
+-- ---- what they ask for
+
+-- the value behind an option
+abbrev pub value_of : List ℕ → List (List ℕ) → Option (List ℕ)
+value_of name [] = None
+value_of name (word ∷ []) = None
+value_of name (word ∷ value ∷ words) = if bytes_eq word name then Some value else value_of name words
+
+abbrev pub number_or : Range → Option (List ℕ) → Option ℕ
+number_or range None = Some range.default
+number_or range (Some value) = number_in range value
+
+-- the present folder is `.`
+abbrev pub folder_or : Option (List ℕ) → List ℕ
+folder_or None = codes "."
+folder_or (Some folder) = folder
+
+abbrev pub options_by : Option ℕ → Option ℕ → Option ℕ → List ℕ → Option Options
+options_by (Some stack) (Some heap) (Some turns) dir =
     Some (record { stack = stack; heap = heap; turns = turns; dir = dir })
-options_by _ _ _ _ = None
+options_by _ _ _ dir = None
 
 -- by the values of the four options
 abbrev pub options_from : Option (List ℕ) → Option (List ℕ) → Option (List ℕ) → Option (List ℕ) → Option Options
-options_from stack heap turns dir = options_by
-    (number_or stack_range stack) (number_or heap_range heap) (number_or turns_range turns) (folder_of dir)
+options_from stack heap turns dir =
+    options_by (number_or stack_range stack) (number_or heap_range heap) (number_or turns_range turns) (folder_or dir)
 
 abbrev pub options_in : List (List ℕ) → Option Options
 options_in words = options_from (value_of (codes "--stack") words) (value_of (codes "--heap") words)

@@ -9,11 +9,13 @@ mod line;
 mod listed;
 mod options;
 mod part;
+mod range;
 mod stop;
 mod verb;
 
-pub use answer::{Answer, answer_text};
+pub use answer::{Answer, answer_text, stop_line};
 pub use command::{Command, read_command};
-pub use options::{Options, WordsFault, read_words};
+pub use command_line::help_text;
 pub use denied::{Area, Denied};
+pub use options::{Options, WordsFault, read_words};
 pub use stop::{Event, StopAt, Walk, matched};

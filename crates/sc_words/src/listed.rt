@@ -1,6 +1,8 @@
 // Whether words are options with their values.
 ghost use Rattle.std.specs.Prelude.{◌≡◌, map, string_bytes};
-ghost use Rattle.sc_words.specs.Options.{is_listed, is_value, taken, all};
+ghost use Rattle.sc_words.specs.Options.{is_listed, is_value, fits, taken, all};
+
+use crate::range::{heap_in, stack_in, turns_in};
 
 // Which options may still be given.
 #[derive(Clone, Copy)]
@@ -16,16 +18,41 @@ fn taken(left: Left, name: &[u8]) -> Option<Left>
     ensures { result ≡ taken left name.now }
 {
     if name == b"--stack".as_slice() {
-        return if left.stack { Some(Left { stack: false, ..left }) } else { None };
+        return if left.stack {
+            Some(Left {
+                stack: false,
+                ..left
+            })
+        } else {
+            None
+        };
     }
     if name == b"--heap".as_slice() {
-        return if left.heap { Some(Left { heap: false, ..left }) } else { None };
+        return if left.heap {
+            Some(Left {
+                heap: false,
+                ..left
+            })
+        } else {
+            None
+        };
     }
     if name == b"--turns".as_slice() {
-        return if left.turns { Some(Left { turns: false, ..left }) } else { None };
+        return if left.turns {
+            Some(Left {
+                turns: false,
+                ..left
+            })
+        } else {
+            None
+        };
     }
     if name == b"--dir".as_slice() {
-        return if left.dir { Some(Left { dir: false, ..left }) } else { None };
+        return if left.dir {
+            Some(Left { dir: false, ..left })
+        } else {
+            None
+        };
     }
     None
 }
@@ -39,7 +66,24 @@ fn is_value(word: &[u8]) -> bool
     }
 }
 
-/// Whether the words are options, each with a value behind it, each at most once. A value does not begin with `-`.
+// Whether the value of an option is right.
+fn fits(name: &[u8], value: &[u8]) -> bool
+    ensures { result ≡ fits name.now value.now }
+{
+    if name == b"--stack".as_slice() {
+        return stack_in(value).is_some();
+    }
+    if name == b"--heap".as_slice() {
+        return heap_in(value).is_some();
+    }
+    if name == b"--turns".as_slice() {
+        return turns_in(value).is_some();
+    }
+    !value.is_empty()
+}
+
+/// Whether the words are options, each at most once and each with a value behind it that fits it and does not begin
+/// with `-`.
 pub fn are_listed(words: &[String]) -> bool
     ensures { result ≡ is_listed all (map string_bytes words.now) }
 {
@@ -54,10 +98,11 @@ pub fn are_listed(words: &[String]) -> bool
         let Some((value, behind)) = behind.split_first() else {
             return false;
         };
-        if !is_value(value.as_bytes()) {
+        let (name, value) = (name.as_bytes(), value.as_bytes());
+        if !is_value(value) || !fits(name, value) {
             return false;
         }
-        match taken(left, name.as_bytes()) {
+        match taken(left, name) {
             Some(fewer) => left = fewer,
             None => return false,
         }

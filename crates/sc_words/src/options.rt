@@ -1,10 +1,10 @@
 // What the words behind the program's name ask for.
-ghost use Rattle.std.specs.Prelude.{◌≡◌, ◌≢◌, ◌↔◌, ◌≤◌, ◌<◌, None, Some, IfOk, OnErr, IsErrOf, IfSome, map, option_map, string_bytes, codes};
-ghost use Rattle.sc_words.specs.Options.{options_of, options_from, number_in, number_or, folder_of, stack_range, heap_range, turns_range, is_listed, all};
+ghost use Rattle.std.specs.Prelude.{◌≡◌, ◌↔◌, None, Some, IfOk, IsErrOf, map, option_map, string_bytes};
+ghost use Rattle.sc_words.specs.Options.{options_of, options_from, number_or, folder_or, stack_range, heap_range, turns_range};
 
 use crate::command_line::matches_of;
 use crate::listed::are_listed;
-use crate::part::{is_numeral, number_of};
+use crate::range::{heap_in, stack_in, turns_in};
 use sc_base::Bytes;
 use std::alloc::Global;
 
@@ -29,93 +29,40 @@ pub enum WordsFault {
     NoMemory,
 }
 
-// The numbers that an option takes.
-#[derive(Clone, Copy)]
-pub struct Range {
-    default: u64,
-    low: u64,
-    high: u64,
-    unit: u64,
-}
-
-fn number_in(range: Range, value: &[u8]) -> Option<u64>
-    requires { 0 < range.unit }
-    ensures number { result ≡ number_in range value.now }
-    ensures high { IfSome result (λ number. number ≤ range.high) }
-{
-    if !is_numeral(10, value) {
-        return None;
-    }
-    let number = number_of(value);
-    if range.low <= number && number <= range.high && number % range.unit == 0 {
-        Some(number)
-    } else {
-        None
-    }
-}
-
-fn number_or(range: Range, value: Option<&str>) -> Option<u64>
-    requires unit { 0 < range.unit }
-    requires default { range.default ≤ range.high }
-    ensures number { result ≡ number_or range (option_map (λ text. text.now) value.entry) }
-    ensures high { IfSome result (λ number. number ≤ range.high) }
-{
-    match value {
-        Some(value) => number_in(range, value.as_bytes()),
-        None => Some(range.default),
-    }
-}
-
-fn stack_of(value: Option<&str>) -> Option<u32>
+fn stack_or(value: Option<&str>) -> Option<u32>
     ensures { result ≡ number_or stack_range (option_map (λ text. text.now) value.entry) }
 {
-    let range = Range {
-        default: 1048576,
-        low: 4096,
-        high: 16777216,
-        unit: 16,
-    };
-    match number_or(range, value) {
-        Some(number) => Some(number as u32),
-        None => None,
+    match value {
+        Some(value) => stack_in(value.as_bytes()),
+        None => Some(1048576),
     }
 }
 
-fn heap_of(value: Option<&str>) -> Option<u32>
+fn heap_or(value: Option<&str>) -> Option<u32>
     ensures { result ≡ number_or heap_range (option_map (λ text. text.now) value.entry) }
 {
-    let range = Range {
-        default: 4194304,
-        low: 0,
-        high: 67108864,
-        unit: 16,
-    };
-    match number_or(range, value) {
-        Some(number) => Some(number as u32),
-        None => None,
+    match value {
+        Some(value) => heap_in(value.as_bytes()),
+        None => Some(4194304),
     }
 }
 
-fn turns_of(value: Option<&str>) -> Option<u64>
+fn turns_or(value: Option<&str>) -> Option<u64>
     ensures { result ≡ number_or turns_range (option_map (λ text. text.now) value.entry) }
 {
-    let range = Range {
-        default: 50000000,
-        low: 1,
-        high: 1000000000,
-        unit: 1,
-    };
-    number_or(range, value)
+    match value {
+        Some(value) => turns_in(value.as_bytes()),
+        None => Some(50000000),
+    }
 }
 
-fn folder_of<'a>(value: Option<&'a str>) -> Option<&'a [u8]>
-    ensures { option_map (λ folder. folder.now) result ≡ folder_of (option_map (λ text. text.now) value.entry) }
+fn folder_or<'a>(value: Option<&'a str>) -> &'a [u8]
+    ensures { result.now ≡ folder_or (option_map (λ text. text.now) value.entry) }
 {
-    let Some(value) = value else {
-        return Some(b".");
-    };
-    let folder = value.as_bytes();
-    if folder.is_empty() { None } else { Some(folder) }
+    match value {
+        Some(value) => value.as_bytes(),
+        None => b".",
+    }
 }
 
 // What the values of the four options ask for.
@@ -131,20 +78,22 @@ fn options_from(
     ensures bad { IsErrOf result WordsFault.Bad ↔ (options_from (option_map (λ text. text.now) stack.entry) (option_map (λ text. text.now) heap.entry)
         (option_map (λ text. text.now) turns.entry) (option_map (λ text. text.now) dir.entry) ≡ None) }
 {
-    let Some(stack) = stack_of(stack) else {
+    let Some(stack) = stack_or(stack) else {
         return Err(WordsFault::Bad);
     };
-    let Some(heap) = heap_of(heap) else {
+    let Some(heap) = heap_or(heap) else {
         return Err(WordsFault::Bad);
     };
-    let Some(turns) = turns_of(turns) else {
+    let Some(turns) = turns_or(turns) else {
         return Err(WordsFault::Bad);
     };
-    let Some(dir) = folder_of(dir) else {
-        return Err(WordsFault::Bad);
-    };
-    match Bytes::from_slice(alloc, dir) {
-        Ok(dir) => Ok(Options { stack, heap, turns, dir }),
+    match Bytes::from_slice(alloc, folder_or(dir)) {
+        Ok(dir) => Ok(Options {
+            stack,
+            heap,
+            turns,
+            dir,
+        }),
         Err(_) => Err(WordsFault::NoMemory),
     }
 }

@@ -1,0 +1,12 @@
+use Rattle.std.proofs.Common.{codes}
+use Rattle.std.proofs.lemmas.Result.{IfOk-weaker}
+use Rattle.sc_words.proofs.CommandLemmas.{bare_is, with_option}
+use Rattle.sc_words.proofs.command_line.command.Goals as goal
+
+pub returns : goal.returns
+returns c =
+    let bare = bare_is c.new.result c.no_binary_name.result c.disable_help_flag-command.result c.new.ensures.app c.no_binary_name.ensures c.disable_help_flag-command.ensures in
+    let one = with_option _ _ _ _ (codes "stack") c.in_ok-arg.ensures bare c.option_named-stack.ensures.rule c.option_named-stack.ensures.global in
+    let two = with_option _ _ _ _ (codes "heap") c.in_ok-arg-2.ensures one c.option_named-heap.ensures.rule c.option_named-heap.ensures.global in
+    let three = with_option _ _ _ _ (codes "turns") c.in_ok-arg-3.ensures two c.option_named-turns.ensures.rule c.option_named-turns.ensures.global in
+    IfOk-weaker c.arg-4.result _ _ (λ r adds. with_option _ r _ _ (codes "dir") adds three c.option_named-dir.ensures.rule c.option_named-dir.ensures.global) c.arg-4.ensures
