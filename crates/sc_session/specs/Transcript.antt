@@ -55,17 +55,17 @@ abbrev pub Leaves : Moment → Moment → Plain → Type 0
 Leaves old new session = (new.session ≡ session) × (new.held ≡ old.held)
 
 -- why a file gives no module: it cannot be read, or its text is refused
-abbrev pub NotBuilt : Option FileMap → ℕ → ℕ → List ℕ → Denied → Type 0
-NotBuilt held before now file (denied.NoFile f) = (f ≡ file) × IsMissing held file
-NotBuilt held before now file (denied.TooLong f) = (f ≡ file) × IsTooLong held file
-NotBuilt held before now file (denied.FileFault f) = Asks held file f × Rose before now
-NotBuilt held before now file (denied.Translation r) = Refuses held file r
-NotBuilt held before now file _ = ⊥
+abbrev pub NotBuilt : Option FileMap → ℕ → ℕ → List ℕ → List ℕ → Denied → Type 0
+NotBuilt held before now file name (denied.NoFile f) = (f ≡ file) × IsMissing held file
+NotBuilt held before now file name (denied.TooLong f) = (f ≡ file) × IsTooLong held file
+NotBuilt held before now file name (denied.FileFault f) = Asks held file f × Rose before now
+NotBuilt held before now file name (denied.Translation r) = Refuses held file name r
+NotBuilt held before now file name _ = ⊥
 
 -- the same of what the code finds; nothing is said where no memory was left
-abbrev pub Unbuilt : Option FileMap → ℕ → ℕ → List ℕ → Option Denied → Type 0
-Unbuilt held before now file None = Unit {0}
-Unbuilt held before now file (Some d) = NotBuilt held before now file d
+abbrev pub Unbuilt : Option FileMap → ℕ → ℕ → List ℕ → List ℕ → Option Denied → Type 0
+Unbuilt held before now file name None = Unit {0}
+Unbuilt held before now file name (Some d) = NotBuilt held before now file name d
 
 -- why the module of a file does not go with the others
 abbrev pub Clashes : Moment → List ℕ → List ℕ → Denied → Type 0
@@ -73,7 +73,7 @@ Clashes old file name d =
     (core : Core) × Builds old.held file name core × (conflict old.session.modules old.session.numbers core ≡ Some d)
 
 abbrev pub FileDenied : Moment → List ℕ → List ℕ → ℕ → Denied → Type 0
-FileDenied old file name now d = NotBuilt old.held old.faults now file d ⊎ Clashes old file name d
+FileDenied old file name now d = NotBuilt old.held old.faults now file name d ⊎ Clashes old file name d
 
 -- the module of a file, which goes with the others
 pub record Fits (old : Moment) (file name : List ℕ) (core : Core) : Type 0 where

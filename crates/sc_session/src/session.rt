@@ -91,6 +91,11 @@ impl Session {
         self.over
     }
 
+    /// Lets the session go, with all that it holds.
+    pub fn close(self) {
+        drop(self);
+    }
+
     /// Carries out a command. A refused one leaves the session as it was, but that `run` forgets a run that ended.
     pub fn carry_out<F: Files>(&mut self, alloc: Global, command: Command, files: &mut F) -> Answer
         requires named { IsNamed command }
@@ -457,7 +462,7 @@ fn file_of(alloc: Global, name: &Name) -> Result<String, NoMemory>
 
 // Why there is no module; none where no memory was left.
 fn unbuilt(alloc: Global, file: &str, fault: BuildFault) -> Option<Denied>
-    ensures { (held : Option FileMap) (before now : ℕ) (name : List ℕ) → Answers held before now file.now name (Err fault) → spec.Unbuilt held before now file.now result }
+    ensures { (held : Option FileMap) (before now : ℕ) (name : List ℕ) → Answers held before now file.now name (Err fault) → spec.Unbuilt held before now file.now name result }
 {
     match fault {
         BuildFault::Refused(refusal) => Some(Denied::Translation(refusal)),

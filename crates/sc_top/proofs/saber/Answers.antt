@@ -1,4 +1,3 @@
-use Rattle.std.proofs.Common.{◌≡◌}
 use Rattle.sc_session.specs.Transcript.{limits_of}
 use Rattle.sc_top.proofs.SessionLemmas.{unbegun}
 use Rattle.sc_top.proofs.saber.Goals as goal
