@@ -50,16 +50,21 @@ least_with test core other [] least = least
 least_with test core other (d ∷ ds) least =
     least_with test core other ds (if some_declared (holds test core d other) other.declared then lesser least (d.key.name, other.name) else least)
 
--- and with all of them, in their order
+-- another module: one that is translated anew takes the place of the one that has its name
+abbrev pub is_other : Core → Text → Bool
+is_other core t = not (bytes_eq t.core.name core.name)
+
+-- and with all the others, in their order
 abbrev pub least_among : Test → Core → List Text → Option Named → Option Named
 least_among test core [] least = least
-least_among test core (t ∷ ts) least = least_among test core ts (least_with test core t.core core.declared least)
+least_among test core (t ∷ ts) least =
+    least_among test core ts (if is_other core t then least_with test core t.core core.declared least else least)
 
--- the least name that this module and one that is present define, with the first such module
+-- the least name that this module and another that is present define, with the first such module
 abbrev pub doubled : List Text → Core → Option Named
 doubled texts core = least_among test.BothDefine core texts None
 
--- the least name that this module and one that is present declare with types that do not go together
+-- the least name that this module and another that is present declare with types that do not go together
 abbrev pub clashing : List Text → Core → Option Named
 clashing texts core = least_among test.Disagree core texts None
 

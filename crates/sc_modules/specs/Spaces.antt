@@ -1,42 +1,15 @@
 -- What a session has room for: modules, numbers of functions, and bytes of static storage.
-use Rattle.std.specs.Prelude.{ℕ, ◌+◌, ◌*◌, ◌/◌, ◌&&◌, Bool, true, false, not, nat_lt, is_some, if◌then◌else◌, List, [], ◌∷◌, length, Option, Some, None}
-use Rattle.sc_base.specs.declared.key.Key.{Key}
-use Rattle.sc_types.specs.declared.ctype.CType.{CType, out-CType}
-use Rattle.sc_types.specs.declared.ctype.CType.TheOpen.{CType-F}
-use Rattle.sc_types.specs.declared.ctype.Signature.{Signature}
+use Rattle.std.specs.Prelude.{ℕ, ◌+◌, ◌*◌, ◌/◌, nat_lt, if◌then◌else◌, List, [], ◌∷◌, length, Option, Some, None}
+use Rattle.sc_types.specs.declared.ctype.CType.{CType}
 use Rattle.sc_types.specs.declared.ctype.StructDef.{StructDef}
 use Rattle.sc_types.specs.Layouts.{size_in}
 use Rattle.sc_types.specs.Tables.{is_object}
 use Rattle.sc_core.specs.declared.module.Core.{Core}
-use Rattle.sc_core.specs.declared.module.Declared.{Declared}
 use Rattle.sc_core.specs.declared.module.StaticObj.{StaticObj}
-use Rattle.sc_meaning.specs.Values.{same_key}
-use Rattle.sc_meaning.specs.Names.{library_fun}
 use Rattle.sc_meaning.specs.Versions.{Text}
-use Rattle.sc_modules.specs.declared.space.Area.{Area}
-use Rattle.sc_modules.specs.declared.space.Room.{Room}
-use Rattle.sc_modules.specs.declared.space.Area.TheVariants as area
-use Rattle.sc_modules.specs.Clashes.{is_internal, some_declared}
-
-abbrev pub layer_is_function : CType-F CType Signature → Bool
-layer_is_function (CType-F.Function f) = true
-layer_is_function _ = false
-
-abbrev pub is_library : Key → Bool
-is_library key = not (is_internal key.«module») && is_some (library_fun key.name)
-
--- whether a present module mentions this key
-abbrev pub is_mentioned : Key → List Text → Bool
-is_mentioned key [] = false
-is_mentioned key (t ∷ ts) = if some_declared (λ e. same_key e.key key) t.core.declared then true else is_mentioned key ts
-
--- a function that no present module mentions, and that is not the library's
-abbrev pub is_new_function : List Text → Declared → Bool
-is_new_function texts d = layer_is_function (out-CType d.of) && not (is_library d.key) && not (is_mentioned d.key texts)
-
-abbrev pub count_new : List Text → List Declared → ℕ
-count_new texts [] = 0
-count_new texts (d ∷ ds) = if is_new_function texts d then 1 + count_new texts ds else count_new texts ds
+use Rattle.sc_words.specs.declared.denied.Area.{Area}
+use Rattle.sc_words.specs.declared.denied.Area.TheVariants as area
+use Rattle.sc_modules.specs.Clashes.{is_other}
 
 -- the least multiple of 4 greater than a size
 abbrev pub room_for : ℕ → ℕ
@@ -53,26 +26,23 @@ abbrev pub literals_room : List (List ℕ) → ℕ
 literals_room [] = 0
 literals_room (l ∷ ls) = room_for (length l) + literals_room ls
 
--- the numbers of functions, and the bytes of static storage, that a module takes
-abbrev pub new_functions : List Text → Core → ℕ
-new_functions texts core = count_new texts core.declared
+-- the bytes of static storage that a module takes
+abbrev pub statics_of : Core → ℕ
+statics_of core = objects_room core.structs core.objects + literals_room core.literals
 
-abbrev pub new_statics : Core → ℕ
-new_statics core = objects_room core.structs core.objects + literals_room core.literals
+-- how many modules a program has with this one
+abbrev pub modules_with : Core → List Text → ℕ
+modules_with core [] = 1
+modules_with core (t ∷ ts) = if is_other core t then 1 + modules_with core ts else modules_with core ts
 
-abbrev pub first_room : Room
-first_room = record { functions = 39; statics = 0 }
+-- and the bytes of static storage that they take
+abbrev pub statics_with : Core → List Text → ℕ
+statics_with core [] = statics_of core
+statics_with core (t ∷ ts) = if is_other core t then statics_of t.core + statics_with core ts else statics_with core ts
 
--- what the modules take with one more
-abbrev pub room_with : Room → List Text → Core → Room
-room_with room texts core = record {
-  functions = room.functions + new_functions texts core;
-  statics = room.statics + new_statics core;
-}
-
--- what so many modules, which take this room, are too many of
-abbrev pub over_limit : ℕ → Room → Option Area
-over_limit modules room =
+-- what so many modules, functions with a number and bytes of static storage are too many of
+abbrev pub over_limit : ℕ → ℕ → ℕ → Option Area
+over_limit modules functions statics =
     if nat_lt 64 modules then Some area.Modules
-    else (if nat_lt 65536 room.functions then Some area.Stubs
-    else (if nat_lt 1048576 room.statics then Some area.Static else None))
+    else (if nat_lt 65536 functions then Some area.Stubs
+    else (if nat_lt 1048576 statics then Some area.Static else None))

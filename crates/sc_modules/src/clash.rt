@@ -115,24 +115,33 @@ fn least_with<'a>(
     least
 }
 
+/// Whether a module is another than this one, in whose place it would not come.
+pub fn is_other(core: &Core, t: &Text) -> bool
+    ensures { result ≡ spec.is_other core.now t.now }
+{
+    t.core.get().name != core.name
+}
+
 fn least_among<'a>(test: Test, core: &'a Core, texts: &'a [Text]) -> Option<Named<'a>>
     ensures { result ≡ spec.least_among test core.now texts.now None }
 {
     let mut least = None;
     for t in texts {
-        least = least_with(test, core, t.core.get(), least);
+        if is_other(core, t) {
+            least = least_with(test, core, t.core.get(), least);
+        }
     }
     least
 }
 
-/// The least name that a module and one that is present define, with the first such module.
+/// The least name that a module and another that is present define, with the first such module.
 pub fn doubled<'a>(texts: &'a [Text], core: &'a Core) -> Option<Named<'a>>
     ensures { result ≡ spec.doubled texts.now core.now }
 {
     least_among(Test::BothDefine, core, texts)
 }
 
-/// The least name that a module and one that is present declare with types that do not go together, with the first such
+/// The least name that a module and another that is present declare with types that do not go together, with the first such
 /// module.
 pub fn clashing<'a>(texts: &'a [Text], core: &'a Core) -> Option<Named<'a>>
     ensures { result ≡ spec.clashing texts.now core.now }

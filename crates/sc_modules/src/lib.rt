@@ -1,8 +1,8 @@
-//! The modules of a program: whether one more goes with those that are present.
+//! The modules of a program: whether one more, or one translated anew, goes with those that are present.
 #![tactic(auto)]
 
 mod clash;
 mod space;
 
-pub use clash::{Named, clashing, doubled, is_present};
-pub use space::{Area, Room, over_limit, room_with};
+pub use clash::{Named, clashing, doubled, is_other, is_present};
+pub use space::{over_limit, statics_with};

@@ -1,101 +1,22 @@
 // What a session has room for: modules, numbers of functions, and bytes of static storage.
 ghost use Rattle.std.specs.Prelude.{◌≡◌, ◌+◌, IfOk};
-ghost use Rattle.sc_types.specs.declared.ctype.CType.{out-CType};
-ghost use Rattle.sc_meaning.specs.Values.{same_key};
-ghost use Rattle.sc_modules.specs.Clashes.{some_declared};
 ghost use Rattle.sc_modules.specs.Spaces as spec;
 
-use sc_base::{Bytes, Key, NoMemory};
-use sc_core::{Core, Declared, StaticObj};
-use sc_plain_parts::{Text, library_fun};
+use crate::clash::is_other;
+use sc_base::{Bytes, NoMemory};
+use sc_core::{Core, StaticObj};
+use sc_plain_parts::Text;
 use sc_types::{CType, Structs, is_object, size_of};
-use sc_values::same_key;
-
-/// What there is no more room for: modules; the addresses of functions; the bytes of static storage.
-#[derive(Clone, Copy, Debug, PartialEq, Eq)]
-pub enum Area {
-    Modules,
-    Stubs,
-    Static,
-}
-
-/// The functions that have a number, and the bytes of static storage that the modules take.
-#[derive(Clone, Copy, Debug, PartialEq, Eq)]
-pub struct Room {
-    pub functions: u64,
-    pub statics: u64,
-}
-
-impl Room {
-    /// Without a module only the library's functions have a number.
-    pub fn new() -> Room
-        ensures { result ≡ spec.first_room }
-    {
-        Room {
-            functions: LIBRARY_FUNCTIONS,
-            statics: 0,
-        }
-    }
-}
-
-/// How many functions the library has.
-const LIBRARY_FUNCTIONS: u64 = 39;
+use sc_words::Area;
 
 /// The most modules.
 const MAX_MODULES: usize = 64;
 
 /// The most functions that have a number in a session.
-const MAX_FUNCTIONS: u64 = 65536;
+const MAX_FUNCTIONS: usize = 65536;
 
 /// The most bytes of static storage.
 const MAX_STATICS: u64 = 1048576;
-
-fn is_function(t: &CType) -> bool
-    ensures { result ≡ spec.layer_is_function (out-CType t.now) }
-{
-    match t {
-        CType::Function(_) => true,
-        CType::Void(_)
-        | CType::Int(_, _)
-        | CType::Pointer(_, _)
-        | CType::Array(_, _)
-        | CType::Struct(_, _) => false,
-    }
-}
-
-fn is_library(key: &Key) -> bool
-    ensures { result ≡ spec.is_library key.now }
-{
-    key.module.is_none() && library_fun(&key.name).is_some()
-}
-
-fn declares(core: &Core, key: &Key) -> bool
-    ensures { result ≡ some_declared (λ e. same_key e.key key.now) core.now.declared }
-{
-    for e in core.declared.as_slice() {
-        if same_key(&e.key, key) {
-            return true;
-        }
-    }
-    false
-}
-
-fn is_mentioned(key: &Key, texts: &[Text]) -> bool
-    ensures { result ≡ spec.is_mentioned key.now texts.now }
-{
-    for t in texts {
-        if declares(t.core.get(), key) {
-            return true;
-        }
-    }
-    false
-}
-
-fn is_new_function(texts: &[Text], d: &Declared) -> bool
-    ensures { result ≡ spec.is_new_function texts.now d.now }
-{
-    is_function(&d.of) && !is_library(&d.key) && !is_mentioned(&d.key, texts)
-}
 
 fn sum(a: u64, b: u64) -> Result<u64, NoMemory>
     ensures { IfOk result (λ c. c ≡ a + b) }
@@ -104,19 +25,6 @@ fn sum(a: u64, b: u64) -> Result<u64, NoMemory>
         Some(c) => Ok(c),
         None => Err(NoMemory),
     }
-}
-
-// The numbers of functions that a module takes.
-fn new_functions(texts: &[Text], core: &Core) -> Result<u64, NoMemory>
-    ensures { IfOk result (λ n. n ≡ spec.new_functions texts.now core.now) }
-{
-    let mut count = 0u64;
-    for d in core.declared.as_slice() {
-        if is_new_function(texts, d) {
-            count = sum(count, 1)?;
-        }
-    }
-    Ok(count)
 }
 
 // The least multiple of 4 greater than a size.
@@ -160,37 +68,52 @@ fn literals_room(literals: &[Bytes]) -> Result<u64, NoMemory>
 }
 
 // The bytes of static storage that a module takes.
-fn new_statics(core: &Core) -> Result<u64, NoMemory>
-    ensures { IfOk result (λ n. n ≡ spec.new_statics core.now) }
+fn statics_of(core: &Core) -> Result<u64, NoMemory>
+    ensures { IfOk result (λ n. n ≡ spec.statics_of core.now) }
 {
     let objects = objects_room(core.objects.as_slice(), &core.structs)?;
     let literals = literals_room(core.literals.as_slice())?;
     sum(objects, literals)
 }
 
-/// What the modules take with one more.
-pub fn room_with(room: Room, texts: &[Text], core: &Core) -> Result<Room, NoMemory>
-    ensures { IfOk result (λ r. r ≡ spec.room_with room texts.now core.now) }
+// How many modules a program has with this one.
+fn modules_with(core: &Core, texts: &[Text]) -> usize
+    ensures { result ≡ spec.modules_with core.now texts.now }
 {
-    let functions = new_functions(texts, core)?;
-    let statics = new_statics(core)?;
-    Ok(Room {
-        functions: sum(room.functions, functions)?,
-        statics: sum(room.statics, statics)?,
-    })
+    let mut count = 1usize;
+    for t in texts {
+        if is_other(core, t) {
+            count += 1;
+        }
+    }
+    count
 }
 
-/// What so many modules, which take this room, are too many of.
-pub fn over_limit(modules: usize, room: Room) -> Option<Area>
-    ensures { result ≡ spec.over_limit modules room }
+/// The bytes of static storage that a module and the others that are present take.
+pub fn statics_with(core: &Core, texts: &[Text]) -> Result<u64, NoMemory>
+    ensures { IfOk result (λ n. n ≡ spec.statics_with core.now texts.now) }
 {
-    if modules > MAX_MODULES {
+    let mut total = statics_of(core)?;
+    for t in texts {
+        if is_other(core, t) {
+            total = sum(total, statics_of(t.core.get())?)?;
+        }
+    }
+    Ok(total)
+}
+
+/// What there are too many of, where a module and the others that are present have so many functions with a number and so
+/// many bytes of static storage.
+pub fn over_limit(core: &Core, texts: &[Text], functions: usize, statics: u64) -> Option<Area>
+    ensures { result ≡ spec.over_limit (spec.modules_with core.now texts.now) functions statics }
+{
+    if modules_with(core, texts) > MAX_MODULES {
         return Some(Area::Modules);
     }
-    if room.functions > MAX_FUNCTIONS {
+    if functions > MAX_FUNCTIONS {
         return Some(Area::Stubs);
     }
-    if room.statics > MAX_STATICS {
+    if statics > MAX_STATICS {
         return Some(Area::Static);
     }
     None

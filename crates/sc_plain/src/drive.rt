@@ -85,7 +85,8 @@ pub fn drive(
         if is_over(&going, callers) {
             return Ok(destination(going, callers));
         }
-        going = step_run(texts, going, callers, world)?;
+        let stepped = step_run(texts, going, callers, world)?;
+        going = stepped.going;
         left -= 1;
     }
     Ok(destination(going, callers))

@@ -7,5 +7,9 @@ mod drive;
 mod going;
 mod running;
 mod step;
+mod stepped;
 
-pub use running::{Ended, Finished, Limits, run};
+pub use going::{Active, Caller, Going};
+pub use running::{Ended, Finished, Limits, call_main, run, status_of};
+pub use step::step_run;
+pub use stepped::{Shown, Stepped};

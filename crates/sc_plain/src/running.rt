@@ -55,8 +55,8 @@ fn main_key(alloc: Global) -> Result<Key, NoMemory>
     Ok(Key { module: None, name })
 }
 
-// The status with which an answer ends the run.
-fn status_of(a: &Answer) -> u32
+/// The status with which the answer of `main` ends the run.
+pub fn status_of(a: &Answer) -> u32
     ensures { result ≡ behaviour.status_of a.now }
 {
     match &a.held {
@@ -67,8 +67,12 @@ fn status_of(a: &Answer) -> u32
     }
 }
 
-// The call of `main` goes out.
-fn first(texts: &[Text], callers: &Stack<Caller>, world: &mut World) -> Result<Going, Stop>
+/// The call of `main` goes out, behind the births.
+///
+/// # Errors
+///
+/// `U17` where nothing defines `main`, `StackFull`, `BirthLimit`, and what a function of the library ends with.
+pub fn call_main(texts: &[Text], callers: &Stack<Caller>, world: &mut World) -> Result<Going, Stop>
     ensures { (h : versions.History) → IsQuiet h → Steps (steady.callee_next h behaviour.main_key [] (versions.callee_of texts.now behaviour.main_key) callers.now (worlds.tick world.old)) result callers.now world.new }
 {
     let alloc = world.alloc();
@@ -83,7 +87,7 @@ fn main_called(texts: &[Text], steps: u64, world: &mut World) -> Result<Reached,
     ensures { (h : versions.History) → IsQuiet h → Brings (steady.ran steps h texts.now (steady.callee_next h behaviour.main_key [] (versions.callee_of texts.now behaviour.main_key) [] (worlds.tick world.old))) result world.new }
 {
     let mut callers = Stack::new(world.alloc());
-    let going = first(texts, &callers, world)?;
+    let going = call_main(texts, &callers, world)?;
     drive(texts, going, &mut callers, steps, world)
 }
 

@@ -1,14 +1,17 @@
 // One step of a run, and a whole run (ANSI 2.1.2.2, 2.1.2.3).
-ghost use Rattle.std.specs.Prelude.{List};
+ghost use Rattle.std.specs.Prelude.{◌≡◌, List};
 ghost use Rattle.sc_meaning.specs.Calls as spec;
 ghost use Rattle.sc_meaning.specs.Versions as versions;
 ghost use Rattle.sc_machine.specs.Runs as runs;
 ghost use Rattle.sc_plain_library.specs.Quiet.{IsQuiet};
 ghost use Rattle.sc_plain.specs.Steady as steady;
-ghost use Rattle.sc_plain.specs.Steps.{Brings, Is, Steps};
+ghost use Rattle.sc_plain.specs.Shows as shows;
+ghost use Rattle.sc_plain.specs.declared.stepped.Shown.TheVariants.{Nothing};
+ghost use Rattle.sc_plain.specs.Steps.{Is, Steps};
 
 use crate::calls::{answer_of, leave, makes, reach};
 use crate::going::{Active, Caller, Going};
+use crate::stepped::{Shown, Stepped, entry};
 use sc_base::Stack;
 use sc_machine::{Doing, Mode, Pending};
 use sc_plain_bodies::{Move, step_body};
@@ -17,6 +20,17 @@ use sc_plain_parts::Text;
 use sc_plain_steps::Env;
 use sc_plain_world::World;
 use sc_values::{Answer, Way};
+
+// A step that shows nothing.
+fn quiet(going: Going) -> Stepped
+    ensures going { result.going ≡ going }
+    ensures shown { result.shown ≡ Nothing }
+{
+    Stepped {
+        going,
+        shown: Shown::Nothing,
+    }
+}
 
 // A line is reached, before a body goes on.
 fn lined(
@@ -60,14 +74,20 @@ fn runs(
     active: Active,
     callers: &Stack<Caller>,
     world: &mut World,
-) -> Result<Going, Stop>
-    ensures { (h : versions.History) (texts : List versions.Text) → Steps (steady.advance h texts (runs.Runs doing stmts env active callers.now world.old)) result callers.now world.new }
+) -> Result<Stepped, Stop>
+    ensures { (h : versions.History) (texts : List versions.Text) → shows.StepsShowing (steady.advance h texts (runs.Runs doing stmts env active callers.now world.old)) (shows.shown h texts (runs.Runs doing stmts env active callers.now world.old)) result callers.now world.new }
 {
     let mut stmts = stmts;
     let mut env = env;
     match step_body(doing, &mut stmts, &mut env, world)? {
-        Move::Go(doing) => Ok(Going::Runs(doing, stmts, env, active)),
-        Move::Line(l, doing) => lined(l, doing, stmts, env, active, callers, world),
+        Move::Go(doing) => Ok(quiet(Going::Runs(doing, stmts, env, active))),
+        Move::Line(l, doing) => {
+            let going = lined(l, doing, stmts, env, active, callers, world)?;
+            Ok(Stepped {
+                going,
+                shown: Shown::Line(l),
+            })
+        }
         Move::Call(t, v, vs, items, user) => {
             let caller = Caller {
                 items,
@@ -76,9 +96,12 @@ fn runs(
                 env,
                 active,
             };
-            Ok(Going::Makes(t, v, vs, caller))
+            Ok(quiet(Going::Makes(t, v, vs, caller)))
         }
-        Move::Leave(way) => left(way, &active, callers, world),
+        Move::Leave(way) => {
+            let going = left(way, &active, callers, world)?;
+            Ok(quiet(going))
+        }
     }
 }
 
@@ -95,7 +118,7 @@ fn answers(a: Answer, callers: &mut Stack<Caller>, world: &World) -> Result<Goin
     }
 }
 
-/// One step of a run: exactly the machine's, in a run in which nothing changes behind an event.
+/// One step of a run: exactly the machine's, in a run in which nothing changes behind an event, with what it shows.
 ///
 /// # Errors
 ///
@@ -105,20 +128,19 @@ pub fn step_run(
     going: Going,
     callers: &mut Stack<Caller>,
     world: &mut World,
-) -> Result<Going, Stop>
-    ensures { (h : versions.History) → IsQuiet h → (s : runs.State) → Is s going callers.old world.old → Steps (steady.advance h texts.now s) result callers.new world.new }
+) -> Result<Stepped, Stop>
+    ensures { (h : versions.History) → IsQuiet h → (s : runs.State) → Is s going callers.old world.old → shows.StepsShowing (steady.advance h texts.now s) (shows.shown h texts.now s) result callers.new world.new }
 {
     match going {
         Going::Runs(doing, stmts, env, active) => runs(doing, stmts, env, active, callers, world),
-        Going::Makes(t, v, vs, caller) => makes(
-            texts,
-            &t,
-            v,
-            vs.as_slice(),
-            caller,
-            callers,
-            world,
-        ),
-        Going::Answers(a) => answers(a, callers, world),
+        Going::Makes(t, v, vs, caller) => {
+            let going = makes(texts, &t, v, vs.as_slice(), caller, callers, world)?;
+            let shown = entry(&going);
+            Ok(Stepped { going, shown })
+        }
+        Going::Answers(a) => {
+            let going = answers(a, callers, world)?;
+            Ok(quiet(going))
+        }
     }
 }

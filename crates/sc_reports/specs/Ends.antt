@@ -1,10 +1,9 @@
--- What is said of the end of a run: the bytes that it wrote, and behind them a line on how it ended.
+-- What is said of the end of a run, and how an answer stands behind the bytes that the program wrote.
 use Rattle.std.specs.Prelude.{ℕ, ◌++◌, ◌==◌, ◌-◌, if◌then◌else◌, List, [], ◌∷◌, length, slice_get, Option, Some, None, codes, decimal}
 use Rattle.std.specs.Fmt.{signed_decimal}
 use Rattle.sc_base.specs.declared.integer.Int.TheVariants.{Int as PlainInt}
 use Rattle.sc_ops.specs.Numbers.{number_of}
 use Rattle.sc_meaning.specs.World.{World}
-use Rattle.sc_plain_world.specs.Outputs.{output}
 use Rattle.sc_plain.specs.declared.running.Ended.{Ended}
 use Rattle.sc_plain.specs.declared.running.Ended.TheVariants as ended
 use Rattle.sc_reports.specs.Words.{key_text}
@@ -27,12 +26,6 @@ line_end_behind (Some b) = if b == 10 then [] else 10 ∷ []
 abbrev pub line_end_after : List ℕ → List ℕ
 line_end_after bytes = line_end_behind (slice_get bytes (length bytes - 1))
 
+-- an answer behind bytes of a program
 abbrev pub on_new_line : List ℕ → List ℕ → List ℕ
 on_new_line bytes said = bytes ++ line_end_after bytes ++ codes "> " ++ said ++ codes "\n"
-
-abbrev pub behind_output : List ℕ → Option (List ℕ) → Option (List ℕ)
-behind_output bytes None = None
-behind_output bytes (Some said) = Some (on_new_line bytes said)
-
-abbrev pub end_text : ℕ → Ended → World → Option (List ℕ)
-end_text turns e w = behind_output (output w.trail) (stop_text turns e w)

@@ -9,7 +9,7 @@ ghost use Rattle.sc_reports.specs.Ends as spec;
 use crate::breach::breach_text;
 use crate::word::{put, put_key, put_signed};
 use sc_base::{Int, Key, NoMemory};
-use sc_plain::{Ended, Finished};
+use sc_plain::Ended;
 use sc_plain_leaves::number_of;
 use sc_plain_world::World;
 use std::alloc::Global;
@@ -50,8 +50,12 @@ fn words(alloc: Global, bytes: &[u8]) -> Result<Vec<u8>, NoMemory>
     Ok(text)
 }
 
-// How a run ended.
-fn stop_text(alloc: Global, turns: u64, ended: &Ended, world: &World) -> Result<Vec<u8>, NoMemory>
+/// How a run ended that was given so many turns.
+///
+/// # Errors
+///
+/// `NoMemory`, also where the run found no room.
+pub fn stop_text(alloc: Global, turns: u64, ended: &Ended, world: &World) -> Result<Vec<u8>, NoMemory>
     ensures { IfOk result (λ text. Some text.items ≡ spec.stop_text turns ended.now world.now) }
 {
     match ended {
@@ -74,7 +78,8 @@ fn line_end_after(bytes: &[u8]) -> &'static [u8]
     }
 }
 
-fn on_new_line(alloc: Global, bytes: &[u8], said: &[u8]) -> Result<Vec<u8>, NoMemory>
+/// An answer's line behind bytes that a program wrote: it begins on a line of its own.
+pub fn on_new_line(alloc: Global, bytes: &[u8], said: &[u8]) -> Result<Vec<u8>, NoMemory>
     ensures { IfOk result (λ text. text.items ≡ spec.on_new_line bytes.now said.now) }
 {
     let mut text = Vec::from_slice(alloc, bytes)?;
@@ -83,13 +88,4 @@ fn on_new_line(alloc: Global, bytes: &[u8], said: &[u8]) -> Result<Vec<u8>, NoMe
     put(&mut text, said)?;
     put(&mut text, b"\n")?;
     Ok(text)
-}
-
-/// What is said of the end of a run that was given so many turns: the bytes that it wrote, and behind them a line on how
-/// it ended.
-pub fn end_text(alloc: Global, turns: u64, finished: &Finished) -> Result<Vec<u8>, NoMemory>
-    ensures { IfOk result (λ text. Some text.items ≡ spec.end_text turns finished.now.ended finished.now.world) }
-{
-    let said = stop_text(alloc, turns, &finished.ended, &finished.world)?;
-    on_new_line(alloc, finished.world.output(), said.as_slice())
 }

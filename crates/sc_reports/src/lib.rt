@@ -6,6 +6,6 @@ mod end;
 mod place;
 mod word;
 
-pub use end::end_text;
+pub use end::{on_new_line, stop_text};
 pub use place::{Shown, value_text};
 pub use word::{key_text, put, put_decimal, put_key, rule_text};

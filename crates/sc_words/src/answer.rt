@@ -188,7 +188,8 @@ fn stop_text(alloc: Global, stop: &StopAt) -> Result<Vec<u8>, NoMemory>
     }
 }
 
-fn stop_line(alloc: Global, number: u32, stop: &StopAt) -> Result<Bytes, NoMemory>
+/// A stop's line, with its number.
+pub fn stop_line(alloc: Global, number: u32, stop: &StopAt) -> Result<Bytes, NoMemory>
     ensures { IfOk result (λ text. text ≡ codes "> stop " ++ decimal number ++ spec.stop_text stop.now ++ codes "\n") }
 {
     let front = with_number(alloc, b"> stop ", number)?;

@@ -13,7 +13,7 @@ mod range;
 mod stop;
 mod verb;
 
-pub use answer::{Answer, answer_text};
+pub use answer::{Answer, answer_text, stop_line};
 pub use command::{Command, read_command};
 pub use command_line::help_text;
 pub use denied::{Area, Denied};

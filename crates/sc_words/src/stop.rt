@@ -42,12 +42,12 @@ fn copy_of(alloc: Global, name: &Option<Name>) -> Result<Option<Name>, NoMemory>
     }
 }
 
-/// How far a run goes on: to the next stop, to the next line, or to the next line in at most so many calls.
+/// How far a run goes on: to the next stop, to the next line, or to the next line of a call that is active already.
 #[derive(Clone, Copy, Debug, PartialEq, Eq)]
 pub enum Walk {
     Cont,
     Step,
-    Next(u32),
+    Next,
 }
 
 /// What a run comes to.

@@ -5,4 +5,6 @@
 #[cfg(test)]
 mod reader;
 #[cfg(test)]
+mod stepping;
+#[cfg(test)]
 mod tests;

@@ -12,7 +12,7 @@ use Rattle.sc_plain.proofs.running.main_called.Goals as goal
 pub returns-in_err-going : goal.returns-in_err-going
 returns-in_err-going c = λ h q.
     let first : List Caller → State = λ cs. steady.callee_next h main_key [] (callee_of c.args.texts.now main_key) cs (tick c.args.world.now) in
-    ends_here (steady.ran c.args.steps h c.args.texts.now (first [])) c.from_residual.result c.in_err-going.field-0.0 c.first.new.world c.from_residual.ensures.1
+    ends_here (steady.ran c.args.steps h c.args.texts.now (first [])) c.from_residual.result c.in_err-going.field-0.0 c.call_main.new.world c.from_residual.ensures.1
     (λ e is. ended_there c.args.steps h c.args.texts.now (first []) e (subst (λ cs. first cs ≡ Ends e) c.new-callers.ensures (c.in_err-going.ensures h q e is)))
 
 pub returns : goal.returns

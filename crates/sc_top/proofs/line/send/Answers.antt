@@ -1,5 +1,5 @@
 use Rattle.sc_outside.specs.declared.sink.Sent.TheVariants as sent
-use Rattle.sc_top.specs.Texts.{text_of}
+use Rattle.sc_words.specs.Texts.{text_of}
 use Rattle.sc_top.proofs.WaitingLemmas.{partly-writes}
 use Rattle.sc_top.proofs.line.send.Goals as goal
 

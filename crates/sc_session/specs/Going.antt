@@ -1,0 +1,163 @@
+-- What a run answers that begins or goes on, and how the session stands behind it.
+use Rattle.std.specs.Prelude.{◌≡◌, ◌⊎◌, ℕ, Bool, true, false, List, [], ◌∷◌, ◌++◌, length, drop, Option, Some, None, codes, decimal}
+use Rattle.sc_meaning.specs.Behaviour.{Start, main_key}
+use Rattle.sc_meaning.specs.Versions.{Text, Callee, callee_of, Missing}
+use Rattle.sc_meaning.specs.World.{World, Frame}
+use Rattle.sc_outside.specs.Causes.{Rose}
+use Rattle.sc_outside.specs.Stored.{FileMap, FindsTold}
+use Rattle.sc_outside.specs.declared.files.FileGot.{FileGot}
+use Rattle.sc_outside.specs.declared.files.FileGot.TheVariants as got
+use Rattle.sc_plain.specs.Ends.{start_of}
+use Rattle.sc_plain.specs.declared.running.Ended.{Ended}
+use Rattle.sc_plain.specs.declared.running.Ended.TheVariants as ended
+use Rattle.sc_plain_world.specs.Outputs.{output}
+use Rattle.sc_reports.specs.Ends.{stop_text, on_new_line}
+use Rattle.sc_reports.specs.Words.{key_text}
+use Rattle.sc_words.specs.declared.answer.Answer.{Answer}
+use Rattle.sc_words.specs.declared.answer.Answer.TheVariants as answer
+use Rattle.sc_words.specs.declared.denied.Denied.{Denied}
+use Rattle.sc_words.specs.declared.denied.Denied.TheVariants as denied
+use Rattle.sc_words.specs.declared.stop.StopAt.{StopAt}
+use Rattle.sc_words.specs.declared.stop.Walk.{Walk}
+use Rattle.sc_words.specs.declared.stop.Walk.TheVariants as walk
+use Rattle.sc_world.specs.declared.halt.Halt.{Halt}
+use Rattle.sc_world.specs.declared.halt.Halt.TheVariants as halt
+use Rattle.sc_world.specs.Goes.{Goes, started}
+use Rattle.sc_world.specs.Meant.{IsRunOf}
+use Rattle.sc_world.specs.Standing.{Standing, world_in, EndedSo}
+use Rattle.sc_session.specs.declared.input.Input.{Input}
+use Rattle.sc_session.specs.declared.input.Input.TheVariants as input
+use Rattle.sc_session.specs.declared.state.State.{State}
+use Rattle.sc_session.specs.declared.state.State.TheVariants as state
+use Rattle.sc_session.specs.Plain.{Plain}
+use Rattle.sc_session.specs.Stopping.{places}
+
+-- the same session in another state
+abbrev pub in_state : State → Plain → Plain
+in_state s session = record session { state = s }
+
+abbrev pub is_found : Callee → Bool
+is_found Missing = false
+is_found _ = true
+
+-- whether a module defines `main`, with external linkage
+abbrev pub has_main : List Text → Bool
+has_main modules = is_found (callee_of modules main_key)
+
+-- The input of a run: the bytes of the file, or none.
+abbrev pub AreBytes : List ℕ → FileGot → Type 0
+AreBytes bytes (got.Bytes v) = v.items ≡ bytes
+AreBytes bytes _ = ⊥
+
+abbrev pub IsInput : Option FileMap → Option (List ℕ) → List ℕ → Type 0
+IsInput held None bytes = bytes ≡ []
+IsInput held (Some file) bytes = (g : FileGot) × FindsTold held file g × AreBytes bytes g
+
+-- Why there is no input: the file is missing, is too long, or could not be read.
+abbrev pub Unread : Option FileMap → List ℕ → ℕ → ℕ → Denied → Type 0
+Unread held file before now (denied.NoFile f) = (f ≡ file) × FindsTold held file got.Missing
+Unread held file before now (denied.TooLong f) = (f ≡ file) × FindsTold held file got.TooLong
+Unread held file before now (denied.FileFault f) = (f ≡ file) × Rose before now
+Unread held file before now _ = ⊥
+
+abbrev pub InputDenied : Option FileMap → Option (List ℕ) → ℕ → ℕ → Denied → Type 0
+InputDenied held None before now d = ⊥
+InputDenied held (Some file) before now d = Unread held file before now d
+
+-- the input as the code finds it
+abbrev pub Finds : Option FileMap → Option (List ℕ) → ℕ → ℕ → Input → Type 0
+Finds held file before now (input.Bytes bytes) = IsInput held file bytes
+Finds held file before now (input.Denied d) = InputDenied held file before now d
+Finds held file before now input.NoMemory = Unit {0}
+
+-- the world in which a run stands
+abbrev pub IsWorldOf : Option Standing → World → Type 0
+IsWorldOf r w = (v : World) → world_in r ≡ Some v → w ≡ v
+
+-- the function that was entered, and the line that was reached, in the innermost call
+abbrev pub entered_text : List Frame → List ℕ
+entered_text [] = codes "entered "
+entered_text (f ∷ frames) = codes "entered " ++ key_text f.key
+
+abbrev pub line_text : List Frame → List ℕ
+line_text [] = codes "at "
+line_text (f ∷ frames) = codes "at " ++ f.home ++ codes ":" ++ decimal f.line
+
+-- what is said of the end of a run
+abbrev pub end_text : Ended → World → Option (List ℕ)
+end_text ended.OutOfSteps w = None
+end_text ended.NoRoom w = None
+end_text e w = stop_text 0 e w
+
+-- what is said of where a run halted
+abbrev pub Says : Halt → Option Standing → World → List ℕ → Type 0
+Says halt.Entered r w said = said ≡ entered_text w.frames
+Says halt.AtLine r w said = said ≡ line_text w.frames
+Says halt.Ended r w said = (e : Ended) × EndedSo r e × (Some said ≡ end_text e w)
+Says (halt.Paused turns) r w said = Some said ≡ stop_text turns ended.OutOfSteps w
+
+-- the text on a go that halted so: what the program wrote in it, behind so many bytes before, and on a line of its own where the
+-- run halted
+pub record Told (before : ℕ) (h : Halt) (r : Option Standing) (text : List ℕ) : Type 0 where
+  pub world : World
+  pub stands : IsWorldOf r world
+  pub said : List ℕ
+  pub says : Says h r world said
+  pub whole : text ≡ on_new_line (drop before (output world.trail)) said
+
+-- the state behind a go
+abbrev pub state_after : Halt → Option Standing → State
+state_after halt.Entered r = state.Stopped r
+state_after halt.AtLine r = state.Stopped r
+state_after halt.Ended r = state.Ended
+state_after (halt.Paused turns) r = state.Paused r
+
+-- A go over these modules that halted: the run was the old one, and is the new one, which is a run of the same program if the old
+-- one was.
+pub record Went (modules : List Text) (stops : List StopAt) (how : Walk) (turns : ℕ) (old : Option Standing) (text : List ℕ) (after : State) : Type 0 where
+  pub first : World
+  pub stood : IsWorldOf old first
+  pub stops_at : Halt
+  pub new : Option Standing
+  pub goes : Goes modules stops how turns old stops_at new
+  pub meant : (s : Start) → IsRunOf s modules old → IsRunOf s modules new
+  pub told : Told (length (output first.trail)) stops_at new text
+  pub follows : after ≡ state_after stops_at new
+
+-- the run that goes on in a state
+abbrev pub RunsIn : State → Option Standing → Type 0
+RunsIn state.Idle r = ⊥
+RunsIn (state.Stopped s) r = r ≡ s
+RunsIn (state.Paused s) r = r ≡ s
+RunsIn state.Ended r = ⊥
+
+abbrev pub IsGoing : State → Type 0
+IsGoing state.Idle = ⊥
+IsGoing (state.Stopped r) = Unit {0}
+IsGoing (state.Paused r) = Unit {0}
+IsGoing state.Ended = ⊥
+
+-- one go of a session from a run, with the text that answers it, and the session behind it
+abbrev pub GoesOn : Plain → Walk → Option Standing → List ℕ → Plain → Type 0
+GoesOn session how r text new =
+    (s : State) × Went session.modules (places session.stops) how session.limits.turns r text s × (new ≡ in_state s session)
+
+-- where no memory was left, the run may have gone on, and is over then
+abbrev pub IsCutOff : Plain → Plain → Type 0
+IsCutOff session new = (new ≡ session) ⊎ (new ≡ in_state state.Ended session)
+
+-- the answers to `step`, `next` and `cont`
+abbrev pub Walks : Plain → Walk → Answer → Plain → Type 0
+Walks session how (answer.Ran text) new = (r : Option Standing) × RunsIn session.state r × GoesOn session how r text new
+Walks session how answer.NoMemory new = IsCutOff session new
+Walks session how _ new = ⊥
+
+-- the run of a session's program from its start on
+abbrev pub run_of : Plain → List ℕ → Option Standing
+run_of session bytes = Some (started session.modules session.limits.stack session.limits.heap bytes)
+
+-- a run with this input goes from its start on: it is one of the program that the modules are
+abbrev pub Begins : Plain → List ℕ → List ℕ → Plain → Type 0
+Begins session bytes text new =
+    IsRunOf (start_of session.modules session.limits.stack session.limits.heap bytes) session.modules (run_of session bytes)
+    × GoesOn session walk.Cont (run_of session bytes) text new

@@ -1,0 +1,67 @@
+-- What `where`, `print` and `list` show.
+use Rattle.std.specs.Prelude.{◌≡◌, ℕ, List, [], ◌∷◌, ◌++◌, Option, Some, None, codes, decimal}
+use Rattle.sc_base.specs.declared.key.Key.{Key}
+use Rattle.sc_meaning.specs.Versions.{Text}
+use Rattle.sc_meaning.specs.World.{World}
+use Rattle.sc_show.specs.Frames.{where_lines}
+use Rattle.sc_show.specs.Listings.{module_lines, fun_lines}
+use Rattle.sc_show.specs.Visible.{print_line}
+use Rattle.sc_words.specs.Texts.{stop_text}
+use Rattle.sc_words.specs.declared.answer.Answer.{Answer}
+use Rattle.sc_words.specs.declared.answer.Answer.TheVariants as answer
+use Rattle.sc_words.specs.declared.denied.Denied.TheVariants as denied
+use Rattle.sc_world.specs.Standing.{Standing}
+use Rattle.sc_session.specs.declared.state.State.{State}
+use Rattle.sc_session.specs.declared.state.State.TheVariants as state
+use Rattle.sc_session.specs.declared.stops.Stop.{Stop}
+use Rattle.sc_session.specs.Plain.{Plain}
+use Rattle.sc_session.specs.Going.{IsWorldOf, RunsIn}
+
+abbrev pub stop_line : Stop → List ℕ
+stop_line s = codes "> stop " ++ decimal s.number ++ stop_text s.place ++ codes "\n"
+
+abbrev pub stop_lines : List Stop → List ℕ
+stop_lines [] = []
+stop_lines (s ∷ stops) = stop_line s ++ stop_lines stops
+
+abbrev pub state_line : State → List ℕ
+state_line state.Idle = codes "> idle\n"
+state_line (state.Stopped r) = codes "> stopped\n"
+state_line (state.Paused r) = codes "> paused\n"
+state_line state.Ended = codes "> ended\n"
+
+-- the modules, the functions that they define, the stops, and the state
+abbrev pub listing : List Text → List Key → List Stop → State → List ℕ
+listing modules numbers stops s = module_lines modules ++ fun_lines modules numbers ++ stop_lines stops ++ state_line s
+
+abbrev pub list_text : Plain → List ℕ
+list_text session = listing session.modules session.numbers session.stops session.state
+
+-- the answers to `list`
+abbrev pub Lists : Plain → Answer → Type 0
+Lists session (answer.Shown lines) = lines ≡ list_text session
+Lists session answer.NoMemory = Unit {0}
+Lists session _ = ⊥
+
+-- the answers to `where`, in the world in which the run stands
+abbrev pub TellsCalls : List Text → World → Answer → Type 0
+TellsCalls modules w (answer.Shown lines) = lines ≡ where_lines modules w.frames
+TellsCalls modules w answer.NoMemory = Unit {0}
+TellsCalls modules w _ = ⊥
+
+-- the answers to `print`
+abbrev pub TellsValue : List Text → World → List ℕ → Answer → Type 0
+TellsValue modules w name (answer.Shown line) = print_line modules modules [] w name ≡ Some line
+TellsValue modules w name (answer.Refused d) = (d ≡ denied.NotVisible name) × (print_line modules modules [] w name ≡ None)
+TellsValue modules w name answer.NoMemory = Unit {0}
+TellsValue modules w name _ = ⊥
+
+-- so does a session of the run that goes on in it
+abbrev pub InWorld : Plain → (World → Type 0) → Type 0
+InWorld session P = (r : Option Standing) × RunsIn session.state r × ((w : World) × IsWorldOf r w × P w)
+
+abbrev pub ShowsCalls : Plain → Answer → Type 0
+ShowsCalls session said = InWorld session (λ w. TellsCalls session.modules w said)
+
+abbrev pub ShowsValue : Plain → List ℕ → Answer → Type 0
+ShowsValue session name said = InWorld session (λ w. TellsValue session.modules w name said)

@@ -1,0 +1,184 @@
+-- What a session answers to each command, and the session behind it.
+use Rattle.std.specs.Prelude.{◌≡◌, ◌⊎◌, ℕ, ◌+◌, true, false, List, [], Option, Some, None}
+use Rattle.sc_build.specs.Builds.{Builds, Refuses, IsMissing, IsTooLong, Asks}
+use Rattle.sc_core.specs.declared.module.Core.{Core}
+use Rattle.sc_outside.specs.Causes.{Rose}
+use Rattle.sc_outside.specs.Stored.{FileMap}
+use Rattle.sc_words.specs.declared.command.Command.{Command}
+use Rattle.sc_words.specs.declared.command.Command.TheVariants as command
+use Rattle.sc_words.specs.declared.answer.Answer.{Answer}
+use Rattle.sc_words.specs.declared.answer.Answer.TheVariants as answer
+use Rattle.sc_words.specs.declared.denied.Denied.{Denied}
+use Rattle.sc_words.specs.declared.denied.Denied.TheVariants as denied
+use Rattle.sc_words.specs.declared.options.Options.{Options}
+use Rattle.sc_words.specs.declared.stop.Walk.TheVariants as walk
+use Rattle.sc_session.specs.declared.joining.Taken.{Taken}
+use Rattle.sc_session.specs.declared.joining.Taken.TheVariants as taken
+use Rattle.sc_session.specs.declared.limits.Limits.{Limits}
+use Rattle.sc_session.specs.declared.state.State.{State}
+use Rattle.sc_session.specs.declared.state.State.TheVariants as state
+use Rattle.sc_session.specs.Plain.{Plain}
+use Rattle.sc_session.specs.States.{refusal_of}
+use Rattle.sc_session.specs.Loading.{file_of, file_or, conflict, numbers_with, with_module, in_place, without}
+use Rattle.sc_session.specs.Stopping.{Sets, without_stop}
+use Rattle.sc_session.specs.Showing.{Lists, ShowsCalls, ShowsValue}
+use Rattle.sc_session.specs.Going.{in_state, has_main, IsInput, InputDenied, IsCutOff, Walks, Begins}
+
+-- A session between two commands, what the files hold then where they tell it, and how often they have failed.
+pub record Moment : Type 0 where
+  pub session : Plain
+  pub held : Option FileMap
+  pub faults : ℕ
+
+abbrev pub moment : Plain → Option FileMap → ℕ → Moment
+moment session held faults = record { session = session; held = held; faults = faults }
+
+-- what the options give the runs of a session
+abbrev pub limits_of : Options → Limits
+limits_of options = record { stack = options.stack; heap = options.heap; turns = options.turns }
+
+-- the session that stands, with no module, as it begins
+abbrev pub empty : Limits → Plain
+empty limits = record {
+  limits = limits;
+  modules = [];
+  loaded = 0;
+  numbers = [];
+  stops = [];
+  last = 0;
+  state = state.Idle;
+  over = false;
+}
+
+-- the session is this one, and the files hold what they held
+abbrev pub Leaves : Moment → Moment → Plain → Type 0
+Leaves old new session = (new.session ≡ session) × (new.held ≡ old.held)
+
+-- why a file gives no module: it cannot be read, or its text is refused
+abbrev pub NotBuilt : Option FileMap → ℕ → ℕ → List ℕ → Denied → Type 0
+NotBuilt held before now file (denied.NoFile f) = (f ≡ file) × IsMissing held file
+NotBuilt held before now file (denied.TooLong f) = (f ≡ file) × IsTooLong held file
+NotBuilt held before now file (denied.FileFault f) = Asks held file f × Rose before now
+NotBuilt held before now file (denied.Translation r) = Refuses held file r
+NotBuilt held before now file _ = ⊥
+
+-- the same of what the code finds; nothing is said where no memory was left
+abbrev pub Unbuilt : Option FileMap → ℕ → ℕ → List ℕ → Option Denied → Type 0
+Unbuilt held before now file None = Unit {0}
+Unbuilt held before now file (Some d) = NotBuilt held before now file d
+
+-- why the module of a file does not go with the others
+abbrev pub Clashes : Moment → List ℕ → List ℕ → Denied → Type 0
+Clashes old file name d =
+    (core : Core) × Builds old.held file name core × (conflict old.session.modules old.session.numbers core ≡ Some d)
+
+abbrev pub FileDenied : Moment → List ℕ → List ℕ → ℕ → Denied → Type 0
+FileDenied old file name now d = NotBuilt old.held old.faults now file d ⊎ Clashes old file name d
+
+-- the module of a file, which goes with the others
+pub record Fits (old : Moment) (file name : List ℕ) (core : Core) : Type 0 where
+  pub builds : Builds old.held file name core
+  pub goes : conflict old.session.modules old.session.numbers core ≡ None
+
+-- the session with one module more, with one translated anew, and with one less
+abbrev pub joined : Plain → Core → Plain
+joined session core = record session {
+  modules = with_module session.modules session.loaded core;
+  loaded = session.loaded + 1;
+  numbers = numbers_with session.numbers core;
+  state = state.Idle;
+}
+
+abbrev pub replaced : Plain → Core → Plain
+replaced session core = record session {
+  modules = in_place session.modules core;
+  numbers = numbers_with session.numbers core;
+  state = state.Idle;
+}
+
+abbrev pub unloaded : Plain → List ℕ → Plain
+unloaded session name = record session { modules = without name session.modules; state = state.Idle }
+
+-- the answers to `load`, of a module in this file
+abbrev pub Loads : Moment → List ℕ → List ℕ → Answer → Moment → Type 0
+Loads old name file (answer.Loaded m) new =
+    (m ≡ name) × ((core : Core) × Fits old file name core × Leaves old new (joined old.session core))
+Loads old name file (answer.Refused d) new = Leaves old new old.session × FileDenied old file name new.faults d
+Loads old name file answer.NoMemory new = Leaves old new old.session
+Loads old name file _ new = ⊥
+
+-- the answers to `edit`, by this file
+abbrev pub Edits : Moment → List ℕ → List ℕ → Answer → Moment → Type 0
+Edits old name file (answer.Edited m) new =
+    (m ≡ name) × ((core : Core) × Fits old file name core × Leaves old new (replaced old.session core))
+Edits old name file (answer.Refused d) new = Leaves old new old.session × FileDenied old file name new.faults d
+Edits old name file answer.NoMemory new = Leaves old new old.session
+Edits old name file _ new = ⊥
+
+-- what became of a module that was translated
+abbrev pub Joins : Plain → Core → Taken → Plain → Type 0
+Joins old core taken.Joined new = (conflict old.modules old.numbers core ≡ None) × (new ≡ joined old core)
+Joins old core (taken.Denied d) new = (conflict old.modules old.numbers core ≡ Some d) × (new ≡ old)
+Joins old core taken.NoMemory new = new ≡ old
+
+-- and of one that was translated anew
+abbrev pub TakesPlace : Plain → Core → Taken → Plain → Type 0
+TakesPlace old core taken.Joined new = (conflict old.modules old.numbers core ≡ None) × (new ≡ replaced old core)
+TakesPlace old core (taken.Denied d) new = (conflict old.modules old.numbers core ≡ Some d) × (new ≡ old)
+TakesPlace old core taken.NoMemory new = new ≡ old
+
+-- why `run` is refused
+abbrev pub RunDenied : Moment → Option (List ℕ) → ℕ → Denied → Type 0
+RunDenied old file faults denied.NoMain = has_main old.session.modules ≡ false
+RunDenied old file faults d = (has_main old.session.modules ≡ true) × InputDenied old.held file old.faults faults d
+
+-- the answers to `run`
+abbrev pub Runs : Moment → Option (List ℕ) → Answer → Moment → Type 0
+Runs old file (answer.Ran text) new = (new.held ≡ old.held) × (has_main old.session.modules ≡ true)
+    × ((bytes : List ℕ) × IsInput old.held file bytes × Begins old.session bytes text new.session)
+Runs old file (answer.Refused d) new = Leaves old new old.session × RunDenied old file new.faults d
+Runs old file answer.NoMemory new = (new.held ≡ old.held) × IsCutOff old.session new.session
+Runs old file _ new = ⊥
+
+-- a command that looks at no file
+abbrev pub SameFiles : Moment → Moment → Type 0
+SameFiles old new = (new.held ≡ old.held) × (new.faults ≡ old.faults)
+
+-- The answer to a command that is not refused before it is carried out, and the session after it.
+abbrev pub Carried : Moment → Command → Answer → Moment → Type 0
+Carried old command.Nothing said new = (said ≡ answer.Silent) × (new ≡ old)
+Carried old command.Unknown said new = ⊥
+Carried old command.BadArguments said new = ⊥
+Carried old (command.Load name) said new = Loads old name (file_of name) said new
+Carried old (command.Unload name) said new = (said ≡ answer.Unloaded name) × (new.session ≡ unloaded old.session name) × SameFiles old new
+Carried old (command.Edit name file) said new = Edits old name (file_or name file) said new
+Carried old (command.Run file) said new = Runs old file said new
+Carried old (command.Stop p) said new = Sets old.session p said new.session × SameFiles old new
+Carried old (command.Delete k) said new = (said ≡ answer.Deleted k) × (new.session ≡ without_stop k old.session) × SameFiles old new
+Carried old command.Step said new = Walks old.session walk.Step said new.session × SameFiles old new
+Carried old command.Next said new = Walks old.session walk.Next said new.session × SameFiles old new
+Carried old command.Cont said new = Walks old.session walk.Cont said new.session × SameFiles old new
+Carried old command.Frames said new = ShowsCalls old.session said × (new ≡ old)
+Carried old (command.Print name) said new = ShowsValue old.session name said × (new ≡ old)
+Carried old command.List said new = Lists old.session said × (new ≡ old)
+Carried old command.Reset said new = (said ≡ answer.Reset) × (new.session ≡ in_state state.Idle old.session) × SameFiles old new
+Carried old command.Quit said new = (said ≡ answer.Bye) × (new.session ≡ record old.session { over = true }) × SameFiles old new
+
+-- a run that ended is forgotten as another is asked for
+abbrev pub unended : State → State
+unended state.Ended = state.Idle
+unended s = s
+
+abbrev pub asked : Command → Plain → Plain
+asked (command.Run file) session = in_state (unended session.state) session
+asked _ session = session
+
+-- a refused command leaves the session, and the files are not looked at
+abbrev pub Decides : Option Denied → Moment → Command → Answer → Moment → Type 0
+Decides (Some d) old c said new = (said ≡ answer.Refused d) × (new ≡ old)
+Decides None old c said new = Carried old c said new
+
+-- The answer to a command of a session that is not over, and the session after it.
+abbrev pub AnswersTo : Moment → Command → Answer → Moment → Type 0
+AnswersTo old c said new =
+    Decides (refusal_of (asked c old.session) c) (moment (asked c old.session) old.held old.faults) c said new

@@ -1,0 +1,14 @@
+//! A session of the workspace: modules that are loaded, edited and unloaded, stops, and a run that stops and goes on.
+#![tactic(auto)]
+
+mod going;
+mod input;
+mod joining;
+mod limits;
+mod listing;
+mod refusal;
+mod session;
+mod state;
+mod stops;
+
+pub use session::Session;

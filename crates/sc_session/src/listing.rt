@@ -1,0 +1,77 @@
+// What a session lists and shows.
+ghost use Rattle.std.specs.Prelude.{◌≡◌, ◌++◌, IfOk, OnOk};
+ghost use Rattle.sc_session.specs.Showing as spec;
+
+use crate::state::State;
+use crate::stops::Stop;
+use sc_base::{Bytes, Duplicate, Name, NoMemory};
+use sc_plain_parts::Text;
+use sc_plain_world::World;
+use sc_reports::put;
+use sc_show::{Numbers, fun_lines, module_lines, print_line, where_lines};
+use sc_words::{Answer, Denied, stop_line};
+use std::alloc::Global;
+
+fn state_line(state: &State) -> &'static [u8]
+    ensures { result.now ≡ spec.state_line state.now }
+{
+    match state {
+        State::Idle => b"> idle\n",
+        State::Stopped(_) => b"> stopped\n",
+        State::Paused(_) => b"> paused\n",
+        State::Ended => b"> ended\n",
+    }
+}
+
+fn put_stops(text: &mut Vec<u8>, alloc: Global, stops: &[Stop]) -> Result<(), NoMemory>
+    ensures { OnOk result (text.new.items ≡ text.old.items ++ spec.stop_lines stops.now) }
+{
+    for s in stops {
+        let line = stop_line(alloc, s.number, &s.place)?;
+        put(text, line.as_slice())?;
+    }
+    Ok(())
+}
+
+/// The modules, the functions that they define, the stops, and the state: a line for each.
+pub fn list_text(
+    alloc: Global,
+    texts: &[Text],
+    numbers: &Numbers,
+    stops: &[Stop],
+    state: &State,
+) -> Result<Bytes, NoMemory>
+    ensures { IfOk result (λ text. text ≡ spec.listing texts.now numbers.now stops.now state.now) }
+{
+    let modules = module_lines(alloc, texts)?;
+    let functions = fun_lines(alloc, texts, numbers)?;
+    let mut text = Vec::from_slice(alloc, modules.as_slice())?;
+    put(&mut text, functions.as_slice())?;
+    put_stops(&mut text, alloc, stops)?;
+    put(&mut text, state_line(state))?;
+    Ok(Bytes::from_vec(text))
+}
+
+/// The answer to `where`.
+pub fn calls_told(alloc: Global, texts: &[Text], world: &World) -> Answer
+    ensures { spec.TellsCalls texts.now world.now result }
+{
+    match where_lines(alloc, texts, world) {
+        Ok(lines) => Answer::Shown(lines),
+        Err(_) => Answer::NoMemory,
+    }
+}
+
+/// The answer to `print`.
+pub fn value_told(alloc: Global, texts: &[Text], world: &World, name: &Name) -> Answer
+    ensures { spec.TellsValue texts.now world.now name.now result }
+{
+    match print_line(alloc, texts, texts, &[], world, name) {
+        Ok(Some(line)) => Answer::Shown(line),
+        Ok(None) => match name.copy(alloc) {
+            Ok(name) => Answer::Refused(Denied::NotVisible(name)),
+            Err(_) => Answer::NoMemory,
+        },
+        Err(_) => Answer::NoMemory,
+    }
+}

@@ -1,0 +1,151 @@
+// Which commands are refused before they are carried out.
+ghost use Rattle.std.specs.Prelude.{◌≡◌};
+ghost use Rattle.sc_session.specs.States as spec;
+
+use crate::state::State;
+use crate::stops::{Stop, has_stop};
+use sc_base::Name;
+use sc_modules::is_present;
+use sc_plain_parts::Text;
+use sc_words::{Denied, StopAt};
+
+/// Why the modules cannot be changed.
+fn changing(state: &State) -> Option<Denied>
+    ensures { result ≡ spec.changing state.now }
+{
+    match state {
+        State::Idle => None,
+        State::Stopped(_) => Some(Denied::RunActive),
+        State::Paused(_) => Some(Denied::NotAtStop),
+        State::Ended => None,
+    }
+}
+
+/// Why no run can begin.
+pub fn starting(state: &State) -> Option<Denied>
+    ensures { result ≡ spec.starting state.now }
+{
+    match state {
+        State::Idle => None,
+        State::Stopped(_) => Some(Denied::RunActive),
+        State::Paused(_) => Some(Denied::RunActive),
+        State::Ended => None,
+    }
+}
+
+// Why no stop can be set or taken away.
+fn marking(state: &State) -> Option<Denied>
+    ensures { result ≡ spec.marking state.now }
+{
+    match state {
+        State::Idle => None,
+        State::Stopped(_) => None,
+        State::Paused(_) => Some(Denied::NotAtStop),
+        State::Ended => None,
+    }
+}
+
+/// Why a run can neither go to a line nor be looked at.
+pub fn stepping(state: &State) -> Option<Denied>
+    ensures { result ≡ spec.stepping state.now }
+{
+    match state {
+        State::Idle => Some(Denied::NoRun),
+        State::Stopped(_) => None,
+        State::Paused(_) => Some(Denied::NotAtStop),
+        State::Ended => Some(Denied::NotAtStop),
+    }
+}
+
+/// Why a run cannot go on.
+pub fn continuing(state: &State) -> Option<Denied>
+    ensures { result ≡ spec.continuing state.now }
+{
+    match state {
+        State::Idle => Some(Denied::NoRun),
+        State::Stopped(_) => None,
+        State::Paused(_) => None,
+        State::Ended => Some(Denied::NotAtStop),
+    }
+}
+
+fn if_present(name: &Name, texts: &[Text]) -> Option<Denied>
+    ensures { result ≡ spec.if_present name.now texts.now }
+{
+    if is_present(name, texts) {
+        Some(Denied::ModuleThere)
+    } else {
+        None
+    }
+}
+
+fn if_absent(name: &Name, texts: &[Text]) -> Option<Denied>
+    ensures { result ≡ spec.if_absent name.now texts.now }
+{
+    if is_present(name, texts) {
+        None
+    } else {
+        Some(Denied::NoModule)
+    }
+}
+
+// A place may name a module.
+fn if_nowhere(place: &StopAt, texts: &[Text]) -> Option<Denied>
+    ensures { result ≡ spec.if_nowhere place.now texts.now }
+{
+    match place {
+        StopAt::InFun(None, _) => None,
+        StopAt::InFun(Some(home), _) => if_absent(home, texts),
+        StopAt::AtLine(home, _) => if_absent(home, texts),
+    }
+}
+
+fn if_unset(k: u32, stops: &[Stop]) -> Option<Denied>
+    ensures { result ≡ spec.if_unset k stops.now }
+{
+    if has_stop(k, stops) {
+        None
+    } else {
+        Some(Denied::NoStop(k))
+    }
+}
+
+/// Why `load` is refused.
+pub fn loading(state: &State, name: &Name, texts: &[Text]) -> Option<Denied>
+    ensures { result ≡ spec.or_else (spec.changing state.now) (spec.if_present name.now texts.now) }
+{
+    match changing(state) {
+        Some(denied) => Some(denied),
+        None => if_present(name, texts),
+    }
+}
+
+/// Why `unload` and `edit` are refused.
+pub fn replacing(state: &State, name: &Name, texts: &[Text]) -> Option<Denied>
+    ensures { result ≡ spec.or_else (spec.changing state.now) (spec.if_absent name.now texts.now) }
+{
+    match changing(state) {
+        Some(denied) => Some(denied),
+        None => if_absent(name, texts),
+    }
+}
+
+/// Why `stop` is refused.
+pub fn setting(state: &State, place: &StopAt, texts: &[Text]) -> Option<Denied>
+    ensures { result ≡ spec.or_else (spec.marking state.now) (spec.if_nowhere place.now texts.now) }
+{
+    match marking(state) {
+        Some(denied) => Some(denied),
+        None => if_nowhere(place, texts),
+    }
+}
+
+/// Why `delete` is refused.
+pub fn deleting(state: &State, k: u32, stops: &[Stop]) -> Option<Denied>
+    ensures { result ≡ spec.or_else (spec.marking state.now) (spec.if_unset k stops.now) }
+{
+    match marking(state) {
+        Some(denied) => Some(denied),
+        None => if_unset(k, stops),
+    }
+}

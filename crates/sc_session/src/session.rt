@@ -1,0 +1,486 @@
+// A session: the modules that are present, the stops, a run, and the commands that change them.
+ghost use Rattle.std.specs.Prelude.{◌≡◌, ◌≤◌, ℕ, List, Option, true, false, None, Err, OnErr, IfOk, string_bytes};
+ghost use Rattle.sc_build.specs.Builds.{Answers};
+ghost use Rattle.sc_outside.specs.Stored.{FileMap};
+ghost use Rattle.sc_words.specs.Commands.{IsNamed, IsFile};
+ghost use Rattle.sc_words.specs.Parts.{is_module_name};
+ghost use Rattle.sc_words.specs.declared.command.Command.TheVariants as command;
+ghost use Rattle.sc_session.specs.Going as going;
+ghost use Rattle.sc_session.specs.Loading as loading;
+ghost use Rattle.sc_session.specs.Plain.{Plain};
+ghost use Rattle.sc_session.specs.Showing as showing;
+ghost use Rattle.sc_session.specs.States.{refusal_of};
+ghost use Rattle.sc_session.specs.Stopping as stopping;
+ghost use Rattle.sc_session.specs.Transcript as spec;
+ghost use Rattle.sc_session.specs.Transcript.{moment, AnswersTo, Carried};
+
+use crate::going::{gone, has_main, run_in, run_out_of};
+use crate::input::{Input, file_text, input_of};
+use crate::joining::{Taken, take_anew, take_away, take_new};
+use crate::limits::Limits;
+use crate::listing::{calls_told, list_text, value_told};
+use crate::refusal::{continuing, deleting, loading, replacing, setting, starting, stepping};
+use crate::state::State;
+use crate::stops::{Stop, delete_stop, places, put_stop};
+use sc_base::{Bytes, Duplicate, Items, Name, NoMemory};
+use sc_build::{BuildFault, build};
+use sc_core::Core;
+use sc_outside::Files;
+use sc_plain_parts::Text;
+use sc_show::Numbers;
+use sc_words::{Answer, Command, Denied, Options, StopAt, Walk};
+use sc_world::Run;
+use std::alloc::Global;
+use std::marker::Model;
+use std::mem;
+
+/// The modules that are present, in the order in which they were loaded; the functions that have numbers; the stops; and how a
+/// run stands.
+#[derive(Drop)]
+pub struct Session {
+    limits: Limits,
+    texts: Vec<Text>,
+    loaded: u32,
+    numbers: Numbers,
+    stops: Vec<Stop>,
+    last: u32,
+    state: State,
+    over: bool,
+}
+
+impl Model for Session {
+    ghost use Rattle.std.specs.Coded.{codes};
+    ghost use Rattle.sc_types.specs.contracts.ctype.CType as types;
+    ghost use Rattle.sc_types.specs.contracts.ctype.Signature as signatures;
+    ghost use Rattle.sc_core.specs.contracts.expression.CoreExpr as expressions;
+    ghost use Rattle.sc_core.specs.contracts.statement.CoreStmt as statements;
+    ghost use Rattle.sc_session.specs.Plain.{Plain};
+
+    ghost Value = { Plain };
+
+    ghost coded = { Prim.hlevel (codes, types.the_row.coded, signatures.the_row.coded, expressions.the_row.coded, statements.the_row.coded) };
+
+    ghost view = { λ s. record { limits = s.limits; modules = s.texts.items; loaded = s.loaded; numbers = s.numbers; stops = s.stops.items; last = s.last; state = s.state; over = s.over } };
+}
+
+impl Session {
+    /// A session without a module. Each of its runs has these bytes of stack and heap, and each go so many turns.
+    pub fn new(alloc: Global, options: &Options) -> Self
+        ensures { result ≡ spec.empty (spec.limits_of options.now) }
+    {
+        Session {
+            limits: Limits {
+                stack: options.stack,
+                heap: options.heap,
+                turns: options.turns,
+            },
+            texts: Vec::new(alloc),
+            loaded: 0,
+            numbers: Numbers::new(alloc),
+            stops: Vec::new(alloc),
+            last: 0,
+            state: State::Idle,
+            over: false,
+        }
+    }
+
+    /// Whether `quit` was accepted.
+    pub fn is_over(&self) -> bool
+        ensures { result ≡ self.now.over }
+    {
+        self.over
+    }
+
+    /// Carries out a command. A refused one leaves the session as it was, but that `run` forgets a run that ended.
+    pub fn carry_out<F: Files>(&mut self, alloc: Global, command: Command, files: &mut F) -> Answer
+        requires named { IsNamed command }
+        requires running { self.old.over ≡ false }
+        ensures step { AnswersTo (moment self.old (F.held files.old) (F.faults files.old)) command result (moment self.new (F.held files.new) (F.faults files.new)) }
+        ensures later { F.faults files.old ≤ F.faults files.new }
+        ensures held { F.held files.new ≡ F.held files.old }
+    {
+        self.ask(&command);
+        match self.refusal(&command) {
+            Some(denied) => {
+                drop(command);
+                Answer::Refused(denied)
+            }
+            None => self.carry(alloc, command, files),
+        }
+    }
+
+    // A run that ended is forgotten as another is asked for.
+    fn ask(&mut self, command: &Command)
+        ensures { self.new ≡ spec.asked command.now self.old }
+    {
+        if let Command::Run(_) = command {
+            self.forget();
+        }
+    }
+
+    fn forget(&mut self)
+        ensures { self.new ≡ going.in_state (spec.unended self.old.state) self.old }
+    {
+        if let State::Ended = &self.state {
+            self.state = State::Idle;
+        }
+    }
+
+    // Why a command is refused before it is carried out.
+    fn refusal(&self, command: &Command) -> Option<Denied>
+        ensures { result ≡ refusal_of self.now command.now }
+    {
+        match command {
+            Command::Nothing => None,
+            Command::Unknown => Some(Denied::UnknownCommand),
+            Command::BadArguments => Some(Denied::BadArguments),
+            Command::Load(name) => loading(&self.state, name, self.texts.as_slice()),
+            Command::Unload(name) => replacing(&self.state, name, self.texts.as_slice()),
+            Command::Edit(name, _) => replacing(&self.state, name, self.texts.as_slice()),
+            Command::Run(_) => starting(&self.state),
+            Command::Stop(place) => setting(&self.state, place, self.texts.as_slice()),
+            Command::Delete(k) => deleting(&self.state, *k, self.stops.as_slice()),
+            Command::Step => stepping(&self.state),
+            Command::Next => stepping(&self.state),
+            Command::Cont => continuing(&self.state),
+            Command::Frames => stepping(&self.state),
+            Command::Print(_) => stepping(&self.state),
+            Command::List => None,
+            Command::Reset => None,
+            Command::Quit => None,
+        }
+    }
+
+    // Carries out a command that is not refused.
+    fn carry<F: Files>(&mut self, alloc: Global, command: Command, files: &mut F) -> Answer
+        requires named { IsNamed command }
+        requires allowed { refusal_of self.old command ≡ None }
+        ensures step { Carried (moment self.old (F.held files.old) (F.faults files.old)) command result (moment self.new (F.held files.new) (F.faults files.new)) }
+        ensures later { F.faults files.old ≤ F.faults files.new }
+        ensures held { F.held files.new ≡ F.held files.old }
+    {
+        match command {
+            Command::Nothing => Answer::Silent,
+            Command::Unknown => unreachable!(),
+            Command::BadArguments => unreachable!(),
+            Command::Load(name) => self.load(alloc, name, files),
+            Command::Unload(name) => self.unload(name),
+            Command::Edit(name, file) => self.edit(alloc, name, file, files),
+            Command::Run(file) => self.run(alloc, file, files),
+            Command::Stop(place) => self.stop(alloc, place),
+            Command::Delete(k) => self.delete(k),
+            Command::Step => self.walk(alloc, Walk::Step),
+            Command::Next => self.walk(alloc, Walk::Next),
+            Command::Cont => self.walk(alloc, Walk::Cont),
+            Command::Frames => self.frames(alloc),
+            Command::Print(name) => self.print(alloc, name),
+            Command::List => self.list(alloc),
+            Command::Reset => self.reset(),
+            Command::Quit => self.quit(),
+        }
+    }
+
+    fn unload(&mut self, name: Name) -> Answer
+        ensures answer { result ≡ Answer.Unloaded name }
+        ensures session { self.new ≡ spec.unloaded self.old name }
+    {
+        take_away(&mut self.texts, &name);
+        self.state = State::Idle;
+        Answer::Unloaded(name)
+    }
+
+    fn stop(&mut self, alloc: Global, place: StopAt) -> Answer
+        ensures { stopping.Sets self.old place result self.new }
+    {
+        let Some(number) = self.last.checked_add(1) else {
+            drop(place);
+            return Answer::NoMemory;
+        };
+        let Ok(copy) = place.copy(alloc) else {
+            drop(place);
+            return Answer::NoMemory;
+        };
+        match put_stop(&mut self.stops, number, copy) {
+            Ok(()) => {
+                self.last = number;
+                Answer::StopSet(number, place)
+            }
+            Err(_) => {
+                drop(place);
+                Answer::NoMemory
+            }
+        }
+    }
+
+    fn delete(&mut self, k: u32) -> Answer
+        ensures answer { result ≡ Answer.Deleted k }
+        ensures session { self.new ≡ stopping.without_stop k self.old }
+    {
+        delete_stop(&mut self.stops, k);
+        Answer::Deleted(k)
+    }
+
+    fn list(&self, alloc: Global) -> Answer
+        ensures { showing.Lists self.now result }
+    {
+        match list_text(alloc, self.texts.as_slice(), &self.numbers, self.stops.as_slice(), &self.state) {
+            Ok(lines) => Answer::Shown(lines),
+            Err(_) => Answer::NoMemory,
+        }
+    }
+
+    fn reset(&mut self) -> Answer
+        ensures answer { result ≡ Answer.Reset }
+        ensures session { self.new ≡ going.in_state State.Idle self.old }
+    {
+        self.state = State::Idle;
+        Answer::Reset
+    }
+
+    fn quit(&mut self) -> Answer
+        ensures answer { result ≡ Answer.Bye }
+        ensures session { self.new ≡ record self.old { over = true } }
+    {
+        self.over = true;
+        Answer::Bye
+    }
+
+    fn frames(&self, alloc: Global) -> Answer
+        requires { going.IsGoing self.now.state }
+        ensures { showing.ShowsCalls self.now result }
+    {
+        let run = run_in(&self.state);
+        calls_told(alloc, self.texts.as_slice(), run.world())
+    }
+
+    fn print(&self, alloc: Global, name: Name) -> Answer
+        requires { going.IsGoing self.now.state }
+        ensures { showing.ShowsValue self.now name result }
+    {
+        let run = run_in(&self.state);
+        value_told(alloc, self.texts.as_slice(), run.world(), &name)
+    }
+
+    // The run goes on from where it stands.
+    fn walk(&mut self, alloc: Global, walk: Walk) -> Answer
+        requires { going.IsGoing self.old.state }
+        ensures { going.Walks self.old walk result self.new }
+    {
+        let Ok(stops) = places(alloc, self.stops.as_slice()) else {
+            return Answer::NoMemory;
+        };
+        let run = run_out_of(mem::replace(&mut self.state, State::Ended));
+        match gone(alloc, self.texts.as_slice(), stops.as_slice(), walk, self.limits.turns, run) {
+            Ok(gone) => {
+                self.state = gone.state;
+                Answer::Ran(gone.text)
+            }
+            Err(_) => Answer::NoMemory,
+        }
+    }
+
+    fn run<F: Files>(&mut self, alloc: Global, file: Option<Name>, files: &mut F) -> Answer
+        requires { IsFile file }
+        ensures answer { spec.Runs (moment self.old (F.held files.old) (F.faults files.old)) file result (moment self.new (F.held files.new) (F.faults files.new)) }
+        ensures later { F.faults files.old ≤ F.faults files.new }
+        ensures held { F.held files.new ≡ F.held files.old }
+    {
+        match has_main(alloc, self.texts.as_slice()) {
+            Ok(true) => self.run_with(alloc, file, files),
+            Ok(false) => Answer::Refused(Denied::NoMain),
+            Err(_) => Answer::NoMemory,
+        }
+    }
+
+    // Runs a program that has a `main`.
+    fn run_with<F: Files>(&mut self, alloc: Global, file: Option<Name>, files: &mut F) -> Answer
+        requires file { IsFile file }
+        requires main { going.has_main self.old.modules ≡ true }
+        ensures answer { spec.Runs (moment self.old (F.held files.old) (F.faults files.old)) file result (moment self.new (F.held files.new) (F.faults files.new)) }
+        ensures later { F.faults files.old ≤ F.faults files.new }
+        ensures held { F.held files.new ≡ F.held files.old }
+    {
+        match input_of(alloc, &file, files) {
+            Input::Bytes(bytes) => match self.start(alloc, bytes) {
+                Ok(text) => Answer::Ran(text),
+                Err(_) => Answer::NoMemory,
+            },
+            Input::Denied(denied) => Answer::Refused(denied),
+            Input::NoMemory => Answer::NoMemory,
+        }
+    }
+
+    // The run of the program goes from its start on.
+    fn start(&mut self, alloc: Global, input: Items<u8>) -> Result<Bytes, NoMemory>
+        ensures ok { IfOk result (λ text. going.Begins self.old input text self.new) }
+        ensures err { OnErr result (going.IsCutOff self.old self.new) }
+    {
+        let stops = places(alloc, self.stops.as_slice())?;
+        let stack = u64::from(self.limits.stack);
+        let heap = u64::from(self.limits.heap);
+        let run = Run::start(alloc, self.texts.as_slice(), stack, heap, input)?;
+        self.state = State::Ended;
+        let gone = gone(alloc, self.texts.as_slice(), stops.as_slice(), Walk::Cont, self.limits.turns, run)?;
+        self.state = gone.state;
+        Ok(gone.text)
+    }
+
+    fn load<F: Files>(&mut self, alloc: Global, name: Name, files: &mut F) -> Answer
+        requires { is_module_name name ≡ true }
+        ensures answer { spec.Loads (moment self.old (F.held files.old) (F.faults files.old)) name (loading.file_of name) result (moment self.new (F.held files.new) (F.faults files.new)) }
+        ensures later { F.faults files.old ≤ F.faults files.new }
+        ensures held { F.held files.new ≡ F.held files.old }
+    {
+        match file_of(alloc, &name) {
+            Ok(file) => self.load_from(alloc, name, file.as_str(), files),
+            Err(_) => Answer::NoMemory,
+        }
+    }
+
+    // Loads a module from its file.
+    fn load_from<F: Files>(
+        &mut self,
+        alloc: Global,
+        name: Name,
+        file: &str,
+        files: &mut F,
+    ) -> Answer
+        ensures answer { spec.Loads (moment self.old (F.held files.old) (F.faults files.old)) name file.now result (moment self.new (F.held files.new) (F.faults files.new)) }
+        ensures later { F.faults files.old ≤ F.faults files.new }
+        ensures held { F.held files.new ≡ F.held files.old }
+    {
+        match build(alloc, &name, file, files) {
+            Ok(core) => match self.take(alloc, core) {
+                Taken::Joined => Answer::Loaded(name),
+                Taken::Denied(denied) => Answer::Refused(denied),
+                Taken::NoMemory => Answer::NoMemory,
+            },
+            Err(fault) => match unbuilt(alloc, file, fault) {
+                Some(denied) => Answer::Refused(denied),
+                None => Answer::NoMemory,
+            },
+        }
+    }
+
+    // A module that was translated is put behind the others, where it goes with them.
+    fn take(&mut self, alloc: Global, core: Core) -> Taken
+        ensures { spec.Joins self.old core result self.new }
+    {
+        let Some(loaded) = self.loaded.checked_add(1) else {
+            drop(core);
+            return Taken::NoMemory;
+        };
+        match take_new(alloc, &mut self.texts, self.loaded, &mut self.numbers, core) {
+            Taken::Joined => {
+                self.loaded = loaded;
+                self.state = State::Idle;
+                Taken::Joined
+            }
+            Taken::Denied(denied) => Taken::Denied(denied),
+            Taken::NoMemory => Taken::NoMemory,
+        }
+    }
+
+    fn edit<F: Files>(
+        &mut self,
+        alloc: Global,
+        name: Name,
+        file: Option<Name>,
+        files: &mut F,
+    ) -> Answer
+        requires named { is_module_name name ≡ true }
+        requires file { IsFile file }
+        ensures answer { spec.Edits (moment self.old (F.held files.old) (F.faults files.old)) name (loading.file_or name file) result (moment self.new (F.held files.new) (F.faults files.new)) }
+        ensures later { F.faults files.old ≤ F.faults files.new }
+        ensures held { F.held files.new ≡ F.held files.old }
+    {
+        match file {
+            Some(file) => self.edit_from(alloc, name, file_text(&file), files),
+            None => match file_of(alloc, &name) {
+                Ok(file) => self.edit_from(alloc, name, file.as_str(), files),
+                Err(_) => Answer::NoMemory,
+            },
+        }
+    }
+
+    // Translates a module anew from a file.
+    fn edit_from<F: Files>(
+        &mut self,
+        alloc: Global,
+        name: Name,
+        file: &str,
+        files: &mut F,
+    ) -> Answer
+        ensures answer { spec.Edits (moment self.old (F.held files.old) (F.faults files.old)) name file.now result (moment self.new (F.held files.new) (F.faults files.new)) }
+        ensures later { F.faults files.old ≤ F.faults files.new }
+        ensures held { F.held files.new ≡ F.held files.old }
+    {
+        match build(alloc, &name, file, files) {
+            Ok(core) => match self.replace(alloc, core) {
+                Taken::Joined => Answer::Edited(name),
+                Taken::Denied(denied) => Answer::Refused(denied),
+                Taken::NoMemory => Answer::NoMemory,
+            },
+            Err(fault) => match unbuilt(alloc, file, fault) {
+                Some(denied) => Answer::Refused(denied),
+                None => Answer::NoMemory,
+            },
+        }
+    }
+
+    // A module that was translated takes the place of the one that has its name, where it goes with the others.
+    fn replace(&mut self, alloc: Global, core: Core) -> Taken
+        ensures { spec.TakesPlace self.old core result self.new }
+    {
+        match take_anew(alloc, &mut self.texts, &mut self.numbers, core) {
+            Taken::Joined => {
+                self.state = State::Idle;
+                Taken::Joined
+            }
+            Taken::Denied(denied) => Taken::Denied(denied),
+            Taken::NoMemory => Taken::NoMemory,
+        }
+    }
+}
+
+// The file of a module.
+fn file_of(alloc: Global, name: &Name) -> Result<String, NoMemory>
+    requires { is_module_name name.now ≡ true }
+    ensures { IfOk result (λ file. string_bytes file ≡ loading.file_of name.now) }
+{
+    let text = name_text(name);
+    match format!(in alloc; "{text}.c") {
+        Ok(file) => Ok(file),
+        Err(_) => Err(NoMemory),
+    }
+}
+
+// Why there is no module; none where no memory was left.
+fn unbuilt(alloc: Global, file: &str, fault: BuildFault) -> Option<Denied>
+    ensures { (held : Option FileMap) (before now : ℕ) (name : List ℕ) → Answers held before now file.now name (Err fault) → spec.Unbuilt held before now file.now result }
+{
+    match fault {
+        BuildFault::Refused(refusal) => Some(Denied::Translation(refusal)),
+        BuildFault::Missing => match Bytes::from_slice(alloc, file.as_bytes()) {
+            Ok(file) => Some(Denied::NoFile(file)),
+            Err(_) => None,
+        },
+        BuildFault::TooLong => match Bytes::from_slice(alloc, file.as_bytes()) {
+            Ok(file) => Some(Denied::TooLong(file)),
+            Err(_) => None,
+        },
+        BuildFault::File(name) => Some(Denied::FileFault(name)),
+        BuildFault::NoMemory => None,
+    }
+}
+
+// A module's name as text: its bytes are letters, digits and underscores.
+fn name_text(name: &Name) -> &str
+    requires { is_module_name name.now ≡ true }
+    ensures { result.now ≡ name.now }
+{
+    match std::str::from_utf8(name.as_slice()) {
+        Ok(text) => text,
+        Err(_) => unreachable!(),
+    }
+}

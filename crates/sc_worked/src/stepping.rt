@@ -1,0 +1,89 @@
+// Worked programs that stop and go on, with the places where they halt.
+use crate::reader::{Reader, name};
+use sc_base::{Items, NoMemory};
+use sc_plain::Ended;
+use sc_words::{StopAt, Walk};
+use sc_world::{Halt, Run};
+use std::alloc::Global;
+use std::test::Fail;
+
+// int main(void) { / int x = 3; / x = x + 1; / return x; / }
+const STRAIGHT: &str = "
+line:1 blk blk var:i:4 { line:2 num:3 piece:0:i init:1:0 line:3 auto:i:1:0 auto:i:1:0 get:i num:1 op:add set:i ;
+line:4 auto:i:1:0 get:i ret line:1 }:1 def:main:i:16 module:m";
+
+// int f(int i) { / return i + 1; / } int main(void) { / int x; / x = f(1) + f(2); / return x; / }
+const TWICE: &str = "
+line:1 blk var:i:4 blk { line:2 auto:i:0:0 get:i num:1 op:add ret line:1 }:1 def:f:i,i:32
+line:3 blk blk var:i:4 { line:5 auto:i:1:0 fn:f:i,i at:i,i num:1 call:i:1 fn:f:i,i at:i,i num:2 call:i:1 op:add set:i ;
+line:6 auto:i:1:0 get:i ret line:3 }:1 def:main:i:32 module:m";
+
+// The walks of a session, a letter each: to the next stop, to the next line, to the next line of an active call. The first one
+// starts the run.
+fn walk_of(letter: u8) -> Walk {
+    match letter {
+        115 => Walk::Step,
+        110 => Walk::Next,
+        _ => Walk::Cont,
+    }
+}
+
+// Where a run halts: the function that was entered, with a letter before it, the line, or the end.
+fn place(run: &Run, halt: Halt) -> i64 {
+    let line = match run.world().innermost() {
+        None => 0,
+        Some(frame) => i64::from(frame.line),
+    };
+    match (halt, run.end()) {
+        (Halt::AtLine, _) => line,
+        (Halt::Entered, _) => -1,
+        (Halt::Paused(_), _) => -2,
+        (Halt::Ended, Some(Ended::Exit(status))) => 1000 + i64::from(*status),
+        (Halt::Ended, _) => -3,
+    }
+}
+
+// The places where a program halts, one for each walk.
+fn halted(
+    alloc: Global,
+    program: &str,
+    stops: &[StopAt],
+    walks: &str,
+) -> Result<Vec<i64>, NoMemory> {
+    let mut reader = Reader::new(alloc);
+    for line in program.split('\n') {
+        for word in line.split(' ') {
+            if !word.is_empty() {
+                reader.read(word)?;
+            }
+        }
+    }
+    let texts = reader.texts.as_slice();
+    let mut run = Run::start(alloc, texts, 1_048_576, 4_194_304, Items::new(alloc))?;
+    let mut places = Vec::new(alloc);
+    for walk in walks.as_bytes() {
+        let halt = run.go(texts, stops, walk_of(*walk), 10_000);
+        places.push(place(&run, halt))?;
+    }
+    Ok(places)
+}
+
+#[test]
+fn a_run_halts_at_a_stop_and_at_each_line(rt: HostRuntime) -> Result<(), Fail> {
+    let alloc = rt.alloc();
+    let stops = vec![in alloc; StopAt::InFun(None, name(alloc, b"main")?)]?;
+    let places = halted(alloc, STRAIGHT, stops.as_slice(), "csssc")?;
+    assert_eq!(rt; places.as_slice(), &[-1, 2, 3, 4, 1004]);
+    Ok(())
+}
+
+#[test]
+fn the_next_line_is_one_of_an_active_call(rt: HostRuntime) -> Result<(), Fail> {
+    let alloc = rt.alloc();
+    let places = halted(alloc, TWICE, &[], "ssnc")?;
+    assert_eq!(rt; places.as_slice(), &[5, 2, 6, 1005]);
+    let stops = vec![in alloc; StopAt::AtLine(name(alloc, b"m")?, 2)]?;
+    let places = halted(alloc, TWICE, stops.as_slice(), "cnnc")?;
+    assert_eq!(rt; places.as_slice(), &[2, 2, 6, 1005]);
+    Ok(())
+}

@@ -1,0 +1,5 @@
+pub mod Standing
+pub mod Wants
+pub mod Goes
+pub mod Turns
+pub mod Meant

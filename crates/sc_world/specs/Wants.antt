@@ -1,0 +1,52 @@
+-- What a go halts at.
+use Rattle.std.specs.Prelude.{ℕ, Bool, true, false, ◌||◌, nat_le, if◌then◌else◌, List, [], ◌∷◌, Option, Some, None}
+use Rattle.sc_meaning.specs.World.{Frame}
+use Rattle.sc_plain.specs.declared.stepped.Shown.{Shown}
+use Rattle.sc_plain.specs.declared.stepped.Shown.TheVariants as shown
+use Rattle.sc_plain.specs.Steps.{is_over}
+use Rattle.sc_words.specs.declared.stop.StopAt.{StopAt}
+use Rattle.sc_words.specs.declared.stop.Event.TheVariants.{Enter, At}
+use Rattle.sc_words.specs.declared.stop.Walk.{Walk}
+use Rattle.sc_words.specs.declared.stop.Walk.TheVariants.{Cont, Step, Next}
+use Rattle.sc_words.specs.Stops.{is_matched}
+use Rattle.sc_world.specs.declared.halt.Halt.{Halt}
+use Rattle.sc_world.specs.declared.halt.Halt.TheVariants.{Entered, AtLine, Ended}
+use Rattle.sc_world.specs.Standing.{Standing, world_of}
+
+-- the stops that are set, the walk, and how many calls were entered as the go began
+pub record Want : Type 0 where
+  pub stops : List StopAt
+  pub walk : Walk
+  pub since : ℕ
+
+-- A walk by steps halts at each line. One to the next line passes over calls: it halts at a line of a call that was active as the
+-- go began, which is one that was entered before.
+abbrev pub walks : Walk → ℕ → Frame → Bool
+walks Cont since f = false
+walks Step since f = true
+walks Next since f = nat_le f.enter since
+
+abbrev pub halt_if : Bool → Halt → Option Halt
+halt_if yes halt = if yes then Some halt else None
+
+-- whether a line that was reached in a call, or a call that was entered, is wanted
+abbrev pub line_wanted : Want → ℕ → Frame → Option Halt
+line_wanted want line f = halt_if (is_matched want.stops (At f.home line) || walks want.walk want.since f) AtLine
+
+abbrev pub entry_wanted : Want → Frame → Option Halt
+entry_wanted want f = halt_if (is_matched want.stops (Enter f.key f.home)) Entered
+
+-- whether what was shown, in the innermost call, is wanted
+abbrev pub wanted : Want → Shown → List Frame → Option Halt
+wanted want shown [] = None
+wanted want shown.Nothing (f ∷ fs) = None
+wanted want (shown.Line line) (f ∷ fs) = line_wanted want line f
+wanted want shown.Entered (f ∷ fs) = entry_wanted want f
+
+abbrev pub else_over : Option Halt → Bool → Option Halt
+else_over (Some halt) over = Some halt
+else_over None over = halt_if over Ended
+
+-- what halts a run where it stands, if anything does: an event that is wanted, or its end
+abbrev pub halts : Want → Standing → Option Halt
+halts want m = else_over (wanted want m.shown (world_of m.state).frames) (is_over m.state)

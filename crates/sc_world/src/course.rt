@@ -1,0 +1,10 @@
+// How far a run is.
+
+use sc_plain::{Ended, Going, Shown};
+
+/// A run goes on, where what was shown is still to be looked at; or it is over.
+#[derive(Drop)]
+pub enum Course {
+    On(Going, Shown),
+    Over(Ended),
+}

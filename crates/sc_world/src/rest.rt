@@ -1,0 +1,123 @@
+// Where a go leaves a run.
+ghost use Rattle.std.specs.Prelude.{◌≡◌, [], ℕ};
+ghost use Rattle.sc_meaning.specs.World as worlds;
+ghost use Rattle.sc_machine.specs.Runs as runs;
+ghost use Rattle.sc_plain.specs.Ends.{end_of};
+ghost use Rattle.sc_plain.specs.declared.stepped.Shown.TheVariants.{Nothing};
+ghost use Rattle.sc_plain_leaves.specs.Gives.{ending_of};
+ghost use Rattle.sc_world.specs.Goes as goes;
+ghost use Rattle.sc_world.specs.Standing as standing;
+ghost use Rattle.sc_world.specs.Turns.{Comes, standing_at};
+ghost use Rattle.sc_world.specs.declared.course.Course.TheVariants.{On};
+ghost use Rattle.sc_world.specs.declared.halt.Halt.TheVariants.{Paused};
+
+use crate::course::Course;
+use crate::halt::Halt;
+use crate::look::Want;
+use crate::turn::{Rest, turns_taken};
+use sc_base::Stack;
+use sc_plain::{Caller, Ended, Going, Shown, Stepped, status_of};
+use sc_plain_leaves::Stop;
+use sc_plain_parts::Text;
+use sc_plain_world::World;
+use sc_values::Answer;
+
+/// Why a go halted, and how the run goes on from there, or ended.
+#[derive(Drop)]
+pub struct Rested {
+    pub halt: Halt,
+    pub course: Course,
+}
+
+// A run that could not go on is over.
+fn over_by(stop: Stop) -> Ended
+    ensures { (w : worlds.World) → end_of result w ≡ ending_of stop w }
+{
+    match stop {
+        Stop::NoRoom => Ended::NoRoom,
+        Stop::Undefined(told) => Ended::Undefined(told),
+        Stop::Exit(status) => Ended::Exit(status),
+        Stop::StackFull(key) => Ended::StackFull(key),
+        Stop::BirthLimit => Ended::BirthLimit,
+    }
+}
+
+// A run that goes on from there.
+fn stays(halt: Halt, going: Going) -> Rested
+    ensures halt { result.halt ≡ halt }
+    ensures course { result.course ≡ On going Nothing }
+{
+    Rested {
+        halt,
+        course: Course::On(going, Shown::Nothing),
+    }
+}
+
+// The answer of `main` ends the run with its status.
+fn came_back(halt: Halt, a: &Answer, world: &mut World) -> Rested
+    ensures { (k : ℕ) (out : goes.Gone) → out ≡ (halt, standing_at (runs.Answers a.now [] world.old) Nothing k) → goes.Leaves out result.halt (standing.standing result.course [] world.new k) }
+{
+    match world.tick() {
+        Ok(()) => Rested {
+            halt,
+            course: Course::Over(Ended::Exit(status_of(a))),
+        },
+        Err(_) => Rested {
+            halt: Halt::Ended,
+            course: Course::Over(Ended::NoRoom),
+        },
+    }
+}
+
+// An answer is the run's where no caller waits for it.
+fn answered(halt: Halt, a: Answer, callers: &Stack<Caller>, world: &mut World) -> Rested
+    ensures { (k : ℕ) (out : goes.Gone) → out ≡ (halt, standing_at (runs.Answers a callers.now world.old) Nothing k) → goes.Leaves out result.halt (standing.standing result.course callers.now world.new k) }
+{
+    if callers.is_empty() {
+        came_back(halt, &a, world)
+    } else {
+        stays(halt, Going::Answers(a))
+    }
+}
+
+// A run that rests; where `main` came back it is over.
+fn closed(rest: Rest, callers: &Stack<Caller>, world: &mut World) -> Rested
+    ensures { (k : ℕ) (out : goes.Gone) → out ≡ (rest.halt, standing_at (standing.state_of rest.going callers.now world.old) Nothing k) → goes.Leaves out result.halt (standing.standing result.course callers.now world.new k) }
+{
+    match rest.going {
+        Going::Answers(a) => answered(rest.halt, a, callers, world),
+        Going::Runs(doing, stmts, env, active) => {
+            stays(rest.halt, Going::Runs(doing, stmts, env, active))
+        }
+        Going::Makes(t, v, vs, caller) => stays(rest.halt, Going::Makes(t, v, vs, caller)),
+    }
+}
+
+// What the turns of a go came to.
+fn rested(given: Result<Rest, Stop>, callers: &Stack<Caller>, world: &mut World) -> Rested
+    ensures { (k : ℕ) (out : goes.Gone) → Comes out given callers.now world.old k → goes.Leaves out result.halt (standing.standing result.course callers.now world.new k) }
+{
+    match given {
+        Ok(rest) => closed(rest, callers, world),
+        Err(stop) => Rested {
+            halt: Halt::Ended,
+            course: Course::Over(over_by(stop)),
+        },
+    }
+}
+
+/// A go of a run, of so many turns at most.
+pub fn goes_on(
+    texts: &[Text],
+    want: &Want,
+    first: Stepped,
+    turns: u64,
+    callers: &mut Stack<Caller>,
+    steps: &mut u64,
+    world: &mut World,
+) -> Rested
+    ensures { goes.Leaves (goes.gone turns (Paused turns) want.now texts.now (standing_at (standing.state_of first.going callers.old world.old) first.shown steps.old)) result.halt (standing.standing result.course callers.new world.new steps.new) }
+{
+    let given = turns_taken(texts, want, first, turns, callers, steps, world);
+    rested(given, callers, world)
+}

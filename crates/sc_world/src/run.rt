@@ -1,0 +1,144 @@
+// A run that is kept between goes (ANSI 2.1.2.2, 2.1.2.3).
+ghost use Rattle.std.specs.Prelude.{◌≡◌, IfOk, MatchOption, Some, false, reverse};
+ghost use Rattle.sc_meaning.specs.Behaviour as behaviour;
+ghost use Rattle.sc_meaning.specs.World as worlds;
+ghost use Rattle.sc_plain.specs.Ends.{end_of, start_of};
+ghost use Rattle.sc_plain_world.specs.Outputs.{output};
+ghost use Rattle.sc_world.specs.Goes.{Goes, started};
+ghost use Rattle.sc_world.specs.Meant.{IsRunOf};
+ghost use Rattle.sc_world.specs.Standing as standing;
+
+use crate::begin::{begun, course_of};
+use crate::course::Course;
+use crate::halt::Halt;
+use crate::look::Want;
+use crate::rest::goes_on;
+use sc_base::{Items, NoMemory, Stack};
+use sc_plain::{Caller, Ended, Stepped};
+use sc_plain_parts::Text;
+use sc_plain_world::{Frame, World};
+use sc_words::{StopAt, Walk};
+use std::alloc::Global;
+use std::marker::Model;
+use std::mem;
+
+/// A run of a program that does not change: how it goes on, or how it ended; the callers that wait; the world, with all that
+/// happened; and how many steps were done since the call of `main` went out.
+#[derive(Drop)]
+pub struct Run {
+    course: Course,
+    callers: Stack<Caller>,
+    world: World,
+    steps: u64,
+}
+
+impl Model for Run {
+    ghost use Rattle.std.specs.Prelude.{Option};
+    ghost use Rattle.sc_world.specs.Standing as spec;
+
+    ghost Value = { Option spec.Standing };
+
+    ghost view = { λ r. spec.standing r.course r.callers r.world r.steps };
+}
+
+impl Run {
+    /// A run of these texts from its start on: the static objects are born, and the call of `main` goes out. Its input and
+    /// the bytes that stack and heap may have are given. A run that is over at once says so at its first go.
+    ///
+    /// # Errors
+    ///
+    /// `NoMemory` alone.
+    pub fn start(
+        alloc: Global,
+        texts: &[Text],
+        stack: u64,
+        heap: u64,
+        input: Items<u8>,
+    ) -> Result<Run, NoMemory>
+        ensures starts { IfOk result (λ r. r ≡ Some (started texts.now stack heap input)) }
+        ensures meant { IfOk result (λ r. IsRunOf (start_of texts.now stack heap input) texts.now r) }
+    {
+        let mut world = World::new(alloc, stack, heap, input)?;
+        let callers = Stack::new(alloc);
+        let first = begun(texts, &callers, &mut world);
+        let course = course_of(first)?;
+        Ok(Run {
+            course,
+            callers,
+            world,
+            steps: 0,
+        })
+    }
+
+    /// The run goes on, up to the first place that halts it: a function at which a stop is set is entered; a line is reached at
+    /// which one is set, or at which the walk halts; or the run is over. It takes no more turns than are given, and is
+    /// paused where none of those comes in them. A run that is over stays as it is.
+    pub fn go(&mut self, texts: &[Text], stops: &[StopAt], walk: Walk, turns: u64) -> Halt
+        ensures goes { Goes texts.now stops.now walk turns self.old result self.new }
+        ensures meant { (s : behaviour.Start) → IsRunOf s texts.now self.old → IsRunOf s texts.now self.new }
+    {
+        match mem::replace(&mut self.course, Course::Over(Ended::NoRoom)) {
+            Course::Over(ended) => {
+                self.course = Course::Over(ended);
+                Halt::Ended
+            }
+            Course::On(going, shown) => {
+                let want = Want {
+                    stops,
+                    walk,
+                    since: self.world.enters(),
+                };
+                let first = Stepped { going, shown };
+                let rested = goes_on(
+                    texts,
+                    &want,
+                    first,
+                    turns,
+                    &mut self.callers,
+                    &mut self.steps,
+                    &mut self.world,
+                );
+                self.course = rested.course;
+                rested.halt
+            }
+        }
+    }
+
+    /// How the run ended, where it is over.
+    pub fn end(&self) -> Option<&Ended>
+        ensures { MatchOption result (standing.is_ended self.now ≡ false) (λ ended. standing.EndedSo self.now ended.now) }
+    {
+        match &self.course {
+            Course::On(_, _) => None,
+            Course::Over(ended) => Some(ended),
+        }
+    }
+
+    /// The world of the run, with all that happened in it.
+    pub fn world(&self) -> &World
+        ensures { (w : worlds.World) → standing.world_in self.now ≡ Some w → result.now ≡ w }
+    {
+        &self.world
+    }
+
+    /// The bytes that the program wrote since its start.
+    pub fn output(&self) -> &[u8]
+        ensures { (w : worlds.World) → standing.world_in self.now ≡ Some w → result.now ≡ output w.trail }
+    {
+        self.world.output()
+    }
+
+    /// The active calls, the innermost last.
+    pub fn frames(&self) -> &[Frame]
+        ensures { (w : worlds.World) → standing.world_in self.now ≡ Some w → reverse result.now ≡ w.frames }
+    {
+        self.world.frames()
+    }
+
+    /// How many steps were done since the call of `main` went out.
+    pub fn steps(&self) -> u64
+        ensures { (m : standing.Standing) → self.now ≡ Some m → result ≡ m.steps }
+    {
+        self.steps
+    }
+}
