@@ -70,7 +70,7 @@ fn mention_all(
     declared: &[Declared],
 ) -> Result<(), NoMemory>
     ensures ok { OnOk result (keys.new.keys ≡ spec.mentioned keys.old.keys declared.now) }
-    ensures err { OnErr result (take (length keys.old.keys) keys.new.keys ≡ keys.old.keys) }
+    ensures front { take (length keys.old.keys) keys.new.keys ≡ keys.old.keys }
 {
     for d in declared {
         if takes_number(d) {
@@ -112,6 +112,7 @@ impl Numbers {
     pub fn mention(&mut self, alloc: Global, core: &Core) -> Result<(), NoMemory>
         ensures ok { OnOk result (self.new ≡ spec.mentioned self.old core.now.declared) }
         ensures err { OnErr result (self.new ≡ self.old) }
+        ensures front { take (length self.old) self.new ≡ self.old }
     {
         let len = self.keys.len();
         match mention_all(alloc, &mut self.keys, core.declared.as_slice()) {

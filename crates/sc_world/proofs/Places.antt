@@ -30,10 +30,10 @@ use Rattle.sc_world.proofs.Courses.{world_there, over_here}
 use Rattle.sc_world.proofs.Kept.{keeps, begins}
 
 -- a go of a run that goes on
-pub goes_so : (texts : List Text) (stops : List StopAt) (walk : Walk) (turns : ℕ) (course : Course) (g : Going) (x : Shown) (cs : List Caller) (w : World) (k since : ℕ) (h : Halt) (new : Option Standing) → course ≡ On g x → since ≡ w.enters → Leaves (gone turns (Paused turns) (record { stops = stops; walk = walk; since = since }) texts (standing_at (state_of g cs w) x k)) h new → Goes texts stops walk turns (standing course cs w k) h new
-goes_so texts stops walk turns course g x cs w k since h new is at p =
-    subst (λ c. Goes texts stops walk turns (standing c cs w k) h new) (sym is)
-    (subst (λ n. Leaves (gone turns (Paused turns) (record { stops = stops; walk = walk; since = n }) texts (standing_at (state_of g cs w) x k)) h new) (at ∙ sym (ap (λ v. v.enters) (world_there g cs w))) p)
+pub goes_so : (texts : List Text) (want : Want) (turns : ℕ) (course : Course) (g : Going) (x : Shown) (cs : List Caller) (w : World) (k : ℕ) (h : Halt) (new : Option Standing) → course ≡ On g x → want.since ≡ w.enters → Leaves (gone turns (Paused turns) want texts (standing_at (state_of g cs w) x k)) h new → Goes texts want.stops want.walk turns (standing course cs w k) h new
+goes_so texts want turns course g x cs w k h new is at p =
+    subst (λ c. Goes texts want.stops want.walk turns (standing c cs w k) h new) (sym is)
+    (subst (λ n. Leaves (gone turns (Paused turns) (record { stops = want.stops; walk = want.walk; since = n }) texts (standing_at (state_of g cs w) x k)) h new) (at ∙ sym (ap (λ v. v.enters) (world_there g cs w))) p)
 
 -- a run that is over stays so
 over_stays : (texts : List Text) (stops : List StopAt) (walk : Walk) (turns : ℕ) (k : ℕ) (r : Option Ending) → Goes texts stops walk turns (ended_so k r) halt.Ended (ended_so k r)

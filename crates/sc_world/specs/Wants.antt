@@ -27,7 +27,7 @@ walks Step since f = true
 walks Next since f = nat_le f.enter since
 
 abbrev pub halt_if : Bool → Halt → Option Halt
-halt_if yes halt = if yes then Some halt else None
+halt_if here halt = if here then Some halt else None
 
 -- whether a line that was reached in a call, or a call that was entered, is wanted
 abbrev pub line_wanted : Want → ℕ → Frame → Option Halt

@@ -18,11 +18,7 @@ use sc_plain_world::World;
 /// # Errors
 ///
 /// How the run ends in it.
-pub fn begun(
-    texts: &[Text],
-    callers: &Stack<Caller>,
-    world: &mut World,
-) -> Result<Going, Stop>
+pub fn begun(texts: &[Text], callers: &Stack<Caller>, world: &mut World) -> Result<Going, Stop>
     ensures { Steps (goes.first_from texts.now callers.now world.old) result callers.now world.new }
 {
     statics_born(texts, world)?;

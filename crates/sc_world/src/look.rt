@@ -13,6 +13,7 @@ use std::alloc::Global;
 use std::marker::Model;
 
 /// What a go halts at: the stops that are set, and the walk. `since` is how many calls were entered as the go began.
+#[derive(Drop)]
 pub struct Want<'a> {
     pub stops: &'a [StopAt],
     pub walk: Walk,
@@ -45,7 +46,7 @@ fn stops_at_line(
     line: u32,
     frame: &Frame,
 ) -> Result<bool, NoMemory>
-    ensures { IfOk result (λ yes. yes ≡ words.is_matched stops.now (event.At frame.now.home line)) }
+    ensures { IfOk result (λ here. here ≡ words.is_matched stops.now (event.At frame.now.home line)) }
 {
     let event = Event::At(frame.home.copy(alloc)?, line);
     Ok(matched(stops, &event))
@@ -53,7 +54,7 @@ fn stops_at_line(
 
 // Whether a stop is set at the function of a call.
 fn stops_in_function(alloc: Global, stops: &[StopAt], frame: &Frame) -> Result<bool, NoMemory>
-    ensures { IfOk result (λ yes. yes ≡ words.is_matched stops.now (event.Enter frame.now.key frame.now.home)) }
+    ensures { IfOk result (λ here. here ≡ words.is_matched stops.now (event.Enter frame.now.key frame.now.home)) }
 {
     let key = frame.key.copy(alloc)?;
     let event = Event::Enter(key, frame.home.copy(alloc)?);
@@ -61,10 +62,10 @@ fn stops_in_function(alloc: Global, stops: &[StopAt], frame: &Frame) -> Result<b
 }
 
 /// A halt where there is a reason for it.
-pub fn halt_if(yes: bool, halt: Halt) -> Option<Halt>
-    ensures { result ≡ spec.halt_if yes halt }
+pub fn halt_if(here: bool, halt: Halt) -> Option<Halt>
+    ensures { result ≡ spec.halt_if here halt }
 {
-    if yes { Some(halt) } else { None }
+    if here { Some(halt) } else { None }
 }
 
 // Whether a line that was reached is wanted.
@@ -77,8 +78,8 @@ fn line_wanted(
     ensures { IfOk result (λ halt. halt ≡ spec.line_wanted want.now line frame.now) }
 {
     let stops_here = stops_at_line(alloc, want.stops, line, frame)?;
-    let yes = stops_here || walks(want.walk, want.since, frame);
-    Ok(halt_if(yes, Halt::AtLine))
+    let halts_here = stops_here || walks(want.walk, want.since, frame);
+    Ok(halt_if(halts_here, Halt::AtLine))
 }
 
 // Whether a function that was entered is wanted.

@@ -84,17 +84,18 @@ fn answered(halt: Halt, a: Answer, callers: &Stack<Caller>, world: &mut World) -
 fn closed(rest: Rest, callers: &Stack<Caller>, world: &mut World) -> Rested
     ensures { (k : ℕ) (out : goes.Gone) → out ≡ (rest.halt, standing_at (standing.state_of rest.going callers.now world.old) Nothing k) → goes.Leaves out result.halt (standing.standing result.course callers.now world.new k) }
 {
-    match rest.going {
-        Going::Answers(a) => answered(rest.halt, a, callers, world),
+    let Rest { halt, going } = rest;
+    match going {
+        Going::Answers(a) => answered(halt, a, callers, world),
         Going::Runs(doing, stmts, env, active) => {
-            stays(rest.halt, Going::Runs(doing, stmts, env, active))
+            stays(halt, Going::Runs(doing, stmts, env, active))
         }
-        Going::Makes(t, v, vs, caller) => stays(rest.halt, Going::Makes(t, v, vs, caller)),
+        Going::Makes(t, v, vs, caller) => stays(halt, Going::Makes(t, v, vs, caller)),
     }
 }
 
 // What the turns of a go came to.
-fn rested(given: Result<Rest, Stop>, callers: &Stack<Caller>, world: &mut World) -> Rested
+fn left_by(given: Result<Rest, Stop>, callers: &Stack<Caller>, world: &mut World) -> Rested
     ensures { (k : ℕ) (out : goes.Gone) → Comes out given callers.now world.old k → goes.Leaves out result.halt (standing.standing result.course callers.now world.new k) }
 {
     match given {
@@ -106,8 +107,8 @@ fn rested(given: Result<Rest, Stop>, callers: &Stack<Caller>, world: &mut World)
     }
 }
 
-/// A go of a run, of so many turns at most.
-pub fn goes_on(
+// A go of a run that goes on, of so many turns at most.
+fn goes_on(
     texts: &[Text],
     want: &Want,
     first: Stepped,
@@ -119,5 +120,29 @@ pub fn goes_on(
     ensures { goes.Leaves (goes.gone turns (Paused turns) want.now texts.now (standing_at (standing.state_of first.going callers.old world.old) first.shown steps.old)) result.halt (standing.standing result.course callers.new world.new steps.new) }
 {
     let given = turns_taken(texts, want, first, turns, callers, steps, world);
-    rested(given, callers, world)
+    left_by(given, callers, world)
+}
+
+/// A go of a run, of so many turns at most. One that is over stays so.
+pub fn goes_from(
+    course: Course,
+    texts: &[Text],
+    want: &Want,
+    turns: u64,
+    callers: &mut Stack<Caller>,
+    steps: &mut u64,
+    world: &mut World,
+) -> Rested
+    ensures { want.now.since ≡ world.old.enters → goes.Goes texts.now want.now.stops want.now.walk turns (standing.standing course callers.old world.old steps.old) result.halt (standing.standing result.course callers.new world.new steps.new) }
+{
+    match course {
+        Course::Over(ended) => Rested {
+            halt: Halt::Ended,
+            course: Course::Over(ended),
+        },
+        Course::On(going, shown) => {
+            let first = Stepped { going, shown };
+            goes_on(texts, want, first, turns, callers, steps, world)
+        }
+    }
 }

@@ -12,9 +12,9 @@ use crate::begin::{begun, course_of};
 use crate::course::Course;
 use crate::halt::Halt;
 use crate::look::Want;
-use crate::rest::goes_on;
+use crate::rest::goes_from;
 use sc_base::{Items, NoMemory, Stack};
-use sc_plain::{Caller, Ended, Stepped};
+use sc_plain::{Caller, Ended};
 use sc_plain_parts::Text;
 use sc_plain_world::{Frame, World};
 use sc_words::{StopAt, Walk};
@@ -34,9 +34,16 @@ pub struct Run {
 
 impl Model for Run {
     ghost use Rattle.std.specs.Prelude.{Option};
+    ghost use Rattle.std.specs.Coded.{codes};
+    ghost use Rattle.sc_types.specs.contracts.ctype.CType as types;
+    ghost use Rattle.sc_types.specs.contracts.ctype.Signature as signatures;
+    ghost use Rattle.sc_core.specs.contracts.expression.CoreExpr as expressions;
+    ghost use Rattle.sc_core.specs.contracts.statement.CoreStmt as statements;
     ghost use Rattle.sc_world.specs.Standing as spec;
 
     ghost Value = { Option spec.Standing };
+
+    ghost coded = { Prim.hlevel (codes, types.the_row.coded, signatures.the_row.coded, expressions.the_row.coded, statements.the_row.coded) };
 
     ghost view = { λ r. spec.standing r.course r.callers r.world r.steps };
 }
@@ -77,31 +84,23 @@ impl Run {
         ensures goes { Goes texts.now stops.now walk turns self.old result self.new }
         ensures meant { (s : behaviour.Start) → IsRunOf s texts.now self.old → IsRunOf s texts.now self.new }
     {
-        match mem::replace(&mut self.course, Course::Over(Ended::NoRoom)) {
-            Course::Over(ended) => {
-                self.course = Course::Over(ended);
-                Halt::Ended
-            }
-            Course::On(going, shown) => {
-                let want = Want {
-                    stops,
-                    walk,
-                    since: self.world.enters(),
-                };
-                let first = Stepped { going, shown };
-                let rested = goes_on(
-                    texts,
-                    &want,
-                    first,
-                    turns,
-                    &mut self.callers,
-                    &mut self.steps,
-                    &mut self.world,
-                );
-                self.course = rested.course;
-                rested.halt
-            }
-        }
+        let want = Want {
+            stops,
+            walk,
+            since: self.world.enters(),
+        };
+        let course = mem::replace(&mut self.course, Course::Over(Ended::NoRoom));
+        let rested = goes_from(
+            course,
+            texts,
+            &want,
+            turns,
+            &mut self.callers,
+            &mut self.steps,
+            &mut self.world,
+        );
+        self.course = rested.course;
+        rested.halt
     }
 
     /// How the run ended, where it is over.

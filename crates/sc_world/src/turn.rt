@@ -1,5 +1,5 @@
 // Turns one after another, up to a place that halts the run.
-ghost use Rattle.std.specs.Prelude.{◌≡◌, ◌+◌, IfOk};
+ghost use Rattle.std.specs.Prelude.{◌≡◌, ◌+◌, ℕ, IfOk};
 ghost use Rattle.sc_meaning.specs.World as worlds;
 ghost use Rattle.sc_plain.specs.Steps as course;
 ghost use Rattle.sc_plain.specs.declared.stepped.Shown as showing;
