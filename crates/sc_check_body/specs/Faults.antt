@@ -1,5 +1,5 @@
 -- Answers that may be refusals of a unit.
-use Rattle.std.specs.Prelude.{◌≡◌, ℕ, Result, Ok, Err}
+use Rattle.std.specs.Prelude.{◌≡◌, ℕ, List, [], ◌∷◌, Result, Ok, Err}
 use Rattle.sc_operand.specs.declared.fault.Diagnostic.{Diagnostic}
 use Rattle.sc_operand.specs.declared.fault.TypeFault.{TypeFault}
 use Rattle.sc_declare.specs.declared.failure.Reason.TheVariants as r
@@ -25,6 +25,11 @@ and_then (Err e) f = Err e
 -- a value, and what is in scope as before
 abbrev pub keep : {A S : Type 0} → S → Checked A → Checked (A × S)
 keep s r = and_then r (λ a. Ok (a, s))
+
+-- The elements of a list, from the first, each with what those before it have made.
+abbrev pub each : {X A S : Type 0} → (X → A → S → Checked (A × S)) → List X → A → S → Checked (A × S)
+each f [] a s = Ok (a, s)
+each f (x ∷ xs) a s = and_then (f x a s) (λ r. each f xs r.0 r.1)
 
 -- what a part of the unit refuses
 abbrev pub within : {A : Type 0} → Result A Problem → Checked A

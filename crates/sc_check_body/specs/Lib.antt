@@ -1,4 +1,8 @@
 pub mod Faults
+pub mod Progress
+pub mod Alone
 pub mod Linked
+pub mod Locals
 pub mod Labels
 pub mod Statements
+pub mod Blocks

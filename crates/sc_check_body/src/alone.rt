@@ -1,4 +1,8 @@
 // Declarations without declarators, and the type of each declarator (ANSI 3.5).
+ghost use Rattle.std.specs.Prelude.{◌≡◌};
+ghost use Rattle.sc_scope.specs.Steps as scope;
+ghost use Rattle.sc_check_body.specs.Faults.{GivesWith};
+ghost use Rattle.sc_check_body.specs.Alone as spec;
 
 use crate::fault::{UnitFault, rule};
 use sc_base::{Duplicate, Name};
@@ -8,17 +12,23 @@ use sc_scope::{CheckFault, State, open_structure};
 use sc_tree::{Declaration, Declarator, Specifiers, TypeWord};
 use std::alloc::Global;
 
-/// Whether the last type word declares a tag or enumeration constants.
-fn declares(words: &[TypeWord]) -> bool {
-    match words.last() {
-        Some(TypeWord::Struct(_, tag, _)) => tag.is_some(),
-        Some(TypeWord::StructTag(_, _) | TypeWord::EnumTag(_, _) | TypeWord::Enum(_, _, _)) => true,
+/// Whether the only type word declares a tag or enumeration constants.
+fn declares(words: &[TypeWord]) -> bool
+    ensures { result ≡ spec.declares words.now }
+{
+    match words {
+        [TypeWord::Struct(_, tag, _)] => tag.is_some(),
+        [TypeWord::StructTag(_, _)] => true,
+        [TypeWord::EnumTag(_, _)] => true,
+        [TypeWord::Enum(_, _, _)] => true,
         _ => false,
     }
 }
 
 /// `struct tag;`, which declares the tag in the innermost scope (ANSI 3.5.2.3).
-fn tag_alone(alloc: Global, st: &mut State, line: u32, tag: &Name) -> Result<(), UnitFault> {
+fn tag_alone(alloc: Global, st: &mut State, line: u32, tag: &Name) -> Result<(), UnitFault>
+    ensures { GivesWith (spec.declare_tag line tag.now st.old) result st.new }
+{
     let tag = Some(tag.copy(alloc)?);
     match open_structure(alloc, st, &tag)? {
         Some(_) => Ok(()),
@@ -26,14 +36,20 @@ fn tag_alone(alloc: Global, st: &mut State, line: u32, tag: &Name) -> Result<(),
     }
 }
 
-fn specifiers_alone(alloc: Global, st: &mut State, list: &Specifiers) -> Result<(), UnitFault> {
+fn specifiers_for_nothing(alloc: Global, st: &mut State, list: &Specifiers) -> Result<(), UnitFault>
+    ensures { GivesWith (spec.specified_for_nothing list.now st.old) result st.new }
+{
+    let of = specifiers(alloc, st, list)?;
+    drop(of);
+    Ok(())
+}
+
+fn specifiers_alone(alloc: Global, st: &mut State, list: &Specifiers) -> Result<(), UnitFault>
+    ensures { GivesWith (spec.specified_alone list.now st.old) result st.new }
+{
     match list.words.as_slice() {
         [TypeWord::StructTag(line, tag)] => tag_alone(alloc, st, *line, tag),
-        _ => {
-            let of = specifiers(alloc, st, list)?;
-            drop(of);
-            Ok(())
-        }
+        _ => specifiers_for_nothing(alloc, st, list),
     }
 }
 
@@ -47,7 +63,9 @@ pub fn declare_alone(
     st: &mut State,
     place: Place,
     d: &Declaration,
-) -> Result<(), UnitFault> {
+) -> Result<(), UnitFault>
+    ensures { GivesWith (spec.declare_alone place d.now st.old) result st.new }
+{
     specifiers_alone(alloc, st, &d.specifiers)?;
     if may_stand(place, d.specifiers.storage) && declares(d.specifiers.words.as_slice()) {
         Ok(())
@@ -62,7 +80,9 @@ pub fn declarator_type(
     st: &mut State,
     base: &DeclaredType,
     d: &Declarator,
-) -> Result<DeclaredType, CheckFault> {
+) -> Result<DeclaredType, CheckFault>
+    ensures { scope.GivesWith (spec.declarator_type base.now d.now st.old) result st.new }
+{
     let of = base.of.copy(alloc)?;
     let own = DeclaredType {
         of,

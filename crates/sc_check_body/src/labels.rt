@@ -1,14 +1,12 @@
 // The labels of a `switch` (ANSI 3.6.1, 3.6.4.2).
-ghost use Rattle.std.specs.Prelude.{◌≡◌, [], ◌∷◌, ◌++◌, nat_eq, false, true, Some, None, OnOk};
-ghost use Rattle.std.specs.List.{list_any};
-ghost use Rattle.sc_ops.specs.Numbers.{converted};
-ghost use Rattle.sc_check_body.specs.Faults.{Says};
+ghost use Rattle.std.specs.Prelude.{◌≡◌, ◌∷◌, OnOk};
+ghost use Rattle.sc_check_body.specs.Faults.{GivesWith};
 ghost use Rattle.sc_check_body.specs.Labels as spec;
 
 use crate::fault::{Finding, UnitFault, rule};
 use crate::progress::{Body, OpenSwitch};
-use indexmap::IndexSet;
-use sc_base::{Int, Items, NoMemory};
+use crate::tables::Values;
+use sc_base::{Int, Items, NoMemory, Stack};
 use sc_core::SwitchLabel;
 use sc_ops::convert;
 use std::alloc::Global;
@@ -17,10 +15,12 @@ use std::alloc::Global;
 const MAX_CASES: usize = 1023;
 
 /// Begins a `switch` on this type.
-pub fn open_switch(alloc: Global, f: &mut Body, of: Int) -> Result<(), NoMemory> {
+pub fn open_switch(alloc: Global, f: &mut Body, of: Int) -> Result<(), NoMemory>
+    ensures { OnOk result (f.new ≡ spec.open_switch of f.old) }
+{
     let switch = OpenSwitch {
         of,
-        values: IndexSet::new(alloc),
+        values: Values::new(alloc),
         has_default: false,
         labels: Items::new(alloc),
     };
@@ -28,40 +28,13 @@ pub fn open_switch(alloc: Global, f: &mut Body, of: Int) -> Result<(), NoMemory>
 }
 
 /// Ends the innermost `switch`; the answer is its labels.
-pub fn close_switch(alloc: Global, f: &mut Body) -> Items<SwitchLabel> {
+pub fn close_switch(alloc: Global, f: &mut Body) -> Items<SwitchLabel>
+    ensures { (result, f.new) ≡ spec.close_switch f.old }
+{
     match f.switches.pop() {
         Some(switch) => switch.labels,
         None => Items::new(alloc),
     }
-}
-
-fn has_value(switch: &OpenSwitch, value: u32) -> bool
-    ensures { result ≡ list_any (nat_eq value) switch.now.values.keys }
-{
-    switch.values.contains(&value)
-}
-
-/// One more value, which is not there yet.
-fn note_value(switch: &mut OpenSwitch, value: u32) -> Result<(), NoMemory>
-    requires { list_any (nat_eq value) switch.old.values.keys ≡ false }
-    ensures values { OnOk result (switch.new.values.keys ≡ switch.old.values.keys ++ value ∷ []) }
-    ensures labels { switch.new.labels ≡ switch.old.labels }
-{
-    switch.values.insert(value)?;
-    Ok(())
-}
-
-/// One more label, and its value where it is new.
-fn add_value(switch: &mut OpenSwitch, value: u32, at: u32) -> Result<(), NoMemory>
-    requires { list_any (nat_eq value) switch.old.values.keys ≡ false }
-    ensures values { OnOk result (switch.new.values.keys ≡ switch.old.values.keys ++ value ∷ []) }
-    ensures label { OnOk result (switch.new.labels ≡ switch.old.labels ++ record { value = Some value; at = at } ∷ []) }
-{
-    note_value(switch, value)?;
-    switch.labels.push(SwitchLabel {
-        value: Some(value),
-        at,
-    })
 }
 
 /// A `case` label with the bits of its constant (ANSI 3.6.4.2).
@@ -71,18 +44,20 @@ fn add_value(switch: &mut OpenSwitch, value: u32, at: u32) -> Result<(), NoMemor
 /// - `Rule` (X7): the `switch` has the value already.
 /// - `Cases` (X10 `cases`): the `switch` has as many `case` labels as it may have.
 fn add_case(switch: &mut OpenSwitch, line: u32, bits: u32, at: u32) -> Result<(), UnitFault>
-    ensures answer { Says (spec.may_add_case line bits switch.old) result }
-    ensures values { OnOk result (switch.new.values.keys ≡ switch.old.values.keys ++ converted bits switch.old.of ∷ []) }
-    ensures label { OnOk result (switch.new.labels ≡ switch.old.labels ++ record { value = Some (converted bits switch.old.of); at = at } ∷ []) }
+    ensures { GivesWith (spec.add_case line bits at switch.old) result switch.new }
 {
     let value = convert(bits, switch.of);
-    if has_value(switch, value) {
+    if switch.values.has(value) {
         return Err(rule(line));
     }
     if switch.values.len() >= MAX_CASES {
         return Err(UnitFault::Found(Finding::Cases(line)));
     }
-    add_value(switch, value, at)?;
+    switch.values.push(value)?;
+    switch.labels.push(SwitchLabel {
+        value: Some(value),
+        at,
+    })?;
     Ok(())
 }
 
@@ -92,9 +67,7 @@ fn add_case(switch: &mut OpenSwitch, line: u32, bits: u32, at: u32) -> Result<()
 ///
 /// `Rule` (X7): the `switch` has one already.
 fn add_default(switch: &mut OpenSwitch, line: u32, at: u32) -> Result<(), UnitFault>
-    ensures answer { Says (spec.may_add_default line switch.old) result }
-    ensures noted { OnOk result (switch.new.has_default ≡ true) }
-    ensures label { OnOk result (switch.new.labels ≡ switch.old.labels ++ record { value = None; at = at } ∷ []) }
+    ensures { GivesWith (spec.add_default line at switch.old) result switch.new }
 {
     if switch.has_default {
         return Err(rule(line));
@@ -105,11 +78,37 @@ fn add_default(switch: &mut OpenSwitch, line: u32, at: u32) -> Result<(), UnitFa
 }
 
 fn add(switch: &mut OpenSwitch, line: u32, value: Option<u32>, at: u32) -> Result<(), UnitFault>
-    ensures { Says (spec.may_add line value switch.old) result }
+    ensures { GivesWith (spec.add line value at switch.old) result switch.new }
 {
     match value {
         Some(bits) => add_case(switch, line, bits, at),
         None => add_default(switch, line, at),
+    }
+}
+
+/// A label of the innermost of these `switch` statements.
+fn add_in(
+    switches: &mut Stack<OpenSwitch>,
+    line: u32,
+    value: Option<u32>,
+    at: Option<u32>,
+) -> Result<(), UnitFault>
+    ensures { GivesWith (spec.add_in line value at switches.old) result switches.new }
+{
+    let Some(switch) = switches.pop() else {
+        return Err(rule(line));
+    };
+    let mut switch = switch;
+    let Some(at) = at else {
+        drop(switch);
+        return Err(UnitFault::Found(Finding::CaseDepth(line)));
+    };
+    match add(&mut switch, line, value, at) {
+        Ok(()) => Ok(switches.push(switch)?),
+        Err(fault) => {
+            drop(switch);
+            Err(fault)
+        }
     }
 }
 
@@ -127,21 +126,7 @@ pub fn add_label(
     value: Option<u32>,
     at: Option<u32>,
 ) -> Result<(), UnitFault>
-    ensures { Says (spec.may_label line value at f.old.switches) result }
+    ensures { GivesWith (spec.add_label line value at f.old) result f.new }
 {
-    let Some(switch) = f.switches.pop() else {
-        return Err(rule(line));
-    };
-    let mut switch = switch;
-    let Some(at) = at else {
-        drop(switch);
-        return Err(UnitFault::Found(Finding::CaseDepth(line)));
-    };
-    match add(&mut switch, line, value, at) {
-        Ok(()) => Ok(f.switches.push(switch)?),
-        Err(fault) => {
-            drop(switch);
-            Err(fault)
-        }
-    }
+    add_in(&mut f.switches, line, value, at)
 }

@@ -3,16 +3,23 @@
 #![tactic(auto)]
 
 mod alone;
+mod automatic;
+mod controlling;
+mod declarations;
 mod fault;
 mod labels;
 mod linked;
 mod local;
+mod permanent;
 mod progress;
+mod simple;
 mod statement;
+mod tables;
 
 pub use alone::{declarator_type, declare_alone};
+pub use automatic::local_of;
 pub use fault::{Finding, UnitFault, rule};
-pub use linked::{Declared, link, name_link, name_type, no_initializer};
-pub use local::local_of;
+pub use linked::{link, name_link, name_type, no_initializer};
 pub use progress::{Around, Body, OpenBlock, OpenSwitch, Translation};
 pub use statement::block;
+pub use tables::{Counts, Values};

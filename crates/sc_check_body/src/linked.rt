@@ -11,18 +11,8 @@ use sc_declare::DeclaredType;
 use sc_linkage::{Declaration, Link};
 use sc_operand::is_function;
 use sc_scope::{Meaning, State};
-use sc_tree::{Identifier, Initializer, Storage};
-use sc_types::CType;
+use sc_tree::Initializer;
 use std::alloc::Global;
-
-/// A declarator whose type is known: the line of its first token, its name, its storage class and its type.
-#[derive(Drop)]
-pub struct Declared<'a> {
-    pub line: u32,
-    pub id: &'a Identifier,
-    pub storage: Option<Storage>,
-    pub of: CType,
-}
 
 /// Whether the meaning of a name has linkage. An object of a block with static storage duration has a key of another name.
 fn has_linkage(name: &Name, meaning: &Meaning) -> bool
@@ -43,20 +33,6 @@ fn may_link(st: &State, name: &Name) -> bool
         Some(meaning) => has_linkage(name, meaning),
         None => true,
     }
-}
-
-fn declaration(alloc: Global, x: &Declared) -> Result<Declaration, NoMemory>
-    ensures { IfOk result (λ d. d ≡ spec.declaration x.now) }
-{
-    let name = x.id.name.copy(alloc)?;
-    let of = x.of.copy(alloc)?;
-    Ok(Declaration {
-        name,
-        of,
-        storage: x.storage,
-        line: x.line,
-        name_line: x.id.line,
-    })
 }
 
 fn meaning_of(alloc: Global, link: &Link) -> Result<Meaning, NoMemory>
@@ -107,24 +83,17 @@ fn declare_link(alloc: Global, m: &mut Translation, d: &Declaration) -> Result<u
     Ok(place)
 }
 
-fn new_link(alloc: Global, m: &mut Translation, x: &Declared) -> Result<usize, UnitFault>
-    ensures { GivesWith (spec.declare_link (spec.declaration x.now) m.old) result m.new }
-{
-    let d = declaration(alloc, x)?;
-    declare_link(alloc, m, &d)
-}
-
 /// A declaration of a name with linkage; the answer is its place among the names with linkage.
 ///
 /// # Errors
 ///
 /// - `Rule` (X7): the innermost scope has the name without linkage, or earlier declarations have another type or linkage.
 /// - `Main` (X9 `main`): `main` with external linkage and another type.
-pub fn link(alloc: Global, m: &mut Translation, x: &Declared) -> Result<usize, UnitFault>
+pub fn link(alloc: Global, m: &mut Translation, x: &Declaration) -> Result<usize, UnitFault>
     ensures { GivesWith (spec.link x.now m.old) result m.new }
 {
-    if may_link(&m.st, &x.id.name) {
-        new_link(alloc, m, x)
+    if may_link(&m.st, &x.name) {
+        declare_link(alloc, m, x)
     } else {
         Err(rule(x.line))
     }
@@ -140,7 +109,9 @@ pub fn no_initializer(
     m: &mut Translation,
     line: u32,
     given: &Option<Initializer>,
-) -> Result<(), UnitFault> {
+) -> Result<(), UnitFault>
+    ensures { GivesWith (spec.no_initializer line given.now m.old) result m.new }
+{
     match given {
         Some(given) => {
             typed(alloc, &mut m.st, given)?;

@@ -1,18 +1,20 @@
 // Declarations of a block (ANSI 3.5, 3.6.2).
+ghost use Rattle.std.specs.Prelude.{◌≡◌, IfOk};
+ghost use Rattle.sc_check_body.specs.Faults.{GivesWith};
+ghost use Rattle.sc_check_body.specs.Locals as spec;
 
 use crate::alone::{declarator_type, declare_alone};
+use crate::automatic::automatic;
 use crate::fault::{UnitFault, rule};
-use crate::linked::{Declared, link, name_link, name_type, no_initializer};
+use crate::linked::{link, name_link, name_type, no_initializer};
+use crate::permanent::static_local;
 use crate::progress::{Body, OpenBlock, Translation};
-use sc_base::{Duplicate, Items, Key, Name, NoMemory, Shared};
+use sc_base::{Duplicate, NoMemory};
 use sc_check_expr::specifiers;
-use sc_check_initial::{automatic_initializer, static_initializer, zeros};
-use sc_core::{AutoInit, CoreStmt, Init, StaticObj};
-use sc_declare::{DeclaredType, Place, is_constant, may_stand};
-use sc_linkage::{Birth, Local, block_key};
+use sc_declare::{DeclaredType, Place, may_stand};
+use sc_linkage::Declaration as Declared;
 use sc_operand::{is_function, object_size};
-use sc_scope::{Meaning, State};
-use sc_tree::{Declaration, InitDeclarator, Initializer, Storage};
+use sc_tree::{Declaration, Identifier, InitDeclarator, Initializer, Storage};
 use sc_types::{CType, Structs};
 use std::alloc::Global;
 
@@ -27,242 +29,40 @@ enum Duration {
     Automatic(bool),
 }
 
-fn duration_of(storage: Option<Storage>, of: &CType) -> Duration {
+fn duration_of(storage: Option<Storage>, of: &CType) -> Duration
+    ensures { result ≡ spec.duration_of storage of.now }
+{
+    if is_function(of) {
+        return Duration::Function;
+    }
     match storage {
-        Some(Storage::Typedef) => Duration::Typedef,
-        _ if is_function(of) => Duration::Function,
-        Some(Storage::Extern) => Duration::Extern,
-        Some(Storage::Static) => Duration::Static,
+        None => Duration::Automatic(false),
+        Some(Storage::Auto) => Duration::Automatic(false),
         Some(Storage::Register) => Duration::Automatic(true),
-        Some(Storage::Auto) | None => Duration::Automatic(false),
+        Some(Storage::Static) => Duration::Static,
+        Some(Storage::Extern) => Duration::Extern,
+        Some(Storage::Typedef) => Duration::Typedef,
+    }
+}
+
+fn is_typedef(storage: Option<Storage>) -> bool
+    ensures { result ≡ spec.is_typedef storage }
+{
+    match storage {
+        Some(Storage::Typedef) => true,
+        Some(Storage::Extern | Storage::Static | Storage::Auto | Storage::Register) => false,
+        None => false,
     }
 }
 
 /// Whether an object may have this type, whose size its initialiser may still tell.
-fn may_be_object(structs: &Structs, of: &CType) -> bool {
+fn may_be_object(structs: &Structs, of: &CType) -> bool
+    ensures { result ≡ spec.may_be_object structs.now of.now }
+{
     match of {
-        CType::Array(_, 0) => true,
+        CType::Array(_, length) => *length == 0 || object_size(structs, of).is_some(),
         _ => object_size(structs, of).is_some(),
     }
-}
-
-/// An object of a block's table, in its final type.
-pub fn local_of(
-    alloc: Global,
-    structs: &Structs,
-    line: u32,
-    name: &Name,
-    of: &CType,
-) -> Result<Local, UnitFault> {
-    let Some(size) = object_size(structs, of) else {
-        return Err(rule(line));
-    };
-    let name = name.copy(alloc)?;
-    let of = of.copy(alloc)?;
-    Ok(Local { name, of, size })
-}
-
-/// The name of an automatic object, in the innermost scope.
-fn automatic_meaning(
-    of: &CType,
-    alloc: Global,
-    open: &OpenBlock,
-    register: bool,
-) -> Result<Meaning, NoMemory> {
-    let Ok(at) = u32::try_from(open.locals.len()) else {
-        return Err(NoMemory);
-    };
-    let of = of.copy(alloc)?;
-    Ok(Meaning::Automatic(of, open.number, at, register))
-}
-
-fn initialize(
-    alloc: Global,
-    open: &mut OpenBlock,
-    line: u32,
-    pieces: Items<AutoInit>,
-) -> Result<(), NoMemory> {
-    let Ok(at) = u32::try_from(open.locals.len()) else {
-        return Err(NoMemory);
-    };
-    let statement = CoreStmt::Initialize(line, open.number, at, pieces);
-    open.initialized.push(Shared::new(alloc, statement)?)
-}
-
-fn name_automatic(
-    alloc: Global,
-    st: &mut State,
-    open: &OpenBlock,
-    name: &Name,
-    of: &CType,
-    register: bool,
-) -> Result<(), NoMemory> {
-    let meaning = automatic_meaning(of, alloc, open, register)?;
-    let name = name.copy(alloc)?;
-    st.names.declare(alloc, name, meaning)
-}
-
-/// An automatic object with its initialiser, which completes its type; the answer is that type.
-fn initialized(
-    alloc: Global,
-    st: &mut State,
-    open: &mut OpenBlock,
-    x: &Declared,
-    register: bool,
-    given: &Initializer,
-) -> Result<CType, UnitFault> {
-    let (of, pieces) = automatic_initializer(alloc, st, &x.of, given)?;
-    initialize(alloc, open, x.id.line, pieces)?;
-    name_automatic(alloc, st, open, &x.id.name, &of, register)?;
-    Ok(of)
-}
-
-fn declare_automatic(
-    alloc: Global,
-    st: &mut State,
-    open: &OpenBlock,
-    x: &Declared,
-    register: bool,
-) -> Result<(), UnitFault> {
-    let meaning = automatic_meaning(&x.of, alloc, open, register)?;
-    let name = x.id.name.copy(alloc)?;
-    st.declare(alloc, x.line, name, meaning)?;
-    Ok(())
-}
-
-/// The object in its final type.
-fn completed(
-    alloc: Global,
-    st: &mut State,
-    open: &mut OpenBlock,
-    x: &Declared,
-    register: bool,
-    given: &Option<Initializer>,
-) -> Result<Local, UnitFault> {
-    match given {
-        Some(given) => {
-            let of = initialized(alloc, st, open, x, register, given)?;
-            local_of(alloc, &st.structs, x.line, &x.id.name, &of)
-        }
-        None => local_of(alloc, &st.structs, x.line, &x.id.name, &x.of),
-    }
-}
-
-fn automatic(
-    alloc: Global,
-    st: &mut State,
-    open: &mut OpenBlock,
-    x: &Declared,
-    register: bool,
-    given: &Option<Initializer>,
-) -> Result<(), UnitFault> {
-    declare_automatic(alloc, st, open, x, register)?;
-    let own = completed(alloc, st, open, x, register, given)?;
-    open.locals.push(own)?;
-    Ok(())
-}
-
-/// How many static objects of this name the function has had; there is one more from then on.
-fn counted(alloc: Global, f: &mut Body, name: &Name) -> Result<u32, NoMemory> {
-    let count = match f.counts.get(name) {
-        Some(count) => *count,
-        None => 0,
-    };
-    let name = name.copy(alloc)?;
-    f.counts.insert(name, count.saturating_add(1))?;
-    Ok(count)
-}
-
-fn new_key(alloc: Global, m: &mut Translation, f: &mut Body, name: &Name) -> Result<Key, NoMemory> {
-    let count = counted(alloc, f, name)?;
-    let key = block_key(alloc, &m.home, &f.name, name, count)?;
-    m.note(Birth::Block(key.copy(alloc)?))?;
-    Ok(key)
-}
-
-/// The bytes that an object of static storage duration has without an initialiser.
-fn empty_contents(
-    alloc: Global,
-    structs: &Structs,
-    x: &Declared,
-) -> Result<(CType, Items<Init>), UnitFault> {
-    if object_size(structs, &x.of).is_none() {
-        return Err(rule(x.line));
-    }
-    let init = zeros(alloc, structs, &x.of)?;
-    let of = x.of.copy(alloc)?;
-    Ok((of, init))
-}
-
-fn contents(
-    alloc: Global,
-    st: &mut State,
-    home: &Name,
-    x: &Declared,
-    given: &Option<Initializer>,
-) -> Result<(CType, Items<Init>), UnitFault> {
-    match given {
-        Some(given) => Ok(static_initializer(alloc, st, home, &x.of, given)?),
-        None => empty_contents(alloc, &st.structs, x),
-    }
-}
-
-fn static_meaning(alloc: Global, of: &CType, key: &Key) -> Result<Meaning, NoMemory> {
-    let of = of.copy(alloc)?;
-    let key = key.copy(alloc)?;
-    Ok(Meaning::Static(of, key))
-}
-
-fn name_static(
-    alloc: Global,
-    st: &mut State,
-    name: &Name,
-    of: &CType,
-    key: &Key,
-) -> Result<(), NoMemory> {
-    let meaning = static_meaning(alloc, of, key)?;
-    let name = name.copy(alloc)?;
-    st.names.declare(alloc, name, meaning)
-}
-
-fn declare_static(alloc: Global, st: &mut State, x: &Declared, key: &Key) -> Result<(), UnitFault> {
-    let meaning = static_meaning(alloc, &x.of, key)?;
-    let name = x.id.name.copy(alloc)?;
-    st.declare(alloc, x.line, name, meaning)?;
-    Ok(())
-}
-
-fn static_object(
-    alloc: Global,
-    m: &mut Translation,
-    key: Key,
-    x: &Declared,
-    given: &Option<Initializer>,
-) -> Result<(), UnitFault> {
-    let (of, init) = contents(alloc, &mut m.st, &m.home, x, given)?;
-    name_static(alloc, &mut m.st, &x.id.name, &of, &key)?;
-    let constant = is_constant(&of);
-    m.objects.push(StaticObj {
-        key,
-        of,
-        constant,
-        line: x.id.line,
-        init,
-    })?;
-    Ok(())
-}
-
-/// An object of static storage duration without linkage (ANSI 3.1.2.4).
-fn static_local(
-    alloc: Global,
-    m: &mut Translation,
-    f: &mut Body,
-    x: &Declared,
-    given: &Option<Initializer>,
-) -> Result<(), UnitFault> {
-    let key = new_key(alloc, m, f, &x.id.name)?;
-    declare_static(alloc, &mut m.st, x, &key)?;
-    static_object(alloc, m, key, x, given)
 }
 
 /// A function, or an object that is declared `extern`, in a block.
@@ -271,48 +71,151 @@ fn linked_local(
     m: &mut Translation,
     x: &Declared,
     given: &Option<Initializer>,
-) -> Result<(), UnitFault> {
+) -> Result<(), UnitFault>
+    ensures { GivesWith (spec.linked_local x.now given.now m.old) result m.new }
+{
     let place = link(alloc, m, x)?;
-    name_link(alloc, m, place, &x.id.name)?;
+    name_link(alloc, m, place, &x.name)?;
     no_initializer(alloc, m, x.line, given)
 }
 
-fn object(
+fn function(
     alloc: Global,
     m: &mut Translation,
-    f: &mut Body,
-    open: &mut OpenBlock,
     x: &Declared,
     given: &Option<Initializer>,
-) -> Result<(), UnitFault> {
-    if !may_be_object(&m.st.structs, &x.of) {
-        return Err(rule(x.line));
-    }
-    match duration_of(x.storage, &x.of) {
-        Duration::Static => static_local(alloc, m, f, x, given),
-        Duration::Automatic(register) => automatic(alloc, &mut m.st, open, x, register, given),
-        _ => Ok(()),
+) -> Result<(), UnitFault>
+    ensures { GivesWith (spec.function x.now given.now m.old) result m.new }
+{
+    if may_stand(Place::BlockFunction, x.storage) {
+        linked_local(alloc, m, x, given)
+    } else {
+        Err(rule(x.line))
     }
 }
 
-fn typed(
+fn static_object(
     alloc: Global,
     m: &mut Translation,
     f: &mut Body,
-    open: &mut OpenBlock,
     x: &Declared,
     given: &Option<Initializer>,
-) -> Result<(), UnitFault> {
+) -> Result<(), UnitFault>
+    ensures { GivesWith (spec.static_object x.now given.now (m.old, f.old)) result (m.new, f.new) }
+{
+    if may_be_object(&m.st.structs, &x.of) {
+        static_local(alloc, m, f, x, given)
+    } else {
+        Err(rule(x.line))
+    }
+}
+
+fn automatic_object(
+    alloc: Global,
+    m: &mut Translation,
+    inner: &mut OpenBlock,
+    x: &Declared,
+    register: bool,
+    given: &Option<Initializer>,
+) -> Result<(), UnitFault>
+    ensures { GivesWith (spec.automatic_object x.now register given.now (m.old, inner.old)) result (m.new, inner.new) }
+{
+    if may_be_object(&m.st.structs, &x.of) {
+        automatic(alloc, &mut m.st, inner, x, register, given)
+    } else {
+        Err(rule(x.line))
+    }
+}
+
+/// A declarator with its type that names no type.
+fn declare_by(
+    alloc: Global,
+    m: &mut Translation,
+    f: &mut Body,
+    inner: &mut OpenBlock,
+    x: &Declared,
+    given: &Option<Initializer>,
+) -> Result<(), UnitFault>
+    ensures { GivesWith (spec.declared_by (spec.duration_of x.now.storage x.now.of) x.now given.now (m.old, (f.old, inner.old))) result (m.new, (f.new, inner.new)) }
+{
     match duration_of(x.storage, &x.of) {
-        Duration::Function => {
-            if may_stand(Place::BlockFunction, x.storage) {
-                linked_local(alloc, m, x, given)
-            } else {
-                Err(rule(x.line))
-            }
-        }
+        Duration::Typedef => Ok(()),
+        Duration::Function => function(alloc, m, x, given),
         Duration::Extern => linked_local(alloc, m, x, given),
-        _ => object(alloc, m, f, open, x, given),
+        Duration::Static => static_object(alloc, m, f, x, given),
+        Duration::Automatic(register) => automatic_object(alloc, m, inner, x, register, given),
+    }
+}
+
+fn declared_as(
+    alloc: Global,
+    line: u32,
+    id: &Identifier,
+    storage: Option<Storage>,
+    of: CType,
+) -> Result<Declared, NoMemory>
+    ensures { IfOk result (λ x. x ≡ spec.declared_as line id.now storage of) }
+{
+    let name = id.name.copy(alloc)?;
+    Ok(Declared {
+        name,
+        of,
+        storage,
+        line,
+        name_line: id.line,
+    })
+}
+
+/// A name for a type in a block, which has no initialiser.
+fn type_named(
+    alloc: Global,
+    m: &mut Translation,
+    line: u32,
+    id: &Identifier,
+    given: &Option<Initializer>,
+    t: DeclaredType,
+) -> Result<(), UnitFault>
+    ensures { GivesWith (spec.type_named line id.now.name given.now t m.old) result m.new }
+{
+    name_type(alloc, m, line, &id.name, t)?;
+    no_initializer(alloc, m, line, given)
+}
+
+/// A name that is no name for a type.
+fn entity_named(
+    alloc: Global,
+    m: &mut Translation,
+    f: &mut Body,
+    inner: &mut OpenBlock,
+    line: u32,
+    id: &Identifier,
+    storage: Option<Storage>,
+    given: &Option<Initializer>,
+    of: CType,
+) -> Result<(), UnitFault>
+    ensures { GivesWith (spec.entity_named line id.now storage given.now of (m.old, (f.old, inner.old))) result (m.new, (f.new, inner.new)) }
+{
+    let x = declared_as(alloc, line, id, storage, of)?;
+    declare_by(alloc, m, f, inner, &x, given)
+}
+
+fn named(
+    alloc: Global,
+    m: &mut Translation,
+    f: &mut Body,
+    inner: &mut OpenBlock,
+    line: u32,
+    id: &Identifier,
+    storage: Option<Storage>,
+    given: &Option<Initializer>,
+    t: DeclaredType,
+) -> Result<(), UnitFault>
+    ensures { GivesWith (spec.named line id.now storage given.now t (m.old, (f.old, inner.old))) result (m.new, (f.new, inner.new)) }
+{
+    if is_typedef(storage) {
+        type_named(alloc, m, line, id, given, t)
+    } else {
+        entity_named(alloc, m, f, inner, line, id, storage, given, t.of)
     }
 }
 
@@ -321,25 +224,38 @@ fn declare(
     alloc: Global,
     m: &mut Translation,
     f: &mut Body,
-    open: &mut OpenBlock,
+    inner: &mut OpenBlock,
     storage: Option<Storage>,
+    base: &DeclaredType,
     d: &InitDeclarator,
-    t: DeclaredType,
-) -> Result<(), UnitFault> {
-    let Some(id) = &d.declarator.identifier else {
-        return Err(rule(d.line));
-    };
-    if storage == Some(Storage::Typedef) {
-        name_type(alloc, m, d.line, &id.name, t)?;
-        return no_initializer(alloc, m, d.line, &d.initializer);
+) -> Result<(), UnitFault>
+    ensures { GivesWith (spec.one_declarator storage base.now d.now tt (m.old, (f.old, inner.old))) result (m.new, (f.new, inner.new)) }
+{
+    let t = declarator_type(alloc, &mut m.st, base, &d.declarator)?;
+    match &d.declarator.identifier {
+        Some(id) => named(alloc, m, f, inner, d.line, id, storage, &d.initializer, t),
+        None => {
+            drop(t);
+            Err(rule(d.line))
+        }
     }
-    let x = Declared {
-        line: d.line,
-        id,
-        storage,
-        of: t.of,
-    };
-    typed(alloc, m, f, open, &x, &d.initializer)
+}
+
+/// The declarators of a declaration that has some.
+fn declare_all(
+    alloc: Global,
+    m: &mut Translation,
+    f: &mut Body,
+    inner: &mut OpenBlock,
+    d: &Declaration,
+) -> Result<(), UnitFault>
+    ensures { GivesWith (spec.declarators d.now (m.old, (f.old, inner.old))) result (m.new, (f.new, inner.new)) }
+{
+    let base = specifiers(alloc, &mut m.st, &d.specifiers)?;
+    for one in d.declarators.as_slice() {
+        declare(alloc, m, f, inner, d.specifiers.storage, &base, one)?;
+    }
+    Ok(())
 }
 
 /// A declaration of a block.
@@ -349,20 +265,17 @@ fn declare(
 /// As its specifiers, declarators and initialisers; `Rule` (X7) for an object that is not complete, a name that the scope has
 /// without linkage, a function with another storage class than `extern`, and an initialiser of a function, a typedef or
 /// an `extern` object.
-pub fn declare_local(
+pub(crate) fn declare_local(
     alloc: Global,
     m: &mut Translation,
     f: &mut Body,
-    open: &mut OpenBlock,
+    inner: &mut OpenBlock,
     d: &Declaration,
-) -> Result<(), UnitFault> {
-    if d.declarators.is_empty() {
-        return declare_alone(alloc, &mut m.st, Place::Block, d);
+) -> Result<(), UnitFault>
+    ensures { GivesWith (spec.declare_local d.now (m.old, (f.old, inner.old))) result (m.new, (f.new, inner.new)) }
+{
+    match d.declarators.as_slice() {
+        [] => declare_alone(alloc, &mut m.st, Place::Block, d),
+        _ => declare_all(alloc, m, f, inner, d),
     }
-    let base = specifiers(alloc, &mut m.st, &d.specifiers)?;
-    for one in d.declarators.as_slice() {
-        let t = declarator_type(alloc, &mut m.st, &base, &one.declarator)?;
-        declare(alloc, m, f, open, d.specifiers.storage, one, t)?;
-    }
-    Ok(())
 }

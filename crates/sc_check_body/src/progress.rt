@@ -1,6 +1,8 @@
 // What the text of a unit has given up to a place, and what is open there.
+ghost use Rattle.std.specs.Prelude.{◌≡◌, OnOk, IfOk};
+ghost use Rattle.sc_check_body.specs.Progress as spec;
 
-use indexmap::{IndexMap, IndexSet};
+use crate::tables::{Counts, Values};
 use sc_base::{Duplicate, Int, Items, Name, NoMemory, Shared, Stack};
 use sc_core::{CoreStmt, Fun, Init, StaticObj, SwitchLabel};
 use sc_linkage::{Birth, Links, Local};
@@ -25,7 +27,9 @@ pub struct Translation {
 
 impl Translation {
     /// Nothing yet, at the beginning of a unit, which takes no memory.
-    pub fn new(alloc: Global, home: Name) -> Translation {
+    pub fn new(alloc: Global, home: Name) -> Translation
+        ensures { result ≡ spec.beginning home }
+    {
         Translation {
             home,
             st: State::new(alloc),
@@ -39,7 +43,9 @@ impl Translation {
     }
 
     /// Notes the literals that have appeared since.
-    pub fn note_literals(&mut self) -> Result<(), NoMemory> {
+    pub fn note_literals(&mut self) -> Result<(), NoMemory>
+        ensures { OnOk result (self.new ≡ spec.note_literals self.old) }
+    {
         let count = self.st.literals.len();
         for at in self.literals..count {
             let Ok(number) = u32::try_from(at) else {
@@ -52,7 +58,9 @@ impl Translation {
     }
 
     /// Notes a birth behind the literals that have appeared before it; the answer is its place in the order of births.
-    pub fn note(&mut self, birth: Birth) -> Result<usize, NoMemory> {
+    pub fn note(&mut self, birth: Birth) -> Result<usize, NoMemory>
+        ensures { IfOk result (λ place. (place, self.new) ≡ spec.note birth self.old) }
+    {
         self.note_literals()?;
         let place = self.noted.len();
         self.noted.push(birth)?;
@@ -65,7 +73,7 @@ impl Translation {
 #[derive(Drop)]
 pub struct OpenSwitch {
     pub of: Int,
-    pub values: IndexSet<u32>,
+    pub values: Values,
     pub has_default: bool,
     pub labels: Items<SwitchLabel>,
 }
@@ -77,7 +85,7 @@ pub struct Body {
     pub name: Name,
     pub result: CType,
     pub blocks: Items<Items<Local>>,
-    pub counts: IndexMap<Name, u32>,
+    pub counts: Counts,
     pub switches: Stack<OpenSwitch>,
 }
 
@@ -88,7 +96,9 @@ impl Body {
         name: &Name,
         gives: &CType,
         parameters: Items<Local>,
-    ) -> Result<Body, NoMemory> {
+    ) -> Result<Body, NoMemory>
+        ensures { IfOk result (λ body. body ≡ spec.first_body name.now gives.now parameters) }
+    {
         let mut blocks = Items::new(alloc);
         blocks.push(parameters)?;
         let name = name.copy(alloc)?;
@@ -97,7 +107,7 @@ impl Body {
             name,
             result,
             blocks,
-            counts: IndexMap::new(alloc),
+            counts: Counts::new(alloc),
             switches: Stack::new(alloc),
         })
     }
@@ -109,6 +119,19 @@ pub struct OpenBlock {
     pub number: u32,
     pub locals: Items<Local>,
     pub initialized: Items<Shared<CoreStmt>>,
+}
+
+impl OpenBlock {
+    /// The block with this number, of which nothing is declared yet. It takes no memory.
+    pub fn new(alloc: Global, number: u32) -> OpenBlock
+        ensures { result ≡ spec.open_block number }
+    {
+        OpenBlock {
+            number,
+            locals: Items::new(alloc),
+            initialized: Items::new(alloc),
+        }
+    }
 }
 
 /// Where a statement stands: whether it is in a loop, whether in a loop or a `switch`, and its place in the list of the innermost
@@ -129,12 +152,16 @@ impl Around {
     };
 
     /// A part of a statement here, which is in no list of a `switch`.
-    pub fn part(self) -> Around {
+    pub fn part(self) -> Around
+        ensures { result ≡ spec.part self }
+    {
         Around { at: None, ..self }
     }
 
     /// The body of a loop here.
-    pub fn looped(self) -> Around {
+    pub fn looped(self) -> Around
+        ensures { result ≡ spec.looped self }
+    {
         Around {
             in_loop: true,
             may_break: true,
@@ -143,7 +170,9 @@ impl Around {
     }
 
     /// The body of a `switch` here.
-    pub fn switched(self) -> Around {
+    pub fn switched(self) -> Around
+        ensures { result ≡ spec.switched self }
+    {
         Around {
             may_break: true,
             at: None,
@@ -152,7 +181,9 @@ impl Around {
     }
 
     /// A statement at this place of the list of a `switch`'s body.
-    pub fn listed(self, at: u32) -> Around {
+    pub fn listed(self, at: u32) -> Around
+        ensures { result ≡ spec.listed at self }
+    {
         Around {
             at: Some(at),
             ..self

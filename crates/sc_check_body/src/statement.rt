@@ -1,188 +1,36 @@
 // Statements (ANSI 3.6).
-ghost use Rattle.std.specs.Prelude.{◌≡◌, Ok, if◌then◌else◌};
+ghost use Rattle.std.specs.Prelude.{◌≡◌, map, IfOk};
 ghost use Rattle.std.specs.Option.{option_map};
-ghost use Rattle.sc_check_expr.specs.Typed.{node as node_of};
-ghost use Rattle.sc_check_body.specs.Faults.{Says, GivesWith, rule as refuses};
-ghost use Rattle.sc_check_body.specs.Statements as spec;
+ghost use Rattle.sc_check_body.specs.Faults.{Says, GivesWith};
+ghost use Rattle.sc_check_body.specs.Progress as place;
+ghost use Rattle.sc_check_body.specs.Blocks as spec;
 
-use crate::fault::{UnitFault, rule};
+use crate::controlling::{condition, optional_condition, optional_value, selector};
+use crate::declarations::declared;
+use crate::fault::UnitFault;
 use crate::labels::{add_label, close_switch, open_switch};
-use crate::local::declare_local;
-use crate::progress::{Around, Body, OpenBlock, Translation};
-use sc_base::{Int, Items, NoMemory, Shared};
-use sc_check_expr::{constant, expression, line_of};
-use sc_core::{CoreExpr, CoreStmt, type_of};
-use sc_operand::{Shape, assigned, is_scalar, is_void, shape_of, to_int, valued};
+use crate::progress::{Around, Body, Translation};
+use crate::simple::{expression_statement, jump, node, return_statement};
+use sc_base::{Items, NoMemory, Shared};
+use sc_check_expr::constant;
+use sc_core::{CoreExpr, CoreStmt};
 use sc_scope::{State, enter, leave};
 use sc_tree::{Declaration, Expr, Statement};
-use sc_types::promote;
 use std::alloc::Global;
 
-fn node(alloc: Global, s: CoreStmt) -> Result<Shared<CoreStmt>, UnitFault>
-    ensures { Says (Ok s) result }
+/// Where the next statement of a list stands; `switched` says whether it is the list of a `switch`.
+fn next_place(
+    around: Around,
+    switched: bool,
+    list: &Items<Shared<CoreStmt>>,
+) -> Result<Around, NoMemory>
+    ensures { IfOk result (λ next. next ≡ spec.next_place switched list.now around) }
 {
-    Ok(Shared::new(alloc, s)?)
-}
-
-// ---- expressions of statements
-
-/// The value of a full expression (ANSI 3.6).
-fn value(alloc: Global, st: &mut State, e: &Expr) -> Result<Shared<CoreExpr>, UnitFault>
-    ensures { GivesWith (spec.value (node_of e.now) st.old) result st.new }
-{
-    let core = expression(alloc, st, false, e)?;
-    Ok(valued(alloc, line_of(e), core)?)
-}
-
-fn optional_value(
-    alloc: Global,
-    st: &mut State,
-    e: &Option<Shared<Expr>>,
-) -> Result<Option<Shared<CoreExpr>>, UnitFault>
-    ensures { GivesWith (spec.optional spec.value (option_map node_of e.now) st.old) result st.new }
-{
-    match e {
-        Some(e) => Ok(Some(value(alloc, st, e.get())?)),
-        None => Ok(None),
+    if !switched {
+        return Ok(around.part());
     }
-}
-
-/// A controlling expression, which is a scalar.
-fn condition(alloc: Global, st: &mut State, e: &Expr) -> Result<Shared<CoreExpr>, UnitFault>
-    ensures { GivesWith (spec.condition (node_of e.now) st.old) result st.new }
-{
-    let core = value(alloc, st, e)?;
-    if is_scalar(shape_of(&st.structs, type_of(core.get()))) {
-        Ok(core)
-    } else {
-        Err(rule(line_of(e)))
-    }
-}
-
-fn optional_condition(
-    alloc: Global,
-    st: &mut State,
-    e: &Option<Shared<Expr>>,
-) -> Result<Option<Shared<CoreExpr>>, UnitFault>
-    ensures { GivesWith (spec.optional spec.condition (option_map node_of e.now) st.old) result st.new }
-{
-    match e {
-        Some(e) => Ok(Some(condition(alloc, st, e.get())?)),
-        None => Ok(None),
-    }
-}
-
-fn promoted(st: &State, core: &CoreExpr) -> Option<Int>
-    ensures { result ≡ spec.promoted st.now.structs core.now }
-{
-    match shape_of(&st.structs, type_of(core)) {
-        Shape::Integer(kind) => Some(promote(kind)),
-        _ => None,
-    }
-}
-
-/// The controlling expression of a `switch`, an integer, in its promoted type.
-fn selector(alloc: Global, st: &mut State, e: &Expr) -> Result<(Shared<CoreExpr>, Int), UnitFault>
-    ensures { GivesWith (spec.selector (node_of e.now) st.old) result st.new }
-{
-    let core = value(alloc, st, e)?;
-    match promoted(st, core.get()) {
-        Some(of) => Ok((to_int(alloc, line_of(e), of, core)?, of)),
-        None => Err(rule(line_of(e))),
-    }
-}
-
-/// The value of a `return`, in the type of the function's result (ANSI 3.6.6.4).
-fn returned(
-    alloc: Global,
-    st: &mut State,
-    f: &Body,
-    line: u32,
-    e: &Expr,
-) -> Result<Shared<CoreExpr>, UnitFault>
-    ensures { GivesWith (spec.returned line f.now.result (node_of e.now) st.old) result st.new }
-{
-    let core = expression(alloc, st, false, e)?;
-    if is_void(&f.result) {
-        return Err(rule(line));
-    }
-    Ok(assigned(alloc, &st.structs, line, &f.result, core)?)
-}
-
-fn return_statement(
-    alloc: Global,
-    st: &mut State,
-    f: &Body,
-    line: u32,
-    e: &Option<Shared<Expr>>,
-) -> Result<Shared<CoreStmt>, UnitFault> {
-    match e {
-        Some(e) => {
-            let core = returned(alloc, st, f, line, e.get())?;
-            node(alloc, CoreStmt::Return(line, Some(core)))
-        }
-        None => node(alloc, CoreStmt::Return(line, None)),
-    }
-}
-
-fn expression_statement(
-    alloc: Global,
-    st: &mut State,
-    line: u32,
-    e: &Expr,
-) -> Result<Shared<CoreStmt>, UnitFault> {
-    let core = value(alloc, st, e)?;
-    node(alloc, CoreStmt::Expression(line, core))
-}
-
-/// `break` and `continue`, where they may stand.
-fn jump(
-    alloc: Global,
-    line: u32,
-    may_stand: bool,
-    s: CoreStmt,
-) -> Result<Shared<CoreStmt>, UnitFault>
-    ensures { Says (if may_stand then Ok s else refuses line) result }
-{
-    if may_stand {
-        node(alloc, s)
-    } else {
-        Err(rule(line))
-    }
-}
-
-// ---- blocks
-
-/// The declarations of a block, whose scope is there; the answer is the block's number and its initialised automatic objects.
-fn declared(
-    alloc: Global,
-    m: &mut Translation,
-    f: &mut Body,
-    declarations: &[Declaration],
-) -> Result<(u32, Items<Shared<CoreStmt>>), UnitFault> {
-    let Ok(number) = u32::try_from(f.blocks.len()) else {
-        return Err(UnitFault::NoMemory);
-    };
-    let mut open = OpenBlock {
-        number,
-        locals: Items::new(alloc),
-        initialized: Items::new(alloc),
-    };
-    for d in declarations {
-        declare_local(alloc, m, f, &mut open, d)?;
-    }
-    let OpenBlock {
-        locals,
-        initialized,
-        ..
-    } = open;
-    f.blocks.push(locals)?;
-    Ok((number, initialized))
-}
-
-fn place_in(list: &Items<Shared<CoreStmt>>) -> Result<u32, NoMemory> {
     match u32::try_from(list.len()) {
-        Ok(at) => Ok(at),
+        Ok(at) => Ok(around.listed(at)),
         Err(_) => Err(NoMemory),
     }
 }
@@ -197,22 +45,23 @@ fn listed(
     switched: bool,
     statements: &[Statement],
     before: Items<Shared<CoreStmt>>,
-) -> Result<Items<Shared<CoreStmt>>, UnitFault> {
+) -> Result<Items<Shared<CoreStmt>>, UnitFault>
+    ensures { GivesWith (spec.statements around switched (map spec.standing statements.now) before (m.old, f.old)) result (m.new, f.new) }
+{
     let mut done = before;
     for s in statements {
-        let at = place_in(&done)?;
-        let around = if switched {
-            around.listed(at)
-        } else {
-            around.part()
-        };
-        let core = statement(alloc, m, f, around, s)?;
+        let next = next_place(around, switched, &done)?;
+        let core = statement(alloc, m, f, next, s)?;
         done.push(core)?;
     }
     Ok(done)
 }
 
-/// A block whose scope is there.
+/// A block whose scope is there (ANSI 3.6.2); `switched` says whether it is the body of a `switch`.
+///
+/// # Errors
+///
+/// The first refusal of its declarations and statements, in the order in which constructs end.
 #[cycle(statements)]
 pub fn block(
     alloc: Global,
@@ -223,13 +72,15 @@ pub fn block(
     line: u32,
     statements: &[Statement],
     declarations: &[Declaration],
-) -> Result<Shared<CoreStmt>, UnitFault> {
+) -> Result<Shared<CoreStmt>, UnitFault>
+    ensures { GivesWith (spec.block around switched line statements.now declarations.now (m.old, f.old)) result (m.new, f.new) }
+{
     let (number, initialized) = declared(alloc, m, f, declarations)?;
     let all = listed(alloc, m, f, around, switched, statements, initialized)?;
     node(alloc, CoreStmt::Block(line, number, all))
 }
 
-/// A block with a scope of its own.
+/// A block with a scope of its own (ANSI 3.1.2.1).
 #[cycle(statements)]
 fn inner_block(
     alloc: Global,
@@ -240,7 +91,9 @@ fn inner_block(
     line: u32,
     statements: &[Statement],
     declarations: &[Declaration],
-) -> Result<Shared<CoreStmt>, UnitFault> {
+) -> Result<Shared<CoreStmt>, UnitFault>
+    ensures { GivesWith (spec.inner_block around switched line (map spec.standing statements.now) declarations.now (m.old, f.old)) result (m.new, f.new) }
+{
     let outer = enter(&mut m.st);
     let core = block(
         alloc,
@@ -266,11 +119,32 @@ fn branch(
     f: &mut Body,
     around: Around,
     s: &Option<Shared<Statement>>,
-) -> Result<Option<Shared<CoreStmt>>, UnitFault> {
+) -> Result<Option<Shared<CoreStmt>>, UnitFault>
+    ensures { GivesWith (spec.branch around (option_map spec.standing s.now) (m.old, f.old)) result (m.new, f.new) }
+{
     match s {
         Some(s) => Ok(Some(statement(alloc, m, f, around, s.get())?)),
         None => Ok(None),
     }
+}
+
+/// `if` and `else`, behind the condition (ANSI 3.6.4.1).
+#[cycle(statements)]
+fn branches(
+    alloc: Global,
+    m: &mut Translation,
+    f: &mut Body,
+    around: Around,
+    line: u32,
+    a: &Statement,
+    b: &Option<Shared<Statement>>,
+    e: Shared<CoreExpr>,
+) -> Result<Shared<CoreStmt>, UnitFault>
+    ensures { GivesWith (spec.branches line e (spec.standing a.now) (option_map spec.standing b.now) around (m.old, f.old)) result (m.new, f.new) }
+{
+    let a = statement(alloc, m, f, around.part(), a)?;
+    let b = branch(alloc, m, f, around.part(), b)?;
+    node(alloc, CoreStmt::If(line, e, a, b))
 }
 
 /// The body of a `switch`: a block's statements are its list, and another statement is a list of itself alone.
@@ -281,7 +155,9 @@ fn switch_body(
     f: &mut Body,
     around: Around,
     body: &Statement,
-) -> Result<Shared<CoreStmt>, UnitFault> {
+) -> Result<Shared<CoreStmt>, UnitFault>
+    ensures { GivesWith ((spec.standing body.now).as_body around (m.old, f.old)) result (m.new, f.new) }
+{
     match body {
         Statement::Block(line, declarations, statements) => inner_block(
             alloc,
@@ -297,6 +173,24 @@ fn switch_body(
     }
 }
 
+/// `switch`, behind its controlling expression (ANSI 3.6.4.2).
+#[cycle(statements)]
+fn switch_on(
+    alloc: Global,
+    m: &mut Translation,
+    f: &mut Body,
+    around: Around,
+    line: u32,
+    body: &Statement,
+    e: Shared<CoreExpr>,
+) -> Result<Shared<CoreStmt>, UnitFault>
+    ensures { GivesWith (spec.switch_on line e (spec.standing body.now) around (m.old, f.old)) result (m.new, f.new) }
+{
+    let body = switch_body(alloc, m, f, around.switched(), body)?;
+    let labels = close_switch(alloc, f);
+    node(alloc, CoreStmt::Switch(line, e, labels, body))
+}
+
 #[cycle(statements)]
 fn switch_statement(
     alloc: Global,
@@ -306,14 +200,15 @@ fn switch_statement(
     line: u32,
     body: &Statement,
     e: &Expr,
-) -> Result<Shared<CoreStmt>, UnitFault> {
+) -> Result<Shared<CoreStmt>, UnitFault>
+    ensures { GivesWith (spec.switch line e.now (spec.standing body.now) around (m.old, f.old)) result (m.new, f.new) }
+{
     let (e, of) = selector(alloc, &mut m.st, e)?;
     open_switch(alloc, f, of)?;
-    let body = switch_body(alloc, m, f, around.switched(), body)?;
-    let labels = close_switch(alloc, f);
-    node(alloc, CoreStmt::Switch(line, e, labels, body))
+    switch_on(alloc, m, f, around, line, body, e)
 }
 
+/// `while` (ANSI 3.6.5.1).
 #[cycle(statements)]
 fn while_statement(
     alloc: Global,
@@ -323,12 +218,15 @@ fn while_statement(
     line: u32,
     body: &Statement,
     e: &Expr,
-) -> Result<Shared<CoreStmt>, UnitFault> {
+) -> Result<Shared<CoreStmt>, UnitFault>
+    ensures { GivesWith (spec.while_loop line e.now (spec.standing body.now) around (m.old, f.old)) result (m.new, f.new) }
+{
     let e = condition(alloc, &mut m.st, e)?;
     let body = statement(alloc, m, f, around.looped(), body)?;
     node(alloc, CoreStmt::While(line, e, body))
 }
 
+/// `do`, whose `while` stands on another line (ANSI 3.6.5.2).
 #[cycle(statements)]
 fn do_statement(
     alloc: Global,
@@ -339,7 +237,9 @@ fn do_statement(
     body: &Statement,
     at: u32,
     e: &Expr,
-) -> Result<Shared<CoreStmt>, UnitFault> {
+) -> Result<Shared<CoreStmt>, UnitFault>
+    ensures { GivesWith (spec.do_loop line (spec.standing body.now) at e.now around (m.old, f.old)) result (m.new, f.new) }
+{
     let body = statement(alloc, m, f, around.looped(), body)?;
     let e = condition(alloc, &mut m.st, e)?;
     node(alloc, CoreStmt::Do(line, body, at, e))
@@ -351,10 +251,31 @@ fn for_expressions(
     st: &mut State,
     first: &Option<Shared<Expr>>,
     second: &Option<Shared<Expr>>,
-) -> Result<(Option<Shared<CoreExpr>>, Option<Shared<CoreExpr>>), UnitFault> {
+) -> Result<(Option<Shared<CoreExpr>>, Option<Shared<CoreExpr>>), UnitFault>
+    ensures { GivesWith (spec.for_begin first.now second.now st.old) result st.new }
+{
     let first = optional_value(alloc, st, first)?;
     let second = optional_condition(alloc, st, second)?;
     Ok((first, second))
+}
+
+/// The body of a `for`, behind its expressions (ANSI 3.6.5.3).
+#[cycle(statements)]
+fn for_body(
+    alloc: Global,
+    m: &mut Translation,
+    f: &mut Body,
+    around: Around,
+    line: u32,
+    body: &Statement,
+    first: Option<Shared<CoreExpr>>,
+    second: Option<Shared<CoreExpr>>,
+    third: Option<Shared<CoreExpr>>,
+) -> Result<Shared<CoreStmt>, UnitFault>
+    ensures { GivesWith (spec.for_body line first second third (spec.standing body.now) around (m.old, f.old)) result (m.new, f.new) }
+{
+    let body = statement(alloc, m, f, around.looped(), body)?;
+    node(alloc, CoreStmt::For(line, first, second, third, body))
 }
 
 #[cycle(statements)]
@@ -368,14 +289,15 @@ fn for_statement(
     first: &Option<Shared<Expr>>,
     second: &Option<Shared<Expr>>,
     third: &Option<Shared<Expr>>,
-) -> Result<Shared<CoreStmt>, UnitFault> {
+) -> Result<Shared<CoreStmt>, UnitFault>
+    ensures { GivesWith (spec.for_loop line first.now second.now third.now (spec.standing body.now) around (m.old, f.old)) result (m.new, f.new) }
+{
     let (first, second) = for_expressions(alloc, &mut m.st, first, second)?;
     let third = optional_value(alloc, &mut m.st, third)?;
-    let body = statement(alloc, m, f, around.looped(), body)?;
-    node(alloc, CoreStmt::For(line, first, second, third, body))
+    for_body(alloc, m, f, around, line, body, first, second, third)
 }
 
-/// A statement behind `case`, whose constant comes before it and whose own rules after it.
+/// A statement behind `case`, whose constant comes before it and whose own rules after it (ANSI 3.6.1).
 #[cycle(statements)]
 fn case_statement(
     alloc: Global,
@@ -385,13 +307,16 @@ fn case_statement(
     line: u32,
     below: &Statement,
     e: &Expr,
-) -> Result<Shared<CoreStmt>, UnitFault> {
+) -> Result<Shared<CoreStmt>, UnitFault>
+    ensures { GivesWith (spec.case line e.now (spec.standing below.now) around (m.old, f.old)) result (m.new, f.new) }
+{
     let (bits, _) = constant(alloc, &mut m.st, e)?;
     let below = statement(alloc, m, f, around, below)?;
     add_label(f, line, Some(bits), around.at)?;
     node(alloc, CoreStmt::Case(line, below))
 }
 
+/// A statement behind `default` (ANSI 3.6.1).
 #[cycle(statements)]
 fn default_statement(
     alloc: Global,
@@ -400,7 +325,9 @@ fn default_statement(
     around: Around,
     line: u32,
     below: &Statement,
-) -> Result<Shared<CoreStmt>, UnitFault> {
+) -> Result<Shared<CoreStmt>, UnitFault>
+    ensures { GivesWith (spec.default_case line (spec.standing below.now) around (m.old, f.old)) result (m.new, f.new) }
+{
     let below = statement(alloc, m, f, around, below)?;
     add_label(f, line, None, around.at)?;
     node(alloc, CoreStmt::Default(line, below))
@@ -414,13 +341,15 @@ fn default_statement(
 /// a `switch` no integer; for `break`, `continue` and labels outside of what they belong to; for equal labels; for a `return`
 /// whose value the result does not take. X9 `casedepth` and X10 `cases` of labels.
 #[cycle(statements)]
-pub fn statement(
+fn statement(
     alloc: Global,
     m: &mut Translation,
     f: &mut Body,
     around: Around,
     s: &Statement,
-) -> Result<Shared<CoreStmt>, UnitFault> {
+) -> Result<Shared<CoreStmt>, UnitFault>
+    ensures { GivesWith ((spec.standing s.now).typed around (m.old, f.old)) result (m.new, f.new) }
+{
     match s {
         Statement::Block(line, declarations, statements) => inner_block(
             alloc,
@@ -436,9 +365,7 @@ pub fn statement(
         Statement::Expression(line, e) => expression_statement(alloc, &mut m.st, *line, e.get()),
         Statement::If(line, e, a, b) => {
             let e = condition(alloc, &mut m.st, e.get())?;
-            let a = statement(alloc, m, f, around.part(), a.get())?;
-            let b = branch(alloc, m, f, around.part(), b)?;
-            node(alloc, CoreStmt::If(*line, e, a, b))
+            branches(alloc, m, f, around, *line, a.get(), b, e)
         }
         Statement::Switch(line, e, body) => {
             switch_statement(alloc, m, f, around, *line, body.get(), e.get())

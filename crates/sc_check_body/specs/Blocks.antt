@@ -1,0 +1,192 @@
+-- Blocks and statements (ANSI 3.6): their typed trees, or the first refusal in the order in which constructs end.
+use Rattle.std.specs.Prelude.{ℕ, Bool, true, false, if◌then◌else◌, List, [], ◌∷◌, ◌++◌, length, map, Option, Some, None, Ok}
+use Rattle.std.specs.Option.{option_map}
+use Rattle.sc_types.specs.declared.ctype.CType.{CType}
+use Rattle.sc_base.specs.declared.integer.Int.{Int}
+use Rattle.sc_tree.specs.declared.declaration.Declaration.{Declaration}
+use Rattle.sc_tree.specs.declared.expression.Expr.{Expr}
+use Rattle.sc_tree.specs.declared.statement.Statement.{Statement, fold-Statement}
+use Rattle.sc_tree.specs.declared.statement.Statement.TheOpen.{Statement-F}
+use Rattle.sc_core.specs.declared.expression.CoreExpr.{CoreExpr}
+use Rattle.sc_core.specs.declared.statement.CoreStmt.{CoreStmt}
+use Rattle.sc_core.specs.declared.statement.CoreStmt.TheVariants as s
+use Rattle.sc_core.specs.declared.statement.SwitchLabel.{SwitchLabel}
+use Rattle.sc_scope.specs.declared.state.Marks.{Marks}
+use Rattle.sc_scope.specs.declared.state.State.{State}
+use Rattle.sc_scope.specs.Scopes as scopes
+use Rattle.sc_check_expr.specs.Typed.{node, constant}
+use Rattle.sc_check_body.specs.declared.progress.Around.{Around}
+use Rattle.sc_check_body.specs.declared.progress.Body.{Body}
+use Rattle.sc_check_body.specs.declared.progress.OpenBlock.{OpenBlock}
+use Rattle.sc_check_body.specs.declared.progress.Translation.{Translation}
+use Rattle.sc_check_body.specs.Faults.{Checked, and_then, each, within, rule}
+use Rattle.sc_check_body.specs.Progress.{with_scope, open_block, part, looped, switched, listed}
+use Rattle.sc_check_body.specs.Locals.{Opened, Declaring, declare_local}
+use Rattle.sc_check_body.specs.Labels as labels
+use Rattle.sc_check_body.specs.Statements.{value, condition, selector, returned, optional}
+
+-- the unit, and the function's body so far
+abbrev pub Place : Type 0
+Place = Translation × Body
+
+-- what is asked of, and may change, them
+abbrev pub Working : Type 0 → Type 0
+Working A = Place → Checked (A × Place)
+
+-- what asks of what is in scope alone
+abbrev pub scoped : {A : Type 0} → (State → Checked (A × State)) → Working A
+scoped f w = and_then (f w.0.st) (λ r. Ok (r.0, (with_scope r.1 w.0, w.1)))
+
+-- A statement: its typed tree where it stands, and that as the body of a `switch`.
+pub record Standing : Type 0 where
+  pub typed : Around → Working CoreStmt
+  pub as_body : Around → Working CoreStmt
+
+-- ---- blocks (3.6.2)
+
+abbrev pub one_declaration : Declaration → Unit {0} → Opened → Checked (Unit {0} × Opened)
+one_declaration d u w = declare_local d w
+
+abbrev pub declare_all : List Declaration → Declaring
+declare_all ds w = each one_declaration ds tt w
+
+-- a block whose objects are known: its number, and its initialised automatic objects
+abbrev pub closed_block : OpenBlock → Body → (ℕ × List CoreStmt) × Body
+closed_block inner f = ((inner.number, inner.initialized), record f { blocks = f.blocks ++ inner.locals ∷ [] })
+
+abbrev pub closing : Opened → (ℕ × List CoreStmt) × Place
+closing w = ((closed_block w.1.1 w.1.0).0, (w.0, (closed_block w.1.1 w.1.0).1))
+
+-- The declarations of a block, whose scope is there; blocks are numbered in the order in which they begin.
+abbrev pub declared : List Declaration → Working (ℕ × List CoreStmt)
+declared ds w = and_then (declare_all ds (w.0, (w.1, open_block (length w.1.blocks)))) (λ r. Ok (closing r.1))
+
+-- where the next statement of a list stands
+abbrev pub next_place : Bool → List CoreStmt → Around → Around
+next_place in_switch done around = if in_switch then listed (length done) around else part around
+
+abbrev pub one_statement : Around → Bool → Standing → List CoreStmt → Working (List CoreStmt)
+one_statement around in_switch x done w = and_then (x.typed (next_place in_switch done around) w) (λ r. Ok (done ++ r.0 ∷ [], r.1))
+
+-- the statements of a list, behind what is there
+abbrev pub statements : Around → Bool → List Standing → List CoreStmt → Working (List CoreStmt)
+statements around in_switch xs done w = each (one_statement around in_switch) xs done w
+
+-- a block whose scope is there; `in_switch` says whether it is the body of a `switch`
+abbrev pub block_of : Around → Bool → ℕ → List Standing → List Declaration → Working CoreStmt
+block_of around in_switch line xs ds w =
+    and_then (declared ds w) (λ d. and_then (statements around in_switch xs d.0.1 d.1) (λ r. Ok (s.Block line d.0.0 r.0, r.1)))
+
+abbrev pub entered : Place → Place
+entered w = (with_scope (scopes.enter w.0.st) w.0, w.1)
+
+abbrev pub left : Marks → Place → Place
+left outer w = (with_scope (scopes.leave outer w.0.st) w.0, w.1)
+
+-- a block with a scope of its own (3.1.2.1)
+abbrev pub inner_block : Around → Bool → ℕ → List Standing → List Declaration → Working CoreStmt
+inner_block around in_switch line xs ds w = and_then (block_of around in_switch line xs ds (entered w)) (λ r. Ok (r.0, left w.0.st.began r.1))
+
+-- ---- statements
+
+abbrev pub made : CoreStmt → Working CoreStmt
+made x w = Ok (x, w)
+
+-- `break` and `continue`, where they may stand (3.6.6.2, 3.6.6.3)
+abbrev pub jump : ℕ → Bool → CoreStmt → Working CoreStmt
+jump line may_stand x w = if may_stand then Ok (x, w) else rule line
+
+-- 3.6.3
+abbrev pub expression : ℕ → Expr → State → Checked (CoreStmt × State)
+expression line e st = and_then (value (node e) st) (λ r. Ok (s.Expression line r.0, r.1))
+
+abbrev pub branch : Around → Option Standing → Working (Option CoreStmt)
+branch around None w = Ok (None, w)
+branch around (Some x) w = and_then (x.typed around w) (λ r. Ok (Some r.0, r.1))
+
+abbrev pub branches : ℕ → CoreExpr → Standing → Option Standing → Around → Working CoreStmt
+branches line e a b around w = and_then (a.typed (part around) w) (λ x. and_then (branch (part around) b x.1) (λ y. Ok (s.If line e x.0 y.0, y.1)))
+
+-- 3.6.4.1
+abbrev pub conditional : ℕ → Expr → Standing → Option Standing → Around → Working CoreStmt
+conditional line e a b around w = and_then (scoped (condition (node e)) w) (λ c. branches line c.0 a b around c.1)
+
+abbrev pub opened : Int → Place → Place
+opened of w = (w.0, labels.open_switch of w.1)
+
+abbrev pub closed : ℕ → CoreExpr → CoreStmt × Place → CoreStmt × Place
+closed line e r = (s.Switch line e (labels.close_switch r.1.1).0 r.0, (r.1.0, (labels.close_switch r.1.1).1))
+
+abbrev pub switch_on : ℕ → CoreExpr → Standing → Around → Working CoreStmt
+switch_on line e x around w = and_then (x.as_body (switched around) w) (λ r. Ok (closed line e r))
+
+-- 3.6.4.2
+abbrev pub switch : ℕ → Expr → Standing → Around → Working CoreStmt
+switch line e x around w = and_then (scoped (selector (node e)) w) (λ c. switch_on line c.0.0 x around (opened c.0.1 c.1))
+
+-- 3.6.5.1
+abbrev pub while_loop : ℕ → Expr → Standing → Around → Working CoreStmt
+while_loop line e x around w = and_then (scoped (condition (node e)) w) (λ c. and_then (x.typed (looped around) c.1) (λ r. Ok (s.While line c.0 r.0, r.1)))
+
+-- 3.6.5.2
+abbrev pub do_loop : ℕ → Standing → ℕ → Expr → Around → Working CoreStmt
+do_loop line x n e around w = and_then (x.typed (looped around) w) (λ r. and_then (scoped (condition (node e)) r.1) (λ c. Ok (s.Do line r.0 n c.0, c.1)))
+
+abbrev pub for_body : ℕ → Option CoreExpr → Option CoreExpr → Option CoreExpr → Standing → Around → Working CoreStmt
+for_body line a b c x around w = and_then (x.typed (looped around) w) (λ r. Ok (s.For line a b c r.0, r.1))
+
+abbrev pub for_begin : Option Expr → Option Expr → State → Checked ((Option CoreExpr × Option CoreExpr) × State)
+for_begin a b st = and_then (optional value (option_map node a) st) (λ a. and_then (optional condition (option_map node b) a.1) (λ b. Ok ((a.0, b.0), b.1)))
+
+-- 3.6.5.3
+abbrev pub for_loop : ℕ → Option Expr → Option Expr → Option Expr → Standing → Around → Working CoreStmt
+for_loop line a b c x around w =
+    and_then (scoped (for_begin a b) w) (λ r. and_then (scoped (optional value (option_map node c)) r.1) (λ c. for_body line r.0.0 r.0.1 c.0 x around c.1))
+
+abbrev pub labelled : ℕ → Option ℕ → Around → (CoreStmt → CoreStmt) → CoreStmt × Place → Checked (CoreStmt × Place)
+labelled line bits around make r = and_then (labels.add_label line bits around.at r.1.1) (λ f. Ok (make r.0, (r.1.0, f.1)))
+
+-- 3.6.1; the constant comes before the statement, and the rules of the label after it
+abbrev pub case : ℕ → Expr → Standing → Around → Working CoreStmt
+case line e x around w =
+    and_then (scoped (λ st. within (constant (node e) st)) w) (λ k. and_then (x.typed around k.1) (λ r. labelled line (Some k.0.0) around (s.Case line) r))
+
+abbrev pub default_case : ℕ → Standing → Around → Working CoreStmt
+default_case line x around w = and_then (x.typed around w) (λ r. labelled line None around (s.Default line) r)
+
+-- 3.6.6.4
+abbrev pub return_value : ℕ → CType → Option Expr → State → Checked (CoreStmt × State)
+return_value line gives None st = Ok (s.Return line None, st)
+return_value line gives (Some e) st = and_then (returned line gives (node e) st) (λ r. Ok (s.Return line (Some r.0), r.1))
+
+-- ---- the whole trees
+
+abbrev pub typed_by : Statement-F Standing → Around → Working CoreStmt
+typed_by (Statement-F.Block l ds xs) around w = inner_block (part around) false l xs ds w
+typed_by (Statement-F.Empty l) around w = made (s.Empty l) w
+typed_by (Statement-F.Expression l e) around w = scoped (expression l e) w
+typed_by (Statement-F.If l e a b) around w = conditional l e a b around w
+typed_by (Statement-F.Switch l e x) around w = switch l e x around w
+typed_by (Statement-F.While l e x) around w = while_loop l e x around w
+typed_by (Statement-F.Do l x n e) around w = do_loop l x n e around w
+typed_by (Statement-F.For l a b c x) around w = for_loop l a b c x around w
+typed_by (Statement-F.Case l e x) around w = case l e x around w
+typed_by (Statement-F.Default l x) around w = default_case l x around w
+typed_by (Statement-F.Continue l) around w = jump l around.in_loop (s.Continue l) w
+typed_by (Statement-F.Break l) around w = jump l around.may_break (s.Break l) w
+typed_by (Statement-F.Return l e) around w = scoped (return_value l w.1.result e) w
+
+-- The statements of a block are the list of the `switch`, and another statement is a list of itself alone.
+abbrev pub body_by : Statement-F Standing → Around → Working CoreStmt
+body_by (Statement-F.Block l ds xs) around w = inner_block around true l xs ds w
+body_by x around w = typed_by x (listed 0 around) w
+
+abbrev pub in_statement : Statement-F Standing → Standing
+in_statement x = record { typed = typed_by x; as_body = body_by x }
+
+abbrev pub standing : Statement → Standing
+standing = fold-Statement Standing in_statement
+
+-- a block of these statements, whose scope is there
+abbrev pub block : Around → Bool → ℕ → List Statement → List Declaration → Working CoreStmt
+block around in_switch line xs ds w = block_of around in_switch line (map standing xs) ds w
