@@ -1,1 +1,3 @@
 mod Objects
+mod Carried
+mod Answering

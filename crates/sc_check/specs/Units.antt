@@ -81,14 +81,14 @@ with_given ds given x = record x {
 }
 
 abbrev pub ending : List ℕ → List Declared → Translation → Ending
-ending name ds x = record { home = name; declared = ds; literals = x.st.literals; births = born name x.st.literals x.links x.noted }
+ending name ds x = record { declared = ds; literals = x.st.literals; births = born name x.st.literals x.links x.noted }
 
 abbrev pub at_end : List ℕ → Translation → Checked (Ending × Translation)
 at_end name x = and_then (declaring (finish x.st.structs x.links)) (λ ds. Ok (ending name ds x, with_objects ds x))
 
-abbrev pub assembled : Ending → Translation → Core
-assembled end x = record {
-  name = end.home;
+abbrev pub assembled : List ℕ → Ending → Translation → Core
+assembled name end x = record {
+  name = name;
   funs = x.funs;
   objects = x.objects;
   literals = end.literals;
@@ -102,4 +102,4 @@ whole name items x = and_then (text items x) (λ r. at_end name r.1)
 
 -- The module with this name that a unit of these functions and declarations is, or the first refusal in the order in which constructs end.
 abbrev pub unit_of : List ℕ → List External → Checked Core
-unit_of name items = and_then (whole name items (beginning name)) (λ r. Ok (assembled r.0 r.1))
+unit_of name items = and_then (whole name items (beginning name)) (λ r. Ok (assembled name r.0 r.1))

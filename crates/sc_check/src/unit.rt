@@ -158,7 +158,6 @@ fn add_objects(alloc: Global, m: &mut Translation, declared: &[Declared]) -> Res
 /// What the end of a unit tells.
 #[derive(Drop)]
 struct Ending {
-    home: Name,
     declared: Items<Declared>,
     literals: Items<Bytes>,
     births: Items<StaticId>,
@@ -180,9 +179,7 @@ fn told_at_end(
         m.links.as_slice(),
         m.noted.as_slice(),
     )?;
-    let home = name.copy(alloc)?;
     Ok(Ending {
-        home,
         declared,
         literals,
         births,
@@ -197,9 +194,9 @@ fn at_end(alloc: Global, name: &Name, m: &mut Translation) -> Result<Ending, Uni
     Ok(told_at_end(alloc, name, m, declared)?)
 }
 
-/// The module.
-fn module(m: Translation, end: Ending) -> Core
-    ensures { result ≡ spec.assembled end m }
+/// The module with this name.
+fn module(home: Name, m: Translation, end: Ending) -> Core
+    ensures { result ≡ spec.assembled home end m }
 {
     let Translation {
         st,
@@ -209,7 +206,6 @@ fn module(m: Translation, end: Ending) -> Core
     } = m;
     let State { structs, .. } = st;
     let Ending {
-        home,
         declared,
         literals,
         births,
@@ -238,13 +234,16 @@ fn read(
 }
 
 fn checked(alloc: Global, name: &Name, items: &[External]) -> Result<Core, UnitFault>
-    ensures { Says (spec.unit_of name.now items.now) result }
+    ensures answer { Says (spec.unit_of name.now items.now) result }
+    ensures name { IfOk result (λ core. core.name ≡ name.now) }
 {
+    let home = name.copy(alloc)?;
     let mut m = Translation::new(alloc, name.copy(alloc)?);
     match read(alloc, name, &mut m, items) {
-        Ok(end) => Ok(module(m, end)),
+        Ok(end) => Ok(module(home, m, end)),
         Err(fault) => {
             drop(m);
+            drop(home);
             Err(fault)
         }
     }
@@ -275,6 +274,7 @@ fn lawful(alloc: Global, core: Core) -> Result<Core, Fault>
 /// The first refusal in the order in which constructs end: X6 to X10.
 pub fn check(alloc: Global, name: &Name, unit: &Unit) -> Result<Core, Fault>
     ensures answer { Answers (spec.unit_of name.now unit.now.items) result }
+    ensures name { IfOk result (λ core. core.name ≡ name.now) }
     ensures formed { IfOk result (λ core. formed core ≡ true) }
 {
     match checked(alloc, name, unit.items.as_slice()) {

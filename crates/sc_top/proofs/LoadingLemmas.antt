@@ -13,8 +13,8 @@ pub without_memory : (old new : Moment) (name : List ℕ) → Stays old new → 
 without_memory old new name s = (tt, s)
 
 pub untranslated : (old new : Moment) (name file : List ℕ) (r : Refusal) → Comes old name → Stays old new → file ≡ file_of name
-    → Refuses old.held file r → AnswersTo old (command.Load name) (answer.Refused (denied.Translation r)) new
-untranslated old new name file r comes s e refuses = (s, (comes, subst (λ f. Refuses old.held f r) e refuses))
+    → Refuses old.held file name r → AnswersTo old (command.Load name) (answer.Refused (denied.Translation r)) new
+untranslated old new name file r comes s e refuses = (s, (comes, subst (λ f. Refuses old.held f name r) e refuses))
 
 pub unreadable : (old new : Moment) (name file asked : List ℕ) → Comes old name → Stays old new → file ≡ file_of name
     → Asks old.held file asked → Rose old.faults new.faults → AnswersTo old (command.Load name) (answer.Refused (denied.FileFault asked)) new

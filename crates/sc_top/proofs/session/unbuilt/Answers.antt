@@ -6,7 +6,7 @@ use Rattle.sc_top.proofs.session.unbuilt.Goals as goal
 
 pub returns-in-Refused : goal.returns-in-Refused
 returns-in-Refused c = λ old new name comes stays file answers.
-    let refuses : Refuses old.held c.args.file.now c.in-Refused.refusal =
+    let refuses : Refuses old.held c.args.file.now name c.in-Refused.refusal =
     subst (λ f. Answers old.held old.faults new.faults c.args.file.now name (Err f)) c.in-Refused.is answers in
     untranslated old new name c.args.file.now c.in-Refused.refusal comes stays file refuses
 
