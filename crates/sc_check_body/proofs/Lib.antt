@@ -1,0 +1,3 @@
+mod Births
+mod Turns
+mod Blocked

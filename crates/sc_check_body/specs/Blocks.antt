@@ -10,7 +10,6 @@ use Rattle.sc_tree.specs.declared.statement.Statement.TheOpen.{Statement-F}
 use Rattle.sc_core.specs.declared.expression.CoreExpr.{CoreExpr}
 use Rattle.sc_core.specs.declared.statement.CoreStmt.{CoreStmt}
 use Rattle.sc_core.specs.declared.statement.CoreStmt.TheVariants as s
-use Rattle.sc_core.specs.declared.statement.SwitchLabel.{SwitchLabel}
 use Rattle.sc_scope.specs.declared.state.Marks.{Marks}
 use Rattle.sc_scope.specs.declared.state.State.{State}
 use Rattle.sc_scope.specs.Scopes as scopes
@@ -104,12 +103,13 @@ abbrev pub branch : Around → Option Standing → Working (Option CoreStmt)
 branch around None w = Ok (None, w)
 branch around (Some x) w = and_then (x.typed around w) (λ r. Ok (Some r.0, r.1))
 
-abbrev pub branches : ℕ → CoreExpr → Standing → Option Standing → Around → Working CoreStmt
-branches line e a b around w = and_then (a.typed (part around) w) (λ x. and_then (branch (part around) b x.1) (λ y. Ok (s.If line e x.0 y.0, y.1)))
+abbrev pub otherwise : ℕ → CoreExpr → CoreStmt → Option Standing → Around → Working CoreStmt
+otherwise line e a b around w = and_then (branch (part around) b w) (λ y. Ok (s.If line e a y.0, y.1))
 
 -- 3.6.4.1
 abbrev pub conditional : ℕ → Expr → Standing → Option Standing → Around → Working CoreStmt
-conditional line e a b around w = and_then (scoped (condition (node e)) w) (λ c. branches line c.0 a b around c.1)
+conditional line e a b around w =
+    and_then (scoped (condition (node e)) w) (λ c. and_then (a.typed (part around) c.1) (λ x. otherwise line c.0 x.0 b around x.1))
 
 abbrev pub opened : Int → Place → Place
 opened of w = (w.0, labels.open_switch of w.1)

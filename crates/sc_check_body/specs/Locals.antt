@@ -1,5 +1,5 @@
 -- Declarations of a block (ANSI 3.5, 3.6.2).
-use Rattle.std.specs.Prelude.{ℕ, ◌==◌, Bool, true, false, if◌then◌else◌, List, [], ◌∷◌, ◌++◌, length, Option, Some, None, is_some, Ok}
+use Rattle.std.specs.Prelude.{ℕ, ◌==◌, Bool, true, false, ◌||◌, if◌then◌else◌, List, [], ◌∷◌, ◌++◌, length, Option, Some, None, is_some, Ok}
 use Rattle.sc_base.specs.declared.key.Key.{Key}
 use Rattle.sc_types.specs.declared.ctype.CType.{CType, out-CType}
 use Rattle.sc_types.specs.declared.ctype.CType.TheOpen.{CType-F}
@@ -77,7 +77,7 @@ is_typedef (Some storage.Typedef) = true
 is_typedef _ = false
 
 abbrev pub may_by : CType-F CType Signature → List StructDef → CType → Bool
-may_by (CType-F.Array u n) structs of = if n == 0 then true else is_some (object_size structs of)
+may_by (CType-F.Array u n) structs of = n == 0 || is_some (object_size structs of)
 may_by _ structs of = is_some (object_size structs of)
 
 -- An object has a complete type; the size of an array may be left to its initialiser.
@@ -92,7 +92,7 @@ local_by line name of None = rule line
 abbrev pub local_of : List StructDef → ℕ → List ℕ → CType → Checked Local
 local_of structs line name of = local_by line name of (object_size structs of)
 
--- one more name in scope, which hides the others
+-- one more name in scope, which hides an outer one
 abbrev pub naming : List ℕ → Meaning → State → State
 naming name meaning s = record s { names = (name, meaning) ∷ s.names }
 
@@ -212,13 +212,16 @@ abbrev pub one_declarator : Option Storage → DeclaredType → InitDeclarator �
 one_declarator class base x u w =
     and_then (in_unit (in_scope (λ s. within (declarator_type base x.declarator s))) w) (λ t. named_by x.line x.declarator.identifier class x.initializer t.0 t.1)
 
-abbrev pub declarators : Declaration → List InitDeclarator → Declaring
-declarators d xs w =
-    and_then (in_unit (in_scope (λ s. within (specifying d.specifiers s))) w) (λ b. each (one_declarator d.specifiers.storage b.0) xs tt b.1)
+abbrev pub declare_each : Option Storage → DeclaredType → List InitDeclarator → Declaring
+declare_each class base xs w = each (one_declarator class base) xs tt w
+
+abbrev pub declarators : Declaration → Declaring
+declarators d w =
+    and_then (in_unit (in_scope (λ s. within (specifying d.specifiers s))) w) (λ b. declare_each d.specifiers.storage b.0 d.declarators b.1)
 
 abbrev pub declare_by : Declaration → List InitDeclarator → Declaring
 declare_by d [] w = in_unit (in_scope (declare_alone place.Block d)) w
-declare_by d (x ∷ xs) w = declarators d (x ∷ xs) w
+declare_by d (x ∷ xs) w = declarators d w
 
 -- a declaration of a block
 abbrev pub declare_local : Declaration → Declaring

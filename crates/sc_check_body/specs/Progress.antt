@@ -26,12 +26,13 @@ Translating A = Translation → Checked (A × Translation)
 abbrev pub beginning : List ℕ → Translation
 beginning home = record { home = home; st = scopes.beginning; links = []; contents = []; noted = []; literals = 0; objects = []; funs = [] }
 
--- the literals that have appeared since the last birth, by their numbers
-abbrev pub new_literals : Translation → List Birth
-new_literals m = map (λ n. birth.Literal n) (range_with_len m.literals (length m.st.literals - m.literals))
+-- the literals from one number on, before another
+abbrev pub literals : ℕ → ℕ → List Birth
+literals from to = map (λ n. birth.Literal n) (range_with_len from (to - from))
 
+-- The literals that have appeared since the last birth are noted.
 abbrev pub note_literals : Translation → Translation
-note_literals m = record m { noted = m.noted ++ new_literals m; literals = length m.st.literals }
+note_literals m = record m { noted = m.noted ++ literals m.literals (length m.st.literals); literals = length m.st.literals }
 
 abbrev pub with_birth : Birth → Translation → Translation
 with_birth x m = record m { noted = m.noted ++ x ∷ [] }

@@ -1,5 +1,5 @@
 // The labels of a `switch` (ANSI 3.6.1, 3.6.4.2).
-ghost use Rattle.std.specs.Prelude.{◌≡◌, ◌∷◌, OnOk};
+ghost use Rattle.std.specs.Prelude.{◌≡◌, OnOk};
 ghost use Rattle.sc_check_body.specs.Faults.{GivesWith};
 ghost use Rattle.sc_check_body.specs.Labels as spec;
 

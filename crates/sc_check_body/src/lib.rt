@@ -4,8 +4,8 @@
 
 mod alone;
 mod automatic;
-mod controlling;
 mod declarations;
+mod expressions;
 mod fault;
 mod labels;
 mod linked;

@@ -241,6 +241,23 @@ fn declare(
     }
 }
 
+fn declare_each(
+    alloc: Global,
+    m: &mut Translation,
+    f: &mut Body,
+    inner: &mut OpenBlock,
+    storage: Option<Storage>,
+    base: &DeclaredType,
+    list: &[InitDeclarator],
+) -> Result<(), UnitFault>
+    ensures { GivesWith (spec.declare_each storage base.now list.now (m.old, (f.old, inner.old))) result (m.new, (f.new, inner.new)) }
+{
+    for one in list {
+        declare(alloc, m, f, inner, storage, base, one)?;
+    }
+    Ok(())
+}
+
 /// The declarators of a declaration that has some.
 fn declare_all(
     alloc: Global,
@@ -252,10 +269,15 @@ fn declare_all(
     ensures { GivesWith (spec.declarators d.now (m.old, (f.old, inner.old))) result (m.new, (f.new, inner.new)) }
 {
     let base = specifiers(alloc, &mut m.st, &d.specifiers)?;
-    for one in d.declarators.as_slice() {
-        declare(alloc, m, f, inner, d.specifiers.storage, &base, one)?;
-    }
-    Ok(())
+    declare_each(
+        alloc,
+        m,
+        f,
+        inner,
+        d.specifiers.storage,
+        &base,
+        d.declarators.as_slice(),
+    )
 }
 
 /// A declaration of a block.

@@ -1,5 +1,5 @@
 // What the text of a unit has given up to a place, and what is open there.
-ghost use Rattle.std.specs.Prelude.{◌≡◌, OnOk, IfOk};
+ghost use Rattle.std.specs.Prelude.{◌≡◌, ◌++◌, OnOk, IfOk};
 ghost use Rattle.sc_check_body.specs.Progress as spec;
 
 use crate::tables::{Counts, Values};
@@ -25,6 +25,19 @@ pub struct Translation {
     pub funs: Items<Shared<Fun>>,
 }
 
+/// Notes the literals from one number on, before another.
+fn note_from(noted: &mut Items<Birth>, from: usize, to: usize) -> Result<(), NoMemory>
+    ensures { OnOk result (noted.new ≡ noted.old ++ spec.literals from to) }
+{
+    for at in from..to {
+        let Ok(number) = u32::try_from(at) else {
+            return Err(NoMemory);
+        };
+        noted.push(Birth::Literal(number))?;
+    }
+    Ok(())
+}
+
 impl Translation {
     /// Nothing yet, at the beginning of a unit, which takes no memory.
     pub fn new(alloc: Global, home: Name) -> Translation
@@ -47,12 +60,7 @@ impl Translation {
         ensures { OnOk result (self.new ≡ spec.note_literals self.old) }
     {
         let count = self.st.literals.len();
-        for at in self.literals..count {
-            let Ok(number) = u32::try_from(at) else {
-                return Err(NoMemory);
-            };
-            self.noted.push(Birth::Literal(number))?;
-        }
+        note_from(&mut self.noted, self.literals, count)?;
         self.literals = count;
         Ok(())
     }

@@ -1,9 +1,9 @@
 // Statements without statements inside (ANSI 3.6.3, 3.6.6).
-ghost use Rattle.std.specs.Prelude.{◌≡◌, Ok, if◌then◌else◌};
+ghost use Rattle.std.specs.Prelude.{Ok, if◌then◌else◌};
 ghost use Rattle.sc_check_body.specs.Faults.{Says, GivesWith, rule as refuses};
 ghost use Rattle.sc_check_body.specs.Blocks as spec;
 
-use crate::controlling::{returned, value};
+use crate::expressions::{returned, value};
 use crate::fault::{UnitFault, rule};
 use crate::progress::Body;
 use sc_base::Shared;

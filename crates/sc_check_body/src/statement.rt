@@ -1,12 +1,11 @@
 // Statements (ANSI 3.6).
 ghost use Rattle.std.specs.Prelude.{◌≡◌, map, IfOk};
 ghost use Rattle.std.specs.Option.{option_map};
-ghost use Rattle.sc_check_body.specs.Faults.{Says, GivesWith};
-ghost use Rattle.sc_check_body.specs.Progress as place;
+ghost use Rattle.sc_check_body.specs.Faults.{GivesWith};
 ghost use Rattle.sc_check_body.specs.Blocks as spec;
 
-use crate::controlling::{condition, optional_condition, optional_value, selector};
 use crate::declarations::declared;
+use crate::expressions::{condition, optional_condition, optional_value, selector};
 use crate::fault::UnitFault;
 use crate::labels::{add_label, close_switch, open_switch};
 use crate::progress::{Around, Body, Translation};
@@ -128,21 +127,20 @@ fn branch(
     }
 }
 
-/// `if` and `else`, behind the condition (ANSI 3.6.4.1).
+/// `if` with its condition and its statement, and the statement behind `else` (ANSI 3.6.4.1).
 #[cycle(statements)]
-fn branches(
+fn otherwise(
     alloc: Global,
     m: &mut Translation,
     f: &mut Body,
     around: Around,
     line: u32,
-    a: &Statement,
     b: &Option<Shared<Statement>>,
     e: Shared<CoreExpr>,
+    a: Shared<CoreStmt>,
 ) -> Result<Shared<CoreStmt>, UnitFault>
-    ensures { GivesWith (spec.branches line e (spec.standing a.now) (option_map spec.standing b.now) around (m.old, f.old)) result (m.new, f.new) }
+    ensures { GivesWith (spec.otherwise line e a (option_map spec.standing b.now) around (m.old, f.old)) result (m.new, f.new) }
 {
-    let a = statement(alloc, m, f, around.part(), a)?;
     let b = branch(alloc, m, f, around.part(), b)?;
     node(alloc, CoreStmt::If(line, e, a, b))
 }
@@ -365,7 +363,8 @@ fn statement(
         Statement::Expression(line, e) => expression_statement(alloc, &mut m.st, *line, e.get()),
         Statement::If(line, e, a, b) => {
             let e = condition(alloc, &mut m.st, e.get())?;
-            branches(alloc, m, f, around, *line, a.get(), b, e)
+            let a = statement(alloc, m, f, around.part(), a.get())?;
+            otherwise(alloc, m, f, around, *line, b, e, a)
         }
         Statement::Switch(line, e, body) => {
             switch_statement(alloc, m, f, around, *line, body.get(), e.get())
