@@ -12,6 +12,7 @@ use Rattle.sc_check_body.specs.Faults.{Checked, GivesWith, and_then}
 use Rattle.sc_check_body.specs.Linked.{link, name_link}
 use Rattle.sc_check.specs.Steps.{in_links}
 use Rattle.sc_check.specs.Files as file
+use Rattle.sc_check.specs.Functions as function
 
 pub carried : {A S : Type 0} (o w : Checked (A × S)) (r : Result A UnitFault) (t : S) → o ≡ w → GivesWith o r t → GivesWith w r t
 carried o w r t e h = subst (λ z. GivesWith z r t) e h
@@ -34,3 +35,8 @@ linked at d given x y z found named =
 
 pub linked_as : (d e : Linked) (given : Option Initializer) (x : Translation) → d ≡ e → file.linked d given x ≡ file.linked e given x
 linked_as d e given x same = ap (λ (l : Linked). file.linked l given x) same
+
+-- ---- definitions of functions
+
+pub named_as : (d e : Linked) (x : Translation) → d ≡ e → function.named d x ≡ function.named e x
+named_as d e x same = ap (λ (l : Linked). function.named l x) same

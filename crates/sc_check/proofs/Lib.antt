@@ -1,3 +1,3 @@
 mod Objects
+mod Texts
 mod Carried
-mod Answering

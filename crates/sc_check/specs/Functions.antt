@@ -7,7 +7,7 @@ use Rattle.sc_tree.specs.declared.expression.Member.{Member}
 use Rattle.sc_tree.specs.declared.expression.Derivation.{Derivation, out-Derivation}
 use Rattle.sc_tree.specs.declared.expression.Derivation.TheOpen.{Derivation-F}
 use Rattle.sc_tree.specs.declared.expression.Declarator.{Declarator}
-use Rattle.sc_tree.specs.declared.expression.Parameter.{Parameter}
+use Rattle.sc_tree.specs.declared.expression.Parameter.{Parameter, out-Parameter}
 use Rattle.sc_tree.specs.declared.expression.Identifier.{Identifier}
 use Rattle.sc_tree.specs.declared.expression.Specifiers.{Specifiers}
 use Rattle.sc_tree.specs.declared.statement.Function.{Function}
@@ -84,14 +84,14 @@ identifier_by None = None
 identifier_by (Some d) = d.identifier
 
 abbrev pub identifier_of : Parameter → Option Identifier
-identifier_of p = identifier_by p.declarator
+identifier_of p = identifier_by (out-Parameter p).declarator
 
 -- Each parameter has a name and a complete object type.
 abbrev pub complete_parameters : List StructDef → List Parameter → List CType → Checked (Unit {0})
 complete_parameters structs [] ofs = Ok tt
 complete_parameters structs (p ∷ ps) [] = Ok tt
 complete_parameters structs (p ∷ ps) (of ∷ ofs) =
-    and_then (declaring (defined_parameter structs p.line (is_some (identifier_of p)) of)) (λ u. complete_parameters structs ps ofs)
+    and_then (declaring (defined_parameter structs (out-Parameter p).line (is_some (identifier_of p)) of)) (λ u. complete_parameters structs ps ofs)
 
 -- A function is defined with a storage class that may stand there.
 abbrev pub may_define : Function → List Parameter → List StructDef → Signature → Checked (Unit {0})
@@ -147,7 +147,7 @@ local_by None line s = rule line
 local_by (Some id) line s = local_meant s.structs line id.name (find id.name s.names)
 
 abbrev pub parameter_local : Parameter → State → Checked Local
-parameter_local p s = local_by (identifier_of p) p.line s
+parameter_local p s = local_by (identifier_of p) (out-Parameter p).line s
 
 -- those of some parameters, behind others
 abbrev pub locals : List Parameter → List Local → State → Checked (List Local)

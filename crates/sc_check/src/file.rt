@@ -275,11 +275,7 @@ fn declare_listed(alloc: Global, m: &mut Translation, d: &Declaration) -> Result
     )
 }
 
-fn without_declarators(
-    alloc: Global,
-    m: &mut Translation,
-    d: &Declaration,
-) -> Result<(), UnitFault>
+fn without_declarators(alloc: Global, m: &mut Translation, d: &Declaration) -> Result<(), UnitFault>
     ensures { GivesWith (spec.alone d.now m.old) result m.new }
 {
     declare_alone(alloc, &mut m.st, Place::File, d)

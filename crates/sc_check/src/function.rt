@@ -7,9 +7,7 @@ ghost use Rattle.sc_check.specs.Functions as spec;
 use crate::file::with_linkage;
 use crate::renumber::renumbered;
 use sc_base::{Duplicate, Items, Name, NoMemory, Shared};
-use sc_check_body::{
-    Around, Body, Translation, UnitFault, block, link, local_of, name_link, rule,
-};
+use sc_check_body::{Around, Body, Translation, UnitFault, block, link, local_of, name_link, rule};
 use sc_check_expr::{declarator, parameters, specifiers};
 use sc_core::{Auto, CoreStmt, Fun};
 use sc_declare::{Place, defined_parameter, may_stand};
@@ -259,12 +257,7 @@ fn parameter_locals(
 
 // ---- the body
 
-fn begun(
-    alloc: Global,
-    st: &mut State,
-    head: &Head,
-    list: &[Parameter],
-) -> Result<Body, UnitFault>
+fn begun(alloc: Global, st: &mut State, head: &Head, list: &[Parameter]) -> Result<Body, UnitFault>
     ensures { GivesWith (spec.begun head.now list.now st.old) result st.new }
 {
     let locals = parameter_locals(alloc, st, list)?;

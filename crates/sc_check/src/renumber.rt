@@ -61,7 +61,10 @@ pub(crate) fn renumbered(
         }
         CType::Struct(id, constant) => structure(*id, *constant, from, by),
         CType::Function(signature) => {
-            function(alloc, renumbered_signature(alloc, signature.get(), from, by)?)
+            function(
+                alloc,
+                renumbered_signature(alloc, signature.get(), from, by)?,
+            )
         }
         CType::Void(_) | CType::Int(_, _) => of.copy(alloc),
     }

@@ -53,9 +53,10 @@ fn texts(alloc: Global, literals: &Literals) -> Result<Items<Bytes>, NoMemory>
 {
     let mut all = Items::new(alloc);
     for at in 0..literals.len() {
-        if let Some(text) = literals.get(at) {
-            all.push(text.copy(alloc)?)?;
-        }
+        let Some(text) = literals.get(at) else {
+            return Ok(all);
+        };
+        all.push(text.copy(alloc)?)?;
     }
     Ok(all)
 }
@@ -135,14 +136,7 @@ fn add_given(
         drop(given);
         return Ok(());
     };
-    add_object(
-        alloc,
-        &m.st.structs,
-        link,
-        declared,
-        given,
-        &mut m.objects,
-    )
+    add_object(alloc, &m.st.structs, link, declared, given, &mut m.objects)
 }
 
 /// The objects with linkage, behind those of blocks, that of the last name first.
@@ -250,7 +244,7 @@ fn checked(alloc: Global, name: &Name, items: &[External]) -> Result<Core, UnitF
 }
 
 /// The module, whose laws are looked at once more: one that has them not, which no unit gives, is answered as want of memory.
-fn lawful(alloc: Global, core: Core) -> Result<Core, Fault>
+fn lawful(alloc: Global, core: Core) -> Result<Core, NoMemory>
     ensures same { IfOk result (λ kept. kept ≡ core) }
     ensures formed { IfOk result (λ kept. formed kept ≡ true) }
 {
@@ -258,11 +252,11 @@ fn lawful(alloc: Global, core: Core) -> Result<Core, Fault>
         Ok(true) => Ok(core),
         Ok(false) => {
             drop(core);
-            Err(Fault::NoMemory)
+            Err(NoMemory)
         }
         Err(_) => {
             drop(core);
-            Err(Fault::NoMemory)
+            Err(NoMemory)
         }
     }
 }
@@ -278,7 +272,7 @@ pub fn check(alloc: Global, name: &Name, unit: &Unit) -> Result<Core, Fault>
     ensures formed { IfOk result (λ core. formed core ≡ true) }
 {
     match checked(alloc, name, unit.items.as_slice()) {
-        Ok(core) => lawful(alloc, core),
+        Ok(core) => Ok(lawful(alloc, core)?),
         Err(fault) => Err(told(alloc, fault)),
     }
 }

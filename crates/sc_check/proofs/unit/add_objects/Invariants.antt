@@ -3,8 +3,8 @@ use Rattle.std.proofs.Common.{◌≡◌, length}
 use Rattle.sc_check.specs.Units.{with_objects}
 use Rattle.sc_check.proofs.unit.add_objects.Given as goal
 
-abbrev pub invariant-loop-m : goal.invariant-loop-m
-invariant-loop-m l = with_objects l.declared l.m ≡ with_objects l.declared l.fn.m
+abbrev pub invariant-loop-given : goal.invariant-loop-given
+invariant-loop-given l = with_objects l.declared l.m ≡ with_objects l.declared l.fn.m
 
-abbrev pub decreases-loop-m : goal.decreases-loop-m
-decreases-loop-m l = length l.m.contents
+abbrev pub decreases-loop-given : goal.decreases-loop-given
+decreases-loop-given l = length l.m.contents
