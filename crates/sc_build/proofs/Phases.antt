@@ -2,6 +2,8 @@
 use Rattle.std.proofs.Common.{◌≡◌, ℕ, List, Option, Result, Ok, Err, true, refl, sym, subst}
 use Rattle.sc_base.specs.declared.refusal.Fault.{Fault}
 use Rattle.sc_base.specs.declared.refusal.Fault.TheVariants as base
+use Rattle.sc_check.specs.Outcomes as rules
+use Rattle.sc_check.specs.Units.{unit_of}
 use Rattle.sc_core.specs.declared.module.Core.{Core}
 use Rattle.sc_formed.specs.Modules.{formed}
 use Rattle.sc_lex.specs.declared.token.Token.{Token}
@@ -36,7 +38,7 @@ files_fail held before now file name pp.NoMemory gives blames names = tt
 pub grammar_fails : (tokens : List Token) (file name : List ℕ) (f : Fault) (q : BuildFault)
     → Gives (answer 0 1 start (symbols tokens)) (Err f) → InFile file f q → Checks tokens file name (Err q)
 grammar_fails tokens file name (base.Refused r) (fault.Refused q) gives e held before now reads =
-    subst (Refuses held file) (sym e) (in_grammar tokens r.kind r.line reads gives.0)
+    subst (Refuses held file name) (sym e) (in_grammar tokens r.kind r.line reads gives.0)
 grammar_fails tokens file name (base.Refused r) fault.Missing gives e held before now reads = absurd e
 grammar_fails tokens file name (base.Refused r) fault.TooLong gives e held before now reads = absurd e
 grammar_fails tokens file name (base.Refused r) (fault.File asked) gives e held before now reads = absurd e
@@ -49,21 +51,21 @@ grammar_fails tokens file name base.NoMemory fault.NoMemory gives e held before 
 
 -- the rules of types refuse the unit
 pub types_fail : (tokens : List Token) (items : List External) (file name : List ℕ) (f : Fault) (q : BuildFault)
-    → IsUnit tokens items → InFile file f q → Checks tokens file name (Err q)
-types_fail tokens items file name (base.Refused r) (fault.Refused q) unit e held before now reads =
-    subst (Refuses held file) (sym e) (in_types tokens items r.kind r.line reads unit)
-types_fail tokens items file name (base.Refused r) fault.Missing unit e held before now reads = absurd e
-types_fail tokens items file name (base.Refused r) fault.TooLong unit e held before now reads = absurd e
-types_fail tokens items file name (base.Refused r) (fault.File asked) unit e held before now reads = absurd e
-types_fail tokens items file name (base.Refused r) fault.NoMemory unit e held before now reads = tt
-types_fail tokens items file name base.NoMemory (fault.Refused q) unit e held before now reads = absurd e
-types_fail tokens items file name base.NoMemory fault.Missing unit e held before now reads = absurd e
-types_fail tokens items file name base.NoMemory fault.TooLong unit e held before now reads = absurd e
-types_fail tokens items file name base.NoMemory (fault.File asked) unit e held before now reads = absurd e
-types_fail tokens items file name base.NoMemory fault.NoMemory unit e held before now reads = tt
+    → IsUnit tokens items → rules.Answers (unit_of name items) (Err f) → InFile file f q → Checks tokens file name (Err q)
+types_fail tokens items file name (base.Refused r) (fault.Refused q) unit told e held before now reads =
+    subst (Refuses held file name) (sym e) (in_types tokens items r.kind r.line reads unit told.0)
+types_fail tokens items file name (base.Refused r) fault.Missing unit told e held before now reads = absurd e
+types_fail tokens items file name (base.Refused r) fault.TooLong unit told e held before now reads = absurd e
+types_fail tokens items file name (base.Refused r) (fault.File asked) unit told e held before now reads = absurd e
+types_fail tokens items file name (base.Refused r) fault.NoMemory unit told e held before now reads = tt
+types_fail tokens items file name base.NoMemory (fault.Refused q) unit told e held before now reads = absurd e
+types_fail tokens items file name base.NoMemory fault.Missing unit told e held before now reads = absurd e
+types_fail tokens items file name base.NoMemory fault.TooLong unit told e held before now reads = absurd e
+types_fail tokens items file name base.NoMemory (fault.File asked) unit told e held before now reads = absurd e
+types_fail tokens items file name base.NoMemory fault.NoMemory unit told e held before now reads = tt
 
 -- the module is there
 pub succeeds : (tokens : List Token) (items : List External) (file name : List ℕ) (core : Core)
-    → IsUnit tokens items → core.name ≡ name → formed core ≡ true → Checks tokens file name (Ok core)
-succeeds tokens items file name core unit named law held before now reads =
-    record { tokens = tokens; items = items; reads = reads; parses = unit; named = named; formed = law }
+    → IsUnit tokens items → unit_of name items ≡ Ok core → core.name ≡ name → formed core ≡ true → Checks tokens file name (Ok core)
+succeeds tokens items file name core unit checks named law held before now reads =
+    record { tokens = tokens; items = items; reads = reads; parses = unit; checks = checks; named = named; formed = law }

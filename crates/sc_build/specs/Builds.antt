@@ -4,6 +4,8 @@ use Rattle.sc_base.specs.declared.refusal.Refusal.{Refusal}
 use Rattle.sc_base.specs.declared.refusal.X.{X}
 use Rattle.sc_base.specs.declared.refusal.Fault.{Fault}
 use Rattle.sc_base.specs.declared.refusal.Fault.TheVariants as base
+use Rattle.sc_check.specs.Outcomes.{IsRefused}
+use Rattle.sc_check.specs.Units.{unit_of}
 use Rattle.sc_core.specs.declared.module.Core.{Core}
 use Rattle.sc_formed.specs.Modules.{formed}
 use Rattle.sc_lex.specs.declared.token.Token.{Token}
@@ -40,26 +42,27 @@ IsTooLong held file = Reads held file (Err pp.TooLong)
 abbrev pub Asks : Option FileMap → List ℕ → List ℕ → Type 0
 Asks held file asked = Known held (λ map. Contains (asked_in map file) asked)
 
--- The module in a file: its tokens, which are a unit, and of which the rules of types make a module.
+-- The module in a file: its tokens, which are a unit, and which the rules of types make this module.
 pub record Builds (held : Option FileMap) (file name : List ℕ) (core : Core) : Type 0 where
   pub tokens : List Token
   pub items : List External
   pub reads : Reads held file (Ok tokens)
   pub parses : IsUnit tokens items
+  pub checks : unit_of name items ≡ Ok core
   pub named : core.name ≡ name
   pub formed : formed core ≡ true
 
 -- Where the first refusal of a file comes from: preprocessing; the grammar, where preprocessing refuses nothing; the rules
 -- of types, where the grammar refuses nothing.
-pub data Refuses (held : Option FileMap) (file : List ℕ) : Refusal → Type 0 where
-  in_preprocessing : (r : Refusal) → Reads held file (Err (pp.Refused r)) → Refuses held file r
-  in_grammar : (tokens : List Token) (kind : X) (line : ℕ) → Reads held file (Ok tokens) → answer 0 1 start (symbols tokens) ≡ Err (kind, line) → Refuses held file (record { kind = kind; file = file; line = line })
-  in_types : (tokens : List Token) (items : List External) (kind : X) (line : ℕ) → Reads held file (Ok tokens) → IsUnit tokens items → Refuses held file (record { kind = kind; file = file; line = line })
+pub data Refuses (held : Option FileMap) (file name : List ℕ) : Refusal → Type 0 where
+  in_preprocessing : (r : Refusal) → Reads held file (Err (pp.Refused r)) → Refuses held file name r
+  in_grammar : (tokens : List Token) (kind : X) (line : ℕ) → Reads held file (Ok tokens) → answer 0 1 start (symbols tokens) ≡ Err (kind, line) → Refuses held file name (record { kind = kind; file = file; line = line })
+  in_types : (tokens : List Token) (items : List External) (kind : X) (line : ℕ) → Reads held file (Ok tokens) → IsUnit tokens items → IsRefused (unit_of name items) kind line → Refuses held file name (record { kind = kind; file = file; line = line })
 
 -- what the code answers
 abbrev pub Answers : Option FileMap → ℕ → ℕ → List ℕ → List ℕ → Result Core BuildFault → Type 0
 Answers held before now file name (Ok core) = Builds held file name core
-Answers held before now file name (Err (fault.Refused r)) = Refuses held file r
+Answers held before now file name (Err (fault.Refused r)) = Refuses held file name r
 Answers held before now file name (Err fault.Missing) = IsMissing held file
 Answers held before now file name (Err fault.TooLong) = IsTooLong held file
 Answers held before now file name (Err (fault.File asked)) = Asks held file asked × Rose before now

@@ -1,2 +1,6 @@
 pub mod Outcomes
+pub mod Renumbered
+pub mod Steps
+pub mod Files
+pub mod Functions
 pub mod Units

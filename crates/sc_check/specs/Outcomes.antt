@@ -12,6 +12,8 @@ use Rattle.sc_check_body.specs.declared.fault.Finding.{Finding}
 use Rattle.sc_check_body.specs.declared.fault.Finding.TheVariants as finding
 use Rattle.sc_check_body.specs.declared.fault.UnitFault.{UnitFault}
 use Rattle.sc_check_body.specs.declared.fault.UnitFault.TheVariants as fault
+use Rattle.sc_core.specs.declared.module.Core.{Core}
+use Rattle.sc_check_body.specs.Faults.{Checked}
 
 abbrev pub kind : Finding → X
 kind (finding.Construct (problem.Typing d)) = kind_of d.cause
@@ -35,3 +37,14 @@ Tells (fault.Found x) (translation.Refused s) = s ≡ record { kind = kind x; fi
 abbrev pub TellsKind : Result X NoMemory → ℕ → Fault → Type 0
 TellsKind (Ok k) line f = f ≡ translation.Refused (record { kind = k; file = []; line = line })
 TellsKind (Err e) line f = f ≡ translation.NoMemory
+
+-- the first refusal of a unit has this kind and this line
+abbrev pub IsRefused : Checked Core → X → ℕ → Type 0
+IsRefused (Ok core) k line = ⊥
+IsRefused (Err f) k line = (k ≡ kind f) × (line ≡ line_of f)
+
+-- what the code answers to a unit: the module that it is, or its first refusal, unless memory runs out
+abbrev pub Answers : Checked Core → Result Core Fault → Type 0
+Answers outcome (Ok core) = outcome ≡ Ok core
+Answers outcome (Err translation.NoMemory) = Unit {0}
+Answers outcome (Err (translation.Refused r)) = IsRefused outcome r.kind r.line × (r.file ≡ [])

@@ -1,15 +1,45 @@
 // Types of parameters that declare structures.
+ghost use Rattle.std.specs.Prelude.{◌≡◌, IfOk, map};
+ghost use Rattle.sc_check.specs.Renumbered as spec;
 
 use sc_base::{Duplicate, Items, NoMemory, Shared};
 use sc_types::{CType, Signature};
 use std::alloc::Global;
 
-fn shifted(id: u32, from: usize, by: usize) -> u32 {
+fn shifted(id: u32, from: usize, by: usize) -> Result<u32, NoMemory>
+    ensures { IfOk result (λ n. n ≡ spec.shifted from by id) }
+{
     if (id as usize) < from {
-        id
-    } else {
-        id.saturating_add(by.min(u32::MAX as usize) as u32)
+        return Ok(id);
     }
+    let Ok(by) = u32::try_from(by) else {
+        return Err(NoMemory);
+    };
+    id.checked_add(by).ok_or(NoMemory)
+}
+
+fn pointer(alloc: Global, target: CType, constant: bool) -> Result<CType, NoMemory>
+    ensures { IfOk result (λ t. t ≡ CType.Pointer target constant) }
+{
+    Ok(CType::Pointer(Shared::new(alloc, target)?, constant))
+}
+
+fn array(alloc: Global, element: CType, length: u32) -> Result<CType, NoMemory>
+    ensures { IfOk result (λ t. t ≡ CType.Array element length) }
+{
+    Ok(CType::Array(Shared::new(alloc, element)?, length))
+}
+
+fn function(alloc: Global, signature: Signature) -> Result<CType, NoMemory>
+    ensures { IfOk result (λ t. t ≡ CType.Function signature) }
+{
+    Ok(CType::Function(Shared::new(alloc, signature)?))
+}
+
+fn structure(id: u32, constant: bool, from: usize, by: usize) -> Result<CType, NoMemory>
+    ensures { IfOk result (λ t. t ≡ CType.Struct (spec.shifted from by id) constant) }
+{
+    Ok(CType::Struct(shifted(id, from, by)?, constant))
 }
 
 /// The same type with the structures from a number on counted so many further.
@@ -19,20 +49,22 @@ pub(crate) fn renumbered(
     of: &CType,
     from: usize,
     by: usize,
-) -> Result<CType, NoMemory> {
+) -> Result<CType, NoMemory>
+    ensures { IfOk result (λ t. t ≡ spec.renumbered from by of.now) }
+{
     match of {
         CType::Pointer(target, constant) => {
-            let target = renumbered(alloc, target.get(), from, by)?;
-            Ok(CType::Pointer(Shared::new(alloc, target)?, *constant))
+            pointer(alloc, renumbered(alloc, target.get(), from, by)?, *constant)
         }
         CType::Array(element, length) => {
-            let element = renumbered(alloc, element.get(), from, by)?;
-            Ok(CType::Array(Shared::new(alloc, element)?, *length))
+            array(alloc, renumbered(alloc, element.get(), from, by)?, *length)
         }
-        CType::Struct(id, constant) => Ok(CType::Struct(shifted(*id, from, by), *constant)),
+        CType::Struct(id, constant) => structure(*id, *constant, from, by),
         CType::Function(signature) => {
-            let signature = renumbered_signature(alloc, signature.get(), from, by)?;
-            Ok(CType::Function(Shared::new(alloc, signature)?))
+            function(
+                alloc,
+                renumbered_signature(alloc, signature.get(), from, by)?,
+            )
         }
         CType::Void(_) | CType::Int(_, _) => of.copy(alloc),
     }
@@ -44,7 +76,9 @@ fn renumbered_signature(
     signature: &Signature,
     from: usize,
     by: usize,
-) -> Result<Signature, NoMemory> {
+) -> Result<Signature, NoMemory>
+    ensures { IfOk result (λ s. s ≡ spec.signature from by signature.now) }
+{
     let result = renumbered(alloc, &signature.result, from, by)?;
     let params = renumbered_list(alloc, signature.params.as_slice(), from, by)?;
     Ok(Signature {
@@ -60,7 +94,9 @@ fn renumbered_list(
     types: &[CType],
     from: usize,
     by: usize,
-) -> Result<Items<CType>, NoMemory> {
+) -> Result<Items<CType>, NoMemory>
+    ensures { IfOk result (λ all. all ≡ map (spec.renumbered from by) types.now) }
+{
     let mut all = Items::new(alloc);
     for of in types {
         let one = renumbered(alloc, of, from, by)?;

@@ -1,6 +1,8 @@
 // A unit, from its tree to its typed tree (ANSI 3.7).
-ghost use Rattle.std.specs.Prelude.{◌≡◌, IfOk, true};
+ghost use Rattle.std.specs.Prelude.{◌≡◌, ◌++◌, IfOk, OnOk, true};
 ghost use Rattle.sc_formed.specs.Modules.{formed};
+ghost use Rattle.sc_check_body.specs.Faults.{Says, GivesWith};
+ghost use Rattle.sc_check.specs.Outcomes.{Answers};
 ghost use Rattle.sc_check.specs.Units as spec;
 
 use crate::file::declare_file;
@@ -19,28 +21,42 @@ use sc_tree::{External, Unit};
 use sc_types::{CType, Structs};
 use std::alloc::Global;
 
-fn external(alloc: Global, m: &mut Translation, x: &External) -> Result<(), UnitFault> {
+fn external(alloc: Global, m: &mut Translation, x: &External) -> Result<(), UnitFault>
+    ensures { GivesWith (spec.external x.now m.old) result m.new }
+{
     match x {
         External::Function(f) => define_function(alloc, m, f),
         External::Declaration(d) => declare_file(alloc, m, d),
     }
 }
 
-fn externals(alloc: Global, m: &mut Translation, unit: &Unit) -> Result<(), UnitFault> {
-    for x in unit.items.as_slice() {
+fn externals(alloc: Global, m: &mut Translation, items: &[External]) -> Result<(), UnitFault>
+    ensures { GivesWith (spec.externals items.now m.old) result m.new }
+{
+    for x in items {
         external(alloc, m, x)?;
     }
+    Ok(())
+}
+
+fn text(alloc: Global, m: &mut Translation, items: &[External]) -> Result<(), UnitFault>
+    ensures { GivesWith (spec.text items.now m.old) result m.new }
+{
+    externals(alloc, m, items)?;
     m.note_literals()?;
     Ok(())
 }
 
 /// The texts of the literals, by their places.
-fn texts(alloc: Global, literals: &Literals) -> Result<Items<Bytes>, NoMemory> {
+fn texts(alloc: Global, literals: &Literals) -> Result<Items<Bytes>, NoMemory>
+    ensures { IfOk result (λ all. all ≡ literals.now) }
+{
     let mut all = Items::new(alloc);
     for at in 0..literals.len() {
-        if let Some(text) = literals.get(at) {
-            all.push(text.copy(alloc)?)?;
-        }
+        let Some(text) = literals.get(at) else {
+            return Ok(all);
+        };
+        all.push(text.copy(alloc)?)?;
     }
     Ok(all)
 }
@@ -83,36 +99,52 @@ fn object(alloc: Global, declared: &Declared, init: Items<Init>) -> Result<Stati
     })
 }
 
-/// The object that the name in a place is, where the unit defines it.
+/// The object that a name is, where the unit defines it, behind others.
 fn add_object(
     alloc: Global,
-    m: &mut Translation,
-    at: usize,
+    structs: &Structs,
+    link: &Link,
     declared: &Declared,
     given: Option<Items<Init>>,
-) -> Result<(), NoMemory> {
-    match m.links.as_slice().get(at) {
-        Some(link) if is_object(link) => {
-            let init = contents(alloc, &m.st.structs, &declared.of, given)?;
-            m.objects.push(object(alloc, declared, init)?)
-        }
-        _ => {
-            drop(given);
-            Ok(())
-        }
+    objects: &mut Items<StaticObj>,
+) -> Result<(), NoMemory>
+    ensures { OnOk result (objects.new ≡ objects.old ++ spec.object_of structs.now link.now declared.now given) }
+{
+    if !is_object(link) {
+        drop(given);
+        return Ok(());
     }
+    let init = contents(alloc, structs, &declared.of, given)?;
+    objects.push(object(alloc, declared, init)?)
 }
 
-/// The objects with linkage, behind those of blocks.
-fn add_objects(alloc: Global, m: &mut Translation, declared: &[Declared]) -> Result<(), NoMemory> {
-    for _ in 0..m.contents.len() {
-        if let Some(given) = m.contents.pop() {
-            let at = m.contents.len();
-            match declared.get(at) {
-                Some(one) => add_object(alloc, m, at, one, given)?,
-                None => drop(given),
-            }
-        }
+/// The object of the name behind those that have contents still.
+fn add_given(
+    alloc: Global,
+    m: &mut Translation,
+    declared: &[Declared],
+    given: Option<Items<Init>>,
+) -> Result<(), NoMemory>
+    ensures { OnOk result (m.new ≡ spec.with_given declared.now given m.old) }
+{
+    let at = m.contents.len();
+    let Some(link) = m.links.as_slice().get(at) else {
+        drop(given);
+        return Ok(());
+    };
+    let Some(declared) = declared.get(at) else {
+        drop(given);
+        return Ok(());
+    };
+    add_object(alloc, &m.st.structs, link, declared, given, &mut m.objects)
+}
+
+/// The objects with linkage, behind those of blocks, that of the last name first.
+fn add_objects(alloc: Global, m: &mut Translation, declared: &[Declared]) -> Result<(), NoMemory>
+    ensures { OnOk result (m.new ≡ spec.with_objects declared.now m.old) }
+{
+    while let Some(given) = m.contents.pop() {
+        add_given(alloc, m, declared, given)?;
     }
     Ok(())
 }
@@ -120,17 +152,19 @@ fn add_objects(alloc: Global, m: &mut Translation, declared: &[Declared]) -> Res
 /// What the end of a unit tells.
 #[derive(Drop)]
 struct Ending {
-    home: Name,
     declared: Items<Declared>,
     literals: Items<Bytes>,
     births: Items<StaticId>,
 }
 
-fn at_end(alloc: Global, name: &Name, m: &mut Translation) -> Result<Ending, UnitFault>
-    ensures { IfOk result (λ end. end.home ≡ name.now) }
+fn told_at_end(
+    alloc: Global,
+    name: &Name,
+    m: &Translation,
+    declared: Items<Declared>,
+) -> Result<Ending, NoMemory>
+    ensures { IfOk result (λ end. end ≡ spec.ending name.now declared m.now) }
 {
-    let declared = m.links.finish(alloc, &m.st.structs)?;
-    add_objects(alloc, m, declared.as_slice())?;
     let literals = texts(alloc, &m.st.literals)?;
     let births = born(
         alloc,
@@ -139,18 +173,24 @@ fn at_end(alloc: Global, name: &Name, m: &mut Translation) -> Result<Ending, Uni
         m.links.as_slice(),
         m.noted.as_slice(),
     )?;
-    let home = name.copy(alloc)?;
     Ok(Ending {
-        home,
         declared,
         literals,
         births,
     })
 }
 
-/// The module.
-fn module(m: Translation, end: Ending) -> Core
-    ensures { result.name ≡ end.home }
+fn at_end(alloc: Global, name: &Name, m: &mut Translation) -> Result<Ending, UnitFault>
+    ensures { GivesWith (spec.at_end name.now m.old) result m.new }
+{
+    let declared = m.links.finish(alloc, &m.st.structs)?;
+    add_objects(alloc, m, declared.as_slice())?;
+    Ok(told_at_end(alloc, name, m, declared)?)
+}
+
+/// The module with this name.
+fn module(home: Name, m: Translation, end: Ending) -> Core
+    ensures { result ≡ spec.assembled home end m }
 {
     let Translation {
         st,
@@ -160,7 +200,6 @@ fn module(m: Translation, end: Ending) -> Core
     } = m;
     let State { structs, .. } = st;
     let Ending {
-        home,
         declared,
         literals,
         births,
@@ -176,28 +215,36 @@ fn module(m: Translation, end: Ending) -> Core
     }
 }
 
-fn read(alloc: Global, name: &Name, m: &mut Translation, unit: &Unit) -> Result<Ending, UnitFault>
-    ensures { IfOk result (λ end. end.home ≡ name.now) }
+fn read(
+    alloc: Global,
+    name: &Name,
+    m: &mut Translation,
+    items: &[External],
+) -> Result<Ending, UnitFault>
+    ensures { GivesWith (spec.whole name.now items.now m.old) result m.new }
 {
-    externals(alloc, m, unit)?;
+    text(alloc, m, items)?;
     at_end(alloc, name, m)
 }
 
-fn checked(alloc: Global, name: &Name, unit: &Unit) -> Result<Core, UnitFault>
-    ensures { IfOk result (λ core. core.name ≡ name.now) }
+fn checked(alloc: Global, name: &Name, items: &[External]) -> Result<Core, UnitFault>
+    ensures answer { Says (spec.unit_of name.now items.now) result }
+    ensures name { IfOk result (λ core. core.name ≡ name.now) }
 {
+    let home = name.copy(alloc)?;
     let mut m = Translation::new(alloc, name.copy(alloc)?);
-    match read(alloc, name, &mut m, unit) {
-        Ok(end) => Ok(module(m, end)),
+    match read(alloc, name, &mut m, items) {
+        Ok(end) => Ok(module(home, m, end)),
         Err(fault) => {
             drop(m);
+            drop(home);
             Err(fault)
         }
     }
 }
 
 /// The module, whose laws are looked at once more: one that has them not, which no unit gives, is answered as want of memory.
-fn lawful(alloc: Global, core: Core) -> Result<Core, Fault>
+fn lawful(alloc: Global, core: Core) -> Result<Core, NoMemory>
     ensures same { IfOk result (λ kept. kept ≡ core) }
     ensures formed { IfOk result (λ kept. formed kept ≡ true) }
 {
@@ -205,26 +252,27 @@ fn lawful(alloc: Global, core: Core) -> Result<Core, Fault>
         Ok(true) => Ok(core),
         Ok(false) => {
             drop(core);
-            Err(Fault::NoMemory)
+            Err(NoMemory)
         }
         Err(_) => {
             drop(core);
-            Err(Fault::NoMemory)
+            Err(NoMemory)
         }
     }
 }
 
-/// The typed tree of a unit of the module with this name (ANSI 3.7). A refusal's file is empty.
+/// The typed tree of a unit of the module with this name (ANSI 3.7), which the rules of the standard give. A refusal's file is empty.
 ///
 /// # Errors
 ///
 /// The first refusal in the order in which constructs end: X6 to X10.
 pub fn check(alloc: Global, name: &Name, unit: &Unit) -> Result<Core, Fault>
+    ensures answer { Answers (spec.unit_of name.now unit.now.items) result }
     ensures name { IfOk result (λ core. core.name ≡ name.now) }
     ensures formed { IfOk result (λ core. formed core ≡ true) }
 {
-    match checked(alloc, name, unit) {
-        Ok(core) => lawful(alloc, core),
+    match checked(alloc, name, unit.items.as_slice()) {
+        Ok(core) => Ok(lawful(alloc, core)?),
         Err(fault) => Err(told(alloc, fault)),
     }
 }
