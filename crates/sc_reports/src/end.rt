@@ -55,7 +55,12 @@ fn words(alloc: Global, bytes: &[u8]) -> Result<Vec<u8>, NoMemory>
 /// # Errors
 ///
 /// `NoMemory`, also where the run found no room.
-pub fn stop_text(alloc: Global, turns: u64, ended: &Ended, world: &World) -> Result<Vec<u8>, NoMemory>
+pub fn stop_text(
+    alloc: Global,
+    turns: u64,
+    ended: &Ended,
+    world: &World,
+) -> Result<Vec<u8>, NoMemory>
     ensures { IfOk result (λ text. Some text.items ≡ spec.stop_text turns ended.now world.now) }
 {
     match ended {

@@ -36,11 +36,7 @@ fn clashing_name(alloc: Global, found: Named) -> Result<Option<Denied>, NoMemory
 }
 
 // Why the names of a module do not go with those of the others.
-fn name_conflict(
-    alloc: Global,
-    texts: &[Text],
-    core: &Core,
-) -> Result<Option<Denied>, NoMemory>
+fn name_conflict(alloc: Global, texts: &[Text], core: &Core) -> Result<Option<Denied>, NoMemory>
     ensures { IfOk result (λ d. d ≡ spec.name_conflict texts.now core.now) }
 {
     match doubled(texts, core) {
@@ -155,12 +151,7 @@ fn put_in_place(texts: &mut Vec<Text>, core: Shared<Core>)
 }
 
 /// A module that was translated takes the place of the one that has its name, where it goes with the others.
-pub fn take_anew(
-    alloc: Global,
-    texts: &mut Vec<Text>,
-    numbers: &mut Numbers,
-    core: Core,
-) -> Taken
+pub fn take_anew(alloc: Global, texts: &mut Vec<Text>, numbers: &mut Numbers, core: Core) -> Taken
     ensures { spec.Takes texts.old.items numbers.old core (spec.in_place texts.old.items core) result texts.new.items numbers.new }
 {
     let Ok(core) = Shared::new(alloc, core) else {

@@ -228,7 +228,13 @@ impl Session {
     fn list(&self, alloc: Global) -> Answer
         ensures { showing.Lists self.now result }
     {
-        match list_text(alloc, self.texts.as_slice(), &self.numbers, self.stops.as_slice(), &self.state) {
+        match list_text(
+            alloc,
+            self.texts.as_slice(),
+            &self.numbers,
+            self.stops.as_slice(),
+            &self.state,
+        ) {
             Ok(lines) => Answer::Shown(lines),
             Err(_) => Answer::NoMemory,
         }
@@ -275,7 +281,14 @@ impl Session {
             return Answer::NoMemory;
         };
         let run = run_out_of(mem::replace(&mut self.state, State::Ended));
-        match gone(alloc, self.texts.as_slice(), stops.as_slice(), walk, self.limits.turns, run) {
+        match gone(
+            alloc,
+            self.texts.as_slice(),
+            stops.as_slice(),
+            walk,
+            self.limits.turns,
+            run,
+        ) {
             Ok(gone) => {
                 self.state = gone.state;
                 Answer::Ran(gone.text)
@@ -325,7 +338,14 @@ impl Session {
         let heap = u64::from(self.limits.heap);
         let run = Run::start(alloc, self.texts.as_slice(), stack, heap, input)?;
         self.state = State::Ended;
-        let gone = gone(alloc, self.texts.as_slice(), stops.as_slice(), Walk::Cont, self.limits.turns, run)?;
+        let gone = gone(
+            alloc,
+            self.texts.as_slice(),
+            stops.as_slice(),
+            Walk::Cont,
+            self.limits.turns,
+            run,
+        )?;
         self.state = gone.state;
         Ok(gone.text)
     }

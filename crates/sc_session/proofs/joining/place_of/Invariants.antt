@@ -1,4 +1,3 @@
-
 use Rattle.sc_session.proofs.PlaceLemmas.{IsBefore}
 use Rattle.sc_session.proofs.joining.place_of.Given as goal
 
