@@ -1,5 +1,4 @@
-use Rattle.std.proofs.Common.{◌≡◌, ◌<◌, ◌≤◌, length, get_or, arith, add-one, sym, ◌∙◌, subst, Some}
-use Rattle.std.specs.Prelude.{slice_get}
+use Rattle.std.proofs.Common.{arith, add-one, sym, ◌∙◌, subst}
 use Rattle.sc_session.proofs.PlaceLemmas.{IsBefore, before_more, none_there, place_found, there}
 use Rattle.sc_session.proofs.joining.place_of.Goals as goal
 
