@@ -1,5 +1,5 @@
 -- Bytes on their way to a sink, by way of those that wait.
-use Rattle.std.proofs.Common.{◌≡◌, ℕ, List, [], ◌++◌, refl, ap, sym, ◌∙◌, append_assoc, subst, Option, Some, None}
+use Rattle.std.proofs.Common.{ℕ, List, [], ◌++◌, refl, ap, sym, ◌∙◌, append_assoc, subst, Option, Some, None}
 use Rattle.std.proofs.lemmas.List.{append-nil}
 use Rattle.std.specs.Io.KnownBytes.{Appends}
 use Rattle.sc_outside.specs.Streams.{AppendsSome, Writes}
