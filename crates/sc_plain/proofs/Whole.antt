@@ -7,18 +7,22 @@ use Rattle.sc_meaning.specs.World.{World, tick}
 use Rattle.sc_meaning.specs.Outcomes.{Outcome, Done, Over, Ending, Exit, and_then, went}
 use Rattle.sc_meaning.specs.Versions.{Text, History, callee_of, version_at}
 use Rattle.sc_meaning.specs.Changes.{settled, statics_born}
-use Rattle.sc_meaning.specs.Expressions.{Answer}
+use Rattle.sc_meaning.specs.Expressions.{Answer, value_rule}
+use Rattle.sc_meaning.specs.Values.{Value}
+use Rattle.sc_types.specs.declared.ctype.CType.{CType}
 use Rattle.sc_meaning.specs.Calls.{call}
 use Rattle.sc_meaning.specs.Behaviour.{Start, first_world, main_key, main_called, started, ending, status_of}
 use Rattle.sc_meaning.specs.Behaviour as behaviour
 use Rattle.sc_machine.specs.Runs as runs
-use Rattle.sc_machine.specs.Runs.{Caller, State, Answers, Ends}
+use Rattle.sc_machine.specs.Runs.{Caller, State, Makes, Answers, Ends}
 use Rattle.sc_machine.proofs.RunFollows.{answers_meaning, ends_meaning}
 use Rattle.sc_plain_leaves.specs.declared.stop.Stop.{Stop}
 use Rattle.sc_plain_leaves.specs.Gives.{ending_of, Stops}
 use Rattle.sc_plain.specs.declared.drive.Reached.{Reached}
 use Rattle.sc_plain.specs.declared.going.Going.{Going}
 use Rattle.sc_plain.specs.declared.drive.Reached.TheVariants as reached
+use Rattle.sc_plain.specs.declared.stepped.Stepped.{Stepped}
+use Rattle.sc_plain.specs.Shows.{shown, entry_shown, StepsShowing}
 use Rattle.sc_plain.specs.Steps.{Brings, Steps, is_over}
 use Rattle.sc_plain.specs.declared.running.Ended.{Ended}
 use Rattle.sc_plain.specs.declared.running.Ended.TheVariants as ended
@@ -71,8 +75,14 @@ pub none_left : (k : ℕ) (h : History) (texts : List Text) (t : State) (r : Res
 none_left k h texts t r w is = subst (λ k. Brings (steady.ran k h texts t) r w) (sym is)
 
 -- a step from a state that is another one
-pub from_there : (h : History) (texts : List Text) (s t : State) (r : Result Going Stop) (cs : List Caller) (w : World) → s ≡ t → Steps (steady.advance h texts t) r cs w → Steps (steady.advance h texts s) r cs w
-from_there h texts s t r cs w is = subst (λ s. Steps (steady.advance h texts s) r cs w) (sym is)
+pub from_there : (h : History) (texts : List Text) (s t : State) (r : Result Stepped Stop) (cs : List Caller) (w : World) → s ≡ t → StepsShowing (steady.advance h texts t) (shown h texts t) r cs w → StepsShowing (steady.advance h texts s) (shown h texts s) r cs w
+from_there h texts s t r cs w is = subst (λ s. StepsShowing (steady.advance h texts s) (shown h texts s) r cs w) (sym is)
+
+-- a step that makes a call
+pub makes_there : (h : History) (texts : List Text) (s : State) (t : CType) (v : Value) (us vs : List Value) (c : Caller) (cs ds : List Caller) (w w2 : World) (g : Result Going Stop) (r : Result Stepped Stop) → s ≡ Makes t v vs c cs w → us ≡ vs → Steps (steady.made_unless (value_rule texts c.env.text t v) h texts v us (c ∷ cs) w) g ds w2 → ((s : State) (cs : List Caller) (w : World) → Steps s g cs w → StepsShowing s (entry_shown s) r cs w) → StepsShowing (steady.advance h texts s) (shown h texts s) r ds w2
+makes_there h texts s t v us vs c cs ds w w2 g r is same p f =
+    from_there h texts s (Makes t v vs c cs w) r ds w2 is
+    (f (steady.advance h texts (Makes t v vs c cs w)) ds w2 (subst (λ us. Steps (steady.made_unless (value_rule texts c.env.text t v) h texts v us (c ∷ cs) w) g ds w2) same p))
 
 -- a step that failed ends the whole, as `?` passes its end on
 pub ends_here : (t : State) (r : Result Reached Stop) (s : Stop) (w : World) → IsErrAnd r (λ e. e ≡ s) → ((e : Ending) → ending_of s w ≡ Some e → t ≡ Ends e) → Brings t r w

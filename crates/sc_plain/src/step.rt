@@ -2,6 +2,7 @@
 ghost use Rattle.std.specs.Prelude.{◌≡◌, List};
 ghost use Rattle.sc_meaning.specs.Calls as spec;
 ghost use Rattle.sc_meaning.specs.Versions as versions;
+ghost use Rattle.sc_meaning.specs.World as worlds;
 ghost use Rattle.sc_machine.specs.Runs as runs;
 ghost use Rattle.sc_plain_library.specs.Quiet.{IsQuiet};
 ghost use Rattle.sc_plain.specs.Steady as steady;
@@ -29,6 +30,29 @@ fn quiet(going: Going) -> Stepped
     Stepped {
         going,
         shown: Shown::Nothing,
+    }
+}
+
+// The same of one that may end the run.
+fn quietly(given: Result<Going, Stop>) -> Result<Stepped, Stop>
+    ensures { (s : runs.State) (cs : List runs.Caller) (w : worlds.World) → Steps s given cs w → shows.StepsShowing s Nothing result cs w }
+{
+    match given {
+        Ok(going) => Ok(quiet(going)),
+        Err(stop) => Err(stop),
+    }
+}
+
+// A step that makes a call.
+fn entered(given: Result<Going, Stop>) -> Result<Stepped, Stop>
+    ensures { (s : runs.State) (cs : List runs.Caller) (w : worlds.World) → Steps s given cs w → shows.StepsShowing s (shows.entry_shown s) result cs w }
+{
+    match given {
+        Ok(going) => {
+            let shown = entry(&going);
+            Ok(Stepped { going, shown })
+        }
+        Err(stop) => Err(stop),
     }
 }
 
@@ -133,14 +157,15 @@ pub fn step_run(
 {
     match going {
         Going::Runs(doing, stmts, env, active) => runs(doing, stmts, env, active, callers, world),
-        Going::Makes(t, v, vs, caller) => {
-            let going = makes(texts, &t, v, vs.as_slice(), caller, callers, world)?;
-            let shown = entry(&going);
-            Ok(Stepped { going, shown })
-        }
-        Going::Answers(a) => {
-            let going = answers(a, callers, world)?;
-            Ok(quiet(going))
-        }
+        Going::Makes(t, v, vs, caller) => entered(makes(
+            texts,
+            &t,
+            v,
+            vs.as_slice(),
+            caller,
+            callers,
+            world,
+        )),
+        Going::Answers(a) => quietly(answers(a, callers, world)),
     }
 }

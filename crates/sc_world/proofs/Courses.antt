@@ -1,5 +1,5 @@
 -- The program's turns are the machine's.
-use Rattle.std.proofs.Common.{◌≡◌, ℕ, zero, suc, ◌+◌, Bool, true, false, List, [], ◌∷◌, refl, ap, sym, subst, ◌∙◌, rw◌in◌, arith, add-one, Option, Some, None, Result, Ok, Err}
+use Rattle.std.proofs.Common.{◌≡◌, ℕ, zero, suc, ◌+◌, Bool, true, false, List, [], ◌∷◌, refl, ap, sym, subst, ◌∙◌, arith, add-one, Option, Some, None, Result, Ok, Err}
 use Rattle.std.specs.Prelude.{◌↔◌, IsTrue}
 use Rattle.sc_meaning.specs.World.{World, Frame}
 use Rattle.sc_meaning.specs.Outcomes.{Ending}
@@ -32,6 +32,9 @@ pub over_if : (a : Answer) (cs : List Caller) (w : World) (b : Bool) → (IsTrue
 over_if a [] w b e = e.1 refl
 over_if a (c ∷ cs) w true e = absurd (not_empty c cs (e.0 refl))
 over_if a (c ∷ cs) w false e = refl
+
+pub over_at : (g : Going) (a : Answer) (cs : List Caller) (w : World) (b : Bool) → g ≡ going.Answers a → (IsTrue b ↔ (cs ≡ [])) → b ≡ is_over (state_of g cs w)
+over_at g a cs w b is e = over_if a cs w b e ∙ sym (ap (λ g. is_over (state_of g cs w)) is)
 
 -- what a run does next, and its state
 pub world_there : (g : Going) (cs : List Caller) (w : World) → world_of (state_of g cs w) ≡ w
@@ -94,7 +97,7 @@ nothing_wanted want [] = refl
 nothing_wanted want (f ∷ fs) = refl
 
 -- a run that is over rests
-over_here : (left : ℕ) (pause : Halt) (want : Want) (texts : List Text) (e : Ending) (k : ℕ) → gone left pause want texts (standing_at (Ends e) Nothing k) ≡ (Ended, standing_at (Ends e) Nothing k)
+pub over_here : (left : ℕ) (pause : Halt) (want : Want) (texts : List Text) (e : Ending) (k : ℕ) → gone left pause want texts (standing_at (Ends e) Nothing k) ≡ (Ended, standing_at (Ends e) Nothing k)
 over_here left pause want texts e k =
     rests_here left pause Ended want texts (standing_at (Ends e) Nothing k) (ap (λ h. else_over h true) (nothing_wanted want (world_of (Ends e)).frames))
 

@@ -1,3 +1,4 @@
 pub mod Courses
+pub mod Exits
 pub mod Kept
 pub mod Places

@@ -6,6 +6,7 @@ use Rattle.sc_meaning.specs.Versions.{Text}
 use Rattle.sc_meaning.specs.Behaviour.{Start, first_world}
 use Rattle.sc_machine.specs.Runs.{Caller, State, Ends}
 use Rattle.sc_plain_leaves.specs.declared.stop.Stop.{Stop}
+use Rattle.sc_plain_leaves.specs.Gives.{ending_of}
 use Rattle.sc_plain.specs.declared.going.Going.{Going}
 use Rattle.sc_plain.specs.declared.going.Going.TheVariants as going
 use Rattle.sc_plain.specs.declared.running.Ended.{Ended}
@@ -45,6 +46,12 @@ over_stays texts stops walk turns k (Some e) =
 pub stays_over : (texts : List Text) (stops : List StopAt) (walk : Walk) (turns : ℕ) (course : Course) (x : Ended) (cs : List Caller) (w : World) (k : ℕ) → course ≡ Over x → Goes texts stops walk turns (standing course cs w k) halt.Ended (standing (Over x) cs w k)
 stays_over texts stops walk turns course x cs w k is =
     subst (λ c. Goes texts stops walk turns (standing c cs w k) halt.Ended (standing (Over x) cs w k)) (sym is) (over_stays texts stops walk turns k (end_of x w))
+
+-- a run that ended as it began
+pub over_first : (first : Result Going Stop) (x : Stop) (y : Ended) → first ≡ Err x → ((w : World) → (e : Ending) × (ending_of x w ≡ Some e) × (end_of y w ≡ Some e)) → (s : State) (cs : List Caller) (w : World) → Steps s first cs w → standing (Over y) cs w 0 ≡ Some (first_standing s)
+over_first first x y is f s cs w p =
+    let q = subst (λ r. Steps s r cs w) is p in
+    ap (ended_so 0) (f w).2 ∙ sym (ap (λ s. Some (first_standing s)) (q (f w).0 (f w).1))
 
 -- a run from its start on
 pub starts_so : (texts : List Text) (stack heap : ℕ) (input : List ℕ) (first : Result Going Stop) (cs : List Caller) (w v : World) (course : Course) → cs ≡ [] → w ≡ first_world (start_of texts stack heap input) → Steps (first_from texts cs w) first cs v → ((s : State) (cs : List Caller) (w : World) → Steps s first cs w → standing course cs w 0 ≡ Some (first_standing s)) → standing course cs v 0 ≡ Some (started texts stack heap input)

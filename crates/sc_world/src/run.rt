@@ -80,6 +80,7 @@ impl Run {
     /// The run goes on, up to the first place that halts it: a function at which a stop is set is entered; a line is reached at
     /// which one is set, or at which the walk halts; or the run is over. It takes no more turns than are given, and is
     /// paused where none of those comes in them. A run that is over stays as it is.
+    #[tactic(auto, using(crate::proofs::Kept::keeps))]
     pub fn go(&mut self, texts: &[Text], stops: &[StopAt], walk: Walk, turns: u64) -> Halt
         ensures goes { Goes texts.now stops.now walk turns self.old result self.new }
         ensures meant { (s : behaviour.Start) → IsRunOf s texts.now self.old → IsRunOf s texts.now self.new }
@@ -99,7 +100,7 @@ impl Run {
             &mut self.steps,
             &mut self.world,
         );
-        self.course = rested.course;
+        drop(mem::replace(&mut self.course, rested.course));
         rested.halt
     }
 

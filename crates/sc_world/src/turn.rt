@@ -32,7 +32,6 @@ pub enum Turned {
 }
 
 // Whether the run is over: no caller waits for its answer.
-#[tactic(auto, using(crate::proofs::Courses::over_if))]
 fn is_over(going: &Going, callers: &Stack<Caller>) -> bool
     ensures { (w : worlds.World) → result ≡ course.is_over (state_of going.now callers.now w) }
 {
@@ -79,7 +78,6 @@ fn more(steps: u64) -> Result<u64, NoMemory>
 }
 
 // One step of the machine.
-#[tactic(auto, using(crate::proofs::Courses::steps_onward, crate::proofs::Courses::is_state, sc_plain::proofs::Unchanged::quiet))]
 fn onward(
     texts: &[Text],
     going: Going,
@@ -89,9 +87,16 @@ fn onward(
 ) -> Result<Stepped, Stop>
     ensures { (shown : showing.Shown) → Onward (goes.stepped texts.now (standing_at (state_of going callers.old world.old) shown steps.old)) result callers.new world.new steps.new }
 {
-    let n = more(*steps)?;
-    *steps = n;
-    step_run(texts, going, callers, world)
+    match more(*steps) {
+        Ok(n) => {
+            *steps = n;
+            step_run(texts, going, callers, world)
+        }
+        Err(_) => {
+            drop(going);
+            Err(Stop::NoRoom)
+        }
+    }
 }
 
 // One turn.
@@ -106,11 +111,15 @@ fn turn(
 ) -> Result<Turned, Stop>
     ensures { Turns (spec.halts want.now (standing_at (state_of going callers.old world.old) shown steps.old)) (standing_at (state_of going callers.old world.old) shown steps.old) (goes.stepped texts.now (standing_at (state_of going callers.old world.old) shown steps.old)) result callers.new world.new steps.new }
 {
-    match halts(want, &going, shown, callers, world)? {
-        Some(halt) => Ok(Turned::Rests(Rest { halt, going })),
-        None => {
-            let next = onward(texts, going, callers, steps, world)?;
-            Ok(Turned::Goes(next))
+    match halts(want, &going, shown, callers, world) {
+        Ok(Some(halt)) => Ok(Turned::Rests(Rest { halt, going })),
+        Ok(None) => match onward(texts, going, callers, steps, world) {
+            Ok(next) => Ok(Turned::Goes(next)),
+            Err(stop) => Err(stop),
+        },
+        Err(_) => {
+            drop(going);
+            Err(Stop::NoRoom)
         }
     }
 }
@@ -149,15 +158,21 @@ pub fn turns_taken(
     let mut shown = first.shown;
     let mut left = turns;
     'turning: while 0 < left {
-        match turn(texts, want, going, shown, callers, steps, world)? {
-            Turned::Rests(rest) => return Ok(rest),
-            Turned::Goes(next) => {
+        match turn(texts, want, going, shown, callers, steps, world) {
+            Ok(Turned::Rests(rest)) => return Ok(rest),
+            Ok(Turned::Goes(next)) => {
                 going = next.going;
                 shown = next.shown;
                 left -= 1;
             }
+            Err(stop) => return Err(stop),
         }
     }
-    let halt = halts(want, &going, shown, callers, world)?;
-    Ok(rests_or_pauses(halt, turns, going))
+    match halts(want, &going, shown, callers, world) {
+        Ok(halt) => Ok(rests_or_pauses(halt, turns, going)),
+        Err(_) => {
+            drop(going);
+            Err(Stop::NoRoom)
+        }
+    }
 }
