@@ -20,7 +20,7 @@ use crate::joining::{Taken, take_anew, take_away, take_new};
 use crate::limits::Limits;
 use crate::listing::{calls_told, list_text, value_told};
 use crate::refusal::{continuing, deleting, loading, replacing, setting, starting, stepping};
-use crate::state::State;
+use crate::state::{State, put_state};
 use crate::stops::{Stop, delete_stop, places, put_stop};
 use sc_base::{Bytes, Duplicate, Items, Name, NoMemory};
 use sc_build::{BuildFault, build};
@@ -127,7 +127,7 @@ impl Session {
         ensures { self.new ≡ going.in_state (spec.unended self.old.state) self.old }
     {
         if let State::Ended = &self.state {
-            self.state = State::Idle;
+            put_state(&mut self.state, State::Idle);
         }
     }
 
@@ -190,7 +190,7 @@ impl Session {
         ensures session { self.new ≡ spec.unloaded self.old name }
     {
         take_away(&mut self.texts, &name);
-        self.state = State::Idle;
+        put_state(&mut self.state, State::Idle);
         Answer::Unloaded(name)
     }
 
@@ -244,7 +244,7 @@ impl Session {
         ensures answer { result ≡ Answer.Reset }
         ensures session { self.new ≡ going.in_state State.Idle self.old }
     {
-        self.state = State::Idle;
+        put_state(&mut self.state, State::Idle);
         Answer::Reset
     }
 
@@ -290,7 +290,7 @@ impl Session {
             run,
         ) {
             Ok(gone) => {
-                self.state = gone.state;
+                put_state(&mut self.state, gone.state);
                 Answer::Ran(gone.text)
             }
             Err(_) => Answer::NoMemory,
@@ -337,7 +337,7 @@ impl Session {
         let stack = u64::from(self.limits.stack);
         let heap = u64::from(self.limits.heap);
         let run = Run::start(alloc, self.texts.as_slice(), stack, heap, input)?;
-        self.state = State::Ended;
+        put_state(&mut self.state, State::Ended);
         let gone = gone(
             alloc,
             self.texts.as_slice(),
@@ -346,7 +346,7 @@ impl Session {
             self.limits.turns,
             run,
         )?;
-        self.state = gone.state;
+        put_state(&mut self.state, gone.state);
         Ok(gone.text)
     }
 
@@ -398,7 +398,7 @@ impl Session {
         match take_new(alloc, &mut self.texts, self.loaded, &mut self.numbers, core) {
             Taken::Joined => {
                 self.loaded = loaded;
-                self.state = State::Idle;
+                put_state(&mut self.state, State::Idle);
                 Taken::Joined
             }
             Taken::Denied(denied) => Taken::Denied(denied),
@@ -459,7 +459,7 @@ impl Session {
     {
         match take_anew(alloc, &mut self.texts, &mut self.numbers, core) {
             Taken::Joined => {
-                self.state = State::Idle;
+                put_state(&mut self.state, State::Idle);
                 Taken::Joined
             }
             Taken::Denied(denied) => Taken::Denied(denied),

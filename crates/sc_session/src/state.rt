@@ -1,5 +1,8 @@
 // How a run stands in a session.
+ghost use Rattle.std.specs.Prelude.{◌≡◌};
+
 use sc_world::Run;
+use std::mem;
 
 /// No run; one that stopped at a function or a line; one whose turns were used up; or one that ended.
 #[derive(Drop)]
@@ -8,4 +11,11 @@ pub enum State {
     Stopped(Run),
     Paused(Run),
     Ended,
+}
+
+/// Puts a state in the place of another, which is let go.
+pub fn put_state(place: &mut State, state: State)
+    ensures { place.new ≡ state }
+{
+    drop(mem::replace(place, state));
 }
