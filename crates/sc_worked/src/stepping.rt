@@ -2,6 +2,7 @@
 use crate::reader::{Reader, name};
 use sc_base::{Items, NoMemory};
 use sc_plain::Ended;
+use sc_plain_parts::Text;
 use sc_words::{StopAt, Walk};
 use sc_world::{Halt, Run};
 use std::alloc::Global;
@@ -43,7 +44,23 @@ fn place(run: &Run, halt: Halt) -> i64 {
     }
 }
 
-// The places where a program halts, one for each walk.
+// The places where a run halts, one for each walk.
+fn places_of(
+    alloc: Global,
+    run: &mut Run,
+    texts: &[Text],
+    stops: &[StopAt],
+    walks: &str,
+) -> Result<Vec<i64>, NoMemory> {
+    let mut places = Vec::new(alloc);
+    for walk in walks.as_bytes() {
+        let halt = run.go(texts, stops, walk_of(*walk), 10_000);
+        places.push(place(run, halt))?;
+    }
+    Ok(places)
+}
+
+// The same of a program from its start on.
 fn halted(
     alloc: Global,
     program: &str,
@@ -60,12 +77,9 @@ fn halted(
     }
     let texts = reader.texts.as_slice();
     let mut run = Run::start(alloc, texts, 1_048_576, 4_194_304, Items::new(alloc))?;
-    let mut places = Vec::new(alloc);
-    for walk in walks.as_bytes() {
-        let halt = run.go(texts, stops, walk_of(*walk), 10_000);
-        places.push(place(&run, halt))?;
-    }
-    Ok(places)
+    let places = places_of(alloc, &mut run, texts, stops, walks);
+    drop(run);
+    places
 }
 
 #[test]
@@ -73,7 +87,7 @@ fn a_run_halts_at_a_stop_and_at_each_line(rt: HostRuntime) -> Result<(), Fail> {
     let alloc = rt.alloc();
     let stops = vec![in alloc; StopAt::InFun(None, name(alloc, b"main")?)]?;
     let places = halted(alloc, STRAIGHT, stops.as_slice(), "csssc")?;
-    assert_eq!(rt; places.as_slice(), &[-1, 2, 3, 4, 1004]);
+    assert_eq!(rt; places.as_slice(), [-1, 2, 3, 4, 1004].as_slice());
     Ok(())
 }
 
@@ -81,9 +95,9 @@ fn a_run_halts_at_a_stop_and_at_each_line(rt: HostRuntime) -> Result<(), Fail> {
 fn the_next_line_is_one_of_an_active_call(rt: HostRuntime) -> Result<(), Fail> {
     let alloc = rt.alloc();
     let places = halted(alloc, TWICE, &[], "ssnc")?;
-    assert_eq!(rt; places.as_slice(), &[5, 2, 6, 1005]);
+    assert_eq!(rt; places.as_slice(), [5, 2, 6, 1005].as_slice());
     let stops = vec![in alloc; StopAt::AtLine(name(alloc, b"m")?, 2)]?;
     let places = halted(alloc, TWICE, stops.as_slice(), "cnnc")?;
-    assert_eq!(rt; places.as_slice(), &[2, 2, 6, 1005]);
+    assert_eq!(rt; places.as_slice(), [2, 2, 6, 1005].as_slice());
     Ok(())
 }
