@@ -110,23 +110,6 @@ fn inner_block(
 
 // ---- statements with parts
 
-/// The statement behind `else`.
-#[cycle(statements)]
-fn branch(
-    alloc: Global,
-    m: &mut Translation,
-    f: &mut Body,
-    around: Around,
-    s: &Option<Shared<Statement>>,
-) -> Result<Option<Shared<CoreStmt>>, UnitFault>
-    ensures { GivesWith (spec.branch around (option_map spec.standing s.now) (m.old, f.old)) result (m.new, f.new) }
-{
-    match s {
-        Some(s) => Ok(Some(statement(alloc, m, f, around, s.get())?)),
-        None => Ok(None),
-    }
-}
-
 /// `if` with its condition and its statement, and the statement behind `else` (ANSI 3.6.4.1).
 #[cycle(statements)]
 fn otherwise(
@@ -141,8 +124,13 @@ fn otherwise(
 ) -> Result<Shared<CoreStmt>, UnitFault>
     ensures { GivesWith (spec.otherwise line e a (option_map spec.standing b.now) around (m.old, f.old)) result (m.new, f.new) }
 {
-    let b = branch(alloc, m, f, around.part(), b)?;
-    node(alloc, CoreStmt::If(line, e, a, b))
+    match b {
+        Some(b) => {
+            let b = statement(alloc, m, f, around.part(), b.get())?;
+            node(alloc, CoreStmt::If(line, e, a, Some(b)))
+        }
+        None => node(alloc, CoreStmt::If(line, e, a, None)),
+    }
 }
 
 /// The body of a `switch`: a block's statements are its list, and another statement is a list of itself alone.
@@ -171,24 +159,7 @@ fn switch_body(
     }
 }
 
-/// `switch`, behind its controlling expression (ANSI 3.6.4.2).
-#[cycle(statements)]
-fn switch_on(
-    alloc: Global,
-    m: &mut Translation,
-    f: &mut Body,
-    around: Around,
-    line: u32,
-    body: &Statement,
-    e: Shared<CoreExpr>,
-) -> Result<Shared<CoreStmt>, UnitFault>
-    ensures { GivesWith (spec.switch_on line e (spec.standing body.now) around (m.old, f.old)) result (m.new, f.new) }
-{
-    let body = switch_body(alloc, m, f, around.switched(), body)?;
-    let labels = close_switch(alloc, f);
-    node(alloc, CoreStmt::Switch(line, e, labels, body))
-}
-
+/// `switch` (ANSI 3.6.4.2).
 #[cycle(statements)]
 fn switch_statement(
     alloc: Global,
@@ -203,7 +174,9 @@ fn switch_statement(
 {
     let (e, of) = selector(alloc, &mut m.st, e)?;
     open_switch(alloc, f, of)?;
-    switch_on(alloc, m, f, around, line, body, e)
+    let body = switch_body(alloc, m, f, around.switched(), body)?;
+    let labels = close_switch(alloc, f);
+    node(alloc, CoreStmt::Switch(line, e, labels, body))
 }
 
 /// `while` (ANSI 3.6.5.1).
@@ -257,25 +230,7 @@ fn for_expressions(
     Ok((first, second))
 }
 
-/// The body of a `for`, behind its expressions (ANSI 3.6.5.3).
-#[cycle(statements)]
-fn for_body(
-    alloc: Global,
-    m: &mut Translation,
-    f: &mut Body,
-    around: Around,
-    line: u32,
-    body: &Statement,
-    first: Option<Shared<CoreExpr>>,
-    second: Option<Shared<CoreExpr>>,
-    third: Option<Shared<CoreExpr>>,
-) -> Result<Shared<CoreStmt>, UnitFault>
-    ensures { GivesWith (spec.for_body line first second third (spec.standing body.now) around (m.old, f.old)) result (m.new, f.new) }
-{
-    let body = statement(alloc, m, f, around.looped(), body)?;
-    node(alloc, CoreStmt::For(line, first, second, third, body))
-}
-
+/// `for` (ANSI 3.6.5.3).
 #[cycle(statements)]
 fn for_statement(
     alloc: Global,
@@ -292,7 +247,8 @@ fn for_statement(
 {
     let (first, second) = for_expressions(alloc, &mut m.st, first, second)?;
     let third = optional_value(alloc, &mut m.st, third)?;
-    for_body(alloc, m, f, around, line, body, first, second, third)
+    let body = statement(alloc, m, f, around.looped(), body)?;
+    node(alloc, CoreStmt::For(line, first, second, third, body))
 }
 
 /// A statement behind `case`, whose constant comes before it and whose own rules after it (ANSI 3.6.1).
