@@ -13,7 +13,7 @@ use sc_words::Area;
 const MAX_MODULES: usize = 64;
 
 /// The most functions that have a number in a session.
-const MAX_FUNCTIONS: usize = 65536;
+const MAX_FUNCTIONS: usize = 65497;
 
 /// The most bytes of static storage.
 const MAX_STATICS: u64 = 1048576;
@@ -102,7 +102,7 @@ pub fn statics_with(core: &Core, texts: &[Text]) -> Result<u64, NoMemory>
     Ok(total)
 }
 
-/// What there are too many of, where a module and the others that are present have so many functions with a number and so
+/// What there are too many of, where a module and the others that are present have so many functions with a number behind the library's and so
 /// many bytes of static storage.
 pub fn over_limit(core: &Core, texts: &[Text], functions: usize, statics: u64) -> Option<Area>
     ensures { result ≡ spec.over_limit (spec.modules_with core.now texts.now) functions statics }
