@@ -12,7 +12,7 @@ use sc_words::Area;
 /// The most modules.
 const MAX_MODULES: usize = 64;
 
-/// The most functions that have a number in a session.
+/// The most functions that have a number in a session, behind the 39 of the library.
 const MAX_FUNCTIONS: usize = 65497;
 
 /// The most bytes of static storage.
