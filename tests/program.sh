@@ -45,6 +45,13 @@ run --version < /dev/null
 expect version 0 'saber 0.1.0'
 run --nothing < /dev/null
 expect 'bad words' 2 ''
+mkdir folder
+printf 'int main(void) { for (;;) ; }\n' > folder/loop.c
+printf 'load loop\nrun\ncont\n' | { run --turns 1000 --dir folder; echo "$code" > code; }
+code=$(cat code)
+expect 'a folder and turns' 0 '> loaded loop
+> paused after 1000 turns
+> paused after 1000 turns'
 run --help --version < /dev/null
 expect 'two words' 2 ''
 printf 'run\n' | { "$program" > /dev/full 2> err; echo $? > code; }
@@ -58,6 +65,6 @@ head -c 1048577 /dev/zero | { run; echo "$code" > code; }
 code=$(cat code)
 expect 'a long line' 5 ''
 run --help < /dev/null
-[ "$code" = 0 ] && grep -q '^usage: saber' out && passed=$((passed + 1)) || failed=$((failed + 1))
+[ "$code" = 0 ] && grep -q '^Usage: saber' out && passed=$((passed + 1)) || failed=$((failed + 1))
 echo "$passed passed, $failed failed"
 [ "$failed" = 0 ]
