@@ -1,0 +1,47 @@
+// What holds of every step. Each function here does nothing: its contract is the law.
+ghost use Rattle.std.specs.Prelude.{◌<◌, List, [], ℕ};
+ghost use Rattle.sc_base.specs.declared.key.Key.{Key};
+ghost use Rattle.sc_meaning.specs.Values.{Value};
+ghost use Rattle.sc_meaning.specs.World.{World, events};
+ghost use Rattle.sc_meaning.specs.Outcomes.{Outcome, world_after};
+ghost use Rattle.sc_meaning.specs.Versions.{History, callee_of, version_at};
+ghost use Rattle.sc_meaning.specs.Expressions.{Answer, Env};
+ghost use Rattle.sc_meaning.specs.Statements.{Way};
+ghost use Rattle.sc_meaning.specs.Calls.{call};
+ghost use Rattle.sc_meaning.specs.Laws.{Leads};
+ghost use Rattle.sc_machine.specs.Machine as expr;
+ghost use Rattle.sc_machine.specs.Means as expr_rest;
+ghost use Rattle.sc_machine.specs.Bodies as body;
+ghost use Rattle.sc_machine.specs.BodyMeans as body_rest;
+ghost use Rattle.sc_machine.specs.Runs as whole;
+ghost use Rattle.sc_machine.specs.RunMeans as whole_rest;
+ghost use Rattle.sc_machine.specs.declared.body.Doing.{Doing};
+ghost use Rattle.sc_machine.specs.declared.body.Pending.{Pending};
+ghost use Rattle.sc_machine.specs.declared.pending.Item.{Item};
+ghost use Rattle.sc_machine.specs.declared.pending.Mode.{Mode};
+ghost use Rattle.sc_course.specs.Worlds.{body_left, expr_left, world_of};
+ghost use Rattle.sc_course.specs.Events.{IsPrefix};
+
+/// Each step of an expression, a body or a run adds some things that happen to what happened before, and nothing else
+/// makes its world another.
+#[tactic(auto, using(crate::proofs::ExprSteps::advance_leads, crate::proofs::BodySteps::advance_leads, crate::proofs::RunSteps::advance_leads))]
+pub fn steps_add_to_what_happened()
+    ensures expressions { (env : Env) (mode : Mode) (is : List Item) (w : World) → Leads w (expr_left (expr.advance env mode is w)) }
+    ensures bodies { (mode : Doing) (ss : List Pending) (env : Env) (w : World) → Leads w (body_left (body.advance mode ss env w)) }
+    ensures runs { (h : History) (s : whole.State) → Leads (world_of s) (world_of (whole.advance h s)) }
+{}
+
+/// From the world of each state things happen that lead to the end of what the state means, whatever the bound.
+#[tactic(auto, using(crate::proofs::ExprMeans::means_leads, crate::proofs::BodyMeans::means_leads, crate::proofs::RunMeans::means_leads))]
+pub fn states_lead_to_what_they_mean()
+    ensures expressions { (h : History) (env : Env) (n : ℕ) (mode : Mode) (is : List Item) (w : World) (out : Outcome Answer) → expr_rest.Means h env n mode is w out → Leads w (world_after out) }
+    ensures bodies { (h : History) (n : ℕ) (mode : Doing) (ss : List Pending) (env : Env) (w : World) (out : Outcome Way) → body_rest.Means h n mode ss env w out → Leads w (world_after out) }
+    ensures runs { (h : History) (n : ℕ) (s : whole.State) (out : Outcome Answer) → whole_rest.Means h n s out → Leads (world_of s) (world_after out) }
+{}
+
+/// After k steps of a call, the events that passed so far are the first events of the call's meaning at every bound that is greater
+/// than k.
+#[tactic(auto, using(crate::proofs::RunMeans::events_begin))]
+pub fn events_so_far_begin_those_of_the_call()
+    ensures { (h : History) (k n : ℕ) (key : Key) (vs : List Value) (w : World) → k < n → IsPrefix (events (world_of (whole.ran k h (whole.callee_next h key vs (callee_of (version_at h w.count) key) [] w))).trail) (events (world_after (call n h key vs w)).trail) }
+{}
