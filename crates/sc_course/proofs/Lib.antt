@@ -6,3 +6,7 @@ pub mod BodySteps
 pub mod BodyMeans
 pub mod RunSteps
 pub mod RunMeans
+pub mod Works
+pub mod ExprPays
+pub mod BodyPays
+pub mod RunPays

@@ -38,23 +38,23 @@ module _ (S : Road) where
   loaded_goes : (t : CType) (p : Value) (further : ℕ) (w : World) → S.Goes w (world_after (loaded t p further w))
   loaded_goes t p further w = unless_goes S (load_rule w.objects p further (scalar_size t) (is_pointer_type t)) _ _ w (λ e. S.here w)
 
-  stored_goes : (t : CType) (p : Value) (further : ℕ) (v : Value) (w : World) → S.Goes w (world_after (stored t p further v w))
+  pub stored_goes : (t : CType) (p : Value) (further : ℕ) (v : Value) (w : World) → S.Goes w (world_after (stored t p further v w))
   stored_goes t p further v w = unless_goes S (store_rule w.objects p further (scalar_size t)) _ _ w (λ e. S.stores p further (scalar_size t) v w e)
 
-  copied_goes : (to : Value) (further : ℕ) (from : Value) (beyond n : ℕ) (w : World) → S.Goes w (world_after (copied to further from beyond n w))
+  pub copied_goes : (to : Value) (further : ℕ) (from : Value) (beyond n : ℕ) (w : World) → S.Goes w (world_after (copied to further from beyond n w))
   copied_goes to further from beyond n w =
       unless_goes S (reach_rule w.objects from beyond n) _ _ w (λ d. unless_goes S (write_rule w.objects to further n) _ _ w (λ e. S.copies to further from beyond n w e))
 
-  computed_goes : (o : Op) (i : Int) (x : Value) (j : Int) (y : Value) (w : World) → S.Goes w (world_after (computed o i x j y w))
+  pub computed_goes : (o : Op) (i : Int) (x : Value) (j : Int) (y : Value) (w : World) → S.Goes w (world_after (computed o i x j y w))
   computed_goes o i x j y w = unless_goes S (integer_rule o i x y) _ _ w (λ e. S.here w)
 
-  shifted_goes : (first : Bool) (o : Op) (p : Value) (i : Int) (x : Value) (size : ℕ) (w : World) → S.Goes w (world_after (shifted first o p i x size w))
+  pub shifted_goes : (first : Bool) (o : Op) (p : Value) (i : Int) (x : Value) (size : ℕ) (w : World) → S.Goes w (world_after (shifted first o p i x size w))
   shifted_goes first o p i x size w = unless_goes S (shift_rule w.objects p x (steps_of o i x) size) _ _ w (λ e. S.here w)
 
-  difference_goes : (p q : Value) (size : ℕ) (w : World) → S.Goes w (world_after (difference p q size w))
+  pub difference_goes : (p q : Value) (size : ℕ) (w : World) → S.Goes w (world_after (difference p q size w))
   difference_goes p q size w = unless_goes S (difference_rule w.objects p q size) _ _ w (λ e. S.here w)
 
-  compared_goes : (o : Op) (p q : Value) (w : World) → S.Goes w (world_after (compared o p q w))
+  pub compared_goes : (o : Op) (p q : Value) (w : World) → S.Goes w (world_after (compared o p q w))
   compared_goes o p q w = unless_goes S (compare_rule o w p q) _ _ w (λ e. S.here w)
 
   pub tested_goes : (t : CType) (v : Value) (w : World) → S.Goes w (world_after (tested t v w))
@@ -73,7 +73,7 @@ module _ (S : Road) where
   static_goes key None w = S.here w
   static_goes key (Some o) w = S.works 1 w
 
-  address_goes : (a : Answer) (w : World) → S.Goes w (world_after (address a w))
+  pub address_goes : (a : Answer) (w : World) → S.Goes w (world_after (address a w))
   address_goes (Plain v) w = S.here w
   address_goes (Place p) w = S.here w
   address_goes (Part p n) w = shifted_goes true op.Add p UInt (Number n) 1 w
@@ -107,7 +107,7 @@ module _ (S : Road) where
   either_shift true o size i j x y w = shifted_goes true o x j y size w
   either_shift false o size i j x y w = shifted_goes false o y i x size w
 
-  offset_goes : (o : Op) (size : ℕ) (s t : CType) (x y : Value) (w : World) → S.Goes w (world_after (offset_by o size s t x y w))
+  pub offset_goes : (o : Op) (size : ℕ) (s t : CType) (x y : Value) (w : World) → S.Goes w (world_after (offset_by o size s t x y w))
   offset_goes o size s t x y w = either_shift (is_pointer_type s) o size (int_of s) (int_of t) x y w
 
   either_next : (b : Bool) (o : Op) (size : ℕ) (t : CType) (v : Value) (w : World) → S.Goes w (world_after (if b then shifted true o v PlainInt (Number 1) size w else and_then (computed o (int_of t) v PlainInt (Number 1) w) (λ n w. Done (as_type t n) w)))
@@ -117,13 +117,13 @@ module _ (S : Road) where
   next_goes : (o : Op) (size : ℕ) (t : CType) (v : Value) (w : World) → S.Goes w (world_after (next_value o size t v w))
   next_goes o size t v w = either_next (is_pointer_type t) o size t v w
 
-  stepped_goes : (s : Step) (size : ℕ) (t : CType) (a : Answer) (w : World) → S.Goes w (world_after (stepped s size t a w))
+  pub stepped_goes : (s : Step) (size : ℕ) (t : CType) (a : Answer) (w : World) → S.Goes w (world_after (stepped s size t a w))
   stepped_goes s size t a w =
       then_goes S w (loaded t (base_of a) (further_of a) w) _ (loaded_goes t (base_of a) (further_of a) w) (λ old u.
       then_goes S u (next_value (operator_of s) size t old u) _ (next_goes (operator_of s) size t old u) (λ new x.
       then_goes S x (stored t (base_of a) (further_of a) new x) _ (stored_goes t (base_of a) (further_of a) new x) (λ v y. S.here y)))
 
-  unary_goes : (o : UnaryOperator) (t : CType) (v : Value) (w : World) → S.Goes w (world_after (unary o t v w))
+  pub unary_goes : (o : UnaryOperator) (t : CType) (v : Value) (w : World) → S.Goes w (world_after (unary o t v w))
   unary_goes Plus t v w = S.here w
   unary_goes Minus t v w = computed_goes op.Neg (int_of t) null (int_of t) v w
   unary_goes Complement t v w = computed_goes op.Not (int_of t) null (int_of t) v w
@@ -137,12 +137,12 @@ module _ (S : Road) where
       then_goes S w (copied (base_of a) (further_of a) (base_of b) (further_of b) size w) _ (copied_goes (base_of a) (further_of a) (base_of b) (further_of b) size w)
       (λ x u. S.on u (pass (Work size) u) (tick (pass (Work size) u)) (S.works size u) (S.works 1 (pass (Work size) u)))
 
-  compounded_goes : (o : Op) (i : Int) (t s : CType) (a : Answer) (y : Value) (w : World) → S.Goes w (world_after (compounded o i t s a y w))
+  pub compounded_goes : (o : Op) (i : Int) (t s : CType) (a : Answer) (y : Value) (w : World) → S.Goes w (world_after (compounded o i t s a y w))
   compounded_goes o i t s a y w =
       then_goes S w (loaded t (base_of a) (further_of a) w) _ (loaded_goes t (base_of a) (further_of a) w) (λ old u.
       then_goes S u (computed o i (converted_value i old) (int_of s) y u) _ (computed_goes o i (converted_value i old) (int_of s) y u) (λ new x. stored_goes t (base_of a) (further_of a) (as_type t new) x))
 
-  moved_goes : (o : Op) (size : ℕ) (t s : CType) (a : Answer) (y : Value) (w : World) → S.Goes w (world_after (moved_by o size t s a y w))
+  pub moved_goes : (o : Op) (size : ℕ) (t s : CType) (a : Answer) (y : Value) (w : World) → S.Goes w (world_after (moved_by o size t s a y w))
   moved_goes o size t s a y w =
       then_goes S w (loaded t (base_of a) (further_of a) w) _ (loaded_goes t (base_of a) (further_of a) w) (λ old u.
       then_goes S u (shifted true o old (int_of s) y size u) _ (shifted_goes true o old (int_of s) y size u) (λ new x. stored_goes t (base_of a) (further_of a) new x))

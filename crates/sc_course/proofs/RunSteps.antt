@@ -44,7 +44,7 @@ left_leads h ids cost way w =
     (on w u (world_after (happened h Leave u)) (and_more (Stack (w.used - cost)) w v (and_more Pop w (all_dead ids w) (deaths_lead ids w))) (happened_goes Going h Leave u))
     (λ x y. here y)
 
-parameters_lead : (autos : List Auto) (vs : List Value) (ids : List ℕ) (w : World) → Leads w (world_after (parameters autos vs ids w))
+pub parameters_lead : (autos : List Auto) (vs : List Value) (ids : List ℕ) (w : World) → Leads w (world_after (parameters autos vs ids w))
 parameters_lead [] vs ids w = here w
 parameters_lead (a ∷ rest) [] ids w = here w
 parameters_lead (a ∷ rest) (v ∷ vs) ids w =

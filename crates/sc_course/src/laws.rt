@@ -1,5 +1,5 @@
 // What holds of every step. Each function here does nothing: its contract is the law.
-ghost use Rattle.std.specs.Prelude.{◌<◌, List, [], ℕ};
+ghost use Rattle.std.specs.Prelude.{◌≡◌, ◌+◌, ◌*◌, ◌<◌, ◌≤◌, true, List, [], ℕ};
 ghost use Rattle.sc_base.specs.declared.key.Key.{Key};
 ghost use Rattle.sc_meaning.specs.Values.{Value};
 ghost use Rattle.sc_meaning.specs.World.{World, events};
@@ -21,6 +21,7 @@ ghost use Rattle.sc_machine.specs.declared.pending.Item.{Item};
 ghost use Rattle.sc_machine.specs.declared.pending.Mode.{Mode};
 ghost use Rattle.sc_course.specs.Worlds.{body_left, expr_left, world_of};
 ghost use Rattle.sc_course.specs.Events.{IsPrefix};
+ghost use Rattle.sc_course.specs.Paid.{AllPay, BodyPaid, ExprPaid, credit, doing_credit, doing_pays, done, items_credit, mode_credit, mode_pays, pays, pendings_credit};
 
 /// Each step of an expression, a body or a run adds some things that happen to what happened before, and nothing else
 /// makes its world another.
@@ -44,4 +45,21 @@ pub fn states_lead_to_what_they_mean()
 #[tactic(auto, using(crate::proofs::RunMeans::events_begin))]
 pub fn events_so_far_begin_those_of_the_call()
     ensures { (h : History) (k n : ℕ) (key : Key) (vs : List Value) (w : World) → k < n → IsPrefix (events (world_of (whole.ran k h (whole.callee_next h key vs (callee_of (version_at h w.count) key) [] w))).trail) (events (world_after (call n h key vs w)).trail) }
+{}
+
+/// Each step is paid: it uses up credit, or it does work, of which a unit pays four steps. It may only not be one that is made for
+/// nothing: the beginning of a conversion of a conversion, a piece of an initialiser that has no byte, or a label `default`
+/// before another; and a run that is over makes no step.
+#[tactic(auto, using(crate::proofs::ExprPays::advance_paid, crate::proofs::BodyPays::advance_paid, crate::proofs::RunPays::advance_paid))]
+pub fn steps_are_paid_by_work()
+    ensures expressions { (env : Env) (mode : Mode) (is : List Item) (w : World) → mode_pays mode ≡ true → ExprPaid (mode_credit mode + items_credit is) (done w) (expr.advance env mode is w) }
+    ensures bodies { (mode : Doing) (ss : List Pending) (env : Env) (w : World) → doing_pays mode ≡ true → BodyPaid (doing_credit mode + pendings_credit ss) (done w) (body.advance mode ss env w) }
+    ensures runs { (h : History) (s : whole.State) → pays s ≡ true → 1 + credit (whole.advance h s) + 4 * done (world_of s) ≤ credit s + 4 * done (world_of (whole.advance h s)) }
+{}
+
+/// So k steps of a run, none of which is made for nothing, take no more than the credit of the state in which they begin and four for each
+/// unit of work that they do.
+#[tactic(auto, using(crate::proofs::RunPays::ran_paid))]
+pub fn runs_are_paid_by_work()
+    ensures { (k : ℕ) (h : History) (s : whole.State) → AllPay k h s → k + credit (whole.ran k h s) + 4 * done (world_of s) ≤ credit s + 4 * done (world_of (whole.ran k h s)) }
 {}
