@@ -14,6 +14,8 @@ use Rattle.sc_meaning.specs.Outcomes.{Outcome, Done, Over, and_then, world_after
 use Rattle.sc_meaning.specs.Accesses.{stored, copied, computed, difference, compared, tested}
 use Rattle.sc_meaning.specs.Expressions.{Env, Answer, finished, plain, at_place, used, base_of, further_of, static_at, address, conversion, is_void, cast, offset_by, stepped, unary, truth, assigned_structure, compounded, moved_by, begun}
 use Rattle.sc_meaning.proofs.Steps.{one_more}
+use Rattle.sc_meaning.proofs.Leaves.{copied_goes}
+use Rattle.sc_meaning.proofs.Growing.{Going}
 use Rattle.sc_machine.specs.Machine.{Advanced, GoesOn, CallsOut, Gives, Breaks, single_of, pair_of, store_of, evals, then_goes as then_next, gives, whether, args_next, expr_next, item_next, answer_next, advance}
 use Rattle.sc_machine.specs.declared.pending.Single.{Single}
 use Rattle.sc_machine.specs.declared.pending.Single.TheVariants as single
@@ -27,7 +29,7 @@ use Rattle.sc_machine.specs.declared.pending.Mode.{Mode}
 use Rattle.sc_machine.specs.declared.pending.Mode.TheVariants.{Eval, Give}
 use Rattle.sc_course.specs.Paid.{done, is_conversion, is_single, begin_credit, mode_credit, item_credit, items_credit, ExprPaid, mode_pays}
 use Rattle.sc_course.proofs.Road.{Happening}
-use Rattle.sc_course.proofs.Parts.{used_goes, tested_goes, conversion_goes, address_goes, stepped_goes, unary_goes, copied_goes, offset_goes, computed_goes, difference_goes, compared_goes, stored_goes, compounded_goes, moved_goes}
+use Rattle.sc_course.proofs.Parts.{used_goes, tested_goes, conversion_goes, address_goes, stepped_goes, unary_goes, offset_goes, computed_goes, difference_goes, compared_goes, stored_goes, compounded_goes, moved_goes}
 use Rattle.sc_course.proofs.Works.{leads_work, tick_work}
 
 -- a part that is done did a unit of work at least; work is never lost
@@ -77,7 +79,7 @@ truth_earns t v w = then_earns (done w) (tested t v w) _ (tested_keeps t v w) (�
 structure_earns : (size : ℕ) (a b : Answer) (w : World) → Earns (done w) (assigned_structure size a b w)
 structure_earns size a b w =
     let r : Outcome (Unit {0}) = copied (base_of a) (further_of a) (base_of b) (further_of b) size w in
-    then_earns (done w) r _ (leads_work w (world_after r) (copied_goes Happening (base_of a) (further_of a) (base_of b) (further_of b) size w)) (λ x u.
+    then_earns (done w) r _ (leads_work w (world_after r) (copied_goes Going (base_of a) (further_of a) (base_of b) (further_of b) size w)) (λ x u.
     let v : World = pass (Work size) u in
     earns_less (done u) (done v) (finished a v) (leads_work u v (one_more (Work size) u)) (ticked v))
 

@@ -17,7 +17,7 @@ use Rattle.sc_machine.specs.declared.pending.Item.TheVariants.{Alone, Right, Now
 use Rattle.sc_machine.specs.declared.pending.Mode.{Mode}
 use Rattle.sc_machine.specs.declared.pending.Mode.TheVariants.{Eval, Give}
 use Rattle.sc_course.specs.Worlds.{expr_left}
-use Rattle.sc_course.proofs.Road.{Road, Happening}
+use Rattle.sc_course.proofs.Road.{Road, Happening, works}
 use Rattle.sc_course.proofs.Parts.{used_goes, tested_goes, static_goes, single_goes, pair_goes, store_goes, structure_goes, begun_goes}
 
 module _ (S : Road) where
@@ -34,15 +34,15 @@ module _ (S : Road) where
   whether_go false f g w p q = q
 
   args_go : (t : CType) (v : Value) (es : List CoreExpr) (vs : List Value) (is : List Item) (w : World) → S.Goes w (expr_left (args_next t v es vs is w))
-  args_go t v [] vs is w = S.works 1 w
+  args_go t v [] vs is w = works S 1 w
   args_go t v (e ∷ es) vs is w = S.here w
 
   next_goes : (env : Env) (x : CoreExpr-F CoreExpr) (is : List Item) (w : World) → S.Goes w (expr_left (expr_next env x is w))
-  next_goes env (CoreExpr-F.Number l t n) is w = S.works 1 w
-  next_goes env (CoreExpr-F.Literal l t i) is w = S.works 1 w
-  next_goes env (CoreExpr-F.Automatic l t b i) is w = S.works 1 w
+  next_goes env (CoreExpr-F.Number l t n) is w = works S 1 w
+  next_goes env (CoreExpr-F.Literal l t i) is w = works S 1 w
+  next_goes env (CoreExpr-F.Automatic l t b i) is w = works S 1 w
   next_goes env (CoreExpr-F.Static l t key) is w = gives_go is w (static_at key (named_in w.names (id.Named key)) w) (static_goes S key (named_in w.names (id.Named key)) w)
-  next_goes env (CoreExpr-F.Function l t key) is w = S.works 1 w
+  next_goes env (CoreExpr-F.Function l t key) is w = works S 1 w
   next_goes env _ is w = S.here w
 
   item_goes : (i : Item) (a : Answer) (is : List Item) (w : World) → S.Goes w (expr_left (item_next i a is w))
@@ -55,10 +55,10 @@ module _ (S : Road) where
   item_goes (StructureNow size p) a is w = gives_go is w (assigned_structure size p a w) (structure_goes S size p a w)
   item_goes (And s t b) a is w =
       then_go w (used a w) _ (used_goes S a w) (λ x u. then_go u (tested s x u) _ (tested_goes S s x u) (λ yes z.
-      whether_go yes (evals b (Alone (Truth t) ∷ is)) (λ w. gives is (plain (Number 0) w)) z (S.here z) (S.works 1 z)))
+      whether_go yes (evals b (Alone (Truth t) ∷ is)) (λ w. gives is (plain (Number 0) w)) z (S.here z) (works S 1 z)))
   item_goes (Or s t b) a is w =
       then_go w (used a w) _ (used_goes S a w) (λ x u. then_go u (tested s x u) _ (tested_goes S s x u) (λ yes z.
-      whether_go yes (λ w. gives is (plain (Number 1) w)) (evals b (Alone (Truth t) ∷ is)) z (S.works 1 z) (S.here z)))
+      whether_go yes (λ w. gives is (plain (Number 1) w)) (evals b (Alone (Truth t) ∷ is)) z (works S 1 z) (S.here z)))
   item_goes (Choice t b d) a is w =
       then_go w (used a w) _ (used_goes S a w) (λ x u. then_go u (tested t x u) _ (tested_goes S t x u) (λ yes z.
       whether_go yes (evals b (Alone Whole ∷ is)) (evals d (Alone Whole ∷ is)) z (S.here z) (S.here z)))

@@ -10,3 +10,4 @@ pub mod Works
 pub mod ExprPays
 pub mod BodyPays
 pub mod RunPays
+pub mod Lawfully

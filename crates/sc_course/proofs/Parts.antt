@@ -17,7 +17,7 @@ use Rattle.sc_meaning.specs.Values.{Value, Number, null, is_pointer_type, int_of
 use Rattle.sc_meaning.specs.World.{World, Work, pass, tick}
 use Rattle.sc_meaning.specs.Outcomes.{Outcome, Done, and_then, world_after}
 use Rattle.sc_meaning.specs.Violations.{load_rule, store_rule, reach_rule, write_rule, integer_rule, shift_rule, difference_rule, truth_rule}
-use Rattle.sc_meaning.specs.Accesses.{as_type, converted_value, loaded, stored, copied, computed, shifted, difference, compared, compare_rule, tested, steps_of}
+use Rattle.sc_meaning.specs.Accesses.{as_type, converted_value, loaded, stored, computed, shifted, difference, compared, compare_rule, tested, steps_of, copy_at}
 use Rattle.sc_meaning.specs.Expressions.{Answer, Plain, Place, Part, Nothing, finished, plain, at_place, used, base_of, further_of, static_at, address, read, decayed, layer_read, conversion, cast, is_void, offset_by, next_value, operator_of, stepped, unary, truth, assigned_structure, compounded, moved_by, begun}
 use Rattle.sc_machine.specs.Machine.{single_of, pair_of, store_of}
 use Rattle.sc_machine.specs.declared.pending.Single.{Single}
@@ -26,7 +26,7 @@ use Rattle.sc_machine.specs.declared.pending.Pair.{Pair}
 use Rattle.sc_machine.specs.declared.pending.Pair.TheVariants.{Index, Binary, Offset, Difference, Compare}
 use Rattle.sc_machine.specs.declared.pending.Store.{Store}
 use Rattle.sc_machine.specs.declared.pending.Store.TheVariants.{Assign, Compound, Move}
-use Rattle.sc_course.proofs.Road.{Road, then_goes, unless_goes}
+use Rattle.sc_course.proofs.Road.{Road, works, then_goes, unless_goes, unless_then}
 
 module _ (S : Road) where
   pub used_goes : (a : Answer) (w : World) → S.Goes w (world_after (used a w))
@@ -40,10 +40,6 @@ module _ (S : Road) where
 
   pub stored_goes : (t : CType) (p : Value) (further : ℕ) (v : Value) (w : World) → S.Goes w (world_after (stored t p further v w))
   stored_goes t p further v w = unless_goes S (store_rule w.objects p further (scalar_size t)) _ _ w (λ e. S.stores p further (scalar_size t) v w e)
-
-  pub copied_goes : (to : Value) (further : ℕ) (from : Value) (beyond n : ℕ) (w : World) → S.Goes w (world_after (copied to further from beyond n w))
-  copied_goes to further from beyond n w =
-      unless_goes S (reach_rule w.objects from beyond n) _ _ w (λ d. unless_goes S (write_rule w.objects to further n) _ _ w (λ e. S.copies to further from beyond n w e))
 
   pub computed_goes : (o : Op) (i : Int) (x : Value) (j : Int) (y : Value) (w : World) → S.Goes w (world_after (computed o i x j y w))
   computed_goes o i x j y w = unless_goes S (integer_rule o i x y) _ _ w (λ e. S.here w)
@@ -61,17 +57,17 @@ module _ (S : Road) where
   tested_goes t v w = unless_goes S (truth_rule w.objects (is_pointer_type t) v) _ _ w (λ e. S.here w)
 
   pub finish_goes : (a : Answer) (w : World) → S.Goes w (world_after (finished a w))
-  finish_goes a w = S.works 1 w
+  finish_goes a w = works S 1 w
 
   then_plain : (w : World) (r : Outcome Value) → S.Goes w (world_after r) → S.Goes w (world_after (and_then r plain))
-  then_plain w r l = then_goes S w r plain l (λ v u. S.works 1 u)
+  then_plain w r l = then_goes S w r plain l (λ v u. works S 1 u)
 
   then_place : (w : World) (r : Outcome Value) → S.Goes w (world_after r) → S.Goes w (world_after (and_then r at_place))
-  then_place w r l = then_goes S w r at_place l (λ v u. S.works 1 u)
+  then_place w r l = then_goes S w r at_place l (λ v u. works S 1 u)
 
   pub static_goes : (key : Key) (o : Option ℕ) (w : World) → S.Goes w (world_after (static_at key o w))
   static_goes key None w = S.here w
-  static_goes key (Some o) w = S.works 1 w
+  static_goes key (Some o) w = works S 1 w
 
   pub address_goes : (a : Answer) (w : World) → S.Goes w (world_after (address a w))
   address_goes (Plain v) w = S.here w
@@ -100,8 +96,8 @@ module _ (S : Road) where
   conversion_goes from to a w = then_goes S w (layer_read (out-CType from) from a w) _ (layer_goes (out-CType from) from a w) (λ b u. S.here u)
 
   cast_goes : (b : Bool) (t : CType) (a : Answer) (w : World) → S.Goes w (world_after (cast b t a w))
-  cast_goes true t a w = S.works 1 w
-  cast_goes false t a w = then_goes S w (used a w) _ (used_goes a w) (λ v u. S.works 1 u)
+  cast_goes true t a w = works S 1 w
+  cast_goes false t a w = then_goes S w (used a w) _ (used_goes a w) (λ v u. works S 1 u)
 
   either_shift : (b : Bool) (o : Op) (size : ℕ) (i j : Int) (x y : Value) (w : World) → S.Goes w (world_after (if b then shifted true o x j y size w else shifted false o y i x size w))
   either_shift true o size i j x y w = shifted_goes true o x j y size w
@@ -130,12 +126,13 @@ module _ (S : Road) where
   unary_goes Not t v w = then_goes S w (tested t v w) _ (tested_goes t v w) (λ yes u. S.here u)
 
   pub truth_goes : (t : CType) (v : Value) (w : World) → S.Goes w (world_after (truth t v w))
-  truth_goes t v w = then_goes S w (tested t v w) _ (tested_goes t v w) (λ yes u. S.works 1 u)
+  truth_goes t v w = then_goes S w (tested t v w) _ (tested_goes t v w) (λ yes u. works S 1 u)
 
   pub structure_goes : (size : ℕ) (a b : Answer) (w : World) → S.Goes w (world_after (assigned_structure size a b w))
   structure_goes size a b w =
-      then_goes S w (copied (base_of a) (further_of a) (base_of b) (further_of b) size w) _ (copied_goes (base_of a) (further_of a) (base_of b) (further_of b) size w)
-      (λ x u. S.on u (pass (Work size) u) (tick (pass (Work size) u)) (S.works size u) (S.works 1 (pass (Work size) u)))
+      let v : World = pass (Work size) (copy_at (base_of a) (further_of a) (base_of b) (further_of b) size w) in
+      unless_then S (reach_rule w.objects (base_of b) (further_of b) size) _ _ _ w (λ d. unless_then S (write_rule w.objects (base_of a) (further_of a) size) _ _ _ w (λ e.
+      S.on w v (tick v) (S.copies (base_of a) (further_of a) (base_of b) (further_of b) size w e) (works S 1 v)))
 
   pub compounded_goes : (o : Op) (i : Int) (t s : CType) (a : Answer) (y : Value) (w : World) → S.Goes w (world_after (compounded o i t s a y w))
   compounded_goes o i t s a y w =
@@ -149,17 +146,17 @@ module _ (S : Road) where
 
   -- what is done with answers
   pub single_goes : (s : Single) (a : Answer) (w : World) → S.Goes w (world_after (single_of s a w))
-  single_goes Whole a w = S.works 1 w
+  single_goes Whole a w = works S 1 w
   single_goes (Truth t) a w = then_goes S w (used a w) (truth t) (used_goes a w) (truth_goes t)
-  single_goes (Member n) a w = S.works 1 w
-  single_goes (Arrow n) a w = then_goes S w (used a w) _ (used_goes a w) (λ p u. S.works 1 u)
+  single_goes (Member n) a w = works S 1 w
+  single_goes (Arrow n) a w = then_goes S w (used a w) _ (used_goes a w) (λ p u. works S 1 u)
   single_goes (Increment s n t) a w = then_plain w (stepped s n t a w) (stepped_goes s n t a w)
   single_goes Address a w = then_plain w (address a w) (address_goes a w)
   single_goes Indirection a w = then_place w (used a w) (used_goes a w)
   single_goes (Unary o t) a w = then_goes S w (used a w) _ (used_goes a w) (λ x u. then_plain u (unary o t x u) (unary_goes o t x u))
   single_goes (Cast t) a w = cast_goes (is_void t) t a w
   single_goes (Convert from to) a w = conversion_goes from to a w
-  single_goes Back a w = S.on w (tick w) (tick (tick w)) (S.works 1 w) (S.works 1 (tick w))
+  single_goes Back a w = S.on w (tick w) (tick (tick w)) (works S 1 w) (works S 1 (tick w))
 
   pub pair_goes : (p : Pair) (x y : Value) (w : World) → S.Goes w (world_after (pair_of p x y w))
   pair_goes (Index size s t) x y w = then_place w (offset_by op.Add size s t x y w) (offset_goes op.Add size s t x y w)
@@ -176,4 +173,4 @@ module _ (S : Road) where
   -- the beginning of an expression
   pub begun_goes : (x : CoreExpr-F CoreExpr) (w : World) → S.Goes w (begun x w)
   begun_goes (CoreExpr-F.Convert l t a) w = S.here w
-  begun_goes _ w = S.works 1 w
+  begun_goes _ w = works S 1 w

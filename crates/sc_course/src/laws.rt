@@ -21,6 +21,7 @@ ghost use Rattle.sc_machine.specs.declared.pending.Item.{Item};
 ghost use Rattle.sc_machine.specs.declared.pending.Mode.{Mode};
 ghost use Rattle.sc_course.specs.Worlds.{body_left, expr_left, world_of};
 ghost use Rattle.sc_course.specs.Events.{IsPrefix};
+ghost use Rattle.sc_course.specs.Lawful.{Along, IsOwn, IsWrite, own_of};
 ghost use Rattle.sc_course.specs.Paid.{AllPay, BodyPaid, ExprPaid, credit, doing_credit, doing_pays, done, items_credit, mode_credit, mode_pays, pays, pendings_credit};
 
 /// Each step of an expression, a body or a run adds some things that happen to what happened before, and nothing else
@@ -62,4 +63,13 @@ pub fn steps_are_paid_by_work()
 #[tactic(auto, using(crate::proofs::RunPays::ran_paid))]
 pub fn runs_are_paid_by_work()
     ensures { (k : ℕ) (h : History) (s : whole.State) → AllPay k h s → k + credit (whole.ran k h s) + 4 * done (world_of s) ≤ credit s + 4 * done (world_of (whole.ran k h s)) }
+{}
+
+/// What a step of an expression changes is a living object that may be written, and no object is born there, and none dies. In a
+/// step of a body objects with automatic storage duration are born, those alone die that are in its entered blocks, and it writes
+/// to these too, and to the object that it sets up.
+#[tactic(auto, using(crate::proofs::Lawfully::expr_writes, crate::proofs::Lawfully::body_changes))]
+pub fn steps_change_what_they_may()
+    ensures expressions { (env : Env) (mode : Mode) (is : List Item) (w : World) → Along IsWrite w (expr_left (expr.advance env mode is w)) }
+    ensures bodies { (mode : Doing) (ss : List Pending) (env : Env) (w : World) → Along (IsOwn (own_of mode env)) w (body_left (body.advance mode ss env w)) }
 {}
