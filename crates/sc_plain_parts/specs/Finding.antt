@@ -13,6 +13,6 @@ pub record Finds (find : List ℕ → Option Fun) (funs : List Fun) : Type 0 whe
 pub record Adds (old : List ℕ → Option Fun) (f : Fun) (new : List ℕ → Option Fun) : Type 0 where
   pub adds : (name : List ℕ) → new name ≡ option_or (old name) (if bytes_eq f.name name then Some f else None)
 
--- the same, where some of the functions are still to be added
+-- each name has the first of the functions that has it: one that is found already, or else one of the rest
 pub record FindsAfter (find : List ℕ → Option Fun) (rest funs : List Fun) : Type 0 where
   pub finds : (name : List ℕ) → option_or (find name) (function_of name rest) ≡ function_of name funs

@@ -96,6 +96,7 @@ impl Module {
         })
     }
 
+    /// The module itself.
     pub fn get(&self) -> &Core
         ensures { result.now ≡ self.now }
     {
