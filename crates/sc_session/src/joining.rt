@@ -39,9 +39,9 @@ fn clashing_name(alloc: Global, found: Named) -> Result<Option<Denied>, NoMemory
 fn name_conflict(alloc: Global, texts: &[Text], core: &Core) -> Result<Option<Denied>, NoMemory>
     ensures { IfOk result (λ d. d ≡ spec.name_conflict texts.now core.now) }
 {
-    match doubled(texts, core) {
+    match doubled(alloc, texts, core)? {
         Some(found) => doubled_name(alloc, found),
-        None => match clashing(texts, core) {
+        None => match clashing(alloc, texts, core)? {
             Some(found) => clashing_name(alloc, found),
             None => Ok(None),
         },
