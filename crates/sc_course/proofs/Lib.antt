@@ -11,3 +11,4 @@ pub mod ExprPays
 pub mod BodyPays
 pub mod RunPays
 pub mod Lawfully
+pub mod Moves

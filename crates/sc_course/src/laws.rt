@@ -22,6 +22,7 @@ ghost use Rattle.sc_machine.specs.declared.pending.Mode.{Mode};
 ghost use Rattle.sc_course.specs.Worlds.{body_left, expr_left, world_of};
 ghost use Rattle.sc_course.specs.Events.{IsPrefix};
 ghost use Rattle.sc_course.specs.Lawful.{Along, IsOwn, IsWrite, own_of};
+ghost use Rattle.sc_course.specs.Moved.{StepBacked};
 ghost use Rattle.sc_course.specs.Paid.{AllPay, BodyPaid, ExprPaid, credit, doing_credit, doing_pays, done, items_credit, mode_credit, mode_pays, pays, pendings_credit};
 
 /// Each step of an expression, a body or a run adds some things that happen to what happened before, and nothing else
@@ -72,4 +73,11 @@ pub fn runs_are_paid_by_work()
 pub fn steps_change_what_they_may()
     ensures expressions { (env : Env) (mode : Mode) (is : List Item) (w : World) → Along IsWrite w (expr_left (expr.advance env mode is w)) }
     ensures bodies { (mode : Doing) (ss : List Pending) (env : Env) (w : World) → Along (IsOwn (own_of mode env)) w (body_left (body.advance mode ss env w)) }
+{}
+
+/// As many units of work are done at least as births and copies of structures move bytes, in each step but that of a call that is
+/// over in the step that makes it.
+#[tactic(auto, using(crate::proofs::Moves::advance_backs))]
+pub fn moved_bytes_are_work()
+    ensures { (h : History) (s : whole.State) → StepBacked s (whole.advance h s) }
 {}
