@@ -12,3 +12,5 @@ pub mod BodyPays
 pub mod RunPays
 pub mod Lawfully
 pub mod Moves
+pub mod Heap
+pub mod LibraryLawful

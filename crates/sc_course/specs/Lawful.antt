@@ -1,7 +1,8 @@
 -- What a step may change: living objects that may be written; and a body, the objects of its own blocks.
 use Rattle.std.specs.Prelude.{◌≡◌, ◌⊎◌, ℕ, Bool, true, false, List, [], ◌∷◌, ◌++◌, Some}
 use Rattle.sc_base.specs.declared.memory.Kind.{Kind}
-use Rattle.sc_rules.specs.Tests.{is_constant}
+use Rattle.sc_base.specs.declared.memory.Kind.TheVariants.{Heap}
+use Rattle.sc_rules.specs.Tests.{is_constant, is_heap}
 use Rattle.sc_meaning.specs.World.{World, Object, Born, Item, Birth, Death, Put, Copy, object_at, pass, passed}
 use Rattle.sc_meaning.specs.Expressions.{Env}
 use Rattle.sc_meaning.specs.Statements.{auto_kind, id_of}
@@ -44,6 +45,17 @@ IsOwn own w (Death id) = IsIn id own
 IsOwn own w (Put id at new) = IsWritable w.objects id ⊎ IsIn id own
 IsOwn own w (Copy to at from off n) = IsWritable w.objects to ⊎ IsIn to own
 IsOwn own w _ = Unit {0}
+
+-- In a call of the library blocks of the heap are born, and those alone die.
+abbrev pub IsBlock : List Object → ℕ → Type 0
+IsBlock objects id = (o : Object) × (object_at objects id ≡ Some o) × (o.live ≡ true) × (is_heap o.kind ≡ true)
+
+abbrev pub IsOfHeap : World → Item → Type 0
+IsOfHeap w (Birth size kind) = kind ≡ Heap
+IsOfHeap w (Death id) = IsBlock w.objects id
+IsOfHeap w (Put id at new) = IsWritable w.objects id
+IsOfHeap w (Copy to at from off n) = IsWritable w.objects to
+IsOfHeap w _ = Unit {0}
 
 -- the objects of some blocks
 abbrev pub ids_of : List Born → List ℕ
