@@ -128,7 +128,7 @@ pub expr_writes : (env : Env) (mode : Mode) (is : List PendingItem) (w : World) 
 expr_writes env mode is w = exprs.advance_goes Writing env mode is w
 
 module _ (own : List ℕ) where
-  free_own : (i : Item) (w : World) → changes_of i ≡ [] → IsOwn own w i
+  pub free_own : (i : Item) (w : World) → changes_of i ≡ [] → IsOwn own w i
   free_own (Work n) w e = tt
   free_own Begin w e = tt
   free_own End w e = tt
@@ -150,7 +150,7 @@ module _ (own : List ℕ) where
   free_own (Name id o) w e = tt
   free_own (Unname id) w e = tt
 
-  abbrev OwnWriting : OwnRoad
+  abbrev pub OwnWriting : OwnRoad
   OwnWriting = record {
     road = Lawful (IsOwn own) free_own (λ id at new w h. inl h) (λ to at from off n w h. inl h);
     Own = λ id. IsIn id own;

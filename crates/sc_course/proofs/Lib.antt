@@ -14,3 +14,4 @@ pub mod Lawfully
 pub mod Moves
 pub mod Heap
 pub mod LibraryLawful
+pub mod RunLawful

@@ -24,7 +24,7 @@ ghost use Rattle.sc_machine.specs.declared.pending.Item.{Item};
 ghost use Rattle.sc_machine.specs.declared.pending.Mode.{Mode};
 ghost use Rattle.sc_course.specs.Worlds.{body_left, expr_left, world_of};
 ghost use Rattle.sc_course.specs.Events.{IsPrefix};
-ghost use Rattle.sc_course.specs.Lawful.{Along, IsOfHeap, IsOwn, IsWrite, own_of};
+ghost use Rattle.sc_course.specs.Lawful.{Along, IsOfHeap, IsOwn, IsWrite, Lawfully, own_of};
 ghost use Rattle.sc_course.specs.Moved.{StepBacked};
 ghost use Rattle.sc_course.specs.Paid.{AllPay, BodyPaid, ExprPaid, credit, doing_credit, doing_pays, done, items_credit, mode_credit, mode_pays, pays, pendings_credit};
 
@@ -90,4 +90,11 @@ pub fn moved_bytes_are_work()
 #[tactic(auto, using(crate::proofs::LibraryLawful::library_goes))]
 pub fn calls_of_the_library_change_what_they_may()
     ensures { (h : History) → ((e : Event) (w : World) → happened h e w ≡ went (pass (Happens e) w)) → (f : LibFun) (key : Key) (vs : List Value) (w : World) → Along IsOfHeap w (world_after (library_call h f key vs w)) }
+{}
+
+/// A step of a run, where nothing changes behind an event, changes what it may: a body as above, and at its end its parameters die; a
+/// call of the library as above; and as a function is entered its parameters are born and set, and nothing else is.
+#[tactic(auto, using(crate::proofs::RunLawful::advance_lawful))]
+pub fn runs_change_what_they_may()
+    ensures { (h : History) → ((e : Event) (w : World) → happened h e w ≡ went (pass (Happens e) w)) → (s : whole.State) → Lawfully s (world_of (whole.advance h s)) }
 {}
