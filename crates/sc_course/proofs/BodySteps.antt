@@ -43,11 +43,11 @@ use_own own (Set p at t is) ids o = o (id_of p) (inl refl)
 use_own own (Copy p size is) ids o = o (id_of p) (inl refl)
 use_own own _ ids o = tt
 
-in_front : (id : ℕ) (xs ys : List ℕ) → IsIn id xs → IsIn id (xs ++ ys)
+pub in_front : (id : ℕ) (xs ys : List ℕ) → IsIn id xs → IsIn id (xs ++ ys)
 in_front id [] ys p = absurd p
 in_front id (x ∷ xs) ys p = elim p [ inl e ↦ inl e | inr q ↦ inr (in_front id xs ys q) ]
 
-in_back : (id : ℕ) (xs ys : List ℕ) → IsIn id ys → IsIn id (xs ++ ys)
+pub in_back : (id : ℕ) (xs ys : List ℕ) → IsIn id ys → IsIn id (xs ++ ys)
 in_back id [] ys p = p
 in_back id (x ∷ xs) ys p = inr (in_back id xs ys p)
 

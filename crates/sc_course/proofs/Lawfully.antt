@@ -22,21 +22,21 @@ use Rattle.sc_course.proofs.ExprSteps as exprs
 use Rattle.sc_course.proofs.BodySteps as bodies
 
 module _ (L : World → Item → Type 0) where
-  along_here : (w : World) → Along L w w
+  pub along_here : (w : World) → Along L w w
   along_here w = ([], refl, tt)
 
-  along_one : (i : Item) (w : World) → L w i → Along L w (pass i w)
+  pub along_one : (i : Item) (w : World) → L w i → Along L w (pass i w)
   along_one i w l = (i ∷ [], refl, (l, tt))
 
   each_more : (is js : List Item) (w : World) → Each L w is → Each L (passed is w) js → Each L w (is ++ js)
   each_more [] js w p q = q
   each_more (i ∷ is) js w p q = (p.0, each_more is js (pass i w) p.1 q)
 
-  along_on : (w v u : World) → Along L w v → Along L v u → Along L w u
+  pub along_on : (w v u : World) → Along L w v → Along L v u → Along L w u
   along_on w v u p q =
       (p.0 ++ q.0, q.1 ∙ ap (passed q.0) p.1 ∙ sym (passed-append p.0 q.0 w), each_more p.0 q.0 w p.2 (subst (λ x. Each L x q.0) p.1 q.2))
 
-  along_two : (i j : Item) (w : World) → L w i → L (pass i w) j → Along L w (pass j (pass i w))
+  pub along_two : (i j : Item) (w : World) → L w i → L (pass i w) j → Along L w (pass j (pass i w))
   along_two i j w l m = (i ∷ j ∷ [], refl, (l, (m, tt)))
 
 -- a store or a copy that breaks no rule goes into an object that may be written
@@ -75,12 +75,12 @@ write_writable objects o i further n h =
 
 -- along laws that ask nothing of what changes no object
 module _ (L : World → Item → Type 0) (free : (i : Item) (w : World) → changes_of i ≡ [] → L w i) (puts : (id at : ℕ) (new : List Cell) (w : World) → IsWritable w.objects id → L w (Put id at new)) (copies : (to at from off n : ℕ) (w : World) → IsWritable w.objects to → L w (Copy to at from off n)) where
-  along_stores : (p : Value) (further n : ℕ) (v : Value) (w : World) → store_rule w.objects p further n ≡ None → Along L w (set_at p further n v w)
+  pub along_stores : (p : Value) (further n : ℕ) (v : Value) (w : World) → store_rule w.objects p further n ≡ None → Along L w (set_at p further n v w)
   along_stores (Number m) further n v w e = along_here L w
   along_stores (FunctionAt k) further n v w e = along_here L w
   along_stores (Pointer o i) further n v w e = along_one L (Put o (i + further) (cells_of n v)) w (puts o (i + further) (cells_of n v) w (store_writable w.objects o i further n e))
 
-  along_copies : (to : Value) (further : ℕ) (from : Value) (beyond n : ℕ) (w : World) → write_rule w.objects to further n ≡ None → Along L w (pass (Work n) (copy_at to further from beyond n w))
+  pub along_copies : (to : Value) (further : ℕ) (from : Value) (beyond n : ℕ) (w : World) → write_rule w.objects to further n ≡ None → Along L w (pass (Work n) (copy_at to further from beyond n w))
   along_copies (Number m) further from beyond n w e = along_one L (Work n) w (free (Work n) w refl)
   along_copies (FunctionAt k) further from beyond n w e = along_one L (Work n) w (free (Work n) w refl)
   along_copies (Pointer o i) further (Number m) beyond n w e = along_one L (Work n) w (free (Work n) w refl)
@@ -89,7 +89,7 @@ module _ (L : World → Item → Type 0) (free : (i : Item) (w : World) → chan
       let c : Item = Copy o (i + further) p (j + beyond) n in
       along_two L c (Work n) w (copies o (i + further) p (j + beyond) n w (write_writable w.objects o i further n e)) (free (Work n) (pass c w) refl)
 
-  abbrev Lawful : Road
+  abbrev pub Lawful : Road
   Lawful = record {
     Goes = Along L;
     here = along_here L;
@@ -128,7 +128,7 @@ pub expr_writes : (env : Env) (mode : Mode) (is : List PendingItem) (w : World) 
 expr_writes env mode is w = exprs.advance_goes Writing env mode is w
 
 module _ (own : List ℕ) where
-  free_own : (i : Item) (w : World) → changes_of i ≡ [] → IsOwn own w i
+  pub free_own : (i : Item) (w : World) → changes_of i ≡ [] → IsOwn own w i
   free_own (Work n) w e = tt
   free_own Begin w e = tt
   free_own End w e = tt
@@ -150,7 +150,7 @@ module _ (own : List ℕ) where
   free_own (Name id o) w e = tt
   free_own (Unname id) w e = tt
 
-  abbrev OwnWriting : OwnRoad
+  abbrev pub OwnWriting : OwnRoad
   OwnWriting = record {
     road = Lawful (IsOwn own) free_own (λ id at new w h. inl h) (λ to at from off n w h. inl h);
     Own = λ id. IsIn id own;

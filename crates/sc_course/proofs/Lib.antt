@@ -11,3 +11,7 @@ pub mod ExprPays
 pub mod BodyPays
 pub mod RunPays
 pub mod Lawfully
+pub mod Moves
+pub mod Heap
+pub mod LibraryLawful
+pub mod RunLawful

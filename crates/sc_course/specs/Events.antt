@@ -1,7 +1,6 @@
--- Events in their order.
+-- What comes in an order.
 use Rattle.std.specs.Prelude.{◌≡◌, List, ◌++◌}
-use Rattle.sc_meaning.specs.World.{Event}
 
--- these events are the first of those
-abbrev pub IsPrefix : List Event → List Event → Type 0
-IsPrefix xs ys = (later : List Event) × (ys ≡ xs ++ later)
+-- these are the first of those
+abbrev pub IsPrefix : {A : Type 0} → List A → List A → Type 0
+IsPrefix {A} xs ys = (later : List A) × (ys ≡ xs ++ later)

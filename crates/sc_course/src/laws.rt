@@ -2,8 +2,11 @@
 ghost use Rattle.std.specs.Prelude.{◌≡◌, ◌+◌, ◌*◌, ◌<◌, ◌≤◌, true, List, [], ℕ};
 ghost use Rattle.sc_base.specs.declared.key.Key.{Key};
 ghost use Rattle.sc_meaning.specs.Values.{Value};
-ghost use Rattle.sc_meaning.specs.World.{World, events};
-ghost use Rattle.sc_meaning.specs.Outcomes.{Outcome, world_after};
+ghost use Rattle.sc_meaning.specs.World.{Event, Happens, World, events, pass};
+ghost use Rattle.sc_meaning.specs.Outcomes.{Outcome, went, world_after};
+ghost use Rattle.sc_meaning.specs.Changes.{happened};
+ghost use Rattle.sc_meaning.specs.Functions.{library_call};
+ghost use Rattle.sc_meaning.specs.declared.library.LibFun.{LibFun};
 ghost use Rattle.sc_meaning.specs.Versions.{History, callee_of, version_at};
 ghost use Rattle.sc_meaning.specs.Expressions.{Answer, Env};
 ghost use Rattle.sc_meaning.specs.Statements.{Way};
@@ -21,7 +24,8 @@ ghost use Rattle.sc_machine.specs.declared.pending.Item.{Item};
 ghost use Rattle.sc_machine.specs.declared.pending.Mode.{Mode};
 ghost use Rattle.sc_course.specs.Worlds.{body_left, expr_left, world_of};
 ghost use Rattle.sc_course.specs.Events.{IsPrefix};
-ghost use Rattle.sc_course.specs.Lawful.{Along, IsOwn, IsWrite, own_of};
+ghost use Rattle.sc_course.specs.Lawful.{Along, IsOfHeap, IsOwn, IsWrite, Lawfully, own_of};
+ghost use Rattle.sc_course.specs.Moved.{StepBacked};
 ghost use Rattle.sc_course.specs.Paid.{AllPay, BodyPaid, ExprPaid, credit, doing_credit, doing_pays, done, items_credit, mode_credit, mode_pays, pays, pendings_credit};
 
 /// Each step of an expression, a body or a run adds some things that happen to what happened before, and nothing else
@@ -72,4 +76,25 @@ pub fn runs_are_paid_by_work()
 pub fn steps_change_what_they_may()
     ensures expressions { (env : Env) (mode : Mode) (is : List Item) (w : World) → Along IsWrite w (expr_left (expr.advance env mode is w)) }
     ensures bodies { (mode : Doing) (ss : List Pending) (env : Env) (w : World) → Along (IsOwn (own_of mode env)) w (body_left (body.advance mode ss env w)) }
+{}
+
+/// As many units of work are done at least as births and copies of structures move bytes, in each step but that of a call that is
+/// over in the step that makes it.
+#[tactic(auto, using(crate::proofs::Moves::advance_backs))]
+pub fn moved_bytes_are_work()
+    ensures { (h : History) (s : whole.State) → StepBacked s (whole.advance h s) }
+{}
+
+/// In a call of the library, where nothing changes behind an event, blocks of the heap alone are born, living blocks of the heap
+/// alone die, and what it writes to is a living object that may be written.
+#[tactic(auto, using(crate::proofs::LibraryLawful::library_goes))]
+pub fn calls_of_the_library_change_what_they_may()
+    ensures { (h : History) → ((e : Event) (w : World) → happened h e w ≡ went (pass (Happens e) w)) → (f : LibFun) (key : Key) (vs : List Value) (w : World) → Along IsOfHeap w (world_after (library_call h f key vs w)) }
+{}
+
+/// A step of a run, where nothing changes behind an event, changes what it may: a body as above, and at its end its parameters die; a
+/// call of the library as above; and as a function is entered its parameters are born and set, and nothing else is.
+#[tactic(auto, using(crate::proofs::RunLawful::advance_lawful))]
+pub fn runs_change_what_they_may()
+    ensures { (h : History) → ((e : Event) (w : World) → happened h e w ≡ went (pass (Happens e) w)) → (s : whole.State) → Lawfully s (world_of (whole.advance h s)) }
 {}

@@ -1,6 +1,6 @@
 -- The events of a run are the first of those that its program's meaning gives.
-use Rattle.std.proofs.Common.{◌≡◌, ℕ, ◌<◌, Bool, true, false, List, [], ◌∷◌, refl, sym, ap, ◌∙◌, subst, arith, Option, Some, None}
-use Rattle.sc_meaning.specs.World.{World, events, tick}
+use Rattle.std.proofs.Common.{◌≡◌, ℕ, ◌<◌, Bool, true, false, List, [], ◌∷◌, ◌++◌, append_assoc, refl, sym, ap, ◌∙◌, subst, arith, Option, Some, None}
+use Rattle.sc_meaning.specs.World.{World, Item, events, tick}
 use Rattle.sc_meaning.specs.Outcomes.{Outcome, Done, Over, Ending, and_then, went, world_at, world_after}
 use Rattle.sc_meaning.specs.Versions.{Text, History, callee_of, version_at}
 use Rattle.sc_meaning.specs.Changes.{settled, statics_born}
@@ -10,6 +10,8 @@ use Rattle.sc_meaning.specs.Behaviour.{Start, first_world, main_key, main_called
 use Rattle.sc_meaning.specs.Laws.{Leads}
 use Rattle.sc_meaning.proofs.Steps.{here, one_more}
 use Rattle.sc_meaning.proofs.Deeper.{ending_world}
+use Rattle.sc_meaning.proofs.Trails.{trail-passed}
+use Rattle.sc_plain_world.specs.Outputs.{written_by, output}
 use Rattle.sc_machine.specs.Runs as runs
 use Rattle.sc_machine.specs.Runs.{Caller, State, Runs, Makes, Answers, Ends}
 use Rattle.sc_course.specs.Events.{IsPrefix}
@@ -76,3 +78,14 @@ events_begin s texts m n p lt = leads_prefix (world_of m.state) (world_at (endin
 
 pub all_events : (s : Start) (texts : List Text) (m : Standing) (n : ℕ) → IsRunOf s texts (Some m) → m.steps < n → has_ended m.state ≡ true → events (world_of m.state).trail ≡ events_upto n s
 all_events s texts m n p lt over = same_end s texts p.0 m.steps n m.state lt p.1 over
+
+-- the bytes that were written
+output-append : (is js : List Item) → output (is ++ js) ≡ output is ++ output js
+output-append [] js = refl
+output-append (i ∷ is) js = ap (λ bs. written_by i ++ bs) (output-append is js) ∙ sym (append_assoc (written_by i) (output is) (output js))
+
+leads_output : (w v : World) → Leads w v → IsPrefix (output w.trail) (output v.trail)
+leads_output w v l = (output l.0, ap (λ u. output u.trail) l.1 ∙ ap output (trail-passed l.0 w) ∙ output-append w.trail l.0)
+
+pub output_begins : (s : Start) (texts : List Text) (m : Standing) (n : ℕ) → IsRunOf s texts (Some m) → m.steps < n → IsPrefix (output (world_of m.state).trail) (output (world_at (ending n s)).trail)
+output_begins s texts m n p lt = leads_output (world_of m.state) (world_at (ending n s)) (run_leads s texts m n p lt)
