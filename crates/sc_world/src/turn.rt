@@ -46,7 +46,7 @@ fn else_paused(halt: Option<Halt>, turns: u64, took: u64) -> Option<Halt>
     ensures { result ≡ spec.else_paused halt turns took }
 {
     match halt {
-        Some(halt) => Some(halt),
+        Some(here) => Some(here),
         None => halt_if(turns <= took, Halt::Paused(took)),
     }
 }
