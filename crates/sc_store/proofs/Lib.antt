@@ -1,0 +1,6 @@
+pub mod Lists
+pub mod Cells
+pub mod Meant
+pub mod Holding
+pub mod Reading
+pub mod Writing
