@@ -1,5 +1,5 @@
 -- How a memory goes on to hold the objects of a run.
-use Rattle.std.proofs.Common.{◌≡◌, ◌≢◌, ◌⊎◌, inl, inr, ℕ, zero, suc, ◌+◌, ◌-◌, ◌%◌, ◌<◌, ◌≤◌, true, false, List, [], ◌∷◌, ◌++◌, length, set, take, drop, replicate, refl, sym, ap, subst, ◌∙◌, Option, Some, None, arith}
+use Rattle.std.proofs.Common.{◌≡◌, ◌≢◌, inl, inr, ℕ, zero, suc, ◌+◌, ◌%◌, ◌<◌, true, false, List, [], ◌∷◌, ◌++◌, length, set, refl, sym, ap, subst, ◌∙◌, Option, Some, None, arith}
 use Rattle.std.specs.List.{slice_get}
 use Rattle.std.specs.Option.{IsSome}
 use Rattle.std.proofs.lemmas.Bool.{cases_eq, cases_order}
@@ -8,9 +8,8 @@ use Rattle.std.proofs.lemmas.List.{length_push, length-set, length-replicate}
 use Rattle.sc_base.specs.declared.key.Key.{Key}
 use Rattle.sc_base.specs.declared.memory.Kind.{Kind}
 use Rattle.sc_base.specs.declared.memory.Cell.{Cell as Stored}
-use Rattle.sc_base.specs.declared.memory.Cell.TheVariants as stored
 use Rattle.sc_objects.specs.declared.objects.Obj.{Obj}
-use Rattle.sc_objects.specs.Numbered.{object_of, IsLive, IsClear, born}
+use Rattle.sc_objects.specs.Numbered.{object_of, IsLive, born}
 use Rattle.sc_objects.specs.Numbered.{ended as gone}
 use Rattle.sc_objects.proofs.Lists.{slice_get-last, slice_get-set_same}
 use Rattle.sc_objects.proofs.Births.{born-object, ended-is}
@@ -20,7 +19,7 @@ use Rattle.sc_mem.specs.Safe.{Store, IsSafe, IsBirth}
 use Rattle.sc_mem.proofs.Runs.{put-one}
 use Rattle.sc_meaning.specs.Values.{Cell, Unwritten}
 use Rattle.sc_meaning.specs.World.{Object, object_at, fresh, ended, written, overwritten}
-use Rattle.sc_store.specs.Holding.{IsHeld, AreHeld, Holds, HasBytes, Grows, meant, meant_by, byte_at}
+use Rattle.sc_store.specs.Holding.{IsHeld, AreHeld, Holds, Grows, meant, meant_by}
 use Rattle.sc_store.proofs.Lists.{get-left, get-other, from-replicate}
 use Rattle.sc_store.proofs.Cells.{birth-other, birth-here, written-other, written-here}
 use Rattle.sc_store.proofs.Meant.{Keeps, bytes-grow, keeps-all, grows-all}
@@ -167,10 +166,12 @@ holds_ended os m fs (suc k) p h l =
     } in
     let each : (id : ℕ) → AreHeld new fs (object_at (set os k o') id) (object_of (set m.objects k p') id) =
     λ id. at-ended os m new fs k o' p' id within h.count one (are-grown m new fs fs (object_at os id) (object_of m.objects id) (λ q e a i few. refl) (grows-all fs) keeps (h.each id)) in
-    rw (here, l.0) (record {
+    let gone-is : gone m.objects (suc k) ≡ set m.objects k p' = ended-is m.objects (suc k) p l.0 ∙ ap (λ n. set m.objects n p') (omega arith) in
+    subst (λ (t : List Obj). Holds (ended os (suc k) (object_at os (suc k))) (record { heap = m.heap; stack = m.stack; cells = m.cells; objects = t }) fs) (sym gone-is)
+    (rw here (record {
       count = length-set m.objects k p' ∙ (h.count ∙ sym (length-set os k o'));
       each = each;
-    })
+    }))
 
 -- bytes are written, one at a time
 pub with-byte : (cells : List Cell) (at : ℕ) (c : Cell) → at < length cells → overwritten cells at (c ∷ []) ≡ set cells at c
@@ -207,7 +208,7 @@ held-put s m' fs o p at c d safe few area is means live h =
       full = λ _. ap length (with-byte o.cells at d inside) ∙ (length-set o.cells at d ∙ full);
       bytes = λ _ i e there.
           let now : slice_get (set o.cells at d) i ≡ Some e = rw (← with-byte o.cells at d inside) there in
-          rw objects (elim (cases_eq i at) [
+          subst (λ (t : List Obj). meant_by fs t (cell_at m' (p.base + i)) ≡ Some e) (sym objects) (elim (cases_eq i at) [
             | inl same ↦
                 let two : Some d ≡ Some e = sym (slice_get-set_same o.cells at d inside) ∙ (ap (slice_get (set o.cells at d)) (sym same) ∙ now) in
                 let place : p.base + i ≡ p.base + at + 0 = omega arith in
@@ -234,7 +235,7 @@ holds_put os s m' fs (suc k) p at c d safe h l few area is means =
     λ id. at-put os m m' fs k o' p id within l.0 one (λ n. are-grown m m' fs fs (object_at os id) (object_of m.objects id) (apart id n) (grows-all fs) keeps (h.each id)) in
     rw here (record {
       count = ap length objects ∙ (h.count ∙ sym (length-set os k o'));
-      each = λ id. rw objects (each id);
+      each = λ id. subst (λ (t : List Obj). AreHeld m' fs (object_at (set os k o') id) (object_of t id)) (sym objects) (each id);
     })
 
 -- what memory says of an object by its number

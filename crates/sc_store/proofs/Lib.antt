@@ -4,3 +4,4 @@ pub mod Meant
 pub mod Holding
 pub mod Reading
 pub mod Writing
+pub mod Keys

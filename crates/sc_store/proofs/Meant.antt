@@ -1,5 +1,5 @@
 -- What a cell stands for stays as objects and functions come.
-use Rattle.std.proofs.Common.{◌≡◌, ℕ, ◌+◌, ◌-◌, ◌/◌, ◌<◌, ◌==◌, nat_le, Bool, true, false, if◌then◌else◌, List, length, refl, sym, ap, subst, ◌∙◌, Option, Some, None, option_map, arith}
+use Rattle.std.proofs.Common.{◌≡◌, ℕ, ◌+◌, ◌-◌, ◌/◌, ◌<◌, ◌==◌, nat_le, Bool, true, false, if◌then◌else◌, List, length, refl, ap, ◌∙◌, Option, Some, None, option_map}
 use Rattle.std.specs.List.{slice_get}
 use Rattle.std.proofs.lemmas.Option.{slice_get_within}
 use Rattle.sc_base.specs.declared.key.Key.{Key}
@@ -9,7 +9,7 @@ use Rattle.sc_objects.specs.declared.objects.Obj.{Obj}
 use Rattle.sc_objects.specs.Numbered.{object_of}
 use Rattle.sc_mem.specs.Flat.{Flat, cell_at}
 use Rattle.sc_meaning.specs.Values.{Value, FunctionAt, Pointer, Cell}
-use Rattle.sc_store.specs.Holding.{function_at, place_in, value_at, piece_of, meant, meant_by, byte_at, HasBytes, Grows}
+use Rattle.sc_store.specs.Holding.{function_at, place_in, value_at, piece_of, meant_by, byte_at, HasBytes, Grows}
 
 -- the objects stay where they stand
 abbrev pub Keeps : List Obj → List Obj → Type 0
@@ -27,7 +27,7 @@ pub place-grows : (id a : ℕ) (q q' : Option Obj) (v : Value) → ((p : Obj) �
 place-grows id a None q' v f h = absurd (cc)
 place-grows id a (Some p) q' v f h =
     let k = f p refl in
-    ap (place_in id a) k.1.0 ∙ (ap (λ (b : ℕ). if nat_le b a then Some (Pointer id (a - b)) else None) k.1.1 ∙ h)
+    ap (place_in id a) k.1 ∙ (ap (λ (b : ℕ). if nat_le b a then Some (Pointer id (a - b)) else None) k.2 ∙ h)
 
 pub value-grows : (fs fs' : List Key) (t t' : List Obj) (tag a : ℕ) (v : Value) → Grows fs fs' → Keeps t t' → value_at fs t tag a ≡ Some v → value_at fs' t' tag a ≡ Some v
 value-grows fs fs' t t' tag a v f k h =

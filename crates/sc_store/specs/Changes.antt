@@ -2,7 +2,7 @@
 use Rattle.std.specs.Prelude.{List, [], ◌∷◌, ◌++◌}
 use Rattle.sc_store.specs.declared.history.Change.{Change}
 use Rattle.sc_store.specs.declared.history.Change.TheVariants as change
-use Rattle.sc_meaning.specs.World.{Item, Work, Birth, Death, Put, Object, fresh, ended, written, object_at}
+use Rattle.sc_meaning.specs.World.{Item, Birth, Death, Put, Object, fresh, ended, written, object_at}
 
 abbrev pub item_of : Change → Item
 item_of (change.Birth size kind) = Birth size kind

@@ -35,6 +35,7 @@ pub fn byte_at(functions: &[Shared<Key>], memory: &Memory, at: u32) -> Result<Ce
 }
 
 /// The `n` bytes from an address on.
+#[tactic(auto, using(crate::proofs::Reading::bytes_none, crate::proofs::Reading::bytes_more))]
 pub fn bytes_at(
     alloc: Global,
     functions: &[Shared<Key>],
@@ -49,7 +50,8 @@ pub fn bytes_at(
         return Err(NoMemory);
     }
     for i in 0..n {
-        cells.push(byte_at(functions, memory, base + i)?)?;
+        let byte = byte_at(functions, memory, base + i)?;
+        cells.push(byte)?;
     }
     Ok(cells)
 }

@@ -1,5 +1,5 @@
 // Pointers as the pieces of words, and the numbers of functions.
-ghost use Rattle.std.specs.Prelude.{◌≡◌, List, Some, slice_get, IfOk, IfSome};
+ghost use Rattle.std.specs.Prelude.{◌≡◌, List, Some, slice_get, IfOk, IfSome, IsTrue};
 ghost use Rattle.sc_base.specs.declared.key.Key.{Key};
 ghost use Rattle.sc_meaning.specs.Values as spec;
 ghost use Rattle.sc_store.specs.Holding.{function_at, value_at, Grows};
@@ -45,15 +45,24 @@ pub fn value_of(
     Ok(Value::pointer(tag, offset))
 }
 
+// Whether two keys are one.
+#[tactic(auto, using(crate::proofs::Keys::same_key))]
+fn is_same(a: &Key, b: &Key) -> bool
+    ensures { IsTrue result → a.now ≡ b.now }
+{
+    *a == *b
+}
+
 // The number of a function, where it has one.
 fn found(functions: &[Shared<Key>], key: &Key) -> Option<u32>
     ensures { IfSome result (λ n. slice_get functions.now n ≡ Some key.now) }
 {
-    let most = functions.len();
-    for n in 0..most {
-        if functions[n].get() == key {
-            return u32::try_from(n).ok();
+    let mut n = 0;
+    while n < functions.len() && n < 0x0100_0000 {
+        if is_same(functions[n].get(), key) {
+            return Some(n as u32);
         }
+        n += 1;
     }
     None
 }

@@ -163,14 +163,15 @@ impl Store {
             return Err(NoMemory);
         };
         let stored = cell_of(&mut self.functions, &self.memory, cell)?;
-        if self.memory.set_cell(address, stored).is_none() {
+        let Some(()) = self.memory.set_cell(address, stored) else {
             return Err(NoMemory);
-        }
+        };
         self.history = after(&self.history, Change::Put(id, at, Snapshot::of(cell)));
         Ok(())
     }
 
     /// Bytes are written into a live object from an offset on.
+    #[tactic(auto, using(crate::proofs::Writing::put_nothing, crate::proofs::Writing::put_step, crate::proofs::Writing::put_all))]
     pub fn put(&mut self, id: u32, at: u32, cells: &[Cell]) -> Result<(), NoMemory>
         ensures { IfOk result (λ _. self.new ≡ written self.old id at cells.now (object_at self.old id)) }
     {

@@ -1,4 +1,4 @@
-use Rattle.std.proofs.Common.{◌≡◌, ◌-◌, ◌+◌, ℕ, ◌≤◌, List, length, subst, arith, ◌∙◌, Some, None, refl, true}
+use Rattle.std.proofs.Common.{◌≡◌, ◌-◌, ◌+◌, ℕ, ◌≤◌, List, length, subst, arith, ◌∙◌, Some, refl, true}
 use Rattle.std.specs.Prelude.{IsTrue, ◌↔◌, ltb}
 use Rattle.std.specs.List.{slice_get}
 use Rattle.std.specs.Option.{IsSome}
@@ -46,6 +46,7 @@ returns c =
     let near = le_from_not_gt _ _ entry.0.1 in
     let last : (q : ℕ) → q ≤ base + size → IsSome (get nat_cmp live q) → q ≤ start = λ q l there. ge_from_not_lt start q (r.4 _ _ c.in-Some.ensures.steps q (tt, not_gt-le q (base + size) l) there) in
     rw (c.from.ensures, c.from-2.ensures, c.from-3.ensures)
-    (subst (λ (os : List Obj). IsTrue (ltb (start + o.size) base) ↔ IsClear os base size) c.self.view_is
-    ((λ behind. clear-behind table live start id base size o c.self.invariant entry.1 object (ltb-true (start + o.size) base behind) last),
-    (λ clear. lt-ltb (start + o.size) base (clear-not table live start id base size o c.self.invariant entry.1 object near clear))))
+    (subst (λ (os : List Obj). IsTrue (ltb (start + o.size) base) ↔ IsClear os base size) c.self.view_is (
+      (λ behind. clear-behind table live start id base size o c.self.invariant entry.1 object (ltb-true (start + o.size) base behind) last),
+      (λ clear. lt-ltb (start + o.size) base (clear-not table live start id base size o c.self.invariant entry.1 object near clear)),
+    ))
