@@ -67,3 +67,11 @@ get-range xs at n i x h =
     let high : at + i < length xs = omega arith in
     slice_get-get_or xs (at + i) x high
     ∙ ap Some (sym (get_or-drop at xs i x) ∙ (sym (get_or-take n (drop at xs) i x low) ∙ get_or_from_slice_get (take n (drop at xs)) i x x h))
+
+pub get-front : {A : Type 0} (xs : List A) (n i : ℕ) (x : A) → slice_get (take n xs) i ≡ Some x → slice_get xs i ≡ Some x
+get-front xs n i x h =
+    let few = slice_get_within (take n xs) i x h in
+    let size = length-take n xs in
+    let low : i < n = omega arith in
+    let high : i < length xs = omega arith in
+    slice_get-get_or xs i x high ∙ ap Some (sym (get_or-take n xs i x low) ∙ get_or_from_slice_get (take n xs) i x x h)

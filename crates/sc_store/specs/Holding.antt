@@ -1,6 +1,6 @@
 -- What it is that a memory holds the objects of a run: the same objects number by number, and for each one that lives the
 -- bytes at its addresses.
-use Rattle.std.specs.Prelude.{◌≡◌, ⊤, ℕ, ◌+◌, ◌-◌, ◌/◌, ◌%◌, ◌<◌, ◌==◌, nat_le, true, if◌then◌else◌, List, length, slice_get, Option, Some, None, option_map}
+use Rattle.std.specs.Prelude.{◌≡◌, ⊤, ℕ, ◌+◌, ◌-◌, ◌/◌, ◌%◌, ◌<◌, min, ◌==◌, nat_le, true, if◌then◌else◌, List, length, slice_get, Option, Some, None, option_map}
 use Rattle.sc_base.specs.declared.key.Key.{Key}
 use Rattle.sc_base.specs.declared.memory.Cell.{Cell as Stored}
 use Rattle.sc_base.specs.declared.memory.Cell.TheVariants as stored
@@ -70,3 +70,9 @@ Grows old new = (n : ℕ) (key : Key) → slice_get old n ≡ Some key → slice
 -- an offset is inside of a live object
 abbrev pub IsInside : List Object → ℕ → ℕ → Type 0
 IsInside objects id at = (o : Object) × (object_at objects id ≡ Some o) × (at < length o.cells)
+
+-- so many bytes from an address on are the n bytes of a live object from an offset on, as far as the object has them; those of
+-- an object that is not born are none
+abbrev pub Spans : Option Obj → ℕ → ℕ → ℕ → ℕ → Type 0
+Spans None at n base count = count ≡ 0
+Spans (Some p) at n base count = (p.live ≡ true) × (count ≡ min n (p.size - at)) × (0 < count → base ≡ p.base + at)

@@ -3,10 +3,13 @@
 
 mod bytes;
 mod cell;
+mod few;
 mod history;
 mod places;
 mod pointers;
+mod span;
 mod store;
 
 pub use cell::{Cell, Content};
+pub use few::Few;
 pub use store::{Facts, Store};

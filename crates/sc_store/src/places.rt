@@ -9,6 +9,9 @@ use sc_objects::Obj;
 /// Where the static area begins.
 const STATIC: u32 = 0x0800_0000;
 
+/// The multiples of 4 in the static area.
+const STEPS: u32 = 262144;
+
 /// Where the stack ends.
 const STACK_END: u32 = 0x2000_0000;
 
@@ -70,10 +73,40 @@ pub fn place_object(
             Ok(())
         }
         Kind::Static | Kind::Const | Kind::Literal => {
-            let base = places.next;
-            memory.settle(size, kind, base)?;
+            let base = settle_static(memory, places.next, size, kind)?;
             places.next = behind(base, size);
             Ok(())
         }
     }
+}
+
+// An object of the static area is born at an address, or at the first one that serves; its address.
+fn settle_static(
+    memory: &mut Memory,
+    next: u32,
+    size: u32,
+    kind: Kind,
+) -> Result<u32, NoMemory>
+    ensures birth { IfOk result (λ _. IsBirth memory.old.flat memory.new.flat size kind) }
+    ensures fault { OnErr result (memory.new ≡ memory.old) }
+    ensures safe { IsSafe memory.old }
+{
+    match memory.settle(size, kind, next) {
+        Ok(()) => Ok(next),
+        Err(_) => settle_first(memory, size, kind),
+    }
+}
+
+// An object is born at the first address of the static area that serves; its address.
+fn settle_first(memory: &mut Memory, size: u32, kind: Kind) -> Result<u32, NoMemory>
+    ensures birth { IfOk result (λ _. IsBirth memory.old.flat memory.new.flat size kind) }
+    ensures fault { OnErr result (memory.new ≡ memory.old) }
+{
+    for step in 0..STEPS {
+        let base = STATIC + 4 * step;
+        if memory.settle(size, kind, base).is_ok() {
+            return Ok(base);
+        }
+    }
+    Err(NoMemory)
 }

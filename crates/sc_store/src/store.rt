@@ -8,8 +8,10 @@ ghost use Rattle.sc_meaning.specs.World.{Object, cells_at, ended, fresh, object_
 
 use crate::bytes::{bytes_at, cell_of};
 use crate::cell::Cell;
+use crate::few::{Few, few_at};
 use crate::history::{Change, History, Item};
 use crate::places::{Places, place_object};
+use crate::span::span_of;
 use sc_base::{Items, Key, Kind, NoMemory, Shared};
 use sc_mem::Memory;
 use sc_objects::Obj;
@@ -93,30 +95,31 @@ impl Store {
     }
 
     /// The `n` bytes of a live object from an offset on, of which those outside the object are left out.
-    #[tactic(auto, using(crate::proofs::Reading::read_held, crate::proofs::Reading::read_past, crate::proofs::Reading::read_none))]
+    #[tactic(auto, using(crate::proofs::Reading::read_result))]
     pub fn cells(&self, id: u32, at: u64, n: u32) -> Result<Items<Cell>, NoMemory>
         ensures { IfOk result (λ cells. cells ≡ cells_at self.now id at n) }
     {
-        let Some(object) = self.memory.find(id) else {
-            return Ok(Items::new(self.alloc));
-        };
-        if !object.live {
-            return Err(NoMemory);
-        }
-        if u64::from(object.size) <= at {
-            return Ok(Items::new(self.alloc));
-        }
-        let from = at as u32;
-        let Some(base) = object.base.checked_add(from) else {
-            return Err(NoMemory);
-        };
-        let count = n.min(object.size - from);
+        let span = span_of(&self.memory, id, at, n)?;
         bytes_at(
             self.alloc,
             self.functions.as_slice(),
             &self.memory,
-            base,
-            count,
+            span.base,
+            span.count,
+        )
+    }
+
+    /// The same for at most four bytes, without a list.
+    #[tactic(auto, using(crate::proofs::Reading::read_result))]
+    pub fn few(&self, id: u32, at: u64, n: u32) -> Result<Few, NoMemory>
+        ensures { IfOk result (λ few. few ≡ cells_at self.now id at n) }
+    {
+        let span = span_of(&self.memory, id, at, n)?;
+        few_at(
+            self.functions.as_slice(),
+            &self.memory,
+            span.base,
+            span.count,
         )
     }
 
