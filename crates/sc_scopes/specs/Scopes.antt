@@ -14,6 +14,7 @@ use Rattle.sc_scopes.specs.declared.table.Entity.TheVariants as entity
 use Rattle.sc_scopes.specs.declared.table.DeclaredName.{DeclaredName}
 use Rattle.sc_scopes.specs.declared.table.FunctionScopes.{FunctionScopes}
 use Rattle.sc_scopes.specs.declared.table.Scopes.{Scopes}
+use Rattle.sc_scopes.specs.declared.table.ModuleScopes.{ModuleScopes}
 use Rattle.sc_scopes.specs.Names.{Scope, joined, constants_of, named, file_names, block_names, first_parameters}
 
 -- ---- blocks (3.6.2)
@@ -91,6 +92,11 @@ entity_until last (d ∷ scope) name =
 abbrev pub function_named : List FunctionScopes → List ℕ → Option FunctionScopes
 function_named [] name = None
 function_named (f ∷ fs) name = if bytes_eq f.name name then Some f else function_named fs name
+
+-- the scopes of the module of a name
+abbrev pub scopes_of_module : List ModuleScopes → List ℕ → Option Scopes
+scopes_of_module [] name = None
+scopes_of_module (m ∷ ms) name = if bytes_eq m.«module» name then Some m.scopes else scopes_of_module ms name
 
 -- ---- objects of static storage duration
 

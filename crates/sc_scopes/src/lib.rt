@@ -8,5 +8,5 @@ mod search;
 mod table;
 
 pub use file::scopes_of;
-pub use search::{entity_in, entity_until, function_named, statics_named};
-pub use table::{DeclaredName, Entity, FunctionScopes, Scopes};
+pub use search::{entity_in, entity_until, function_named, scopes_of_module, statics_named};
+pub use table::{DeclaredName, Entity, FunctionScopes, ModuleScopes, Scopes};

@@ -2,7 +2,7 @@
 ghost use Rattle.std.specs.Prelude.{◌≡◌, ◌+◌, IfOk, MatchOption, None, Some};
 ghost use Rattle.sc_scopes.specs.Scopes as spec;
 
-use crate::table::{DeclaredName, Entity, FunctionScopes};
+use crate::table::{DeclaredName, Entity, FunctionScopes, ModuleScopes, Scopes};
 use sc_base::{Items, Name, NoMemory};
 
 /// What a name is in a scope that declares it.
@@ -42,6 +42,18 @@ pub fn function_named<'a>(
     for f in functions {
         if f.name == *name {
             return Some(f);
+        }
+    }
+    None
+}
+
+/// The scopes of the module with this name.
+pub fn scopes_of_module<'a>(modules: &'a [ModuleScopes], name: &Name) -> Option<&'a Scopes>
+    ensures { MatchOption result (spec.scopes_of_module modules.now name.now ≡ None) (λ s. spec.scopes_of_module modules.now name.now ≡ Some s.now) }
+{
+    for m in modules {
+        if m.module == *name {
+            return Some(&m.scopes);
         }
     }
     None

@@ -37,3 +37,10 @@ pub struct Scopes {
     pub file: Items<DeclaredName>,
     pub functions: Items<FunctionScopes>,
 }
+
+/// The scopes of a module, with the module's name.
+#[derive(Drop)]
+pub struct ModuleScopes {
+    pub module: Name,
+    pub scopes: Scopes,
+}
