@@ -68,15 +68,6 @@ fn last_in<'a>(autos: &'a [Auto], ids: &[u32], declaring: Option<u32>) -> Option
     }
 }
 
-fn entity_so_far(last: Option<&Name>, scope: &[DeclaredName], name: &Name) -> Option<Entity>
-    ensures { result ≡ spec.entity_so_far (option_map (λ name. name.now) last) scope.now name.now }
-{
-    match last {
-        None => entity_in(scope, name),
-        Some(last) => entity_until(last, scope, name),
-    }
-}
-
 // What a name is in an open block.
 fn entity_of(
     s: &FunctionScopes,
@@ -87,8 +78,11 @@ fn entity_of(
 ) -> Option<Entity>
     ensures { result ≡ spec.entity_of s.now g.now declaring name.now b.now }
 {
-    let last = last_in(autos_in(g, b), b.ids.as_slice(), declaring);
-    entity_so_far(last, scope_in(s.blocks.as_slice(), b), name)
+    let scope = scope_in(s.blocks.as_slice(), b);
+    match last_in(autos_in(g, b), b.ids.as_slice(), declaring) {
+        None => entity_in(scope, name),
+        Some(last) => entity_until(last, scope, name),
+    }
 }
 
 /// The innermost of the open blocks that declares a name.

@@ -3,6 +3,7 @@
 
 mod begin;
 mod course;
+mod declaring;
 mod halt;
 mod look;
 mod rest;
