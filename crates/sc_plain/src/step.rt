@@ -21,6 +21,7 @@ use sc_plain_parts::Text;
 use sc_plain_steps::Env;
 use sc_plain_world::World;
 use sc_values::{Answer, Way};
+use std::mem;
 
 // A step that shows nothing.
 fn quiet(going: Going) -> Stepped
@@ -35,7 +36,7 @@ fn quiet(going: Going) -> Stepped
 
 // The same of one that may end the run.
 fn quietly(given: Result<Going, Stop>) -> Result<Stepped, Stop>
-    ensures { (s : runs.State) (cs : List runs.Caller) (w : worlds.World) → Steps s given cs w → shows.StepsShowing s Nothing result cs w }
+    ensures { (s : runs.State) (cs : List runs.Caller) (w : worlds.World) → Steps s given cs w → shows.StepsTo s Nothing result cs w }
 {
     match given {
         Ok(going) => Ok(quiet(going)),
@@ -45,7 +46,7 @@ fn quietly(given: Result<Going, Stop>) -> Result<Stepped, Stop>
 
 // A step that makes a call.
 fn entered(given: Result<Going, Stop>) -> Result<Stepped, Stop>
-    ensures { (s : runs.State) (cs : List runs.Caller) (w : worlds.World) → Steps s given cs w → shows.StepsShowing s (shows.entry_shown s) result cs w }
+    ensures { (s : runs.State) (cs : List runs.Caller) (w : worlds.World) → Steps s given cs w → shows.StepsTo s (shows.entry_shown s) result cs w }
 {
     match given {
         Ok(going) => {
@@ -99,7 +100,7 @@ fn runs(
     callers: &Stack<Caller>,
     world: &mut World,
 ) -> Result<Stepped, Stop>
-    ensures { (h : versions.History) (texts : List versions.Text) → shows.StepsShowing (steady.advance h texts (runs.Runs doing stmts env active callers.now world.old)) (shows.shown h texts (runs.Runs doing stmts env active callers.now world.old)) result callers.now world.new }
+    ensures { (h : versions.History) (texts : List versions.Text) → shows.StepsTo (steady.advance h texts (runs.Runs doing stmts env active callers.now world.old)) (shows.shown h texts (runs.Runs doing stmts env active callers.now world.old)) result callers.now world.new }
 {
     let mut stmts = stmts;
     let mut env = env;
@@ -147,13 +148,13 @@ fn answers(a: Answer, callers: &mut Stack<Caller>, world: &World) -> Result<Goin
 /// # Errors
 ///
 /// How the run ends in it.
-pub fn step_run(
+pub fn step_once(
     texts: &[Text],
     going: Going,
     callers: &mut Stack<Caller>,
     world: &mut World,
 ) -> Result<Stepped, Stop>
-    ensures { (h : versions.History) → IsQuiet h → (s : runs.State) → Is s going callers.old world.old → shows.StepsShowing (steady.advance h texts.now s) (shows.shown h texts.now s) result callers.new world.new }
+    ensures { (h : versions.History) → IsQuiet h → (s : runs.State) → Is s going callers.old world.old → shows.StepsTo (steady.advance h texts.now s) (shows.shown h texts.now s) result callers.new world.new }
 {
     match going {
         Going::Runs(doing, stmts, env, active) => runs(doing, stmts, env, active, callers, world),
@@ -167,5 +168,28 @@ pub fn step_run(
             world,
         )),
         Going::Answers(a) => quietly(answers(a, callers, world)),
+    }
+}
+
+/// One step of a run in place: exactly the machine's, in a run in which nothing changes behind an event. It answers what it shows.
+///
+/// # Errors
+///
+/// How the run ends in it.
+pub fn step_run(
+    texts: &[Text],
+    going: &mut Going,
+    callers: &mut Stack<Caller>,
+    world: &mut World,
+) -> Result<Shown, Stop>
+    ensures { (h : versions.History) → IsQuiet h → (s : runs.State) → Is s going.old callers.old world.old → shows.StepsShowing (steady.advance h texts.now s) (shows.shown h texts.now s) result going.new callers.new world.new }
+{
+    let now = mem::replace(going, Going::Answers(Answer::nothing()));
+    match step_once(texts, now, callers, world) {
+        Ok(next) => {
+            drop(mem::replace(going, next.going));
+            Ok(next.shown)
+        }
+        Err(stop) => Err(stop),
     }
 }

@@ -1,6 +1,7 @@
 pub mod Standing
 pub mod Declaring
 pub mod Wants
+pub mod Costs
 pub mod Goes
 pub mod Turns
 pub mod Meant

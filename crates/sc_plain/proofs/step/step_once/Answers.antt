@@ -3,7 +3,7 @@ use Rattle.sc_machine.specs.Runs as runs
 use Rattle.sc_plain.specs.Steady as steady
 use Rattle.sc_plain.specs.Steps.{Is}
 use Rattle.sc_plain.proofs.Whole.{from_there, makes_there}
-use Rattle.sc_plain.proofs.step.step_run.Goals as goal
+use Rattle.sc_plain.proofs.step.step_once.Goals as goal
 
 pub returns-in-Runs : goal.returns-in-Runs
 returns-in-Runs c = λ h q s i.

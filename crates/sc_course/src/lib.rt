@@ -1,0 +1,11 @@
+//! What holds of the checking interpreter's machine as it goes from step to step: what happened is kept, and begins what the
+//! meaning of C tells of the whole; steps are paid by work, and
+//! change what they may.
+#![tactic(auto)]
+
+mod laws;
+
+pub use laws::{
+    events_so_far_begin_those_of_the_call, runs_are_paid_by_work, states_lead_to_what_they_mean,
+    steps_add_to_what_happened, steps_are_paid_by_work, steps_change_what_they_may,
+};
