@@ -29,5 +29,5 @@ shows_value session inside modules scopes declaring r w name said is same beside
   declaring = declaring;
   declares = declares;
   tells = subst (λ m. TellsValue m session.scopes declaring w name said) (same ∙ ap (λ s. s.modules) is)
-    (subst (λ x. TellsValue modules x declaring w name said) (beside ∙ ap (λ s. s.scopes) is) says);
+      (subst (λ x. TellsValue modules x declaring w name said) (beside ∙ ap (λ s. s.scopes) is) says);
 }

@@ -74,16 +74,7 @@ pub fn value_told(
 ) -> Answer
     ensures { spec.TellsValue texts.now scopes.now declaring world.now name.now result }
 {
-    match print_line(
-        alloc,
-        texts,
-        texts,
-        &[],
-        scopes,
-        declaring,
-        world,
-        name,
-    ) {
+    match print_line(alloc, texts, texts, &[], scopes, declaring, world, name) {
         Ok(Some(line)) => Answer::Shown(line),
         Ok(None) => match name.copy(alloc) {
             Ok(name) => Answer::Refused(Denied::NotVisible(name)),

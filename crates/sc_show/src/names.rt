@@ -390,18 +390,7 @@ fn seen_by<'a>(
         None => Ok(None),
         Some(s) => {
             let place = place_in(s, g, declaring, name, f.blocks.as_slice());
-            seen_at(
-                alloc,
-                present,
-                waiting,
-                world,
-                name,
-                t,
-                g,
-                file,
-                s,
-                &place,
-            )
+            seen_at(alloc, present, waiting, world, name, t, g, file, s, &place)
         }
     }
 }
@@ -424,7 +413,9 @@ fn seen_in_text<'a>(
         None => Ok(None),
         Some(g) => match scopes_of_module(scopes, &t.core.get().name) {
             None => Ok(None),
-            Some(scopes) => seen_by(alloc, present, waiting, declaring, world, name, f, t, g, scopes),
+            Some(scopes) => seen_by(
+                alloc, present, waiting, declaring, world, name, f, t, g, scopes,
+            ),
         },
     }
 }
@@ -448,7 +439,9 @@ pub fn visible<'a>(
         None => Ok(None),
         Some(f) => match text_numbered(held, f.text) {
             None => Ok(None),
-            Some(t) => seen_in_text(alloc, present, waiting, scopes, declaring, world, name, f, t),
+            Some(t) => seen_in_text(
+                alloc, present, waiting, scopes, declaring, world, name, f, t,
+            ),
         },
     }
 }
@@ -492,14 +485,7 @@ pub fn print_line(
     ensures { IfOk result (λ line. line ≡ spec.print_line held.now present.now waiting.now scopes.now declaring world.now name.now) }
 {
     match visible(
-        alloc,
-        held,
-        present,
-        waiting,
-        scopes,
-        declaring,
-        world,
-        name,
+        alloc, held, present, waiting, scopes, declaring, world, name,
     )? {
         None => Ok(None),
         Some(

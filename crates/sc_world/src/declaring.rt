@@ -1,8 +1,9 @@
 // Which object a run initialises where it stands.
-ghost use Rattle.std.specs.Prelude.{◌≡◌, ℕ, List, Some};
+ghost use Rattle.std.specs.Prelude.{◌≡◌, List, Some};
 ghost use Rattle.sc_machine.specs.Runs.{Caller as Waiting};
 ghost use Rattle.sc_meaning.specs.World.{World};
 ghost use Rattle.sc_world.specs.Declaring as spec;
+ghost use Rattle.sc_world.specs.declared.count.Count.{Count};
 ghost use Rattle.sc_world.specs.Standing.{Standing, standing, state_of};
 
 use crate::course::Course;
@@ -31,7 +32,7 @@ fn declaring_in(going: &Going) -> Option<u32>
 
 /// The object whose initialiser comes next where a run stands.
 pub fn declaring_of(course: &Course) -> Option<u32>
-    ensures { (cs : List Waiting) (w : World) (k : ℕ) (m : Standing) → standing course.now cs w k ≡ Some m → result ≡ spec.declaring_at m.state }
+    ensures { (cs : List Waiting) (w : World) (c : Count) (m : Standing) → standing course.now cs w c ≡ Some m → result ≡ spec.declaring_at m.state }
 {
     match course {
         Course::On(going, _) => declaring_in(going),
