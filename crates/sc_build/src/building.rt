@@ -67,17 +67,15 @@ fn checked(alloc: Global, name: &Name, file: &str, unit: Unit) -> Result<Built, 
     ensures { (tokens : List Token) → IsUnit tokens unit.items → Checks tokens file.now name.now result }
 {
     match check(alloc, name, &unit) {
-        Ok(core) => match scopes_of(alloc, &unit) {
-            Ok(scopes) => {
-                drop(unit);
-                Ok(Built { core, scopes })
-            }
-            Err(_) => {
+        Ok(core) => {
+            let Ok(scopes) = scopes_of(alloc, &unit) else {
                 drop(unit);
                 drop(core);
-                Err(BuildFault::NoMemory)
-            }
-        },
+                return Err(BuildFault::NoMemory);
+            };
+            drop(unit);
+            Ok(Built { core, scopes })
+        }
         Err(fault) => {
             drop(unit);
             Err(in_file(alloc, file, fault))
