@@ -14,6 +14,8 @@ use Rattle.sc_pp.specs.Preprocessing.{preprocessed}
 use Rattle.sc_pp.specs.Answers.{Known, BlamesFile}
 use Rattle.sc_pp.specs.Answers as read
 use Rattle.sc_pp.specs.Asked.{asked_in, IsFileAmong}
+use Rattle.sc_scopes.specs.declared.table.Scopes.{Scopes}
+use Rattle.sc_scopes.specs.Scopes.{scopes_of}
 use Rattle.sc_token.specs.Symbols.{symbols}
 use Rattle.sc_tree.specs.declared.statement.External.{External}
 use Rattle.sc_unit.specs.Machine.{start}
@@ -65,7 +67,8 @@ types_fail tokens items file name base.NoMemory (fault.File asked) unit told e h
 types_fail tokens items file name base.NoMemory fault.NoMemory unit told e held before now reads = tt
 
 -- the module is there
-pub succeeds : (tokens : List Token) (items : List External) (file name : List ℕ) (core : Core)
-    → IsUnit tokens items → unit_of name items ≡ Ok core → core.name ≡ name → formed core ≡ true → Checks tokens file name (Ok core)
-succeeds tokens items file name core unit checks named law held before now reads =
-    record { tokens = tokens; items = items; reads = reads; parses = unit; checks = checks; named = named; formed = law }
+pub succeeds : (tokens : List Token) (items : List External) (file name : List ℕ) (core : Core) (scopes : Scopes)
+    → IsUnit tokens items → unit_of name items ≡ Ok core → core.name ≡ name → formed core ≡ true → scopes ≡ scopes_of items
+    → Checks tokens file name (Ok (record { core = core; scopes = scopes }))
+succeeds tokens items file name core scopes unit checks named law scoped held before now reads =
+    record { tokens = tokens; items = items; reads = reads; parses = unit; checks = checks; named = named; formed = law; scoped = scoped }

@@ -6,7 +6,6 @@ use Rattle.sc_base.specs.declared.refusal.Fault.{Fault}
 use Rattle.sc_base.specs.declared.refusal.Fault.TheVariants as base
 use Rattle.sc_check.specs.Outcomes.{IsRefused}
 use Rattle.sc_check.specs.Units.{unit_of}
-use Rattle.sc_core.specs.declared.module.Core.{Core}
 use Rattle.sc_formed.specs.Modules.{formed}
 use Rattle.sc_lex.specs.declared.token.Token.{Token}
 use Rattle.sc_outside.specs.Causes.{Rose}
@@ -16,10 +15,12 @@ use Rattle.sc_pp.specs.declared.unit.PpFault.TheVariants as pp
 use Rattle.sc_pp.specs.Preprocessing.{preprocessed}
 use Rattle.sc_pp.specs.Answers.{Known}
 use Rattle.sc_pp.specs.Asked.{asked_in}
+use Rattle.sc_scopes.specs.Scopes.{scopes_of}
 use Rattle.sc_token.specs.Symbols.{symbols}
 use Rattle.sc_tree.specs.declared.statement.External.{External}
 use Rattle.sc_unit.specs.Machine.{start}
 use Rattle.sc_unit.specs.Parse.{answer}
+use Rattle.sc_build.specs.declared.building.Built.{Built}
 use Rattle.sc_build.specs.declared.building.BuildFault.{BuildFault}
 use Rattle.sc_build.specs.declared.building.BuildFault.TheVariants as fault
 
@@ -42,15 +43,16 @@ IsTooLong held file = Reads held file (Err pp.TooLong)
 abbrev pub Asks : Option FileMap → List ℕ → List ℕ → Type 0
 Asks held file asked = Known held (λ map. Contains (asked_in map file) asked)
 
--- The module in a file: its tokens, which are a unit, and which the rules of types make this module.
-pub record Builds (held : Option FileMap) (file name : List ℕ) (core : Core) : Type 0 where
+-- The module in a file: its tokens, which are a unit, which the rules of types make this module, and whose scopes are these.
+pub record Builds (held : Option FileMap) (file name : List ℕ) (built : Built) : Type 0 where
   pub tokens : List Token
   pub items : List External
   pub reads : Reads held file (Ok tokens)
   pub parses : IsUnit tokens items
-  pub checks : unit_of name items ≡ Ok core
-  pub named : core.name ≡ name
-  pub formed : formed core ≡ true
+  pub checks : unit_of name items ≡ Ok built.core
+  pub named : built.core.name ≡ name
+  pub formed : formed built.core ≡ true
+  pub scoped : built.scopes ≡ scopes_of items
 
 -- Where the first refusal of a file comes from: preprocessing; the grammar, where preprocessing refuses nothing; the rules
 -- of types, where the grammar refuses nothing.
@@ -60,8 +62,8 @@ pub data Refuses (held : Option FileMap) (file name : List ℕ) : Refusal → Ty
   in_types : (tokens : List Token) (items : List External) (kind : X) (line : ℕ) → Reads held file (Ok tokens) → IsUnit tokens items → IsRefused (unit_of name items) kind line → Refuses held file name (record { kind = kind; file = file; line = line })
 
 -- what the code answers
-abbrev pub Answers : Option FileMap → ℕ → ℕ → List ℕ → List ℕ → Result Core BuildFault → Type 0
-Answers held before now file name (Ok core) = Builds held file name core
+abbrev pub Answers : Option FileMap → ℕ → ℕ → List ℕ → List ℕ → Result Built BuildFault → Type 0
+Answers held before now file name (Ok built) = Builds held file name built
 Answers held before now file name (Err (fault.Refused r)) = Refuses held file name r
 Answers held before now file name (Err fault.Missing) = IsMissing held file
 Answers held before now file name (Err fault.TooLong) = IsTooLong held file
@@ -69,7 +71,7 @@ Answers held before now file name (Err (fault.File asked)) = Asks held file aske
 Answers held before now file name (Err fault.NoMemory) = ⊤
 
 -- the same behind preprocessing
-abbrev pub Checks : List Token → List ℕ → List ℕ → Result Core BuildFault → Type 0
+abbrev pub Checks : List Token → List ℕ → List ℕ → Result Built BuildFault → Type 0
 Checks tokens file name result = (held : Option FileMap) (before now : ℕ) → Reads held file (Ok tokens) → Answers held before now file name result
 
 -- what preprocessing fails with

@@ -10,6 +10,7 @@ use sc_lex::Token;
 use sc_outside::Files;
 use sc_parse::parse;
 use sc_pp::{PpFault, preprocess};
+use sc_scopes::{Scopes, scopes_of};
 use sc_tree::Unit;
 use std::alloc::Global;
 
@@ -22,6 +23,13 @@ pub enum BuildFault {
     TooLong,
     File(Bytes),
     NoMemory,
+}
+
+/// A module that was translated, and what each of its scopes declares.
+#[derive(Drop)]
+pub struct Built {
+    pub core: Core,
+    pub scopes: Scopes,
 }
 
 // What preprocessing fails with.
@@ -55,13 +63,18 @@ fn in_file(alloc: Global, file: &str, fault: Fault) -> BuildFault
 }
 
 // The module of a unit.
-fn checked(alloc: Global, name: &Name, file: &str, unit: Unit) -> Result<Core, BuildFault>
+fn checked(alloc: Global, name: &Name, file: &str, unit: Unit) -> Result<Built, BuildFault>
     ensures { (tokens : List Token) → IsUnit tokens unit.items → Checks tokens file.now name.now result }
 {
     match check(alloc, name, &unit) {
         Ok(core) => {
+            let Ok(scopes) = scopes_of(alloc, &unit) else {
+                drop(unit);
+                drop(core);
+                return Err(BuildFault::NoMemory);
+            };
             drop(unit);
-            Ok(core)
+            Ok(Built { core, scopes })
         }
         Err(fault) => {
             drop(unit);
@@ -71,7 +84,7 @@ fn checked(alloc: Global, name: &Name, file: &str, unit: Unit) -> Result<Core, B
 }
 
 // The module of some tokens.
-fn parsed(alloc: Global, name: &Name, file: &str, tokens: &[Token]) -> Result<Core, BuildFault>
+fn parsed(alloc: Global, name: &Name, file: &str, tokens: &[Token]) -> Result<Built, BuildFault>
     ensures { Checks tokens.now file.now name.now result }
 {
     match parse(alloc, tokens) {
@@ -80,7 +93,7 @@ fn parsed(alloc: Global, name: &Name, file: &str, tokens: &[Token]) -> Result<Co
     }
 }
 
-/// The module in a file, with this name. The refusal of a text is the first of preprocessing, with the file in which its
+/// The module in a file, with this name, and its scopes. The refusal of a text is the first of preprocessing, with the file in which its
 /// line stands; else the grammar's, else that of the rules of types, in the module's own file. `File` is the name of a file
 /// that was asked for and could not be read, only where the count of faults rose.
 pub fn build<F: Files>(
@@ -88,7 +101,7 @@ pub fn build<F: Files>(
     name: &Name,
     file: &str,
     files: &mut F,
-) -> Result<Core, BuildFault>
+) -> Result<Built, BuildFault>
     ensures answers { Answers (F.held files.old) (F.faults files.old) (F.faults files.new) file.now name.now result }
     ensures held { F.held files.new ≡ F.held files.old }
     ensures later { F.faults files.old ≤ F.faults files.new }

@@ -3,4 +3,4 @@
 
 mod building;
 
-pub use building::{BuildFault, build};
+pub use building::{BuildFault, Built, build};

@@ -4,10 +4,12 @@ use Rattle.std.specs.List.{filter}
 use Rattle.std.specs.Str.{bytes_eq}
 use Rattle.sc_base.specs.declared.key.Key.{Key}
 use Rattle.sc_base.specs.declared.memory.Form.TheVariants.{Source}
+use Rattle.sc_build.specs.declared.building.Built.{Built}
 use Rattle.sc_core.specs.declared.module.Core.{Core}
 use Rattle.sc_meaning.specs.Versions.{Text}
 use Rattle.sc_modules.specs.Clashes.{Named, doubled, clashing, is_other}
 use Rattle.sc_modules.specs.Spaces.{over_limit, modules_with, statics_with}
+use Rattle.sc_scopes.specs.declared.table.ModuleScopes.{ModuleScopes}
 use Rattle.sc_show.specs.Numbers.{mentioned}
 use Rattle.sc_words.specs.declared.denied.Area.{Area}
 use Rattle.sc_words.specs.declared.denied.Denied.{Denied}
@@ -68,6 +70,24 @@ in_place (t ∷ ts) core = if is_other core t then t ∷ in_place ts core else a
 abbrev pub without : List ℕ → List Text → List Text
 without name modules = filter (λ t. not (bytes_eq t.core.name name)) modules
 
+-- ---- the scopes of the modules, which go with them
+
+abbrev pub scopes_in : Built → ModuleScopes
+scopes_in built = record { «module» = built.core.name; scopes = built.scopes }
+
+abbrev pub with_scopes : List ModuleScopes → ModuleScopes → List ModuleScopes
+with_scopes scopes new = scopes ++ new ∷ []
+
+-- where a module is translated anew, its new scopes take the place of the old ones
+abbrev pub scopes_in_place : List ModuleScopes → ModuleScopes → List ModuleScopes
+scopes_in_place [] new = []
+scopes_in_place (m ∷ ms) new = if bytes_eq m.«module» new.«module» then new ∷ ms else m ∷ scopes_in_place ms new
+
+abbrev pub scopes_without : List ℕ → List ModuleScopes → List ModuleScopes
+scopes_without name scopes = filter (λ m. not (bytes_eq m.«module» name)) scopes
+
+-- ---- what the code finds
+
 -- whether there is room for a module, and whether it goes with the others, as the code finds it: its functions have their numbers
 -- then
 abbrev pub Numbered : List Key → Core → List Key → Type 0
@@ -96,3 +116,8 @@ pub record IsPlace (modules : List Text) (core : Core) (i : ℕ) : Type 0 where
   pub old : Text
   pub stands : slice_get modules i ≡ Some old
   pub placed : in_place modules core ≡ slice_set modules i (anew old core)
+
+-- the place of the scopes of a module
+pub record IsScopesPlace (scopes : List ModuleScopes) (new : ModuleScopes) (i : ℕ) : Type 0 where
+  pub inside : i < length scopes
+  pub placed : scopes_in_place scopes new ≡ slice_set scopes i new

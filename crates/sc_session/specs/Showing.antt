@@ -3,6 +3,7 @@ use Rattle.std.specs.Prelude.{◌≡◌, ℕ, List, [], ◌∷◌, ◌++◌, Opt
 use Rattle.sc_base.specs.declared.key.Key.{Key}
 use Rattle.sc_meaning.specs.Versions.{Text}
 use Rattle.sc_meaning.specs.World.{World}
+use Rattle.sc_scopes.specs.declared.table.ModuleScopes.{ModuleScopes}
 use Rattle.sc_show.specs.Frames.{where_lines}
 use Rattle.sc_show.specs.Listings.{module_lines, fun_lines}
 use Rattle.sc_show.specs.Visible.{print_line}
@@ -10,6 +11,7 @@ use Rattle.sc_words.specs.Texts.{stop_text}
 use Rattle.sc_words.specs.declared.answer.Answer.{Answer}
 use Rattle.sc_words.specs.declared.answer.Answer.TheVariants as answer
 use Rattle.sc_words.specs.declared.denied.Denied.TheVariants as denied
+use Rattle.sc_world.specs.Declaring.{declaring_at}
 use Rattle.sc_world.specs.Standing.{Standing}
 use Rattle.sc_session.specs.declared.state.State.{State}
 use Rattle.sc_session.specs.declared.state.State.TheVariants as state
@@ -49,12 +51,16 @@ TellsCalls modules w (answer.Shown lines) = lines ≡ where_lines modules w.fram
 TellsCalls modules w answer.NoMemory = Unit {0}
 TellsCalls modules w _ = ⊥
 
+-- what the name stands for that `print` asks for
+abbrev pub value_line : List Text → List ModuleScopes → Option ℕ → World → List ℕ → Option (List ℕ)
+value_line modules scopes declaring w name = print_line modules modules [] scopes declaring w name
+
 -- the answers to `print`
-abbrev pub TellsValue : List Text → World → List ℕ → Answer → Type 0
-TellsValue modules w name (answer.Shown line) = print_line modules modules [] w name ≡ Some line
-TellsValue modules w name (answer.Refused d) = (d ≡ denied.NotVisible name) × (print_line modules modules [] w name ≡ None)
-TellsValue modules w name answer.NoMemory = Unit {0}
-TellsValue modules w name _ = ⊥
+abbrev pub TellsValue : List Text → List ModuleScopes → Option ℕ → World → List ℕ → Answer → Type 0
+TellsValue modules scopes declaring w name (answer.Shown line) = value_line modules scopes declaring w name ≡ Some line
+TellsValue modules scopes declaring w name (answer.Refused d) = (d ≡ denied.NotVisible name) × (value_line modules scopes declaring w name ≡ None)
+TellsValue modules scopes declaring w name answer.NoMemory = Unit {0}
+TellsValue modules scopes declaring w name _ = ⊥
 
 -- so does a session of the run that goes on in it
 abbrev pub InWorld : Plain → (World → Type 0) → Type 0
@@ -63,5 +69,16 @@ InWorld session P = (r : Option Standing) × RunsIn session.state r × ((w : Wor
 abbrev pub ShowsCalls : Plain → Answer → Type 0
 ShowsCalls session said = InWorld session (λ w. TellsCalls session.modules w said)
 
-abbrev pub ShowsValue : Plain → List ℕ → Answer → Type 0
-ShowsValue session name said = InWorld session (λ w. TellsValue session.modules w name said)
+-- the object of the innermost call that is being initialised where the run stands, if one is
+abbrev pub IsDeclaring : Option Standing → Option ℕ → Type 0
+IsDeclaring r declaring = (m : Standing) → r ≡ Some m → declaring ≡ declaring_at m.state
+
+-- a value is shown in the world of the run, at the place where it stands
+pub record ShowsValue (session : Plain) (name : List ℕ) (said : Answer) : Type 0 where
+  pub run : Option Standing
+  pub runs : RunsIn session.state run
+  pub world : World
+  pub stands : IsWorldOf run world
+  pub declaring : Option ℕ
+  pub declares : IsDeclaring run declaring
+  pub tells : TellsValue session.modules session.scopes declaring world name said

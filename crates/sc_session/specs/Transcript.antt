@@ -1,7 +1,7 @@
 -- What a session answers to each command, and the session behind it.
 use Rattle.std.specs.Prelude.{◌≡◌, ◌⊎◌, ℕ, ◌+◌, true, false, List, [], Option, Some, None}
 use Rattle.sc_build.specs.Builds.{Builds, Refuses, IsMissing, IsTooLong, Asks}
-use Rattle.sc_core.specs.declared.module.Core.{Core}
+use Rattle.sc_build.specs.declared.building.Built.{Built}
 use Rattle.sc_outside.specs.Causes.{Rose}
 use Rattle.sc_outside.specs.Stored.{FileMap}
 use Rattle.sc_words.specs.declared.command.Command.{Command}
@@ -19,7 +19,7 @@ use Rattle.sc_session.specs.declared.state.State.{State}
 use Rattle.sc_session.specs.declared.state.State.TheVariants as state
 use Rattle.sc_session.specs.Plain.{Plain}
 use Rattle.sc_session.specs.States.{refusal_of}
-use Rattle.sc_session.specs.Loading.{file_of, file_or, conflict, numbers_with, with_module, in_place, without}
+use Rattle.sc_session.specs.Loading.{file_of, file_or, conflict, numbers_with, with_module, in_place, without, scopes_in, with_scopes, scopes_in_place, scopes_without}
 use Rattle.sc_session.specs.Stopping.{Sets, without_stop}
 use Rattle.sc_session.specs.Showing.{Lists, ShowsCalls, ShowsValue}
 use Rattle.sc_session.specs.Going.{in_state, has_main, IsInput, InputDenied, IsCutOff, Walks, Begins}
@@ -43,6 +43,7 @@ empty limits = record {
   limits = limits;
   modules = [];
   loaded = 0;
+  scopes = [];
   numbers = [];
   stops = [];
   last = 0;
@@ -70,39 +71,45 @@ Unbuilt held before now file name (Some d) = NotBuilt held before now file name 
 -- why the module of a file does not go with the others
 abbrev pub Clashes : Moment → List ℕ → List ℕ → Denied → Type 0
 Clashes old file name d =
-    (core : Core) × Builds old.held file name core × (conflict old.session.modules old.session.numbers core ≡ Some d)
+    (built : Built) × Builds old.held file name built × (conflict old.session.modules old.session.numbers built.core ≡ Some d)
 
 abbrev pub FileDenied : Moment → List ℕ → List ℕ → ℕ → Denied → Type 0
 FileDenied old file name now d = NotBuilt old.held old.faults now file name d ⊎ Clashes old file name d
 
 -- the module of a file, which goes with the others
-pub record Fits (old : Moment) (file name : List ℕ) (core : Core) : Type 0 where
-  pub builds : Builds old.held file name core
-  pub goes : conflict old.session.modules old.session.numbers core ≡ None
+pub record Fits (old : Moment) (file name : List ℕ) (built : Built) : Type 0 where
+  pub builds : Builds old.held file name built
+  pub goes : conflict old.session.modules old.session.numbers built.core ≡ None
 
 -- the session with one module more, with one translated anew, and with one less
-abbrev pub joined : Plain → Core → Plain
-joined session core = record session {
-  modules = with_module session.modules session.loaded core;
+abbrev pub joined : Plain → Built → Plain
+joined session built = record session {
+  modules = with_module session.modules session.loaded built.core;
   loaded = session.loaded + 1;
-  numbers = numbers_with session.numbers core;
+  scopes = with_scopes session.scopes (scopes_in built);
+  numbers = numbers_with session.numbers built.core;
   state = state.Idle;
 }
 
-abbrev pub replaced : Plain → Core → Plain
-replaced session core = record session {
-  modules = in_place session.modules core;
-  numbers = numbers_with session.numbers core;
+abbrev pub replaced : Plain → Built → Plain
+replaced session built = record session {
+  modules = in_place session.modules built.core;
+  scopes = scopes_in_place session.scopes (scopes_in built);
+  numbers = numbers_with session.numbers built.core;
   state = state.Idle;
 }
 
 abbrev pub unloaded : Plain → List ℕ → Plain
-unloaded session name = record session { modules = without name session.modules; state = state.Idle }
+unloaded session name = record session {
+  modules = without name session.modules;
+  scopes = scopes_without name session.scopes;
+  state = state.Idle;
+}
 
 -- the answers to `load`, of a module in this file
 abbrev pub Loads : Moment → List ℕ → List ℕ → Answer → Moment → Type 0
 Loads old name file (answer.Loaded m) new =
-    (m ≡ name) × ((core : Core) × Fits old file name core × Leaves old new (joined old.session core))
+    (m ≡ name) × ((built : Built) × Fits old file name built × Leaves old new (joined old.session built))
 Loads old name file (answer.Refused d) new = Leaves old new old.session × FileDenied old file name new.faults d
 Loads old name file answer.NoMemory new = Leaves old new old.session
 Loads old name file _ new = ⊥
@@ -110,22 +117,22 @@ Loads old name file _ new = ⊥
 -- the answers to `edit`, by this file
 abbrev pub Edits : Moment → List ℕ → List ℕ → Answer → Moment → Type 0
 Edits old name file (answer.Edited m) new =
-    (m ≡ name) × ((core : Core) × Fits old file name core × Leaves old new (replaced old.session core))
+    (m ≡ name) × ((built : Built) × Fits old file name built × Leaves old new (replaced old.session built))
 Edits old name file (answer.Refused d) new = Leaves old new old.session × FileDenied old file name new.faults d
 Edits old name file answer.NoMemory new = Leaves old new old.session
 Edits old name file _ new = ⊥
 
 -- what became of a module that was translated
-abbrev pub Joins : Plain → Core → Taken → Plain → Type 0
-Joins old core taken.Joined new = (conflict old.modules old.numbers core ≡ None) × (new ≡ joined old core)
-Joins old core (taken.Denied d) new = (conflict old.modules old.numbers core ≡ Some d) × (new ≡ old)
-Joins old core taken.NoMemory new = new ≡ old
+abbrev pub Joins : Plain → Built → Taken → Plain → Type 0
+Joins old built taken.Joined new = (conflict old.modules old.numbers built.core ≡ None) × (new ≡ joined old built)
+Joins old built (taken.Denied d) new = (conflict old.modules old.numbers built.core ≡ Some d) × (new ≡ old)
+Joins old built taken.NoMemory new = new ≡ old
 
 -- and of one that was translated anew
-abbrev pub TakesPlace : Plain → Core → Taken → Plain → Type 0
-TakesPlace old core taken.Joined new = (conflict old.modules old.numbers core ≡ None) × (new ≡ replaced old core)
-TakesPlace old core (taken.Denied d) new = (conflict old.modules old.numbers core ≡ Some d) × (new ≡ old)
-TakesPlace old core taken.NoMemory new = new ≡ old
+abbrev pub TakesPlace : Plain → Built → Taken → Plain → Type 0
+TakesPlace old built taken.Joined new = (conflict old.modules old.numbers built.core ≡ None) × (new ≡ replaced old built)
+TakesPlace old built (taken.Denied d) new = (conflict old.modules old.numbers built.core ≡ Some d) × (new ≡ old)
+TakesPlace old built taken.NoMemory new = new ≡ old
 
 -- why `run` is refused
 abbrev pub RunDenied : Moment → Option (List ℕ) → ℕ → Denied → Type 0

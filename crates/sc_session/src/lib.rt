@@ -7,6 +7,7 @@ mod joining;
 mod limits;
 mod listing;
 mod refusal;
+mod scopes;
 mod session;
 mod state;
 mod stops;

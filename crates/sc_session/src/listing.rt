@@ -8,6 +8,7 @@ use sc_base::{Bytes, Duplicate, Name, NoMemory};
 use sc_plain_parts::Text;
 use sc_plain_world::World;
 use sc_reports::put;
+use sc_scopes::ModuleScopes;
 use sc_show::{Numbers, fun_lines, module_lines, print_line, where_lines};
 use sc_words::{Answer, Denied, stop_line};
 use std::alloc::Global;
@@ -62,11 +63,18 @@ pub fn calls_told(alloc: Global, texts: &[Text], world: &World) -> Answer
     }
 }
 
-/// The answer to `print`.
-pub fn value_told(alloc: Global, texts: &[Text], world: &World, name: &Name) -> Answer
-    ensures { spec.TellsValue texts.now world.now name.now result }
+/// The answer to `print`, where this object of the innermost call is being initialised, if one is.
+pub fn value_told(
+    alloc: Global,
+    texts: &[Text],
+    scopes: &[ModuleScopes],
+    declaring: Option<u32>,
+    world: &World,
+    name: &Name,
+) -> Answer
+    ensures { spec.TellsValue texts.now scopes.now declaring world.now name.now result }
 {
-    match print_line(alloc, texts, texts, &[], world, name) {
+    match print_line(alloc, texts, texts, &[], scopes, declaring, world, name) {
         Ok(Some(line)) => Answer::Shown(line),
         Ok(None) => match name.copy(alloc) {
             Ok(name) => Answer::Refused(Denied::NotVisible(name)),

@@ -20,13 +20,14 @@ use crate::joining::{Taken, take_anew, take_away, take_new};
 use crate::limits::Limits;
 use crate::listing::{calls_told, list_text, value_told};
 use crate::refusal::{continuing, deleting, loading, replacing, setting, starting, stepping};
+use crate::scopes::{put_scopes, replace_scopes, scopes_with, take_scopes};
 use crate::state::{State, put_state};
 use crate::stops::{Stop, delete_stop, places, put_stop};
 use sc_base::{Bytes, Duplicate, Items, Name, NoMemory};
-use sc_build::{BuildFault, build};
-use sc_core::Core;
+use sc_build::{BuildFault, Built, build};
 use sc_outside::Files;
 use sc_plain_parts::Text;
+use sc_scopes::ModuleScopes;
 use sc_show::Numbers;
 use sc_words::{Answer, Command, Denied, Options, StopAt, Walk};
 use sc_world::Run;
@@ -34,13 +35,14 @@ use std::alloc::Global;
 use std::marker::Model;
 use std::mem;
 
-/// The modules that are present, in the order in which they were loaded; the functions that have numbers; the stops; and how a
+/// The modules that are present, in the order in which they were loaded; what their scopes declare; the functions that have numbers; the stops; and how a
 /// run stands.
 #[derive(Drop)]
 pub struct Session {
     limits: Limits,
     texts: Vec<Text>,
     loaded: u32,
+    scopes: Vec<ModuleScopes>,
     numbers: Numbers,
     stops: Vec<Stop>,
     last: u32,
@@ -60,7 +62,7 @@ impl Model for Session {
 
     ghost coded = { Prim.hlevel (codes, types.the_row.coded, signatures.the_row.coded, expressions.the_row.coded, statements.the_row.coded) };
 
-    ghost view = { λ s. record { limits = s.limits; modules = s.texts.items; loaded = s.loaded; numbers = s.numbers; stops = s.stops.items; last = s.last; state = s.state; over = s.over } };
+    ghost view = { λ s. record { limits = s.limits; modules = s.texts.items; loaded = s.loaded; scopes = s.scopes.items; numbers = s.numbers; stops = s.stops.items; last = s.last; state = s.state; over = s.over } };
 }
 
 impl Session {
@@ -76,6 +78,7 @@ impl Session {
             },
             texts: Vec::new(alloc),
             loaded: 0,
+            scopes: Vec::new(alloc),
             numbers: Numbers::new(alloc),
             stops: Vec::new(alloc),
             last: 0,
@@ -190,6 +193,7 @@ impl Session {
         ensures session { self.new ≡ spec.unloaded self.old name }
     {
         take_away(&mut self.texts, &name);
+        take_scopes(&mut self.scopes, &name);
         put_state(&mut self.state, State::Idle);
         Answer::Unloaded(name)
     }
@@ -269,7 +273,14 @@ impl Session {
         ensures { showing.ShowsValue self.now name result }
     {
         let run = run_in(&self.state);
-        value_told(alloc, self.texts.as_slice(), run.world(), &name)
+        value_told(
+            alloc,
+            self.texts.as_slice(),
+            self.scopes.as_slice(),
+            run.declaring(),
+            run.world(),
+            &name,
+        )
     }
 
     // The run goes on from where it stands.
@@ -375,7 +386,7 @@ impl Session {
         ensures held { F.held files.new ≡ F.held files.old }
     {
         match build(alloc, &name, file, files) {
-            Ok(core) => match self.take(alloc, core) {
+            Ok(built) => match self.take(alloc, built) {
                 Taken::Joined => Answer::Loaded(name),
                 Taken::Denied(denied) => Answer::Refused(denied),
                 Taken::NoMemory => Answer::NoMemory,
@@ -388,10 +399,21 @@ impl Session {
     }
 
     // A module that was translated is put behind the others, where it goes with them.
-    fn take(&mut self, alloc: Global, core: Core) -> Taken
-        ensures { spec.Joins self.old core result self.new }
+    fn take(&mut self, alloc: Global, built: Built) -> Taken
+        ensures { spec.Joins self.old built result self.new }
     {
+        let Built { core, scopes } = built;
         let Some(loaded) = self.loaded.checked_add(1) else {
+            drop(scopes);
+            drop(core);
+            return Taken::NoMemory;
+        };
+        let Ok(scopes) = scopes_with(alloc, &core.name, scopes) else {
+            drop(core);
+            return Taken::NoMemory;
+        };
+        let before = self.scopes.len();
+        let Ok(()) = put_scopes(&mut self.scopes, scopes) else {
             drop(core);
             return Taken::NoMemory;
         };
@@ -401,8 +423,14 @@ impl Session {
                 put_state(&mut self.state, State::Idle);
                 Taken::Joined
             }
-            Taken::Denied(denied) => Taken::Denied(denied),
-            Taken::NoMemory => Taken::NoMemory,
+            Taken::Denied(denied) => {
+                self.scopes.truncate(before);
+                Taken::Denied(denied)
+            }
+            Taken::NoMemory => {
+                self.scopes.truncate(before);
+                Taken::NoMemory
+            }
         }
     }
 
@@ -441,7 +469,7 @@ impl Session {
         ensures held { F.held files.new ≡ F.held files.old }
     {
         match build(alloc, &name, file, files) {
-            Ok(core) => match self.replace(alloc, core) {
+            Ok(built) => match self.replace(alloc, built) {
                 Taken::Joined => Answer::Edited(name),
                 Taken::Denied(denied) => Answer::Refused(denied),
                 Taken::NoMemory => Answer::NoMemory,
@@ -454,16 +482,28 @@ impl Session {
     }
 
     // A module that was translated takes the place of the one that has its name, where it goes with the others.
-    fn replace(&mut self, alloc: Global, core: Core) -> Taken
-        ensures { spec.TakesPlace self.old core result self.new }
+    fn replace(&mut self, alloc: Global, built: Built) -> Taken
+        ensures { spec.TakesPlace self.old built result self.new }
     {
+        let Built { core, scopes } = built;
+        let Ok(scopes) = scopes_with(alloc, &core.name, scopes) else {
+            drop(core);
+            return Taken::NoMemory;
+        };
         match take_anew(alloc, &mut self.texts, &mut self.numbers, core) {
             Taken::Joined => {
+                replace_scopes(&mut self.scopes, scopes);
                 put_state(&mut self.state, State::Idle);
                 Taken::Joined
             }
-            Taken::Denied(denied) => Taken::Denied(denied),
-            Taken::NoMemory => Taken::NoMemory,
+            Taken::Denied(denied) => {
+                drop(scopes);
+                Taken::Denied(denied)
+            }
+            Taken::NoMemory => {
+                drop(scopes);
+                Taken::NoMemory
+            }
         }
     }
 }

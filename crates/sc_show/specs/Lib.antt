@@ -2,6 +2,7 @@ pub mod Lines
 pub mod Frames
 pub mod Contents
 pub mod Tasks
+pub mod Places
 pub mod Visible
 pub mod Numbers
 pub mod Listings

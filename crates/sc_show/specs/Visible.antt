@@ -1,6 +1,6 @@
--- What a name stands for in a call: an object of an open block, the innermost first, the parameters last; else a static
--- object of the function's own blocks; else one that the module declares with linkage (ANSI 3.1.2.1, 3.1.2.2).
-use Rattle.std.specs.Prelude.{ℕ, ◌++◌, ◌==◌, ◌&&◌, Bool, true, false, nat_lt, nat_le, if◌then◌else◌, List, [], ◌∷◌, length, take, slice_index_or, Option, Some, None, codes}
+-- What a name stands for in a call: a parameter or an automatic object of an open block, or an object of static storage duration, by
+-- the innermost declaration that is in scope (ANSI 3.1.2.1, 3.1.2.2).
+use Rattle.std.specs.Prelude.{ℕ, ◌++◌, ◌==◌, Bool, true, false, if◌then◌else◌, List, [], ◌∷◌, take, Option, Some, None, codes, decimal}
 use Rattle.std.specs.Str.{bytes_eq}
 use Rattle.sc_base.specs.declared.key.Key.{Key}
 use Rattle.sc_program.specs.declared.storage.StaticId.{StaticId}
@@ -15,8 +15,16 @@ use Rattle.sc_core.specs.declared.module.Fun.{Fun}
 use Rattle.sc_core.specs.declared.module.Core.{Core}
 use Rattle.sc_meaning.specs.World.{World, Frame, Born, named_in, same_id}
 use Rattle.sc_meaning.specs.Versions.{Text, Definition, object_in}
+use Rattle.sc_scopes.specs.declared.table.DeclaredName.{DeclaredName}
+use Rattle.sc_scopes.specs.declared.table.Entity.{Entity}
+use Rattle.sc_scopes.specs.declared.table.Entity.TheVariants as entity
+use Rattle.sc_scopes.specs.declared.table.FunctionScopes.{FunctionScopes}
+use Rattle.sc_scopes.specs.declared.table.ModuleScopes.{ModuleScopes}
+use Rattle.sc_scopes.specs.declared.table.Scopes.{Scopes}
+use Rattle.sc_scopes.specs.Scopes.{entity_in, function_named, scopes_of_module, statics_named}
 use Rattle.sc_show.specs.Lines.{answer_line}
-use Rattle.sc_show.specs.Frames.{text_numbered, function_in, line_at}
+use Rattle.sc_show.specs.Frames.{text_numbered, function_in}
+use Rattle.sc_show.specs.Places.{Place, autos_in, place_in}
 use Rattle.sc_show.specs.Contents.{object_text}
 
 -- an object that a name stands for, and its type
@@ -41,49 +49,45 @@ local_in name [] ids = None
 local_in name (a ∷ autos) [] = None
 local_in name (a ∷ autos) (id ∷ ids) = if bytes_eq a.name name then Some (record { object = id; of = a.of }) else local_in name autos ids
 
-abbrev pub nearer : Option Local → Option Local → Option Local
-nearer None far = far
-nearer (Some l) far = Some l
+-- what is neither a type, a constant nor of static storage duration is an object of its block, or has linkage
+abbrev pub local_as : Fun → List ℕ → Born → Entity → Option Local
+local_as g name b entity.Declared = local_in name (autos_in g b) b.ids
+local_as g name b _ = None
 
--- the blocks stand from the outermost in; what a further one declares hides what was found
-abbrev pub local_of : Fun → List ℕ → Option Local → List Born → Option Local
-local_of f name found [] = found
-local_of f name found (b ∷ blocks) = local_of f name (nearer (local_in name (slice_index_or f.blocks b.block []) b.ids) found) blocks
+abbrev pub local_of : Fun → List ℕ → Option Place → Option Local
+local_of g name None = None
+local_of g name (Some p) = local_as g name p.block p.entity
 
--- `f.x.` begins the names of the static objects x of f's blocks
-abbrev pub own_prefix : List ℕ → List ℕ → List ℕ
-own_prefix function name = function ++ codes "." ++ name ++ codes "."
+-- `f.x.k` is the object x of f's blocks before which they declare k of this name
+abbrev pub own_name : List ℕ → List ℕ → ℕ → List ℕ
+own_name function name k = function ++ codes "." ++ name ++ codes "." ++ decimal k
 
-abbrev pub begins_with : List ℕ → List ℕ → Bool
-begins_with prefix name = bytes_eq (take (length prefix) name) prefix
+abbrev pub own_static : List ℕ → List StaticObj → Option Linked
+own_static own [] = None
+own_static own (o ∷ objects) = if bytes_eq o.key.name own then Some (record { key = o.key; of = o.of }) else own_static own objects
 
--- the last one that is declared no later than a line
-abbrev pub is_own : List ℕ → ℕ → StaticObj → Bool
-is_own prefix line o = begins_with prefix o.key.name && nat_le o.line line
+-- what the module declares with linkage under a name
+abbrev pub declared_static : List ℕ → List Declared → Option Linked
+declared_static name [] = None
+declared_static name (d ∷ declared) = if bytes_eq d.key.name name then Some (record { key = d.key; of = d.of }) else declared_static name declared
 
-abbrev pub own_static : List ℕ → ℕ → Option Linked → List StaticObj → Option Linked
-own_static prefix line found [] = found
-own_static prefix line found (o ∷ objects) =
-    own_static prefix line (if is_own prefix line o then Some (record { key = o.key; of = o.of }) else found) objects
+abbrev pub static_of : Core → FunctionScopes → List ℕ → ℕ → Option Linked
+static_of core s name block = own_static (own_name s.name name (statics_named name (take block s.blocks))) core.objects
 
--- what the module declares with linkage under a name, no later than a line
-abbrev pub is_declared : List ℕ → ℕ → Declared → Bool
-is_declared name line d = bytes_eq d.key.name name && nat_le d.line line
+abbrev pub linked_as : Core → FunctionScopes → List ℕ → Born → Entity → Option Linked
+linked_as core s name b entity.NoObject = None
+linked_as core s name b entity.Static = static_of core s name b.block
+linked_as core s name b entity.Declared = declared_static name core.declared
 
-abbrev pub declared_static : List ℕ → ℕ → List Declared → Option Linked
-declared_static name line [] = None
-declared_static name line (d ∷ declared) = if is_declared name line d then Some (record { key = d.key; of = d.of }) else declared_static name line declared
+-- at file scope
+abbrev pub linked_if : Core → List ℕ → Option Entity → Option Linked
+linked_if core name (Some entity.Declared) = declared_static name core.declared
+linked_if core name _ = None
 
--- objects of blocks are visible only inside the function's body
-abbrev pub own_where : Core → Frame → List ℕ → ℕ → Option Linked
-own_where core f name line = if nat_lt 1 (length f.blocks) then own_static (own_prefix f.key.name name) line None core.objects else None
-
-abbrev pub or_declared : Option Linked → Option Linked → Option Linked
-or_declared None later = later
-or_declared (Some l) later = Some l
-
-abbrev pub linked_as : Core → Frame → List ℕ → ℕ → Option Linked
-linked_as core f name line = or_declared (own_where core f name line) (declared_static name line core.declared)
+-- A name of static storage duration: of a block; else of those that the file declares up to the function's own.
+abbrev pub linked_of : Core → List DeclaredName → FunctionScopes → List ℕ → Option Place → Option Linked
+linked_of core file s name None = linked_if core name (entity_in (take s.before file) name)
+linked_of core file s name (Some p) = linked_as core s name p.block p.entity
 
 abbrev pub is_waiting : List StaticId → StaticId → Bool
 is_waiting [] id = false
@@ -110,27 +114,43 @@ abbrev pub or_static : Text → Option Local → Option Seen → Option Seen
 or_static t None later = later
 or_static t (Some l) later = Some (record { object = l.object; of = l.of; structs = t.core.structs })
 
-abbrev pub seen_in_function : List Text → List Text → List StaticId → World → List ℕ → Frame → Text → Option Fun → Option Seen
-seen_in_function held present waiting w name f t None = None
-seen_in_function held present waiting w name f t (Some g) =
-    or_static t (local_of g name None f.blocks) (static_seen t present waiting w (linked_as t.core f name (line_at held f)))
+abbrev pub seen_at : List Text → List StaticId → World → List ℕ → Text → Fun → List DeclaredName → FunctionScopes → Option Place → Option Seen
+seen_at present waiting w name t g file s p =
+    or_static t (local_of g name p) (static_seen t present waiting w (linked_of t.core file s name p))
 
-abbrev pub seen_in_text : List Text → List Text → List StaticId → World → List ℕ → Frame → Option Text → Option Seen
-seen_in_text held present waiting w name f None = None
-seen_in_text held present waiting w name f (Some t) = seen_in_function held present waiting w name f t (function_in f (Some t))
+-- in a call of a function, whose scopes these are
+abbrev pub seen_among : List Text → List StaticId → Option ℕ → World → List ℕ → Frame → Text → Fun → List DeclaredName → Option FunctionScopes → Option Seen
+seen_among present waiting declaring w name f t g file None = None
+seen_among present waiting declaring w name f t g file (Some s) = seen_at present waiting w name t g file s (place_in s g declaring name None f.blocks)
 
--- what a name stands for in the innermost call
-abbrev pub seen_in : List Text → List Text → List StaticId → World → List ℕ → List Frame → Option Seen
-seen_in held present waiting w name [] = None
-seen_in held present waiting w name (f ∷ frames) = seen_in_text held present waiting w name f (text_numbered held f.text)
+abbrev pub seen_by : List Text → List StaticId → Option ℕ → World → List ℕ → Frame → Text → Fun → Option Scopes → Option Seen
+seen_by present waiting declaring w name f t g None = None
+seen_by present waiting declaring w name f t g (Some scopes) =
+    seen_among present waiting declaring w name f t g scopes.file (function_named scopes.functions f.key.name)
 
-abbrev pub visible : List Text → List Text → List StaticId → World → List ℕ → Option Seen
-visible held present waiting w name = seen_in held present waiting w name w.frames
+abbrev pub seen_in_function : List Text → List StaticId → List ModuleScopes → Option ℕ → World → List ℕ → Frame → Text → Option Fun → Option Seen
+seen_in_function present waiting scopes declaring w name f t None = None
+seen_in_function present waiting scopes declaring w name f t (Some g) =
+    seen_by present waiting declaring w name f t g (scopes_of_module scopes t.core.name)
+
+abbrev pub seen_in_text : List Text → List StaticId → List ModuleScopes → Option ℕ → World → List ℕ → Frame → Option Text → Option Seen
+seen_in_text present waiting scopes declaring w name f None = None
+seen_in_text present waiting scopes declaring w name f (Some t) =
+    seen_in_function present waiting scopes declaring w name f t (function_in f (Some t))
+
+-- what a name stands for in the innermost call, where this object of it is being initialised, if any is
+abbrev pub seen_in : List Text → List Text → List StaticId → List ModuleScopes → Option ℕ → World → List ℕ → List Frame → Option Seen
+seen_in held present waiting scopes declaring w name [] = None
+seen_in held present waiting scopes declaring w name (f ∷ frames) =
+    seen_in_text present waiting scopes declaring w name f (text_numbered held f.text)
+
+abbrev pub visible : List Text → List Text → List StaticId → List ModuleScopes → Option ℕ → World → List ℕ → Option Seen
+visible held present waiting scopes declaring w name = seen_in held present waiting scopes declaring w name w.frames
 
 -- `NAME = VALUE`
 abbrev pub print_text : World → List ℕ → Option Seen → Option (List ℕ)
 print_text w name None = None
 print_text w name (Some s) = Some (answer_line (name ++ codes " = " ++ object_text w s.object s.structs s.of))
 
-abbrev pub print_line : List Text → List Text → List StaticId → World → List ℕ → Option (List ℕ)
-print_line held present waiting w name = print_text w name (visible held present waiting w name)
+abbrev pub print_line : List Text → List Text → List StaticId → List ModuleScopes → Option ℕ → World → List ℕ → Option (List ℕ)
+print_line held present waiting scopes declaring w name = print_text w name (visible held present waiting scopes declaring w name)

@@ -7,6 +7,7 @@ mod layouts;
 mod listing;
 mod names;
 mod numbers;
+mod places;
 mod tasks;
 
 pub use frames::where_lines;

@@ -1,19 +1,24 @@
 // What a name stands for where a run stopped.
-ghost use Rattle.std.specs.Prelude.{◌≡◌, ◌==◌, [], IfOk, None, Some, slice_index_or};
+ghost use Rattle.std.specs.Prelude.{◌≡◌, ◌==◌, IfOk, MatchOption, None, Some, take};
 ghost use Rattle.sc_show.specs.Visible as spec;
 ghost use Rattle.sc_meaning.specs.Versions.{object_in as defined_in};
 ghost use Rattle.sc_types.specs.Compatibility.{compatible as compatible_types};
 ghost use Rattle.sc_program.specs.declared.storage.StaticId.TheVariants.{Named as Id};
 
 use crate::contents::object_text;
-use crate::frames::{line_at, put_line, text_numbered};
+use crate::frames::{put_line, text_numbered};
+use crate::places::{Place, autos_in, place_in};
 use crate::tasks::Scene;
-use sc_base::{Bytes, Duplicate, Key, Name, NoMemory};
+use sc_base::{Bytes, Duplicate, Items, Key, Name, NoMemory};
 use sc_core::{Auto, Core, Declared, Fun, StaticObj};
 use sc_plain_parts::{Definition, Text, object_in};
 use sc_plain_world::{Born, Frame, World, same_id};
 use sc_program::StaticId;
-use sc_reports::put;
+use sc_reports::{put, put_decimal};
+use sc_scopes::{
+    DeclaredName, Entity, FunctionScopes, ModuleScopes, Scopes, entity_in, function_named,
+    scopes_of_module, statics_named,
+};
 use sc_types::{CType, Structs, compatible};
 use std::alloc::Global;
 use std::marker::Model;
@@ -97,81 +102,58 @@ fn local_in<'a>(name: &Name, autos: &'a [Auto], ids: &[u32]) -> Option<Local<'a>
     None
 }
 
-fn block_autos(f: &Fun, b: u32) -> &[Auto]
-    ensures { result.now ≡ slice_index_or f.now.blocks b [] }
+// An object of a block, where what it declares under the name is one.
+fn local_as<'a>(g: &'a Fun, name: &Name, b: &Born, entity: Entity) -> Option<Local<'a>>
+    ensures { result ≡ spec.local_as g.now name.now b.now entity }
 {
-    match f.blocks.as_slice().get(b as usize) {
-        Some(autos) => autos.as_slice(),
-        None => &[],
+    match entity {
+        Entity::Declared => local_in(name, autos_in(g, b), b.ids.as_slice()),
+        Entity::NoObject => None,
+        Entity::Static => None,
     }
 }
 
-// The object of an open block that has this name, of the innermost one.
-fn local_of<'a>(f: &'a Fun, name: &Name, blocks: &[Born]) -> Option<Local<'a>>
-    ensures { result ≡ spec.local_of f.now name.now None blocks.now }
+fn local_of<'a>(g: &'a Fun, name: &Name, place: &Option<Place<'_>>) -> Option<Local<'a>>
+    ensures { result ≡ spec.local_of g.now name.now place.now }
 {
-    let mut found = None;
-    for b in blocks {
-        if let Some(l) = local_in(name, block_autos(f, b.block), b.ids.as_slice()) {
-            found = Some(l);
-        }
+    match place {
+        None => None,
+        Some(p) => local_as(g, name, p.block, p.entity),
     }
-    found
 }
 
-// What begins the names of a function's own static objects that have this name.
-fn own_prefix(alloc: Global, function: &Name, name: &Name) -> Result<Vec<u8>, NoMemory>
-    ensures { IfOk result (λ prefix. prefix.items ≡ spec.own_prefix function.now name.now) }
+// The name of a function's own static object.
+fn own_name(alloc: Global, function: &Name, name: &Name, k: u32) -> Result<Vec<u8>, NoMemory>
+    ensures { IfOk result (λ own. own.items ≡ spec.own_name function.now name.now k) }
 {
-    let mut prefix = Vec::new(alloc);
-    put(&mut prefix, function.as_slice())?;
-    put(&mut prefix, b".")?;
-    put(&mut prefix, name.as_slice())?;
-    put(&mut prefix, b".")?;
-    Ok(prefix)
+    let mut own = Vec::new(alloc);
+    put(&mut own, function.as_slice())?;
+    put(&mut own, b".")?;
+    put(&mut own, name.as_slice())?;
+    put(&mut own, b".")?;
+    put_decimal(&mut own, alloc, k)?;
+    Ok(own)
 }
 
-fn begins_with(prefix: &[u8], name: &[u8]) -> bool
-    ensures { result ≡ spec.begins_with prefix.now name.now }
+fn own_static<'a>(own: &[u8], objects: &'a [StaticObj]) -> Option<Linked<'a>>
+    ensures { result ≡ spec.own_static own.now objects.now }
 {
-    if name.len() < prefix.len() {
-        return false;
-    }
-    &name[..prefix.len()] == prefix
-}
-
-fn is_own(prefix: &[u8], line: u32, o: &StaticObj) -> bool
-    ensures { result ≡ spec.is_own prefix.now line o.now }
-{
-    begins_with(prefix, o.key.name.as_slice()) && o.line <= line
-}
-
-fn own_static<'a>(prefix: &[u8], line: u32, objects: &'a [StaticObj]) -> Option<Linked<'a>>
-    ensures { result ≡ spec.own_static prefix.now line None objects.now }
-{
-    let mut found = None;
     for o in objects {
-        if is_own(prefix, line, o) {
-            found = Some(Linked {
+        if o.key.name.as_slice() == own {
+            return Some(Linked {
                 key: &o.key,
                 of: &o.of,
             });
         }
     }
-    found
+    None
 }
 
-fn is_declared(name: &Name, line: u32, d: &Declared) -> bool
-    ensures { result ≡ spec.is_declared name.now line d.now }
-{
-    d.key.name == *name && d.line <= line
-}
-
-fn declared_static<'a>(name: &Name, line: u32, declared: &'a [Declared]) -> Option<Linked<'a>>
-    ensures { result ≡ spec.declared_static name.now line declared.now }
+fn declared_static<'a>(name: &Name, declared: &'a [Declared]) -> Option<Linked<'a>>
+    ensures { result ≡ spec.declared_static name.now declared.now }
 {
     for d in declared {
-        if is_declared(name, line, d) {
+        if d.key.name == *name {
             return Some(Linked {
                 key: &d.key,
                 of: &d.of,
@@ -181,35 +163,81 @@ fn declared_static<'a>(name: &Name, line: u32, declared: &'a [Declared]) -> Opti
     None
 }
 
-// A static object of the running function's own blocks.
-fn own_where<'a>(
+// The first scopes, or all.
+fn first_scopes(scopes: &[Items<DeclaredName>], n: u32) -> &[Items<DeclaredName>]
+    ensures { result.now ≡ take n scopes.now }
+{
+    let n = n as usize;
+    if n >= scopes.len() {
+        return scopes;
+    }
+    &scopes[..n]
+}
+
+fn first_names(names: &[DeclaredName], n: usize) -> &[DeclaredName]
+    ensures { result.now ≡ take n names.now }
+{
+    if n >= names.len() {
+        return names;
+    }
+    &names[..n]
+}
+
+// The static object that a block declares under a name.
+fn static_of<'a>(
     alloc: Global,
     core: &'a Core,
-    f: &Frame,
+    s: &FunctionScopes,
     name: &Name,
-    line: u32,
+    block: u32,
 ) -> Result<Option<Linked<'a>>, NoMemory>
-    ensures { IfOk result (λ l. l ≡ spec.own_where core.now f.now name.now line) }
+    ensures { IfOk result (λ l. l ≡ spec.static_of core.now s.now name.now block) }
 {
-    if f.blocks.len() <= 1 {
-        return Ok(None);
-    }
-    let prefix = own_prefix(alloc, &f.key.name, name)?;
-    Ok(own_static(prefix.as_slice(), line, core.objects.as_slice()))
+    let k = statics_named(name, first_scopes(s.blocks.as_slice(), block))?;
+    let own = own_name(alloc, &s.name, name, k)?;
+    Ok(own_static(own.as_slice(), core.objects.as_slice()))
 }
 
 fn linked_as<'a>(
     alloc: Global,
     core: &'a Core,
-    f: &Frame,
+    s: &FunctionScopes,
     name: &Name,
-    line: u32,
+    b: &Born,
+    entity: Entity,
 ) -> Result<Option<Linked<'a>>, NoMemory>
-    ensures { IfOk result (λ l. l ≡ spec.linked_as core.now f.now name.now line) }
+    ensures { IfOk result (λ l. l ≡ spec.linked_as core.now s.now name.now b.now entity) }
 {
-    match own_where(alloc, core, f, name, line)? {
-        Some(l) => Ok(Some(l)),
-        None => Ok(declared_static(name, line, core.declared.as_slice())),
+    match entity {
+        Entity::NoObject => Ok(None),
+        Entity::Static => static_of(alloc, core, s, name, b.block),
+        Entity::Declared => Ok(declared_static(name, core.declared.as_slice())),
+    }
+}
+
+fn linked_if<'a>(core: &'a Core, name: &Name, entity: Option<Entity>) -> Option<Linked<'a>>
+    ensures { result ≡ spec.linked_if core.now name.now entity }
+{
+    match entity {
+        Some(Entity::Declared) => declared_static(name, core.declared.as_slice()),
+        _ => None,
+    }
+}
+
+// A name of static storage duration: of a block, else of the file.
+fn linked_of<'a>(
+    alloc: Global,
+    core: &'a Core,
+    file: &[DeclaredName],
+    s: &FunctionScopes,
+    name: &Name,
+    place: &Option<Place<'_>>,
+) -> Result<Option<Linked<'a>>, NoMemory>
+    ensures { IfOk result (λ l. l ≡ spec.linked_of core.now file.now s.now name.now place.now) }
+{
+    match place {
+        None => Ok(linked_if(core, name, entity_in(first_names(file, s.before), name))),
+        Some(p) => linked_as(alloc, core, s, name, p.block, p.entity),
     }
 }
 
@@ -309,56 +337,111 @@ fn static_in<'a>(
     waiting: &[StaticId],
     world: &World,
     name: &Name,
-    f: &Frame,
-    line: u32,
+    file: &[DeclaredName],
+    s: &FunctionScopes,
+    place: &Option<Place<'_>>,
 ) -> Result<Option<Seen<'a>>, NoMemory>
-    ensures { IfOk result (λ s. s ≡ spec.static_seen t.now present.now waiting.now world.now (spec.linked_as t.now.core f.now name.now line)) }
+    ensures { IfOk result (λ seen. seen ≡ spec.static_seen t.now present.now waiting.now world.now (spec.linked_of t.now.core file.now s.now name.now place.now)) }
 {
-    match linked_as(alloc, t.core.get(), f, name, line)? {
+    match linked_of(alloc, t.core.get(), file, s, name, place)? {
         None => Ok(None),
         Some(Linked { key, of }) => static_seen(alloc, t, present, waiting, world, key, of),
+    }
+}
+
+// What a name stands for that is declared in this place.
+fn seen_at<'a>(
+    alloc: Global,
+    present: &'a [Text],
+    waiting: &[StaticId],
+    world: &World,
+    name: &Name,
+    t: &'a Text,
+    g: &'a Fun,
+    file: &[DeclaredName],
+    s: &FunctionScopes,
+    place: &Option<Place<'_>>,
+) -> Result<Option<Seen<'a>>, NoMemory>
+    ensures { IfOk result (λ seen. seen ≡ spec.seen_at present.now waiting.now world.now name.now t.now g.now file.now s.now place.now) }
+{
+    match local_of(g, name, place) {
+        Some(Local { object, of }) => Ok(Some(local_seen(t, object, of))),
+        None => static_in(alloc, t, present, waiting, world, name, file, s, place),
+    }
+}
+
+// What a name stands for in a call of a function of a text.
+fn seen_by<'a>(
+    alloc: Global,
+    present: &'a [Text],
+    waiting: &[StaticId],
+    declaring: Option<u32>,
+    world: &World,
+    name: &Name,
+    f: &Frame,
+    t: &'a Text,
+    g: &'a Fun,
+    scopes: &Scopes,
+) -> Result<Option<Seen<'a>>, NoMemory>
+    ensures { IfOk result (λ seen. seen ≡ spec.seen_by present.now waiting.now declaring world.now name.now f.now t.now g.now (Some scopes.now)) }
+{
+    let file = scopes.file.as_slice();
+    match function_named(scopes.functions.as_slice(), &f.key.name) {
+        None => Ok(None),
+        Some(s) => {
+            let place = place_in(s, g, declaring, name, f.blocks.as_slice());
+            seen_at(alloc, present, waiting, world, name, t, g, file, s, &place)
+        }
     }
 }
 
 // What a name stands for in a call that runs a text.
 fn seen_in_text<'a>(
     alloc: Global,
-    held: &'a [Text],
     present: &'a [Text],
     waiting: &[StaticId],
+    scopes: &[ModuleScopes],
+    declaring: Option<u32>,
     world: &World,
     name: &Name,
     f: &Frame,
     t: &'a Text,
 ) -> Result<Option<Seen<'a>>, NoMemory>
-    ensures { IfOk result (λ s. s ≡ spec.seen_in_text held.now present.now waiting.now world.now name.now f.now (Some t.now)) }
+    ensures { IfOk result (λ s. s ≡ spec.seen_in_text present.now waiting.now scopes.now declaring world.now name.now f.now (Some t.now)) }
 {
     match t.core.get().fun(&f.key.name) {
         None => Ok(None),
-        Some(g) => match local_of(g, name, f.blocks.as_slice()) {
-            Some(Local { object, of }) => Ok(Some(local_seen(t, object, of))),
-            None => static_in(alloc, t, present, waiting, world, name, f, line_at(held, f)),
+        Some(g) => match scopes_of_module(scopes, &t.core.get().name) {
+            None => Ok(None),
+            Some(scopes) => seen_by(
+                alloc, present, waiting, declaring, world, name, f, t, g, scopes,
+            ),
         },
     }
 }
 
 /// What a name stands for in the innermost call. The texts are those of the run by their numbers, and those of the present
-/// version; a name for which an object waits to be born stands for none.
+/// version; a name for which an object waits to be born stands for none. The scopes are those of the modules; where an object
+/// of the call is being initialised, it is given, and what its block declares behind it is not in scope yet.
 pub fn visible<'a>(
     alloc: Global,
     held: &'a [Text],
     present: &'a [Text],
     waiting: &[StaticId],
+    scopes: &[ModuleScopes],
+    declaring: Option<u32>,
     world: &World,
     name: &Name,
 ) -> Result<Option<Seen<'a>>, NoMemory>
-    ensures { IfOk result (λ s. s ≡ spec.visible held.now present.now waiting.now world.now name.now) }
+    ensures { IfOk result (λ s. s ≡ spec.visible held.now present.now waiting.now scopes.now declaring world.now name.now) }
 {
     match world.innermost() {
         None => Ok(None),
         Some(f) => match text_numbered(held, f.text) {
             None => Ok(None),
-            Some(t) => seen_in_text(alloc, held, present, waiting, world, name, f, t),
+            Some(t) => seen_in_text(
+                alloc, present, waiting, scopes, declaring, world, name, f, t,
+            ),
         },
     }
 }
@@ -394,12 +477,16 @@ pub fn print_line(
     held: &[Text],
     present: &[Text],
     waiting: &[StaticId],
+    scopes: &[ModuleScopes],
+    declaring: Option<u32>,
     world: &World,
     name: &Name,
 ) -> Result<Option<Bytes>, NoMemory>
-    ensures { IfOk result (λ line. line ≡ spec.print_line held.now present.now waiting.now world.now name.now) }
+    ensures { IfOk result (λ line. line ≡ spec.print_line held.now present.now waiting.now scopes.now declaring world.now name.now) }
 {
-    match visible(alloc, held, present, waiting, world, name)? {
+    match visible(
+        alloc, held, present, waiting, scopes, declaring, world, name,
+    )? {
         None => Ok(None),
         Some(
             Seen {

@@ -1,4 +1,5 @@
 pub mod Standing
+pub mod Declaring
 pub mod Wants
 pub mod Costs
 pub mod Goes

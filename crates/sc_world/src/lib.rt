@@ -5,6 +5,7 @@ mod begin;
 mod cost;
 mod count;
 mod course;
+mod declaring;
 mod halt;
 mod look;
 mod rest;

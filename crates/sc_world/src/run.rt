@@ -4,6 +4,7 @@ ghost use Rattle.sc_meaning.specs.Behaviour as behaviour;
 ghost use Rattle.sc_meaning.specs.World as worlds;
 ghost use Rattle.sc_plain.specs.Ends.{end_of, start_of};
 ghost use Rattle.sc_plain_world.specs.Outputs.{output};
+ghost use Rattle.sc_world.specs.Declaring.{declaring_at};
 ghost use Rattle.sc_world.specs.Goes.{Goes, started};
 ghost use Rattle.sc_world.specs.Meant.{IsRunOf};
 ghost use Rattle.sc_world.specs.Standing as standing;
@@ -11,6 +12,7 @@ ghost use Rattle.sc_world.specs.Standing as standing;
 use crate::begin::{begun, course_of};
 use crate::count::Count;
 use crate::course::Course;
+use crate::declaring::declaring_of;
 use crate::halt::Halt;
 use crate::look::Want;
 use crate::rest::goes_from;
@@ -115,6 +117,14 @@ impl Run {
             Course::On(_, _) => None,
             Course::Over(ended) => Some(ended),
         }
+    }
+
+    /// The object whose initialiser comes next, where one does: at the line of an initialised declarator that is the object that it
+    /// declares.
+    pub fn declaring(&self) -> Option<u32>
+        ensures { (m : standing.Standing) → self.now ≡ Some m → result ≡ declaring_at m.state }
+    {
+        declaring_of(&self.course)
     }
 
     /// The world of the run, with all that happened in it.
