@@ -3,5 +3,6 @@ pub mod Declaring
 pub mod Wants
 pub mod Costs
 pub mod Goes
+pub mod Pauses
 pub mod Turns
 pub mod Meant
