@@ -85,8 +85,7 @@ pub fn drive(
         if is_over(&going, callers) {
             return Ok(destination(going, callers));
         }
-        let stepped = step_run(texts, going, callers, world)?;
-        going = stepped.going;
+        step_run(texts, &mut going, callers, world)?;
         left -= 1;
     }
     Ok(destination(going, callers))
