@@ -1,6 +1,6 @@
 -- The flat state of memory: the cells of the three areas, and all objects by number. Each change of it is the effect
 -- of a note.
-use Rattle.std.specs.Prelude.{ℕ, ◌+◌, ◌-◌, ◌%◌, ◌==◌, ◌&&◌, Bool, true, nat_le, if◌then◌else◌, List, [], replicate, Option, None, Some, option_map}
+use Rattle.std.specs.Prelude.{ℕ, ◌+◌, ◌-◌, ◌%◌, ◌==◌, ◌&&◌, Bool, true, nat_le, if◌then◌else◌, List, [], replicate, slice_get, Option, None, Some, option_map}
 use Rattle.sc_base.specs.declared.memory.Cell.{Cell}
 use Rattle.sc_base.specs.declared.memory.Cell.TheVariants.{Unwritten}
 use Rattle.sc_base.specs.declared.memory.Word.{Word}
@@ -42,6 +42,14 @@ cells_from cells (Some i) n = range_of cells i n
 -- the cells of the n bytes from an address on
 abbrev pub cells_at : Flat → ℕ → ℕ → List Cell
 cells_at m at n = cells_from m.cells (place m at n) n
+
+-- the cell at an address, where it lies in an area
+abbrev pub cell_in : List Cell → Option ℕ → Option Cell
+cell_in cells None = None
+cell_in cells (Some i) = slice_get cells i
+
+abbrev pub cell_at : Flat → ℕ → Option Cell
+cell_at m at = cell_in m.cells (place m at 1)
 
 -- the memory with other cells at a place, and as it is where there is none
 abbrev pub written_at : Flat → Option ℕ → List Cell → Flat

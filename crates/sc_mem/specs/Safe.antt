@@ -1,12 +1,12 @@
 -- What holds of memory at every moment.
-use Rattle.std.specs.Prelude.{◌≡◌, ◌⊎◌, ℕ, ◌+◌, ◌-◌, ◌<◌, ◌≤◌, List, length, IsSome, Option, Some, option_map}
+use Rattle.std.specs.Prelude.{◌≡◌, ◌⊎◌, ℕ, ◌+◌, ◌-◌, ◌%◌, true, ◌<◌, ◌≤◌, List, length, IsSome, Option, Some, option_map}
 use Rattle.sc_base.specs.declared.memory.Cell.{Cell}
 use Rattle.sc_base.specs.declared.memory.Kind.{Kind}
 use Rattle.sc_base.specs.declared.memory.Kind.TheVariants.{Heap}
 use Rattle.sc_objects.specs.declared.objects.Obj.{Obj}
 use Rattle.sc_objects.specs.Numbered.{IsLive, IsClear, AreApart}
 use Rattle.sc_objects.specs.Blocks.{Blocks, IsClass, IsTiled, Takes, block_size, class_at}
-use Rattle.sc_mem.specs.Flat.{Flat, place}
+use Rattle.sc_mem.specs.Flat.{Flat, place, with_birth}
 
 -- the flat state, and the heap's blocks by places counted from 0
 pub record Store : Type 0 where
@@ -58,3 +58,9 @@ pub record IsReleased (s : Store) (base : ℕ) : Type 0 where
   pub heap : 0x10000000 ≤ base
   pub taken : IsSome (class_at s.blocks (base - 0x10000000))
   pub bare : IsBare s base
+
+-- an object of this size and kind is born at an address that is a multiple of 4, in an area and apart from all that live
+abbrev pub IsBirth : Flat → Flat → ℕ → Kind → Type 0
+IsBirth old new size kind =
+    (base : ℕ) × (base % 4 ≡ 0) × IsClear old.objects base size × IsSome (place old base size)
+    × (new ≡ with_birth old (record { size = size; kind = kind; base = base; live = true }))

@@ -4,13 +4,16 @@ ghost use Rattle.sc_base.specs.declared.note.Note.TheVariants.{Start, Put, Birth
 ghost use Rattle.sc_mem.specs.Words.{IsSize};
 ghost use Rattle.sc_objects.specs.declared.objects.Obj.{Obj};
 ghost use Rattle.sc_objects.specs.Numbered.{IsLive};
+ghost use Rattle.sc_objects.specs.Blocks.{Blocks};
+ghost use Rattle.sc_mem.specs.Safe.{Stands};
+ghost use Rattle.std.specs.Prelude.{IsTrue};
 
 use crate::access::{constant, reach, rule_in};
-use crate::areas::{HEAP, STATIC_BYTES, place};
+use crate::areas::{HEAP, STACK_END, STATIC_BYTES, place};
 use crate::arithmetic::moved;
 use crate::comparison::{difference, equality, freeing, order, truth};
-use crate::words::{load_word, store_word};
-use sc_base::{Kind, NoMemory, Rule, Word};
+use crate::words::{load_word, put_one, store_word};
+use sc_base::{Cell, Kind, NoMemory, Rule, Word};
 use sc_cells::Cells;
 use sc_objects::{BirthFault, Heap, Obj, Objects};
 use std::alloc::Global;
@@ -382,5 +385,109 @@ impl Memory {
         ensures flat { self.new.flat ≡ self.old.flat }
     {
         self.heap.give(base - HEAP);
+    }
+}
+
+impl Memory {
+    ghost use Rattle.std.specs.Prelude.{IsTrue, ◌∷◌, ◌%◌};
+    ghost use Rattle.sc_objects.specs.Numbered.{IsClear};
+    ghost use Rattle.sc_objects.specs.Blocks.{Blocks};
+    ghost use Rattle.sc_mem.specs.Flat.{cell_at, place as place_of, written_at};
+    ghost use Rattle.sc_mem.specs.Safe.{IsBirth, IsSafe, Stands};
+
+    /// The cell at an address: `None` exactly outside the areas.
+    pub fn cell(&self, at: u32) -> Option<Cell>
+        ensures { result ≡ cell_at self.now.flat at }
+    {
+        let cells = &self.cells;
+        let i = place(self.heap_bytes, self.stack, at, 1)?;
+        Some(cells.read(i))
+    }
+
+    /// How many objects were born.
+    pub fn count(&self) -> u32
+        ensures { result ≡ length self.now.flat.objects }
+    {
+        let objects = &self.objects;
+        objects.len()
+    }
+
+    /// Puts another cell at an address, without a test: `None` exactly outside the areas, and nothing is changed then.
+    pub fn set_cell(&mut self, at: u32, cell: Cell) -> Option<()>
+        ensures safe { IsSafe self.old }
+        ensures cell { MatchOption result ((place_of self.old.flat at 1 ≡ None) × (self.new ≡ self.old)) (λ _. IsSome (place_of self.old.flat at 1) × (self.new.flat ≡ written_at self.old.flat (place_of self.old.flat at 1) (cell ∷ [])) × (self.new.blocks ≡ self.old.blocks)) }
+    {
+        let i = place(self.heap_bytes, self.stack, at, 1)?;
+        put_one(&mut self.cells, i, cell);
+        Some(())
+    }
+
+    // Whether an object outside the heap can be born at an address that is a multiple of 4.
+    fn is_free(&self, base: u32, size: u32) -> bool
+        ensures safe { IsSafe self.now }
+        ensures free { IsTrue result → (base % 4 ≡ 0) × IsClear self.now.flat.objects base size × IsSome (place_of self.now.flat base size) × ((base + size < 0x10000000) ⊎ (0x10000000 + self.now.blocks.bytes < base)) }
+    {
+        let objects = &self.objects;
+        let end = u64::from(base) + u64::from(size);
+        if end > u64::from(STACK_END) || base % 4 != 0 {
+            return false;
+        }
+        if end >= u64::from(HEAP) && base <= HEAP + self.heap_bytes {
+            return false;
+        }
+        match place(self.heap_bytes, self.stack, base, size) {
+            None => false,
+            Some(_) => objects.is_clear(base, size),
+        }
+    }
+
+    /// A new live object outside the heap at an address, where memory finds the place fit for it, in the next number. After a
+    /// fault memory is as before.
+    pub fn settle(&mut self, size: u32, kind: Kind, base: u32) -> Result<(), NoMemory>
+        ensures birth { IfOk result (λ _. IsBirth self.old.flat self.new.flat size kind) }
+        ensures safe { IsSafe self.old }
+        ensures fault { OnErr result (self.new ≡ self.old) }
+    {
+        if !self.is_free(base, size) || !stands_outside(kind) {
+            return Err(NoMemory);
+        }
+        match self.birth(size, kind, base) {
+            Ok(_) => Ok(()),
+            Err(_) => Err(NoMemory),
+        }
+    }
+
+    /// A new live allocated object in a block of its own, in the next number. After a fault all objects are as before.
+    pub fn allocate(&mut self, size: u32) -> Result<(), NoMemory>
+        ensures birth { IfOk result (λ _. IsBirth self.old.flat self.new.flat size Kind.Heap) }
+        ensures safe { IsSafe self.old }
+        ensures fault { OnErr result (self.new.flat ≡ self.old.flat) }
+    {
+        if size == 0 || self.heap_bytes < size {
+            return Err(NoMemory);
+        }
+        let Some(base) = self.take(size)? else {
+            return Err(NoMemory);
+        };
+        if base % 4 != 0 {
+            return Err(NoMemory);
+        }
+        match self.birth(size, Kind::Heap, base) {
+            Ok(_) => Ok(()),
+            Err(_) => Err(NoMemory),
+        }
+    }
+}
+
+// Whether objects of a kind stand outside the heap.
+fn stands_outside(kind: Kind) -> bool
+    ensures { IsTrue result → (b : Blocks) (base size : ℕ) → (base + size < 0x10000000) ⊎ (0x10000000 + b.bytes < base) → Stands b kind base size }
+{
+    match kind {
+        Kind::Heap => false,
+        Kind::Static => true,
+        Kind::Const => true,
+        Kind::Literal => true,
+        Kind::Auto => true,
     }
 }

@@ -158,7 +158,8 @@ fn byte_cell(bits: u32, k: u8) -> Cell
     Cell::Byte(byte_of_number(bits, k))
 }
 
-fn put_one(cells: &mut Cells, i: u32, a: Cell)
+/// Puts a cell at a place.
+pub fn put_one(cells: &mut Cells, i: u32, a: Cell)
     requires inside { i < length cells.old }
     requires fits { i < 2 ^ 31 }
     ensures { cells.new ≡ with_range cells.old i (a ∷ []) }

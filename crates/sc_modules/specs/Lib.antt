@@ -1,2 +1,3 @@
 pub mod Clashes
 pub mod Spaces
+pub mod Names

@@ -1,13 +1,17 @@
 // Which external names of a module do not go with the modules that are present (ANSI 3.1.2.2, 3.7).
-ghost use Rattle.std.specs.Prelude.{◌≡◌, None};
+ghost use Rattle.std.specs.Prelude.{◌≡◌, None, IfOk, OnOk};
 ghost use Rattle.std.specs.Ordering.{nat_cmp, is_lt};
 ghost use Rattle.std.specs.Cmp.Lexicographic.{slice_cmp};
 ghost use Rattle.sc_modules.specs.Clashes as spec;
+ghost use Rattle.sc_modules.specs.Names as names;
 
-use sc_base::Name;
+use crate::names::external_names;
+use indexmap::IndexSet;
+use sc_base::{Name, NoMemory};
 use sc_core::{Core, Declared};
 use sc_plain_parts::Text;
 use sc_types::compatible;
+use std::alloc::Global;
 use std::cmp::Ordering;
 use std::marker::Model;
 
@@ -54,6 +58,12 @@ fn lesser<'a>(old: Option<Named<'a>>, new: Named<'a>) -> Option<Named<'a>>
     }
 }
 
+fn is_internal(d: &Declared) -> bool
+    ensures { result ≡ spec.is_internal d.now.key.«module» }
+{
+    d.key.module.is_some()
+}
+
 fn same_external(d: &Declared, e: &Declared) -> bool
     ensures { result ≡ spec.same_external d.now e.now }
 {
@@ -92,17 +102,45 @@ fn some_declared(test: Test, a: &Core, d: &Declared, b: &Core) -> bool
     false
 }
 
+// The same, where the external names of the other module are known: most names are looked up once.
+#[tactic(auto, using(crate::proofs::Missing::none_internal, crate::proofs::Missing::none_missing))]
+fn some_shared(test: Test, a: &Core, d: &Declared, b: &Core, external: &IndexSet<Name>) -> bool
+    ensures { external.now.keys ≡ names.external_names b.now.declared → result ≡ spec.some_declared (spec.holds test a.now d.now b.now) b.now.declared }
+{
+    if is_internal(d) {
+        return false;
+    }
+    if !external.contains(&d.key.name) {
+        return false;
+    }
+    some_declared(test, a, d, b)
+}
+
 fn least_with<'a>(
+    alloc: Global,
     test: Test,
     core: &'a Core,
     other: &'a Core,
     found: Option<Named<'a>>,
+) -> Result<Option<Named<'a>>, NoMemory>
+    ensures { IfOk result (λ least. least ≡ spec.least_with test core.now other.now core.now.declared found.entry) }
+{
+    let external = external_names(alloc, other)?;
+    Ok(least_shared(test, core, other, &external, found))
+}
+
+fn least_shared<'a>(
+    test: Test,
+    core: &'a Core,
+    other: &'a Core,
+    external: &IndexSet<Name>,
+    found: Option<Named<'a>>,
 ) -> Option<Named<'a>>
-    ensures { result ≡ spec.least_with test core.now other.now core.now.declared found.entry }
+    ensures { external.now.keys ≡ names.external_names other.now.declared → result ≡ spec.least_with test core.now other.now core.now.declared found.entry }
 {
     let mut least = found;
     for d in core.declared.as_slice() {
-        if some_declared(test, core, d, other) {
+        if some_shared(test, core, d, other, external) {
             least = lesser(
                 least,
                 Named {
@@ -122,31 +160,44 @@ pub fn is_other(core: &Core, t: &Text) -> bool
     t.core.get().name != core.name
 }
 
-fn least_among<'a>(test: Test, core: &'a Core, texts: &'a [Text]) -> Option<Named<'a>>
-    ensures { result ≡ spec.least_among test core.now texts.now None }
+fn least_among<'a>(
+    alloc: Global,
+    test: Test,
+    core: &'a Core,
+    texts: &'a [Text],
+) -> Result<Option<Named<'a>>, NoMemory>
+    ensures { IfOk result (λ least. least ≡ spec.least_among test core.now texts.now None) }
 {
     let mut least = None;
     for t in texts {
         if is_other(core, t) {
-            least = least_with(test, core, t.core.get(), least);
+            least = least_with(alloc, test, core, t.core.get(), least)?;
         }
     }
-    least
+    Ok(least)
 }
 
 /// The least name that a module and another that is present define, with the first such module.
-pub fn doubled<'a>(texts: &'a [Text], core: &'a Core) -> Option<Named<'a>>
-    ensures { result ≡ spec.doubled texts.now core.now }
+pub fn doubled<'a>(
+    alloc: Global,
+    texts: &'a [Text],
+    core: &'a Core,
+) -> Result<Option<Named<'a>>, NoMemory>
+    ensures { IfOk result (λ found. found ≡ spec.doubled texts.now core.now) }
 {
-    least_among(Test::BothDefine, core, texts)
+    least_among(alloc, Test::BothDefine, core, texts)
 }
 
 /// The least name that a module and another that is present declare with types that do not go together, with the first such
 /// module.
-pub fn clashing<'a>(texts: &'a [Text], core: &'a Core) -> Option<Named<'a>>
-    ensures { result ≡ spec.clashing texts.now core.now }
+pub fn clashing<'a>(
+    alloc: Global,
+    texts: &'a [Text],
+    core: &'a Core,
+) -> Result<Option<Named<'a>>, NoMemory>
+    ensures { IfOk result (λ found. found ≡ spec.clashing texts.now core.now) }
 {
-    least_among(Test::Disagree, core, texts)
+    least_among(alloc, Test::Disagree, core, texts)
 }
 
 /// Whether a module of this name is present.

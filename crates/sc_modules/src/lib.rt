@@ -2,6 +2,7 @@
 #![tactic(auto)]
 
 mod clash;
+mod names;
 mod space;
 
 pub use clash::{Named, clashing, doubled, is_other, is_present};

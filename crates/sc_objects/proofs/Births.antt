@@ -6,7 +6,7 @@ use Rattle.std.specs.Ordering.{nat_cmp}
 use Rattle.std.specs.BTreeMap.{BTreeMap, get, Updates}
 use Rattle.std.proofs.lemmas.Option.{slice_get_within}
 use Rattle.std.proofs.lemmas.List.{length_push, length-set}
-use Rattle.std.proofs.lemmas.Bool.{cases_eq}
+use Rattle.std.proofs.lemmas.Bool.{cases_eq, cases_lt}
 use Rattle.sc_objects.specs.declared.objects.Obj.{Obj}
 use Rattle.sc_objects.specs.Numbered.{object_of, IsLive, Apart, AreApart, IsClear, StandsAt, IsObjectAt, born, ended, ended_at}
 use Rattle.sc_objects.specs.Kept.{Kept}
@@ -154,3 +154,45 @@ pub at-nothing : (objects : List Obj) (live : BTreeMap ℕ ℕ) (address : ℕ) 
 at-nothing objects live address k none other (p, l, from, to) =
     let e : Some other ≡ None = sym (k.found other p l) ∙ none p.base from in
     cc
+
+-- places in which no live object stands
+pub clear-nothing : (objects : List Obj) (live : BTreeMap ℕ ℕ) (base size : ℕ) → Kept objects live → ((q : ℕ) → q ≤ base + size → get nat_cmp live q ≡ None) → IsClear objects base size
+clear-nothing objects live base size k none id o l =
+    elim (cases_lt (base + size) o.base) [
+      | inl far ↦ inr far
+      | inr near ↦ absurd (let e : Some id ≡ None = sym (k.found id o l) ∙ none o.base near in cc)
+    ]
+
+pub clear-behind : (objects : List Obj) (live : BTreeMap ℕ ℕ) (start id base size : ℕ) (o : Obj) → Kept objects live → get nat_cmp live start ≡ Some id → object_of objects id ≡ Some o → start + o.size < base → ((q : ℕ) → q ≤ base + size → IsSome (get nat_cmp live q) → q ≤ start) → IsClear objects base size
+clear-behind objects live start id base size o k g h behind last other p l =
+    let known = k.known start id g in
+    let eq : Some known.0 ≡ Some o = sym known.1.0 ∙ h in
+    let same : known.0 ≡ o = cc in
+    let at_start : o.base ≡ start = ap (λ (v : Obj). v.base) (sym same) ∙ known.2 in
+    let found : get nat_cmp live p.base ≡ Some other = k.found other p l in
+    elim (cases_eq other id) [
+      | inl e ↦
+          let eq' : Some p ≡ Some o = sym l.0 ∙ (ap (object_of objects) e ∙ h) in
+          let same' : p ≡ o = cc in
+          let base' : p.base ≡ o.base = ap (λ (v : Obj). v.base) same' in
+          let size' : p.size ≡ o.size = ap (λ (v : Obj). v.size) same' in
+          inl (omega arith)
+      | inr n ↦
+          let live_o : IsLive objects id o = (h, ap (λ (v : Obj). v.live) (sym same) ∙ known.1.1) in
+          elim (k.apart other id p o l live_o n) [
+            | inl a ↦ inl (omega arith)
+            | inr a ↦ elim (cases_lt (base + size) p.base) [
+              | inl far ↦ inr far
+              | inr near ↦ absurd (let low = last p.base near (rw found refl) in omega arith)
+            ]
+          ]
+    ]
+
+pub clear-not : (objects : List Obj) (live : BTreeMap ℕ ℕ) (start id base size : ℕ) (o : Obj) → Kept objects live → get nat_cmp live start ≡ Some id → object_of objects id ≡ Some o → start ≤ base + size → IsClear objects base size → start + o.size < base
+clear-not objects live start id base size o k g h near clear =
+    let known = k.known start id g in
+    let eq : Some known.0 ≡ Some o = sym known.1.0 ∙ h in
+    let same : known.0 ≡ o = cc in
+    let at_start : o.base ≡ start = ap (λ (v : Obj). v.base) (sym same) ∙ known.2 in
+    let live_o : IsLive objects id o = (h, ap (λ (v : Obj). v.live) (sym same) ∙ known.1.1) in
+    elim (clear id o live_o) [ inl a ↦ omega arith | inr a ↦ absurd (omega arith) ]

@@ -1,5 +1,5 @@
 // The objects of a run by number, and the one live object at an address.
-ghost use Rattle.std.specs.Prelude.{◌≡◌, ◌↔◌, ◌+◌, ℕ, ◌∷◌, List, [], length, IfOk, OnErr, IsSome, None, Some, Err, true};
+ghost use Rattle.std.specs.Prelude.{◌≡◌, ◌↔◌, ◌+◌, ℕ, ◌∷◌, List, [], length, IfOk, OnErr, IsSome, IsTrue, None, Some, Err, true, ◌<◌, ◌^◌};
 ghost use Rattle.sc_objects.specs.declared.objects.Obj.{Obj};
 
 use sc_base::{Kind, NoMemory};
@@ -118,6 +118,26 @@ impl Objects {
         } else {
             None
         }
+    }
+
+    /// How many objects were born.
+    pub fn len(&self) -> u32
+        ensures { result ≡ length self.now }
+    {
+        let table = &self.table;
+        table.len() as u32
+    }
+
+    /// Whether no address from `base` through `base + size` is that of a live object.
+    pub fn is_clear(&self, base: u32, size: u32) -> bool
+        requires { base + size < 2 ^ 32 }
+        ensures { IsTrue result ↔ IsClear self.now base size }
+    {
+        let Some((start, id)) = self.live.range(..=base + size).next_back() else {
+            return true;
+        };
+        let object = &self.table[*id as usize - 1];
+        u64::from(*start) + u64::from(object.size) < u64::from(base)
     }
 
     /// The number of the one live object with `base <= address <= base + size`.

@@ -1,5 +1,5 @@
 -- Two functions' types, compared as types.
-use Rattle.std.proofs.Common.{◌≡◌, ℕ, Bool, true, false, List, length, refl, sym, ◌∙◌, ap}
+use Rattle.std.proofs.Common.{◌≡◌, Bool, true, false, List, length, sym, ◌∙◌, ap}
 use Rattle.sc_types.specs.declared.ctype.CType.{CType, fold-roll-CType, out-CType}
 use Rattle.sc_types.specs.declared.ctype.Signature.{Signature, fold-Signature, fold_out-Signature}
 use Rattle.sc_types.specs.declared.ctype.CType.TheVariants as t

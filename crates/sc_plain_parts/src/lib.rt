@@ -6,6 +6,7 @@ mod answers;
 mod births;
 mod callees;
 mod library;
+mod module;
 mod names;
 mod operations;
 mod statics;
@@ -17,6 +18,7 @@ pub use births::{
 };
 pub use callees::value_rule;
 pub use library::{TypeForm, library_fun, takes};
+pub use module::Module;
 pub use names::{automatic_in, call_breach, literal_of, static_place, undefined_name};
 pub use operations::{
     assigned_structure, compounded, difference, moved_by, offset_by, stepped, unary,

@@ -7,10 +7,9 @@ ghost use Rattle.sc_plain_leaves.specs.Gives.{Gives};
 
 use crate::answers::at_place;
 use crate::text::Text;
-use sc_base::{Bytes, Duplicate, Key, NoMemory, Rule};
+use sc_base::{Duplicate, Key, NoMemory, Rule};
 use sc_plain_leaves::{Breach, Stop, breach};
 use sc_plain_world::{Born, World};
-use sc_program::StaticId;
 use sc_values::{Answer, Shape, Value};
 
 /// The object of an entered block, by the block's number and its place in it.
@@ -69,22 +68,14 @@ fn literal_at(o: Option<u32>) -> Value
     }
 }
 
-fn literal_named(t: &Text, bytes: &Bytes, world: &World) -> Result<Value, NoMemory>
-    ensures { IfOk result (λ v. v ≡ spec.literal_of t.now (Some bytes.now) world.now) }
-{
-    let alloc = world.alloc();
-    let home = t.core.get().name.copy(alloc)?;
-    let id = StaticId::Literal(home, bytes.copy(alloc)?);
-    Ok(literal_at(world.named(&id)))
-}
-
 /// A literal, by its place among those of the text.
-pub fn literal_of(t: &Text, i: u32, world: &World) -> Result<Value, NoMemory>
-    ensures { IfOk result (λ v. v ≡ spec.literal_of t.now (slice_get t.now.core.literals i) world.now) }
+pub fn literal_of(t: &Text, i: u32, world: &World) -> Value
+    ensures { result ≡ spec.literal_of t.now (slice_get t.now.core.literals i) world.now }
 {
-    match t.core.get().literals.as_slice().get(i as usize) {
-        None => Ok(Value::null()),
-        Some(bytes) => literal_named(t, bytes, world),
+    let core = t.core.get();
+    match core.literals.as_slice().get(i as usize) {
+        None => Value::null(),
+        Some(bytes) => literal_at(world.literal(&core.name, bytes)),
     }
 }
 

@@ -1,11 +1,12 @@
 // The texts of a run, and what is found in them (ANSI 3.1.2.2, 3.7).
-ghost use Rattle.std.specs.Prelude.{◌≡◌, MatchOption, None, Some};
+ghost use Rattle.std.specs.Prelude.{◌≡◌, IfOk, MatchOption, None, Some};
 ghost use Rattle.sc_core.specs.Modules as modules;
 ghost use Rattle.sc_meaning.specs.Names as names;
 ghost use Rattle.sc_meaning.specs.Versions as spec;
 ghost use Rattle.sc_plain_parts.specs.Found.{callee_found};
 
 use crate::library::library_fun;
+use crate::module::Module;
 use sc_base::{Duplicate, Form, Key, Name, NoMemory, Shared};
 use sc_core::{Core, Fun, StaticObj};
 use sc_meaning::LibFun;
@@ -17,7 +18,7 @@ use std::marker::Model;
 #[derive(Drop)]
 pub struct Text {
     pub number: u32,
-    pub core: Shared<Core>,
+    pub core: Module,
     pub form: Form,
 }
 
@@ -34,6 +35,19 @@ impl Model for Text {
     ghost coded = { Prim.hlevel (codes, types.the_row.coded, signatures.the_row.coded, expressions.the_row.coded, statements.the_row.coded) };
 
     ghost view = { λ t. record { number = t.number; core = t.core; form = t.form } };
+}
+
+impl Text {
+    /// A text of this number, in this form.
+    pub fn new(alloc: Global, number: u32, form: Form, core: Core) -> Result<Text, NoMemory>
+        ensures { IfOk result (λ t. t ≡ record { number = number; core = core; form = form }) }
+    {
+        Ok(Text {
+            number,
+            core: Module::new(alloc, core)?,
+            form,
+        })
+    }
 }
 
 impl Duplicate for Text {
@@ -55,10 +69,10 @@ pub enum Callee<'a> {
 }
 
 // The function of a module that has this name, where its linkage is external, or internal, as is wanted.
-fn fun_named<'a>(core: &'a Core, name: &Name, external: bool) -> Option<&'a Shared<Fun>>
+fn fun_named<'a>(core: &'a Module, name: &Name, external: bool) -> Option<&'a Shared<Fun>>
     ensures { MatchOption result (spec.if_external external (modules.function_of name.now core.now.funs) ≡ None) (λ f. spec.if_external external (modules.function_of name.now core.now.funs) ≡ Some f.now) }
 {
-    match core.shared_fun(name) {
+    match core.function(name) {
         None => None,
         Some(f) => {
             if external {
@@ -71,13 +85,13 @@ fn fun_named<'a>(core: &'a Core, name: &Name, external: bool) -> Option<&'a Shar
 }
 
 // The function of a module that has this key.
-fn fun_by<'a>(key: &Key, core: &'a Core) -> Option<&'a Shared<Fun>>
+fn fun_by<'a>(key: &Key, core: &'a Module) -> Option<&'a Shared<Fun>>
     ensures { MatchOption result (spec.fun_by key.now.«module» key.now.name core.now ≡ None) (λ f. spec.fun_by key.now.«module» key.now.name core.now ≡ Some f.now) }
 {
     match &key.module {
         None => fun_named(core, &key.name, true),
         Some(home) => {
-            if core.name == *home {
+            if core.get().name == *home {
                 fun_named(core, &key.name, false)
             } else {
                 None
@@ -104,7 +118,7 @@ pub fn callee_of<'a>(texts: &'a [Text], key: &Key) -> Callee<'a>
     ensures { callee_found result ≡ spec.callee_of texts.now key.now }
 {
     for t in texts {
-        if let Some(f) = fun_by(key, t.core.get()) {
+        if let Some(f) = fun_by(key, &t.core) {
             return Callee::InText(t, f);
         }
     }

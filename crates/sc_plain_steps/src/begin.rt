@@ -45,8 +45,7 @@ fn number(n: u32, world: &mut World) -> Result<Next, Stop>
 fn literal(t: &Text, i: u32, world: &mut World) -> Result<Next, Stop>
     ensures { (is : List Item) → Advances (machine.gives is (spec.at_place (spec.literal_of t.now (slice_get t.now.core.literals i) world.old) world.old)) result is world.new }
 {
-    let v = literal_of(t, i, world)?;
-    let a = at_place(v, world)?;
+    let a = at_place(literal_of(t, i, world), world)?;
     Ok(gives(a))
 }
 

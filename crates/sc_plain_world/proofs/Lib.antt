@@ -1,2 +1,3 @@
 pub mod Overwriting
 pub mod Outputs
+pub mod Naming

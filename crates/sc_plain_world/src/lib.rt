@@ -11,7 +11,7 @@ mod world;
 
 pub use cells::{copy_cells, unwritten};
 pub use event::{Change, Event, Item, Showing};
-pub use names::{Named, same_id};
+pub use names::{Named, Names, Roll, same_id};
 pub use object::{Born, Cell, Content, Frame, Object, copy_numbers};
 pub use past::{Past, Trail};
 pub use world::{World, cells_at, object_at};

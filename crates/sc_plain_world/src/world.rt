@@ -7,14 +7,13 @@ ghost use Rattle.sc_plain_world.specs.Outputs.{bytes_moved, output};
 
 use crate::cells::{back, copy_cells, front, unwritten};
 use crate::event::{Change, Event, Item, Showing};
-use crate::names::{Named, keyed_in, named_in, without_name};
+use crate::names::Names;
 use crate::object::{Born, Cell, Frame, Object};
 use crate::past::Past;
-use sc_base::{Duplicate, Items, Key, Kind, NoMemory, Stack};
+use sc_base::{Bytes, Duplicate, Items, Key, Kind, Name, NoMemory, Stack};
 use sc_program::StaticId;
 use std::alloc::Global;
 use std::marker::Model;
-use std::mem;
 use std::snapshot::Snapshot;
 
 /// The classes of the heap's blocks.
@@ -33,7 +32,7 @@ pub struct World {
     input: Stack<u8>,
     seed: u32,
     frames: Stack<Frame>,
-    names: Items<Named>,
+    names: Names,
     enters: u64,
     count: u64,
     begun: u64,
@@ -139,7 +138,7 @@ impl World {
             input: left,
             seed: 1,
             frames: Stack::new(alloc),
-            names: Items::new(alloc),
+            names: Names::new(alloc),
             enters: 0,
             count: 0,
             begun: 0,
@@ -215,14 +214,21 @@ impl World {
     pub fn named(&self, id: &StaticId) -> Option<u32>
         ensures { result ≡ spec.named_in self.now.names id.now }
     {
-        named_in(self.names.as_slice(), id)
+        self.names.named(id)
     }
 
     /// The object with the name that a key is.
     pub fn keyed(&self, key: &Key) -> Option<u32>
         ensures { result ≡ spec.named_in self.now.names (StaticId.Named key.now) }
     {
-        keyed_in(self.names.as_slice(), key)
+        self.names.keyed(key)
+    }
+
+    /// The object of a module's literal with these bytes.
+    pub fn literal(&self, home: &Name, bytes: &Bytes) -> Option<u32>
+        ensures { result ≡ spec.named_in self.now.names (StaticId.Literal home.now bytes.now) }
+    {
+        self.names.literal(home, bytes)
     }
 
     /// How many calls were entered.
@@ -464,13 +470,7 @@ impl World {
     pub fn name(&mut self, id: StaticId, object: u32) -> Result<(), NoMemory>
         ensures { IfOk result (λ _. self.new ≡ spec.pass (spec.Name id object) self.old) }
     {
-        let mut names = Items::new(self.alloc);
-        names.push(Named {
-            id: id.copy(self.alloc)?,
-            object,
-        })?;
-        names.append(mem::replace(&mut self.names, Items::new(self.alloc)))?;
-        self.names = names;
+        self.names.put(id.copy(self.alloc)?, object)?;
         self.keep(Change::Name(id, object))
     }
 
@@ -478,7 +478,7 @@ impl World {
     pub fn unname(&mut self, id: StaticId) -> Result<(), NoMemory>
         ensures { IfOk result (λ _. self.new ≡ spec.pass (spec.Unname id) self.old) }
     {
-        self.names = without_name(self.alloc, self.names.as_slice(), &id)?;
+        self.names.take(&id);
         self.keep(Change::Unname(id))
     }
 }

@@ -3,10 +3,10 @@ ghost use Rattle.std.specs.Prelude.{◌≡◌, Some, None, IfOk, OnOk, OnErr, Ma
 ghost use Rattle.std.specs.Str.{bytes_eq};
 ghost use Rattle.sc_session.specs.Loading as spec;
 
-use sc_base::{Duplicate, Form, Name, NoMemory, Shared};
+use sc_base::{Duplicate, Form, Name, NoMemory};
 use sc_core::Core;
 use sc_modules::{Named, clashing, doubled, is_other, over_limit, statics_with};
-use sc_plain_parts::Text;
+use sc_plain_parts::{Module, Text};
 use sc_show::Numbers;
 use sc_words::Denied;
 use std::alloc::Global;
@@ -39,9 +39,9 @@ fn clashing_name(alloc: Global, found: Named) -> Result<Option<Denied>, NoMemory
 fn name_conflict(alloc: Global, texts: &[Text], core: &Core) -> Result<Option<Denied>, NoMemory>
     ensures { IfOk result (λ d. d ≡ spec.name_conflict texts.now core.now) }
 {
-    match doubled(texts, core) {
+    match doubled(alloc, texts, core)? {
         Some(found) => doubled_name(alloc, found),
-        None => match clashing(texts, core) {
+        None => match clashing(alloc, texts, core)? {
             Some(found) => clashing_name(alloc, found),
             None => Ok(None),
         },
@@ -85,7 +85,7 @@ fn judged(
     }
 }
 
-fn push_text(texts: &mut Vec<Text>, number: u32, core: Shared<Core>) -> Result<(), NoMemory>
+fn push_text(texts: &mut Vec<Text>, number: u32, core: Module) -> Result<(), NoMemory>
     ensures ok { OnOk result (texts.new.items ≡ spec.with_module texts.old.items number core) }
     ensures err { OnErr result (texts.new.items ≡ texts.old.items) }
 {
@@ -107,7 +107,7 @@ pub fn take_new(
 ) -> Taken
     ensures { spec.Takes texts.old.items numbers.old core (spec.with_module texts.old.items number core) result texts.new.items numbers.new }
 {
-    let Ok(core) = Shared::new(alloc, core) else {
+    let Ok(core) = Module::new(alloc, core) else {
         return Taken::NoMemory;
     };
     let before = numbers.len();
@@ -137,7 +137,7 @@ fn place_of(core: &Core, texts: &[Text]) -> Option<usize>
 }
 
 // A module takes the place of the one that has its name.
-fn put_in_place(texts: &mut Vec<Text>, core: Shared<Core>)
+fn put_in_place(texts: &mut Vec<Text>, core: Module)
     ensures { texts.new.items ≡ spec.in_place texts.old.items core }
 {
     if let Some(i) = place_of(core.get(), texts.as_slice()) {
@@ -154,7 +154,7 @@ fn put_in_place(texts: &mut Vec<Text>, core: Shared<Core>)
 pub fn take_anew(alloc: Global, texts: &mut Vec<Text>, numbers: &mut Numbers, core: Core) -> Taken
     ensures { spec.Takes texts.old.items numbers.old core (spec.in_place texts.old.items core) result texts.new.items numbers.new }
 {
-    let Ok(core) = Shared::new(alloc, core) else {
+    let Ok(core) = Module::new(alloc, core) else {
         return Taken::NoMemory;
     };
     match judged(alloc, texts.as_slice(), numbers, core.get()) {

@@ -431,11 +431,8 @@ impl Reader {
         let Ok(number) = u32::try_from(self.texts.len()) else {
             return Err(NoMemory)
         };
-        self.texts.push(Text {
-            number,
-            core: Shared::new(alloc, core)?,
-            form: Form::Source,
-        })?;
+        let text = Text::new(alloc, number, Form::Source, core)?;
+        self.texts.push(text)?;
         self.line = 1;
         Ok(())
     }

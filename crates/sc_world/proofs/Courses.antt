@@ -1,6 +1,7 @@
 -- The program's turns are the machine's.
 use Rattle.std.proofs.Common.{◌≡◌, ℕ, zero, suc, ◌+◌, Bool, true, false, List, [], ◌∷◌, refl, ap, sym, subst, ◌∙◌, arith, add-one, Option, Some, None, Result, Ok, Err}
-use Rattle.std.specs.Prelude.{◌↔◌, IsTrue}
+use Rattle.std.proofs.lemmas.Bool.Decides.{nat_tests}
+use Rattle.std.specs.Prelude.{◌↔◌, IsTrue, ◌-◌, ◌<◌, ◌≤◌, nat_le}
 use Rattle.sc_meaning.specs.World.{World, Frame}
 use Rattle.sc_meaning.specs.Outcomes.{Ending}
 use Rattle.sc_meaning.specs.Versions.{Text}
@@ -13,15 +14,15 @@ use Rattle.sc_plain.specs.declared.going.Going.{Going}
 use Rattle.sc_plain.specs.declared.going.Going.TheVariants as going
 use Rattle.sc_plain.specs.declared.stepped.Shown.{Shown}
 use Rattle.sc_plain.specs.declared.stepped.Shown.TheVariants.{Nothing}
-use Rattle.sc_plain.specs.declared.stepped.Stepped.{Stepped}
 use Rattle.sc_plain.specs.Shows.{shown, line_shown, entry_shown, StepsShowing}
 use Rattle.sc_plain.specs.Steady.{alone, advance, body_next}
 use Rattle.sc_plain.specs.Steps.{Is, is_over}
+use Rattle.sc_world.specs.declared.count.Count.{Count}
 use Rattle.sc_world.specs.declared.halt.Halt.{Halt}
-use Rattle.sc_world.specs.declared.halt.Halt.TheVariants.{Ended}
+use Rattle.sc_world.specs.declared.halt.Halt.TheVariants.{Ended, Paused}
 use Rattle.sc_world.specs.Standing.{Standing, state_of, world_of}
-use Rattle.sc_world.specs.Wants.{Want, wanted, else_over, halts}
-use Rattle.sc_world.specs.Goes.{Gone, gone, here_or, halt_or, seen, stepped}
+use Rattle.sc_world.specs.Wants.{Want, wanted, else_over, halts, halt_if, halt_or, else_paused, rests, taken}
+use Rattle.sc_world.specs.Goes.{gone, here_or, seen, moved_on, stepped}
 use Rattle.sc_world.specs.Turns.{Onward, standing_at}
 
 not_empty : (c : Caller) (cs : List Caller) → c ∷ cs ≡ [] → ⊥
@@ -53,9 +54,13 @@ state_is s (going.Makes t v vs c) cs w p = p
 state_is s (going.Answers a) cs w p = p
 
 -- what is looked at is the world of the state
-pub halts_there : (want : Want) (g : Going) (x : Shown) (cs : List Caller) (w : World) (k : ℕ) (event r : Option Halt) (over : Bool) → event ≡ wanted want x w.frames → over ≡ is_over (state_of g cs w) → r ≡ else_over event over → r ≡ halts want (standing_at (state_of g cs w) x k)
-halts_there want g x cs w k event r over p q is =
+halts_there : (want : Want) (g : Going) (x : Shown) (cs : List Caller) (w : World) (c : Count) (event r : Option Halt) (over : Bool) → event ≡ wanted want x w.frames → over ≡ is_over (state_of g cs w) → r ≡ else_over event over → r ≡ halts want (standing_at (state_of g cs w) x c)
+halts_there want g x cs w c event r over p q is =
     is ∙ ap (λ h. else_over h over) p ∙ ap (else_over (wanted want x w.frames)) q ∙ ap (λ v. else_over (wanted want x v.frames) (is_over (state_of g cs w))) (sym (world_there g cs w))
+
+pub rests_there : (want : Want) (g : Going) (x : Shown) (cs : List Caller) (w : World) (c : Count) (event halt r : Option Halt) (over : Bool) (took : ℕ) → event ≡ wanted want x w.frames → over ≡ is_over (state_of g cs w) → halt ≡ else_over event over → took ≡ c.turns - want.before → r ≡ else_paused halt want.turns took → r ≡ rests want (standing_at (state_of g cs w) x c)
+rests_there want g x cs w c event halt r over took p q is t paused =
+    paused ∙ ap (λ h. else_paused h want.turns took) (halts_there want g x cs w c event halt over p q is) ∙ ap (else_paused (halts want (standing_at (state_of g cs w) x c)) want.turns) t
 
 -- a step that ends the run shows nothing
 body_ended : (b : body.Advanced) (a : Active) (cs : List Caller) (e : Ending) → body_next b a cs ≡ Ends e → line_shown b ≡ Nothing
@@ -71,40 +76,69 @@ end_shows_nothing texts (Makes t v vs c cs w) e p = ap entry_shown p
 end_shows_nothing texts (Answers a cs w) e p = refl
 end_shows_nothing texts (Ends e2) e p = refl
 
--- the same place, part by part
-same_standing : (s t : State) (x y : Shown) (k n : ℕ) → s ≡ t → x ≡ y → k ≡ n → standing_at s x k ≡ standing_at t y n
-same_standing s t x y k n p q r = subst (λ t. standing_at s x k ≡ standing_at t y n) p (subst (λ y. standing_at s x k ≡ standing_at s y n) q (ap (standing_at s x) r))
-
 -- one step of the program is one of the machine
-pub steps_onward : (texts : List Text) (s : State) (x : Shown) (k n : ℕ) (r : Result Stepped Stop) (cs : List Caller) (w : World) → n ≡ k + 1 → StepsShowing (advance (alone texts) texts s) (shown (alone texts) texts s) r cs w → Onward (stepped texts (standing_at s x k)) r cs w n
-steps_onward texts s x k n (Ok next) cs w is p =
-    same_standing _ _ _ _ (k + 1) n (state_is _ next.going cs w p.0) (sym p.1) (sym is)
-steps_onward texts s x k n (Err stop) cs w is p = λ e q.
-    same_standing _ (Ends e) _ Nothing (k + 1) n (p e q) (end_shows_nothing texts s e (p e q)) (sym is)
+pub steps_on : (texts : List Text) (s : State) (x now : Shown) (c n : Count) (r : Result Shown Stop) (g : Going) (cs : List Caller) (w : World) → StepsShowing (advance (alone texts) texts s) (shown (alone texts) texts s) (Ok now) g cs w → Onward (moved_on (standing_at s x c) (state_of g cs w) now) r g cs w n → Onward (stepped texts (standing_at s x c)) r g cs w n
+steps_on texts s x now c n r g cs w p q =
+    subst (λ y. Onward (moved_on (standing_at s x c) (advance (alone texts) texts s) y) r g cs w n) p.1
+    (subst (λ t. Onward (moved_on (standing_at s x c) t now) r g cs w n) (sym (state_is (advance (alone texts) texts s) g cs w p.0)) q)
 
--- where a run halts, it rests
-pub rests_here : (left : ℕ) (pause halt : Halt) (want : Want) (texts : List Text) (m : Standing) → halts want m ≡ Some halt → gone left pause want texts m ≡ (halt, seen m)
-rests_here zero pause halt want texts m p = ap (λ h. (halt_or h pause, seen m)) p
-rests_here (suc k) pause halt want texts m p = ap (λ h. here_or h m (gone k pause want texts (stepped texts m))) p
+pub steps_last : (texts : List Text) (s : State) (x : Shown) (c n : Count) (given last : Stop) (g : Going) (cs : List Caller) (w : World) → StepsShowing (advance (alone texts) texts s) (shown (alone texts) texts s) (Err given) g cs w → ((e : Ending) → ending_of last w ≡ Some e → ending_of given w ≡ Some e) → ((e : Ending) → ending_of last w ≡ Some e → moved_on (standing_at s x c) (Ends e) Nothing ≡ standing_at (Ends e) Nothing n) → Onward (stepped texts (standing_at s x c)) (Err last) g cs w n
+steps_last texts s x c n given last g cs w p same counted = λ e q.
+    let over = p e (same e q) in
+    ap (λ t. moved_on (standing_at s x c) t (shown (alone texts) texts s)) over
+    ∙ ap (moved_on (standing_at s x c) (Ends e)) (end_shows_nothing texts s e over)
+    ∙ counted e q
 
--- where it does not, one step goes on
-pub goes_here : (left j : ℕ) (pause : Halt) (want : Want) (texts : List Text) (m next : Standing) → left ≡ j + 1 → halts want m ≡ None → stepped texts m ≡ next → gone left pause want texts m ≡ gone j pause want texts next
-goes_here left j pause want texts m next is p q =
-    ap (λ n. gone n pause want texts m) (is ∙ add-one j) ∙ ap (λ h. here_or h m (gone j pause want texts (stepped texts m))) p ∙ ap (gone j pause want texts) q
+-- what ends a go where it stands
+if_there : (b : Bool) (a halt : Halt) → halt_if b a ≡ Some halt → a ≡ halt
+if_there true a halt p = cc
+if_there false a halt p = absurd (cc)
 
-nothing_wanted : (want : Want) (fs : List Frame) → wanted want Nothing fs ≡ None
-nothing_wanted want [] = refl
-nothing_wanted want (f ∷ fs) = refl
+if_none : (b : Bool) (a : Halt) → halt_if b a ≡ None → b ≡ false
+if_none true a p = absurd (cc)
+if_none false a p = refl
+
+paused_there : (h : Option Halt) (turns took : ℕ) (halt : Halt) → else_paused h turns took ≡ Some halt → halt_or h (Paused took) ≡ halt
+paused_there (Some h) turns took halt p = cc
+paused_there None turns took halt p = if_there (nat_le turns took) (Paused took) halt p
+
+pub rests_here : (k : ℕ) (halt : Halt) (want : Want) (texts : List Text) (m : Standing) → rests want m ≡ Some halt → gone k want texts m ≡ (halt, seen m)
+rests_here zero halt want texts m p = ap (λ h. (h, seen m)) (paused_there (halts want m) want.turns (taken want m) halt p)
+rests_here (suc k) halt want texts m p = ap (λ h. here_or h m (gone k want texts (stepped texts m))) p
 
 -- a run that is over rests
-pub over_here : (left : ℕ) (pause : Halt) (want : Want) (texts : List Text) (e : Ending) (k : ℕ) → gone left pause want texts (standing_at (Ends e) Nothing k) ≡ (Ended, standing_at (Ends e) Nothing k)
-over_here left pause want texts e k =
-    rests_here left pause Ended want texts (standing_at (Ends e) Nothing k) (ap (λ h. else_over h true) (nothing_wanted want (world_of (Ends e)).frames))
+pub over_here : (k : ℕ) (want : Want) (texts : List Text) (e : Ending) (c : Count) → gone k want texts (standing_at (Ends e) Nothing c) ≡ (Ended, standing_at (Ends e) Nothing c)
+over_here k want texts e c = rests_here k Ended want texts (standing_at (Ends e) Nothing c) refl
 
-pub ends_here : (left j : ℕ) (pause : Halt) (want : Want) (texts : List Text) (m : Standing) (e : Ending) (k : ℕ) → left ≡ j + 1 → halts want m ≡ None → stepped texts m ≡ standing_at (Ends e) Nothing k → gone left pause want texts m ≡ (Ended, standing_at (Ends e) Nothing k)
-ends_here left j pause want texts m e k is p q =
-    goes_here left j pause want texts m (standing_at (Ends e) Nothing k) is p q ∙ over_here j pause want texts e k
+-- turns are left where nothing ends the go
+too_few : (turns took : ℕ) → nat_le turns took ≡ false → took < turns
+too_few turns took p = grind (arith, nat_tests)
 
--- no turns are left
-pub pauses_here : (left : ℕ) (pause : Halt) (want : Want) (texts : List Text) (m : Standing) → left ≡ 0 → gone left pause want texts m ≡ (halt_or (halts want m) pause, seen m)
-pauses_here left pause want texts m is = ap (λ n. gone n pause want texts m) is
+none_there : (h : Option Halt) (turns took : ℕ) → else_paused h turns took ≡ None → took < turns
+none_there (Some h) turns took p = absurd (cc)
+none_there None turns took p = too_few turns took (if_none (nat_le turns took) (Paused took) p)
+
+pub turns_left : (want : Want) (m : Standing) → rests want m ≡ None → m.turns < want.before + want.turns
+turns_left want m p = let q = none_there (halts want m) want.turns (taken want m) p in omega arith
+
+-- From here on a go comes to what it comes to from its beginning, by a number of steps that is enough for its turns.
+abbrev pub Onto : Want → List Text → Standing → Standing → Type 0
+Onto want texts first m = (k : ℕ) × (want.before + want.turns ≤ m.turns + k) × (gone k want texts m ≡ gone want.turns want texts first)
+
+pub at_first : (want : Want) (texts : List Text) (m : Standing) → want.before ≡ m.turns → Onto want texts m m
+at_first want texts m is = (want.turns, omega arith, refl)
+
+on_by : (k : ℕ) (want : Want) (texts : List Text) (first m next : Standing) → rests want m ≡ None → stepped texts m ≡ next → m.turns < next.turns → want.before + want.turns ≤ m.turns + k → gone k want texts m ≡ gone want.turns want texts first → Onto want texts first next
+on_by zero want texts first m next p is more enough q = let left = turns_left want m p in absurd (omega arith)
+on_by (suc k) want texts first m next p is more enough q =
+    (k, omega arith, sym (ap (gone k want texts) is) ∙ sym (ap (λ h. here_or h m (gone k want texts (stepped texts m))) p) ∙ q)
+
+pub costs_a_turn : (texts : List Text) (m next : Standing) → stepped texts m ≡ next → m.turns < next.turns
+costs_a_turn texts m next is = let q = ap (λ m. m.turns) is in omega arith
+
+pub goes_on : (want : Want) (texts : List Text) (first m next : Standing) → rests want m ≡ None → stepped texts m ≡ next → Onto want texts first m → Onto want texts first next
+goes_on want texts first m next p is onto = on_by onto.0 want texts first m next p is (costs_a_turn texts m next is) onto.1 onto.2
+
+-- fewer turns are left behind a step
+pub fewer_left : (want : Want) (texts : List Text) (m next : Standing) → rests want m ≡ None → stepped texts m ≡ next → want.before + want.turns - next.turns < want.before + want.turns - m.turns
+fewer_left want texts m next p is = let left = turns_left want m p in let more = costs_a_turn texts m next is in omega arith

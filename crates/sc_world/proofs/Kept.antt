@@ -12,9 +12,8 @@ use Rattle.sc_plain.proofs.Whole.{run_ends, run_answers, births_end}
 use Rattle.sc_words.specs.declared.stop.StopAt.{StopAt}
 use Rattle.sc_words.specs.declared.stop.Walk.{Walk}
 use Rattle.sc_world.specs.declared.halt.Halt.{Halt}
-use Rattle.sc_world.specs.declared.halt.Halt.TheVariants.{Paused}
 use Rattle.sc_world.specs.Standing.{Standing}
-use Rattle.sc_world.specs.Wants.{Want, halts}
+use Rattle.sc_world.specs.Wants.{Want, rests}
 use Rattle.sc_world.specs.Goes.{Gone, gone, here_or, stepped, with_status, Leaves, Goes, want_of, main_next, started}
 use Rattle.sc_world.specs.Meant.{IsReached, Stands, IsRunOf}
 
@@ -52,11 +51,11 @@ module _ (s : Start) (texts : List Text) (is : s.history ≡ alone texts) where
   here_stands None m later p q = q
   here_stands (Some halt) m later p q = p
 
-  gone_stands : (k : ℕ) (pause : Halt) (want : Want) (m : Standing) → Stands s texts m.steps m.state → Stands s texts (gone k pause want texts m).1.steps (gone k pause want texts m).1.state
-  gone_stands zero pause want m p = p
-  gone_stands (suc k) pause want m p =
-      here_stands (halts want m) m (gone k pause want texts (stepped texts m)) p
-      (gone_stands k pause want (stepped texts m) (step_stands m.steps m.state p))
+  gone_stands : (k : ℕ) (want : Want) (m : Standing) → Stands s texts m.steps m.state → Stands s texts (gone k want texts m).1.steps (gone k want texts m).1.state
+  gone_stands zero want m p = p
+  gone_stands (suc k) want m p =
+      here_stands (rests want m) m (gone k want texts (stepped texts m)) p
+      (gone_stands k want (stepped texts m) (step_stands m.steps m.state p))
 
   leaves_run : (out : Gone) (halt : Halt) (new : Option Standing) → Stands s texts out.1.steps out.1.state → Leaves out halt new → IsRunOf s texts new
   leaves_run out halt None p q = tt
@@ -70,8 +69,8 @@ module _ (s : Start) (texts : List Text) (is : s.history ≡ alone texts) where
 pub keeps : (texts : List Text) (stops : List StopAt) (walk : Walk) (turns : ℕ) (old : Option Standing) (halt : Halt) (new : Option Standing) (s : Start) → Goes texts stops walk turns old halt new → IsRunOf s texts old → IsRunOf s texts new
 keeps texts stops walk turns None halt new s p q = subst (λ r. IsRunOf s texts r) (sym p.1) tt
 keeps texts stops walk turns (Some m) halt new s p q =
-    leaves_run s texts q.0 (gone turns (Paused turns) (want_of stops walk m) texts m) halt new
-    (gone_stands s texts q.0 turns (Paused turns) (want_of stops walk m) m q.1) p
+    leaves_run s texts q.0 (gone turns (want_of stops walk turns m) texts m) halt new
+    (gone_stands s texts q.0 turns (want_of stops walk turns m) m q.1) p
 
 -- a run from its start on
 pub begins : (texts : List Text) (stack heap : ℕ) (input : List ℕ) → IsRunOf (start_of texts stack heap input) texts (Some (started texts stack heap input))

@@ -1,4 +1,4 @@
--- A go: the steps up to the first place that halts it, and no more than its turns. A turn is one step of the machine.
+-- A go: the steps up to the first place that halts it, or where the turns were taken.
 use Rattle.std.specs.Prelude.{◌≡◌, ℕ, zero, suc, ◌+◌, List, [], ◌∷◌, Option, Some, None}
 use Rattle.sc_meaning.specs.World.{World, tick}
 use Rattle.sc_meaning.specs.Outcomes.{Exit}
@@ -6,6 +6,7 @@ use Rattle.sc_meaning.specs.Versions.{Text, callee_of}
 use Rattle.sc_meaning.specs.Changes.{statics_born}
 use Rattle.sc_meaning.specs.Behaviour.{first_world, main_key, status_of}
 use Rattle.sc_machine.specs.Runs.{Caller, State, Runs, Makes, Answers, Ends, then_goes}
+use Rattle.sc_plain.specs.declared.stepped.Shown.{Shown}
 use Rattle.sc_plain.specs.declared.stepped.Shown.TheVariants.{Nothing}
 use Rattle.sc_plain.specs.Steady.{alone, callee_next, advance}
 use Rattle.sc_plain.specs.Shows.{shown, entry_shown}
@@ -15,36 +16,32 @@ use Rattle.sc_words.specs.declared.stop.Walk.{Walk}
 use Rattle.sc_world.specs.declared.halt.Halt.{Halt}
 use Rattle.sc_world.specs.declared.halt.Halt.TheVariants.{Ended, Paused}
 use Rattle.sc_world.specs.Standing.{Standing, world_of}
-use Rattle.sc_world.specs.Wants.{Want, halts}
+use Rattle.sc_world.specs.Wants.{Want, halt_or, halts, taken, rests}
+use Rattle.sc_world.specs.Costs.{cost}
 
--- one step
+-- one step, with its cost
+abbrev pub moved_on : Standing → State → Shown → Standing
+moved_on m next now = record { state = next; shown = now; steps = m.steps + 1; turns = m.turns + cost m.state next }
+
 abbrev pub stepped : List Text → Standing → Standing
-stepped texts m = record {
-  state = advance (alone texts) texts m.state;
-  shown = shown (alone texts) texts m.state;
-  steps = m.steps + 1;
-}
+stepped texts m = moved_on m (advance (alone texts) texts m.state) (shown (alone texts) texts m.state)
 
 -- what was shown is looked at once
 abbrev pub seen : Standing → Standing
 seen m = record m { shown = Nothing }
 
-abbrev pub halt_or : Option Halt → Halt → Halt
-halt_or None pause = pause
-halt_or (Some halt) pause = halt
-
 abbrev pub here_or : Option Halt → Standing → Halt × Standing → Halt × Standing
 here_or None m later = later
 here_or (Some halt) m later = (halt, seen m)
 
--- what comes of a go: why it halts, and where the run stands then
+-- what comes of a go: why it ends, and where the run stands then
 abbrev pub Gone : Type 0
 Gone = Halt × Standing
 
--- A stop at the place where the turns are used up goes before the pause.
-abbrev pub gone : ℕ → Halt → Want → List Text → Standing → Halt × Standing
-gone zero pause want texts m = (halt_or (halts want m) pause, seen m)
-gone (suc k) pause want texts m = here_or (halts want m) m (gone k pause want texts (stepped texts m))
+-- A go of so many steps at most. A step takes one turn at least, so there are no more steps than turns: behind the last one they were taken.
+abbrev pub gone : ℕ → Want → List Text → Standing → Halt × Standing
+gone zero want texts m = (halt_or (halts want m) (Paused (taken want m)), seen m)
+gone (suc k) want texts m = here_or (rests want m) m (gone k want texts (stepped texts m))
 
 -- where `main` came back, the run ends with its status
 abbrev pub with_status : State → State
@@ -62,13 +59,13 @@ abbrev pub Leaves : Halt × Standing → Halt → Option Standing → Type 0
 Leaves out halt None = halt ≡ Ended
 Leaves out halt (Some m) = (out.0 ≡ halt) × (closed out.1 ≡ m)
 
-abbrev pub want_of : List StopAt → Walk → Standing → Want
-want_of stops walk m = record { stops = stops; walk = walk; since = (world_of m.state).enters }
+abbrev pub want_of : List StopAt → Walk → ℕ → Standing → Want
+want_of stops walk turns m = record { stops = stops; walk = walk; since = (world_of m.state).enters; turns = turns; before = m.turns }
 
 -- a go of so many turns, from one place to another
 abbrev pub Goes : List Text → List StopAt → Walk → ℕ → Option Standing → Halt → Option Standing → Type 0
 Goes texts stops walk turns None halt new = (halt ≡ Ended) × (new ≡ None)
-Goes texts stops walk turns (Some m) halt new = Leaves (gone turns (Paused turns) (want_of stops walk m) texts m) halt new
+Goes texts stops walk turns (Some m) halt new = Leaves (gone turns (want_of stops walk turns m) texts m) halt new
 
 -- the state behind the births, where the call of `main` went out
 abbrev pub main_next : List Text → List Caller → World → State
@@ -78,7 +75,7 @@ abbrev pub first_from : List Text → List Caller → World → State
 first_from texts cs w = then_goes (statics_born texts w) (λ _ born. main_next texts cs born)
 
 abbrev pub first_standing : State → Standing
-first_standing s = record { state = s; shown = entry_shown s; steps = 0 }
+first_standing s = record { state = s; shown = entry_shown s; steps = 0; turns = 0 }
 
 -- a run of these texts from its start on
 abbrev pub started : List Text → ℕ → ℕ → List ℕ → Standing

@@ -1,5 +1,6 @@
 pub mod Standing
 pub mod Wants
+pub mod Costs
 pub mod Goes
 pub mod Turns
 pub mod Meant

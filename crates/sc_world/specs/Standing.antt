@@ -9,14 +9,17 @@ use Rattle.sc_plain.specs.declared.stepped.Shown.{Shown}
 use Rattle.sc_plain.specs.declared.stepped.Shown.TheVariants.{Nothing}
 use Rattle.sc_plain.specs.declared.running.Ended.{Ended}
 use Rattle.sc_plain.specs.Ends.{end_of}
+use Rattle.sc_world.specs.declared.count.Count.{Count}
 use Rattle.sc_world.specs.declared.course.Course.{Course}
 use Rattle.sc_world.specs.declared.course.Course.TheVariants.{On, Over}
 
--- the machine's state, what its last step showed and no go looked at yet, and how many steps were done since the call of `main`
+-- the machine's state, what its last step showed and no go looked at yet, how many steps were done since the call of `main`, and how
+-- many turns they took
 pub record Standing : Type 0 where
   pub state : State
   pub shown : Shown
   pub steps : ℕ
+  pub turns : ℕ
 
 -- what a run does next, as the machine's state
 abbrev pub state_of : Going → List Caller → World → State
@@ -24,14 +27,14 @@ state_of (going.Runs doing ss env a) cs w = Runs doing ss env a cs w
 state_of (going.Makes t v vs c) cs w = Makes t v vs c cs w
 state_of (going.Answers a) cs w = Answers a cs w
 
-abbrev pub ended_so : ℕ → Option Ending → Option Standing
-ended_so k None = None
-ended_so k (Some e) = Some (record { state = Ends e; shown = Nothing; steps = k })
+abbrev pub ended_so : Count → Option Ending → Option Standing
+ended_so c None = None
+ended_so c (Some e) = Some (record { state = Ends e; shown = Nothing; steps = c.steps; turns = c.turns })
 
 -- nothing is known of a run for which no room was left
-abbrev pub standing : Course → List Caller → World → ℕ → Option Standing
-standing (On going shown) cs w k = Some (record { state = state_of going cs w; shown = shown; steps = k })
-standing (Over ended) cs w k = ended_so k (end_of ended w)
+abbrev pub standing : Course → List Caller → World → Count → Option Standing
+standing (On going shown) cs w c = Some (record { state = state_of going cs w; shown = shown; steps = c.steps; turns = c.turns })
+standing (Over ended) cs w c = ended_so c (end_of ended w)
 
 -- the world of a state
 abbrev pub world_of : State → World
@@ -57,4 +60,4 @@ is_ended (Some m) = has_ended m.state
 
 -- and ended so
 abbrev pub EndedSo : Option Standing → Ended → Type 0
-EndedSo r ended = (w : World) × (k : ℕ) × (r ≡ ended_so k (end_of ended w))
+EndedSo r ended = (w : World) × (c : Count) × (r ≡ ended_so c (end_of ended w))

@@ -1,39 +1,34 @@
 -- How the program's turns stand to the machine's.
-use Rattle.std.specs.Prelude.{◌≡◌, ℕ, List, Option, Some, None, Result, Ok, Err}
-use Rattle.sc_meaning.specs.World.{World}
+use Rattle.std.specs.Prelude.{◌≡◌, List, Some, Result, Ok, Err}
+use Rattle.sc_meaning.specs.World.{World, work}
 use Rattle.sc_meaning.specs.Outcomes.{Ending}
-use Rattle.sc_meaning.specs.Versions.{Text}
 use Rattle.sc_machine.specs.Runs.{Caller, State, Ends}
+use Rattle.sc_plain.specs.declared.going.Going.{Going}
 use Rattle.sc_plain.specs.declared.stepped.Shown.{Shown}
 use Rattle.sc_plain.specs.declared.stepped.Shown.TheVariants.{Nothing}
-use Rattle.sc_plain.specs.declared.stepped.Stepped.{Stepped}
 use Rattle.sc_plain_leaves.specs.declared.stop.Stop.{Stop}
 use Rattle.sc_plain_leaves.specs.Gives.{ending_of}
+use Rattle.sc_plain_world.specs.Outputs.{bytes_moved}
+use Rattle.sc_world.specs.declared.cost.Before.{Before}
+use Rattle.sc_world.specs.declared.count.Count.{Count}
 use Rattle.sc_world.specs.declared.halt.Halt.{Halt}
 use Rattle.sc_world.specs.declared.halt.Halt.TheVariants.{Ended}
-use Rattle.sc_world.specs.declared.turn.Rest.{Rest}
-use Rattle.sc_world.specs.declared.turn.Turned.{Turned}
-use Rattle.sc_world.specs.declared.turn.Turned.TheVariants as turned
-use Rattle.sc_world.specs.Standing.{Standing, state_of}
-use Rattle.sc_world.specs.Wants.{Want, halts}
-use Rattle.sc_world.specs.Goes.{stepped}
+use Rattle.sc_world.specs.Standing.{Standing, state_of, world_of}
+use Rattle.sc_world.specs.Costs.{is_call}
 
-abbrev pub standing_at : State → Shown → ℕ → Standing
-standing_at s shown k = record { state = s; shown = shown; steps = k }
+abbrev pub standing_at : State → Shown → Count → Standing
+standing_at s shown c = record { state = s; shown = shown; steps = c.steps; turns = c.turns }
+
+-- so a run stood before a step
+abbrev pub IsBefore : Before → State → Type 0
+IsBefore b s = (b.calls ≡ is_call s) × (b.work ≡ work (world_of s).trail) × (b.moved ≡ bytes_moved (world_of s).trail)
 
 -- one step brings a run there, or to its end; where no room was left, nothing is said
-abbrev pub Onward : Standing → Result Stepped Stop → List Caller → World → ℕ → Type 0
-Onward m (Ok next) cs w k = m ≡ standing_at (state_of next.going cs w) next.shown k
-Onward m (Err stop) cs w k = (e : Ending) → ending_of stop w ≡ Some e → m ≡ standing_at (Ends e) Nothing k
-
--- a turn: the run is halted here, or it goes one step on
-abbrev pub Turns : Option Halt → Standing → Standing → Result Turned Stop → List Caller → World → ℕ → Type 0
-Turns here m next (Ok (turned.Rests r)) cs w k = (here ≡ Some r.halt) × (m ≡ standing_at (state_of r.going cs w) m.shown k)
-Turns here m next (Ok (turned.Goes n)) cs w k = (here ≡ None) × (next ≡ standing_at (state_of n.going cs w) n.shown k)
-Turns here m next (Err stop) cs w k =
-    (e : Ending) → ending_of stop w ≡ Some e → (here ≡ None) × (next ≡ standing_at (Ends e) Nothing k)
+abbrev pub Onward : Standing → Result Shown Stop → Going → List Caller → World → Count → Type 0
+Onward m (Ok now) g cs w c = m ≡ standing_at (state_of g cs w) now c
+Onward m (Err stop) g cs w c = (e : Ending) → ending_of stop w ≡ Some e → m ≡ standing_at (Ends e) Nothing c
 
 -- where all the turns bring a run
-abbrev pub Comes : Halt × Standing → Result Rest Stop → List Caller → World → ℕ → Type 0
-Comes out (Ok r) cs w k = out ≡ (r.halt, standing_at (state_of r.going cs w) Nothing k)
-Comes out (Err stop) cs w k = (e : Ending) → ending_of stop w ≡ Some e → out ≡ (Ended, standing_at (Ends e) Nothing k)
+abbrev pub Comes : Halt × Standing → Result Halt Stop → Going → List Caller → World → Count → Type 0
+Comes out (Ok halt) g cs w c = out ≡ (halt, standing_at (state_of g cs w) Nothing c)
+Comes out (Err stop) g cs w c = (e : Ending) → ending_of stop w ≡ Some e → out ≡ (Ended, standing_at (Ends e) Nothing c)

@@ -1,5 +1,5 @@
 -- What a go halts at.
-use Rattle.std.specs.Prelude.{ℕ, Bool, true, false, ◌||◌, nat_le, if◌then◌else◌, List, [], ◌∷◌, Option, Some, None}
+use Rattle.std.specs.Prelude.{ℕ, ◌-◌, Bool, true, false, ◌||◌, nat_le, if◌then◌else◌, List, [], ◌∷◌, Option, Some, None}
 use Rattle.sc_meaning.specs.World.{Frame}
 use Rattle.sc_plain.specs.declared.stepped.Shown.{Shown}
 use Rattle.sc_plain.specs.declared.stepped.Shown.TheVariants as shown
@@ -10,14 +10,17 @@ use Rattle.sc_words.specs.declared.stop.Walk.{Walk}
 use Rattle.sc_words.specs.declared.stop.Walk.TheVariants.{Cont, Step, Next}
 use Rattle.sc_words.specs.Stops.{is_matched}
 use Rattle.sc_world.specs.declared.halt.Halt.{Halt}
-use Rattle.sc_world.specs.declared.halt.Halt.TheVariants.{Entered, AtLine, Ended}
+use Rattle.sc_world.specs.declared.halt.Halt.TheVariants.{Entered, AtLine, Ended, Paused}
 use Rattle.sc_world.specs.Standing.{Standing, world_of}
 
--- the stops that are set, the walk, and how many calls were entered as the go began
+-- the stops that are set, the walk, and how many calls were entered as the go began; the turns that the go may take, and how many
+-- the run had taken before it
 pub record Want : Type 0 where
   pub stops : List StopAt
   pub walk : Walk
   pub since : ℕ
+  pub turns : ℕ
+  pub before : ℕ
 
 -- A walk by steps halts at each line. One to the next line passes over calls: it halts at a line of a call that was active as the
 -- go began, which is one that was entered before.
@@ -38,9 +41,10 @@ entry_wanted want f = halt_if (is_matched want.stops (Enter f.key f.home)) Enter
 
 -- whether what was shown, in the innermost call, is wanted
 abbrev pub wanted : Want → Shown → List Frame → Option Halt
-wanted want shown [] = None
-wanted want shown.Nothing (f ∷ fs) = None
+wanted want shown.Nothing fs = None
+wanted want (shown.Line line) [] = None
 wanted want (shown.Line line) (f ∷ fs) = line_wanted want line f
+wanted want shown.Entered [] = None
 wanted want shown.Entered (f ∷ fs) = entry_wanted want f
 
 abbrev pub else_over : Option Halt → Bool → Option Halt
@@ -50,3 +54,19 @@ else_over None over = halt_if over Ended
 -- what halts a run where it stands, if anything does: an event that is wanted, or its end
 abbrev pub halts : Want → Standing → Option Halt
 halts want m = else_over (wanted want m.shown (world_of m.state).frames) (is_over m.state)
+
+-- the turns that this go has taken
+abbrev pub taken : Want → Standing → ℕ
+taken want m = m.turns - want.before
+
+abbrev pub halt_or : Option Halt → Halt → Halt
+halt_or None pause = pause
+halt_or (Some halt) pause = halt
+
+abbrev pub else_paused : Option Halt → ℕ → ℕ → Option Halt
+else_paused (Some halt) turns took = Some halt
+else_paused None turns took = halt_if (nat_le turns took) (Paused took)
+
+-- what ends a go where the run stands, if anything does: what halts the run there, or that the turns were taken
+abbrev pub rests : Want → Standing → Option Halt
+rests want m = else_paused (halts want m) want.turns (taken want m)

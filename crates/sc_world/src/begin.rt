@@ -31,7 +31,7 @@ pub fn begun(texts: &[Text], callers: &Stack<Caller>, world: &mut World) -> Resu
 ///
 /// `NoMemory` where no room was left.
 pub fn course_of(first: Result<Going, Stop>) -> Result<Course, NoMemory>
-    ensures { IfOk result (λ course. (s : runs.State) (cs : List runs.Caller) (w : worlds.World) → Steps s first cs w → standing course cs w 0 ≡ Some (goes.first_standing s)) }
+    ensures { IfOk result (λ course. (s : runs.State) (cs : List runs.Caller) (w : worlds.World) → Steps s first cs w → standing course cs w (record { steps = 0; turns = 0 }) ≡ Some (goes.first_standing s)) }
 {
     match first {
         Ok(going) => {

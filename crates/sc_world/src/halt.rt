@@ -1,8 +1,8 @@
 // What a go answers.
 
 /// Why a go halts: a function was entered at which a stop is set; a line was reached at which a stop is set, or the walk halts;
-/// the run is over; or so many turns were used up, none of which brought it to such a place. Function, module and line are in
-/// the innermost call.
+/// the run is over; or so many turns were taken, which are those of the go or, by its last step, more, and none brought it to such a
+/// place. Function, module and line are in the innermost call.
 #[derive(Clone, Copy)]
 pub enum Halt {
     Entered,

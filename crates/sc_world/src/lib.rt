@@ -2,6 +2,8 @@
 #![tactic(auto)]
 
 mod begin;
+mod cost;
+mod count;
 mod course;
 mod halt;
 mod look;

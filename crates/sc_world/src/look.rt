@@ -1,23 +1,24 @@
 // Whether a run halts where it stands.
-ghost use Rattle.std.specs.Prelude.{◌≡◌, IfOk};
+ghost use Rattle.std.specs.Prelude.{◌≡◌};
 ghost use Rattle.sc_words.specs.Stops as words;
 ghost use Rattle.sc_words.specs.declared.stop.Event.TheVariants as event;
 ghost use Rattle.sc_world.specs.Wants as spec;
 
 use crate::halt::Halt;
-use sc_base::{Duplicate, NoMemory};
 use sc_plain::Shown;
 use sc_plain_world::{Frame, World};
-use sc_words::{Event, StopAt, Walk, matched};
-use std::alloc::Global;
+use sc_words::{StopAt, Walk};
 use std::marker::Model;
 
-/// What a go halts at: the stops that are set, and the walk. `since` is how many calls were entered as the go began.
+/// What a go halts at: the stops that are set, and the walk, where `since` calls were entered as the go began; and the turns that it may
+/// take, where the run had taken so many `before`.
 #[derive(Drop)]
 pub struct Want<'a> {
     pub stops: &'a [StopAt],
     pub walk: Walk,
     pub since: u64,
+    pub turns: u64,
+    pub before: u64,
 }
 
 impl<'a> Model for Want<'a> {
@@ -25,7 +26,7 @@ impl<'a> Model for Want<'a> {
 
     ghost Value = { spec.Want };
 
-    ghost view = { λ w. record { stops = w.stops.now; walk = w.walk; since = w.since } };
+    ghost view = { λ w. record { stops = w.stops.now; walk = w.walk; since = w.since; turns = w.turns; before = w.before } };
 }
 
 // Whether a walk halts at a line of a call.
@@ -39,26 +40,25 @@ fn walks(walk: Walk, since: u64, frame: &Frame) -> bool
     }
 }
 
-// Whether a stop is set at a line of a call.
-fn stops_at_line(
-    alloc: Global,
-    stops: &[StopAt],
-    line: u32,
-    frame: &Frame,
-) -> Result<bool, NoMemory>
-    ensures { IfOk result (λ here. here ≡ words.is_matched stops.now (event.At frame.now.home line)) }
+// Whether a stop is set at this line of a call.
+fn is_at_line(stop: &StopAt, line: u32, frame: &Frame) -> bool
+    ensures { result ≡ words.stops_at (event.At frame.now.home line) stop.now }
 {
-    let event = Event::At(frame.home.copy(alloc)?, line);
-    Ok(matched(stops, &event))
+    match stop {
+        StopAt::InFun(_, _) => false,
+        StopAt::AtLine(module, number) => frame.home == *module && line == *number,
+    }
 }
 
-// Whether a stop is set at the function of a call.
-fn stops_in_function(alloc: Global, stops: &[StopAt], frame: &Frame) -> Result<bool, NoMemory>
-    ensures { IfOk result (λ here. here ≡ words.is_matched stops.now (event.Enter frame.now.key frame.now.home)) }
+// Whether it is set at the function of a call.
+fn is_in_function(stop: &StopAt, frame: &Frame) -> bool
+    ensures { result ≡ words.stops_at (event.Enter frame.now.key frame.now.home) stop.now }
 {
-    let key = frame.key.copy(alloc)?;
-    let event = Event::Enter(key, frame.home.copy(alloc)?);
-    Ok(matched(stops, &event))
+    match stop {
+        StopAt::InFun(None, fun) => frame.key.module.is_none() && frame.key.name == *fun,
+        StopAt::InFun(Some(module), fun) => frame.home == *module && frame.key.name == *fun,
+        StopAt::AtLine(_, _) => false,
+    }
 }
 
 /// A halt where there is a reason for it.
@@ -68,38 +68,49 @@ pub fn halt_if(here: bool, halt: Halt) -> Option<Halt>
     if here { Some(halt) } else { None }
 }
 
-// Whether a line that was reached is wanted.
-fn line_wanted(
-    alloc: Global,
-    want: &Want,
-    line: u32,
-    frame: &Frame,
-) -> Result<Option<Halt>, NoMemory>
-    ensures { IfOk result (λ halt. halt ≡ spec.line_wanted want.now line frame.now) }
+// Whether one is set there.
+fn stops_at_line(stops: &[StopAt], line: u32, frame: &Frame) -> bool
+    ensures { result ≡ words.is_matched stops.now (event.At frame.now.home line) }
 {
-    let stops_here = stops_at_line(alloc, want.stops, line, frame)?;
+    stops.iter().any(|stop| is_at_line(stop, line, frame))
+}
+
+fn stops_in_function(stops: &[StopAt], frame: &Frame) -> bool
+    ensures { result ≡ words.is_matched stops.now (event.Enter frame.now.key frame.now.home) }
+{
+    stops.iter().any(|stop| is_in_function(stop, frame))
+}
+
+// Whether a line that was reached is wanted.
+fn line_wanted(want: &Want, line: u32, frame: &Frame) -> Option<Halt>
+    ensures { result ≡ spec.line_wanted want.now line frame.now }
+{
+    let stops_here = stops_at_line(want.stops, line, frame);
     let halts_here = stops_here || walks(want.walk, want.since, frame);
-    Ok(halt_if(halts_here, Halt::AtLine))
+    halt_if(halts_here, Halt::AtLine)
 }
 
 // Whether a function that was entered is wanted.
-fn entry_wanted(alloc: Global, want: &Want, frame: &Frame) -> Result<Option<Halt>, NoMemory>
-    ensures { IfOk result (λ halt. halt ≡ spec.entry_wanted want.now frame.now) }
+fn entry_wanted(want: &Want, frame: &Frame) -> Option<Halt>
+    ensures { result ≡ spec.entry_wanted want.now frame.now }
 {
-    let stops_here = stops_in_function(alloc, want.stops, frame)?;
-    Ok(halt_if(stops_here, Halt::Entered))
+    let stops_here = stops_in_function(want.stops, frame);
+    halt_if(stops_here, Halt::Entered)
 }
 
-/// Whether what was shown, in the innermost call, halts the run.
-pub fn wanted(want: &Want, shown: Shown, world: &World) -> Result<Option<Halt>, NoMemory>
-    ensures { IfOk result (λ halt. halt ≡ spec.wanted want.now shown world.now.frames) }
+/// Whether what was shown, in the innermost call, halts the run. Where nothing was shown, no stop is looked at.
+pub fn wanted(want: &Want, shown: Shown, world: &World) -> Option<Halt>
+    ensures { result ≡ spec.wanted want.now shown world.now.frames }
 {
-    let Some(frame) = world.innermost() else {
-        return Ok(None)
-    };
     match shown {
-        Shown::Nothing => Ok(None),
-        Shown::Line(line) => line_wanted(world.alloc(), want, line, frame),
-        Shown::Entered => entry_wanted(world.alloc(), want, frame),
+        Shown::Nothing => None,
+        Shown::Line(line) => match world.innermost() {
+            Some(frame) => line_wanted(want, line, frame),
+            None => None,
+        },
+        Shown::Entered => match world.innermost() {
+            Some(frame) => entry_wanted(want, frame),
+            None => None,
+        },
     }
 }

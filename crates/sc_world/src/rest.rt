@@ -1,5 +1,5 @@
 // Where a go leaves a run.
-ghost use Rattle.std.specs.Prelude.{◌≡◌, [], ℕ};
+ghost use Rattle.std.specs.Prelude.{◌≡◌, []};
 ghost use Rattle.sc_meaning.specs.World as worlds;
 ghost use Rattle.sc_machine.specs.Runs as runs;
 ghost use Rattle.sc_plain.specs.Ends.{end_of};
@@ -9,14 +9,15 @@ ghost use Rattle.sc_world.specs.Goes as goes;
 ghost use Rattle.sc_world.specs.Standing as standing;
 ghost use Rattle.sc_world.specs.Turns.{Comes, standing_at};
 ghost use Rattle.sc_world.specs.declared.course.Course.TheVariants.{On};
-ghost use Rattle.sc_world.specs.declared.halt.Halt.TheVariants.{Paused};
+ghost use Rattle.sc_world.specs.declared.count.Count as counts;
 
+use crate::count::Count;
 use crate::course::Course;
 use crate::halt::Halt;
 use crate::look::Want;
-use crate::turn::{Rest, turns_taken};
+use crate::turn::turns_taken;
 use sc_base::Stack;
-use sc_plain::{Caller, Ended, Going, Shown, Stepped, status_of};
+use sc_plain::{Caller, Ended, Going, Shown, status_of};
 use sc_plain_leaves::Stop;
 use sc_plain_parts::Text;
 use sc_plain_world::World;
@@ -55,7 +56,7 @@ fn stays(halt: Halt, going: Going) -> Rested
 
 // The answer of `main` ends the run with its status.
 fn came_back(halt: Halt, a: &Answer, world: &mut World) -> Rested
-    ensures { (k : ℕ) (out : goes.Gone) → out ≡ (halt, standing_at (runs.Answers a.now [] world.old) Nothing k) → goes.Leaves out result.halt (standing.standing result.course [] world.new k) }
+    ensures { (c : counts.Count) (out : goes.Gone) → out ≡ (halt, standing_at (runs.Answers a.now [] world.old) Nothing c) → goes.Leaves out result.halt (standing.standing result.course [] world.new c) }
 {
     match world.tick() {
         Ok(()) => Rested {
@@ -71,7 +72,7 @@ fn came_back(halt: Halt, a: &Answer, world: &mut World) -> Rested
 
 // An answer is the run's where no caller waits for it.
 fn answered(halt: Halt, a: Answer, callers: &Stack<Caller>, world: &mut World) -> Rested
-    ensures { (k : ℕ) (out : goes.Gone) → out ≡ (halt, standing_at (runs.Answers a callers.now world.old) Nothing k) → goes.Leaves out result.halt (standing.standing result.course callers.now world.new k) }
+    ensures { (c : counts.Count) (out : goes.Gone) → out ≡ (halt, standing_at (runs.Answers a callers.now world.old) Nothing c) → goes.Leaves out result.halt (standing.standing result.course callers.now world.new c) }
 {
     if callers.is_empty() {
         came_back(halt, &a, world)
@@ -81,10 +82,9 @@ fn answered(halt: Halt, a: Answer, callers: &Stack<Caller>, world: &mut World) -
 }
 
 // A run that rests; where `main` came back it is over.
-fn closed(rest: Rest, callers: &Stack<Caller>, world: &mut World) -> Rested
-    ensures { (k : ℕ) (out : goes.Gone) → out ≡ (rest.halt, standing_at (standing.state_of rest.going callers.now world.old) Nothing k) → goes.Leaves out result.halt (standing.standing result.course callers.now world.new k) }
+fn closed(halt: Halt, going: Going, callers: &Stack<Caller>, world: &mut World) -> Rested
+    ensures { (c : counts.Count) (out : goes.Gone) → out ≡ (halt, standing_at (standing.state_of going callers.now world.old) Nothing c) → goes.Leaves out result.halt (standing.standing result.course callers.now world.new c) }
 {
-    let Rest { halt, going } = rest;
     match going {
         Going::Answers(a) => answered(halt, a, callers, world),
         Going::Runs(doing, stmts, env, active) => {
@@ -95,54 +95,58 @@ fn closed(rest: Rest, callers: &Stack<Caller>, world: &mut World) -> Rested
 }
 
 // What the turns of a go came to.
-fn left_by(given: Result<Rest, Stop>, callers: &Stack<Caller>, world: &mut World) -> Rested
-    ensures { (k : ℕ) (out : goes.Gone) → Comes out given callers.now world.old k → goes.Leaves out result.halt (standing.standing result.course callers.now world.new k) }
+fn left_by(
+    given: Result<Halt, Stop>,
+    going: Going,
+    callers: &Stack<Caller>,
+    world: &mut World,
+) -> Rested
+    ensures { (c : counts.Count) (out : goes.Gone) → Comes out given going callers.now world.old c → goes.Leaves out result.halt (standing.standing result.course callers.now world.new c) }
 {
     match given {
-        Ok(rest) => closed(rest, callers, world),
-        Err(stop) => Rested {
-            halt: Halt::Ended,
-            course: Course::Over(over_by(stop)),
-        },
+        Ok(halt) => closed(halt, going, callers, world),
+        Err(stop) => {
+            drop(going);
+            Rested {
+                halt: Halt::Ended,
+                course: Course::Over(over_by(stop)),
+            }
+        }
     }
 }
 
-// A go of a run that goes on, of so many turns at most.
+// A go of a run that goes on.
 fn goes_on(
     texts: &[Text],
     want: &Want,
-    first: Stepped,
-    turns: u64,
+    shown: Shown,
+    mut going: Going,
     callers: &mut Stack<Caller>,
-    steps: &mut u64,
+    count: &mut Count,
     world: &mut World,
 ) -> Rested
-    ensures { goes.Leaves (goes.gone turns (Paused turns) want.now texts.now (standing_at (standing.state_of first.going callers.old world.old) first.shown steps.old)) result.halt (standing.standing result.course callers.new world.new steps.new) }
+    ensures { want.now.before ≡ count.old.turns → goes.Leaves (goes.gone want.now.turns want.now texts.now (standing_at (standing.state_of going callers.old world.old) shown count.old)) result.halt (standing.standing result.course callers.new world.new count.new) }
 {
-    let given = turns_taken(texts, want, first, turns, callers, steps, world);
-    left_by(given, callers, world)
+    let given = turns_taken(texts, want, shown, &mut going, callers, count, world);
+    left_by(given, going, callers, world)
 }
 
-/// A go of a run, of so many turns at most. One that is over stays so.
+/// A go of a run. One that is over stays so.
 pub fn goes_from(
     course: Course,
     texts: &[Text],
     want: &Want,
-    turns: u64,
     callers: &mut Stack<Caller>,
-    steps: &mut u64,
+    count: &mut Count,
     world: &mut World,
 ) -> Rested
-    ensures { want.now.since ≡ world.old.enters → goes.Goes texts.now want.now.stops want.now.walk turns (standing.standing course callers.old world.old steps.old) result.halt (standing.standing result.course callers.new world.new steps.new) }
+    ensures { want.now.since ≡ world.old.enters → want.now.before ≡ count.old.turns → goes.Goes texts.now want.now.stops want.now.walk want.now.turns (standing.standing course callers.old world.old count.old) result.halt (standing.standing result.course callers.new world.new count.new) }
 {
     match course {
         Course::Over(ended) => Rested {
             halt: Halt::Ended,
             course: Course::Over(ended),
         },
-        Course::On(going, shown) => {
-            let first = Stepped { going, shown };
-            goes_on(texts, want, first, turns, callers, steps, world)
-        }
+        Course::On(going, shown) => goes_on(texts, want, shown, going, callers, count, world),
     }
 }

@@ -9,6 +9,7 @@ ghost use Rattle.sc_world.specs.Meant.{IsRunOf};
 ghost use Rattle.sc_world.specs.Standing as standing;
 
 use crate::begin::{begun, course_of};
+use crate::count::Count;
 use crate::course::Course;
 use crate::halt::Halt;
 use crate::look::Want;
@@ -23,13 +24,13 @@ use std::marker::Model;
 use std::mem;
 
 /// A run of a program that does not change: how it goes on, or how it ended; the callers that wait; the world, with all that
-/// happened; and how many steps were done since the call of `main` went out.
+/// happened; and how many steps were done since the call of `main` went out, with the turns that they took.
 #[derive(Drop)]
 pub struct Run {
     course: Course,
     callers: Stack<Caller>,
     world: World,
-    steps: u64,
+    count: Count,
 }
 
 impl Model for Run {
@@ -45,7 +46,7 @@ impl Model for Run {
 
     ghost coded = { Prim.hlevel (codes, types.the_row.coded, signatures.the_row.coded, expressions.the_row.coded, statements.the_row.coded) };
 
-    ghost view = { λ r. spec.standing r.course r.callers r.world r.steps };
+    ghost view = { λ r. spec.standing r.course r.callers r.world r.count };
 }
 
 impl Run {
@@ -73,13 +74,14 @@ impl Run {
             course,
             callers,
             world,
-            steps: 0,
+            count: Count { steps: 0, turns: 0 },
         })
     }
 
     /// The run goes on, up to the first place that halts it: a function at which a stop is set is entered; a line is reached at
-    /// which one is set, or at which the walk halts; or the run is over. It takes no more turns than are given, and is
-    /// paused where none of those comes in them. A run that is over stays as it is.
+    /// which one is set, or at which the walk halts; or the run is over. Before such a place it is paused, where it has taken the turns that
+    /// are given. Each step takes one turn, and one more for each byte that a call of the library, a copy of a structure or a birth touches
+    /// in it. A run that is over stays as it is.
     #[tactic(auto, using(crate::proofs::Kept::keeps))]
     pub fn go(&mut self, texts: &[Text], stops: &[StopAt], walk: Walk, turns: u64) -> Halt
         ensures goes { Goes texts.now stops.now walk turns self.old result self.new }
@@ -89,15 +91,16 @@ impl Run {
             stops,
             walk,
             since: self.world.enters(),
+            turns,
+            before: self.count.turns,
         };
         let course = mem::replace(&mut self.course, Course::Over(Ended::NoRoom));
         let rested = goes_from(
             course,
             texts,
             &want,
-            turns,
             &mut self.callers,
-            &mut self.steps,
+            &mut self.count,
             &mut self.world,
         );
         drop(mem::replace(&mut self.course, rested.course));
@@ -139,6 +142,13 @@ impl Run {
     pub fn steps(&self) -> u64
         ensures { (m : standing.Standing) → self.now ≡ Some m → result ≡ m.steps }
     {
-        self.steps
+        self.count.steps
+    }
+
+    /// How many turns they took.
+    pub fn turns(&self) -> u64
+        ensures { (m : standing.Standing) → self.now ≡ Some m → result ≡ m.turns }
+    {
+        self.count.turns
     }
 }

@@ -1,35 +1,26 @@
-// Turns one after another, up to a place that halts the run.
-ghost use Rattle.std.specs.Prelude.{◌≡◌, ◌+◌, ℕ, IfOk};
+// Turns one after another, up to a place where a go ends.
+ghost use Rattle.std.specs.Prelude.{◌≡◌, List, Some};
+ghost use Rattle.sc_meaning.specs.Outcomes as outcomes;
 ghost use Rattle.sc_meaning.specs.World as worlds;
+ghost use Rattle.sc_machine.specs.Runs as runs;
 ghost use Rattle.sc_plain.specs.Steps as course;
 ghost use Rattle.sc_plain.specs.declared.stepped.Shown as showing;
+ghost use Rattle.sc_plain.specs.declared.stepped.Shown.TheVariants.{Nothing};
+ghost use Rattle.sc_plain_leaves.specs.Gives.{ending_of};
 ghost use Rattle.sc_world.specs.Goes as goes;
 ghost use Rattle.sc_world.specs.Standing.{state_of};
-ghost use Rattle.sc_world.specs.Turns.{Comes, Onward, Turns, standing_at};
+ghost use Rattle.sc_world.specs.Turns.{Comes, IsBefore, Onward, standing_at};
 ghost use Rattle.sc_world.specs.Wants as spec;
-ghost use Rattle.sc_world.specs.declared.halt.Halt.TheVariants.{Paused};
 
+use crate::cost::{Before, noted, touched_last, touched_on};
+use crate::count::{Count, counted};
 use crate::halt::Halt;
 use crate::look::{Want, halt_if, wanted};
-use sc_base::{NoMemory, Stack};
-use sc_plain::{Caller, Going, Shown, Stepped, step_run};
+use sc_base::Stack;
+use sc_plain::{Caller, Going, Shown, step_run};
 use sc_plain_leaves::Stop;
 use sc_plain_parts::Text;
 use sc_plain_world::World;
-
-/// A run that rests: why, and how it goes on from there.
-#[derive(Drop)]
-pub struct Rest {
-    pub halt: Halt,
-    pub going: Going,
-}
-
-/// A turn: the run rests where it is, or it went one step on.
-#[derive(Drop)]
-pub enum Turned {
-    Rests(Rest),
-    Goes(Stepped),
-}
 
 // Whether the run is over: no caller waits for its answer.
 fn is_over(going: &Going, callers: &Stack<Caller>) -> bool
@@ -51,94 +42,86 @@ fn else_over(halt: Option<Halt>, over: bool) -> Option<Halt>
     }
 }
 
-// Whether the run halts where it stands.
-#[tactic(auto, using(crate::proofs::Courses::halts_there))]
-fn halts(
+fn else_paused(halt: Option<Halt>, turns: u64, took: u64) -> Option<Halt>
+    ensures { result ≡ spec.else_paused halt turns took }
+{
+    match halt {
+        Some(here) => Some(here),
+        None => halt_if(turns <= took, Halt::Paused(took)),
+    }
+}
+
+// What ends a go where the run stands, if anything does.
+#[tactic(auto, using(crate::proofs::Courses::rests_there))]
+fn rests(
     want: &Want,
     going: &Going,
     shown: Shown,
     callers: &Stack<Caller>,
+    count: Count,
     world: &World,
-) -> Result<Option<Halt>, NoMemory>
-    ensures { IfOk result (λ halt. (k : ℕ) → halt ≡ spec.halts want.now (standing_at (state_of going.now callers.now world.now) shown k)) }
+) -> Option<Halt>
+    ensures { result ≡ spec.rests want.now (standing_at (state_of going.now callers.now world.now) shown count) }
 {
-    let event = wanted(want, shown, world)?;
-    let over = is_over(going, callers);
-    Ok(else_over(event, over))
+    let event = wanted(want, shown, world);
+    let halt = else_over(event, is_over(going, callers));
+    else_paused(halt, want.turns, count.turns.saturating_sub(want.before))
 }
 
-// One step more.
-fn more(steps: u64) -> Result<u64, NoMemory>
-    ensures { IfOk result (λ n. n ≡ steps + 1) }
+// A step behind which the run goes on is counted.
+fn went_on(
+    shown: Shown,
+    before: Before,
+    going: &Going,
+    count: &mut Count,
+    world: &World,
+) -> Result<Shown, Stop>
+    ensures { (s : runs.State) (x : showing.Shown) (cs : List runs.Caller) → IsBefore before s → Onward (goes.moved_on (standing_at s x count.old) (state_of going.now cs world.now) shown) result going.now cs world.now count.new }
 {
-    match steps.checked_add(1) {
-        Some(n) => Ok(n),
-        None => Err(NoMemory),
+    match counted(*count, touched_on(before, going, world)) {
+        Ok(next) => {
+            *count = next;
+            Ok(shown)
+        }
+        Err(_) => Err(Stop::NoRoom),
     }
 }
 
-// One step of the machine.
+// A step in which the run ended is counted.
+fn ended(stop: Stop, before: Before, count: &mut Count, world: &World) -> Stop
+    ensures same { (e : outcomes.Ending) → ending_of result world.now ≡ Some e → ending_of stop world.now ≡ Some e }
+    ensures counted { (s : runs.State) (x : showing.Shown) (e : outcomes.Ending) → IsBefore before s → ending_of result world.now ≡ Some e → goes.moved_on (standing_at s x count.old) (runs.Ends e) Nothing ≡ standing_at (runs.Ends e) Nothing count.new }
+{
+    match counted(*count, touched_last(before, &stop, world)) {
+        Ok(next) => {
+            *count = next;
+            stop
+        }
+        Err(_) => {
+            drop(stop);
+            Stop::NoRoom
+        }
+    }
+}
+
+// One step of the machine, with its cost.
 fn onward(
     texts: &[Text],
-    going: Going,
+    going: &mut Going,
     callers: &mut Stack<Caller>,
-    steps: &mut u64,
+    count: &mut Count,
     world: &mut World,
-) -> Result<Stepped, Stop>
-    ensures { (shown : showing.Shown) → Onward (goes.stepped texts.now (standing_at (state_of going callers.old world.old) shown steps.old)) result callers.new world.new steps.new }
+) -> Result<Shown, Stop>
+    ensures { (x : showing.Shown) → Onward (goes.stepped texts.now (standing_at (state_of going.old callers.old world.old) x count.old)) result going.new callers.new world.new count.new }
 {
-    match more(*steps) {
-        Ok(n) => {
-            *steps = n;
-            step_run(texts, going, callers, world)
-        }
-        Err(_) => {
-            drop(going);
-            Err(Stop::NoRoom)
-        }
+    let before = noted(going, world);
+    match step_run(texts, going, callers, world) {
+        Ok(shown) => went_on(shown, before, going, count, world),
+        Err(stop) => Err(ended(stop, before, count, world)),
     }
 }
 
-// One turn.
-fn turn(
-    texts: &[Text],
-    want: &Want,
-    going: Going,
-    shown: Shown,
-    callers: &mut Stack<Caller>,
-    steps: &mut u64,
-    world: &mut World,
-) -> Result<Turned, Stop>
-    ensures { Turns (spec.halts want.now (standing_at (state_of going callers.old world.old) shown steps.old)) (standing_at (state_of going callers.old world.old) shown steps.old) (goes.stepped texts.now (standing_at (state_of going callers.old world.old) shown steps.old)) result callers.new world.new steps.new }
-{
-    match halts(want, &going, shown, callers, world) {
-        Ok(Some(halt)) => Ok(Turned::Rests(Rest { halt, going })),
-        Ok(None) => match onward(texts, going, callers, steps, world) {
-            Ok(next) => Ok(Turned::Goes(next)),
-            Err(stop) => Err(stop),
-        },
-        Err(_) => {
-            drop(going);
-            Err(Stop::NoRoom)
-        }
-    }
-}
-
-// Where the turns are used up, the run rests for what halts it there, or it is paused.
-fn rests_or_pauses(halt: Option<Halt>, turns: u64, going: Going) -> Rest
-    ensures halt { result.halt ≡ goes.halt_or halt (Paused turns) }
-    ensures going { result.going ≡ going }
-{
-    match halt {
-        Some(halt) => Rest { halt, going },
-        None => Rest {
-            halt: Halt::Paused(turns),
-            going,
-        },
-    }
-}
-
-/// Turns one after another, at most so many, up to a place that halts the run.
+/// Turns one after another, up to a place that halts the run, or where the turns were taken.
 ///
 /// # Errors
 ///
@@ -146,33 +129,22 @@ fn rests_or_pauses(halt: Option<Halt>, turns: u64, going: Going) -> Rest
 pub fn turns_taken(
     texts: &[Text],
     want: &Want,
-    first: Stepped,
-    turns: u64,
+    first: Shown,
+    going: &mut Going,
     callers: &mut Stack<Caller>,
-    steps: &mut u64,
+    count: &mut Count,
     world: &mut World,
-) -> Result<Rest, Stop>
-    ensures { Comes (goes.gone turns (Paused turns) want.now texts.now (standing_at (state_of first.going callers.old world.old) first.shown steps.old)) result callers.new world.new steps.new }
+) -> Result<Halt, Stop>
+    ensures { want.now.before ≡ count.old.turns → Comes (goes.gone want.now.turns want.now texts.now (standing_at (state_of going.old callers.old world.old) first count.old)) result going.new callers.new world.new count.new }
 {
-    let mut going = first.going;
-    let mut shown = first.shown;
-    let mut left = turns;
-    'turning: while 0 < left {
-        match turn(texts, want, going, shown, callers, steps, world) {
-            Ok(Turned::Rests(rest)) => return Ok(rest),
-            Ok(Turned::Goes(next)) => {
-                going = next.going;
-                shown = next.shown;
-                left -= 1;
-            }
-            Err(stop) => return Err(stop),
-        }
-    }
-    match halts(want, &going, shown, callers, world) {
-        Ok(halt) => Ok(rests_or_pauses(halt, turns, going)),
-        Err(_) => {
-            drop(going);
-            Err(Stop::NoRoom)
+    let mut shown = first;
+    'turning: loop {
+        match rests(want, going, shown, callers, *count, world) {
+            Some(halt) => return Ok(halt),
+            None => match onward(texts, going, callers, count, world) {
+                Ok(next) => shown = next,
+                Err(stop) => return Err(stop),
+            },
         }
     }
 }

@@ -1,0 +1,17 @@
+pub mod Road
+pub mod Parts
+pub mod ExprSteps
+pub mod ExprMeans
+pub mod BodySteps
+pub mod BodyMeans
+pub mod RunSteps
+pub mod RunMeans
+pub mod Works
+pub mod ExprPays
+pub mod BodyPays
+pub mod RunPays
+pub mod Lawfully
+pub mod Moves
+pub mod Heap
+pub mod LibraryLawful
+pub mod RunLawful
