@@ -121,14 +121,12 @@ pub fn loaded(t: &CType, p: &Value, further: u32, world: &World) -> Result<Value
     ensures { Gives (spec.loaded t.now p.now further world.now) result world.now }
 {
     let n = scalar_size(t);
-    if let Some(rule) = load_rule(world.objects(), p, further, n, is_pointer_type(t)) {
+    if let Some(rule) = load_rule(world.objects(), p, further, n, is_pointer_type(t))? {
         let told = access_breach(p, further, n, world, rule)?;
         return Err(Stop::Undefined(told));
     }
-    let Some(cells) = cells_read(world.objects(), p, further, n) else {
-        return Err(Stop::NoRoom)
-    };
-    let found = value_of_cells(world.alloc(), cells)?;
+    let cells = cells_read(world.objects(), p, further, n)?;
+    let found = value_of_cells(world.alloc(), cells.as_slice())?;
     Ok(as_type(t, found))
 }
 

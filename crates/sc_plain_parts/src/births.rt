@@ -28,7 +28,7 @@ pub fn born(size: u32, kind: Kind, world: &mut World) -> Result<u32, Stop>
         return Err(Stop::BirthLimit);
     }
     world.birth(size, kind)?;
-    Ok(n as u32 + 1)
+    Ok(n + 1)
 }
 
 fn auto_kind(constant: bool) -> Kind

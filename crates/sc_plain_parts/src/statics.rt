@@ -12,7 +12,7 @@ use crate::text::{Callee, Definition, Text, callee_of, object_in};
 use sc_base::{Bytes, Duplicate, Items, Key, Kind, NoMemory, Shared};
 use sc_core::Init;
 use sc_plain_leaves::{Stop, pieces, sum};
-use sc_plain_world::{Cell, Object, World, object_at, unwritten};
+use sc_plain_world::{Cell, Store, World, unwritten};
 use sc_program::StaticId;
 use sc_values::Value;
 use std::alloc::Global;
@@ -99,10 +99,10 @@ fn born_all(texts: &[Text], ids: &[StaticId], world: &mut World) -> Result<(), S
 }
 
 // The address of a place in an object, its end included.
-fn address_in(objects: &[Object], o: u32, at: u32) -> Option<Value>
+fn address_in(objects: &Store, o: u32, at: u32) -> Option<Value>
     ensures { result ≡ spec.address_in (worlds.object_at objects.now o) o at }
 {
-    match object_at(objects, o) {
+    match objects.find(o) {
         None => None,
         Some(object) => {
             if at <= object.size {

@@ -1,4 +1,3 @@
-pub mod Cells
 pub mod Showings
 pub mod Happenings
 pub mod Outputs

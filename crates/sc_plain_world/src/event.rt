@@ -2,9 +2,10 @@
 ghost use Rattle.std.specs.Prelude.{◌≡◌, IfOk};
 ghost use Rattle.sc_meaning.specs.World as spec;
 
-use crate::object::{Born, Cell, Frame};
+use crate::object::{Born, Frame};
 use sc_base::{Duplicate, Items, Key, Kind, Name, NoMemory};
 use sc_program::StaticId;
+use sc_store::Cell;
 use std::alloc::Global;
 use std::marker::Model;
 use std::snapshot::Snapshot;

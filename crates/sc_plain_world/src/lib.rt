@@ -9,9 +9,10 @@ mod object;
 mod past;
 mod world;
 
-pub use cells::{copy_cells, unwritten};
+pub use cells::unwritten;
 pub use event::{Change, Event, Item, Showing};
 pub use names::{Named, same_id};
-pub use object::{Born, Cell, Content, Frame, Object, copy_numbers};
+pub use object::{Born, Frame, copy_numbers};
 pub use past::{Past, Trail};
-pub use world::{World, cells_at, object_at};
+pub use sc_store::{Cell, Content, Facts, Few, Store};
+pub use world::World;

@@ -1,17 +1,16 @@
 // The world of a run, and the single changes to it.
-ghost use Rattle.std.specs.Prelude.{◌≡◌, true, false, not, ℕ, ◌+◌, ◌-◌, ◌∷◌, ◌++◌, [], List, length, reverse, IfOk, MatchOption, None, Some, slice_index, slice_set, replicate};
-ghost use Rattle.sc_meaning.specs.Violations.{of_object};
+ghost use Rattle.std.specs.Prelude.{◌≡◌, ℕ, ◌+◌, ◌-◌, ◌∷◌, ◌++◌, [], List, length, reverse, IfOk, MatchOption, None, Some, slice_index, slice_set, replicate};
 ghost use Rattle.sc_meaning.specs.World as spec;
 ghost use Rattle.sc_plain_world.specs.Happenings.{item_of};
 ghost use Rattle.sc_plain_world.specs.Outputs.{bytes_moved, output};
 
-use crate::cells::{back, copy_cells, front, unwritten};
 use crate::event::{Change, Event, Item, Showing};
 use crate::names::{Named, keyed_in, named_in, without_name};
-use crate::object::{Born, Cell, Frame, Object};
+use crate::object::{Born, Frame};
 use crate::past::Past;
 use sc_base::{Duplicate, Items, Key, Kind, NoMemory, Stack};
 use sc_program::StaticId;
+use sc_store::{Cell, Store};
 use std::alloc::Global;
 use std::marker::Model;
 use std::mem;
@@ -26,7 +25,7 @@ pub struct World {
     alloc: Global,
     stack: u64,
     heap: u64,
-    objects: Vec<Object>,
+    objects: Store,
     used: u64,
     free: Items<u64>,
     made: u64,
@@ -45,7 +44,7 @@ impl Model for World {
 
     ghost Value = { spec.World };
 
-    ghost view = { λ w. record { stack = w.stack; heap = w.heap; objects = w.objects.items; used = w.used; free = w.free; made = w.made; input = w.input; seed = w.seed; frames = w.frames; names = w.names; enters = w.enters; count = w.count; begun = w.begun; trail = w.past } };
+    ghost view = { λ w. record { stack = w.stack; heap = w.heap; objects = w.objects; used = w.used; free = w.free; made = w.made; input = w.input; seed = w.seed; frames = w.frames; names = w.names; enters = w.enters; count = w.count; begun = w.begun; trail = w.past } };
 }
 
 // One more.
@@ -56,16 +55,6 @@ fn more(n: u64) -> Result<u64, NoMemory>
         return Err(NoMemory)
     };
     Ok(m)
-}
-
-/// The object with a number, counted from 1.
-pub fn object_at(objects: &[Object], id: u32) -> Option<&Object>
-    ensures { MatchOption result (spec.object_at objects.now id ≡ None) (λ o. spec.object_at objects.now id ≡ Some o.now) }
-{
-    if id == 0 {
-        return None;
-    }
-    objects.get(id as usize - 1)
 }
 
 // The innermost call gets a line.
@@ -125,6 +114,7 @@ impl World {
     pub fn new(alloc: Global, stack: u64, heap: u64, input: Items<u8>) -> Result<World, NoMemory>
         ensures { IfOk result (λ w. w ≡ record { stack = stack; heap = heap; objects = []; used = 0; free = replicate 29 0; made = 0; input = input; seed = 1; frames = []; names = []; enters = 0; count = 0; begun = 0; trail = [] }) }
     {
+        let objects = Store::new(alloc, stack, heap)?;
         let free = no_block(alloc)?;
         let mut left = Stack::new(alloc);
         left.push_all(input)?;
@@ -132,7 +122,7 @@ impl World {
             alloc,
             stack,
             heap,
-            objects: Vec::new(alloc),
+            objects,
             used: 0,
             free,
             made: 0,
@@ -167,10 +157,10 @@ impl World {
     }
 
     /// The objects, of which the first has number 1.
-    pub fn objects(&self) -> &[Object]
+    pub fn objects(&self) -> &Store
         ensures { result.now ≡ self.now.objects }
     {
-        self.objects.as_slice()
+        &self.objects
     }
 
     /// The bytes of the stack that are used.
@@ -342,8 +332,7 @@ impl World {
     pub fn birth(&mut self, size: u32, kind: Kind) -> Result<(), NoMemory>
         ensures { IfOk result (λ _. self.new ≡ spec.pass (spec.Birth size kind) self.old) }
     {
-        let cells = unwritten(self.alloc, size)?;
-        self.objects.push(Object::living(size, kind, cells))?;
+        self.objects.birth(size, kind)?;
         self.keep(Change::Birth(size, kind))
     }
 
@@ -351,7 +340,7 @@ impl World {
     pub fn death(&mut self, id: u32) -> Result<(), NoMemory>
         ensures { IfOk result (λ _. self.new ≡ spec.pass (spec.Death id) self.old) }
     {
-        end_object(self.alloc, &mut self.objects, id);
+        self.objects.death(id)?;
         self.keep(Change::Death(id))
     }
 
@@ -359,19 +348,15 @@ impl World {
     pub fn put(&mut self, id: u32, at: u32, new: Items<Cell>) -> Result<(), NoMemory>
         ensures { IfOk result (λ _. self.new ≡ spec.pass (spec.Put id at new) self.old) }
     {
-        self.keep(Change::Put(id, at, Snapshot::of(&new)))?;
-        write_object(self.alloc, &mut self.objects, id, at, new)
+        self.objects.put(id, at, new.as_slice())?;
+        self.keep(Change::Put(id, at, Snapshot::of(&new)))
     }
 
     /// So many bytes go to an object and offset from an object and offset.
     pub fn copy(&mut self, to: u32, at: u32, from: u32, off: u32, n: u32) -> Result<(), NoMemory>
         ensures { IfOk result (λ _. self.new ≡ spec.pass (spec.Copy to at from off n) self.old) }
     {
-        let Some(cells) = cells_at(self.objects.as_slice(), from, u64::from(off), n) else {
-            return Err(NoMemory)
-        };
-        let moved = copy_cells(self.alloc, cells)?;
-        write_object(self.alloc, &mut self.objects, to, at, moved)?;
+        self.objects.copy(to, at, from, off, n)?;
         self.keep(Change::Copy(to, at, from, off, n))
     }
 
@@ -480,43 +465,5 @@ impl World {
     {
         self.names = without_name(self.alloc, self.names.as_slice(), &id)?;
         self.keep(Change::Unname(id))
-    }
-}
-
-// An object dies.
-fn end_object(alloc: Global, objects: &mut Vec<Object>, id: u32)
-    ensures { objects.new.items ≡ spec.ended objects.old.items id (spec.object_at objects.old.items id) }
-{
-    if id != 0 && id as usize <= objects.len() {
-        objects[id as usize - 1].end(alloc);
-    }
-}
-
-// Bytes of an object are written.
-fn write_object(
-    alloc: Global,
-    objects: &mut Vec<Object>,
-    id: u32,
-    at: u32,
-    new: Items<Cell>,
-) -> Result<(), NoMemory>
-    ensures { IfOk result (λ _. objects.new.items ≡ spec.written objects.old.items id at new (spec.object_at objects.old.items id)) }
-{
-    if id == 0 || objects.len() < id as usize {
-        return Ok(());
-    }
-    objects[id as usize - 1].write(alloc, at, new)
-}
-
-/// The `n` bytes of an object from an offset on, where it is not dead.
-pub fn cells_at(objects: &[Object], id: u32, at: u64, n: u32) -> Option<&[Cell]>
-    ensures { MatchOption result (of_object false (λ o. not o.live) (spec.object_at objects.now id) ≡ true) (λ cells. cells.now ≡ spec.cells_at objects.now id at n) }
-{
-    match object_at(objects, id) {
-        None => Some(&[]),
-        Some(o) => match o.cells() {
-            None => None,
-            Some(cells) => Some(front(back(cells, at), n)),
-        },
     }
 }

@@ -7,7 +7,7 @@ use crate::place::{Shown, access_text, value_text};
 use crate::word::{key_text, put, put_decimal, put_key, rule_text};
 use sc_base::{Int, Key, NoMemory, Op, Rule};
 use sc_plain_leaves::Breach;
-use sc_plain_world::{Object, World};
+use sc_plain_world::{Store, World};
 use sc_values::Value;
 use std::alloc::Global;
 
@@ -51,7 +51,7 @@ fn operand(rule: Rule, op: Op, i: Int) -> Shown
     }
 }
 
-fn operands_text(alloc: Global, b: &Breach, objects: &[Object]) -> Result<Vec<u8>, NoMemory>
+fn operands_text(alloc: Global, b: &Breach, objects: &Store) -> Result<Vec<u8>, NoMemory>
     ensures { IfOk result (λ text. text.items ≡ spec.operands_text b.now objects.now) }
 {
     let left = value_text(alloc, objects, operand(b.rule, b.op, b.int), &b.left)?;
@@ -64,7 +64,7 @@ fn operands_text(alloc: Global, b: &Breach, objects: &[Object]) -> Result<Vec<u8
     Ok(text)
 }
 
-fn access_or_operands(alloc: Global, b: &Breach, objects: &[Object]) -> Result<Vec<u8>, NoMemory>
+fn access_or_operands(alloc: Global, b: &Breach, objects: &Store) -> Result<Vec<u8>, NoMemory>
     ensures { IfOk result (λ text. text.items ≡ spec.access_or_operands b.now objects.now) }
 {
     if b.size == 0 {
@@ -88,7 +88,7 @@ fn name_text(alloc: Global, name: &Option<Key>) -> Result<Vec<u8>, NoMemory>
     }
 }
 
-fn value_tail(alloc: Global, v: &Value, objects: &[Object]) -> Result<Vec<u8>, NoMemory>
+fn value_tail(alloc: Global, v: &Value, objects: &Store) -> Result<Vec<u8>, NoMemory>
     ensures { IfOk result (λ text. text.items ≡ codes " value " ++ value_text objects.now Shown.Address v.now) }
 {
     let value = value_text(alloc, objects, Shown::Address, v)?;
@@ -121,7 +121,7 @@ fn name_tail(alloc: Global, b: &Breach) -> Result<Vec<u8>, NoMemory>
 }
 
 // What is said of an undefined step behind its place.
-fn tail_text(alloc: Global, b: &Breach, objects: &[Object]) -> Result<Vec<u8>, NoMemory>
+fn tail_text(alloc: Global, b: &Breach, objects: &Store) -> Result<Vec<u8>, NoMemory>
     ensures { IfOk result (λ text. text.items ≡ spec.tail_text b.now.rule b.now objects.now) }
 {
     match b.rule {

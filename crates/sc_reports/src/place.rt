@@ -8,7 +8,7 @@ ghost use Rattle.sc_reports.specs.Words.{key_text};
 use crate::word::{put, put_decimal, put_key, put_signed};
 use sc_base::{Int, Key, NoMemory};
 use sc_plain_leaves::number_of;
-use sc_plain_world::{Object, object_at};
+use sc_plain_world::Store;
 use sc_values::{Shape, Value};
 use std::alloc::Global;
 
@@ -66,10 +66,10 @@ fn address_text(alloc: Global, n: u32) -> Result<Vec<u8>, NoMemory>
 }
 
 // Nothing for an object that lives.
-fn life_text(objects: &[Object], id: u32) -> &'static [u8]
+fn life_text(objects: &Store, id: u32) -> &'static [u8]
     ensures { result.now ≡ spec.life_text (at objects.now id) }
 {
-    match object_at(objects, id) {
+    match objects.find(id) {
         Some(o) => { if o.live { b"" } else { b"dead " } }
         None => b"dead ",
     }
@@ -84,7 +84,7 @@ fn function_text(alloc: Global, key: &Key) -> Result<Vec<u8>, NoMemory>
     Ok(text)
 }
 
-fn pointer_text(alloc: Global, objects: &[Object], o: u32, i: u32) -> Result<Vec<u8>, NoMemory>
+fn pointer_text(alloc: Global, objects: &Store, o: u32, i: u32) -> Result<Vec<u8>, NoMemory>
     ensures { IfOk result (λ text. text.items ≡ spec.pointer_text objects.now o i) }
 {
     let mut text = Vec::new(alloc);
@@ -99,7 +99,7 @@ fn pointer_text(alloc: Global, objects: &[Object], o: u32, i: u32) -> Result<Vec
 /// A value.
 pub fn value_text(
     alloc: Global,
-    objects: &[Object],
+    objects: &Store,
     how: Shown,
     v: &Value,
 ) -> Result<Vec<u8>, NoMemory>

@@ -1,5 +1,5 @@
 // A few bytes at once.
-ghost use Rattle.std.specs.Prelude.{◌≡◌, ◌+◌, ◌<◌, Some, length, IfOk};
+ghost use Rattle.std.specs.Prelude.{◌≡◌, ◌+◌, ◌<◌, [], Some, length, IfOk};
 ghost use Rattle.sc_store.specs.Holding.{byte_at, HasBytes};
 
 use crate::bytes::byte_at;
@@ -27,6 +27,21 @@ impl Model for Few {
 }
 
 impl Few {
+    /// No bytes.
+    pub fn none() -> Few
+        ensures { result ≡ [] }
+    {
+        Few {
+            bytes: [
+                Cell::unwritten(),
+                Cell::unwritten(),
+                Cell::unwritten(),
+                Cell::unwritten(),
+            ],
+            count: 0,
+        }
+    }
+
     /// The bytes.
     pub fn as_slice(&self) -> &[Cell]
         ensures { result.now ≡ self.now }
