@@ -1,7 +1,8 @@
-pub mod Lists
+pub mod Agreeing
 pub mod Cells
-pub mod Meant
 pub mod Holding
+pub mod Keys
+pub mod Lists
+pub mod Meant
 pub mod Reading
 pub mod Writing
-pub mod Keys

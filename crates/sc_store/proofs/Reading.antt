@@ -6,7 +6,7 @@ use Rattle.std.specs.Prelude.{IfOk}
 use Rattle.sc_base.specs.declared.NoMemory.{NoMemory}
 use Rattle.sc_base.specs.declared.key.Key.{Key}
 use Rattle.sc_objects.specs.declared.objects.Obj.{Obj}
-use Rattle.sc_objects.specs.Numbered.{object_of, IsLive}
+use Rattle.sc_objects.specs.Numbered.{object_of}
 use Rattle.sc_objects.proofs.Lists.{slice_get-push}
 use Rattle.sc_mem.specs.Flat.{Flat}
 use Rattle.sc_meaning.specs.Values.{Cell, Unwritten}
@@ -47,10 +47,10 @@ read_some os m fs id at n base count p cells h e spans size read =
     let part : length (take n (drop at o.cells)) ≡ min n (p.size - at) = simp (length-take, length-drop) (omega arith) in
     let there : HasBytes m fs base (take n (drop at o.cells)) =
     λ i c f. (
-      let few = slice_get_within (take n (drop at o.cells)) i c f in
-      let first = spans.2 (omega arith) in
-      let place : base + i ≡ p.base + (at + i) = omega arith in
-      ap (byte_at m fs) place ∙ held.bytes alive (at + i) c (get-range o.cells at n i c f)) in
+    let few = slice_get_within (take n (drop at o.cells)) i c f in
+    let first = spans.2 (omega arith) in
+    let place : base + i ≡ p.base + (at + i) = omega arith in
+    ap (byte_at m fs) place ∙ held.bytes alive (at + i) c (get-range o.cells at n i c f)) in
     same-bytes m fs base cells (take n (drop at o.cells)) (size ∙ (least ∙ sym part)) read there ∙ ap (λ q. cells_in q at n) (sym here)
 
 pub read-span : (os : List Object) (m : Flat) (fs : List Key) (id at n base count : ℕ) (q : Option Obj) (cells : List Cell) → Holds os m fs → object_of m.objects id ≡ q → Spans q at n base count → length cells ≡ count → HasBytes m fs base cells → cells ≡ cells_at os id at n
@@ -66,11 +66,13 @@ read_result os m fs given id at n base count (Ok cells) h spans same got =
 pub few_are : (m : Flat) (fs : List Key) (base count : ℕ) (a b c d : Cell) → count ≤ 4 → (0 < count → byte_at m fs (base + 0) ≡ Some a) → (1 < count → byte_at m fs (base + 1) ≡ Some b) → (2 < count → byte_at m fs (base + 2) ≡ Some c) → (3 < count → byte_at m fs (base + 3) ≡ Some d) → (length (take count (a ∷ b ∷ c ∷ d ∷ [])) ≡ count) × HasBytes m fs base (take count (a ∷ b ∷ c ∷ d ∷ []))
 few_are m fs base count a b c d small ha hb hc hd =
     let all : List Cell = a ∷ b ∷ c ∷ d ∷ [] in
-    let size : length (take count all) ≡ count = simp length-take (omega arith) in
-    (size, λ i e f.
-      let few = slice_get_within (take count all) i e f in
-      let there = get-front all count i e f in
-      one-of m fs base count i a b c d e (omega arith) ha hb hc hd there)
+    let size : length (take count all) ≡ count = simp length-take (omega arith) in (
+      size,
+      λ i e f.
+          let few = slice_get_within (take count all) i e f in
+          let there = get-front all count i e f in
+          one-of m fs base count i a b c d e (omega arith) ha hb hc hd there,
+    )
 
 -- bytes that are read one after another
 pub bytes_none : (m : Flat) (fs : List Key) (base : ℕ) → HasBytes m fs base []

@@ -5,6 +5,7 @@ mod bytes;
 mod cell;
 mod few;
 mod history;
+mod laws;
 mod places;
 mod pointers;
 mod span;
@@ -12,4 +13,5 @@ mod store;
 
 pub use cell::{Cell, Content};
 pub use few::Few;
+pub use laws::held_objects_agree;
 pub use store::{Facts, Store};

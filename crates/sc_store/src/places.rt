@@ -81,12 +81,7 @@ pub fn place_object(
 }
 
 // An object of the static area is born at an address, or at the first one that serves; its address.
-fn settle_static(
-    memory: &mut Memory,
-    next: u32,
-    size: u32,
-    kind: Kind,
-) -> Result<u32, NoMemory>
+fn settle_static(memory: &mut Memory, next: u32, size: u32, kind: Kind) -> Result<u32, NoMemory>
     ensures birth { IfOk result (λ _. IsBirth memory.old.flat memory.new.flat size kind) }
     ensures fault { OnErr result (memory.new ≡ memory.old) }
     ensures safe { IsSafe memory.old }
