@@ -66,18 +66,63 @@ pub fn place_object(
 {
     match kind {
         Kind::Heap => memory.allocate(size),
-        Kind::Auto => {
-            let base = places.below(size);
-            memory.settle(size, kind, base)?;
-            places.floor = base;
-            Ok(())
-        }
-        Kind::Static | Kind::Const | Kind::Literal => {
-            let base = settle_static(memory, places.next, size, kind)?;
-            places.next = behind(base, size);
-            Ok(())
-        }
+        Kind::Auto => place_below(memory, places, size, kind),
+        Kind::Const => place_constant(memory, places, size, kind),
+        Kind::Static | Kind::Literal => place_static(memory, places, size, kind),
     }
+}
+
+// An automatic object is born below the lowest one of the stack. It takes as many bytes as its slot has in a frame.
+fn place_below(
+    memory: &mut Memory,
+    places: &mut Places,
+    size: u32,
+    kind: Kind,
+) -> Result<(), NoMemory>
+    ensures birth { IfOk result (λ _. IsBirth memory.old.flat memory.new.flat size kind) }
+    ensures fault { OnErr result (memory.new ≡ memory.old) }
+    ensures safe { IsSafe memory.old }
+{
+    let base = places.below(size);
+    memory.settle(size, kind, base)?;
+    places.floor = base;
+    Ok(())
+}
+
+// A constant object is born in the static area, or, since it may be an automatic one, in the stack.
+fn place_constant(
+    memory: &mut Memory,
+    places: &mut Places,
+    size: u32,
+    kind: Kind,
+) -> Result<(), NoMemory>
+    ensures birth { IfOk result (λ _. IsBirth memory.old.flat memory.new.flat size kind) }
+    ensures fault { OnErr result (memory.new ≡ memory.old) }
+    ensures safe { IsSafe memory.old }
+{
+    match memory.settle(size, kind, places.next) {
+        Ok(()) => {
+            places.next = behind(places.next, size);
+            Ok(())
+        }
+        Err(_) => place_below(memory, places, size, kind),
+    }
+}
+
+// An object is born in the static area.
+fn place_static(
+    memory: &mut Memory,
+    places: &mut Places,
+    size: u32,
+    kind: Kind,
+) -> Result<(), NoMemory>
+    ensures birth { IfOk result (λ _. IsBirth memory.old.flat memory.new.flat size kind) }
+    ensures fault { OnErr result (memory.new ≡ memory.old) }
+    ensures safe { IsSafe memory.old }
+{
+    let base = settle_static(memory, places.next, size, kind)?;
+    places.next = behind(base, size);
+    Ok(())
 }
 
 // An object of the static area is born at an address, or at the first one that serves; its address.
