@@ -60,13 +60,8 @@ fn places_of(
     Ok(places)
 }
 
-// The same of a program from its start on.
-fn halted(
-    alloc: Global,
-    program: &str,
-    stops: &[StopAt],
-    walks: &str,
-) -> Result<Vec<i64>, NoMemory> {
+// A program as it is read.
+fn read(alloc: Global, program: &str) -> Result<Reader, NoMemory> {
     let mut reader = Reader::new(alloc);
     for line in program.split('\n') {
         for word in line.split(' ') {
@@ -75,11 +70,33 @@ fn halted(
             }
         }
     }
+    Ok(reader)
+}
+
+// The places where a run of a program halts, from its start on.
+fn halted(
+    alloc: Global,
+    program: &str,
+    stops: &[StopAt],
+    walks: &str,
+) -> Result<Vec<i64>, NoMemory> {
+    let reader = read(alloc, program)?;
     let texts = reader.texts.as_slice();
     let mut run = Run::start(alloc, texts, 1_048_576, 4_194_304, Items::new(alloc))?;
     let places = places_of(alloc, &mut run, texts, stops, walks);
     drop(run);
     places
+}
+
+// The turns of a program that ends, beyond its steps.
+fn bytes_touched(alloc: Global, program: &str) -> Result<u64, NoMemory> {
+    let reader = read(alloc, program)?;
+    let texts = reader.texts.as_slice();
+    let mut run = Run::start(alloc, texts, 1_048_576, 4_194_304, Items::new(alloc))?;
+    let _ = run.go(texts, &[], Walk::Cont, 10_000);
+    let bytes = run.turns().saturating_sub(run.steps());
+    drop(run);
+    Ok(bytes)
 }
 
 #[test]
@@ -99,5 +116,13 @@ fn the_next_line_is_one_of_an_active_call(rt: HostRuntime) -> Result<(), Fail> {
     let stops = vec![in alloc; StopAt::AtLine(name(alloc, b"m")?, 2)]?;
     let places = halted(alloc, TWICE, stops.as_slice(), "cnnc")?;
     assert_eq!(rt; places.as_slice(), [2, 2, 6, 1005].as_slice());
+    Ok(())
+}
+
+#[test]
+fn a_birth_takes_a_turn_for_each_byte(rt: HostRuntime) -> Result<(), Fail> {
+    let alloc = rt.alloc();
+    assert_eq!(rt; bytes_touched(alloc, STRAIGHT)?, 4);
+    assert_eq!(rt; bytes_touched(alloc, TWICE)?, 12);
     Ok(())
 }

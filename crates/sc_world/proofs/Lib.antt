@@ -2,3 +2,4 @@ pub mod Courses
 pub mod Exits
 pub mod Kept
 pub mod Places
+pub mod Pauses

@@ -14,7 +14,7 @@ use Rattle.sc_world.specs.declared.halt.Halt.{Halt}
 use Rattle.sc_world.specs.declared.halt.Halt.TheVariants.{Entered, AtLine, Ended, Paused}
 use Rattle.sc_world.specs.Standing.{Standing, world_of}
 use Rattle.sc_world.specs.Wants.{Want, wanted, else_over, halts, halt_if, halt_or, else_paused, rests, taken}
-use Rattle.sc_world.specs.Goes.{gone, here_or, seen, stepped, closed, with_status, Goes, want_of}
+use Rattle.sc_world.specs.Goes.{Gone, gone, here_or, seen, stepped, closed, with_status, Leaves, Goes, want_of}
 use Rattle.sc_world.specs.Pauses.{IsPause}
 use Rattle.sc_world.proofs.Courses.{rests_here, costs_a_turn}
 
@@ -91,16 +91,19 @@ Behind want texts last n =
     (before : Standing) × (want.before ≤ before.turns) × (taken want before < want.turns) × (last ≡ seen (stepped texts before))
     × (halts want (stepped texts before) ≡ None) × (want.turns ≤ n) × (n ≡ taken want (stepped texts before))
 
-same_halt : (a b : Halt) (m n : Standing) → (a, m) ≡ (b, n) → a ≡ b
+abbrev both : Halt → Standing → Gone
+both halt m = (halt, m)
+
+same_halt : (a b : Halt) (m n : Standing) → both a m ≡ both b n → a ≡ b
 same_halt a b m n p = ap (λ out. out.0) p
 
-same_place : (a b : Halt) (m n : Standing) → (a, m) ≡ (b, n) → m ≡ n
+same_place : (a b : Halt) (m n : Standing) → both a m ≡ both b n → m ≡ n
 same_place a b m n p = ap (λ out. out.1) p
 
 same_turns : (a b : ℕ) → Paused a ≡ Paused b → a ≡ b
 same_turns a b p = cc
 
-here : (h : Option Halt) (want : Want) (texts : List Text) (m last : Standing) (n : ℕ) → halts want (stepped texts m) ≡ h → want.before ≤ m.turns → taken want m < want.turns → want.turns ≤ taken want (stepped texts m) → (halt_or h (Paused (taken want (stepped texts m))), seen (stepped texts m)) ≡ (Paused n, last) → Behind want texts last n
+here : (h : Option Halt) (want : Want) (texts : List Text) (m last : Standing) (n : ℕ) → halts want (stepped texts m) ≡ h → want.before ≤ m.turns → taken want m < want.turns → want.turns ≤ taken want (stepped texts m) → both (halt_or h (Paused (taken want (stepped texts m)))) (seen (stepped texts m)) ≡ both (Paused n) last → Behind want texts last n
 here (Some halt) want texts m last n is since less enough p =
     absurd (never_paused want (stepped texts m) n (is ∙ ap (λ h. Some h) (same_halt halt (Paused n) (seen (stepped texts m)) last p)))
 here None want texts m last n is since less enough p =
@@ -109,9 +112,9 @@ here None want texts m last n is since less enough p =
 
 abbrev From : ℕ → Want → List Text → Standing → ℕ → Type 0
 From k want texts last n =
-    (m : Standing) → want.before ≤ m.turns → taken want m < want.turns → want.before + want.turns ≤ m.turns + k → gone k want texts m ≡ (Paused n, last) → Behind want texts last n
+    (m : Standing) → want.before ≤ m.turns → taken want m < want.turns → want.before + want.turns ≤ m.turns + k → gone k want texts m ≡ both (Paused n) last → Behind want texts last n
 
-further : (b : Bool) (k : ℕ) (want : Want) (texts : List Text) (m last : Standing) (n : ℕ) → nat_le want.turns (taken want (stepped texts m)) ≡ b → want.before ≤ m.turns → taken want m < want.turns → want.before + want.turns ≤ m.turns + suc k → gone k want texts (stepped texts m) ≡ (Paused n, last) → From k want texts last n → Behind want texts last n
+further : (b : Bool) (k : ℕ) (want : Want) (texts : List Text) (m last : Standing) (n : ℕ) → nat_le want.turns (taken want (stepped texts m)) ≡ b → want.before ≤ m.turns → taken want m < want.turns → want.before + want.turns ≤ m.turns + suc k → gone k want texts (stepped texts m) ≡ both (Paused n) last → From k want texts last n → Behind want texts last n
 further true k want texts m last n is since less enough p from =
     here (halts want (stepped texts m)) want texts m last n refl since less (le_is want.turns (taken want (stepped texts m)) is)
     (sym (rests_here k _ want texts (stepped texts m) (used_up (halts want (stepped texts m)) want.turns (taken want (stepped texts m)) is)) ∙ p)
@@ -119,7 +122,7 @@ further false k want texts m last n is since less enough p from =
     let more = costs_a_turn texts m (stepped texts m) refl in
     from (stepped texts m) (omega arith) (less_is want.turns (taken want (stepped texts m)) is) (omega arith) p
 
-pause_on : (r : Option Halt) (k : ℕ) (want : Want) (texts : List Text) (m last : Standing) (n : ℕ) → rests want m ≡ r → want.before ≤ m.turns → taken want m < want.turns → want.before + want.turns ≤ m.turns + suc k → here_or r m (gone k want texts (stepped texts m)) ≡ (Paused n, last) → From k want texts last n → Behind want texts last n
+pause_on : (r : Option Halt) (k : ℕ) (want : Want) (texts : List Text) (m last : Standing) (n : ℕ) → rests want m ≡ r → want.before ≤ m.turns → taken want m < want.turns → want.before + want.turns ≤ m.turns + suc k → here_or r m (gone k want texts (stepped texts m)) ≡ both (Paused n) last → From k want texts last n → Behind want texts last n
 pause_on (Some halt) k want texts m last n is since less enough p from =
     absurd (never_paused want m n (not_yet (halts want m) want.turns (taken want m) (Paused n) less (is ∙ ap (λ h. Some h) (same_halt halt (Paused n) (seen m) last p))))
 pause_on None k want texts m last n is since less enough p from =
@@ -130,18 +133,26 @@ pause_from zero want texts last n = λ m since less enough p. absurd (omega arit
 pause_from (suc k) want texts last n = λ m since less enough p.
     pause_on (rests want m) k want texts m last n refl since less enough p (pause_from k want texts last n)
 
+pause_at : (want : Want) (texts : List Text) (first last : Standing) (n : ℕ) → want.before ≡ first.turns → 0 < want.turns → gone want.turns want texts first ≡ both (Paused n) last → Behind want texts last n
+pause_at want texts first last n begins some p = pause_from want.turns want texts last n first (omega arith) (omega arith) (omega arith) p
+
+pause_of : (want : Want) (texts : List Text) (seen_last last : Standing) (n : ℕ) → closed seen_last ≡ last → Behind want texts seen_last n → IsPause texts want last n
+pause_of want texts seen_last last n is b = record {
+  before = b.0;
+  last_step = sym is ∙ ap closed b.3 ∙ stays_open want (stepped texts b.0) b.4;
+  fewer = b.2;
+  took = b.6;
+  enough = b.5;
+  free = b.4;
+}
+
+leaves_pause : (want : Want) (texts : List Text) (first last : Standing) (halt : Halt) (n : ℕ) → want.before ≡ first.turns → 0 < want.turns → halt ≡ Paused n → Leaves (gone want.turns want texts first) halt (Some last) → IsPause texts want last n
+leaves_pause want texts first last halt n begins some paused left =
+    pause_of want texts (gone want.turns want texts first).1 last n left.1
+    (pause_at want texts first (gone want.turns want texts first).1 n begins some (ap (λ h. both h (gone want.turns want texts first).1) (left.0 ∙ paused)))
+
 -- a go that pauses
 pub pauses : (texts : List Text) (stops : List StopAt) (walk : Walk) (turns : ℕ) (old : Option Standing) (halt : Halt) (new : Option Standing) (first last : Standing) (n : ℕ) → Goes texts stops walk turns old halt new → old ≡ Some first → new ≡ Some last → halt ≡ Paused n → 0 < turns → IsPause texts (want_of stops walk turns first) last n
 pauses texts stops walk turns old halt new first last n goes was is paused some =
-    let want = want_of stops walk turns first in
-    let left = subst (λ o. Goes texts stops walk turns o halt (Some last)) was (subst (λ r. Goes texts stops walk turns old halt r) is goes) in
-    let out = gone turns want texts first in
-    let b = pause_from turns want texts out.1 n first (omega arith) (omega arith) (omega arith) (ap (λ h. (h, out.1)) (left.0 ∙ paused)) in
-    record {
-      before = b.0;
-      last_step = sym left.1 ∙ ap closed b.3 ∙ stays_open want (stepped texts b.0) b.4;
-      fewer = b.2;
-      enough = b.5;
-      took = b.6;
-      free = b.4;
-    }
+    leaves_pause (want_of stops walk turns first) texts first last halt n refl some paused
+    (subst (λ o. Goes texts stops walk turns o halt (Some last)) was (subst (λ r. Goes texts stops walk turns old halt r) is goes))

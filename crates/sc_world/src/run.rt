@@ -1,12 +1,14 @@
 // A run that is kept between goes (ANSI 2.1.2.2, 2.1.2.3).
-ghost use Rattle.std.specs.Prelude.{◌≡◌, IfOk, MatchOption, Some, false, reverse};
+ghost use Rattle.std.specs.Prelude.{◌≡◌, ◌<◌, ℕ, IfOk, MatchOption, Some, false, reverse};
 ghost use Rattle.sc_meaning.specs.Behaviour as behaviour;
 ghost use Rattle.sc_meaning.specs.World as worlds;
 ghost use Rattle.sc_plain.specs.Ends.{end_of, start_of};
 ghost use Rattle.sc_plain_world.specs.Outputs.{output};
-ghost use Rattle.sc_world.specs.Goes.{Goes, started};
+ghost use Rattle.sc_world.specs.Goes.{Goes, started, want_of};
 ghost use Rattle.sc_world.specs.Meant.{IsRunOf};
+ghost use Rattle.sc_world.specs.Pauses.{IsPause};
 ghost use Rattle.sc_world.specs.Standing as standing;
+ghost use Rattle.sc_world.specs.declared.halt.Halt.TheVariants.{Paused};
 
 use crate::begin::{begun, course_of};
 use crate::count::Count;
@@ -82,10 +84,11 @@ impl Run {
     /// which one is set, or at which the walk halts; or the run is over. Before such a place it is paused, where it has taken the turns that
     /// are given. Each step takes one turn, and one more for each byte that a call of the library, a copy of a structure or a birth touches
     /// in it. A run that is over stays as it is.
-    #[tactic(auto, using(crate::proofs::Kept::keeps))]
+    #[tactic(auto, using(crate::proofs::Kept::keeps, crate::proofs::Pauses::pauses))]
     pub fn go(&mut self, texts: &[Text], stops: &[StopAt], walk: Walk, turns: u64) -> Halt
         ensures goes { Goes texts.now stops.now walk turns self.old result self.new }
         ensures meant { (s : behaviour.Start) → IsRunOf s texts.now self.old → IsRunOf s texts.now self.new }
+        ensures pauses { (first last : standing.Standing) (n : ℕ) → self.old ≡ Some first → self.new ≡ Some last → result ≡ Paused n → 0 < turns → IsPause texts.now (want_of stops.now walk turns first) last n }
     {
         let want = Want {
             stops,
