@@ -2,3 +2,4 @@ pub mod NameLemmas
 pub mod PlaceLemmas
 pub mod ShowLemmas
 pub mod GoingLemmas
+pub mod SendingLemmas

@@ -2,3 +2,5 @@ pub mod Courses
 pub mod Exits
 pub mod Kept
 pub mod Places
+pub mod Posting
+pub mod Sending
