@@ -3,3 +3,4 @@ pub mod PlaceLemmas
 pub mod ShowLemmas
 pub mod GoingLemmas
 pub mod ScopesLemmas
+pub mod TakenLemmas
