@@ -59,7 +59,11 @@ def many_stops(folder):
 
 
 def prefixes(folder):
-    text = open(os.path.join(HERE, "..", "examples", "queue", "queue.c"), "rb").read()
+    example = os.path.join(HERE, "..", "examples", "queue")
+    for name in os.listdir(example):
+        if name.endswith(".h"):
+            shutil.copy(os.path.join(example, name), folder)
+    text = open(os.path.join(example, "queue.c"), "rb").read()
     for k in range(len(text) + 1):
         with open(os.path.join(folder, "p%d.c" % k), "wb") as file:
             file.write(text[:k])
