@@ -4,3 +4,4 @@ pub mod ShowLemmas
 pub mod GoingLemmas
 pub mod ScopesLemmas
 pub mod TakenLemmas
+pub mod SendingLemmas

@@ -1,4 +1,5 @@
 -- What a run answers that begins or goes on, and how the session stands behind it.
+use Rattle.std.specs.Io.KnownBytes.{Appends}
 use Rattle.std.specs.Prelude.{◌≡◌, ◌⊎◌, ℕ, Bool, true, false, List, [], ◌∷◌, ◌++◌, length, drop, Option, Some, None, codes, decimal}
 use Rattle.sc_meaning.specs.Behaviour.{Start, main_key}
 use Rattle.sc_meaning.specs.Versions.{Text, Callee, callee_of, Missing}
@@ -24,6 +25,7 @@ use Rattle.sc_world.specs.declared.halt.Halt.{Halt}
 use Rattle.sc_world.specs.declared.halt.Halt.TheVariants as halt
 use Rattle.sc_world.specs.Goes.{Goes, started}
 use Rattle.sc_world.specs.Meant.{IsRunOf}
+use Rattle.sc_world.specs.Sends.{SendsSome}
 use Rattle.sc_world.specs.Standing.{Standing, world_in, EndedSo}
 use Rattle.sc_session.specs.declared.input.Input.{Input}
 use Rattle.sc_session.specs.declared.input.Input.TheVariants as input
@@ -105,6 +107,14 @@ pub record Told (before : ℕ) (h : Halt) (r : Option Standing) (text : List ℕ
   pub says : Says h r world said
   pub whole : text ≡ on_new_line (drop before (output world.trail)) said
 
+-- the same, where the bytes behind the first place and before the second went out in the go: what is left of the text
+pub record ToldBehind (before sent : ℕ) (h : Halt) (r : Option Standing) (text : List ℕ) : Type 0 where
+  pub world : World
+  pub stands : IsWorldOf r world
+  pub said : List ℕ
+  pub says : Says h r world said
+  pub whole : (front : List ℕ) → drop before (output world.trail) ≡ front ++ drop sent (output world.trail) → front ++ text ≡ on_new_line (drop before (output world.trail)) said
+
 -- the state behind a go
 abbrev pub state_after : Halt → Option Standing → State
 state_after halt.Entered r = state.Stopped r
@@ -123,6 +133,22 @@ pub record Went (modules : List Text) (stops : List StopAt) (how : Walk) (turns 
   pub meant : (s : Start) → IsRunOf s modules old → IsRunOf s modules new
   pub told : Told (length (output first.trail)) stops_at new text
   pub follows : after ≡ state_after stops_at new
+
+-- the sink gained some bytes of which this is so
+abbrev pub Gains : Option (List ℕ) → Option (List ℕ) → (List ℕ → Type 0) → Type 0
+Gains old new P = (front : List ℕ) × Appends old new front × P front
+
+-- An answer behind bytes that went out while the command was carried out, by what the answers may be: the bytes are the first of the
+-- text that is told of a go; where no memory was left for that, they are the first that the program writes, or none; and before other answers
+-- none go out.
+abbrev pub Behind : (Answer → Type 0) → (List ℕ → Type 0) → List ℕ → Answer → Type 0
+Behind Answers First front (answer.Ran text) = Answers (answer.Ran (front ++ text))
+Behind Answers First front answer.NoMemory = Answers answer.NoMemory × ((front ≡ []) ⊎ First front)
+Behind Answers First front said = Answers said × (front ≡ [])
+
+-- these are the first bytes that the program writes in a go: a sink that was empty could have just them
+abbrev pub IsFirstOf : List Text → List StopAt → Walk → ℕ → Option Standing → List ℕ → Type 0
+IsFirstOf modules stops how turns r front = SendsSome (Some []) (Some front) modules stops how turns r
 
 -- the run that goes on in a state
 abbrev pub RunsIn : State → Option Standing → Type 0
@@ -152,6 +178,10 @@ Walks session how (answer.Ran text) new = (r : Option Standing) × RunsIn sessio
 Walks session how answer.NoMemory new = IsCutOff session new
 Walks session how _ new = ⊥
 
+-- the first bytes that the program writes as a session's run goes on so
+abbrev pub WalkFirst : Plain → Walk → List ℕ → Type 0
+WalkFirst session how front = (r : Option Standing) × RunsIn session.state r × IsFirstOf session.modules (places session.stops) how session.limits.turns r front
+
 -- the run of a session's program from its start on
 abbrev pub run_of : Plain → List ℕ → Option Standing
 run_of session bytes = Some (started session.modules session.limits.stack session.limits.heap bytes)
@@ -161,3 +191,13 @@ abbrev pub Begins : Plain → List ℕ → List ℕ → Plain → Type 0
 Begins session bytes text new =
     IsRunOf (start_of session.modules session.limits.stack session.limits.heap bytes) session.modules (run_of session bytes)
     × GoesOn session walk.Cont (run_of session bytes) text new
+
+-- the first bytes that it writes there
+abbrev pub BeginFirst : Plain → List ℕ → List ℕ → Type 0
+BeginFirst session bytes front = IsFirstOf session.modules (places session.stops) walk.Cont session.limits.turns (run_of session bytes) front
+
+-- what is answered as it goes from its start on
+abbrev pub BeginsSo : Plain → List ℕ → Answer → Plain → Type 0
+BeginsSo session bytes (answer.Ran text) new = Begins session bytes text new
+BeginsSo session bytes answer.NoMemory new = IsCutOff session new
+BeginsSo session bytes _ new = ⊥

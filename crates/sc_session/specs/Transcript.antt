@@ -1,5 +1,5 @@
 -- What a session answers to each command, and the session behind it.
-use Rattle.std.specs.Prelude.{◌≡◌, ◌⊎◌, ℕ, ◌+◌, true, false, List, [], Option, Some, None}
+use Rattle.std.specs.Prelude.{◌≡◌, ◌⊎◌, ℕ, ◌+◌, Bool, true, false, List, [], ◌++◌, Option, Some, None}
 use Rattle.sc_build.specs.Builds.{Builds, Refuses, IsMissing, IsTooLong, Asks}
 use Rattle.sc_build.specs.declared.building.Built.{Built}
 use Rattle.sc_outside.specs.Causes.{Rose}
@@ -22,7 +22,7 @@ use Rattle.sc_session.specs.States.{refusal_of}
 use Rattle.sc_session.specs.Loading.{file_of, file_or, conflict, numbers_with, with_module, in_place, without, scopes_in, with_scopes, scopes_in_place, scopes_without}
 use Rattle.sc_session.specs.Stopping.{Sets, without_stop}
 use Rattle.sc_session.specs.Showing.{Lists, ShowsCalls, ShowsValue}
-use Rattle.sc_session.specs.Going.{in_state, has_main, IsInput, InputDenied, IsCutOff, Walks, Begins}
+use Rattle.sc_session.specs.Going.{in_state, has_main, IsInput, InputDenied, IsCutOff, Behind, Gains, Walks, WalkFirst, Begins, BeginFirst}
 
 -- A session between two commands, what the files hold then where they tell it, and how often they have failed.
 pub record Moment : Type 0 where
@@ -147,6 +147,10 @@ Runs old file (answer.Refused d) new = Leaves old new old.session × RunDenied o
 Runs old file answer.NoMemory new = (new.held ≡ old.held) × IsCutOff old.session new.session
 Runs old file _ new = ⊥
 
+-- the first bytes that the program writes as it is run so
+abbrev pub RunFirst : Moment → Option (List ℕ) → List ℕ → Type 0
+RunFirst old file front = (bytes : List ℕ) × IsInput old.held file bytes × BeginFirst old.session bytes front
+
 -- a command that looks at no file
 abbrev pub SameFiles : Moment → Moment → Type 0
 SameFiles old new = (new.held ≡ old.held) × (new.faults ≡ old.faults)
@@ -189,3 +193,31 @@ Decides None old c said new = Carried old c said new
 abbrev pub AnswersTo : Moment → Command → Answer → Moment → Type 0
 AnswersTo old c said new =
     Decides (refusal_of (asked c old.session) c) (moment (asked c old.session) old.held old.faults) c said new
+
+-- a command that lets the program go on
+abbrev pub is_go : Command → Bool
+is_go (command.Run file) = true
+is_go command.Step = true
+is_go command.Next = true
+is_go command.Cont = true
+is_go _ = false
+
+-- the first bytes that the program writes as a command lets it go on
+abbrev pub GoFirst : Moment → Command → List ℕ → Type 0
+GoFirst old (command.Run file) front = RunFirst old file front
+GoFirst old command.Step front = WalkFirst old.session walk.Step front
+GoFirst old command.Next front = WalkFirst old.session walk.Next front
+GoFirst old command.Cont front = WalkFirst old.session walk.Cont front
+GoFirst old _ front = ⊥
+
+-- the answer behind bytes that went out while the command was carried out
+abbrev pub SaysBehind : Moment → Command → List ℕ → Answer → Moment → Type 0
+SaysBehind old c front said new = Behind (λ said. AnswersTo old c said new) (GoFirst old c) front said
+
+-- A command that lets no program go on sends nothing.
+abbrev pub Speaks : Option (List ℕ) → Option (List ℕ) → Moment → Command → Answer → Moment → Type 0
+Speaks sink gained old c said new = Gains sink gained (λ front. SaysBehind old c front said new × (is_go c ≡ false → front ≡ []))
+
+-- The program's bytes could not be written: the sink has the first of them.
+abbrev pub BreaksOff : Option (List ℕ) → Option (List ℕ) → Moment → Command → Type 0
+BreaksOff sink gained old c = Gains sink gained (λ front. GoFirst old c front)

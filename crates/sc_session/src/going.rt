@@ -1,23 +1,28 @@
 // A run of a session goes on.
-ghost use Rattle.std.specs.Prelude.{◌≡◌, ◌++◌, drop, Some, IfOk, codes, decimal};
+ghost use Rattle.std.specs.Prelude.{◌≡◌, ◌≤◌, ◌++◌, ℕ, List, drop, Err, Some, IfOk, OnErr, codes, decimal};
 ghost use Rattle.sc_meaning.specs.Behaviour.{main_key};
 ghost use Rattle.sc_meaning.specs.Versions.{callee_of};
+ghost use Rattle.sc_outside.specs.Causes.{Rose};
+ghost use Rattle.sc_reports.specs.Ends as ends;
 ghost use Rattle.sc_reports.specs.Words.{key_text};
 ghost use Rattle.sc_session.specs.Going as spec;
+ghost use Rattle.sc_session.specs.declared.going.Lost.TheVariants as lost;
+ghost use Rattle.sc_world.specs.declared.post.Unsent.TheVariants as unsent;
 
 use crate::state::State;
 use sc_base::{Bytes, Key, Name, NoMemory};
+use sc_outside::Sink;
 use sc_plain::Ended;
 use sc_plain_parts::{Callee, Text, callee_of};
 use sc_plain_world::{Frame, World};
-use sc_reports::{on_new_line, put, put_decimal, put_key, stop_text};
+use sc_reports::{put, put_decimal, put_key, stop_text};
 use sc_words::{StopAt, Walk};
-use sc_world::{Halt, Run};
+use sc_world::{Halt, Halted, Run, Unsent, behind};
 use std::alloc::Global;
 
-/// A go's text, and the state behind it.
+/// What is told of a go, and the state behind it.
 #[derive(Drop)]
-pub struct Halted {
+pub struct Told {
     pub text: Bytes,
     pub state: State,
 }
@@ -131,24 +136,42 @@ fn said(alloc: Global, halt: Halt, run: &Run, world: &World) -> Result<Vec<u8>, 
     }
 }
 
-// What stands behind the first bytes.
-fn behind(bytes: &[u8], before: usize) -> &[u8]
-    ensures { result.now ≡ drop before bytes.now }
+// A line that is not ended yet is ended before an answer.
+fn line_end_after(bytes: &[u8]) -> &'static [u8]
+    ensures { result.now ≡ ends.line_end_after bytes.now }
 {
-    if before >= bytes.len() {
-        return b"";
+    match bytes.last() {
+        None => b"",
+        Some(b) => { if *b == 10 { b"" } else { b"\n" } }
     }
-    let (_, rest) = bytes.split_at(before);
-    rest
 }
 
-// The text on a go behind which the run stands here, where so many bytes had been written before it.
-fn told(alloc: Global, before: usize, halt: Halt, run: &Run) -> Result<Bytes, NoMemory>
-    ensures { IfOk result (λ text. spec.Told before halt run.now text) }
+// What a go wrote and did not send yet, and the answer's line behind all that it wrote.
+fn rest_on_new_line(
+    alloc: Global,
+    shown: &[u8],
+    waiting: &[u8],
+    said: &[u8],
+) -> Result<Vec<u8>, NoMemory>
+    ensures { IfOk result (λ text. (front : List ℕ) → shown.now ≡ front ++ waiting.now → front ++ text.items ≡ ends.on_new_line shown.now said.now) }
+{
+    let mut text = Vec::from_slice(alloc, waiting)?;
+    put(&mut text, line_end_after(shown))?;
+    put(&mut text, b"> ")?;
+    put(&mut text, said)?;
+    put(&mut text, b"\n")?;
+    Ok(text)
+}
+
+// The text on a go that halted so, behind what went out of it: the run stands here, and so many bytes had been written before.
+fn told(alloc: Global, before: usize, halted: Halted, run: &Run) -> Result<Bytes, NoMemory>
+    ensures { IfOk result (λ text. spec.ToldBehind before halted.sent halted.halt run.now text) }
 {
     let world = run.world();
-    let said = said(alloc, halt, run, world)?;
-    let text = on_new_line(alloc, behind(world.output(), before), said.as_slice())?;
+    let said = said(alloc, halted.halt, run, world)?;
+    let shown = behind(world.output(), before);
+    let waiting = behind(world.output(), halted.sent);
+    let text = rest_on_new_line(alloc, shown, waiting, said.as_slice())?;
     Ok(Bytes::from_vec(text))
 }
 
@@ -166,27 +189,47 @@ fn state_after(halt: Halt, run: Run) -> State
     }
 }
 
-/// One go of a run: what is told of it, and the state behind it.
-pub fn gone(
+/// Why nothing is told of a go: no memory was left, or what the program wrote did not go out.
+#[derive(Clone, Copy)]
+pub enum Lost {
+    NoMemory,
+    Unsent(Unsent),
+}
+
+/// One go of a run: what is told of it behind what it sent, and the state behind it.
+///
+/// # Errors
+///
+/// `Lost`; the run is let go then. The sink has the first of what the program writes in the go.
+pub fn gone<K: Sink>(
     alloc: Global,
     texts: &[Text],
     stops: &[StopAt],
     walk: Walk,
     turns: u64,
     mut run: Run,
-) -> Result<Halted, NoMemory>
-    ensures { IfOk result (λ g. spec.Went texts.now stops.now walk turns run g.text g.state) }
+    out: &mut K,
+) -> Result<Told, Lost>
+    ensures went { IfOk result (λ g. spec.Gains (K.written out.old) (K.written out.new) (λ front. spec.Went texts.now stops.now walk turns run (front ++ g.text) g.state)) }
+    ensures lost { OnErr result (spec.Gains (K.written out.old) (K.written out.new) (λ front. spec.IsFirstOf texts.now stops.now walk turns run front)) }
+    ensures later { K.faults out.old ≤ K.faults out.new }
+    ensures failed { result ≡ Err (lost.Unsent unsent.Failed) → Rose (K.faults out.old) (K.faults out.new) }
 {
     let before = run.world().output().len();
-    let halt = run.go(texts, stops, walk, turns);
-    match told(alloc, before, halt, &run) {
-        Ok(text) => Ok(Halted {
-            text,
-            state: state_after(halt, run),
-        }),
-        Err(_) => {
+    match run.go(texts, stops, walk, turns, out) {
+        Ok(halted) => match told(alloc, before, halted, &run) {
+            Ok(text) => Ok(Told {
+                text,
+                state: state_after(halted.halt, run),
+            }),
+            Err(_) => {
+                drop(run);
+                Err(Lost::NoMemory)
+            }
+        },
+        Err(unsent) => {
             drop(run);
-            Err(NoMemory)
+            Err(Lost::Unsent(unsent))
         }
     }
 }

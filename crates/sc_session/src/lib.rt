@@ -12,4 +12,5 @@ mod session;
 mod state;
 mod stops;
 
-pub use session::Session;
+pub use sc_world::Unsent;
+pub use session::{Session, is_go};

@@ -1,6 +1,7 @@
 // A session: the modules that are present, the stops, a run, and the commands that change them.
-ghost use Rattle.std.specs.Prelude.{◌≡◌, ◌≤◌, ℕ, List, Option, true, false, None, Err, OnErr, IfOk, string_bytes};
+ghost use Rattle.std.specs.Prelude.{◌≡◌, ◌≤◌, ℕ, List, Option, true, false, None, Err, IfOk, MatchResult, string_bytes};
 ghost use Rattle.sc_build.specs.Builds.{Answers};
+ghost use Rattle.sc_outside.specs.Causes.{Rose};
 ghost use Rattle.sc_outside.specs.Stored.{FileMap};
 ghost use Rattle.sc_words.specs.Commands.{IsNamed, IsFile};
 ghost use Rattle.sc_words.specs.Parts.{is_module_name};
@@ -12,9 +13,10 @@ ghost use Rattle.sc_session.specs.Showing as showing;
 ghost use Rattle.sc_session.specs.States.{refusal_of};
 ghost use Rattle.sc_session.specs.Stopping as stopping;
 ghost use Rattle.sc_session.specs.Transcript as spec;
-ghost use Rattle.sc_session.specs.Transcript.{moment, AnswersTo, Carried};
+ghost use Rattle.sc_session.specs.Transcript.{moment, BreaksOff, Carried, Speaks};
+ghost use Rattle.sc_world.specs.declared.post.Unsent.TheVariants as unsent;
 
-use crate::going::{gone, has_main, run_in, run_out_of};
+use crate::going::{Lost, gone, has_main, run_in, run_out_of};
 use crate::input::{Input, file_text, input_of};
 use crate::joining::{Taken, take_anew, take_away, take_new};
 use crate::limits::Limits;
@@ -25,12 +27,12 @@ use crate::state::{State, put_state};
 use crate::stops::{Stop, delete_stop, places, put_stop};
 use sc_base::{Bytes, Duplicate, Items, Name, NoMemory};
 use sc_build::{BuildFault, Built, build};
-use sc_outside::Files;
+use sc_outside::{Files, Sink};
 use sc_plain_parts::Text;
 use sc_scopes::ModuleScopes;
 use sc_show::Numbers;
 use sc_words::{Answer, Command, Denied, Options, StopAt, Walk};
-use sc_world::Run;
+use sc_world::{Run, Unsent};
 use std::alloc::Global;
 use std::marker::Model;
 use std::mem;
@@ -99,11 +101,25 @@ impl Session {
         drop(self);
     }
 
-    /// Carries out a command. A refused one leaves the session as it was, but that `run` forgets a run that ended.
-    pub fn carry_out<F: Files>(&mut self, alloc: Global, command: Command, files: &mut F) -> Answer
+    /// Carries out a command. A refused one leaves the session as it was, but that `run` forgets a run that ended. What the program
+    /// writes goes out while it goes on, whenever much of it waits: the answer is what is left to be written behind it.
+    ///
+    /// # Errors
+    ///
+    /// `Unsent` where that could not be written.
+    pub fn carry_out<K: Sink, F: Files>(
+        &mut self,
+        alloc: Global,
+        command: Command,
+        out: &mut K,
+        files: &mut F,
+    ) -> Result<Answer, Unsent>
         requires named { IsNamed command }
         requires running { self.old.over ≡ false }
-        ensures step { AnswersTo (moment self.old (F.held files.old) (F.faults files.old)) command result (moment self.new (F.held files.new) (F.faults files.new)) }
+        ensures step { MatchResult result (λ said. Speaks (K.written out.old) (K.written out.new) (moment self.old (F.held files.old) (F.faults files.old)) command said (moment self.new (F.held files.new) (F.faults files.new)))
+            (λ _. BreaksOff (K.written out.old) (K.written out.new) (moment self.old (F.held files.old) (F.faults files.old)) command) }
+        ensures out_later { K.faults out.old ≤ K.faults out.new }
+        ensures failed { result ≡ Err unsent.Failed → Rose (K.faults out.old) (K.faults out.new) }
         ensures later { F.faults files.old ≤ F.faults files.new }
         ensures held { F.held files.new ≡ F.held files.old }
     {
@@ -111,9 +127,15 @@ impl Session {
         match self.refusal(&command) {
             Some(denied) => {
                 drop(command);
-                Answer::Refused(denied)
+                Ok(Answer::Refused(denied))
             }
-            None => self.carry(alloc, command, files),
+            None => {
+                if is_go(&command) {
+                    self.go_on(alloc, command, out, files)
+                } else {
+                    Ok(self.carry(alloc, command, files))
+                }
+            }
         }
     }
 
@@ -159,10 +181,11 @@ impl Session {
         }
     }
 
-    // Carries out a command that is not refused.
+    // Carries out a command that is not refused, and lets no program go on.
     fn carry<F: Files>(&mut self, alloc: Global, command: Command, files: &mut F) -> Answer
         requires named { IsNamed command }
         requires allowed { refusal_of self.old command ≡ None }
+        requires quiet { spec.is_go command ≡ false }
         ensures step { Carried (moment self.old (F.held files.old) (F.faults files.old)) command result (moment self.new (F.held files.new) (F.faults files.new)) }
         ensures later { F.faults files.old ≤ F.faults files.new }
         ensures held { F.held files.new ≡ F.held files.old }
@@ -174,17 +197,56 @@ impl Session {
             Command::Load(name) => self.load(alloc, name, files),
             Command::Unload(name) => self.unload(name),
             Command::Edit(name, file) => self.edit(alloc, name, file, files),
-            Command::Run(file) => self.run(alloc, file, files),
+            Command::Run(_) => unreachable!(),
             Command::Stop(place) => self.stop(alloc, place),
             Command::Delete(k) => self.delete(k),
-            Command::Step => self.walk(alloc, Walk::Step),
-            Command::Next => self.walk(alloc, Walk::Next),
-            Command::Cont => self.walk(alloc, Walk::Cont),
+            Command::Step => unreachable!(),
+            Command::Next => unreachable!(),
+            Command::Cont => unreachable!(),
             Command::Frames => self.frames(alloc),
             Command::Print(name) => self.print(alloc, name),
             Command::List => self.list(alloc),
             Command::Reset => self.reset(),
             Command::Quit => self.quit(),
+        }
+    }
+
+    // Lets the program go on, as a command that is not refused asks for.
+    fn go_on<K: Sink, F: Files>(
+        &mut self,
+        alloc: Global,
+        command: Command,
+        out: &mut K,
+        files: &mut F,
+    ) -> Result<Answer, Unsent>
+        requires named { IsNamed command }
+        requires allowed { refusal_of self.old command ≡ None }
+        requires goes { spec.is_go command ≡ true }
+        ensures step { MatchResult result (λ said. going.Gains (K.written out.old) (K.written out.new) (λ front. going.Behind (λ said. Carried (moment self.old (F.held files.old) (F.faults files.old)) command said (moment self.new (F.held files.new) (F.faults files.new))) (spec.GoFirst (moment self.old (F.held files.old) (F.faults files.old)) command) front said))
+            (λ _. BreaksOff (K.written out.old) (K.written out.new) (moment self.old (F.held files.old) (F.faults files.old)) command) }
+        ensures out_later { K.faults out.old ≤ K.faults out.new }
+        ensures failed { result ≡ Err unsent.Failed → Rose (K.faults out.old) (K.faults out.new) }
+        ensures later { F.faults files.old ≤ F.faults files.new }
+        ensures held { F.held files.new ≡ F.held files.old }
+    {
+        match command {
+            Command::Run(file) => self.run(alloc, file, out, files),
+            Command::Step => self.walk(alloc, Walk::Step, out),
+            Command::Next => self.walk(alloc, Walk::Next, out),
+            Command::Cont => self.walk(alloc, Walk::Cont, out),
+            Command::Nothing => unreachable!(),
+            Command::Unknown => unreachable!(),
+            Command::BadArguments => unreachable!(),
+            Command::Load(_) => unreachable!(),
+            Command::Unload(_) => unreachable!(),
+            Command::Edit(_, _) => unreachable!(),
+            Command::Stop(_) => unreachable!(),
+            Command::Delete(_) => unreachable!(),
+            Command::Frames => unreachable!(),
+            Command::Print(_) => unreachable!(),
+            Command::List => unreachable!(),
+            Command::Reset => unreachable!(),
+            Command::Quit => unreachable!(),
         }
     }
 
@@ -284,12 +346,15 @@ impl Session {
     }
 
     // The run goes on from where it stands.
-    fn walk(&mut self, alloc: Global, walk: Walk) -> Answer
+    fn walk<K: Sink>(&mut self, alloc: Global, walk: Walk, out: &mut K) -> Result<Answer, Unsent>
         requires { going.IsGoing self.old.state }
-        ensures { going.Walks self.old walk result self.new }
+        ensures walks { MatchResult result (λ said. going.Gains (K.written out.old) (K.written out.new) (λ front. going.Behind (λ said. going.Walks self.old walk said self.new) (going.WalkFirst self.old walk) front said))
+            (λ _. going.Gains (K.written out.old) (K.written out.new) (λ front. going.WalkFirst self.old walk front)) }
+        ensures later { K.faults out.old ≤ K.faults out.new }
+        ensures failed { result ≡ Err unsent.Failed → Rose (K.faults out.old) (K.faults out.new) }
     {
         let Ok(stops) = places(alloc, self.stops.as_slice()) else {
-            return Answer::NoMemory;
+            return Ok(Answer::NoMemory);
         };
         let run = run_out_of(mem::replace(&mut self.state, State::Ended));
         match gone(
@@ -299,66 +364,100 @@ impl Session {
             walk,
             self.limits.turns,
             run,
+            out,
         ) {
-            Ok(gone) => {
-                put_state(&mut self.state, gone.state);
-                Answer::Ran(gone.text)
+            Ok(told) => {
+                put_state(&mut self.state, told.state);
+                Ok(Answer::Ran(told.text))
             }
-            Err(_) => Answer::NoMemory,
+            Err(Lost::NoMemory) => Ok(Answer::NoMemory),
+            Err(Lost::Unsent(unsent)) => Err(unsent),
         }
     }
 
-    fn run<F: Files>(&mut self, alloc: Global, file: Option<Name>, files: &mut F) -> Answer
+    fn run<K: Sink, F: Files>(
+        &mut self,
+        alloc: Global,
+        file: Option<Name>,
+        out: &mut K,
+        files: &mut F,
+    ) -> Result<Answer, Unsent>
         requires { IsFile file }
-        ensures answer { spec.Runs (moment self.old (F.held files.old) (F.faults files.old)) file result (moment self.new (F.held files.new) (F.faults files.new)) }
+        ensures runs { MatchResult result (λ said. going.Gains (K.written out.old) (K.written out.new) (λ front. going.Behind (λ said. spec.Runs (moment self.old (F.held files.old) (F.faults files.old)) file said (moment self.new (F.held files.new) (F.faults files.new))) (spec.RunFirst (moment self.old (F.held files.old) (F.faults files.old)) file) front said))
+            (λ _. going.Gains (K.written out.old) (K.written out.new) (λ front. spec.RunFirst (moment self.old (F.held files.old) (F.faults files.old)) file front)) }
+        ensures out_later { K.faults out.old ≤ K.faults out.new }
+        ensures failed { result ≡ Err unsent.Failed → Rose (K.faults out.old) (K.faults out.new) }
         ensures later { F.faults files.old ≤ F.faults files.new }
         ensures held { F.held files.new ≡ F.held files.old }
     {
         match has_main(alloc, self.texts.as_slice()) {
-            Ok(true) => self.run_with(alloc, file, files),
-            Ok(false) => Answer::Refused(Denied::NoMain),
-            Err(_) => Answer::NoMemory,
+            Ok(true) => self.run_with(alloc, file, out, files),
+            Ok(false) => Ok(Answer::Refused(Denied::NoMain)),
+            Err(_) => Ok(Answer::NoMemory),
         }
     }
 
     // Runs a program that has a `main`.
-    fn run_with<F: Files>(&mut self, alloc: Global, file: Option<Name>, files: &mut F) -> Answer
+    fn run_with<K: Sink, F: Files>(
+        &mut self,
+        alloc: Global,
+        file: Option<Name>,
+        out: &mut K,
+        files: &mut F,
+    ) -> Result<Answer, Unsent>
         requires file { IsFile file }
         requires main { going.has_main self.old.modules ≡ true }
-        ensures answer { spec.Runs (moment self.old (F.held files.old) (F.faults files.old)) file result (moment self.new (F.held files.new) (F.faults files.new)) }
+        ensures runs { MatchResult result (λ said. going.Gains (K.written out.old) (K.written out.new) (λ front. going.Behind (λ said. spec.Runs (moment self.old (F.held files.old) (F.faults files.old)) file said (moment self.new (F.held files.new) (F.faults files.new))) (spec.RunFirst (moment self.old (F.held files.old) (F.faults files.old)) file) front said))
+            (λ _. going.Gains (K.written out.old) (K.written out.new) (λ front. spec.RunFirst (moment self.old (F.held files.old) (F.faults files.old)) file front)) }
+        ensures out_later { K.faults out.old ≤ K.faults out.new }
+        ensures failed { result ≡ Err unsent.Failed → Rose (K.faults out.old) (K.faults out.new) }
         ensures later { F.faults files.old ≤ F.faults files.new }
         ensures held { F.held files.new ≡ F.held files.old }
     {
         match input_of(alloc, &file, files) {
-            Input::Bytes(bytes) => match self.start(alloc, bytes) {
-                Ok(text) => Answer::Ran(text),
-                Err(_) => Answer::NoMemory,
-            },
-            Input::Denied(denied) => Answer::Refused(denied),
-            Input::NoMemory => Answer::NoMemory,
+            Input::Bytes(bytes) => self.start(alloc, bytes, out),
+            Input::Denied(denied) => Ok(Answer::Refused(denied)),
+            Input::NoMemory => Ok(Answer::NoMemory),
         }
     }
 
     // The run of the program goes from its start on.
-    fn start(&mut self, alloc: Global, input: Items<u8>) -> Result<Bytes, NoMemory>
-        ensures ok { IfOk result (λ text. going.Begins self.old input text self.new) }
-        ensures err { OnErr result (going.IsCutOff self.old self.new) }
+    fn start<K: Sink>(
+        &mut self,
+        alloc: Global,
+        input: Items<u8>,
+        out: &mut K,
+    ) -> Result<Answer, Unsent>
+        ensures begins { MatchResult result (λ said. going.Gains (K.written out.old) (K.written out.new) (λ front. going.Behind (λ said. going.BeginsSo self.old input said self.new) (going.BeginFirst self.old input) front said))
+            (λ _. going.Gains (K.written out.old) (K.written out.new) (λ front. going.BeginFirst self.old input front)) }
+        ensures later { K.faults out.old ≤ K.faults out.new }
+        ensures failed { result ≡ Err unsent.Failed → Rose (K.faults out.old) (K.faults out.new) }
     {
-        let stops = places(alloc, self.stops.as_slice())?;
+        let Ok(stops) = places(alloc, self.stops.as_slice()) else {
+            return Ok(Answer::NoMemory);
+        };
         let stack = u64::from(self.limits.stack);
         let heap = u64::from(self.limits.heap);
-        let run = Run::start(alloc, self.texts.as_slice(), stack, heap, input)?;
+        let Ok(run) = Run::start(alloc, self.texts.as_slice(), stack, heap, input) else {
+            return Ok(Answer::NoMemory);
+        };
         put_state(&mut self.state, State::Ended);
-        let gone = gone(
+        match gone(
             alloc,
             self.texts.as_slice(),
             stops.as_slice(),
             Walk::Cont,
             self.limits.turns,
             run,
-        )?;
-        put_state(&mut self.state, gone.state);
-        Ok(gone.text)
+            out,
+        ) {
+            Ok(told) => {
+                put_state(&mut self.state, told.state);
+                Ok(Answer::Ran(told.text))
+            }
+            Err(Lost::NoMemory) => Ok(Answer::NoMemory),
+            Err(Lost::Unsent(unsent)) => Err(unsent),
+        }
     }
 
     fn load<F: Files>(&mut self, alloc: Global, name: Name, files: &mut F) -> Answer
@@ -506,6 +605,16 @@ impl Session {
             }
         }
     }
+}
+
+/// Whether a command lets the program go on.
+pub fn is_go(command: &Command) -> bool
+    ensures { result ≡ spec.is_go command.now }
+{
+    matches!(
+        command,
+        Command::Run(_) | Command::Step | Command::Next | Command::Cont
+    )
 }
 
 // The file of a module.

@@ -1,6 +1,7 @@
 // Worked programs that stop and go on, with the places where they halt.
 use crate::reader::{Reader, name};
 use sc_base::{Items, NoMemory};
+use sc_outside::MemSink;
 use sc_plain::Ended;
 use sc_plain_parts::Text;
 use sc_words::{StopAt, Walk};
@@ -52,10 +53,14 @@ fn places_of(
     stops: &[StopAt],
     walks: &str,
 ) -> Result<Vec<i64>, NoMemory> {
+    let mut sink = MemSink::new(alloc, Vec::new(alloc));
     let mut places = Vec::new(alloc);
     for walk in walks.as_bytes() {
-        let halt = run.go(texts, stops, walk_of(*walk), 10_000);
-        places.push(place(run, halt))?;
+        let place = match run.go(texts, stops, walk_of(*walk), 10_000, &mut sink) {
+            Ok(halted) => place(run, halted.halt),
+            Err(_) => -4,
+        };
+        places.push(place)?;
     }
     Ok(places)
 }

@@ -3,3 +3,5 @@ pub mod Exits
 pub mod Kept
 pub mod Places
 pub mod Pauses
+pub mod Posting
+pub mod Sending

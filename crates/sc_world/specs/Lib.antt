@@ -4,5 +4,7 @@ pub mod Wants
 pub mod Costs
 pub mod Goes
 pub mod Pauses
+pub mod Posts
+pub mod Sends
 pub mod Turns
 pub mod Meant

@@ -13,6 +13,8 @@ use Rattle.sc_world.specs.declared.cost.Before.{Before}
 use Rattle.sc_world.specs.declared.count.Count.{Count}
 use Rattle.sc_world.specs.declared.halt.Halt.{Halt}
 use Rattle.sc_world.specs.declared.halt.Halt.TheVariants.{Ended}
+use Rattle.sc_world.specs.declared.turn.Turned.{Turned}
+use Rattle.sc_world.specs.declared.turn.Turned.TheVariants as turned
 use Rattle.sc_world.specs.Standing.{Standing, state_of, world_of}
 use Rattle.sc_world.specs.Costs.{is_call}
 
@@ -29,6 +31,6 @@ Onward m (Ok now) g cs w c = m ≡ standing_at (state_of g cs w) now c
 Onward m (Err stop) g cs w c = (e : Ending) → ending_of stop w ≡ Some e → m ≡ standing_at (Ends e) Nothing c
 
 -- where all the turns bring a run
-abbrev pub Comes : Halt × Standing → Result Halt Stop → Going → List Caller → World → Count → Type 0
-Comes out (Ok halt) g cs w c = out ≡ (halt, standing_at (state_of g cs w) Nothing c)
-Comes out (Err stop) g cs w c = (e : Ending) → ending_of stop w ≡ Some e → out ≡ (Ended, standing_at (Ends e) Nothing c)
+abbrev pub Comes : Halt × Standing → Turned → Going → List Caller → World → Count → Type 0
+Comes out (turned.Rests halt) g cs w c = out ≡ (halt, standing_at (state_of g cs w) Nothing c)
+Comes out (turned.Over stop) g cs w c = (e : Ending) → ending_of stop w ≡ Some e → out ≡ (Ended, standing_at (Ends e) Nothing c)

@@ -10,3 +10,10 @@ pub enum Halt {
     Ended,
     Paused(u64),
 }
+
+/// What a go comes to: why it halts, and how many bytes of all that the program wrote went out.
+#[derive(Clone, Copy)]
+pub struct Halted {
+    pub halt: Halt,
+    pub sent: usize,
+}

@@ -8,9 +8,11 @@ mod course;
 mod declaring;
 mod halt;
 mod look;
+mod post;
 mod rest;
 mod run;
 mod turn;
 
-pub use halt::Halt;
+pub use halt::{Halt, Halted};
+pub use post::{MANY, Unsent, behind};
 pub use run::Run;

@@ -1,22 +1,28 @@
 // Where a go leaves a run.
-ghost use Rattle.std.specs.Prelude.{◌≡◌, []};
+ghost use Rattle.std.specs.Prelude.{◌≡◌, ◌≤◌, [], Err, IfOk, MatchResult, length};
 ghost use Rattle.sc_meaning.specs.World as worlds;
 ghost use Rattle.sc_machine.specs.Runs as runs;
 ghost use Rattle.sc_plain.specs.Ends.{end_of};
 ghost use Rattle.sc_plain.specs.declared.stepped.Shown.TheVariants.{Nothing};
 ghost use Rattle.sc_plain_leaves.specs.Gives.{ending_of};
+ghost use Rattle.sc_plain_world.specs.Outputs.{output};
+ghost use Rattle.sc_outside.specs.Causes.{Rose};
 ghost use Rattle.sc_world.specs.Goes as goes;
+ghost use Rattle.sc_world.specs.Sends.{Sends, SendsFirst, SendsSome, SendsTo};
 ghost use Rattle.sc_world.specs.Standing as standing;
 ghost use Rattle.sc_world.specs.Turns.{Comes, standing_at};
 ghost use Rattle.sc_world.specs.declared.course.Course.TheVariants.{On};
+ghost use Rattle.sc_world.specs.declared.post.Unsent.TheVariants as unsent;
 ghost use Rattle.sc_world.specs.declared.count.Count as counts;
 
 use crate::count::Count;
 use crate::course::Course;
 use crate::halt::Halt;
 use crate::look::Want;
-use crate::turn::turns_taken;
+use crate::post::Unsent;
+use crate::turn::{Turned, turns_taken};
 use sc_base::Stack;
+use sc_outside::Sink;
 use sc_plain::{Caller, Ended, Going, Shown, status_of};
 use sc_plain_leaves::Stop;
 use sc_plain_parts::Text;
@@ -95,17 +101,12 @@ fn closed(halt: Halt, going: Going, callers: &Stack<Caller>, world: &mut World) 
 }
 
 // What the turns of a go came to.
-fn left_by(
-    given: Result<Halt, Stop>,
-    going: Going,
-    callers: &Stack<Caller>,
-    world: &mut World,
-) -> Rested
-    ensures { (c : counts.Count) (out : goes.Gone) → Comes out given going callers.now world.old c → goes.Leaves out result.halt (standing.standing result.course callers.now world.new c) }
+fn left_by(turned: Turned, going: Going, callers: &Stack<Caller>, world: &mut World) -> Rested
+    ensures { (c : counts.Count) (out : goes.Gone) → Comes out turned going callers.now world.old c → goes.Leaves out result.halt (standing.standing result.course callers.now world.new c) }
 {
-    match given {
-        Ok(halt) => closed(halt, going, callers, world),
-        Err(stop) => {
+    match turned {
+        Turned::Rests(halt) => closed(halt, going, callers, world),
+        Turned::Over(stop) => {
             drop(going);
             Rested {
                 halt: Halt::Ended,
@@ -116,7 +117,7 @@ fn left_by(
 }
 
 // A go of a run that goes on.
-fn goes_on(
+fn goes_on<K: Sink>(
     texts: &[Text],
     want: &Want,
     shown: Shown,
@@ -124,29 +125,50 @@ fn goes_on(
     callers: &mut Stack<Caller>,
     count: &mut Count,
     world: &mut World,
-) -> Rested
-    ensures { want.now.before ≡ count.old.turns → goes.Leaves (goes.gone want.now.turns want.now texts.now (standing_at (standing.state_of going callers.old world.old) shown count.old)) result.halt (standing.standing result.course callers.new world.new count.new) }
+    sent: &mut usize,
+    out: &mut K,
+) -> Result<Rested, Unsent>
+    ensures goes { want.now.before ≡ count.old.turns → IfOk result (λ r. goes.Leaves (goes.gone want.now.turns want.now texts.now (standing_at (standing.state_of going callers.old world.old) shown count.old)) r.halt (standing.standing r.course callers.new world.new count.new)) }
+    ensures sends { want.now.before ≡ count.old.turns → sent.old ≡ length (output world.old.trail) → MatchResult result (λ r. SendsTo (K.written out.old) (K.written out.new) want.now texts.now (standing_at (standing.state_of going callers.old world.old) shown count.old) sent.new (standing.standing r.course callers.new world.new count.new)) (λ _. SendsFirst (K.written out.old) (K.written out.new) want.now texts.now (standing_at (standing.state_of going callers.old world.old) shown count.old)) }
+    ensures later { K.faults out.old ≤ K.faults out.new }
+    ensures failed { result ≡ Err unsent.Failed → Rose (K.faults out.old) (K.faults out.new) }
 {
-    let given = turns_taken(texts, want, shown, &mut going, callers, count, world);
-    left_by(given, going, callers, world)
+    match turns_taken(texts, want, shown, &mut going, callers, count, world, sent, out) {
+        Ok(turned) => Ok(left_by(turned, going, callers, world)),
+        Err(unsent) => {
+            drop(going);
+            Err(unsent)
+        }
+    }
 }
 
 /// A go of a run. One that is over stays so.
-pub fn goes_from(
+///
+/// # Errors
+///
+/// `Unsent` where what the program wrote could not be written.
+pub fn goes_from<K: Sink>(
     course: Course,
     texts: &[Text],
     want: &Want,
     callers: &mut Stack<Caller>,
     count: &mut Count,
     world: &mut World,
-) -> Rested
-    ensures { want.now.since ≡ world.old.enters → want.now.before ≡ count.old.turns → goes.Goes texts.now want.now.stops want.now.walk want.now.turns (standing.standing course callers.old world.old count.old) result.halt (standing.standing result.course callers.new world.new count.new) }
+    sent: &mut usize,
+    out: &mut K,
+) -> Result<Rested, Unsent>
+    ensures goes { want.now.since ≡ world.old.enters → want.now.before ≡ count.old.turns → IfOk result (λ r. goes.Goes texts.now want.now.stops want.now.walk want.now.turns (standing.standing course callers.old world.old count.old) r.halt (standing.standing r.course callers.new world.new count.new)) }
+    ensures sends { want.now.since ≡ world.old.enters → want.now.before ≡ count.old.turns → sent.old ≡ length (output world.old.trail) → MatchResult result (λ r. Sends (K.written out.old) (K.written out.new) texts.now want.now.stops want.now.walk want.now.turns (standing.standing course callers.old world.old count.old) sent.new (standing.standing r.course callers.new world.new count.new)) (λ _. SendsSome (K.written out.old) (K.written out.new) texts.now want.now.stops want.now.walk want.now.turns (standing.standing course callers.old world.old count.old)) }
+    ensures later { K.faults out.old ≤ K.faults out.new }
+    ensures failed { result ≡ Err unsent.Failed → Rose (K.faults out.old) (K.faults out.new) }
 {
     match course {
-        Course::Over(ended) => Rested {
+        Course::Over(ended) => Ok(Rested {
             halt: Halt::Ended,
             course: Course::Over(ended),
-        },
-        Course::On(going, shown) => goes_on(texts, want, shown, going, callers, count, world),
+        }),
+        Course::On(going, shown) => {
+            goes_on(texts, want, shown, going, callers, count, world, sent, out)
+        }
     }
 }

@@ -1,5 +1,5 @@
 // A run that is kept between goes (ANSI 2.1.2.2, 2.1.2.3).
-ghost use Rattle.std.specs.Prelude.{◌≡◌, ◌<◌, ℕ, IfOk, MatchOption, Some, false, reverse};
+ghost use Rattle.std.specs.Prelude.{◌≡◌, ◌<◌, ◌≤◌, ℕ, Err, IfOk, MatchOption, MatchResult, None, OnErr, Some, false, reverse};
 ghost use Rattle.sc_meaning.specs.Behaviour as behaviour;
 ghost use Rattle.sc_meaning.specs.World as worlds;
 ghost use Rattle.sc_plain.specs.Ends.{end_of, start_of};
@@ -10,15 +10,20 @@ ghost use Rattle.sc_world.specs.Meant.{IsRunOf};
 ghost use Rattle.sc_world.specs.Pauses.{IsPause};
 ghost use Rattle.sc_world.specs.Standing as standing;
 ghost use Rattle.sc_world.specs.declared.halt.Halt.TheVariants.{Paused};
+ghost use Rattle.sc_world.specs.Sends.{Sends, SendsSome};
+ghost use Rattle.sc_world.specs.declared.post.Unsent.TheVariants as unsent;
+ghost use Rattle.sc_outside.specs.Causes.{Rose};
 
 use crate::begin::{begun, course_of};
 use crate::count::Count;
 use crate::course::Course;
 use crate::declaring::declaring_of;
-use crate::halt::Halt;
+use crate::halt::{Halt, Halted};
 use crate::look::Want;
+use crate::post::Unsent;
 use crate::rest::goes_from;
 use sc_base::{Items, NoMemory, Stack};
+use sc_outside::Sink;
 use sc_plain::{Caller, Ended};
 use sc_plain_parts::Text;
 use sc_plain_world::{Frame, World};
@@ -85,12 +90,28 @@ impl Run {
     /// The run goes on, up to the first place that halts it: a function at which a stop is set is entered; a line is reached at
     /// which one is set, or at which the walk halts; or the run is over. Before such a place it is paused, where it has taken the turns that
     /// are given. Each step takes one turn, and one more for each byte that a call of the library, a copy of a structure or a birth touches
-    /// in it. A run that is over stays as it is.
+    /// in it. A run that is over stays as it is. What the program writes goes out while the run goes on, whenever 4,096 bytes wait; what
+    /// still waits where it halts is left to the caller.
+    ///
+    /// # Errors
+    ///
+    /// `Unsent` where it could not be written. The run is over then, and nothing is known of it.
     #[tactic(auto, using(crate::proofs::Kept::keeps, crate::proofs::Pauses::pauses))]
-    pub fn go(&mut self, texts: &[Text], stops: &[StopAt], walk: Walk, turns: u64) -> Halt
-        ensures goes { Goes texts.now stops.now walk turns self.old result self.new }
+    pub fn go<K: Sink>(
+        &mut self,
+        texts: &[Text],
+        stops: &[StopAt],
+        walk: Walk,
+        turns: u64,
+        out: &mut K,
+    ) -> Result<Halted, Unsent>
+        ensures goes { IfOk result (λ h. Goes texts.now stops.now walk turns self.old h.halt self.new) }
+        ensures sends { MatchResult result (λ h. Sends (K.written out.old) (K.written out.new) texts.now stops.now walk turns self.old h.sent self.new) (λ _. SendsSome (K.written out.old) (K.written out.new) texts.now stops.now walk turns self.old) }
+        ensures lost { OnErr result (self.new ≡ None) }
         ensures meant { (s : behaviour.Start) → IsRunOf s texts.now self.old → IsRunOf s texts.now self.new }
-        ensures pauses { (first last : standing.Standing) (n : ℕ) → self.old ≡ Some first → self.new ≡ Some last → result ≡ Paused n → 0 < turns → IsPause texts.now (want_of stops.now walk turns first) last n }
+        ensures pauses { IfOk result (λ h. (first last : standing.Standing) (n : ℕ) → self.old ≡ Some first → self.new ≡ Some last → h.halt ≡ Paused n → 0 < turns → IsPause texts.now (want_of stops.now walk turns first) last n) }
+        ensures later { K.faults out.old ≤ K.faults out.new }
+        ensures failed { result ≡ Err unsent.Failed → Rose (K.faults out.old) (K.faults out.new) }
     {
         let want = Want {
             stops,
@@ -99,17 +120,27 @@ impl Run {
             turns,
             before: self.count.turns,
         };
+        let mut sent = self.world.output().len();
         let course = mem::replace(&mut self.course, Course::Over(Ended::NoRoom));
-        let rested = goes_from(
+        match goes_from(
             course,
             texts,
             &want,
             &mut self.callers,
             &mut self.count,
             &mut self.world,
-        );
-        drop(mem::replace(&mut self.course, rested.course));
-        rested.halt
+            &mut sent,
+            out,
+        ) {
+            Ok(rested) => {
+                drop(mem::replace(&mut self.course, rested.course));
+                Ok(Halted {
+                    halt: rested.halt,
+                    sent,
+                })
+            }
+            Err(unsent) => Err(unsent),
+        }
     }
 
     /// How the run ended, where it is over.

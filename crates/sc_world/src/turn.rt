@@ -1,5 +1,5 @@
 // Turns one after another, up to a place where a go ends.
-ghost use Rattle.std.specs.Prelude.{◌≡◌, List, Some};
+ghost use Rattle.std.specs.Prelude.{◌≡◌, ◌≤◌, Err, IfOk, List, Some, length};
 ghost use Rattle.sc_meaning.specs.Outcomes as outcomes;
 ghost use Rattle.sc_meaning.specs.World as worlds;
 ghost use Rattle.sc_machine.specs.Runs as runs;
@@ -7,16 +7,23 @@ ghost use Rattle.sc_plain.specs.Steps as course;
 ghost use Rattle.sc_plain.specs.declared.stepped.Shown as showing;
 ghost use Rattle.sc_plain.specs.declared.stepped.Shown.TheVariants.{Nothing};
 ghost use Rattle.sc_plain_leaves.specs.Gives.{ending_of};
+ghost use Rattle.sc_plain_world.specs.Outputs.{output};
+ghost use Rattle.sc_outside.specs.Causes.{Rose};
 ghost use Rattle.sc_world.specs.Goes as goes;
+ghost use Rattle.sc_world.specs.Posts.{Posts};
+ghost use Rattle.sc_world.specs.Sends.{written};
 ghost use Rattle.sc_world.specs.Standing.{state_of};
 ghost use Rattle.sc_world.specs.Turns.{Comes, IsBefore, Onward, standing_at};
 ghost use Rattle.sc_world.specs.Wants as spec;
+ghost use Rattle.sc_world.specs.declared.post.Unsent.TheVariants as unsent;
 
 use crate::cost::{Before, noted, touched_last, touched_on};
 use crate::count::{Count, counted};
 use crate::halt::Halt;
 use crate::look::{Want, halt_if, wanted};
+use crate::post::{Unsent, post};
 use sc_base::Stack;
+use sc_outside::Sink;
 use sc_plain::{Caller, Going, Shown, step_run};
 use sc_plain_leaves::Stop;
 use sc_plain_parts::Text;
@@ -121,12 +128,21 @@ fn onward(
     }
 }
 
-/// Turns one after another, up to a place that halts the run, or where the turns were taken.
+/// What turns come to: a place where a go ends, or how the run ended in them, but for an end by the answer of `main`, with which it
+/// rests.
+#[derive(Drop)]
+pub enum Turned {
+    Rests(Halt),
+    Over(Stop),
+}
+
+/// Turns one after another, up to a place that halts the run, or where the turns were taken. Behind each what the program wrote is
+/// posted where it is much.
 ///
 /// # Errors
 ///
-/// How the run ends in them, but for an end by the answer of `main`, with which it rests.
-pub fn turns_taken(
+/// `Unsent` where it could not be written.
+pub fn turns_taken<K: Sink>(
     texts: &[Text],
     want: &Want,
     first: Shown,
@@ -134,16 +150,24 @@ pub fn turns_taken(
     callers: &mut Stack<Caller>,
     count: &mut Count,
     world: &mut World,
-) -> Result<Halt, Stop>
-    ensures { want.now.before ≡ count.old.turns → Comes (goes.gone want.now.turns want.now texts.now (standing_at (state_of going.old callers.old world.old) first count.old)) result going.new callers.new world.new count.new }
+    sent: &mut usize,
+    out: &mut K,
+) -> Result<Turned, Unsent>
+    ensures comes { want.now.before ≡ count.old.turns → IfOk result (λ turned. Comes (goes.gone want.now.turns want.now texts.now (standing_at (state_of going.old callers.old world.old) first count.old)) turned going.new callers.new world.new count.new) }
+    ensures sends { want.now.before ≡ count.old.turns → sent.old ≡ length (output world.old.trail) → Posts (K.written out.old) (K.written out.new) (length (output world.old.trail)) sent.new (written (goes.gone want.now.turns want.now texts.now (standing_at (state_of going.old callers.old world.old) first count.old)).1) result }
+    ensures later { K.faults out.old ≤ K.faults out.new }
+    ensures failed { result ≡ Err unsent.Failed → Rose (K.faults out.old) (K.faults out.new) }
 {
     let mut shown = first;
     'turning: loop {
         match rests(want, going, shown, callers, *count, world) {
-            Some(halt) => return Ok(halt),
+            Some(halt) => return Ok(Turned::Rests(halt)),
             None => match onward(texts, going, callers, count, world) {
-                Ok(next) => shown = next,
-                Err(stop) => return Err(stop),
+                Ok(next) => match post(world.output(), sent, out) {
+                    Ok(()) => shown = next,
+                    Err(unsent) => return Err(unsent),
+                },
+                Err(stop) => return Ok(Turned::Over(stop)),
             },
         }
     }

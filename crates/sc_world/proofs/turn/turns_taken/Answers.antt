@@ -1,29 +1,32 @@
-use Rattle.std.proofs.Common.{◌≡◌, ◌∙◌, sym}
+use Rattle.std.proofs.Common.{◌≡◌, ◌∙◌, sym, ap, subst, refl, arith, length}
+use Rattle.sc_plain_world.specs.Outputs.{output}
+use Rattle.sc_world.specs.Posts.{Posts}
 use Rattle.sc_world.specs.Standing.{state_of}
 use Rattle.sc_world.specs.Turns.{standing_at}
 use Rattle.sc_world.proofs.Courses.{at_first}
 use Rattle.sc_world.proofs.Exits.{comes_here, comes_on, comes_last, comes_nearer}
+use Rattle.sc_world.proofs.Sending.{posts_first, posts_step, posts_last, posts_cut}
 use Rattle.sc_world.proofs.turn.turns_taken.Goals as goal
 
 pub turning-init : goal.turning-init
-turning-init c = λ begins. at_first c.args.want.now c.args.texts.now (standing_at (state_of c.args.going.now c.args.callers.now c.args.world.now) c.args.first c.args.count.now) begins
+turning-init g c = record {
+  onto = λ begins. at_first c.args.want.now c.args.texts.now (standing_at (state_of c.args.going.now c.args.callers.now c.args.world.now) c.args.first c.args.count.now) begins;
+  posted = λ at. posts_first (g.K.Sink.written c.args.out.now) c.args.sent.now (output c.args.world.now.trail) at;
+  later = omega arith;
+}
 
-pub returns-in-Some : goal.returns-in-Some
-returns-in-Some c = λ begins.
+pub returns-in-Some-clause-comes : goal.returns-in-Some-clause-comes
+returns-in-Some-clause-comes g c = λ begins.
     comes_here c.args.want.now c.args.texts.now (standing_at (state_of c.args.going.now c.args.callers.now c.args.world.now) c.args.first c.args.count.now)
-    c.turning.going c.turning.shown c.turning.callers c.turning.world c.turning.count c.rests.result c.in-Some.halt c.rests.ensures c.in-Some.is (c.turning.invariant begins)
+    c.turning.going c.turning.shown c.turning.callers c.turning.world c.turning.count c.rests.result c.in-Some.halt c.rests.ensures c.in-Some.is (c.turning.invariant.onto begins)
+
+pub returns-in-Some-clause-sends : goal.returns-in-Some-clause-sends
+returns-in-Some-clause-sends g c = λ begins at.
+    posts_last (g.K.Sink.written c.args.out.now) (g.K.Sink.written c.turning.out) (length (output c.args.world.now.trail)) c.turning.sent c.args.want.now c.args.texts.now
+    (standing_at (state_of c.args.going.now c.args.callers.now c.args.world.now) c.args.first c.args.count.now)
+    c.turning.going c.turning.shown c.turning.callers c.turning.world c.turning.count (c.turning.invariant.onto begins) (c.turning.invariant.posted at)
 
 pub turning-smaller : goal.turning-smaller
-turning-smaller c =
+turning-smaller g c =
     comes_nearer c.args.want.now c.args.texts.now (standing_at (state_of c.turning.going c.turning.callers c.turning.world) c.turning.shown c.turning.count)
     c.onward.result c.in-Ok.next c.onward.new.going c.onward.new.callers c.onward.new.world c.onward.new.count (sym c.rests.ensures ∙ c.in-None.is) (c.onward.ensures c.turning.shown) c.in-Ok.is
-
-pub turning-preserved : goal.turning-preserved
-turning-preserved c = λ begins.
-    comes_on c.args.want.now c.args.texts.now (standing_at (state_of c.args.going.now c.args.callers.now c.args.world.now) c.args.first c.args.count.now) (standing_at (state_of c.turning.going c.turning.callers c.turning.world) c.turning.shown c.turning.count)
-    c.onward.result c.in-Ok.next c.onward.new.going c.onward.new.callers c.onward.new.world c.onward.new.count (sym c.rests.ensures ∙ c.in-None.is) (c.onward.ensures c.turning.shown) c.in-Ok.is (c.turning.invariant begins)
-
-pub returns-in-Err : goal.returns-in-Err
-returns-in-Err c = λ begins.
-    comes_last c.args.want.now c.args.texts.now (standing_at (state_of c.args.going.now c.args.callers.now c.args.world.now) c.args.first c.args.count.now) (standing_at (state_of c.turning.going c.turning.callers c.turning.world) c.turning.shown c.turning.count)
-    c.onward.result c.in-Err.stop c.onward.new.going c.onward.new.callers c.onward.new.world c.onward.new.count (sym c.rests.ensures ∙ c.in-None.is) (c.onward.ensures c.turning.shown) c.in-Err.is (c.turning.invariant begins)

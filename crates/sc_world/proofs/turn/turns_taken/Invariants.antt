@@ -1,14 +1,19 @@
--- What is left to be done from here comes to what all the turns come to.
-use Rattle.std.proofs.Common.{◌≡◌, ◌+◌, ◌-◌}
+-- What is left to be done from here comes to what all the turns come to; and what the program wrote was posted as far as the place that
+-- is kept.
+use Rattle.std.proofs.Common.{◌≡◌, ◌≤◌, ◌+◌, ◌-◌, length}
+use Rattle.sc_plain_world.specs.Outputs.{output}
+use Rattle.sc_world.specs.Posts.{Posted}
 use Rattle.sc_world.specs.Standing.{state_of}
 use Rattle.sc_world.specs.Turns.{standing_at}
 use Rattle.sc_world.proofs.Courses.{Onto}
 use Rattle.sc_world.proofs.turn.turns_taken.Given as goal
 
 abbrev pub invariant-turning : goal.invariant-turning
-invariant-turning l =
-    l.want.before ≡ l.fn.count.turns
-    → Onto l.want l.texts (standing_at (state_of l.fn.going l.fn.callers l.fn.world) l.fn.first l.fn.count) (standing_at (state_of l.going l.callers l.world) l.shown l.count)
+invariant-turning g l = record {
+  onto : l.want.before ≡ l.fn.count.turns → Onto l.want l.texts (standing_at (state_of l.fn.going l.fn.callers l.fn.world) l.fn.first l.fn.count) (standing_at (state_of l.going l.callers l.world) l.shown l.count);
+  posted : l.fn.sent ≡ length (output l.fn.world.trail) → Posted (g.K.Sink.written l.fn.out) (g.K.Sink.written l.out) (length (output l.fn.world.trail)) l.sent (output l.world.trail);
+  later : g.K.Sink.faults l.fn.out ≤ g.K.Sink.faults l.out;
+}
 
 abbrev pub decreases-turning : goal.decreases-turning
-decreases-turning l = l.want.before + l.want.turns - l.count.turns
+decreases-turning g l = l.want.before + l.want.turns - l.count.turns

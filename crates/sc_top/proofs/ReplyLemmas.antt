@@ -1,0 +1,100 @@
+-- The answer to a line, where the program's bytes go out before it.
+use Rattle.std.proofs.Common.{◌≡◌, inl, inr, ℕ, Bool, true, false, List, [], ◌++◌, refl, ap, sym, ◌∙◌, append_assoc, subst, Option, Some, None}
+use Rattle.std.proofs.lemmas.List.{append-nil}
+use Rattle.std.specs.Prelude.{◌⊎◌, ◌≤◌}
+use Rattle.std.specs.Io.KnownBytes.{Appends}
+use Rattle.sc_outside.specs.Streams.{Writes, AppendsSome}
+use Rattle.sc_outside.specs.declared.sink.Sent.{Sent}
+use Rattle.sc_outside.specs.declared.sink.Sent.TheVariants as sent
+use Rattle.sc_session.specs.Transcript.{Moment, AnswersTo, SaysBehind, Speaks, BreaksOff, GoFirst, is_go}
+use Rattle.sc_words.specs.Commands.{command_of}
+use Rattle.sc_words.specs.Texts.{text_of}
+use Rattle.sc_words.specs.declared.answer.Answer.{Answer}
+use Rattle.sc_words.specs.declared.answer.Answer.TheVariants as answer
+use Rattle.sc_words.specs.declared.command.Command.{Command}
+use Rattle.sc_words.specs.declared.command.Command.TheVariants as command
+use Rattle.sc_top.specs.Transcript.{Replies, Answers, IsBefore}
+use Rattle.sc_top.specs.Sessions.{Replied, Unreplied}
+use Rattle.sc_top.specs.Waiting.{IsOnItsWay, IsPartlyOnItsWay, Posts}
+use Rattle.sc_top.proofs.RunLemmas.{replied}
+use Rattle.sc_top.proofs.WaitingLemmas.{appends_more, appends_none, waits_all, partly, partly-writes, behind, on_its_way, partly_on_its_way}
+
+module _ (old new : Moment) (line : List ℕ) (later : old.faults ≤ new.faults) where
+  -- an answer with nothing before it, and one that has the first of its text before it
+  plain : (said : Answer) (front : List ℕ) → IsBefore old (command_of line) said [] → Replies old line said new → front ≡ [] → Answers old line (front ++ text_of said) new
+  plain said front before replies none =
+      subst (λ f. Answers old line (f ++ text_of said) new) (sym none)
+      (record { front = []; said = said; replies = replies; before = before; text = refl; later = later })
+
+  module _ (is : (said : Answer) → AnswersTo old (command_of line) said new → Replies old line said new) where
+    pub says : (front : List ℕ) (said : Answer) → SaysBehind old (command_of line) front said new → Answers old line (front ++ text_of said) new
+    says front answer.Silent p = plain answer.Silent front refl (is answer.Silent p.0) p.1
+    says front (answer.Loaded name) p = plain (answer.Loaded name) front refl (is (answer.Loaded name) p.0) p.1
+    says front (answer.Unloaded name) p = plain (answer.Unloaded name) front refl (is (answer.Unloaded name) p.0) p.1
+    says front (answer.Edited name) p = plain (answer.Edited name) front refl (is (answer.Edited name) p.0) p.1
+    says front (answer.StopSet k place) p = plain (answer.StopSet k place) front refl (is (answer.StopSet k place) p.0) p.1
+    says front (answer.Deleted k) p = plain (answer.Deleted k) front refl (is (answer.Deleted k) p.0) p.1
+    says front (answer.Ran text) p =
+        record { front = []; said = answer.Ran (front ++ text); replies = is (answer.Ran (front ++ text)) p; before = refl; text = refl; later = later }
+    says front (answer.Shown lines) p = plain (answer.Shown lines) front refl (is (answer.Shown lines) p.0) p.1
+    says front answer.Reset p = plain answer.Reset front refl (is answer.Reset p.0) p.1
+    says front answer.Bye p = plain answer.Bye front refl (is answer.Bye p.0) p.1
+    says front (answer.Refused d) p = plain (answer.Refused d) front refl (is (answer.Refused d) p.0) p.1
+    says front answer.NoMemory p =
+        record { front = front; said = answer.NoMemory; replies = is answer.NoMemory p.0; before = p.1; text = refl; later = later }
+
+-- what was read is the command of the line
+said_so : (old new : Moment) (line : List ℕ) (c : Command) (said : Answer) (front : List ℕ) → c ≡ command_of line → old.faults ≤ new.faults → SaysBehind old c front said new → Answers old line (front ++ text_of said) new
+said_so old new line c said front is later p =
+    says old new line later (λ said q. replied old new line (command_of line) said refl q) front said (subst (λ c. SaysBehind old c front said new) is p)
+
+-- what waited is written, and then the first of the answer
+through : (old mid new : Option (List ℕ)) (waited front : List ℕ) → Appends old mid waited → Appends mid new front → IsOnItsWay old new [] (waited ++ front)
+through old mid new waited front p q = (waited ++ front, sym (append-nil (waited ++ front)), appends_more old mid new waited front p q)
+
+still : (old new : Option (List ℕ)) (waited front : List ℕ) → front ≡ [] → Appends old new front → IsOnItsWay old new waited (waited ++ front)
+still old new waited front none p =
+    ([], ap (λ f. waited ++ f) none ∙ append-nil waited, subst (Appends old new) none p)
+
+pub replies_through : (before after : Moment) (line : List ℕ) (c : Command) (said : Answer) (old mid new : Option (List ℕ)) (waited waiting : List ℕ) → c ≡ command_of line → before.faults ≤ after.faults → waiting ≡ [] → Appends old mid waited → Speaks mid new before c said after → Replied before line said after old new waited waiting
+replies_through before after line c said old mid new waited waiting is later none p (front, gains, says, quiet) =
+    (front, said_so before after line c said front is later says, subst (λ r. IsOnItsWay old new r (waited ++ front)) (sym none) (through old mid new waited front p gains))
+
+pub replies_still : (before after : Moment) (line : List ℕ) (c : Command) (said : Answer) (old new : Option (List ℕ)) (waited : List ℕ) → c ≡ command_of line → before.faults ≤ after.faults → is_go c ≡ false → Speaks old new before c said after → Replied before line said after old new waited waited
+replies_still before after line c said old new waited is later still_there (front, gains, says, quiet) =
+    (front, said_so before after line c said front is later says, still old new waited front (quiet still_there) gains)
+
+pub unread : (before : Moment) (line : List ℕ) (known : Option (List ℕ)) (waited : List ℕ) → before.faults ≤ before.faults → Replies before line answer.NoMemory before → Replied before line answer.NoMemory before known known waited waited
+unread before line known waited later replies =
+    ([], plain before before line later answer.NoMemory [] (inl refl) replies refl, still known known waited [] refl (appends_none known))
+
+-- a command that lets no program go on is not broken off
+no_go : (old : Moment) (c : Command) (front : List ℕ) → is_go c ≡ false → GoFirst old c front → ⊥
+no_go old (command.Run file) front p q = absurd (cc)
+no_go old command.Step front p q = absurd (cc)
+no_go old command.Next front p q = absurd (cc)
+no_go old command.Cont front p q = absurd (cc)
+no_go old command.Nothing front p q = q
+no_go old command.Unknown front p q = q
+no_go old command.BadArguments front p q = q
+no_go old (command.Load name) front p q = q
+no_go old (command.Unload name) front p q = q
+no_go old (command.Edit name file) front p q = q
+no_go old (command.Stop place) front p q = q
+no_go old (command.Delete k) front p q = q
+no_go old command.Frames front p q = q
+no_go old (command.Print name) front p q = q
+no_go old command.List front p q = q
+no_go old command.Reset front p q = q
+no_go old command.Quit front p q = q
+
+pub breaks_through : (before : Moment) (line : List ℕ) (c : Command) (old mid new : Option (List ℕ)) (waited waiting : List ℕ) → c ≡ command_of line → waiting ≡ [] → Appends old mid waited → BreaksOff mid new before c → Unreplied before line old new waited waiting
+breaks_through before line c old mid new waited waiting is none p (front, gains, first) =
+    (front, inr (subst (λ c. GoFirst before c front) is first), subst (λ r. IsPartlyOnItsWay old new r (waited ++ front)) (sym none) (partly old new [] (waited ++ front) (through old mid new waited front p gains)))
+
+pub breaks_still : (before : Moment) (line : List ℕ) (c : Command) (old new : Option (List ℕ)) (waited waiting : List ℕ) → is_go c ≡ false → BreaksOff old new before c → Unreplied before line old new waited waiting
+breaks_still before line c old new waited waiting still_there (front, gains, first) = absurd (no_go before c front still_there first)
+
+pub unflushed : (before : Moment) (line : List ℕ) (result : Sent) (old new : Option (List ℕ)) (waited waiting : List ℕ) → waiting ≡ [] → Writes old new result waited → Unreplied before line old new waited waiting
+unflushed before line result old new waited waiting none wrote =
+    ([], inl refl, subst (λ r. IsPartlyOnItsWay old new r (waited ++ [])) (sym none) (partly-writes result old new waited [] wrote))

@@ -1,0 +1,33 @@
+-- What a go sends while it goes on.
+use Rattle.std.specs.Prelude.{◌≡◌, ℕ, List, [], length, Option, Some, None}
+use Rattle.std.specs.Io.KnownBytes.{Appends}
+use Rattle.sc_meaning.specs.Versions.{Text}
+use Rattle.sc_plain_world.specs.Outputs.{output}
+use Rattle.sc_words.specs.declared.stop.StopAt.{StopAt}
+use Rattle.sc_words.specs.declared.stop.Walk.{Walk}
+use Rattle.sc_world.specs.Standing.{Standing, world_of}
+use Rattle.sc_world.specs.Goes.{gone, want_of}
+use Rattle.sc_world.specs.Posts.{Posted, PostedSome}
+use Rattle.sc_world.specs.Wants.{Want}
+
+-- all that the program wrote up to there
+abbrev pub written : Standing → List ℕ
+written m = output (world_of m.state).trail
+
+-- The sink gained the first of what the program writes in a go.
+abbrev pub SendsFirst : Option (List ℕ) → Option (List ℕ) → Want → List Text → Standing → Type 0
+SendsFirst old new want texts m = PostedSome old new (length (written m)) (written (gone want.turns want texts m).1)
+
+-- A go posted what the program wrote in it, up to some place. Where no room was left for the run, nothing is known of the rest.
+abbrev pub SendsTo : Option (List ℕ) → Option (List ℕ) → Want → List Text → Standing → ℕ → Option Standing → Type 0
+SendsTo old new want texts m sent None = SendsFirst old new want texts m
+SendsTo old new want texts m sent (Some n) = Posted old new (length (written m)) sent (written n)
+
+-- the same of a run; one for which no room was left before writes nothing
+abbrev pub Sends : Option (List ℕ) → Option (List ℕ) → List Text → List StopAt → Walk → ℕ → Option Standing → ℕ → Option Standing → Type 0
+Sends old new texts stops walk turns None sent after = Appends old new []
+Sends old new texts stops walk turns (Some m) sent after = SendsTo old new (want_of stops walk turns m) texts m sent after
+
+abbrev pub SendsSome : Option (List ℕ) → Option (List ℕ) → List Text → List StopAt → Walk → ℕ → Option Standing → Type 0
+SendsSome old new texts stops walk turns None = Appends old new []
+SendsSome old new texts stops walk turns (Some m) = SendsFirst old new (want_of stops walk turns m) texts m
