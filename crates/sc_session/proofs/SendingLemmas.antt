@@ -208,9 +208,15 @@ not_quiet false front p q = absurd (cc)
 
 pub go_so : (sink gained : Option (List ℕ)) (old : Moment) (c : Command) (mid : Plain) (new : Moment) (r : Option Denied) (said : Answer) → mid ≡ asked c old.session → r ≡ refusal_of mid c → r ≡ None → is_go c ≡ true
     → Gains sink gained (λ front. Behind (λ said. Carried (moment mid old.held old.faults) c said new) (GoFirst (moment mid old.held old.faults) c) front said) → Speaks sink gained old c said new
-go_so sink gained old c mid new r said m is p goes (front, gains, q) =
-    (front, gains, (behind_as (λ said. Carried (moment mid old.held old.faults) c said new) (λ said. AnswersTo old c said new) (GoFirst (moment mid old.held old.faults) c) (GoFirst old c)
-    (answers_so old c mid new r m is p) (λ f x. go_first old c f (subst (λ x. GoFirst (moment x old.held old.faults) c f) m x)) front said q, not_quiet (is_go c) front goes))
+go_so sink gained old c mid new r said m is p goes (front, gains, q) = (
+  front,
+  gains,
+  (
+    behind_as (λ said. Carried (moment mid old.held old.faults) c said new) (λ said. AnswersTo old c said new) (GoFirst (moment mid old.held old.faults) c) (GoFirst old c)
+        (answers_so old c mid new r m is p) (λ f x. go_first old c f (subst (λ x. GoFirst (moment x old.held old.faults) c f) m x)) front said q,
+    not_quiet (is_go c) front goes,
+  ),
+)
 
 pub broke_so : (sink gained : Option (List ℕ)) (old : Moment) (c : Command) (mid : Plain) → mid ≡ asked c old.session → BreaksOff sink gained (moment mid old.held old.faults) c → BreaksOff sink gained old c
 broke_so sink gained old c mid m (front, gains, p) = (front, gains, go_first old c front (subst (λ x. GoFirst (moment x old.held old.faults) c front) m p))

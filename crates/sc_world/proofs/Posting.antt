@@ -1,13 +1,11 @@
 -- Bytes on their way to a sink.
-use Rattle.std.proofs.Common.{◌≡◌, ◌≤◌, ℕ, ◌+◌, ◌-◌, List, [], ◌++◌, length, length-append, drop, refl, ap, sym, subst, ◌∙◌, arith, append_assoc, Option, Some, None, Result, Ok, Err}
-use Rattle.std.proofs.lemmas.List.{append-nil, drop-append-le, drop_all}
+use Rattle.std.proofs.Common.{◌≡◌, ◌≤◌, ℕ, ◌+◌, List, [], ◌++◌, length, length-append, refl, ap, sym, subst, ◌∙◌, arith, append_assoc, Option, Some, None}
+use Rattle.std.specs.Prelude.{drop}
+use Rattle.std.proofs.lemmas.List.{append-nil, drop-append-le}
 use Rattle.std.proofs.Math.Seq.{drop-length}
 use Rattle.std.specs.Io.KnownBytes.{Appends}
-use Rattle.sc_outside.specs.Streams.{AppendsSome, Writes}
-use Rattle.sc_outside.specs.declared.sink.Sent.{Sent}
-use Rattle.sc_outside.specs.declared.sink.Sent.TheVariants as sent
-use Rattle.sc_world.specs.declared.post.Unsent.{Unsent}
-use Rattle.sc_world.specs.Posts.{Posted, PostedSome, Posts}
+use Rattle.sc_outside.specs.Streams.{AppendsSome}
+use Rattle.sc_world.specs.Posts.{Posted, PostedSome}
 
 pub appends_none : (known : Option (List ℕ)) → Appends known known []
 appends_none None = tt
@@ -35,8 +33,8 @@ posted_grows old new from to bytes more p =
       front = p.front;
       gains = p.gains;
       whole =
-      drop-append-le from bytes more (omega (arith, order, inside)) ∙ ap (λ r. r ++ more) p.whole
-      ∙ append_assoc p.front (drop to bytes) more ∙ ap (λ r. p.front ++ r) (sym (drop-append-le to bytes more inside));
+          drop-append-le from bytes more (omega (arith, order, inside)) ∙ ap (λ r. r ++ more) p.whole
+          ∙ append_assoc p.front (drop to bytes) more ∙ ap (λ r. p.front ++ r) (sym (drop-append-le to bytes more inside));
       order = order;
       inside = further to bytes more inside;
     }

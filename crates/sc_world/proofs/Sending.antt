@@ -3,12 +3,13 @@ use Rattle.std.proofs.Common.{◌≡◌, ◌≤◌, ℕ, zero, suc, List, [], �
 use Rattle.std.proofs.lemmas.List.{append-nil}
 use Rattle.std.specs.Io.KnownBytes.{Appends}
 use Rattle.std.specs.Prelude.{IfOk, MatchResult}
-use Rattle.sc_meaning.specs.World.{World, Item, Work, tick}
+use Rattle.sc_meaning.specs.World.{World, Item, Work}
 use Rattle.sc_meaning.specs.Outcomes.{Ending, world_at}
 use Rattle.sc_meaning.specs.Versions.{Text}
 use Rattle.sc_meaning.specs.Laws.{Leads}
 use Rattle.sc_meaning.proofs.Steps.{here, one_more, on}
 use Rattle.sc_meaning.proofs.Trails.{trail-passed}
+use Rattle.sc_machine.specs.Runs as machine
 use Rattle.sc_machine.specs.Runs.{Caller, State, Runs, Makes, Answers, Ends}
 use Rattle.sc_course.specs.Worlds as course
 use Rattle.sc_course.proofs.RunSteps.{advance_leads}
@@ -26,11 +27,10 @@ use Rattle.sc_world.specs.declared.count.Count.{Count}
 use Rattle.sc_world.specs.declared.course.Course.{Course}
 use Rattle.sc_world.specs.declared.course.Course.TheVariants.{On, Over}
 use Rattle.sc_world.specs.declared.halt.Halt.{Halt}
-use Rattle.sc_world.specs.declared.post.Unsent.{Unsent}
 use Rattle.sc_world.specs.Standing.{Standing, state_of, standing, ended_so, world_in, world_of}
 use Rattle.sc_world.specs.Wants.{Want, rests}
 use Rattle.sc_world.specs.Goes.{Gone, gone, here_or, seen, stepped, with_status, closed, Leaves, Goes, want_of}
-use Rattle.sc_world.specs.Posts.{Posted, PostedSome, Posts}
+use Rattle.sc_world.specs.Posts.{Posted, PostedSome}
 use Rattle.sc_world.specs.Sends.{written, SendsFirst, SendsTo, Sends, SendsSome}
 use Rattle.sc_world.specs.Turns.{Onward, standing_at}
 use Rattle.sc_world.proofs.Courses.{world_there, Onto}
@@ -57,9 +57,10 @@ same_world (Ends e) = refl
 -- a step
 step_leads : (texts : List Text) (s : State) → Leads (world_of s) (world_of (advance (alone texts) texts s))
 step_leads texts s =
+    let t : State = machine.advance (alone texts) s in
     subst (λ t. Leads (world_of s) (world_of t)) (same_step (alone texts) texts (quiet texts) (present texts) s)
-    (subst (λ v. Leads (world_of s) v) (same_world _)
-    (subst (λ w. Leads w (course.world_of _)) (same_world s) (advance_leads (alone texts) s)))
+    (subst (λ v. Leads (world_of s) v) (same_world t)
+    (subst (λ w. Leads w (course.world_of t)) (same_world s) (advance_leads (alone texts) s)))
 
 -- what ends a run where it rests writes nothing
 status_output : (s : State) → output (world_of (with_status s)).trail ≡ output (world_of s).trail

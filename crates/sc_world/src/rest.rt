@@ -133,7 +133,9 @@ fn goes_on<K: Sink>(
     ensures later { K.faults out.old ≤ K.faults out.new }
     ensures failed { result ≡ Err unsent.Failed → Rose (K.faults out.old) (K.faults out.new) }
 {
-    match turns_taken(texts, want, shown, &mut going, callers, count, world, sent, out) {
+    match turns_taken(
+        texts, want, shown, &mut going, callers, count, world, sent, out,
+    ) {
         Ok(turned) => Ok(left_by(turned, going, callers, world)),
         Err(unsent) => {
             drop(going);

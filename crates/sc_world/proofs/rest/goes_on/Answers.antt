@@ -1,0 +1,27 @@
+use Rattle.std.proofs.Common.{◌≡◌, ap, sym, length}
+use Rattle.sc_plain_world.specs.Outputs.{output}
+use Rattle.sc_world.specs.Goes.{gone}
+use Rattle.sc_world.specs.Standing.{state_of}
+use Rattle.sc_world.specs.Turns.{standing_at}
+use Rattle.sc_world.proofs.Sending.{written_there, leaves_sends, first_sends}
+use Rattle.sc_world.proofs.rest.goes_on.Goals as goal
+
+pub returns-in-Ok-clause-goes : goal.returns-in-Ok-clause-goes
+returns-in-Ok-clause-goes g c = λ begins. c.left_by.ensures c.turns_taken.new.count _ (c.in-Ok.ensures.comes begins)
+
+pub returns-in-Ok-clause-sends : goal.returns-in-Ok-clause-sends
+returns-in-Ok-clause-sends g c = λ begins at.
+    leaves_sends (g.K.Sink.written c.args.out.now) (g.K.Sink.written c.turns_taken.new.out) c.args.want.now c.args.texts.now
+    (standing_at (state_of c.args.going c.args.callers.now c.args.world.now) c.args.shown c.args.count.now)
+    (length (output c.args.world.now.trail)) c.turns_taken.new.sent c.left_by.result.halt _
+    (ap (λ bytes. length bytes) (sym (written_there c.args.going c.args.shown c.args.callers.now c.args.world.now c.args.count.now)))
+    (c.left_by.ensures c.turns_taken.new.count _ (c.in-Ok.ensures.comes begins))
+    (c.in-Ok.ensures.sends begins at)
+
+pub returns-in-Err-clause-sends : goal.returns-in-Err-clause-sends
+returns-in-Err-clause-sends g c = λ begins at.
+    first_sends (g.K.Sink.written c.args.out.now) (g.K.Sink.written c.turns_taken.new.out) c.args.want.now c.args.texts.now
+    (standing_at (state_of c.args.going c.args.callers.now c.args.world.now) c.args.shown c.args.count.now)
+    (length (output c.args.world.now.trail))
+    (ap (λ bytes. length bytes) (sym (written_there c.args.going c.args.shown c.args.callers.now c.args.world.now c.args.count.now)))
+    (c.in-Err.ensures.sends begins at)
