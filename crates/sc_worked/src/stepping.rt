@@ -106,3 +106,35 @@ fn the_next_line_is_one_of_an_active_call(rt: HostRuntime) -> Result<(), Fail> {
     assert_eq!(rt; places.as_slice(), [2, 2, 6, 1005].as_slice());
     Ok(())
 }
+
+// This stop behind so many others, which no run comes to, that stops are found by a hash of them.
+fn among_many(alloc: Global, stop: StopAt) -> Result<Vec<StopAt>, NoMemory> {
+    let mut stops = Vec::new(alloc);
+    for number in 100..140 {
+        stops.push(StopAt::AtLine(name(alloc, b"m")?, number))?;
+    }
+    stops.push(stop)?;
+    Ok(stops)
+}
+
+#[test]
+fn a_stop_is_found_among_many(rt: HostRuntime) -> Result<(), Fail> {
+    let alloc = rt.alloc();
+    let at_line = among_many(alloc, StopAt::AtLine(name(alloc, b"m")?, 2))?;
+    let places = halted(alloc, TWICE, at_line.as_slice(), "cnnc")?;
+    assert_eq!(rt; places.as_slice(), [2, 2, 6, 1005].as_slice());
+    let alone = among_many(alloc, StopAt::InFun(None, name(alloc, b"f")?))?;
+    let places = halted(alloc, TWICE, alone.as_slice(), "ccc")?;
+    assert_eq!(rt; places.as_slice(), [-1, -1, 1005].as_slice());
+    Ok(())
+}
+
+#[test]
+fn a_stop_behind_its_module_is_found_among_many(rt: HostRuntime) -> Result<(), Fail> {
+    let alloc = rt.alloc();
+    let home = Some(name(alloc, b"m")?);
+    let behind = among_many(alloc, StopAt::InFun(home, name(alloc, b"f")?))?;
+    let places = halted(alloc, TWICE, behind.as_slice(), "ccc")?;
+    assert_eq!(rt; places.as_slice(), [-1, -1, 1005].as_slice());
+    Ok(())
+}
