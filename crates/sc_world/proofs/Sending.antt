@@ -28,7 +28,7 @@ use Rattle.sc_world.specs.declared.count.Count.{Count}
 use Rattle.sc_world.specs.declared.course.Course.{Course}
 use Rattle.sc_world.specs.declared.course.Course.TheVariants.{On, Over}
 use Rattle.sc_world.specs.declared.halt.Halt.{Halt}
-use Rattle.sc_world.specs.declared.halt.Halt.TheVariants.{Ended}
+use Rattle.sc_world.specs.declared.halt.Halt.TheVariants as halting
 use Rattle.sc_world.specs.declared.turn.Turned.{Turned}
 use Rattle.sc_world.specs.declared.turn.Turned.TheVariants as turned
 use Rattle.sc_world.specs.Standing.{Standing, state_of, standing, ended_so, world_in, world_of}
@@ -153,14 +153,14 @@ pub first_sends : (old new : Option (List ℕ)) (want : Want) (texts : List Text
 first_sends old new want texts m from is some = subst (λ n. PostedSome old new n (written (gone want.turns want texts m).1)) is some
 
 -- Fewer bytes wait than are posted, where the run is not over.
-pub few_left : (t : Turned) (g : Going) (cs : List Caller) (w : World) (c : Count) (out : Gone) (halt : Halt) (after : Option Standing) (sent : ℕ) → Comes out t g cs w c → Leaves out halt after → ((stop : Stop) → t ≡ turned.Over stop → halt ≡ Ended) → WaitsFew t (output w.trail) sent → LeavesFew halt sent after
+pub few_left : (t : Turned) (g : Going) (cs : List Caller) (w : World) (c : Count) (out : Gone) (halt : Halt) (after : Option Standing) (sent : ℕ) → Comes out t g cs w c → Leaves out halt after → ((stop : Stop) → t ≡ turned.Over stop → halt ≡ halting.Ended) → WaitsFew t (output w.trail) sent → LeavesFew halt sent after
 few_left t g cs w c out halt None sent comes p over few = tt
 few_left (turned.Rests h) g cs w c out halt (Some n) sent comes p over few = λ goes_on.
     let same : written n ≡ output w.trail = ap written (sym p.1) ∙ status_output out.1.state ∙ ap (λ (o : Gone). written o.1) comes ∙ written_there g Nothing cs w c in
     subst (λ bytes. length bytes < sent + 4096) (sym same) few
 few_left (turned.Over stop) g cs w c out halt (Some n) sent comes p over few = λ goes_on. absurd (goes_on (over stop refl))
 
-pub ended_few : (sent : ℕ) (after : Option Standing) → LeavesFew Ended sent after
+pub ended_few : (sent : ℕ) (after : Option Standing) → LeavesFew halting.Ended sent after
 ended_few sent None = tt
 ended_few sent (Some n) = λ goes_on. absurd (goes_on refl)
 

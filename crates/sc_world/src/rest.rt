@@ -14,7 +14,7 @@ ghost use Rattle.sc_world.specs.Turns.{Comes, standing_at};
 ghost use Rattle.sc_world.specs.declared.course.Course.TheVariants.{On};
 ghost use Rattle.sc_world.specs.declared.post.Unsent.TheVariants as unsent;
 ghost use Rattle.sc_world.specs.declared.count.Count as counts;
-ghost use Rattle.sc_world.specs.declared.halt.Halt.TheVariants.{Ended};
+ghost use Rattle.sc_world.specs.declared.halt.Halt.TheVariants as halting;
 ghost use Rattle.sc_world.specs.declared.turn.Turned.TheVariants as turns;
 ghost use Rattle.sc_plain_leaves.specs.declared.stop.Stop as stops;
 
@@ -106,7 +106,7 @@ fn closed(halt: Halt, going: Going, callers: &Stack<Caller>, world: &mut World) 
 // What the turns of a go came to.
 fn left_by(turned: Turned, going: Going, callers: &Stack<Caller>, world: &mut World) -> Rested
     ensures leaves { (c : counts.Count) (out : goes.Gone) → Comes out turned going callers.now world.old c → goes.Leaves out result.halt (standing.standing result.course callers.now world.new c) }
-    ensures over { (stop : stops.Stop) → turned ≡ turns.Over stop → result.halt ≡ Ended }
+    ensures over { (stop : stops.Stop) → turned ≡ turns.Over stop → result.halt ≡ halting.Ended }
 {
     match turned {
         Turned::Rests(halt) => closed(halt, going, callers, world),
