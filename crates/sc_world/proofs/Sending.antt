@@ -1,13 +1,12 @@
 -- What the program wrote grows with each step, and so with each go.
 use Rattle.std.proofs.Common.{◌≡◌, ◌≤◌, ◌<◌, ◌+◌, ℕ, zero, suc, List, [], ◌∷◌, ◌++◌, length, refl, ap, sym, subst, ◌∙◌, arith, append_assoc, Option, Some, None, Result, Ok, Err}
 use Rattle.std.proofs.lemmas.List.{append-nil}
-use Rattle.std.specs.Io.KnownBytes.{Appends}
 use Rattle.std.specs.Prelude.{IfOk, MatchResult}
 use Rattle.sc_meaning.specs.World.{World, Item, Work}
 use Rattle.sc_meaning.specs.Outcomes.{Ending, world_at}
 use Rattle.sc_meaning.specs.Versions.{Text}
 use Rattle.sc_meaning.specs.Laws.{Leads}
-use Rattle.sc_meaning.proofs.Steps.{here, one_more, on}
+use Rattle.sc_meaning.proofs.Steps.{here, on}
 use Rattle.sc_meaning.proofs.Trails.{trail-passed}
 use Rattle.sc_machine.specs.Runs as machine
 use Rattle.sc_machine.specs.Runs.{Caller, State, Runs, Makes, Answers, Ends}
@@ -33,7 +32,7 @@ use Rattle.sc_world.specs.declared.turn.Turned.{Turned}
 use Rattle.sc_world.specs.declared.turn.Turned.TheVariants as turned
 use Rattle.sc_world.specs.Standing.{Standing, state_of, standing, ended_so, world_in, world_of}
 use Rattle.sc_world.specs.Wants.{Want, rests}
-use Rattle.sc_world.specs.Goes.{Gone, gone, here_or, seen, stepped, with_status, closed, Leaves, Goes, want_of}
+use Rattle.sc_world.specs.Goes.{Gone, gone, here_or, stepped, with_status, Leaves, Goes, want_of}
 use Rattle.sc_world.specs.Posts.{Posted, PostedSome}
 use Rattle.sc_world.specs.Sends.{written, LeavesFew, SendsFirst, SendsTo, Sends, SendsSome}
 use Rattle.sc_world.specs.Turns.{Comes, Onward, WaitsFew, standing_at}

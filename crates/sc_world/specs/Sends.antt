@@ -1,5 +1,5 @@
 -- What a go sends while it goes on.
-use Rattle.std.specs.Prelude.{◌≡◌, ◌≢◌, ◌<◌, ◌+◌, ℕ, List, [], length, Option, Some, None}
+use Rattle.std.specs.Prelude.{◌≢◌, ◌<◌, ◌+◌, ℕ, List, [], length, Option, Some, None}
 use Rattle.std.specs.Io.KnownBytes.{Appends}
 use Rattle.sc_meaning.specs.Versions.{Text}
 use Rattle.sc_plain_world.specs.Outputs.{output}

@@ -1,4 +1,3 @@
-use Rattle.std.proofs.Common.{◌≡◌}
 use Rattle.sc_world.proofs.post.post.Goals as goal
 
 pub returns-in-Err-clause-posts : goal.returns-in-Err-clause-posts

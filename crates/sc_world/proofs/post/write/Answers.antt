@@ -1,4 +1,3 @@
-use Rattle.std.proofs.Common.{◌≡◌}
 use Rattle.sc_world.proofs.Posting.{writes_some}
 use Rattle.sc_world.proofs.post.write.Goals as goal
 

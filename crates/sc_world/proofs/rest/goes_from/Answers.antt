@@ -1,4 +1,3 @@
-use Rattle.std.proofs.Common.{◌≡◌}
 use Rattle.sc_world.specs.Goes.{gone, Goes, Leaves}
 use Rattle.sc_world.specs.Sends.{Sends, SendsFirst, SendsSome, SendsTo}
 use Rattle.sc_world.specs.Standing.{standing, state_of}

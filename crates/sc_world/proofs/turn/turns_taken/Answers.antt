@@ -1,4 +1,4 @@
-use Rattle.std.proofs.Common.{◌≡◌, ◌∙◌, sym, ap, subst, refl, arith, ◌<◌, ◌+◌, length}
+use Rattle.std.proofs.Common.{◌∙◌, sym, subst, arith, ◌<◌, ◌+◌, length}
 use Rattle.sc_plain_world.specs.Outputs.{output}
 use Rattle.sc_world.specs.Posts.{Posted, PostedSome}
 use Rattle.sc_world.specs.Standing.{state_of}
