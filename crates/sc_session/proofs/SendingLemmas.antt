@@ -221,6 +221,9 @@ run_denied sink old file now held d main same p = ([], appends_none sink, (((ref
 pub run_without_main : (sink : Option (List ℕ)) (old : Moment) (file : Option (List ℕ)) (v : Plain) → v ≡ old.session → has_main old.session.modules ≡ false → RunsOut sink sink old file (Ok (answer.Refused denied.NoMain)) (moment v old.held old.faults)
 run_without_main sink old file v is none = ([], appends_none sink, (((is, refl), none), refl))
 
+pub no_main : (b : Bool) (modules there : List Text) → b ≡ has_main modules → b ≡ false → modules ≡ there → has_main there ≡ false
+no_main b modules there is none same = ap has_main (sym same) ∙ sym is ∙ none
+
 pub run_unbegun : (sink : Option (List ℕ)) (old : Moment) (file : Option (List ℕ)) (v : Plain) (now : ℕ) (held : Option FileMap) → v ≡ old.session → held ≡ old.held → RunsOut sink sink old file (Ok answer.NoMemory) (moment v held now)
 run_unbegun sink old file v now held is same = ([], appends_none sink, ((same, inl is), inl refl))
 

@@ -1,8 +1,8 @@
 -- The program's turns are the machine's.
-use Rattle.std.proofs.Common.{◌≡◌, ℕ, zero, suc, ◌+◌, Bool, true, false, List, [], ◌∷◌, refl, ap, sym, subst, ◌∙◌, arith, add-one, Option, Some, None, Result, Ok, Err}
+use Rattle.std.proofs.Common.{◌≡◌, ℕ, zero, suc, ◌+◌, Bool, true, false, List, [], ◌∷◌, refl, ap, sym, subst, ◌∙◌, arith, Option, Some, None, Result, Ok, Err}
 use Rattle.std.proofs.lemmas.Bool.Decides.{nat_tests}
 use Rattle.std.specs.Prelude.{◌↔◌, IsTrue, ◌-◌, ◌<◌, ◌≤◌, nat_le}
-use Rattle.sc_meaning.specs.World.{World, Frame}
+use Rattle.sc_meaning.specs.World.{World}
 use Rattle.sc_meaning.specs.Outcomes.{Ending}
 use Rattle.sc_meaning.specs.Versions.{Text}
 use Rattle.sc_meaning.specs.Expressions.{Answer}

@@ -1,5 +1,5 @@
 -- What each way out of a turn, and of all turns, gives.
-use Rattle.std.proofs.Common.{◌≡◌, ◌+◌, ◌-◌, ◌<◌, List, refl, ap, sym, subst, ◌∙◌, Option, Some, None, Result, Ok, Err}
+use Rattle.std.proofs.Common.{◌≡◌, ◌+◌, ◌-◌, ◌<◌, List, sym, subst, ◌∙◌, Option, Some, None, Result, Ok, Err}
 use Rattle.sc_meaning.specs.World.{World}
 use Rattle.sc_meaning.specs.Outcomes.{Ending}
 use Rattle.sc_meaning.specs.Versions.{Text, History}
@@ -19,7 +19,7 @@ use Rattle.sc_world.specs.declared.halt.Halt.{Halt}
 use Rattle.sc_world.specs.declared.turn.Turned.TheVariants as turned
 use Rattle.sc_world.specs.Standing.{Standing, state_of}
 use Rattle.sc_world.specs.Wants.{Want, rests}
-use Rattle.sc_world.specs.Goes.{gone, seen, stepped, moved_on}
+use Rattle.sc_world.specs.Goes.{gone, stepped, moved_on}
 use Rattle.sc_world.specs.Turns.{Onward, Comes, standing_at}
 use Rattle.sc_world.proofs.Courses.{is_state, steps_on, steps_last, rests_here, over_here, goes_on, fewer_left, Onto}
 

@@ -1,7 +1,6 @@
 -- What a run means is kept by each step, and by each go.
-use Rattle.std.proofs.Common.{◌≡◌, ℕ, zero, suc, ◌+◌, ◌<◌, List, [], ◌∷◌, refl, ap, sym, subst, ◌∙◌, arith, add-one, Option, Some, None}
-use Rattle.sc_meaning.specs.World.{World, tick}
-use Rattle.sc_meaning.specs.Outcomes.{Outcome, Done, Over, Ending}
+use Rattle.std.proofs.Common.{◌≡◌, ℕ, zero, suc, ◌+◌, List, [], ◌∷◌, refl, ap, sym, subst, ◌∙◌, arith, add-one, Option, Some, None}
+use Rattle.sc_meaning.specs.Outcomes.{Outcome, Done, Over}
 use Rattle.sc_meaning.specs.Versions.{Text, History}
 use Rattle.sc_meaning.specs.Changes.{statics_born}
 use Rattle.sc_meaning.specs.Behaviour.{Start, first_world}

@@ -5,3 +5,4 @@ pub mod Places
 pub mod Pauses
 pub mod Posting
 pub mod Sending
+pub mod Found

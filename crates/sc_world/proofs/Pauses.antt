@@ -1,7 +1,7 @@
 -- Where a go pauses.
 use Rattle.std.proofs.Common.{◌≡◌, ℕ, zero, suc, ◌+◌, Bool, true, false, [], ◌∷◌, List, refl, ap, sym, subst, ◌∙◌, arith, Option, Some, None}
 use Rattle.std.proofs.lemmas.Bool.Decides.{nat_tests}
-use Rattle.std.specs.Prelude.{◌-◌, ◌<◌, ◌≤◌, nat_le}
+use Rattle.std.specs.Prelude.{◌<◌, ◌≤◌, nat_le}
 use Rattle.sc_meaning.specs.World.{Frame}
 use Rattle.sc_meaning.specs.Versions.{Text}
 use Rattle.sc_machine.specs.Runs.{State, Runs, Makes, Answers, Ends}

@@ -1,9 +1,9 @@
 -- Where a run stands, by what the program keeps of it.
-use Rattle.std.proofs.Common.{◌≡◌, ℕ, Bool, true, false, List, [], refl, ap, sym, subst, ◌∙◌, Option, Some, None, Result, Ok, Err}
+use Rattle.std.proofs.Common.{◌≡◌, ℕ, false, List, [], refl, ap, sym, subst, ◌∙◌, Option, Some, None, Result, Err}
 use Rattle.sc_meaning.specs.World.{World}
 use Rattle.sc_meaning.specs.Outcomes.{Ending}
 use Rattle.sc_meaning.specs.Versions.{Text}
-use Rattle.sc_meaning.specs.Behaviour.{Start, first_world}
+use Rattle.sc_meaning.specs.Behaviour.{first_world}
 use Rattle.sc_machine.specs.Runs.{Caller, State, Ends}
 use Rattle.sc_plain_leaves.specs.declared.stop.Stop.{Stop}
 use Rattle.sc_plain_leaves.specs.Gives.{ending_of}
@@ -28,7 +28,7 @@ use Rattle.sc_world.specs.Goes.{gone, closed, Leaves, Goes, want_of, first_from,
 use Rattle.sc_world.specs.Meant.{IsRunOf}
 use Rattle.sc_world.specs.Turns.{standing_at}
 use Rattle.sc_world.proofs.Courses.{world_there, over_here}
-use Rattle.sc_world.proofs.Kept.{keeps, begins}
+use Rattle.sc_world.proofs.Kept.{begins}
 
 -- a go of a run that goes on
 abbrev want_there : Want → ℕ → ℕ → Want

@@ -1,13 +1,12 @@
 -- What the program wrote grows with each step, and so with each go.
-use Rattle.std.proofs.Common.{◌≡◌, ◌≤◌, ℕ, zero, suc, List, [], ◌∷◌, ◌++◌, length, refl, ap, sym, subst, ◌∙◌, arith, append_assoc, Option, Some, None, Result, Ok, Err}
+use Rattle.std.proofs.Common.{◌≡◌, ◌≤◌, ◌<◌, ◌+◌, ℕ, zero, suc, List, [], ◌∷◌, ◌++◌, length, refl, ap, sym, subst, ◌∙◌, arith, append_assoc, Option, Some, None, Result, Ok, Err}
 use Rattle.std.proofs.lemmas.List.{append-nil}
-use Rattle.std.specs.Io.KnownBytes.{Appends}
 use Rattle.std.specs.Prelude.{IfOk, MatchResult}
 use Rattle.sc_meaning.specs.World.{World, Item, Work}
 use Rattle.sc_meaning.specs.Outcomes.{Ending, world_at}
 use Rattle.sc_meaning.specs.Versions.{Text}
 use Rattle.sc_meaning.specs.Laws.{Leads}
-use Rattle.sc_meaning.proofs.Steps.{here, one_more, on}
+use Rattle.sc_meaning.proofs.Steps.{here, on}
 use Rattle.sc_meaning.proofs.Trails.{trail-passed}
 use Rattle.sc_machine.specs.Runs as machine
 use Rattle.sc_machine.specs.Runs.{Caller, State, Runs, Makes, Answers, Ends}
@@ -16,6 +15,7 @@ use Rattle.sc_course.proofs.RunSteps.{advance_leads}
 use Rattle.sc_plain.specs.Steady.{alone, advance}
 use Rattle.sc_plain.specs.declared.going.Going.{Going}
 use Rattle.sc_plain.specs.declared.stepped.Shown.{Shown}
+use Rattle.sc_plain.specs.declared.stepped.Shown.TheVariants.{Nothing}
 use Rattle.sc_plain.specs.declared.running.Ended.{Ended}
 use Rattle.sc_plain.specs.Ends.{end_of}
 use Rattle.sc_plain.proofs.Unchanged.{quiet, present, same_step}
@@ -27,12 +27,15 @@ use Rattle.sc_world.specs.declared.count.Count.{Count}
 use Rattle.sc_world.specs.declared.course.Course.{Course}
 use Rattle.sc_world.specs.declared.course.Course.TheVariants.{On, Over}
 use Rattle.sc_world.specs.declared.halt.Halt.{Halt}
+use Rattle.sc_world.specs.declared.halt.Halt.TheVariants as halting
+use Rattle.sc_world.specs.declared.turn.Turned.{Turned}
+use Rattle.sc_world.specs.declared.turn.Turned.TheVariants as turned
 use Rattle.sc_world.specs.Standing.{Standing, state_of, standing, ended_so, world_in, world_of}
 use Rattle.sc_world.specs.Wants.{Want, rests}
-use Rattle.sc_world.specs.Goes.{Gone, gone, here_or, seen, stepped, with_status, closed, Leaves, Goes, want_of}
+use Rattle.sc_world.specs.Goes.{Gone, gone, here_or, stepped, with_status, Leaves, Goes, want_of}
 use Rattle.sc_world.specs.Posts.{Posted, PostedSome}
-use Rattle.sc_world.specs.Sends.{written, SendsFirst, SendsTo, Sends, SendsSome}
-use Rattle.sc_world.specs.Turns.{Onward, standing_at}
+use Rattle.sc_world.specs.Sends.{written, LeavesFew, SendsFirst, SendsTo, Sends, SendsSome}
+use Rattle.sc_world.specs.Turns.{Comes, Onward, WaitsFew, standing_at}
 use Rattle.sc_world.proofs.Courses.{world_there, Onto}
 use Rattle.sc_world.proofs.Places.{in_world}
 use Rattle.sc_world.proofs.Posting.{appends_none, posted_none, posted_grows, posted_some, some_grows}
@@ -147,6 +150,18 @@ leaves_sends old new want texts m from sent halt (Some n) is p posted =
 
 pub first_sends : (old new : Option (List ℕ)) (want : Want) (texts : List Text) (m : Standing) (from : ℕ) → from ≡ length (written m) → PostedSome old new from (written (gone want.turns want texts m).1) → SendsFirst old new want texts m
 first_sends old new want texts m from is some = subst (λ n. PostedSome old new n (written (gone want.turns want texts m).1)) is some
+
+-- Fewer bytes wait than are posted, where the run is not over.
+pub few_left : (t : Turned) (g : Going) (cs : List Caller) (w : World) (c : Count) (out : Gone) (halt : Halt) (after : Option Standing) (sent : ℕ) → Comes out t g cs w c → Leaves out halt after → ((stop : Stop) → t ≡ turned.Over stop → halt ≡ halting.Ended) → WaitsFew t (output w.trail) sent → LeavesFew halt sent after
+few_left t g cs w c out halt None sent comes p over few = tt
+few_left (turned.Rests h) g cs w c out halt (Some n) sent comes p over few = λ goes_on.
+    let same : written n ≡ output w.trail = ap written (sym p.1) ∙ status_output out.1.state ∙ ap (λ (o : Gone). written o.1) comes ∙ written_there g Nothing cs w c in
+    subst (λ bytes. length bytes < sent + 4096) (sym same) few
+few_left (turned.Over stop) g cs w c out halt (Some n) sent comes p over few = λ goes_on. absurd (goes_on (over stop refl))
+
+pub ended_few : (sent : ℕ) (after : Option Standing) → LeavesFew halting.Ended sent after
+ended_few sent None = tt
+ended_few sent (Some n) = λ goes_on. absurd (goes_on refl)
 
 -- a go of a run that goes on
 abbrev want_there : Want → ℕ → ℕ → Want

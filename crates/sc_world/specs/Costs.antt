@@ -1,5 +1,5 @@
 -- What a step costs in turns: one, and one more for each byte that it touches.
-use Rattle.std.specs.Prelude.{ℕ, ◌+◌, ◌-◌, ◌&&◌, Bool, true, false, if◌then◌else◌}
+use Rattle.std.specs.Prelude.{ℕ, ◌+◌, ◌-◌, ◌&&◌, Bool, true, false}
 use Rattle.sc_meaning.specs.World.{World, work}
 use Rattle.sc_meaning.specs.Outcomes.{Ending, Undefined, Exit, StackFull, BirthLimit, OutOfFuel}
 use Rattle.sc_machine.specs.Runs.{State, Runs, Makes, Answers, Ends}

@@ -2,7 +2,7 @@
 use Rattle.std.specs.Prelude.{ℕ, Option, Some, None}
 use Rattle.sc_meaning.specs.Statements.{id_of}
 use Rattle.sc_machine.specs.declared.body.Doing.{Doing}
-use Rattle.sc_machine.specs.declared.body.Doing.TheVariants.{Within, Exec, Turn, Leave, Pieces, Labels}
+use Rattle.sc_machine.specs.declared.body.Doing.TheVariants.{Pieces}
 use Rattle.sc_machine.specs.Runs.{State, Runs, Makes, Answers, Ends}
 
 -- where the pieces of an object's initialiser come next

@@ -2,6 +2,7 @@ pub mod Standing
 pub mod Declaring
 pub mod Wants
 pub mod Costs
+pub mod Marks
 pub mod Goes
 pub mod Pauses
 pub mod Posts

@@ -1,10 +1,12 @@
 -- What a go sends while it goes on.
-use Rattle.std.specs.Prelude.{◌≡◌, ℕ, List, [], length, Option, Some, None}
+use Rattle.std.specs.Prelude.{◌≢◌, ◌<◌, ◌+◌, ℕ, List, [], length, Option, Some, None}
 use Rattle.std.specs.Io.KnownBytes.{Appends}
 use Rattle.sc_meaning.specs.Versions.{Text}
 use Rattle.sc_plain_world.specs.Outputs.{output}
 use Rattle.sc_words.specs.declared.stop.StopAt.{StopAt}
 use Rattle.sc_words.specs.declared.stop.Walk.{Walk}
+use Rattle.sc_world.specs.declared.halt.Halt.{Halt}
+use Rattle.sc_world.specs.declared.halt.Halt.TheVariants.{Ended}
 use Rattle.sc_world.specs.Standing.{Standing, world_of}
 use Rattle.sc_world.specs.Goes.{gone, want_of}
 use Rattle.sc_world.specs.Posts.{Posted, PostedSome}
@@ -31,3 +33,8 @@ Sends old new texts stops walk turns (Some m) sent after = SendsTo old new (want
 abbrev pub SendsSome : Option (List ℕ) → Option (List ℕ) → List Text → List StopAt → Walk → ℕ → Option Standing → Type 0
 SendsSome old new texts stops walk turns None = Appends old new []
 SendsSome old new texts stops walk turns (Some m) = SendsFirst old new (want_of stops walk turns m) texts m
+
+-- where a go halts before the run is over, fewer bytes wait than are posted
+abbrev pub LeavesFew : Halt → ℕ → Option Standing → Type 0
+LeavesFew halt sent None = Unit {0}
+LeavesFew halt sent (Some n) = halt ≢ Ended → length (written n) < sent + 4096

@@ -1,5 +1,5 @@
 -- Where a run stands.
-use Rattle.std.specs.Prelude.{◌≡◌, ℕ, Bool, true, false, List, [], ◌∷◌, Option, Some, None}
+use Rattle.std.specs.Prelude.{◌≡◌, ℕ, Bool, true, false, List, Option, Some, None}
 use Rattle.sc_meaning.specs.World.{World}
 use Rattle.sc_meaning.specs.Outcomes.{Ending, world_at}
 use Rattle.sc_machine.specs.Runs.{Caller, State, Runs, Makes, Answers, Ends}

@@ -1,5 +1,5 @@
 -- How the program's turns stand to the machine's.
-use Rattle.std.specs.Prelude.{◌≡◌, List, Some, Result, Ok, Err}
+use Rattle.std.specs.Prelude.{◌≡◌, ◌<◌, ◌+◌, ℕ, List, length, Some, Result, Ok, Err}
 use Rattle.sc_meaning.specs.World.{World, work}
 use Rattle.sc_meaning.specs.Outcomes.{Ending}
 use Rattle.sc_machine.specs.Runs.{Caller, State, Ends}
@@ -34,3 +34,8 @@ Onward m (Err stop) g cs w c = (e : Ending) → ending_of stop w ≡ Some e → 
 abbrev pub Comes : Halt × Standing → Turned → Going → List Caller → World → Count → Type 0
 Comes out (turned.Rests halt) g cs w c = out ≡ (halt, standing_at (state_of g cs w) Nothing c)
 Comes out (turned.Over stop) g cs w c = (e : Ending) → ending_of stop w ≡ Some e → out ≡ (Ended, standing_at (Ends e) Nothing c)
+
+-- Behind all the turns but one in which the run ended, fewer bytes wait than are posted.
+abbrev pub WaitsFew : Turned → List ℕ → ℕ → Type 0
+WaitsFew (turned.Rests halt) bytes sent = length bytes < sent + 4096
+WaitsFew (turned.Over stop) bytes sent = Unit {0}

@@ -8,6 +8,7 @@ mod course;
 mod declaring;
 mod halt;
 mod look;
+mod marks;
 mod post;
 mod rest;
 mod run;

@@ -1,20 +1,19 @@
 // Whether a run halts where it stands.
 ghost use Rattle.std.specs.Prelude.{◌≡◌};
-ghost use Rattle.sc_words.specs.Stops as words;
-ghost use Rattle.sc_words.specs.declared.stop.Event.TheVariants as event;
 ghost use Rattle.sc_world.specs.Wants as spec;
 
 use crate::halt::Halt;
+use crate::marks::Marks;
 use sc_plain::Shown;
 use sc_plain_world::{Frame, World};
-use sc_words::{StopAt, Walk};
+use sc_words::Walk;
 use std::marker::Model;
 
 /// What a go halts at: the stops that are set, and the walk, where `since` calls were entered as the go began; and the turns that it may
 /// take, where the run had taken so many `before`.
 #[derive(Drop)]
 pub struct Want<'a> {
-    pub stops: &'a [StopAt],
+    pub stops: Marks<'a>,
     pub walk: Walk,
     pub since: u64,
     pub turns: u64,
@@ -26,7 +25,7 @@ impl<'a> Model for Want<'a> {
 
     ghost Value = { spec.Want };
 
-    ghost view = { λ w. record { stops = w.stops.now; walk = w.walk; since = w.since; turns = w.turns; before = w.before } };
+    ghost view = { λ w. record { stops = w.stops; walk = w.walk; since = w.since; turns = w.turns; before = w.before } };
 }
 
 // Whether a walk halts at a line of a call.
@@ -40,27 +39,6 @@ fn walks(walk: Walk, since: u64, frame: &Frame) -> bool
     }
 }
 
-// Whether a stop is set at this line of a call.
-fn is_at_line(stop: &StopAt, line: u32, frame: &Frame) -> bool
-    ensures { result ≡ words.stops_at (event.At frame.now.home line) stop.now }
-{
-    match stop {
-        StopAt::InFun(_, _) => false,
-        StopAt::AtLine(module, number) => frame.home == *module && line == *number,
-    }
-}
-
-// Whether it is set at the function of a call.
-fn is_in_function(stop: &StopAt, frame: &Frame) -> bool
-    ensures { result ≡ words.stops_at (event.Enter frame.now.key frame.now.home) stop.now }
-{
-    match stop {
-        StopAt::InFun(None, fun) => frame.key.module.is_none() && frame.key.name == *fun,
-        StopAt::InFun(Some(module), fun) => frame.home == *module && frame.key.name == *fun,
-        StopAt::AtLine(_, _) => false,
-    }
-}
-
 /// A halt where there is a reason for it.
 pub fn halt_if(here: bool, halt: Halt) -> Option<Halt>
     ensures { result ≡ spec.halt_if here halt }
@@ -68,24 +46,11 @@ pub fn halt_if(here: bool, halt: Halt) -> Option<Halt>
     if here { Some(halt) } else { None }
 }
 
-// Whether one is set there.
-fn stops_at_line(stops: &[StopAt], line: u32, frame: &Frame) -> bool
-    ensures { result ≡ words.is_matched stops.now (event.At frame.now.home line) }
-{
-    stops.iter().any(|stop| is_at_line(stop, line, frame))
-}
-
-fn stops_in_function(stops: &[StopAt], frame: &Frame) -> bool
-    ensures { result ≡ words.is_matched stops.now (event.Enter frame.now.key frame.now.home) }
-{
-    stops.iter().any(|stop| is_in_function(stop, frame))
-}
-
 // Whether a line that was reached is wanted.
 fn line_wanted(want: &Want, line: u32, frame: &Frame) -> Option<Halt>
     ensures { result ≡ spec.line_wanted want.now line frame.now }
 {
-    let stops_here = stops_at_line(want.stops, line, frame);
+    let stops_here = want.stops.at_line(&frame.home, line);
     let halts_here = stops_here || walks(want.walk, want.since, frame);
     halt_if(halts_here, Halt::AtLine)
 }
@@ -94,7 +59,7 @@ fn line_wanted(want: &Want, line: u32, frame: &Frame) -> Option<Halt>
 fn entry_wanted(want: &Want, frame: &Frame) -> Option<Halt>
     ensures { result ≡ spec.entry_wanted want.now frame.now }
 {
-    let stops_here = stops_in_function(want.stops, frame);
+    let stops_here = want.stops.at_entry(&frame.key, &frame.home);
     halt_if(stops_here, Halt::Entered)
 }
 

@@ -1,5 +1,5 @@
 // What a program wrote goes out while its run goes on (ANSI 2.1.2.3).
-ghost use Rattle.std.specs.Prelude.{◌≡◌, ◌≤◌, ℕ, List, Option, drop, length, Err};
+ghost use Rattle.std.specs.Prelude.{◌≡◌, ◌<◌, ◌≤◌, ◌+◌, ℕ, List, Option, drop, length, Err, IfOk};
 ghost use Rattle.sc_outside.specs.Causes.{Rose};
 ghost use Rattle.sc_world.specs.Posts.{Posted, Posts};
 ghost use Rattle.sc_world.specs.declared.post.Unsent.TheVariants as unsent;
@@ -28,7 +28,7 @@ pub fn behind(bytes: &[u8], first: usize) -> &[u8]
 }
 
 // Writes all of these bytes, which are those that wait of others.
-#[tactic(auto, using(crate::proofs::Posting::writes_done, crate::proofs::Posting::writes_some))]
+#[tactic(auto, using(crate::proofs::Posting::writes_done))]
 fn write<K: Sink>(bytes: &[u8], out: &mut K) -> Result<(), Unsent>
     ensures writes { (first : Option (List ℕ)) (from to : ℕ) (all : List ℕ) → bytes.now ≡ drop to all → Posted first (K.written out.old) from to all → Posts first (K.written out.new) from (length all) all result }
     ensures later { K.faults out.old ≤ K.faults out.new }
@@ -48,6 +48,7 @@ fn write<K: Sink>(bytes: &[u8], out: &mut K) -> Result<(), Unsent>
 /// `Unsent` where the sink took a part of it, or nothing.
 pub fn post<K: Sink>(bytes: &[u8], sent: &mut usize, out: &mut K) -> Result<(), Unsent>
     ensures posts { (first : Option (List ℕ)) (from : ℕ) → Posted first (K.written out.old) from sent.old bytes.now → Posts first (K.written out.new) from sent.new bytes.now result }
+    ensures few { IfOk result (λ _. length bytes.now < sent.new + 4096) }
     ensures later { K.faults out.old ≤ K.faults out.new }
     ensures failed { result ≡ Err unsent.Failed → Rose (K.faults out.old) (K.faults out.new) }
 {

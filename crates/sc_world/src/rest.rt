@@ -8,12 +8,15 @@ ghost use Rattle.sc_plain_leaves.specs.Gives.{ending_of};
 ghost use Rattle.sc_plain_world.specs.Outputs.{output};
 ghost use Rattle.sc_outside.specs.Causes.{Rose};
 ghost use Rattle.sc_world.specs.Goes as goes;
-ghost use Rattle.sc_world.specs.Sends.{Sends, SendsFirst, SendsSome, SendsTo};
+ghost use Rattle.sc_world.specs.Sends.{LeavesFew, Sends, SendsFirst, SendsSome, SendsTo};
 ghost use Rattle.sc_world.specs.Standing as standing;
 ghost use Rattle.sc_world.specs.Turns.{Comes, standing_at};
 ghost use Rattle.sc_world.specs.declared.course.Course.TheVariants.{On};
 ghost use Rattle.sc_world.specs.declared.post.Unsent.TheVariants as unsent;
 ghost use Rattle.sc_world.specs.declared.count.Count as counts;
+ghost use Rattle.sc_world.specs.declared.halt.Halt.TheVariants as halting;
+ghost use Rattle.sc_world.specs.declared.turn.Turned.TheVariants as turns;
+ghost use Rattle.sc_plain_leaves.specs.declared.stop.Stop as stops;
 
 use crate::count::Count;
 use crate::course::Course;
@@ -102,7 +105,8 @@ fn closed(halt: Halt, going: Going, callers: &Stack<Caller>, world: &mut World) 
 
 // What the turns of a go came to.
 fn left_by(turned: Turned, going: Going, callers: &Stack<Caller>, world: &mut World) -> Rested
-    ensures { (c : counts.Count) (out : goes.Gone) → Comes out turned going callers.now world.old c → goes.Leaves out result.halt (standing.standing result.course callers.now world.new c) }
+    ensures leaves { (c : counts.Count) (out : goes.Gone) → Comes out turned going callers.now world.old c → goes.Leaves out result.halt (standing.standing result.course callers.now world.new c) }
+    ensures over { (stop : stops.Stop) → turned ≡ turns.Over stop → result.halt ≡ halting.Ended }
 {
     match turned {
         Turned::Rests(halt) => closed(halt, going, callers, world),
@@ -130,6 +134,7 @@ fn goes_on<K: Sink>(
 ) -> Result<Rested, Unsent>
     ensures goes { want.now.before ≡ count.old.turns → IfOk result (λ r. goes.Leaves (goes.gone want.now.turns want.now texts.now (standing_at (standing.state_of going callers.old world.old) shown count.old)) r.halt (standing.standing r.course callers.new world.new count.new)) }
     ensures sends { want.now.before ≡ count.old.turns → sent.old ≡ length (output world.old.trail) → MatchResult result (λ r. SendsTo (K.written out.old) (K.written out.new) want.now texts.now (standing_at (standing.state_of going callers.old world.old) shown count.old) sent.new (standing.standing r.course callers.new world.new count.new)) (λ _. SendsFirst (K.written out.old) (K.written out.new) want.now texts.now (standing_at (standing.state_of going callers.old world.old) shown count.old)) }
+    ensures few { want.now.before ≡ count.old.turns → sent.old ≡ length (output world.old.trail) → IfOk result (λ r. LeavesFew r.halt sent.new (standing.standing r.course callers.new world.new count.new)) }
     ensures later { K.faults out.old ≤ K.faults out.new }
     ensures failed { result ≡ Err unsent.Failed → Rose (K.faults out.old) (K.faults out.new) }
 {
@@ -161,6 +166,7 @@ pub fn goes_from<K: Sink>(
 ) -> Result<Rested, Unsent>
     ensures goes { want.now.since ≡ world.old.enters → want.now.before ≡ count.old.turns → IfOk result (λ r. goes.Goes texts.now want.now.stops want.now.walk want.now.turns (standing.standing course callers.old world.old count.old) r.halt (standing.standing r.course callers.new world.new count.new)) }
     ensures sends { want.now.since ≡ world.old.enters → want.now.before ≡ count.old.turns → sent.old ≡ length (output world.old.trail) → MatchResult result (λ r. Sends (K.written out.old) (K.written out.new) texts.now want.now.stops want.now.walk want.now.turns (standing.standing course callers.old world.old count.old) sent.new (standing.standing r.course callers.new world.new count.new)) (λ _. SendsSome (K.written out.old) (K.written out.new) texts.now want.now.stops want.now.walk want.now.turns (standing.standing course callers.old world.old count.old)) }
+    ensures few { want.now.before ≡ count.old.turns → sent.old ≡ length (output world.old.trail) → IfOk result (λ r. LeavesFew r.halt sent.new (standing.standing r.course callers.new world.new count.new)) }
     ensures later { K.faults out.old ≤ K.faults out.new }
     ensures failed { result ≡ Err unsent.Failed → Rose (K.faults out.old) (K.faults out.new) }
 {

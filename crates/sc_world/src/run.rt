@@ -10,7 +10,7 @@ ghost use Rattle.sc_world.specs.Meant.{IsRunOf};
 ghost use Rattle.sc_world.specs.Pauses.{IsPause};
 ghost use Rattle.sc_world.specs.Standing as standing;
 ghost use Rattle.sc_world.specs.declared.halt.Halt.TheVariants.{Paused};
-ghost use Rattle.sc_world.specs.Sends.{Sends, SendsSome};
+ghost use Rattle.sc_world.specs.Sends.{LeavesFew, Sends, SendsSome};
 ghost use Rattle.sc_world.specs.declared.post.Unsent.TheVariants as unsent;
 ghost use Rattle.sc_outside.specs.Causes.{Rose};
 
@@ -20,6 +20,7 @@ use crate::course::Course;
 use crate::declaring::declaring_of;
 use crate::halt::{Halt, Halted};
 use crate::look::Want;
+use crate::marks::Marks;
 use crate::post::Unsent;
 use crate::rest::goes_from;
 use sc_base::{Items, NoMemory, Stack};
@@ -107,6 +108,7 @@ impl Run {
     ) -> Result<Halted, Unsent>
         ensures goes { IfOk result (λ h. Goes texts.now stops.now walk turns self.old h.halt self.new) }
         ensures sends { MatchResult result (λ h. Sends (K.written out.old) (K.written out.new) texts.now stops.now walk turns self.old h.sent self.new) (λ _. SendsSome (K.written out.old) (K.written out.new) texts.now stops.now walk turns self.old) }
+        ensures few { IfOk result (λ h. LeavesFew h.halt h.sent self.new) }
         ensures lost { OnErr result (self.new ≡ None) }
         ensures meant { (s : behaviour.Start) → IsRunOf s texts.now self.old → IsRunOf s texts.now self.new }
         ensures pauses { IfOk result (λ h. (first last : standing.Standing) (n : ℕ) → self.old ≡ Some first → self.new ≡ Some last → h.halt ≡ Paused n → 0 < turns → IsPause texts.now (want_of stops.now walk turns first) last n) }
@@ -114,7 +116,7 @@ impl Run {
         ensures failed { result ≡ Err unsent.Failed → Rose (K.faults out.old) (K.faults out.new) }
     {
         let want = Want {
-            stops,
+            stops: Marks::new(self.world.alloc(), stops),
             walk,
             since: self.world.enters(),
             turns,

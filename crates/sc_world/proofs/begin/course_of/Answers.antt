@@ -1,4 +1,4 @@
-use Rattle.std.proofs.Common.{◌≡◌, ◌∙◌, ap, refl, Err}
+use Rattle.std.proofs.Common.{◌∙◌, ap, refl, Err}
 use Rattle.sc_meaning.specs.Outcomes.{Undefined, Exit, StackFull, BirthLimit}
 use Rattle.sc_plain_leaves.specs.declared.stop.Stop.TheVariants as stop
 use Rattle.sc_plain.specs.declared.running.Ended.TheVariants as ended

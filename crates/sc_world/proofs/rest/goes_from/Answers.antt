@@ -1,10 +1,10 @@
-use Rattle.std.proofs.Common.{◌≡◌}
 use Rattle.sc_world.specs.Goes.{gone, Goes, Leaves}
 use Rattle.sc_world.specs.Sends.{Sends, SendsFirst, SendsSome, SendsTo}
 use Rattle.sc_world.specs.Standing.{standing, state_of}
 use Rattle.sc_world.specs.Turns.{standing_at}
+use Rattle.sc_world.specs.declared.course.Course.TheVariants.{Over}
 use Rattle.sc_world.proofs.Places.{goes_so, stays_over}
-use Rattle.sc_world.proofs.Sending.{if_ok, match_as, sends_so, sends_first_so, stays_silent}
+use Rattle.sc_world.proofs.Sending.{if_ok, match_as, sends_so, sends_first_so, stays_silent, ended_few}
 use Rattle.sc_world.proofs.rest.goes_from.Goals as goal
 
 pub returns-in-Over-clause-goes : goal.returns-in-Over-clause-goes
@@ -34,3 +34,6 @@ returns-in-On-clause-sends g c = λ at before all.
     (λ r p. sends_so _ _ c.args.texts.now c.args.want.now c.args.course c.in-On.going c.in-On.shown c.args.callers.now c.args.world.now c.args.count.now _ _ c.in-On.is at before p)
     (λ e p. sends_first_so _ _ c.args.texts.now c.args.want.now c.args.course c.in-On.going c.in-On.shown c.args.callers.now c.args.world.now c.args.count.now c.in-On.is at before p)
     (c.goes_on.ensures.sends before all)
+
+pub returns-in-Over-clause-few : goal.returns-in-Over-clause-few
+returns-in-Over-clause-few g c = λ begins at. ended_few c.args.sent.now (standing (Over c.in-Over.ended) c.args.callers.now c.args.world.now c.args.count.now)

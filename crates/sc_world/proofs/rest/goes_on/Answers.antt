@@ -1,13 +1,13 @@
-use Rattle.std.proofs.Common.{◌≡◌, ap, sym, length}
+use Rattle.std.proofs.Common.{ap, sym, length}
 use Rattle.sc_plain_world.specs.Outputs.{output}
 use Rattle.sc_world.specs.Goes.{gone}
 use Rattle.sc_world.specs.Standing.{state_of}
 use Rattle.sc_world.specs.Turns.{standing_at}
-use Rattle.sc_world.proofs.Sending.{written_there, leaves_sends, first_sends}
+use Rattle.sc_world.proofs.Sending.{written_there, leaves_sends, first_sends, few_left}
 use Rattle.sc_world.proofs.rest.goes_on.Goals as goal
 
 pub returns-in-Ok-clause-goes : goal.returns-in-Ok-clause-goes
-returns-in-Ok-clause-goes g c = λ begins. c.left_by.ensures c.turns_taken.new.count _ (c.in-Ok.ensures.comes begins)
+returns-in-Ok-clause-goes g c = λ begins. c.left_by.ensures.leaves c.turns_taken.new.count _ (c.in-Ok.ensures.comes begins)
 
 pub returns-in-Ok-clause-sends : goal.returns-in-Ok-clause-sends
 returns-in-Ok-clause-sends g c = λ begins at.
@@ -15,7 +15,7 @@ returns-in-Ok-clause-sends g c = λ begins at.
     (standing_at (state_of c.args.going c.args.callers.now c.args.world.now) c.args.shown c.args.count.now)
     (length (output c.args.world.now.trail)) c.turns_taken.new.sent c.left_by.result.halt _
     (ap (λ bytes. length bytes) (sym (written_there c.args.going c.args.shown c.args.callers.now c.args.world.now c.args.count.now)))
-    (c.left_by.ensures c.turns_taken.new.count _ (c.in-Ok.ensures.comes begins))
+    (c.left_by.ensures.leaves c.turns_taken.new.count _ (c.in-Ok.ensures.comes begins))
     (c.in-Ok.ensures.sends begins at)
 
 pub returns-in-Err-clause-sends : goal.returns-in-Err-clause-sends
@@ -25,3 +25,10 @@ returns-in-Err-clause-sends g c = λ begins at.
     (length (output c.args.world.now.trail))
     (ap (λ bytes. length bytes) (sym (written_there c.args.going c.args.shown c.args.callers.now c.args.world.now c.args.count.now)))
     (c.in-Err.ensures.sends begins at)
+
+pub returns-in-Ok-clause-few : goal.returns-in-Ok-clause-few
+returns-in-Ok-clause-few g c = λ begins at.
+    few_left c.in-Ok.turned c.turns_taken.new.going c.turns_taken.new.callers c.turns_taken.new.world c.turns_taken.new.count
+    (gone c.args.want.now.turns c.args.want.now c.args.texts.now (standing_at (state_of c.args.going c.args.callers.now c.args.world.now) c.args.shown c.args.count.now))
+    c.left_by.result.halt _ c.turns_taken.new.sent (c.in-Ok.ensures.comes begins)
+    (c.left_by.ensures.leaves c.turns_taken.new.count _ (c.in-Ok.ensures.comes begins)) c.left_by.ensures.over (c.in-Ok.ensures.few at)

@@ -1,4 +1,3 @@
-use Rattle.std.proofs.Common.{◌≡◌}
 use Rattle.sc_world.proofs.Courses.{over_at}
 use Rattle.sc_world.proofs.turn.is_over.Goals as goal
 

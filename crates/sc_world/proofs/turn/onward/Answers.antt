@@ -1,4 +1,3 @@
-use Rattle.std.proofs.Common.{◌≡◌}
 use Rattle.sc_world.specs.Standing.{state_of}
 use Rattle.sc_world.proofs.Exits.{onward_on, onward_last}
 use Rattle.sc_world.proofs.turn.onward.Goals as goal

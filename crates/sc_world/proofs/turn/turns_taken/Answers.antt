@@ -1,4 +1,4 @@
-use Rattle.std.proofs.Common.{◌≡◌, ◌∙◌, sym, ap, subst, refl, arith, length}
+use Rattle.std.proofs.Common.{◌∙◌, sym, subst, arith, ◌<◌, ◌+◌, length}
 use Rattle.sc_plain_world.specs.Outputs.{output}
 use Rattle.sc_world.specs.Posts.{Posted, PostedSome}
 use Rattle.sc_world.specs.Standing.{state_of}
@@ -12,6 +12,7 @@ pub turning-init : goal.turning-init
 turning-init g c = record {
   onto = λ begins. at_first c.args.want.now c.args.texts.now (standing_at (state_of c.args.going.now c.args.callers.now c.args.world.now) c.args.first c.args.count.now) begins;
   posted = λ at. posts_first (g.K.Sink.written c.args.out.now) c.args.sent.now (output c.args.world.now.trail) at;
+  few = λ at. omega (arith, at);
   later = omega arith;
 }
 
@@ -25,6 +26,9 @@ returns-in-Some-clause-sends g c = λ begins at.
     posts_last (g.K.Sink.written c.args.out.now) (g.K.Sink.written c.turning.out) (length (output c.args.world.now.trail)) c.turning.sent c.args.want.now c.args.texts.now
     (standing_at (state_of c.args.going.now c.args.callers.now c.args.world.now) c.args.first c.args.count.now)
     c.turning.going c.turning.shown c.turning.callers c.turning.world c.turning.count (c.turning.invariant.onto begins) (c.turning.invariant.posted at)
+
+pub returns-in-Some-clause-few : goal.returns-in-Some-clause-few
+returns-in-Some-clause-few g c = λ at. c.turning.invariant.few at
 
 pub turning-smaller : goal.turning-smaller
 turning-smaller g c =
@@ -42,6 +46,7 @@ turning-preserved g c = record {
       (subst (Posted (g.K.Sink.written c.args.out.now) (g.K.Sink.written c.turning.out) (length (output c.args.world.now.trail)) c.turning.sent) (sym c.output.ensures)
       (posts_step (g.K.Sink.written c.args.out.now) (g.K.Sink.written c.turning.out) (length (output c.args.world.now.trail)) c.turning.sent c.args.texts.now c.turning.going c.turning.shown c.turning.callers c.turning.world c.turning.count
       c.onward.result c.in-Ok.next c.onward.new.going c.onward.new.callers c.onward.new.world c.onward.new.count (c.onward.ensures c.turning.shown) c.in-Ok.is (c.turning.invariant.posted at))));
+  few = λ at. subst (λ bytes. length bytes < c.post.new.sent + 4096) c.output.ensures c.in-Ok-post.ensures.few;
   later = omega (arith, c.post.ensures.later, c.turning.invariant.later);
 }
 

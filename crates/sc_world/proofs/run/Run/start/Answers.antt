@@ -1,4 +1,3 @@
-use Rattle.std.proofs.Common.{◌≡◌}
 use Rattle.sc_world.proofs.Places.{starts_so, meant_so}
 use Rattle.sc_world.proofs.run.Run.start.Goals as goal
 
