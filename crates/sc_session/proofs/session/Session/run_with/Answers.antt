@@ -13,7 +13,7 @@ returns-in-Denied-clause-runs g c =
     run_denied (g.K.Sink.written c.args.out.now) (moment c.args.self.now (g.F.Files.held c.args.files.now) (g.F.Files.faults c.args.files.now)) c.args.file
     (g.F.Files.faults c.input_of.new.files) (g.F.Files.held c.input_of.new.files) c.in-Denied.denied c.requires.main c.input_of.ensures.held c.in-Denied.ensures.finds
 
-pub returns-in-NoMemory-clause-runs : goal.returns-in-NoMemory-clause-runs
-returns-in-NoMemory-clause-runs g c =
+pub returns-clause-runs : goal.returns-clause-runs
+returns-clause-runs g c =
     run_unbegun (g.K.Sink.written c.args.out.now) (moment c.args.self.now (g.F.Files.held c.args.files.now) (g.F.Files.faults c.args.files.now)) c.args.file c.args.self.now
     (g.F.Files.faults c.input_of.new.files) (g.F.Files.held c.input_of.new.files) refl c.input_of.ensures.held
