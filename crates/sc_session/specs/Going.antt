@@ -1,6 +1,6 @@
 -- What a run answers that begins or goes on, and how the session stands behind it.
 use Rattle.std.specs.Io.KnownBytes.{Appends}
-use Rattle.std.specs.Prelude.{◌≡◌, ◌⊎◌, ℕ, Bool, true, false, List, [], ◌∷◌, ◌++◌, length, drop, Option, Some, None, codes, decimal}
+use Rattle.std.specs.Prelude.{◌≡◌, ◌⊎◌, ℕ, Bool, true, false, List, [], ◌∷◌, ◌++◌, length, drop, Option, Some, None, Result, Ok, Err, codes, decimal}
 use Rattle.sc_meaning.specs.Behaviour.{Start, main_key}
 use Rattle.sc_meaning.specs.Versions.{Text, Callee, callee_of, Missing}
 use Rattle.sc_meaning.specs.World.{World, Frame}
@@ -23,6 +23,7 @@ use Rattle.sc_words.specs.declared.stop.Walk.{Walk}
 use Rattle.sc_words.specs.declared.stop.Walk.TheVariants as walk
 use Rattle.sc_world.specs.declared.halt.Halt.{Halt}
 use Rattle.sc_world.specs.declared.halt.Halt.TheVariants as halt
+use Rattle.sc_world.specs.declared.post.Unsent.{Unsent}
 use Rattle.sc_world.specs.Goes.{Goes, started}
 use Rattle.sc_world.specs.Meant.{IsRunOf}
 use Rattle.sc_world.specs.Sends.{SendsSome}
@@ -146,6 +147,10 @@ Behind Answers First front (answer.Ran text) = Answers (answer.Ran (front ++ tex
 Behind Answers First front answer.NoMemory = Answers answer.NoMemory × ((front ≡ []) ⊎ First front)
 Behind Answers First front said = Answers said × (front ≡ [])
 
+-- bytes that went out of a go of which nothing is told: its run is over, so that none of them goes out again
+abbrev pub WithRunOver : (List ℕ → Type 0) → Plain → List ℕ → Type 0
+WithRunOver First new front = First front × (new.state ≡ state.Ended)
+
 -- these are the first bytes that the program writes in a go: a sink that was empty could have just them
 abbrev pub IsFirstOf : List Text → List StopAt → Walk → ℕ → Option Standing → List ℕ → Type 0
 IsFirstOf modules stops how turns r front = SendsSome (Some []) (Some front) modules stops how turns r
@@ -182,6 +187,12 @@ Walks session how _ new = ⊥
 abbrev pub WalkFirst : Plain → Walk → List ℕ → Type 0
 WalkFirst session how front = (r : Option Standing) × RunsIn session.state r × IsFirstOf session.modules (places session.stops) how session.limits.turns r front
 
+-- What comes of a go of a session's run: an answer behind what went out, or a write that failed.
+abbrev pub WalksOut : Option (List ℕ) → Option (List ℕ) → Plain → Walk → Result Answer Unsent → Plain → Type 0
+WalksOut sink gained session how (Ok said) new =
+    Gains sink gained (λ front. Behind (λ said. Walks session how said new) (WithRunOver (WalkFirst session how) new) front said)
+WalksOut sink gained session how (Err e) new = Gains sink gained (λ front. WalkFirst session how front)
+
 -- the run of a session's program from its start on
 abbrev pub run_of : Plain → List ℕ → Option Standing
 run_of session bytes = Some (started session.modules session.limits.stack session.limits.heap bytes)
@@ -201,3 +212,9 @@ abbrev pub BeginsSo : Plain → List ℕ → Answer → Plain → Type 0
 BeginsSo session bytes (answer.Ran text) new = Begins session bytes text new
 BeginsSo session bytes answer.NoMemory new = IsCutOff session new
 BeginsSo session bytes _ new = ⊥
+
+-- and what comes of it
+abbrev pub BeginsOut : Option (List ℕ) → Option (List ℕ) → Plain → List ℕ → Result Answer Unsent → Plain → Type 0
+BeginsOut sink gained session bytes (Ok said) new =
+    Gains sink gained (λ front. Behind (λ said. BeginsSo session bytes said new) (WithRunOver (BeginFirst session bytes) new) front said)
+BeginsOut sink gained session bytes (Err e) new = Gains sink gained (λ front. BeginFirst session bytes front)

@@ -1,5 +1,5 @@
 -- What a session answers to each command, and the session behind it.
-use Rattle.std.specs.Prelude.{◌≡◌, ◌⊎◌, ℕ, ◌+◌, Bool, true, false, List, [], ◌++◌, Option, Some, None}
+use Rattle.std.specs.Prelude.{◌≡◌, ◌⊎◌, ℕ, ◌+◌, Bool, true, false, List, [], ◌++◌, Option, Some, None, Result, Ok, Err}
 use Rattle.sc_build.specs.Builds.{Builds, Refuses, IsMissing, IsTooLong, Asks}
 use Rattle.sc_build.specs.declared.building.Built.{Built}
 use Rattle.sc_outside.specs.Causes.{Rose}
@@ -12,6 +12,7 @@ use Rattle.sc_words.specs.declared.denied.Denied.{Denied}
 use Rattle.sc_words.specs.declared.denied.Denied.TheVariants as denied
 use Rattle.sc_words.specs.declared.options.Options.{Options}
 use Rattle.sc_words.specs.declared.stop.Walk.TheVariants as walk
+use Rattle.sc_world.specs.declared.post.Unsent.{Unsent}
 use Rattle.sc_session.specs.declared.joining.Taken.{Taken}
 use Rattle.sc_session.specs.declared.joining.Taken.TheVariants as taken
 use Rattle.sc_session.specs.declared.limits.Limits.{Limits}
@@ -22,7 +23,7 @@ use Rattle.sc_session.specs.States.{refusal_of}
 use Rattle.sc_session.specs.Loading.{file_of, file_or, conflict, numbers_with, with_module, in_place, without, scopes_in, with_scopes, scopes_in_place, scopes_without}
 use Rattle.sc_session.specs.Stopping.{Sets, without_stop}
 use Rattle.sc_session.specs.Showing.{Lists, ShowsCalls, ShowsValue}
-use Rattle.sc_session.specs.Going.{in_state, has_main, IsInput, InputDenied, IsCutOff, Behind, Gains, Walks, WalkFirst, Begins, BeginFirst}
+use Rattle.sc_session.specs.Going.{in_state, has_main, IsInput, InputDenied, IsCutOff, Behind, Gains, WithRunOver, Walks, WalkFirst, Begins, BeginFirst}
 
 -- A session between two commands, what the files hold then where they tell it, and how often they have failed.
 pub record Moment : Type 0 where
@@ -149,7 +150,13 @@ Runs old file _ new = ⊥
 
 -- the first bytes that the program writes as it is run so
 abbrev pub RunFirst : Moment → Option (List ℕ) → List ℕ → Type 0
-RunFirst old file front = (bytes : List ℕ) × IsInput old.held file bytes × BeginFirst old.session bytes front
+RunFirst old file front = (has_main old.session.modules ≡ true) × ((bytes : List ℕ) × IsInput old.held file bytes × BeginFirst old.session bytes front)
+
+-- what comes of it
+abbrev pub RunsOut : Option (List ℕ) → Option (List ℕ) → Moment → Option (List ℕ) → Result Answer Unsent → Moment → Type 0
+RunsOut sink gained old file (Ok said) new =
+    Gains sink gained (λ front. Behind (λ said. Runs old file said new) (WithRunOver (RunFirst old file) new.session) front said)
+RunsOut sink gained old file (Err e) new = Gains sink gained (λ front. RunFirst old file front)
 
 -- a command that looks at no file
 abbrev pub SameFiles : Moment → Moment → Type 0
@@ -203,16 +210,26 @@ is_go command.Cont = true
 is_go _ = false
 
 -- the first bytes that the program writes as a command lets it go on
+abbrev pub WritesFirst : Moment → Command → List ℕ → Type 0
+WritesFirst old (command.Run file) front = RunFirst old file front
+WritesFirst old command.Step front = WalkFirst old.session walk.Step front
+WritesFirst old command.Next front = WalkFirst old.session walk.Next front
+WritesFirst old command.Cont front = WalkFirst old.session walk.Cont front
+WritesFirst old _ front = ⊥
+
+-- what comes of one that is not refused
+abbrev pub GoesOut : Option (List ℕ) → Option (List ℕ) → Moment → Command → Result Answer Unsent → Moment → Type 0
+GoesOut sink gained old c (Ok said) new =
+    Gains sink gained (λ front. Behind (λ said. Carried old c said new) (WithRunOver (WritesFirst old c) new.session) front said)
+GoesOut sink gained old c (Err e) new = Gains sink gained (λ front. WritesFirst old c front)
+
+-- a refused command lets no program go on
 abbrev pub GoFirst : Moment → Command → List ℕ → Type 0
-GoFirst old (command.Run file) front = RunFirst old file front
-GoFirst old command.Step front = WalkFirst old.session walk.Step front
-GoFirst old command.Next front = WalkFirst old.session walk.Next front
-GoFirst old command.Cont front = WalkFirst old.session walk.Cont front
-GoFirst old _ front = ⊥
+GoFirst old c front = (refusal_of (asked c old.session) c ≡ None) × WritesFirst old c front
 
 -- the answer behind bytes that went out while the command was carried out
 abbrev pub SaysBehind : Moment → Command → List ℕ → Answer → Moment → Type 0
-SaysBehind old c front said new = Behind (λ said. AnswersTo old c said new) (GoFirst old c) front said
+SaysBehind old c front said new = Behind (λ said. AnswersTo old c said new) (WithRunOver (GoFirst old c) new.session) front said
 
 -- A command that lets no program go on sends nothing.
 abbrev pub Speaks : Option (List ℕ) → Option (List ℕ) → Moment → Command → Answer → Moment → Type 0

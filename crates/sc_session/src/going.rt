@@ -164,7 +164,7 @@ fn rest_on_new_line(
 }
 
 // The text on a go that halted so, behind what went out of it: the run stands here, and so many bytes had been written before.
-fn told(alloc: Global, before: usize, halted: Halted, run: &Run) -> Result<Bytes, NoMemory>
+fn told_text(alloc: Global, before: usize, halted: Halted, run: &Run) -> Result<Bytes, NoMemory>
     ensures { IfOk result (λ text. spec.ToldBehind before halted.sent halted.halt run.now text) }
 {
     let world = run.world();
@@ -217,7 +217,7 @@ pub fn gone<K: Sink>(
 {
     let before = run.world().output().len();
     match run.go(texts, stops, walk, turns, out) {
-        Ok(halted) => match told(alloc, before, halted, &run) {
+        Ok(halted) => match told_text(alloc, before, halted, &run) {
             Ok(text) => Ok(Told {
                 text,
                 state: state_after(halted.halt, run),

@@ -222,8 +222,7 @@ impl Session {
         requires named { IsNamed command }
         requires allowed { refusal_of self.old command ≡ None }
         requires goes { spec.is_go command ≡ true }
-        ensures step { MatchResult result (λ said. going.Gains (K.written out.old) (K.written out.new) (λ front. going.Behind (λ said. Carried (moment self.old (F.held files.old) (F.faults files.old)) command said (moment self.new (F.held files.new) (F.faults files.new))) (spec.GoFirst (moment self.old (F.held files.old) (F.faults files.old)) command) front said))
-            (λ _. BreaksOff (K.written out.old) (K.written out.new) (moment self.old (F.held files.old) (F.faults files.old)) command) }
+        ensures step { spec.GoesOut (K.written out.old) (K.written out.new) (moment self.old (F.held files.old) (F.faults files.old)) command result (moment self.new (F.held files.new) (F.faults files.new)) }
         ensures out_later { K.faults out.old ≤ K.faults out.new }
         ensures failed { result ≡ Err unsent.Failed → Rose (K.faults out.old) (K.faults out.new) }
         ensures later { F.faults files.old ≤ F.faults files.new }
@@ -348,8 +347,7 @@ impl Session {
     // The run goes on from where it stands.
     fn walk<K: Sink>(&mut self, alloc: Global, walk: Walk, out: &mut K) -> Result<Answer, Unsent>
         requires { going.IsGoing self.old.state }
-        ensures walks { MatchResult result (λ said. going.Gains (K.written out.old) (K.written out.new) (λ front. going.Behind (λ said. going.Walks self.old walk said self.new) (going.WalkFirst self.old walk) front said))
-            (λ _. going.Gains (K.written out.old) (K.written out.new) (λ front. going.WalkFirst self.old walk front)) }
+        ensures walks { going.WalksOut (K.written out.old) (K.written out.new) self.old walk result self.new }
         ensures later { K.faults out.old ≤ K.faults out.new }
         ensures failed { result ≡ Err unsent.Failed → Rose (K.faults out.old) (K.faults out.new) }
     {
@@ -383,8 +381,7 @@ impl Session {
         files: &mut F,
     ) -> Result<Answer, Unsent>
         requires { IsFile file }
-        ensures runs { MatchResult result (λ said. going.Gains (K.written out.old) (K.written out.new) (λ front. going.Behind (λ said. spec.Runs (moment self.old (F.held files.old) (F.faults files.old)) file said (moment self.new (F.held files.new) (F.faults files.new))) (spec.RunFirst (moment self.old (F.held files.old) (F.faults files.old)) file) front said))
-            (λ _. going.Gains (K.written out.old) (K.written out.new) (λ front. spec.RunFirst (moment self.old (F.held files.old) (F.faults files.old)) file front)) }
+        ensures runs { spec.RunsOut (K.written out.old) (K.written out.new) (moment self.old (F.held files.old) (F.faults files.old)) file result (moment self.new (F.held files.new) (F.faults files.new)) }
         ensures out_later { K.faults out.old ≤ K.faults out.new }
         ensures failed { result ≡ Err unsent.Failed → Rose (K.faults out.old) (K.faults out.new) }
         ensures later { F.faults files.old ≤ F.faults files.new }
@@ -407,8 +404,7 @@ impl Session {
     ) -> Result<Answer, Unsent>
         requires file { IsFile file }
         requires main { going.has_main self.old.modules ≡ true }
-        ensures runs { MatchResult result (λ said. going.Gains (K.written out.old) (K.written out.new) (λ front. going.Behind (λ said. spec.Runs (moment self.old (F.held files.old) (F.faults files.old)) file said (moment self.new (F.held files.new) (F.faults files.new))) (spec.RunFirst (moment self.old (F.held files.old) (F.faults files.old)) file) front said))
-            (λ _. going.Gains (K.written out.old) (K.written out.new) (λ front. spec.RunFirst (moment self.old (F.held files.old) (F.faults files.old)) file front)) }
+        ensures runs { spec.RunsOut (K.written out.old) (K.written out.new) (moment self.old (F.held files.old) (F.faults files.old)) file result (moment self.new (F.held files.new) (F.faults files.new)) }
         ensures out_later { K.faults out.old ≤ K.faults out.new }
         ensures failed { result ≡ Err unsent.Failed → Rose (K.faults out.old) (K.faults out.new) }
         ensures later { F.faults files.old ≤ F.faults files.new }
@@ -428,8 +424,7 @@ impl Session {
         input: Items<u8>,
         out: &mut K,
     ) -> Result<Answer, Unsent>
-        ensures begins { MatchResult result (λ said. going.Gains (K.written out.old) (K.written out.new) (λ front. going.Behind (λ said. going.BeginsSo self.old input said self.new) (going.BeginFirst self.old input) front said))
-            (λ _. going.Gains (K.written out.old) (K.written out.new) (λ front. going.BeginFirst self.old input front)) }
+        ensures begins { going.BeginsOut (K.written out.old) (K.written out.new) self.old input result self.new }
         ensures later { K.faults out.old ≤ K.faults out.new }
         ensures failed { result ≡ Err unsent.Failed → Rose (K.faults out.old) (K.faults out.new) }
     {

@@ -1,12 +1,13 @@
 -- The answer to a line, where the program's bytes go out before it.
-use Rattle.std.proofs.Common.{◌≡◌, inl, inr, ℕ, Bool, true, false, List, [], ◌++◌, refl, ap, sym, ◌∙◌, append_assoc, subst, Option, Some, None}
+use Rattle.std.proofs.Common.{◌≡◌, inl, inr, ℕ, Bool, true, false, List, [], ◌++◌, refl, ap, sym, ◌∙◌, append_assoc, arith, subst, MatchResult, Option, Some, None, Result, Ok, Err}
 use Rattle.std.proofs.lemmas.List.{append-nil}
 use Rattle.std.specs.Prelude.{◌⊎◌, ◌≤◌}
 use Rattle.std.specs.Io.KnownBytes.{Appends}
+use Rattle.sc_outside.specs.Causes.{Rose}
 use Rattle.sc_outside.specs.Streams.{Writes, AppendsSome}
 use Rattle.sc_outside.specs.declared.sink.Sent.{Sent}
 use Rattle.sc_outside.specs.declared.sink.Sent.TheVariants as sent
-use Rattle.sc_session.specs.Transcript.{Moment, AnswersTo, SaysBehind, Speaks, BreaksOff, GoFirst, is_go}
+use Rattle.sc_session.specs.Transcript.{Moment, AnswersTo, SaysBehind, Speaks, BreaksOff, GoFirst, WritesFirst, is_go}
 use Rattle.sc_words.specs.Commands.{command_of}
 use Rattle.sc_words.specs.Texts.{text_of}
 use Rattle.sc_words.specs.declared.answer.Answer.{Answer}
@@ -14,14 +15,16 @@ use Rattle.sc_words.specs.declared.answer.Answer.TheVariants as answer
 use Rattle.sc_words.specs.declared.command.Command.{Command}
 use Rattle.sc_words.specs.declared.command.Command.TheVariants as command
 use Rattle.sc_top.specs.Transcript.{Replies, Answers, IsBefore}
-use Rattle.sc_top.specs.Sessions.{Replied, Unreplied}
+use Rattle.sc_top.specs.Sessions.{AnswersLine, LineAnswered, Replied, Sends, Unreplied, progress_of}
+use Rattle.sc_top.specs.declared.line.Progress.TheVariants as progress
+use Rattle.sc_world.specs.declared.post.Unsent.{Unsent}
 use Rattle.sc_top.specs.Waiting.{IsOnItsWay, IsPartlyOnItsWay, Posts}
 use Rattle.sc_top.proofs.RunLemmas.{replied}
 use Rattle.sc_top.proofs.WaitingLemmas.{appends_more, appends_none, waits_all, partly, partly-writes, behind, on_its_way, partly_on_its_way}
 
 module _ (old new : Moment) (line : List ℕ) (later : old.faults ≤ new.faults) where
   -- an answer with nothing before it, and one that has the first of its text before it
-  plain : (said : Answer) (front : List ℕ) → IsBefore old (command_of line) said [] → Replies old line said new → front ≡ [] → Answers old line (front ++ text_of said) new
+  plain : (said : Answer) (front : List ℕ) → IsBefore old (command_of line) said [] new → Replies old line said new → front ≡ [] → Answers old line (front ++ text_of said) new
   plain said front before replies none =
       subst (λ f. Answers old line (f ++ text_of said) new) (sym none)
       (record { front = []; said = said; replies = replies; before = before; text = refl; later = later })
@@ -57,19 +60,19 @@ still old new waited front none p =
     ([], ap (λ f. waited ++ f) none ∙ append-nil waited, subst (Appends old new) none p)
 
 pub replies_through : (before after : Moment) (line : List ℕ) (c : Command) (said : Answer) (old mid new : Option (List ℕ)) (waited waiting : List ℕ) → c ≡ command_of line → before.faults ≤ after.faults → waiting ≡ [] → Appends old mid waited → Speaks mid new before c said after → Replied before line said after old new waited waiting
-replies_through before after line c said old mid new waited waiting is later none p (front, gains, says, quiet) =
-    (front, said_so before after line c said front is later says, subst (λ r. IsOnItsWay old new r (waited ++ front)) (sym none) (through old mid new waited front p gains))
+replies_through before after line c said old mid new waited waiting is later none p (front, gains, (told, quiet)) =
+    (front, said_so before after line c said front is later told, subst (λ r. IsOnItsWay old new r (waited ++ front)) (sym none) (through old mid new waited front p gains))
 
 pub replies_still : (before after : Moment) (line : List ℕ) (c : Command) (said : Answer) (old new : Option (List ℕ)) (waited : List ℕ) → c ≡ command_of line → before.faults ≤ after.faults → is_go c ≡ false → Speaks old new before c said after → Replied before line said after old new waited waited
-replies_still before after line c said old new waited is later still_there (front, gains, says, quiet) =
-    (front, said_so before after line c said front is later says, still old new waited front (quiet still_there) gains)
+replies_still before after line c said old new waited is later still_there (front, gains, (told, quiet)) =
+    (front, said_so before after line c said front is later told, still old new waited front (quiet still_there) gains)
 
 pub unread : (before : Moment) (line : List ℕ) (known : Option (List ℕ)) (waited : List ℕ) → before.faults ≤ before.faults → Replies before line answer.NoMemory before → Replied before line answer.NoMemory before known known waited waited
 unread before line known waited later replies =
     ([], plain before before line later answer.NoMemory [] (inl refl) replies refl, still known known waited [] refl (appends_none known))
 
 -- a command that lets no program go on is not broken off
-no_go : (old : Moment) (c : Command) (front : List ℕ) → is_go c ≡ false → GoFirst old c front → ⊥
+no_go : (old : Moment) (c : Command) (front : List ℕ) → is_go c ≡ false → WritesFirst old c front → ⊥
 no_go old (command.Run file) front p q = absurd (cc)
 no_go old command.Step front p q = absurd (cc)
 no_go old command.Next front p q = absurd (cc)
@@ -93,8 +96,55 @@ breaks_through before line c old mid new waited waiting is none p (front, gains,
     (front, inr (subst (λ c. GoFirst before c front) is first), subst (λ r. IsPartlyOnItsWay old new r (waited ++ front)) (sym none) (partly old new [] (waited ++ front) (through old mid new waited front p gains)))
 
 pub breaks_still : (before : Moment) (line : List ℕ) (c : Command) (old new : Option (List ℕ)) (waited waiting : List ℕ) → is_go c ≡ false → BreaksOff old new before c → Unreplied before line old new waited waiting
-breaks_still before line c old new waited waiting still_there (front, gains, first) = absurd (no_go before c front still_there first)
+breaks_still before line c old new waited waiting still_there (front, gains, first) = absurd (no_go before c front still_there first.1)
 
 pub unflushed : (before : Moment) (line : List ℕ) (result : Sent) (old new : Option (List ℕ)) (waited waiting : List ℕ) → waiting ≡ [] → Writes old new result waited → Unreplied before line old new waited waiting
 unflushed before line result old new waited waiting none wrote =
     ([], inl refl, subst (λ r. IsPartlyOnItsWay old new r (waited ++ [])) (sym none) (partly-writes result old new waited [] wrote))
+
+-- the answer to a command that was carried out, or none
+pub replies_so : (before after : Moment) (line : List ℕ) (c : Command) (r : Result Answer Unsent) (old new : Option (List ℕ)) (waited : List ℕ) → c ≡ command_of line → before.faults ≤ after.faults → is_go c ≡ false
+    → MatchResult r (λ said. Speaks old new before c said after) (λ _. BreaksOff old new before c)
+    → MatchResult r (λ said. Replied before line said after old new waited waited) (λ _. Unreplied before line old new waited waited)
+replies_so before after line c (Ok said) old new waited is later quiet p = replies_still before after line c said old new waited is later quiet p
+replies_so before after line c (Err e) old new waited is later quiet p = breaks_still before line c old new waited waited quiet p
+
+pub replies_behind : (before after : Moment) (line : List ℕ) (c : Command) (r : Result Answer Unsent) (old mid new : Option (List ℕ)) (waited waiting : List ℕ) → c ≡ command_of line → before.faults ≤ after.faults → waiting ≡ [] → Appends old mid waited
+    → MatchResult r (λ said. Speaks mid new before c said after) (λ _. BreaksOff mid new before c)
+    → MatchResult r (λ said. Replied before line said after old new waited waiting) (λ _. Unreplied before line old new waited waiting)
+replies_behind before after line c (Ok said) old mid new waited waiting is later none p q = replies_through before after line c said old mid new waited waiting is later none p q
+replies_behind before after line c (Err e) old mid new waited waiting is later none p q = breaks_through before line c old mid new waited waiting is none p q
+
+-- an answer that was sent
+posts_behind : (s : Sent) (old mid new : Option (List ℕ)) (waited waiting text more : List ℕ) → IsOnItsWay old mid waited text → Posts mid new waiting s (waited ++ more) → Posts old new waiting s (text ++ more)
+posts_behind sent.Done old mid new waited waiting text more p q = on_its_way old mid new (waited ++ more) waiting (text ++ more) (behind old mid waited text more p) q
+posts_behind sent.Failed old mid new waited waiting text more p q = partly_on_its_way old mid new (waited ++ more) waiting (text ++ more) (behind old mid waited text more p) q
+posts_behind sent.NoMemory old mid new waited waiting text more p q = partly_on_its_way old mid new (waited ++ more) waiting (text ++ more) (behind old mid waited text more p) q
+
+sends_of : (s : Sent) (over : Bool) (old new : Option (List ℕ)) (waiting text : List ℕ) → Posts old new waiting s text → Sends (progress_of s over) over old new waiting text
+sends_of sent.Done true old new waiting text p = (refl, p)
+sends_of sent.Done false old new waiting text p = (refl, p)
+sends_of sent.Failed over old new waiting text p = p
+sends_of sent.NoMemory over old new waiting text p = p
+
+pub line_answered : (before after : Moment) (line : List ℕ) (said : Answer) (s : Sent) (over : Bool) (old mid new : Option (List ℕ)) (waited first waiting : List ℕ)
+    → over ≡ after.session.over → Replied before line said after old mid waited first → Posts mid new waiting s (first ++ text_of said)
+    → AnswersLine before line after old new waited waiting (progress_of s over)
+line_answered before after line said s over old mid new waited first waiting is (front, answers, on) posts =
+    let all : Posts old new waiting s (waited ++ (front ++ text_of said)) =
+    subst (Posts old new waiting s) (append_assoc waited front (text_of said)) (posts_behind s old mid new first waiting (waited ++ front) (text_of said) on posts) in
+    inl (record {
+      text = front ++ text_of said;
+      answers = answers;
+      sends = subst (λ b. Sends (progress_of s over) b old new waiting (waited ++ (front ++ text_of said))) is (sends_of s over old new waiting (waited ++ (front ++ text_of said)) all);
+    })
+
+-- why an answer was not written
+fault_of : (s : Sent) (over : Bool) → progress_of s over ≡ progress.WriteFault → s ≡ sent.Failed
+fault_of sent.Done true p = absurd (cc)
+fault_of sent.Done false p = absurd (cc)
+fault_of sent.Failed over p = refl
+fault_of sent.NoMemory over p = absurd (cc)
+
+pub write_failed : (s : Sent) (over : Bool) (a b c : ℕ) → a ≤ b → (s ≡ sent.Failed → Rose b c) → progress_of s over ≡ progress.WriteFault → Rose a c
+write_failed s over a b c later failed p = let rose : Rose b c = failed (fault_of s over p) in omega arith

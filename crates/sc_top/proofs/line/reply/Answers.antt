@@ -1,5 +1,32 @@
-use Rattle.std.proofs.Common.{inr, refl, arith, ◌∙◌}
+use Rattle.std.proofs.Common.{inr, refl, arith, ◌∙◌, sym}
 use Rattle.sc_outside.specs.declared.sink.Sent.TheVariants as sent
 use Rattle.sc_session.specs.Transcript.{moment}
-use Rattle.sc_top.proofs.ReplyLemmas.{replies_through, replies_still, unread, breaks_through, breaks_still, unflushed}
+use Rattle.sc_top.proofs.ReplyLemmas.{replies_so, replies_behind, unread, unflushed}
 use Rattle.sc_top.proofs.line.reply.Goals as goal
+
+pub returns-in-Err-clause-replies : goal.returns-in-Err-clause-replies
+returns-in-Err-clause-replies g c =
+    unread (moment c.args.session.now (g.F.Files.held c.args.files.now) (g.F.Files.faults c.args.files.now)) c.args.line.now (g.K.Sink.written c.args.out.now) c.args.outbox.now
+    (omega arith) (inr (c.in-Err.ensures.no_memory, refl, refl))
+
+pub returns-then-not-is_go-clause-replies : goal.returns-then-not-is_go-clause-replies
+returns-then-not-is_go-clause-replies g c =
+    replies_so (moment c.args.session.now (g.F.Files.held c.args.files.now) (g.F.Files.faults c.args.files.now)) (moment c.carry_out.new.self (g.F.Files.held c.carry_out.new.files) (g.F.Files.faults c.carry_out.new.files))
+    c.args.line.now c.in-Ok.command c.carry_out.result (g.K.Sink.written c.args.out.now) (g.K.Sink.written c.carry_out.new.out) c.args.outbox.now
+    c.in-Ok.ensures.command c.carry_out.ensures.later (sym c.is_go.ensures ∙ c.if-not-is_go.true) c.carry_out.ensures.step
+
+pub returns-in-Done-clause-replies : goal.returns-in-Done-clause-replies
+returns-in-Done-clause-replies g c =
+    replies_behind (moment c.args.session.now (g.F.Files.held c.args.files.now) (g.F.Files.faults c.args.files.now)) (moment c.carry_out-in-Done.new.self (g.F.Files.held c.carry_out-in-Done.new.files) (g.F.Files.faults c.carry_out-in-Done.new.files))
+    c.args.line.now c.in-Ok.command c.carry_out-in-Done.result (g.K.Sink.written c.args.out.now) (g.K.Sink.written c.flush.new.out) (g.K.Sink.written c.carry_out-in-Done.new.out) c.args.outbox.now c.flush.new.self
+    c.in-Ok.ensures.command c.carry_out-in-Done.ensures.later c.flush.ensures.emptied c.in-Done.ensures.bytes c.carry_out-in-Done.ensures.step
+
+pub returns-in-Failed-clause-replies : goal.returns-in-Failed-clause-replies
+returns-in-Failed-clause-replies g c =
+    unflushed (moment c.args.session.now (g.F.Files.held c.args.files.now) (g.F.Files.faults c.args.files.now)) c.args.line.now sent.Failed (g.K.Sink.written c.args.out.now) (g.K.Sink.written c.flush.new.out) c.args.outbox.now c.flush.new.self
+    c.flush.ensures.emptied c.in-Failed.ensures.bytes
+
+pub returns-in-NoMemory-clause-replies : goal.returns-in-NoMemory-clause-replies
+returns-in-NoMemory-clause-replies g c =
+    unflushed (moment c.args.session.now (g.F.Files.held c.args.files.now) (g.F.Files.faults c.args.files.now)) c.args.line.now sent.NoMemory (g.K.Sink.written c.args.out.now) (g.K.Sink.written c.flush.new.out) c.args.outbox.now c.flush.new.self
+    c.flush.ensures.emptied c.in-NoMemory.ensures.bytes

@@ -1,0 +1,49 @@
+use Rattle.std.proofs.Common.{refl, ap, ◌∙◌}
+use Rattle.sc_session.specs.Going.{in_state}
+use Rattle.sc_session.specs.Stopping.{places}
+use Rattle.sc_session.proofs.SendingLemmas.{begin_told, begin_first, begin_lost, begin_unbegun}
+use Rattle.sc_session.proofs.session.Session.start.Goals as goal
+
+pub returns-in_default-clause-begins : goal.returns-in_default-clause-begins
+returns-in_default-clause-begins g c = begin_unbegun (g.K.Sink.written c.args.out.now) c.args.self.now c.args.self.now c.args.input refl
+
+pub returns-in_default-start-clause-begins : goal.returns-in_default-start-clause-begins
+returns-in_default-start-clause-begins g c = begin_unbegun (g.K.Sink.written c.args.out.now) c.args.self.now c.args.self.now c.args.input refl
+
+pub returns-in-Ok-gone-clause-begins : goal.returns-in-Ok-gone-clause-begins
+returns-in-Ok-gone-clause-begins g c =
+    begin_told (g.K.Sink.written c.args.out.now) (g.K.Sink.written c.gone.new.out) c.args.self.now _ c.as_slice-2.result.now c.as_slice-3.result.now c.as_slice-4.result.now c.from-stack.result c.from-heap.result c.self.inside.limits.turns
+    c.args.input c.in-Ok-start.run' c.in-Ok-gone.told.text c.in-Ok-gone.told.state c.put_state-in-Ok-gone.new.place
+    (c.as_slice-2.ensures.value ∙ ap (λ p. p.modules) c.self.view_is)
+    (c.as_slice-3.ensures.value ∙ ap (λ p. p.modules) c.self.view_is)
+    (c.as_slice-4.ensures ∙ c.in-Ok.ensures ∙ ap places (c.as_slice.ensures.value ∙ ap (λ p. p.stops) c.self.view_is))
+    (c.from-stack.ensures ∙ ap (λ p. p.limits.stack) c.self.view_is)
+    (c.from-heap.ensures ∙ ap (λ p. p.limits.heap) c.self.view_is)
+    (ap (λ p. p.limits.turns) c.self.view_is)
+    c.in-Ok-start.ensures.starts c.in-Ok-start.ensures.meant c.in-Ok-gone.ensures.went
+    c.put_state-in-Ok-gone.ensures (ap (in_state c.put_state-in-Ok-gone.new.place) c.self.view_is)
+
+pub returns-in-Err-NoMemory-clause-begins : goal.returns-in-Err-NoMemory-clause-begins
+returns-in-Err-NoMemory-clause-begins g c =
+    begin_lost (g.K.Sink.written c.args.out.now) (g.K.Sink.written c.gone.new.out) c.args.self.now _ c.args.input c.put_state.new.place c.self.view_is c.put_state.ensures
+    (begin_first (g.K.Sink.written c.args.out.now) (g.K.Sink.written c.gone.new.out) c.args.self.now c.as_slice-2.result.now c.as_slice-3.result.now c.as_slice-4.result.now c.from-stack.result c.from-heap.result c.self.inside.limits.turns
+    c.args.input c.in-Ok-start.run'
+    (c.as_slice-2.ensures.value ∙ ap (λ p. p.modules) c.self.view_is)
+    (c.as_slice-3.ensures.value ∙ ap (λ p. p.modules) c.self.view_is)
+    (c.as_slice-4.ensures ∙ c.in-Ok.ensures ∙ ap places (c.as_slice.ensures.value ∙ ap (λ p. p.stops) c.self.view_is))
+    (c.from-stack.ensures ∙ ap (λ p. p.limits.stack) c.self.view_is)
+    (c.from-heap.ensures ∙ ap (λ p. p.limits.heap) c.self.view_is)
+    (ap (λ p. p.limits.turns) c.self.view_is)
+    c.in-Ok-start.ensures.starts c.in-Err-NoMemory.ensures.lost)
+
+pub returns-clause-begins : goal.returns-clause-begins
+returns-clause-begins g c =
+    begin_first (g.K.Sink.written c.args.out.now) (g.K.Sink.written c.gone.new.out) c.args.self.now c.as_slice-2.result.now c.as_slice-3.result.now c.as_slice-4.result.now c.from-stack.result c.from-heap.result c.self.inside.limits.turns
+    c.args.input c.in-Ok-start.run'
+    (c.as_slice-2.ensures.value ∙ ap (λ p. p.modules) c.self.view_is)
+    (c.as_slice-3.ensures.value ∙ ap (λ p. p.modules) c.self.view_is)
+    (c.as_slice-4.ensures ∙ c.in-Ok.ensures ∙ ap places (c.as_slice.ensures.value ∙ ap (λ p. p.stops) c.self.view_is))
+    (c.from-stack.ensures ∙ ap (λ p. p.limits.stack) c.self.view_is)
+    (c.from-heap.ensures ∙ ap (λ p. p.limits.heap) c.self.view_is)
+    (ap (λ p. p.limits.turns) c.self.view_is)
+    c.in-Ok-start.ensures.starts c.in-Err-Unsent.ensures.lost

@@ -1,0 +1,43 @@
+use Rattle.std.proofs.Common.{refl, ap, ◌∙◌}
+use Rattle.sc_session.specs.Going.{in_state}
+use Rattle.sc_session.specs.Stopping.{places}
+use Rattle.sc_session.proofs.SendingLemmas.{walk_told, walk_first, walk_lost, walk_unbegun}
+use Rattle.sc_session.proofs.session.Session.walk.Goals as goal
+
+pub returns-in_default-clause-walks : goal.returns-in_default-clause-walks
+returns-in_default-clause-walks g c = walk_unbegun (g.K.Sink.written c.args.out.now) c.args.self.now c.args.self.now c.args.walk refl
+
+pub returns-in-Ok-gone-clause-walks : goal.returns-in-Ok-gone-clause-walks
+returns-in-Ok-gone-clause-walks g c =
+    walk_told (g.K.Sink.written c.args.out.now) (g.K.Sink.written c.gone.new.out) c.args.self.now _ c.args.walk c.replace.result c.as_slice-2.result.now c.as_slice-3.result.now c.self.inside.limits.turns
+    c.run_out_of-run.result c.in-Ok-gone.told.text c.in-Ok-gone.told.state c.put_state.new.place
+    (c.replace.ensures.value ∙ ap (λ p. p.state) c.self.view_is)
+    c.run_out_of-run.ensures
+    (c.as_slice-2.ensures.value ∙ ap (λ p. p.modules) c.self.view_is)
+    (c.as_slice-3.ensures ∙ c.in-Ok.ensures ∙ ap places (c.as_slice.ensures.value ∙ ap (λ p. p.stops) c.self.view_is))
+    (ap (λ p. p.limits.turns) c.self.view_is)
+    c.in-Ok-gone.ensures.went
+    c.put_state.ensures (ap (in_state c.put_state.new.place) c.self.view_is)
+
+pub returns-in-Err-NoMemory-clause-walks : goal.returns-in-Err-NoMemory-clause-walks
+returns-in-Err-NoMemory-clause-walks g c =
+    walk_lost (g.K.Sink.written c.args.out.now) (g.K.Sink.written c.gone.new.out) c.args.self.now _ c.args.walk c.replace.new.dest c.self.view_is c.replace.ensures.after
+    (walk_first (g.K.Sink.written c.args.out.now) (g.K.Sink.written c.gone.new.out) c.args.self.now c.args.walk c.replace.result c.as_slice-2.result.now c.as_slice-3.result.now c.self.inside.limits.turns
+    c.run_out_of-run.result
+    (c.replace.ensures.value ∙ ap (λ p. p.state) c.self.view_is)
+    c.run_out_of-run.ensures
+    (c.as_slice-2.ensures.value ∙ ap (λ p. p.modules) c.self.view_is)
+    (c.as_slice-3.ensures ∙ c.in-Ok.ensures ∙ ap places (c.as_slice.ensures.value ∙ ap (λ p. p.stops) c.self.view_is))
+    (ap (λ p. p.limits.turns) c.self.view_is)
+    c.in-Err-NoMemory.ensures.lost)
+
+pub returns-clause-walks : goal.returns-clause-walks
+returns-clause-walks g c =
+    walk_first (g.K.Sink.written c.args.out.now) (g.K.Sink.written c.gone.new.out) c.args.self.now c.args.walk c.replace.result c.as_slice-2.result.now c.as_slice-3.result.now c.self.inside.limits.turns
+    c.run_out_of-run.result
+    (c.replace.ensures.value ∙ ap (λ p. p.state) c.self.view_is)
+    c.run_out_of-run.ensures
+    (c.as_slice-2.ensures.value ∙ ap (λ p. p.modules) c.self.view_is)
+    (c.as_slice-3.ensures ∙ c.in-Ok.ensures ∙ ap places (c.as_slice.ensures.value ∙ ap (λ p. p.stops) c.self.view_is))
+    (ap (λ p. p.limits.turns) c.self.view_is)
+    c.in-Err-Unsent.ensures.lost
