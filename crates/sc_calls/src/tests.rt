@@ -67,7 +67,7 @@ fn seen_answer(a: &Answer) -> Seen {
 
 fn seen_stop(stop: &Stop) -> Seen {
     match stop {
-        Stop::Undefined(told) => Seen::Broken(told.rule, told.argument),
+        Stop::Undefined(told) => Seen::Broken(told.get().rule, told.get().argument),
         Stop::Exit(status) => Seen::Exit(*status),
         _ => Seen::Other,
     }

@@ -7,22 +7,25 @@ use Rattle.sc_meaning.specs.World.{World, tick}
 use Rattle.sc_meaning.specs.Outcomes.{Outcome, Done, Over, Ending, Exit, and_then, went}
 use Rattle.sc_meaning.specs.Versions.{Text, History, callee_of, version_at}
 use Rattle.sc_meaning.specs.Changes.{settled, statics_born}
-use Rattle.sc_meaning.specs.Expressions.{Answer, value_rule}
+use Rattle.sc_meaning.specs.Expressions.{Answer, Env, value_rule}
 use Rattle.sc_meaning.specs.Values.{Value}
 use Rattle.sc_types.specs.declared.ctype.CType.{CType}
 use Rattle.sc_meaning.specs.Calls.{call}
 use Rattle.sc_meaning.specs.Behaviour.{Start, first_world, main_key, main_called, started, ending, status_of}
 use Rattle.sc_meaning.specs.Behaviour as behaviour
 use Rattle.sc_machine.specs.Runs as runs
-use Rattle.sc_machine.specs.Runs.{Caller, State, Makes, Answers, Ends}
+use Rattle.sc_machine.specs.Runs.{Active, Caller, State, Runs, Makes, Answers, Ends}
+use Rattle.sc_machine.specs.Bodies as body
+use Rattle.sc_machine.specs.declared.body.Doing.{Doing}
+use Rattle.sc_machine.specs.declared.body.Pending.{Pending}
 use Rattle.sc_machine.proofs.RunFollows.{answers_meaning, ends_meaning}
 use Rattle.sc_plain_leaves.specs.declared.stop.Stop.{Stop}
 use Rattle.sc_plain_leaves.specs.Gives.{ending_of, Stops}
 use Rattle.sc_plain.specs.declared.drive.Reached.{Reached}
 use Rattle.sc_plain.specs.declared.going.Going.{Going}
 use Rattle.sc_plain.specs.declared.drive.Reached.TheVariants as reached
-use Rattle.sc_plain.specs.declared.stepped.Stepped.{Stepped}
-use Rattle.sc_plain.specs.Shows.{shown, entry_shown, StepsTo}
+use Rattle.sc_plain.specs.declared.stepped.Shown.{Shown}
+use Rattle.sc_plain.specs.Shows.{line_shown, shown, entry_shown, StepsShowing}
 use Rattle.sc_plain.specs.Steps.{Brings, Steps, is_over}
 use Rattle.sc_plain.specs.declared.running.Ended.{Ended}
 use Rattle.sc_plain.specs.declared.running.Ended.TheVariants as ended
@@ -75,14 +78,24 @@ pub none_left : (k : ℕ) (h : History) (texts : List Text) (t : State) (r : Res
 none_left k h texts t r w is = subst (λ k. Brings (steady.ran k h texts t) r w) (sym is)
 
 -- a step from a state that is another one
-pub from_there : (h : History) (texts : List Text) (s t : State) (r : Result Stepped Stop) (cs : List Caller) (w : World) → s ≡ t → StepsTo (steady.advance h texts t) (shown h texts t) r cs w → StepsTo (steady.advance h texts s) (shown h texts s) r cs w
-from_there h texts s t r cs w is = subst (λ s. StepsTo (steady.advance h texts s) (shown h texts s) r cs w) (sym is)
+pub from_there : (h : History) (texts : List Text) (s t : State) (r : Result Shown Stop) (g : Going) (cs : List Caller) (w : World) → s ≡ t → StepsShowing (steady.advance h texts t) (shown h texts t) r g cs w → StepsShowing (steady.advance h texts s) (shown h texts s) r g cs w
+from_there h texts s t r g cs w is = subst (λ s. StepsShowing (steady.advance h texts s) (shown h texts s) r g cs w) (sym is)
+
+-- a step of the innermost body, whose answer is known
+pub runs_there : (h : History) (texts : List Text) (s : State) (doing : Doing) (ss : List Pending) (env : Env) (a : Active) (cs ds : List Caller) (w v : World) (b : body.Advanced) (r : Result Shown Stop) (g : Going) → s ≡ Runs doing ss env a cs w → body.advance doing ss env w ≡ b → StepsShowing (steady.body_next b a cs) (line_shown b) r g ds v → StepsShowing (steady.advance h texts s) (shown h texts s) r g ds v
+runs_there h texts s doing ss env a cs ds w v b r g is same p =
+    from_there h texts s (Runs doing ss env a cs w) r g ds v is
+    (subst (λ b. StepsShowing (steady.body_next b a cs) (line_shown b) r g ds v) (sym same) p)
+
+pub breaks_there : (h : History) (texts : List Text) (s : State) (doing : Doing) (ss : List Pending) (env : Env) (a : Active) (cs ds : List Caller) (w v : World) (stop : Stop) (g : Going) → s ≡ Runs doing ss env a cs w → ((e : Ending) → ending_of stop v ≡ Some e → body.advance doing ss env w ≡ body.Breaks e) → StepsShowing (steady.advance h texts s) (shown h texts s) (Err stop) g ds v
+breaks_there h texts s doing ss env a cs ds w v stop g is f =
+    from_there h texts s (Runs doing ss env a cs w) (Err stop) g ds v is (λ e p. ap (λ b. steady.body_next b a cs) (f e p))
 
 -- a step that makes a call
-pub makes_there : (h : History) (texts : List Text) (s : State) (t : CType) (v : Value) (us vs : List Value) (c : Caller) (cs ds : List Caller) (w w2 : World) (g : Result Going Stop) (r : Result Stepped Stop) → s ≡ Makes t v vs c cs w → us ≡ vs → Steps (steady.made_unless (value_rule texts c.env.text t v) h texts v us (c ∷ cs) w) g ds w2 → ((s : State) (cs : List Caller) (w : World) → Steps s g cs w → StepsTo s (entry_shown s) r cs w) → StepsTo (steady.advance h texts s) (shown h texts s) r ds w2
-makes_there h texts s t v us vs c cs ds w w2 g r is same p f =
-    from_there h texts s (Makes t v vs c cs w) r ds w2 is
-    (f (steady.advance h texts (Makes t v vs c cs w)) ds w2 (subst (λ us. Steps (steady.made_unless (value_rule texts c.env.text t v) h texts v us (c ∷ cs) w) g ds w2) same p))
+pub makes_there : (h : History) (texts : List Text) (s : State) (t : CType) (v : Value) (us vs : List Value) (c : Caller) (cs ds : List Caller) (w w2 : World) (next : Result Going Stop) (r : Result Shown Stop) (g : Going) → s ≡ Makes t v vs c cs w → us ≡ vs → Steps (steady.made_unless (value_rule texts c.env.text t v) h texts v us (c ∷ cs) w) next ds w2 → ((s : State) (cs : List Caller) (w : World) → Steps s next cs w → StepsShowing s (entry_shown s) r g cs w) → StepsShowing (steady.advance h texts s) (shown h texts s) r g ds w2
+makes_there h texts s t v us vs c cs ds w w2 next r g is same p f =
+    from_there h texts s (Makes t v vs c cs w) r g ds w2 is
+    (f (steady.advance h texts (Makes t v vs c cs w)) ds w2 (subst (λ us. Steps (steady.made_unless (value_rule texts c.env.text t v) h texts v us (c ∷ cs) w) next ds w2) same p))
 
 -- a step that failed ends the whole, as `?` passes its end on
 pub ends_here : (t : State) (r : Result Reached Stop) (s : Stop) (w : World) → IsErrAnd r (λ e. e ≡ s) → ((e : Ending) → ending_of s w ≡ Some e → t ≡ Ends e) → Brings t r w

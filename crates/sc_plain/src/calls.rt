@@ -168,7 +168,7 @@ fn enters(
         return Err(Stop::NoRoom)
     };
     if world.stack() < used {
-        return Err(Stop::StackFull(key));
+        return Err(Stop::StackFull(Shared::new(world.alloc(), key)?));
     }
     push_frame(&key, t, f.get(), used, world)?;
     let ids = parameters(parameters_of(f.get()), vs, world)?;

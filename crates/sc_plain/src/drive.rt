@@ -9,7 +9,7 @@ ghost use Rattle.sc_plain.specs.Steps.{Brings, Is};
 ghost use Rattle.sc_plain.specs.Steps as course;
 
 use crate::going::{Caller, Going};
-use crate::step::step_once;
+use crate::step::step_run;
 use sc_base::Stack;
 use sc_plain_leaves::Stop;
 use sc_plain_parts::Text;
@@ -85,8 +85,7 @@ pub fn drive(
         if is_over(&going, callers) {
             return Ok(destination(going, callers));
         }
-        let stepped = step_once(texts, going, callers, world)?;
-        going = stepped.going;
+        step_run(texts, &mut going, callers, world)?;
         left -= 1;
     }
     Ok(destination(going, callers))

@@ -1,11 +1,15 @@
 // The state of a run, and the callers that wait in it (ANSI 3.3.2.2).
 
-use sc_base::{Items, Stack};
+ghost use Rattle.std.specs.Prelude.{◌≡◌, IfOk};
+
+use sc_base::{Items, NoMemory, Stack};
 use sc_machine::{Doing, Item, Pending, Use};
 use sc_plain_steps::Env;
 use sc_types::CType;
 use sc_values::{Answer, Value};
+use std::alloc::Global;
 use std::marker::Model;
+use std::mem;
 
 /// An active call: its parameters' objects, and its room on the stack in bytes.
 #[derive(Drop)]
@@ -20,6 +24,18 @@ impl Model for Active {
     ghost Value = { runs.Active };
 
     ghost view = { λ a. record { ids = a.ids; cost = a.cost } };
+}
+
+impl Active {
+    /// The same call, with its objects taken out.
+    pub fn take(&mut self, alloc: Global) -> Active
+        ensures { result ≡ self.old }
+    {
+        Active {
+            ids: mem::replace(&mut self.ids, Items::new(alloc)),
+            cost: self.cost,
+        }
+    }
 }
 
 /// A caller that waits for an answer, with what is pending in it.
@@ -45,6 +61,21 @@ impl Model for Caller {
     ghost coded = { Prim.hlevel (codes, types.the_row.coded, signatures.the_row.coded, expressions.the_row.coded, statements.the_row.coded) };
 
     ghost view = { λ c. record { items = c.items; user = c.user; stmts = c.stmts; env = c.env; active = c.active } };
+}
+
+impl Caller {
+    /// The same caller, with what is pending taken out.
+    pub fn take(&mut self, alloc: Global) -> Result<Caller, NoMemory>
+        ensures { IfOk result (λ caller. caller ≡ self.old) }
+    {
+        Ok(Caller {
+            items: mem::replace(&mut self.items, Stack::new(alloc)),
+            user: mem::replace(&mut self.user, Use::Discard),
+            stmts: mem::replace(&mut self.stmts, Stack::new(alloc)),
+            env: self.env.take(alloc)?,
+            active: self.active.take(alloc),
+        })
+    }
 }
 
 /// What a run does next, beside the callers that wait: a body runs; a call is to be made; or an answer comes to the

@@ -11,7 +11,7 @@ ghost use Rattle.sc_plain.specs.Steps.{Brings, Steps};
 use crate::calls::key_next;
 use crate::drive::{Reached, drive};
 use crate::going::{Caller, Going};
-use sc_base::{Items, Key, Name, NoMemory, Stack};
+use sc_base::{Items, Key, Name, NoMemory, Shared, Stack};
 use sc_plain_leaves::{Breach, Stop, bits};
 use sc_plain_parts::{Text, statics_born};
 use sc_plain_world::World;
@@ -23,8 +23,8 @@ use std::alloc::Global;
 #[derive(Drop)]
 pub enum Ended {
     Exit(u32),
-    Undefined(Breach),
-    StackFull(Key),
+    Undefined(Shared<Breach>),
+    StackFull(Shared<Key>),
     BirthLimit,
     OutOfSteps,
     NoRoom,

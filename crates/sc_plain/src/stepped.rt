@@ -16,13 +16,6 @@ pub enum Shown {
     Entered,
 }
 
-/// How a run goes on behind a step, and what the step showed.
-#[derive(Drop)]
-pub struct Stepped {
-    pub going: Going,
-    pub shown: Shown,
-}
-
 /// What is shown where a call that was to be made goes on so.
 pub fn entry(going: &Going) -> Shown
     ensures { (s : runs.State) (cs : List runs.Caller) (w : worlds.World) → Is s going.now cs w → result ≡ entry_shown s }

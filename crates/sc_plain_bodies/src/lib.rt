@@ -9,5 +9,5 @@ mod step;
 mod uses;
 mod ways;
 
-pub use moves::Move;
-pub use step::step_body;
+pub use moves::After;
+pub use step::{items_taken, step_body, use_taken};

@@ -7,23 +7,29 @@ ghost use Rattle.sc_machine.specs.declared.body.Doing.TheVariants as doing;
 ghost use Rattle.sc_plain_bodies.specs.declared.moves.Move.TheVariants as step;
 ghost use Rattle.sc_plain_bodies.specs.Moves.{Moves};
 
-use sc_base::{Items, NoMemory, Shared, Stack};
+use sc_base::{NoMemory, Shared, Stack};
 use sc_core::{CoreExpr, CoreStmt};
-use sc_machine::{Doing, Item, Mode, Pending, Use};
+use sc_machine::{Doing, Mode, Pending, Use};
 use sc_plain_leaves::Stop;
-use sc_plain_steps::Env;
+use sc_plain_steps::{Called, Env};
 use sc_plain_world::World;
-use sc_types::CType;
-use sc_values::{Value, Way};
+use sc_values::Way;
 
-/// What a step leaves, beside the pending statements and the names: more of it; a line that is reached before it goes on; a
-/// call of a function's value, of this type, with its arguments, what is pending in the expression, and what the statement
-/// does with its answer; or the way in which the body is left.
+/// How a body goes on after a step in place: by what it does next; by the same once a line is reached; by a call out of the
+/// expression that it evaluates, which is left there without its mode; or not at all, in the way in which it is left.
+#[derive(Drop)]
+pub enum After {
+    Goes,
+    Reaches(u32),
+    Calls(Box<Called>),
+    Leaves(Way),
+}
+
+/// How a body goes on where no call goes out, with what it does next.
 #[derive(Drop)]
 pub enum Move {
     Go(Doing),
     Line(u32, Doing),
-    Call(CType, Value, Items<Value>, Stack<Item>, Use),
     Leave(Way),
 }
 

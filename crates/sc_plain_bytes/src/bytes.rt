@@ -5,7 +5,7 @@ ghost use Rattle.sc_meaning.specs.Violations as violation;
 ghost use Rattle.sc_meaning.specs.World as worlds;
 ghost use Rattle.sc_plain_leaves.specs.Gives.{Gives};
 
-use sc_base::{Duplicate, Items, Key, NoMemory, Rule};
+use sc_base::{Duplicate, Items, Key, NoMemory, Rule, Shared};
 use sc_plain_leaves::{
     Breach, Stop, access_breach, bits, breach, cells_read, load_rule, number_of_cells, object_of,
     set_at, store_rule, sum,
@@ -171,14 +171,19 @@ fn is_overlapping(to: &Value, n: u32, from: &Value, m: u32) -> bool
     }
 }
 
-fn overlap_breach(to: &Value, n: u32, from: &Value, world: &World) -> Result<Breach, NoMemory>
+fn overlap_breach(
+    to: &Value,
+    n: u32,
+    from: &Value,
+    world: &World,
+) -> Result<Shared<Breach>, NoMemory>
     ensures { IfOk result (λ b. b ≡ spec.overlap_breach to.now n from.now world.now) }
 {
     let mut told = breach(Rule::U18, world)?;
     told.at = to.copy(world.alloc())?;
     told.size = n;
     told.left = from.copy(world.alloc())?;
-    Ok(told)
+    Shared::new(world.alloc(), told)
 }
 
 /// `n` bytes that are written at a place do not meet `m` bytes that are read.

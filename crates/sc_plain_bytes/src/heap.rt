@@ -7,7 +7,7 @@ ghost use Rattle.sc_meaning.specs.Values as value;
 ghost use Rattle.sc_plain_leaves.specs.Gives.{Gives};
 
 use crate::bytes::{block_size_at, twice};
-use sc_base::{Duplicate, Items, Kind, NoMemory, Rule};
+use sc_base::{Duplicate, Items, Kind, NoMemory, Rule, Shared};
 use sc_plain_leaves::{Breach, Stop, breach, copy_at, free_rule, is_null};
 use sc_plain_parts::born;
 use sc_plain_world::{Cell, World};
@@ -145,12 +145,12 @@ pub fn calloc(n: u32, m: u32, world: &mut World) -> Result<Answer, Stop>
     zeros_taken(size as u32, world)
 }
 
-fn block_breach(p: &Value, world: &World, rule: Rule) -> Result<Breach, NoMemory>
+fn block_breach(p: &Value, world: &World, rule: Rule) -> Result<Shared<Breach>, NoMemory>
     ensures { IfOk result (λ b. b ≡ spec.block_breach p.now world.now rule) }
 {
     let mut told = breach(rule, world)?;
     told.left = p.copy(world.alloc())?;
-    Ok(told)
+    Shared::new(world.alloc(), told)
 }
 
 // Only null and the start of a live block can be given back.

@@ -4,7 +4,7 @@ ghost use Rattle.sc_meaning.specs.Outcomes as spec;
 ghost use Rattle.sc_meaning.specs.Values as value;
 
 use crate::stop::Breach;
-use sc_base::{Duplicate, Form, Int, Key, NoMemory, Op, Rule};
+use sc_base::{Duplicate, Form, Int, Key, NoMemory, Op, Rule, Shared};
 use sc_plain_world::World;
 use sc_values::{Shape, Value};
 use std::alloc::Global;
@@ -81,13 +81,13 @@ pub fn access_breach(
     n: u32,
     world: &World,
     rule: Rule,
-) -> Result<Breach, NoMemory>
+) -> Result<Shared<Breach>, NoMemory>
     ensures { IfOk result (λ b. b ≡ spec.access_breach p.now further n world.now rule) }
 {
     let mut told = breach(rule, world)?;
     told.at = moved(p, further, world.alloc())?;
     told.size = n;
-    Ok(told)
+    Shared::new(world.alloc(), told)
 }
 
 /// A breach by the operands of an operator.
@@ -99,7 +99,7 @@ pub fn operand_breach(
     y: &Value,
     world: &World,
     rule: Rule,
-) -> Result<Breach, NoMemory>
+) -> Result<Shared<Breach>, NoMemory>
     ensures { IfOk result (λ b. b ≡ spec.operand_breach op i x.now j y.now world.now rule) }
 {
     let mut told = breach(rule, world)?;
@@ -108,5 +108,5 @@ pub fn operand_breach(
     told.right = y.copy(world.alloc())?;
     told.int = i;
     told.right_int = j;
-    Ok(told)
+    Shared::new(world.alloc(), told)
 }

@@ -12,7 +12,7 @@ use crate::stop::{Breach, Stop};
 use crate::violations::{
     bits, equality_rule, is_pointer, offset_of, order_rule, place_of, shift_rule, truth_rule,
 };
-use sc_base::{Duplicate, Int, NoMemory, Op, Rule};
+use sc_base::{Duplicate, Int, NoMemory, Op, Rule, Shared};
 use sc_ops::arith;
 use sc_plain_world::World;
 use sc_types::CType;
@@ -156,7 +156,7 @@ fn order_breach(
     x: &Value,
     world: &World,
     rule: Rule,
-) -> Result<Breach, NoMemory>
+) -> Result<Shared<Breach>, NoMemory>
     ensures { IfOk result (λ b. b ≡ spec.order_breach first op p.now i x.now world.now rule) }
 {
     if first {

@@ -2,7 +2,7 @@
 ghost use Rattle.std.specs.Prelude.{◌≡◌};
 ghost use Rattle.sc_plain_leaves.specs.declared.stop.Stop.TheVariants as stop;
 
-use sc_base::{Int, Key, NoMemory, Op, Rule};
+use sc_base::{Int, Key, NoMemory, Op, Rule, Shared};
 use sc_values::Value;
 use std::marker::Model;
 
@@ -32,17 +32,17 @@ impl Model for Breach {
     ghost view = { λ b. record { rule = b.rule; op = b.op; at = b.at; size = b.size; left = b.left; right = b.right; int = b.int; right_int = b.right_int; fun = b.fun; line = b.line; name = b.name; argument = b.argument } };
 }
 
-/// Why a part of a program is not done.
+/// Why a part of a program is not done. What is said of it stands behind a handle, so that an answer of a step is small.
 #[derive(Drop)]
 pub enum Stop {
     /// No memory was left, or a number has no room in its type.
     NoRoom,
     /// A step is undefined.
-    Undefined(Breach),
+    Undefined(Shared<Breach>),
     /// `exit` was called, with this status.
     Exit(u32),
     /// The stack has no room for a call of this function.
-    StackFull(Key),
+    StackFull(Shared<Key>),
     /// One object too many is born.
     BirthLimit,
 }

@@ -8,7 +8,7 @@ ghost use Rattle.sc_ops.specs.Operators as operators;
 ghost use Rattle.sc_plain_leaves.specs.Gives.{Gives};
 ghost use Rattle.sc_plain_library.specs.Characters.{value_of};
 
-use sc_base::Key;
+use sc_base::{Key, Shared};
 use sc_meaning::LibFun;
 use sc_plain_bytes::{argument_breach, bits_at};
 use sc_plain_leaves::Stop;
@@ -111,7 +111,7 @@ pub fn out_of_range(key: &Key, vs: &[Value], i: u32, world: &World) -> Result<An
     ensures { Gives (library.out_of_range key.now vs.now i world.now) result world.now }
 {
     let told = argument_breach(key, vs, i, world)?;
-    Err(Stop::Undefined(told))
+    Err(Stop::Undefined(Shared::new(world.alloc(), told)?))
 }
 
 // 1 for a character in a class, 0 for one that is not.

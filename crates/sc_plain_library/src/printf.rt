@@ -12,7 +12,7 @@ ghost use Rattle.sc_plain_leaves.specs.Gives.{Gives};
 ghost use Rattle.sc_plain_leaves.specs.declared.stop.Stop.TheVariants as stop;
 ghost use Rattle.sc_plain_library.specs.Turns.{turn_of};
 
-use sc_base::{Duplicate, Int, Items, Key, NoMemory};
+use sc_base::{Duplicate, Int, Items, Key, NoMemory, Shared};
 use sc_fmt::{Conv, Count, Piece, number, piece};
 use sc_plain_bytes::{argument_breach, length_of, shown, text_at, text_upto, value_at};
 use sc_plain_leaves::{Stop, bits, is_number, is_pointer, number_of, sum};
@@ -94,7 +94,7 @@ fn refusal(g: &Printed, i: u32, world: &World) -> Result<Stop, NoMemory>
     }
     let mut told = argument_breach(g.key, g.args, i, world)?;
     told.at = value_at(g.args, 0, world)?;
-    Ok(Stop::Undefined(told))
+    Ok(Stop::Undefined(Shared::new(world.alloc(), told)?))
 }
 
 fn is_wrong(pointer: bool, v: &Value) -> bool

@@ -7,7 +7,7 @@ ghost use Rattle.sc_meaning.specs.Expressions as spec;
 ghost use Rattle.sc_meaning.specs.Outcomes as outcome;
 ghost use Rattle.sc_plain_leaves.specs.Gives.{Gives};
 
-use sc_base::{NoMemory, Rule};
+use sc_base::{NoMemory, Rule, Shared};
 use sc_plain_leaves::{Stop, as_type, breach, loaded, member_address, sum, tested, truth_number};
 use sc_plain_world::World;
 use sc_types::CType;
@@ -26,7 +26,7 @@ pub fn used(a: Answer, world: &World) -> Result<Value, Stop>
         Held::Place(p) => Ok(p),
         Held::Part(p, _) => Ok(p),
         Held::Nothing => {
-            let told = breach(Rule::U13, world)?;
+            let told = Shared::new(world.alloc(), breach(Rule::U13, world)?)?;
             Err(Stop::Undefined(told))
         }
     }

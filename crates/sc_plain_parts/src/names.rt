@@ -7,7 +7,7 @@ ghost use Rattle.sc_plain_leaves.specs.Gives.{Gives};
 
 use crate::answers::at_place;
 use crate::text::Text;
-use sc_base::{Duplicate, Key, NoMemory, Rule};
+use sc_base::{Duplicate, Key, NoMemory, Rule, Shared};
 use sc_plain_leaves::{Breach, Stop, breach};
 use sc_plain_world::{Born, World};
 use sc_values::{Answer, Shape, Value};
@@ -34,12 +34,12 @@ fn number_at(ids: &[u32], i: u32) -> u32
 }
 
 /// What is said of a name that has no definition.
-pub fn undefined_name(key: &Key, world: &World) -> Result<Breach, NoMemory>
+pub fn undefined_name(key: &Key, world: &World) -> Result<Shared<Breach>, NoMemory>
     ensures { IfOk result (λ b. b ≡ spec.undefined_name key.now world.now) }
 {
     let mut told = breach(Rule::U17, world)?;
     told.name = Some(key.copy(world.alloc())?);
-    Ok(told)
+    Shared::new(world.alloc(), told)
 }
 
 /// An object of static storage duration.
@@ -90,11 +90,11 @@ fn name_in(v: &Value, world: &World) -> Result<Option<Key>, NoMemory>
 }
 
 /// What is said of a call whose value is no function of its type.
-pub fn call_breach(v: &Value, world: &World, rule: Rule) -> Result<Breach, NoMemory>
+pub fn call_breach(v: &Value, world: &World, rule: Rule) -> Result<Shared<Breach>, NoMemory>
     ensures { IfOk result (λ b. b ≡ spec.call_breach v.now world.now rule) }
 {
     let mut told = breach(rule, world)?;
     told.left = v.copy(world.alloc())?;
     told.name = name_in(v, world)?;
-    Ok(told)
+    Shared::new(world.alloc(), told)
 }

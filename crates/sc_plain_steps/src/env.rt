@@ -1,10 +1,14 @@
 // What the names of a running call stand for (ANSI 3.1.2.4).
 
-use sc_base::{Items, Shared};
+ghost use Rattle.std.specs.Prelude.{◌≡◌, IfOk};
+
+use sc_base::{Duplicate, Items, NoMemory, Shared};
 use sc_core::Fun;
 use sc_plain_parts::Text;
 use sc_plain_world::Born;
+use std::alloc::Global;
 use std::marker::Model;
+use std::mem;
 
 /// What a running call's names stand for: its text, its function, and its entered blocks, outermost first.
 #[derive(Drop)]
@@ -27,4 +31,16 @@ impl Model for Env {
     ghost coded = { Prim.hlevel (codes, types.the_row.coded, signatures.the_row.coded, expressions.the_row.coded, statements.the_row.coded) };
 
     ghost view = { λ e. record { text = e.text; fun = e.fun; blocks = e.blocks } };
+}
+
+impl Env {
+    /// The same names, with the blocks taken out.
+    pub fn take(&mut self, alloc: Global) -> Result<Env, NoMemory>
+        ensures { IfOk result (λ env. env ≡ self.old) }
+    {
+        let text = self.text.copy(alloc)?;
+        let fun = self.fun.share()?;
+        let blocks = mem::replace(&mut self.blocks, Items::new(alloc));
+        Ok(Env { text, fun, blocks })
+    }
 }

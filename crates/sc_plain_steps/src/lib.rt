@@ -10,5 +10,5 @@ mod singles;
 mod stepping;
 
 pub use env::Env;
-pub use next::Next;
+pub use next::{After, Called};
 pub use stepping::step;

@@ -1,11 +1,13 @@
 // What a step leaves (ANSI 3.3).
-ghost use Rattle.std.specs.Prelude.{◌≡◌, ◌∷◌};
+ghost use Rattle.std.specs.Prelude.{◌≡◌, ◌∷◌, IfOk, List};
+ghost use Rattle.sc_meaning.specs.World as worlds;
 ghost use Rattle.sc_machine.specs.Machine as machine;
 ghost use Rattle.sc_machine.specs.declared.pending.Mode.TheVariants as mode;
-ghost use Rattle.sc_plain_steps.specs.Advances.{Advances};
+ghost use Rattle.sc_machine.specs.declared.pending.Item.{Item};
+ghost use Rattle.sc_plain_steps.specs.Advances.{Advances, next_of};
 ghost use Rattle.sc_plain_steps.specs.declared.next.Next.TheVariants as next;
 
-use sc_base::{Items, Shared, Stack};
+use sc_base::{Items, NoMemory, Shared, Stack};
 use sc_core::CoreExpr;
 use sc_machine::{Item, Mode};
 use sc_plain_leaves::Stop;
@@ -13,13 +15,46 @@ use sc_plain_world::World;
 use sc_types::CType;
 use sc_values::{Answer, Value};
 
-/// What a step leaves, beside what is pending: more of it; a call of a function's value, of this type, with its arguments,
-/// the answer of which is given to what is pending; or the answer of the whole.
+/// A call that goes out: of a function's value, of this type, with its arguments.
+#[derive(Drop)]
+pub struct Called {
+    pub of: CType,
+    pub callee: Value,
+    pub arguments: Items<Value>,
+}
+
+/// How an expression goes on after a step in place: by its mode; by a call, the answer of which is given to what is pending; or
+/// not at all, with the answer of the whole.
+#[derive(Drop)]
+pub enum After {
+    Goes,
+    Calls(Box<Called>),
+    Gives(Answer),
+}
+
+/// The same with the mode by which it goes on.
 #[derive(Drop)]
 pub enum Next {
     Go(Mode),
-    Call(CType, Value, Items<Value>),
+    Call(Box<Called>),
     Give(Answer),
+}
+
+/// A call goes out.
+pub fn calls(
+    of: CType,
+    callee: Value,
+    arguments: Items<Value>,
+    world: &World,
+) -> Result<Next, NoMemory>
+    ensures { (is : List Item) (w : worlds.World) → IfOk result (λ n. next_of n is w ≡ machine.CallsOut of callee arguments is w) }
+{
+    let called = Called {
+        of,
+        callee,
+        arguments,
+    };
+    Ok(Next::Call(Box::new(world.alloc(), called)?))
 }
 
 /// An answer is given to what is pending.

@@ -5,11 +5,11 @@ ghost use Rattle.sc_machine.specs.Machine as machine;
 ghost use Rattle.sc_machine.specs.declared.pending.Item.{Item};
 ghost use Rattle.sc_machine.specs.declared.pending.Item.TheVariants as kind;
 ghost use Rattle.sc_machine.specs.declared.pending.Mode.TheVariants as mode;
-ghost use Rattle.sc_plain_steps.specs.Advances.{Advances};
+ghost use Rattle.sc_plain_steps.specs.Advances.{Advances, Steps};
 
 use crate::begin::{begun, expr_next};
 use crate::env::Env;
-use crate::next::{Next, evals, gives, goes_on};
+use crate::next::{After, Next, calls, evals, gives, goes_on};
 use crate::pairs::{pair, store};
 use crate::singles::single;
 use sc_base::{Items, Shared, Stack};
@@ -20,6 +20,7 @@ use sc_plain_parts::{assigned_structure, plain, used};
 use sc_plain_world::World;
 use sc_types::CType;
 use sc_values::{Answer, Value};
+use std::mem;
 
 // The only operand is there, or the last one.
 fn alone_next(s: &Single, a: Answer, world: &mut World) -> Result<Next, Stop>
@@ -144,7 +145,7 @@ fn args_next(
         None => {
             items.push(Item::Alone(Single::Back))?;
             world.tick()?;
-            Ok(Next::Call(t, v, vs))
+            Ok(calls(t, v, vs, world)?)
         }
         Some(e) => evals(&e, Item::Argument(t, v, rest, vs), items, world),
     }
@@ -264,20 +265,44 @@ fn eval_next(
     expr_next(env, e, items, world)
 }
 
-/// One step on an expression: exactly the machine's.
+// One step: an answer is taken out of its mode, which is left without one.
+fn advanced(
+    env: &Env,
+    mode: &mut Mode,
+    items: &mut Stack<Item>,
+    world: &mut World,
+) -> Result<Next, Stop>
+    ensures { Advances (machine.advance env.now mode.old items.old world.old) result items.new world.new }
+{
+    match mode {
+        Mode::Eval(e) => eval_next(env, e, items, world),
+        Mode::Give(a) => {
+            let a = mem::replace(a, Answer::nothing());
+            answer_next(a, items, world)
+        }
+    }
+}
+
+/// One step on an expression, in place: exactly the machine's.
 ///
 /// # Errors
 ///
 /// How the run ends in it.
-pub fn step(env: &Env, mode: Mode, items: &mut Stack<Item>, world: &mut World) -> Result<Next, Stop>
-    ensures { Advances (machine.advance env.now mode items.old world.old) result items.new world.new }
+pub fn step(
+    env: &Env,
+    mode: &mut Mode,
+    items: &mut Stack<Item>,
+    world: &mut World,
+) -> Result<After, Stop>
+    ensures { Steps (machine.advance env.now mode.old items.old world.old) result mode.new items.new world.new }
 {
-    match mode {
-        Mode::Eval(e) => {
-            let next = eval_next(env, &e, items, world);
-            drop(e);
-            next
+    match advanced(env, mode, items, world) {
+        Ok(Next::Go(next)) => {
+            *mode = next;
+            Ok(After::Goes)
         }
-        Mode::Give(a) => answer_next(a, items, world),
+        Ok(Next::Call(called)) => Ok(After::Calls(called)),
+        Ok(Next::Give(a)) => Ok(After::Gives(a)),
+        Err(stop) => Err(stop),
     }
 }

@@ -65,8 +65,8 @@ pub fn stop_text(
 {
     match ended {
         Ended::Exit(status) => exit_text(alloc, *status),
-        Ended::Undefined(breach) => breach_text(alloc, breach, world),
-        Ended::StackFull(key) => full_text(alloc, key),
+        Ended::Undefined(breach) => breach_text(alloc, breach.get(), world),
+        Ended::StackFull(key) => full_text(alloc, key.get()),
         Ended::BirthLimit => words(alloc, b"birth limit"),
         Ended::OutOfSteps => paused_text(alloc, turns),
         Ended::NoRoom => Err(NoMemory),

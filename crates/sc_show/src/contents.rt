@@ -48,7 +48,7 @@ fn unread(alloc: Global, stop: &Stop) -> Result<Vec<u8>, NoMemory>
 {
     match stop {
         Stop::NoRoom => Err(NoMemory),
-        Stop::Undefined(b) => words(alloc, broken(b.rule)),
+        Stop::Undefined(b) => words(alloc, broken(b.get().rule)),
         Stop::Exit(_) => words(alloc, b"?"),
         Stop::StackFull(_) => words(alloc, b"?"),
         Stop::BirthLimit => words(alloc, b"?"),

@@ -143,8 +143,8 @@ fn shown(alloc: Global, finished: &Finished) -> Result<Vec<u8>, NoMemory> {
             write(&mut text, b"exit ")?;
             write_number(&mut text, i64::from(*n))?;
         }
-        Ended::Undefined(told) => write_breach(&mut text, told, &finished.world)?,
-        Ended::StackFull(key) => write_full(&mut text, key)?,
+        Ended::Undefined(told) => write_breach(&mut text, told.get(), &finished.world)?,
+        Ended::StackFull(key) => write_full(&mut text, key.get())?,
         Ended::BirthLimit => write(&mut text, b"birth limit")?,
         Ended::OutOfSteps => write(&mut text, b"out of steps")?,
         Ended::NoRoom => write(&mut text, b"no room")?,

@@ -10,13 +10,13 @@ stepping-init c = λ h q s i. (s, i, refl)
 pub stepping-preserved : goal.stepping-preserved
 stepping-preserved c = λ h q s i.
     let p = c.stepping.invariant h q s i in
-    (steady.advance h c.args.texts.now p.0, (c.in_ok-stepped.ensures h q p.0 p.1).0, sym (one_less c.stepping.left (c.stepping.left - 1) h c.args.texts.now p.0 (omega arith)) ∙ p.2)
+    (steady.advance h c.args.texts.now p.0, (c.in_ok-step_run.ensures h q p.0 p.1).0, sym (one_less c.stepping.left (c.stepping.left - 1) h c.args.texts.now p.0 (omega arith)) ∙ p.2)
 
-pub returns-in_err-stepped : goal.returns-in_err-stepped
-returns-in_err-stepped c = λ h q s i.
+pub returns-in_err-step_run : goal.returns-in_err-step_run
+returns-in_err-step_run c = λ h q s i.
     let p = c.stepping.invariant h q s i in
-    ends_here _ c.from_residual.result c.in_err-stepped.field-0.0 _ c.from_residual.ensures.1
-    (λ e is. sym p.2 ∙ one_less c.stepping.left (c.stepping.left - 1) h c.args.texts.now p.0 (omega arith) ∙ ended_there (c.stepping.left - 1) h c.args.texts.now _ e (c.in_err-stepped.ensures h q p.0 p.1 e is))
+    ends_here _ c.from_residual.result c.in_err-step_run.field-0.0 _ c.from_residual.ensures.1
+    (λ e is. sym p.2 ∙ one_less c.stepping.left (c.stepping.left - 1) h c.args.texts.now p.0 (omega arith) ∙ ended_there (c.stepping.left - 1) h c.args.texts.now _ e (c.in_err-step_run.ensures h q p.0 p.1 e is))
 
 pub returns-then-is_over : goal.returns-then-is_over
 returns-then-is_over c = λ h q s i.
