@@ -99,7 +99,11 @@ pub fn use_taken(doing: &mut Doing) -> Use
 {
     match doing {
         Doing::Within(_, _, user) => mem::replace(user, Use::Discard),
-        _ => Use::Discard,
+        Doing::Exec(_)
+        | Doing::Turn(_)
+        | Doing::Leave(_)
+        | Doing::Pieces(_, _)
+        | Doing::Labels(_, _, _, _) => Use::Discard,
     }
 }
 
@@ -111,7 +115,11 @@ pub fn items_taken(doing: &mut Doing, world: &World) -> Stack<Item>
     let none = Stack::new(world.alloc());
     match doing {
         Doing::Within(_, items, _) => mem::replace(items, none),
-        _ => none,
+        Doing::Exec(_)
+        | Doing::Turn(_)
+        | Doing::Leave(_)
+        | Doing::Pieces(_, _)
+        | Doing::Labels(_, _, _, _) => none,
     }
 }
 
