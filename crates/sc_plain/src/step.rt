@@ -34,7 +34,7 @@ fn quietly(next: Result<Going, Stop>, going: &mut Going) -> Result<Shown, Stop>
 {
     match next {
         Ok(next) => {
-            *going = next;
+            drop(mem::replace(going, next));
             Ok(Shown::Nothing)
         }
         Err(stop) => Err(stop),
@@ -48,7 +48,7 @@ fn entered(next: Result<Going, Stop>, going: &mut Going) -> Result<Shown, Stop>
     match next {
         Ok(next) => {
             let shown = entry(&next);
-            *going = next;
+            drop(mem::replace(going, next));
             Ok(shown)
         }
         Err(stop) => Err(stop),
@@ -88,7 +88,7 @@ fn calls_out(called: Box<Called>, going: &mut Going, world: &World) -> Result<Sh
         callee,
         arguments,
     } = Box::into_inner(called);
-    *going = Going::Makes(of, callee, arguments, caller);
+    drop(mem::replace(going, Going::Makes(of, callee, arguments, caller)));
     Ok(Shown::Nothing)
 }
 
@@ -101,7 +101,7 @@ fn leaves(way: Way, going: &mut Going, world: &mut World) -> Result<Shown, Stop>
         return Err(Stop::NoRoom)
     };
     leave(active, world)?;
-    *going = Going::Answers(answer_of(way));
+    drop(mem::replace(going, Going::Answers(answer_of(way))));
     Ok(Shown::Nothing)
 }
 
