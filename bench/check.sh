@@ -1,9 +1,9 @@
 #!/bin/sh
 # What preprocessing, parsing and checking cost: host instructions for units of growing numbers of like parts.
 # usage: bench/check.sh [PROGRAM]
-# Needs valgrind. The program is the built crates/sc_units (rt run in its folder builds it).
+# Needs valgrind. The program is the built crates/sc_tool_core (rt run in its folder builds it).
 here=$(dirname "$(readlink -f "$0")")
-program=$(readlink -f "${1:-$here/../crates/sc_units/out/sc_units}")
+program=$(readlink -f "${1:-$here/../crates/sc_tool_core/out/sc_tool_core}")
 work=$(mktemp -d) || exit 1
 trap 'rm -rf "$work"' EXIT
 cd "$work" || exit 1

@@ -3,7 +3,7 @@
 
 usage: tests/tokens.py PROGRAM FOLDER [--reading FOLDER]
 
-PROGRAM is the built crates/sc_tokens. FOLDER is searched for .c files; each is a unit in its own folder. The tokens are compared, up to
+PROGRAM is the built crates/sc_tool_tokens. FOLDER is searched for .c files; each is a unit in its own folder. The tokens are compared, up to
 white space, with `gcc -E -P -std=c89 -undef`, which is given the built-in headers in place of its own; and, with --reading, kind for
 kind and line for line with the lists of a second reading, a folder with pp.py (and its `preprocess(name, files)`).
 Where gcc refuses the unit, or the unit is refused here, the pair is counted apart.

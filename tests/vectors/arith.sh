@@ -4,5 +4,5 @@ set -e
 here=$(dirname "$0")
 program=$(mktemp)
 gcc -fwrapv -o "$program" "$here/arith.c"
-"$program" > "$here/../../crates/sc_suite_data/src/operators/table.rt"
+"$program" > "$here/../../crates/sc_test_data/src/operators/table.rt"
 rm "$program"

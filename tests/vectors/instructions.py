@@ -107,7 +107,7 @@ def main():
     text = "// Made by tests/vectors/instructions.py: the words that llvm-mc gives.\n\n"
     text += "// A line for each: the word and what it is read as.\n"
     text += f"pub const COUNT: u32 = {len(lines)};\n\npub const WORDS: &str = \"\\\n{''.join(lines)}\";\n"
-    target = pathlib.Path(__file__).parent / "../../crates/sc_suite_data/src/instructions/table.rt"
+    target = pathlib.Path(__file__).parent / "../../crates/sc_test_data/src/instructions/table.rt"
     target.parent.mkdir(exist_ok=True)
     target.write_text(text)
 

@@ -4,5 +4,5 @@ set -e
 here=$(dirname "$0")
 program=$(mktemp)
 gcc -w -o "$program" "$here/number.c"
-"$program" > "$here/../../crates/sc_suite_data/src/formats/table.rt"
+"$program" > "$here/../../crates/sc_test_data/src/formats/table.rt"
 rm "$program"

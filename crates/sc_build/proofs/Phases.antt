@@ -5,7 +5,7 @@ use Rattle.sc_base.specs.declared.refusal.Fault.TheVariants as base
 use Rattle.sc_check.specs.Outcomes as rules
 use Rattle.sc_check.specs.Units.{unit_of}
 use Rattle.sc_core.specs.declared.module.Core.{Core}
-use Rattle.sc_formed.specs.Modules.{formed}
+use Rattle.sc_core_formed.specs.Modules.{formed}
 use Rattle.sc_lex.specs.declared.token.Token.{Token}
 use Rattle.sc_outside.specs.Stored.{FileMap}
 use Rattle.sc_pp.specs.declared.unit.PpFault.{PpFault}
@@ -14,12 +14,12 @@ use Rattle.sc_pp.specs.Preprocessing.{preprocessed}
 use Rattle.sc_pp.specs.Answers.{Known, BlamesFile}
 use Rattle.sc_pp.specs.Answers as read
 use Rattle.sc_pp.specs.Asked.{asked_in, IsFileAmong}
-use Rattle.sc_scopes.specs.declared.table.Scopes.{Scopes}
-use Rattle.sc_scopes.specs.Scopes.{scopes_of}
-use Rattle.sc_token.specs.Symbols.{symbols}
+use Rattle.sc_core_names.specs.declared.table.Scopes.{Scopes}
+use Rattle.sc_core_names.specs.Scopes.{scopes_of}
+use Rattle.sc_parse_tokens.specs.Symbols.{symbols}
 use Rattle.sc_tree.specs.declared.statement.External.{External}
-use Rattle.sc_unit.specs.Machine.{start}
-use Rattle.sc_unit.specs.Parse.{answer, Gives}
+use Rattle.sc_parse_unit.specs.Machine.{start}
+use Rattle.sc_parse_unit.specs.Parse.{answer, Gives}
 use Rattle.sc_build.specs.declared.building.BuildFault.{BuildFault}
 use Rattle.sc_build.specs.declared.building.BuildFault.TheVariants as fault
 use Rattle.sc_build.specs.Builds.{Answers, Checks, Reads, IsUnit, Refuses, in_preprocessing, in_grammar, in_types, InFile, of_files}

@@ -6,7 +6,7 @@ use Rattle.sc_base.specs.declared.refusal.Fault.{Fault}
 use Rattle.sc_base.specs.declared.refusal.Fault.TheVariants as base
 use Rattle.sc_check.specs.Outcomes.{IsRefused}
 use Rattle.sc_check.specs.Units.{unit_of}
-use Rattle.sc_formed.specs.Modules.{formed}
+use Rattle.sc_core_formed.specs.Modules.{formed}
 use Rattle.sc_lex.specs.declared.token.Token.{Token}
 use Rattle.sc_outside.specs.Causes.{Rose}
 use Rattle.sc_outside.specs.Stored.{FileMap}
@@ -15,11 +15,11 @@ use Rattle.sc_pp.specs.declared.unit.PpFault.TheVariants as pp
 use Rattle.sc_pp.specs.Preprocessing.{preprocessed}
 use Rattle.sc_pp.specs.Answers.{Known}
 use Rattle.sc_pp.specs.Asked.{asked_in}
-use Rattle.sc_scopes.specs.Scopes.{scopes_of}
-use Rattle.sc_token.specs.Symbols.{symbols}
+use Rattle.sc_core_names.specs.Scopes.{scopes_of}
+use Rattle.sc_parse_tokens.specs.Symbols.{symbols}
 use Rattle.sc_tree.specs.declared.statement.External.{External}
-use Rattle.sc_unit.specs.Machine.{start}
-use Rattle.sc_unit.specs.Parse.{answer}
+use Rattle.sc_parse_unit.specs.Machine.{start}
+use Rattle.sc_parse_unit.specs.Parse.{answer}
 use Rattle.sc_build.specs.declared.building.Built.{Built}
 use Rattle.sc_build.specs.declared.building.BuildFault.{BuildFault}
 use Rattle.sc_build.specs.declared.building.BuildFault.TheVariants as fault

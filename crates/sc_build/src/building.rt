@@ -6,11 +6,11 @@ ghost use Rattle.sc_build.specs.Builds.{Answers, Checks, IsUnit, InFile, of_file
 use sc_base::{Bytes, Fault, Items, Name, Refusal};
 use sc_check::check;
 use sc_core::Core;
+use sc_core_names::{Scopes, scopes_of};
 use sc_lex::Token;
 use sc_outside::Files;
 use sc_parse::parse;
 use sc_pp::{PpFault, preprocess};
-use sc_scopes::{Scopes, scopes_of};
 use sc_tree::Unit;
 use std::alloc::Global;
 

@@ -2,10 +2,10 @@
 use Rattle.std.proofs.Common.{◌≡◌, ℕ, List, Option, Some, sym, ◌∙◌, ap, subst}
 use Rattle.std.specs.Prelude.{Result, Ok}
 use Rattle.sc_tree.specs.declared.declaration.Initializer.{Initializer}
-use Rattle.sc_declare.specs.Outcomes.{Outcome}
-use Rattle.sc_linkage.specs.declared.link.Declaration.{Declaration as Linked}
-use Rattle.sc_linkage.specs.declared.link.Link.{Link}
-use Rattle.sc_linkage.specs.Linkage.{change, define}
+use Rattle.sc_check_declare.specs.Outcomes.{Outcome}
+use Rattle.sc_check_linkage.specs.declared.link.Declaration.{Declaration as Linked}
+use Rattle.sc_check_linkage.specs.declared.link.Link.{Link}
+use Rattle.sc_check_linkage.specs.Linkage.{change, define}
 use Rattle.sc_check_body.specs.declared.fault.UnitFault.{UnitFault}
 use Rattle.sc_check_body.specs.declared.progress.Translation.{Translation}
 use Rattle.sc_check_body.specs.Faults.{Checked, GivesWith, and_then}

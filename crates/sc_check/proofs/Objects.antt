@@ -7,7 +7,7 @@ use Rattle.sc_types.specs.declared.ctype.StructDef.{StructDef}
 use Rattle.sc_core.specs.declared.module.Declared.{Declared}
 use Rattle.sc_core.specs.declared.module.Init.{Init}
 use Rattle.sc_core.specs.declared.module.StaticObj.{StaticObj}
-use Rattle.sc_linkage.specs.declared.link.Link.{Link}
+use Rattle.sc_check_linkage.specs.declared.link.Link.{Link}
 use Rattle.sc_check_body.specs.declared.progress.Translation.{Translation}
 use Rattle.sc_check.specs.Units.{objects, object_of, object_in, with_given, with_objects}
 

@@ -9,14 +9,14 @@ use Rattle.sc_tree.specs.declared.declaration.Initializer.{Initializer}
 use Rattle.sc_types.specs.declared.ctype.CType.{CType}
 use Rattle.sc_types.specs.declared.ctype.CType.TheVariants as t
 use Rattle.sc_core.specs.declared.module.Init.{Init}
-use Rattle.sc_operand.specs.Types.{is_function}
-use Rattle.sc_declare.specs.declared.derivation.DeclaredType.{DeclaredType}
-use Rattle.sc_declare.specs.declared.storage.Place.TheVariants as place
-use Rattle.sc_declare.specs.Storages.{may_stand}
-use Rattle.sc_linkage.specs.declared.births.Birth.TheVariants as birth
-use Rattle.sc_linkage.specs.declared.link.Declaration.{Declaration as Linked}
-use Rattle.sc_linkage.specs.declared.link.Link.{Link}
-use Rattle.sc_linkage.specs.Linkage as linkage
+use Rattle.sc_check_operand.specs.Types.{is_function}
+use Rattle.sc_check_declare.specs.declared.derivation.DeclaredType.{DeclaredType}
+use Rattle.sc_check_declare.specs.declared.storage.Place.TheVariants as place
+use Rattle.sc_check_declare.specs.Storages.{may_stand}
+use Rattle.sc_check_linkage.specs.declared.births.Birth.TheVariants as birth
+use Rattle.sc_check_linkage.specs.declared.link.Declaration.{Declaration as Linked}
+use Rattle.sc_check_linkage.specs.declared.link.Link.{Link}
+use Rattle.sc_check_linkage.specs.Linkage as linkage
 use Rattle.sc_check_expr.specs.Typed.{specifying}
 use Rattle.sc_check_initial.specs.Whole.{static}
 use Rattle.sc_check_body.specs.declared.progress.Translation.{Translation}

@@ -18,22 +18,22 @@ use Rattle.sc_types.specs.declared.ctype.StructDef.{StructDef}
 use Rattle.sc_core.specs.declared.statement.CoreStmt.{CoreStmt}
 use Rattle.sc_core.specs.declared.module.Auto.{Auto}
 use Rattle.sc_core.specs.declared.module.Fun.{Fun}
-use Rattle.sc_laws.specs.Needs.{need_of_statement}
-use Rattle.sc_declare.specs.declared.storage.Place.TheVariants as place
-use Rattle.sc_declare.specs.Storages.{may_stand}
-use Rattle.sc_declare.specs.Declarators.{defined_parameter}
-use Rattle.sc_declare.specs.Spaces.{find}
-use Rattle.sc_linkage.specs.declared.link.Declaration.{Declaration as Linked}
-use Rattle.sc_linkage.specs.declared.link.Link.{Link}
-use Rattle.sc_linkage.specs.declared.frame.Local.{Local}
-use Rattle.sc_linkage.specs.Linkage.{change, begin_function, give_body}
-use Rattle.sc_linkage.specs.Frames.{cost, slots, slots_begin, blocks_from}
-use Rattle.sc_scope.specs.declared.state.Meaning.{Meaning}
-use Rattle.sc_scope.specs.declared.state.Meaning.TheVariants as m
-use Rattle.sc_scope.specs.declared.state.Marks.{Marks}
-use Rattle.sc_scope.specs.declared.state.State.{State}
-use Rattle.sc_scope.specs.Scopes.{enter, leave}
-use Rattle.sc_scope.specs.Steps.{each}
+use Rattle.sc_core_needs.specs.Needs.{need_of_statement}
+use Rattle.sc_check_declare.specs.declared.storage.Place.TheVariants as place
+use Rattle.sc_check_declare.specs.Storages.{may_stand}
+use Rattle.sc_check_declare.specs.Declarators.{defined_parameter}
+use Rattle.sc_check_declare.specs.Spaces.{find}
+use Rattle.sc_check_linkage.specs.declared.link.Declaration.{Declaration as Linked}
+use Rattle.sc_check_linkage.specs.declared.link.Link.{Link}
+use Rattle.sc_check_linkage.specs.declared.frame.Local.{Local}
+use Rattle.sc_check_linkage.specs.Linkage.{change, begin_function, give_body}
+use Rattle.sc_check_linkage.specs.Frames.{cost, slots, slots_begin, blocks_from}
+use Rattle.sc_check_scope.specs.declared.state.Meaning.{Meaning}
+use Rattle.sc_check_scope.specs.declared.state.Meaning.TheVariants as m
+use Rattle.sc_check_scope.specs.declared.state.Marks.{Marks}
+use Rattle.sc_check_scope.specs.declared.state.State.{State}
+use Rattle.sc_check_scope.specs.Scopes.{enter, leave}
+use Rattle.sc_check_scope.specs.Steps.{each}
 use Rattle.sc_check_expr.specs.Typed as typed
 use Rattle.sc_check_body.specs.declared.progress.Translation.{Translation}
 use Rattle.sc_check_body.specs.declared.progress.Body.{Body}

@@ -5,9 +5,9 @@ use Rattle.sc_base.specs.declared.refusal.X.{X}
 use Rattle.sc_base.specs.declared.refusal.X.TheVariants as x
 use Rattle.sc_base.specs.declared.refusal.Fault.{Fault}
 use Rattle.sc_base.specs.declared.refusal.Fault.TheVariants as translation
-use Rattle.sc_operand.specs.Causes.{kind_of}
-use Rattle.sc_declare.specs.Outcomes.{word}
-use Rattle.sc_scope.specs.declared.fault.Problem.TheVariants as problem
+use Rattle.sc_check_operand.specs.Causes.{kind_of}
+use Rattle.sc_check_declare.specs.Outcomes.{word}
+use Rattle.sc_check_scope.specs.declared.fault.Problem.TheVariants as problem
 use Rattle.sc_check_body.specs.declared.fault.Finding.{Finding}
 use Rattle.sc_check_body.specs.declared.fault.Finding.TheVariants as finding
 use Rattle.sc_check_body.specs.declared.fault.UnitFault.{UnitFault}

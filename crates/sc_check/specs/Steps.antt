@@ -1,7 +1,7 @@
 -- Steps of a unit that change the names with linkage alone.
 use Rattle.std.specs.Prelude.{List, Ok}
-use Rattle.sc_declare.specs.Outcomes.{Outcome}
-use Rattle.sc_linkage.specs.declared.link.Link.{Link}
+use Rattle.sc_check_declare.specs.Outcomes.{Outcome}
+use Rattle.sc_check_linkage.specs.declared.link.Link.{Link}
 use Rattle.sc_check_body.specs.Faults.{and_then, declaring}
 use Rattle.sc_check_body.specs.Progress.{Translating}
 

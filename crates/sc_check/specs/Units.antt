@@ -8,12 +8,12 @@ use Rattle.sc_core.specs.declared.module.Core.{Core}
 use Rattle.sc_core.specs.declared.module.Declared.{Declared}
 use Rattle.sc_core.specs.declared.module.Init.{Init}
 use Rattle.sc_core.specs.declared.module.StaticObj.{StaticObj}
-use Rattle.sc_declare.specs.Qualifiers.{is_constant}
-use Rattle.sc_linkage.specs.declared.link.Link.{Link}
-use Rattle.sc_linkage.specs.declared.link.Definition.{Definition}
-use Rattle.sc_linkage.specs.declared.link.Definition.TheVariants as d
-use Rattle.sc_linkage.specs.Linkage.{finish}
-use Rattle.sc_linkage.specs.Births.{born}
+use Rattle.sc_check_declare.specs.Qualifiers.{is_constant}
+use Rattle.sc_check_linkage.specs.declared.link.Link.{Link}
+use Rattle.sc_check_linkage.specs.declared.link.Definition.{Definition}
+use Rattle.sc_check_linkage.specs.declared.link.Definition.TheVariants as d
+use Rattle.sc_check_linkage.specs.Linkage.{finish}
+use Rattle.sc_check_linkage.specs.Births.{born}
 use Rattle.sc_check_initial.specs.Contents.{zeros}
 use Rattle.sc_check_body.specs.declared.progress.Translation.{Translation}
 use Rattle.sc_check_body.specs.Faults.{Checked, and_then, declaring}

@@ -8,12 +8,12 @@ use sc_check_body::{
     Translation, UnitFault, declarator_type, declare_alone, link, name_link, name_type,
     no_initializer, rule,
 };
+use sc_check_declare::{DeclaredType, Place, may_stand};
 use sc_check_expr::specifiers;
 use sc_check_initial::static_initializer;
+use sc_check_linkage::{Birth, Declaration as Linked};
+use sc_check_operand::is_function;
 use sc_core::Init;
-use sc_declare::{DeclaredType, Place, may_stand};
-use sc_linkage::{Birth, Declaration as Linked};
-use sc_operand::is_function;
 use sc_tree::{Declaration, Identifier, InitDeclarator, Initializer, Storage};
 use sc_types::CType;
 use std::alloc::Global;

@@ -4,9 +4,9 @@ ghost use Rattle.sc_check.specs.Outcomes as spec;
 
 use sc_base::{Bytes, Fault, NoMemory, Refusal, X};
 use sc_check_body::{Finding, UnitFault};
-use sc_declare::{Failure, told as declaring};
-use sc_operand::kind_of;
-use sc_scope::Problem;
+use sc_check_declare::{Failure, told as declaring};
+use sc_check_operand::kind_of;
+use sc_check_scope::Problem;
 use std::alloc::Global;
 
 fn left_out(alloc: Global, word: &[u8]) -> Result<X, NoMemory>

@@ -1,6 +1,6 @@
 // A unit, from its tree to its typed tree (ANSI 3.7).
 ghost use Rattle.std.specs.Prelude.{◌≡◌, ◌++◌, IfOk, OnOk, true};
-ghost use Rattle.sc_formed.specs.Modules.{formed};
+ghost use Rattle.sc_core_formed.specs.Modules.{formed};
 ghost use Rattle.sc_check_body.specs.Faults.{Says, GivesWith};
 ghost use Rattle.sc_check.specs.Outcomes.{Answers};
 ghost use Rattle.sc_check.specs.Units as spec;
@@ -10,13 +10,13 @@ use crate::function::define_function;
 use crate::outcome::told;
 use sc_base::{Bytes, Duplicate, Fault, Items, Name, NoMemory};
 use sc_check_body::{Translation, UnitFault};
+use sc_check_declare::is_constant;
 use sc_check_initial::zeros;
+use sc_check_linkage::{Definition, Link, born};
+use sc_check_scope::{Literals, State};
 use sc_core::{Core, Declared, Init, StaticObj};
-use sc_declare::is_constant;
-use sc_formed::is_formed;
-use sc_linkage::{Definition, Link, born};
+use sc_core_formed::is_formed;
 use sc_program::StaticId;
-use sc_scope::{Literals, State};
 use sc_tree::{External, Unit};
 use sc_types::{CType, Structs};
 use std::alloc::Global;

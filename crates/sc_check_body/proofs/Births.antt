@@ -1,8 +1,8 @@
 -- Literals that are noted one by one.
 use Rattle.std.proofs.Common.{◌≡◌, ℕ, suc, ◌+◌, ◌-◌, ◌<◌, List, [], ◌∷◌, ◌++◌, map, ◌∙◌, ap, append_assoc, arith}
 use Rattle.std.specs.List.{range_with_len}
-use Rattle.sc_linkage.specs.declared.births.Birth.{Birth}
-use Rattle.sc_linkage.specs.declared.births.Birth.TheVariants as birth
+use Rattle.sc_check_linkage.specs.declared.births.Birth.{Birth}
+use Rattle.sc_check_linkage.specs.declared.births.Birth.TheVariants as birth
 use Rattle.sc_check_body.specs.Progress.{literals}
 
 next : (a b : ℕ) → a < b → birth.Literal a ∷ literals (a + 1) b ≡ literals a b

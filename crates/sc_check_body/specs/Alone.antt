@@ -10,12 +10,12 @@ use Rattle.sc_tree.specs.declared.expression.Specifiers.{Specifiers}
 use Rattle.sc_tree.specs.declared.expression.TypeName.{TypeName}
 use Rattle.sc_tree.specs.declared.expression.TypeWord.{TypeWord, out-TypeWord}
 use Rattle.sc_tree.specs.declared.expression.Derivation.TheOpen.{TypeWord-F}
-use Rattle.sc_declare.specs.declared.derivation.DeclaredType.{DeclaredType}
-use Rattle.sc_declare.specs.declared.storage.Place.{Place}
-use Rattle.sc_declare.specs.Storages.{may_stand}
-use Rattle.sc_scope.specs.declared.state.State.{State}
-use Rattle.sc_scope.specs.Scopes as scopes
-use Rattle.sc_scope.specs.Tags.{open_structure}
+use Rattle.sc_check_declare.specs.declared.derivation.DeclaredType.{DeclaredType}
+use Rattle.sc_check_declare.specs.declared.storage.Place.{Place}
+use Rattle.sc_check_declare.specs.Storages.{may_stand}
+use Rattle.sc_check_scope.specs.declared.state.State.{State}
+use Rattle.sc_check_scope.specs.Scopes as scopes
+use Rattle.sc_check_scope.specs.Tags.{open_structure}
 use Rattle.sc_check_expr.specs.Typed.{specifying, declaring}
 use Rattle.sc_check_body.specs.Faults.{Checked, and_then, keep, within, rule}
 

@@ -10,9 +10,9 @@ use Rattle.sc_tree.specs.declared.statement.Statement.TheOpen.{Statement-F}
 use Rattle.sc_core.specs.declared.expression.CoreExpr.{CoreExpr}
 use Rattle.sc_core.specs.declared.statement.CoreStmt.{CoreStmt}
 use Rattle.sc_core.specs.declared.statement.CoreStmt.TheVariants as s
-use Rattle.sc_scope.specs.declared.state.Marks.{Marks}
-use Rattle.sc_scope.specs.declared.state.State.{State}
-use Rattle.sc_scope.specs.Scopes as scopes
+use Rattle.sc_check_scope.specs.declared.state.Marks.{Marks}
+use Rattle.sc_check_scope.specs.declared.state.State.{State}
+use Rattle.sc_check_scope.specs.Scopes as scopes
 use Rattle.sc_check_expr.specs.Typed.{node, constant}
 use Rattle.sc_check_body.specs.declared.progress.Around.{Around}
 use Rattle.sc_check_body.specs.declared.progress.Body.{Body}

@@ -1,15 +1,15 @@
 -- Answers that may be refusals of a unit.
 use Rattle.std.specs.Prelude.{◌≡◌, ℕ, List, [], ◌∷◌, Result, Ok, Err}
-use Rattle.sc_operand.specs.declared.fault.Diagnostic.{Diagnostic}
-use Rattle.sc_operand.specs.declared.fault.TypeFault.{TypeFault}
-use Rattle.sc_declare.specs.declared.failure.Reason.TheVariants as r
-use Rattle.sc_declare.specs.declared.failure.Refused.{Refused}
-use Rattle.sc_declare.specs.declared.failure.Failure.{Failure}
-use Rattle.sc_scope.specs.declared.fault.Problem.{Problem}
-use Rattle.sc_scope.specs.declared.fault.Problem.TheVariants as problem
-use Rattle.sc_scope.specs.declared.fault.CheckFault.{CheckFault}
-use Rattle.sc_scope.specs.declared.fault.CheckFault.TheVariants as below
-use Rattle.sc_scope.specs.Steps.{of_type_fault, of_failure}
+use Rattle.sc_check_operand.specs.declared.fault.Diagnostic.{Diagnostic}
+use Rattle.sc_check_operand.specs.declared.fault.TypeFault.{TypeFault}
+use Rattle.sc_check_declare.specs.declared.failure.Reason.TheVariants as r
+use Rattle.sc_check_declare.specs.declared.failure.Refused.{Refused}
+use Rattle.sc_check_declare.specs.declared.failure.Failure.{Failure}
+use Rattle.sc_check_scope.specs.declared.fault.Problem.{Problem}
+use Rattle.sc_check_scope.specs.declared.fault.Problem.TheVariants as problem
+use Rattle.sc_check_scope.specs.declared.fault.CheckFault.{CheckFault}
+use Rattle.sc_check_scope.specs.declared.fault.CheckFault.TheVariants as below
+use Rattle.sc_check_scope.specs.Steps.{of_type_fault, of_failure}
 use Rattle.sc_check_body.specs.declared.fault.Finding.{Finding}
 use Rattle.sc_check_body.specs.declared.fault.Finding.TheVariants as finding
 use Rattle.sc_check_body.specs.declared.fault.UnitFault.{UnitFault}

@@ -1,17 +1,17 @@
 -- Declarations of names with linkage (ANSI 3.1.2.2).
 use Rattle.std.specs.Prelude.{ℕ, nat_lt, Bool, true, false, if◌then◌else◌, List, [], ◌∷◌, ◌++◌, length, slice_get, Option, Some, None, Ok}
 use Rattle.std.specs.Str.{bytes_eq}
-use Rattle.sc_linkage.specs.declared.link.Declaration.{Declaration}
-use Rattle.sc_linkage.specs.declared.link.Link.{Link}
-use Rattle.sc_linkage.specs.Linkage.{declare}
+use Rattle.sc_check_linkage.specs.declared.link.Declaration.{Declaration}
+use Rattle.sc_check_linkage.specs.declared.link.Link.{Link}
+use Rattle.sc_check_linkage.specs.Linkage.{declare}
 use Rattle.sc_tree.specs.declared.declaration.Initializer.{Initializer}
-use Rattle.sc_operand.specs.Types.{is_function}
-use Rattle.sc_declare.specs.declared.derivation.DeclaredType.{DeclaredType}
-use Rattle.sc_declare.specs.Spaces.{find, innermost}
-use Rattle.sc_scope.specs.declared.state.Meaning.{Meaning}
-use Rattle.sc_scope.specs.declared.state.Meaning.TheVariants as m
-use Rattle.sc_scope.specs.declared.state.State.{State}
-use Rattle.sc_scope.specs.Scopes as scopes
+use Rattle.sc_check_operand.specs.Types.{is_function}
+use Rattle.sc_check_declare.specs.declared.derivation.DeclaredType.{DeclaredType}
+use Rattle.sc_check_declare.specs.Spaces.{find, innermost}
+use Rattle.sc_check_scope.specs.declared.state.Meaning.{Meaning}
+use Rattle.sc_check_scope.specs.declared.state.Meaning.TheVariants as m
+use Rattle.sc_check_scope.specs.declared.state.State.{State}
+use Rattle.sc_check_scope.specs.Scopes as scopes
 use Rattle.sc_check_initial.specs.Lists.{item}
 use Rattle.sc_check_body.specs.declared.progress.Translation.{Translation}
 use Rattle.sc_check_body.specs.Faults.{Checked, and_then, declaring, within, rule}

@@ -14,19 +14,19 @@ use Rattle.sc_tree.specs.declared.expression.Storage.TheVariants as storage
 use Rattle.sc_core.specs.declared.module.Init.{Init}
 use Rattle.sc_core.specs.declared.statement.AutoInit.{AutoInit}
 use Rattle.sc_core.specs.declared.statement.CoreStmt.TheVariants as statement
-use Rattle.sc_operand.specs.Types.{is_function, object_size}
-use Rattle.sc_declare.specs.declared.derivation.DeclaredType.{DeclaredType}
-use Rattle.sc_declare.specs.declared.storage.Place.TheVariants as place
-use Rattle.sc_declare.specs.Qualifiers.{is_constant}
-use Rattle.sc_declare.specs.Storages.{may_stand}
-use Rattle.sc_linkage.specs.declared.births.Birth.TheVariants as birth
-use Rattle.sc_linkage.specs.declared.frame.Local.{Local}
-use Rattle.sc_linkage.specs.declared.link.Declaration.{Declaration as Declared}
-use Rattle.sc_linkage.specs.Keys.{block_key}
-use Rattle.sc_scope.specs.declared.state.Meaning.{Meaning}
-use Rattle.sc_scope.specs.declared.state.Meaning.TheVariants as m
-use Rattle.sc_scope.specs.declared.state.State.{State}
-use Rattle.sc_scope.specs.Scopes as scopes
+use Rattle.sc_check_operand.specs.Types.{is_function, object_size}
+use Rattle.sc_check_declare.specs.declared.derivation.DeclaredType.{DeclaredType}
+use Rattle.sc_check_declare.specs.declared.storage.Place.TheVariants as place
+use Rattle.sc_check_declare.specs.Qualifiers.{is_constant}
+use Rattle.sc_check_declare.specs.Storages.{may_stand}
+use Rattle.sc_check_linkage.specs.declared.births.Birth.TheVariants as birth
+use Rattle.sc_check_linkage.specs.declared.frame.Local.{Local}
+use Rattle.sc_check_linkage.specs.declared.link.Declaration.{Declaration as Declared}
+use Rattle.sc_check_linkage.specs.Keys.{block_key}
+use Rattle.sc_check_scope.specs.declared.state.Meaning.{Meaning}
+use Rattle.sc_check_scope.specs.declared.state.Meaning.TheVariants as m
+use Rattle.sc_check_scope.specs.declared.state.State.{State}
+use Rattle.sc_check_scope.specs.Scopes as scopes
 use Rattle.sc_check_expr.specs.Typed.{specifying}
 use Rattle.sc_check_initial.specs.Contents.{zeros}
 use Rattle.sc_check_initial.specs.Whole as whole

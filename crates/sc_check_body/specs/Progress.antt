@@ -5,11 +5,11 @@ use Rattle.std.specs.Map.{lookup}
 use Rattle.std.specs.Str.{bytes_eq}
 use Rattle.indexmap.specs.IndexMap.{insert_entry}
 use Rattle.sc_types.specs.declared.ctype.CType.{CType}
-use Rattle.sc_linkage.specs.declared.births.Birth.{Birth}
-use Rattle.sc_linkage.specs.declared.births.Birth.TheVariants as birth
-use Rattle.sc_linkage.specs.declared.frame.Local.{Local}
-use Rattle.sc_scope.specs.declared.state.State.{State}
-use Rattle.sc_scope.specs.Scopes as scopes
+use Rattle.sc_check_linkage.specs.declared.births.Birth.{Birth}
+use Rattle.sc_check_linkage.specs.declared.births.Birth.TheVariants as birth
+use Rattle.sc_check_linkage.specs.declared.frame.Local.{Local}
+use Rattle.sc_check_scope.specs.declared.state.State.{State}
+use Rattle.sc_check_scope.specs.Scopes as scopes
 use Rattle.sc_check_body.specs.declared.progress.Translation.{Translation}
 use Rattle.sc_check_body.specs.declared.progress.Body.{Body}
 use Rattle.sc_check_body.specs.declared.progress.OpenBlock.{OpenBlock}

@@ -6,12 +6,12 @@ use Rattle.sc_types.specs.declared.ctype.StructDef.{StructDef}
 use Rattle.sc_types.specs.Conversions.{promote}
 use Rattle.sc_core.specs.declared.expression.CoreExpr.{CoreExpr}
 use Rattle.sc_core.specs.Types.{type_of}
-use Rattle.sc_operand.specs.declared.shape.Shape.{Shape}
-use Rattle.sc_operand.specs.declared.shape.Shape.TheVariants as has
-use Rattle.sc_operand.specs.Types.{shape, is_scalar, is_void}
-use Rattle.sc_operand.specs.Operands.{valued, to_int}
-use Rattle.sc_operand.specs.Agreement.{assigned}
-use Rattle.sc_scope.specs.declared.state.State.{State}
+use Rattle.sc_check_operand.specs.declared.shape.Shape.{Shape}
+use Rattle.sc_check_operand.specs.declared.shape.Shape.TheVariants as has
+use Rattle.sc_check_operand.specs.Types.{shape, is_scalar, is_void}
+use Rattle.sc_check_operand.specs.Operands.{valued, to_int}
+use Rattle.sc_check_operand.specs.Agreement.{assigned}
+use Rattle.sc_check_scope.specs.declared.state.State.{State}
 use Rattle.sc_check_expr.specs.Typed.{Node}
 use Rattle.sc_check_body.specs.Faults.{Checked, and_then, keep, within, typing, rule}
 

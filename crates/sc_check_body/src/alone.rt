@@ -1,14 +1,14 @@
 // Declarations without declarators, and the type of each declarator (ANSI 3.5).
 ghost use Rattle.std.specs.Prelude.{◌≡◌};
-ghost use Rattle.sc_scope.specs.Steps as scope;
+ghost use Rattle.sc_check_scope.specs.Steps as scope;
 ghost use Rattle.sc_check_body.specs.Faults.{GivesWith};
 ghost use Rattle.sc_check_body.specs.Alone as spec;
 
 use crate::fault::{UnitFault, rule};
 use sc_base::{Duplicate, Name};
+use sc_check_declare::{DeclaredType, Place, may_stand};
 use sc_check_expr::{declarator, specifiers};
-use sc_declare::{DeclaredType, Place, may_stand};
-use sc_scope::{CheckFault, State, open_structure};
+use sc_check_scope::{CheckFault, State, open_structure};
 use sc_tree::{Declaration, Declarator, Specifiers, TypeWord};
 use std::alloc::Global;
 

@@ -2,9 +2,9 @@
 ghost use Rattle.std.specs.Prelude.{◌≡◌};
 
 use sc_base::NoMemory;
-use sc_declare::{Failure, Reason, Refused};
-use sc_operand::TypeFault;
-use sc_scope::{CheckFault, Problem};
+use sc_check_declare::{Failure, Reason, Refused};
+use sc_check_operand::TypeFault;
+use sc_check_scope::{CheckFault, Problem};
 
 /// What is found: the rule of a construct that fails, or a rule of the labels of a `switch`, with the label's line.
 #[derive(Clone, Copy, Debug, PartialEq, Eq)]

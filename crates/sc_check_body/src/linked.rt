@@ -6,11 +6,11 @@ ghost use Rattle.sc_check_body.specs.Linked as spec;
 use crate::fault::{UnitFault, rule};
 use crate::progress::Translation;
 use sc_base::{Duplicate, Name, NoMemory};
+use sc_check_declare::DeclaredType;
 use sc_check_initial::typed;
-use sc_declare::DeclaredType;
-use sc_linkage::{Declaration, Link};
-use sc_operand::is_function;
-use sc_scope::{Meaning, State};
+use sc_check_linkage::{Declaration, Link};
+use sc_check_operand::is_function;
+use sc_check_scope::{Meaning, State};
 use sc_tree::Initializer;
 use std::alloc::Global;
 

@@ -4,9 +4,9 @@ ghost use Rattle.sc_check_body.specs.Progress as spec;
 
 use crate::tables::{Counts, Values};
 use sc_base::{Duplicate, Int, Items, Name, NoMemory, Shared, Stack};
+use sc_check_linkage::{Birth, Links, Local};
+use sc_check_scope::State;
 use sc_core::{CoreStmt, Fun, Init, StaticObj, SwitchLabel};
-use sc_linkage::{Birth, Links, Local};
-use sc_scope::State;
 use sc_types::CType;
 use std::alloc::Global;
 

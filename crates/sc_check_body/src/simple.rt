@@ -7,8 +7,8 @@ use crate::expressions::{returned, value};
 use crate::fault::{UnitFault, rule};
 use crate::progress::Body;
 use sc_base::Shared;
+use sc_check_scope::State;
 use sc_core::CoreStmt;
-use sc_scope::State;
 use sc_tree::Expr;
 use std::alloc::Global;
 

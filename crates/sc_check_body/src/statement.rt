@@ -12,8 +12,8 @@ use crate::progress::{Around, Body, Translation};
 use crate::simple::{expression_statement, jump, node, return_statement};
 use sc_base::{Items, NoMemory, Shared};
 use sc_check_expr::constant;
+use sc_check_scope::{State, enter, leave};
 use sc_core::{CoreExpr, CoreStmt};
-use sc_scope::{State, enter, leave};
 use sc_tree::{Declaration, Expr, Statement};
 use std::alloc::Global;
 

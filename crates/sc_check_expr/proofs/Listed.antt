@@ -11,13 +11,13 @@ use Rattle.sc_tree.specs.declared.expression.Parameter.{Parameter}
 use Rattle.sc_tree.specs.declared.expression.TypeName.{TypeName}
 use Rattle.sc_tree.specs.declared.expression.Derivation.TheOpen.{TypeWord-F}
 use Rattle.sc_tree.specs.declared.expression.Enumerator.{Enumerator}
-use Rattle.sc_declare.specs.declared.derivation.DeclaredType.{DeclaredType}
-use Rattle.sc_scope.specs.declared.fault.CheckFault.{CheckFault}
-use Rattle.sc_scope.specs.declared.state.State.{State}
-use Rattle.sc_scope.specs.declared.words.Specified.{Specified}
-use Rattle.sc_scope.specs.declared.words.Specified.TheVariants as named
-use Rattle.sc_scope.specs.Steps.{Checked, Fails, GivesWith}
-use Rattle.sc_scope.proofs.Each.{fails_bind, fails_as, passed_up}
+use Rattle.sc_check_declare.specs.declared.derivation.DeclaredType.{DeclaredType}
+use Rattle.sc_check_scope.specs.declared.fault.CheckFault.{CheckFault}
+use Rattle.sc_check_scope.specs.declared.state.State.{State}
+use Rattle.sc_check_scope.specs.declared.words.Specified.{Specified}
+use Rattle.sc_check_scope.specs.declared.words.Specified.TheVariants as named
+use Rattle.sc_check_scope.specs.Steps.{Checked, Fails, GivesWith}
+use Rattle.sc_check_scope.proofs.Each.{fails_bind, fails_as, passed_up}
 use Rattle.sc_check_expr.specs.Typed.{Level, node, naming, wording, declaring, membering, parametering, stepping, enumeration, enumerating, as_named, Deriving, Node, Wording, Declaring, Membering, Parametering, Naming, in_derivation, in_expression, in_word, in_declarator, in_member, in_parameter, in_type_name}
 
 abbrev Opened : Type 0

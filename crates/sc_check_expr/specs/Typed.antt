@@ -18,30 +18,30 @@ use Rattle.sc_tree.specs.declared.operator.Unary.{Unary}
 use Rattle.sc_tree.specs.declared.operator.Postfix.{Postfix}
 use Rattle.sc_core.specs.declared.expression.CoreExpr.{CoreExpr}
 use Rattle.sc_core.specs.Types.{type_of}
-use Rattle.sc_operand.specs.Constants.{integer_constant}
-use Rattle.sc_primary.specs.Leaves as leaf
-use Rattle.sc_primary.specs.Parts as part
-use Rattle.sc_primary.specs.Calls.{call}
-use Rattle.sc_primary.specs.Unary as prefix
-use Rattle.sc_typing.specs.Binary.{binary, comma}
-use Rattle.sc_typing.specs.Conditional.{conditional}
-use Rattle.sc_declare.specs.declared.words.Word.TheVariants as w
-use Rattle.sc_declare.specs.declared.derivation.DeclaredType.{DeclaredType}
-use Rattle.sc_declare.specs.declared.derivation.Derived.{Derived}
-use Rattle.sc_declare.specs.declared.derivation.Derived.TheVariants as d
-use Rattle.sc_declare.specs.declared.derivation.Parameters.{Parameters}
-use Rattle.sc_declare.specs.Declarators as declarators
-use Rattle.sc_scope.specs.declared.words.Specified.{Specified}
-use Rattle.sc_scope.specs.declared.words.Specified.TheVariants as word
-use Rattle.sc_scope.specs.declared.words.Words.{Words}
-use Rattle.sc_scope.specs.declared.state.State.{State}
-use Rattle.sc_scope.specs.Steps.{Checked, and_then, keep, each, typing}
-use Rattle.sc_scope.specs.Steps as steps
-use Rattle.sc_scope.specs.Scopes.{Checking, enter, leave}
-use Rattle.sc_scope.specs.Words.{no_words, with_word, list_type}
-use Rattle.sc_scope.specs.Tags as tags
-use Rattle.sc_scope.specs.Declarations as declarations
-use Rattle.sc_scope.specs.Expressions as made
+use Rattle.sc_check_operand.specs.Constants.{integer_constant}
+use Rattle.sc_check_unary.specs.Leaves as leaf
+use Rattle.sc_check_unary.specs.Parts as part
+use Rattle.sc_check_unary.specs.Calls.{call}
+use Rattle.sc_check_unary.specs.Unary as prefix
+use Rattle.sc_check_binary.specs.Binary.{binary, comma}
+use Rattle.sc_check_binary.specs.Conditional.{conditional}
+use Rattle.sc_check_declare.specs.declared.words.Word.TheVariants as w
+use Rattle.sc_check_declare.specs.declared.derivation.DeclaredType.{DeclaredType}
+use Rattle.sc_check_declare.specs.declared.derivation.Derived.{Derived}
+use Rattle.sc_check_declare.specs.declared.derivation.Derived.TheVariants as d
+use Rattle.sc_check_declare.specs.declared.derivation.Parameters.{Parameters}
+use Rattle.sc_check_declare.specs.Declarators as declarators
+use Rattle.sc_check_scope.specs.declared.words.Specified.{Specified}
+use Rattle.sc_check_scope.specs.declared.words.Specified.TheVariants as word
+use Rattle.sc_check_scope.specs.declared.words.Words.{Words}
+use Rattle.sc_check_scope.specs.declared.state.State.{State}
+use Rattle.sc_check_scope.specs.Steps.{Checked, and_then, keep, each, typing}
+use Rattle.sc_check_scope.specs.Steps as steps
+use Rattle.sc_check_scope.specs.Scopes.{Checking, enter, leave}
+use Rattle.sc_check_scope.specs.Words.{no_words, with_word, list_type}
+use Rattle.sc_check_scope.specs.Tags as tags
+use Rattle.sc_check_scope.specs.Declarations as declarations
+use Rattle.sc_check_scope.specs.Expressions as made
 
 -- An expression: the line of its first token; whether it is in an object that is declared `register`; and, as what a call calls or
 -- not, its typed tree with what is in scope behind it.

@@ -1,20 +1,20 @@
 // The recursion over expressions, type names, specifiers and declarators.
 ghost use Rattle.std.specs.Prelude.{◌≡◌, [], map, None};
-ghost use Rattle.sc_scope.specs.Steps.{GivesWith, each};
+ghost use Rattle.sc_check_scope.specs.Steps.{GivesWith, each};
 ghost use Rattle.sc_check_expr.specs.Typed as spec;
 
 use crate::line::{in_register, line_of};
 use crate::parts::{copy_of, with_member};
 use sc_base::{Int, Items, Name, Shared};
-use sc_core::{CoreExpr, type_of};
-use sc_declare::{DeclaredType, Derived, MemberList, Parameters, Word};
-use sc_scope::{
+use sc_check_declare::{DeclaredType, Derived, MemberList, Parameters, Word};
+use sc_check_scope::{
     CheckFault, Specified, State, Words, add_parameter, arrow, assign, binary, call, cast,
     close_enumeration, close_structure, comma, conditional, constant as number, constant_value,
     declared_type, derived_array, enter, enumeration_named, enumerator, find_typedef, index, leave,
     list_type, member, name, offset_of, open_enumeration, open_structure, postfix, size_of, string,
     structure_named, unary,
 };
+use sc_core::{CoreExpr, type_of};
 use sc_tree::{
     Binary, Declarator, Derivation, Enumerator, Expr, Member, Parameter, Postfix, Specifiers,
     TypeName, TypeWord, Unary,

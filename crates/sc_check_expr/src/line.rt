@@ -2,7 +2,7 @@
 ghost use Rattle.std.specs.Prelude.{◌≡◌};
 ghost use Rattle.sc_check_expr.specs.Typed as spec;
 
-use sc_scope::{State, is_register};
+use sc_check_scope::{State, is_register};
 use sc_tree::Expr;
 
 /// The line of an expression's first token.

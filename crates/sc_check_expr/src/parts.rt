@@ -1,11 +1,11 @@
 // What the recursion makes of parts that are typed.
 ghost use Rattle.std.specs.Prelude.{◌≡◌, IfOk};
-ghost use Rattle.sc_scope.specs.Steps.{Says};
+ghost use Rattle.sc_check_scope.specs.Steps.{Says};
 ghost use Rattle.sc_check_expr.specs.Typed as spec;
 
 use sc_base::{Duplicate, NoMemory};
-use sc_declare::{DeclaredType, MemberList};
-use sc_scope::{CheckFault, State, add_member};
+use sc_check_declare::{DeclaredType, MemberList};
+use sc_check_scope::{CheckFault, State, add_member};
 use sc_tree::Identifier;
 use std::alloc::Global;
 

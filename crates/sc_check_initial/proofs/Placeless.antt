@@ -3,16 +3,16 @@ use Rattle.std.proofs.Common.{◌≡◌, ℕ, suc, true, ◌<◌, List, ◌∷�
 use Rattle.std.specs.Prelude.{Err}
 use Rattle.std.proofs.Math.Seq.{drop-cons}
 use Rattle.sc_tree.specs.declared.declaration.Initializer.{Initializer}
-use Rattle.sc_declare.specs.declared.failure.Refused.{Refused}
-use Rattle.sc_declare.specs.declared.failure.Failure.{Failure}
-use Rattle.sc_declare.specs.declared.failure.Failure.TheVariants as failure
-use Rattle.sc_declare.specs.Outcomes.{Outcome}
-use Rattle.sc_declare.specs.Outcomes as outcomes
-use Rattle.sc_initial.specs.declared.level.Level.{Level}
-use Rattle.sc_initial.specs.declared.level.Place.{Place}
-use Rattle.sc_scope.specs.declared.fault.CheckFault.{CheckFault}
-use Rattle.sc_scope.specs.declared.fault.CheckFault.TheVariants as fault
-use Rattle.sc_scope.specs.Steps.{Checked, Fails, and_then}
+use Rattle.sc_check_declare.specs.declared.failure.Refused.{Refused}
+use Rattle.sc_check_declare.specs.declared.failure.Failure.{Failure}
+use Rattle.sc_check_declare.specs.declared.failure.Failure.TheVariants as failure
+use Rattle.sc_check_declare.specs.Outcomes.{Outcome}
+use Rattle.sc_check_declare.specs.Outcomes as outcomes
+use Rattle.sc_check_places.specs.declared.level.Level.{Level}
+use Rattle.sc_check_places.specs.declared.level.Place.{Place}
+use Rattle.sc_check_scope.specs.declared.fault.CheckFault.{CheckFault}
+use Rattle.sc_check_scope.specs.declared.fault.CheckFault.TheVariants as fault
+use Rattle.sc_check_scope.specs.Steps.{Checked, Fails, and_then}
 use Rattle.sc_check_initial.specs.Lists.{Item, Filled, item, items, placed, without_place, Unplaced, at_level}
 
 at_index : (all : List Initializer) (i : ℕ) (x : Initializer) → i < length all → x ≡ get_or all i x → drop i all ≡ x ∷ drop (suc i) all

@@ -12,13 +12,13 @@ use Rattle.sc_core.specs.declared.module.Init.{Init}
 use Rattle.sc_core.specs.declared.module.Init.TheVariants as init
 use Rattle.sc_core.specs.declared.statement.AutoInit.{AutoInit}
 use Rattle.sc_core.specs.declared.statement.AutoInit.TheVariants as piece
-use Rattle.sc_operand.specs.declared.addresses.Base.{Base}
-use Rattle.sc_operand.specs.declared.addresses.Base.TheVariants as base
-use Rattle.sc_operand.specs.declared.addresses.Located.{Located}
-use Rattle.sc_operand.specs.Constants.{integer_constant}
-use Rattle.sc_operand.specs.Addresses.{address_constant}
-use Rattle.sc_operand.specs.Types.{object_size}
-use Rattle.sc_scope.specs.Steps.{Checked, and_then, typing}
+use Rattle.sc_check_operand.specs.declared.addresses.Base.{Base}
+use Rattle.sc_check_operand.specs.declared.addresses.Base.TheVariants as base
+use Rattle.sc_check_operand.specs.declared.addresses.Located.{Located}
+use Rattle.sc_check_operand.specs.Constants.{integer_constant}
+use Rattle.sc_check_operand.specs.Addresses.{address_constant}
+use Rattle.sc_check_operand.specs.Types.{object_size}
+use Rattle.sc_check_scope.specs.Steps.{Checked, and_then, typing}
 use Rattle.sc_check_initial.specs.declared.contents.Contents.{Contents}
 use Rattle.sc_check_initial.specs.Values.{TypeLevel, no_constant}
 

@@ -8,18 +8,18 @@ use Rattle.sc_tree.specs.declared.declaration.Initializer.{Initializer, fold-Ini
 use Rattle.sc_tree.specs.declared.declaration.Initializer.TheOpen.{Initializer-F}
 use Rattle.sc_core.specs.declared.statement.AutoInit.{AutoInit}
 use Rattle.sc_core.specs.declared.statement.AutoInit.TheVariants as piece
-use Rattle.sc_declare.specs.declared.failure.Refused.{Refused}
-use Rattle.sc_declare.specs.declared.failure.Failure.{Failure}
-use Rattle.sc_declare.specs.declared.failure.Failure.TheVariants as failure
-use Rattle.sc_declare.specs.Outcomes.{Outcome}
-use Rattle.sc_initial.specs.declared.level.Level.{Level}
-use Rattle.sc_initial.specs.declared.level.Place.{Place}
-use Rattle.sc_initial.specs.declared.level.Zeros.{Zeros}
-use Rattle.sc_initial.specs.Places as places
-use Rattle.sc_scope.specs.declared.state.State.{State}
-use Rattle.sc_scope.specs.declared.fault.CheckFault.{CheckFault}
-use Rattle.sc_scope.specs.declared.fault.CheckFault.TheVariants as fault
-use Rattle.sc_scope.specs.Steps.{Checked, Fails, and_then, declaring}
+use Rattle.sc_check_declare.specs.declared.failure.Refused.{Refused}
+use Rattle.sc_check_declare.specs.declared.failure.Failure.{Failure}
+use Rattle.sc_check_declare.specs.declared.failure.Failure.TheVariants as failure
+use Rattle.sc_check_declare.specs.Outcomes.{Outcome}
+use Rattle.sc_check_places.specs.declared.level.Level.{Level}
+use Rattle.sc_check_places.specs.declared.level.Place.{Place}
+use Rattle.sc_check_places.specs.declared.level.Zeros.{Zeros}
+use Rattle.sc_check_places.specs.Places as places
+use Rattle.sc_check_scope.specs.declared.state.State.{State}
+use Rattle.sc_check_scope.specs.declared.fault.CheckFault.{CheckFault}
+use Rattle.sc_check_scope.specs.declared.fault.CheckFault.TheVariants as fault
+use Rattle.sc_check_scope.specs.Steps.{Checked, Fails, and_then, declaring}
 use Rattle.sc_check_expr.specs.Typed.{node}
 use Rattle.sc_check_initial.specs.declared.places.Filling.{Filling}
 use Rattle.sc_check_initial.specs.declared.places.Listing.{Listing}

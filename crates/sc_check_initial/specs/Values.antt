@@ -16,21 +16,21 @@ use Rattle.sc_core.specs.declared.expression.CoreExpr.{CoreExpr}
 use Rattle.sc_core.specs.declared.statement.AutoInit.{AutoInit}
 use Rattle.sc_core.specs.declared.statement.AutoInit.TheVariants as piece
 use Rattle.sc_core.specs.Types.{type_of}
-use Rattle.sc_operand.specs.declared.fault.Cause.TheVariants as cause
-use Rattle.sc_operand.specs.Steps as operand
-use Rattle.sc_operand.specs.Types.{plain, object_size}
-use Rattle.sc_operand.specs.Constants.{integer_constant}
-use Rattle.sc_operand.specs.Addresses.{address_constant}
-use Rattle.sc_operand.specs.Agreement.{assigned}
-use Rattle.sc_declare.specs.declared.failure.Reason.TheVariants as reason
-use Rattle.sc_declare.specs.Outcomes.{Outcome, refuse, after}
-use Rattle.sc_initial.specs.declared.level.Place.{Place}
-use Rattle.sc_initial.specs.declared.text.Text.{Text}
-use Rattle.sc_initial.specs.Places.{takes}
-use Rattle.sc_initial.specs.Texts as texts
-use Rattle.sc_scope.specs.declared.state.State.{State}
-use Rattle.sc_scope.specs.declared.fault.CheckFault.{CheckFault}
-use Rattle.sc_scope.specs.Steps.{Checked, Fails, and_then, keep, typing, declaring}
+use Rattle.sc_check_operand.specs.declared.fault.Cause.TheVariants as cause
+use Rattle.sc_check_operand.specs.Steps as operand
+use Rattle.sc_check_operand.specs.Types.{plain, object_size}
+use Rattle.sc_check_operand.specs.Constants.{integer_constant}
+use Rattle.sc_check_operand.specs.Addresses.{address_constant}
+use Rattle.sc_check_operand.specs.Agreement.{assigned}
+use Rattle.sc_check_declare.specs.declared.failure.Reason.TheVariants as reason
+use Rattle.sc_check_declare.specs.Outcomes.{Outcome, refuse, after}
+use Rattle.sc_check_places.specs.declared.level.Place.{Place}
+use Rattle.sc_check_places.specs.declared.text.Text.{Text}
+use Rattle.sc_check_places.specs.Places.{takes}
+use Rattle.sc_check_places.specs.Texts as texts
+use Rattle.sc_check_scope.specs.declared.state.State.{State}
+use Rattle.sc_check_scope.specs.declared.fault.CheckFault.{CheckFault}
+use Rattle.sc_check_scope.specs.Steps.{Checked, Fails, and_then, keep, typing, declaring}
 use Rattle.sc_check_expr.specs.Typed.{node}
 
 -- what the code answers that changes its place alone, unless memory runs out

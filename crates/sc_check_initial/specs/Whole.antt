@@ -8,11 +8,11 @@ use Rattle.sc_types.specs.Tables.{is_object}
 use Rattle.sc_tree.specs.declared.declaration.Initializer.{Initializer}
 use Rattle.sc_core.specs.declared.module.Init.{Init}
 use Rattle.sc_core.specs.declared.statement.AutoInit.{AutoInit}
-use Rattle.sc_operand.specs.Types.{object_size}
-use Rattle.sc_initial.specs.declared.level.Place.{Place}
-use Rattle.sc_scope.specs.declared.state.State.{State}
-use Rattle.sc_scope.specs.Steps.{Checked, and_then}
-use Rattle.sc_scope.specs.Scopes.{Checking}
+use Rattle.sc_check_operand.specs.Types.{object_size}
+use Rattle.sc_check_places.specs.declared.level.Place.{Place}
+use Rattle.sc_check_scope.specs.declared.state.State.{State}
+use Rattle.sc_check_scope.specs.Steps.{Checked, and_then}
+use Rattle.sc_check_scope.specs.Scopes.{Checking}
 use Rattle.sc_check_initial.specs.declared.places.Filling.{Filling}
 use Rattle.sc_check_initial.specs.Values.{TypeLevel, misfit}
 use Rattle.sc_check_initial.specs.Lists.{Filled, item}

@@ -1,15 +1,15 @@
 // The contents of an object of static storage duration (ANSI 3.5.7): its bytes in order.
 ghost use Rattle.std.specs.Prelude.{◌≡◌, ◌++◌, ◌-◌, IfOk, OnOk};
-ghost use Rattle.sc_scope.specs.Steps.{Says, and_then};
+ghost use Rattle.sc_check_scope.specs.Steps.{Says, and_then};
 ghost use Rattle.sc_check_initial.specs.Values.{Gives, behind};
 ghost use Rattle.sc_check_initial.specs.Contents as spec;
 
 use crate::fault::not_constant;
 use sc_base::{Bytes, Duplicate, Items, Name, NoMemory};
+use sc_check_operand::{Base, Located, address_constant, integer_constant, object_size};
+use sc_check_scope::{CheckFault, Literals};
 use sc_core::{AutoInit, CoreExpr, Init};
-use sc_operand::{Base, Located, address_constant, integer_constant, object_size};
 use sc_program::StaticId;
-use sc_scope::{CheckFault, Literals};
 use sc_types::{CType, Structs, int_size};
 use std::alloc::Global;
 

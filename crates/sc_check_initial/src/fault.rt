@@ -1,9 +1,9 @@
 // Why an initialiser is refused.
 ghost use Rattle.std.specs.Prelude.{◌≡◌};
 
-use sc_declare::{Reason, Refused};
-use sc_operand::{Cause, Diagnostic};
-use sc_scope::{CheckFault, Problem};
+use sc_check_declare::{Reason, Refused};
+use sc_check_operand::{Cause, Diagnostic};
+use sc_check_scope::{CheckFault, Problem};
 
 /// A rule of initialisers fails in a construct of this line.
 pub(crate) fn rule(line: u32) -> CheckFault

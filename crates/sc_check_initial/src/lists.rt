@@ -1,6 +1,6 @@
 // The recursion over lists of initialisers (ANSI 3.5.7).
 ghost use Rattle.std.specs.Prelude.{◌≤◌, length, drop, map};
-ghost use Rattle.sc_scope.specs.Steps.{Fails, GivesWith};
+ghost use Rattle.sc_check_scope.specs.Steps.{Fails, GivesWith};
 ghost use Rattle.sc_check_initial.specs.Values.{Gives};
 ghost use Rattle.sc_check_initial.specs.Lists as spec;
 
@@ -8,9 +8,9 @@ use crate::fault::rule;
 use crate::places::{Filling, Listing, ended, listing_of, place_of};
 use crate::tree::all_typed;
 use crate::value::put_expression;
-use sc_declare::{Failure, Refused};
-use sc_initial::Place;
-use sc_scope::{CheckFault, Problem, State};
+use sc_check_declare::{Failure, Refused};
+use sc_check_places::Place;
+use sc_check_scope::{CheckFault, Problem, State};
 use sc_tree::Initializer;
 use std::alloc::Global;
 

@@ -1,16 +1,16 @@
 // The places that the items of a list fill, and what they have filled (ANSI 3.5.7).
 ghost use Rattle.std.specs.Prelude.{◌≡◌, ◌++◌, map, IfOk, OnOk};
-ghost use Rattle.sc_declare.specs.Outcomes as outcomes;
-ghost use Rattle.sc_initial.specs.Places.{count_at_end};
+ghost use Rattle.sc_check_declare.specs.Outcomes as outcomes;
+ghost use Rattle.sc_check_places.specs.Places.{count_at_end};
 ghost use Rattle.sc_check_initial.specs.Lists as spec;
 ghost use Rattle.sc_check_initial.specs.Whole as object;
 
 use crate::tree::{is_single, is_single_string, is_string};
 use sc_base::{Duplicate, Items, NoMemory};
+use sc_check_declare::Failure;
+use sc_check_operand::object_size;
+use sc_check_places::{Place, Walk, Zeros, takes};
 use sc_core::AutoInit;
-use sc_declare::Failure;
-use sc_initial::{Place, Walk, Zeros, takes};
-use sc_operand::object_size;
 use sc_tree::Initializer;
 use sc_types::{CType, Structs};
 use std::alloc::Global;

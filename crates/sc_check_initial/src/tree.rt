@@ -5,7 +5,7 @@ ghost use Rattle.sc_check_initial.specs.Values as value;
 ghost use Rattle.sc_check_initial.specs.Lists as spec;
 
 use sc_check_expr::expression;
-use sc_scope::{CheckFault, State};
+use sc_check_scope::{CheckFault, State};
 use sc_tree::{Expr, Initializer};
 use std::alloc::Global;
 

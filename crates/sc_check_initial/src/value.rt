@@ -1,24 +1,24 @@
 // What one expression gives its place (ANSI 3.5.7).
 ghost use Rattle.std.specs.Prelude.{◌≡◌, ◌++◌, OnOk, Ok};
 ghost use Rattle.sc_core.specs.declared.statement.AutoInit.TheVariants as item;
-ghost use Rattle.sc_operand.specs.Types as types;
-ghost use Rattle.sc_operand.specs.Steps.{Says};
-ghost use Rattle.sc_declare.specs.Outcomes as outcomes;
-ghost use Rattle.sc_scope.specs.Steps.{GivesWith};
+ghost use Rattle.sc_check_operand.specs.Types as types;
+ghost use Rattle.sc_check_operand.specs.Steps.{Says};
+ghost use Rattle.sc_check_declare.specs.Outcomes as outcomes;
+ghost use Rattle.sc_check_scope.specs.Steps.{GivesWith};
 ghost use Rattle.sc_check_initial.specs.Values as spec;
 
 use crate::fault::rule;
 use crate::tree::is_string;
 use sc_base::{Bytes, Items, NoMemory, Shared};
+use sc_check_declare::Failure;
 use sc_check_expr::expression;
-use sc_core::{AutoInit, CoreExpr, type_of};
-use sc_declare::Failure;
-use sc_initial::{Place, Text, takes, text_for};
-use sc_operand::{
+use sc_check_operand::{
     Cause, TypeFault, address_constant, assigned, integer_constant, mismatch, object_size, plain,
     refusal,
 };
-use sc_scope::{CheckFault, State};
+use sc_check_places::{Place, Text, takes, text_for};
+use sc_check_scope::{CheckFault, State};
+use sc_core::{AutoInit, CoreExpr, type_of};
 use sc_tree::Expr;
 use sc_types::{CType, Structs};
 use std::alloc::Global;

@@ -1,6 +1,6 @@
 // The initialiser of a whole object (ANSI 3.5.7).
 ghost use Rattle.std.specs.Prelude.{◌≡◌, IfOk, true, false};
-ghost use Rattle.sc_scope.specs.Steps.{Says, GivesWith};
+ghost use Rattle.sc_check_scope.specs.Steps.{Says, GivesWith};
 ghost use Rattle.sc_check_initial.specs.Whole as spec;
 
 use crate::contents::contents_of;
@@ -9,9 +9,9 @@ use crate::lists::put_at;
 use crate::places::{Filling, whole};
 use crate::tree::{line_of, typed};
 use sc_base::{Duplicate, Items, Name, NoMemory};
+use sc_check_operand::object_size;
+use sc_check_scope::{CheckFault, State};
 use sc_core::{AutoInit, Init};
-use sc_operand::object_size;
-use sc_scope::{CheckFault, State};
 use sc_tree::Initializer;
 use sc_types::{CType, Structs, is_object};
 use std::alloc::Global;

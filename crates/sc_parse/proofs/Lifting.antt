@@ -1,18 +1,18 @@
 -- A token that is left out.
 use Rattle.std.proofs.Common.{◌≡◌, List, Ok, Err, refl, ap}
-use Rattle.sc_symbol.specs.declared.kind.Mark.{Mark}
-use Rattle.sc_symbol.specs.declared.kind.Kind.{Kind}
-use Rattle.sc_symbol.specs.declared.kind.Kind.TheVariants as k
-use Rattle.sc_symbol.specs.Names.{Names}
-use Rattle.sc_phrase.specs.declared.trouble.Trouble.{Trouble}
-use Rattle.sc_phrase.specs.declared.trouble.Trouble.TheVariants as trouble
-use Rattle.sc_phrase.specs.declared.trouble.Limit.{Limit}
-use Rattle.sc_unit.specs.declared.around.Around.{Around}
-use Rattle.sc_unit.specs.declared.around.Stage.{Stage}
-use Rattle.sc_unit.specs.declared.obstacle.Obstacle.{Obstacle}
-use Rattle.sc_unit.specs.declared.obstacle.Obstacle.TheVariants as no
-use Rattle.sc_unit.specs.Machine.{Move, marked, mark_of}
-use Rattle.sc_unit.specs.Steps.{Goes}
+use Rattle.sc_parse_names.specs.declared.kind.Mark.{Mark}
+use Rattle.sc_parse_names.specs.declared.kind.Kind.{Kind}
+use Rattle.sc_parse_names.specs.declared.kind.Kind.TheVariants as k
+use Rattle.sc_parse_names.specs.Names.{Names}
+use Rattle.sc_parse_grammar.specs.declared.trouble.Trouble.{Trouble}
+use Rattle.sc_parse_grammar.specs.declared.trouble.Trouble.TheVariants as trouble
+use Rattle.sc_parse_grammar.specs.declared.trouble.Limit.{Limit}
+use Rattle.sc_parse_unit.specs.declared.around.Around.{Around}
+use Rattle.sc_parse_unit.specs.declared.around.Stage.{Stage}
+use Rattle.sc_parse_unit.specs.declared.obstacle.Obstacle.{Obstacle}
+use Rattle.sc_parse_unit.specs.declared.obstacle.Obstacle.TheVariants as no
+use Rattle.sc_parse_unit.specs.Machine.{Move, marked, mark_of}
+use Rattle.sc_parse_unit.specs.Steps.{Goes}
 
 pub marks_ok : (kd : Kind) (move : Move) (stage : Stage) (names : Names) (fs : List Around) → Goes move (Ok stage) names fs → Goes (marked kd move) (Ok stage) names fs
 marks_ok kd move stage names fs h = ap (marked kd) h

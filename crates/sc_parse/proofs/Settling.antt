@@ -1,11 +1,11 @@
 -- What ends with a statement, one at a time.
 use Rattle.std.proofs.Common.{◌≡◌, Bool, true, false, not, List, [], ◌∷◌, refl}
 use Rattle.sc_tree.specs.declared.statement.Statement.{Statement}
-use Rattle.sc_unit.specs.declared.around.Head.{Head}
-use Rattle.sc_unit.specs.declared.around.Around.{Around}
-use Rattle.sc_unit.specs.declared.around.Around.TheVariants as a
-use Rattle.sc_unit.specs.Machine.{settle, waits, built}
-use Rattle.sc_unit.specs.Steps.{ends_on}
+use Rattle.sc_parse_unit.specs.declared.around.Head.{Head}
+use Rattle.sc_parse_unit.specs.declared.around.Around.{Around}
+use Rattle.sc_parse_unit.specs.declared.around.Around.TheVariants as a
+use Rattle.sc_parse_unit.specs.Machine.{settle, waits, built}
+use Rattle.sc_parse_unit.specs.Steps.{ends_on}
 
 not-true : (b : Bool) → not b ≡ true → b ≡ false
 not-true true h = cc

@@ -8,20 +8,20 @@ use Rattle.sc_base.specs.declared.refusal.Fault.{Fault}
 use Rattle.sc_base.specs.declared.refusal.Fault.TheVariants as fault
 use Rattle.sc_tree.specs.declared.statement.External.{External}
 use Rattle.sc_tree.specs.declared.statement.Unit.{Unit as Tree}
-use Rattle.sc_symbol.specs.declared.kind.Symbol.{Symbol}
-use Rattle.sc_symbol.specs.Names.{Names}
-use Rattle.sc_phrase.specs.declared.trouble.Trouble.TheVariants as trouble
-use Rattle.sc_phrase.specs.Steps.{IsSymbol}
+use Rattle.sc_parse_names.specs.declared.kind.Symbol.{Symbol}
+use Rattle.sc_parse_names.specs.Names.{Names}
+use Rattle.sc_parse_grammar.specs.declared.trouble.Trouble.TheVariants as trouble
+use Rattle.sc_parse_grammar.specs.Steps.{IsSymbol}
 use Rattle.sc_parse_expr.specs.Brackets.{opens_with}
-use Rattle.sc_unit.specs.declared.around.Around.{Around}
-use Rattle.sc_unit.specs.declared.around.Around.TheVariants as a
-use Rattle.sc_unit.specs.declared.around.Stage.{Stage}
-use Rattle.sc_unit.specs.declared.around.Stage.TheVariants as at
-use Rattle.sc_unit.specs.declared.obstacle.Obstacle.{Obstacle}
-use Rattle.sc_unit.specs.declared.obstacle.Obstacle.TheVariants as no
-use Rattle.sc_unit.specs.Machine.{Point, Move, advance}
-use Rattle.sc_unit.specs.Steps.{Goes}
-use Rattle.sc_unit.specs.Parse.{Answer, refusal, next, ended, end_at, answer, Gives}
+use Rattle.sc_parse_unit.specs.declared.around.Around.{Around}
+use Rattle.sc_parse_unit.specs.declared.around.Around.TheVariants as a
+use Rattle.sc_parse_unit.specs.declared.around.Stage.{Stage}
+use Rattle.sc_parse_unit.specs.declared.around.Stage.TheVariants as at
+use Rattle.sc_parse_unit.specs.declared.obstacle.Obstacle.{Obstacle}
+use Rattle.sc_parse_unit.specs.declared.obstacle.Obstacle.TheVariants as no
+use Rattle.sc_parse_unit.specs.Machine.{Point, Move, advance}
+use Rattle.sc_parse_unit.specs.Steps.{Goes}
+use Rattle.sc_parse_unit.specs.Parse.{Answer, refusal, next, ended, end_at, answer, Gives}
 use Rattle.sc_parse.specs.Turns.{Turns}
 
 shallow : (m : ℕ) (deep rest : Answer) → nat_lt 500 m ≡ false → (if nat_lt 500 m then deep else rest) ≡ rest

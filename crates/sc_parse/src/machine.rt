@@ -1,19 +1,19 @@
 // The machine that reads a unit, one token at a time.
 ghost use Rattle.std.specs.Prelude.{◌≡◌, List, Ok};
-ghost use Rattle.sc_symbol.specs.Names.{Names};
-ghost use Rattle.sc_phrase.specs.Steps.{IsSymbol};
-ghost use Rattle.sc_unit.specs.Machine as spec;
-ghost use Rattle.sc_unit.specs.Steps.{Goes};
+ghost use Rattle.sc_parse_names.specs.Names.{Names};
+ghost use Rattle.sc_parse_grammar.specs.Steps.{IsSymbol};
+ghost use Rattle.sc_parse_unit.specs.Machine as spec;
+ghost use Rattle.sc_parse_unit.specs.Steps.{Goes};
 
 use crate::stating::{due, got};
 use sc_base::Stack;
+use sc_parse_grammar::Trouble;
+use sc_parse_names::{Kind, Symbol, TypeNames};
 use sc_parse_parts::{
     STUCK, ends_at_colon, ends_at_semicolon, expression_due, in_declarator, in_expression,
     in_specifiers, initial, initial_ends,
 };
-use sc_phrase::Trouble;
-use sc_symbol::{Kind, Symbol, TypeNames};
-use sc_unit::{Around, Obstacle, Stage};
+use sc_parse_unit::{Around, Obstacle, Stage};
 use std::alloc::Global;
 
 /// `(` is due.

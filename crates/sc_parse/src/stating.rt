@@ -1,16 +1,16 @@
 // Statements.
 ghost use Rattle.std.specs.Prelude.{◌≡◌, List, [], ◌∷◌, ◌++◌, Some, None, Ok, IfOk, MatchOption, false, not, ◌&&◌};
-ghost use Rattle.sc_symbol.specs.Names.{Names, is_typed as typed_in};
-ghost use Rattle.sc_phrase.specs.Steps.{IsSymbol};
-ghost use Rattle.sc_unit.specs.Machine as spec;
-ghost use Rattle.sc_unit.specs.Trees as trees;
-ghost use Rattle.sc_unit.specs.Steps.{Goes, ends_on as ends_before};
+ghost use Rattle.sc_parse_names.specs.Names.{Names, is_typed as typed_in};
+ghost use Rattle.sc_parse_grammar.specs.Steps.{IsSymbol};
+ghost use Rattle.sc_parse_unit.specs.Machine as spec;
+ghost use Rattle.sc_parse_unit.specs.Trees as trees;
+ghost use Rattle.sc_parse_unit.specs.Steps.{Goes, ends_on as ends_before};
 
 use sc_base::{NoMemory, Shared, Stack};
+use sc_parse_names::{Kind, Symbol, TypeNames};
 use sc_parse_parts::{STUCK, begin, empty_block, kept, specifiers, unit_with};
-use sc_symbol::{Kind, Symbol, TypeNames};
+use sc_parse_unit::{Around, Head, Obstacle, Stage, Test};
 use sc_tree::{Block, Declarator, External, Function, Specifiers, Statement};
-use sc_unit::{Around, Head, Obstacle, Stage, Test};
 use std::alloc::Global;
 
 fn function(v: Specifiers, declarator: Declarator, body: Block) -> Function

@@ -1,24 +1,24 @@
 // A whole unit.
 ghost use Rattle.std.specs.Prelude.{◌≡◌, ◌≤◌, [], ◌∷◌, All, Err, IfOk, OnOk, codes};
-ghost use Rattle.sc_symbol.specs.Names.{Names};
-ghost use Rattle.sc_phrase.specs.Steps.{IsSymbol};
+ghost use Rattle.sc_parse_names.specs.Names.{Names};
+ghost use Rattle.sc_parse_grammar.specs.Steps.{IsSymbol};
 ghost use Rattle.sc_parse_expr.specs.Brackets as brackets;
-ghost use Rattle.sc_unit.specs.Machine.{start};
-ghost use Rattle.sc_unit.specs.Parse.{Gives};
-ghost use Rattle.sc_unit.specs.Claims.{Parses};
-ghost use Rattle.sc_token.specs.Symbols.{symbols as symbols_of};
-ghost use Rattle.sc_unit.specs.Parse as spec;
+ghost use Rattle.sc_parse_unit.specs.Machine.{start};
+ghost use Rattle.sc_parse_unit.specs.Parse.{Gives};
+ghost use Rattle.sc_parse_unit.specs.Claims.{Parses};
+ghost use Rattle.sc_parse_tokens.specs.Symbols.{symbols as symbols_of};
+ghost use Rattle.sc_parse_unit.specs.Parse as spec;
 ghost use Rattle.sc_parse.specs.Turns.{Turns};
 
 use crate::machine::advance;
 use sc_base::{Bytes, Fault, Items, NoMemory, Refusal, Stack, X};
 use sc_lex::Token;
 use sc_parse_expr::opens_with;
-use sc_phrase::{Limit, Trouble};
-use sc_symbol::{Kind, Mark, Symbol, TypeNames};
-use sc_token::symbols;
+use sc_parse_grammar::{Limit, Trouble};
+use sc_parse_names::{Kind, Mark, Symbol, TypeNames};
+use sc_parse_tokens::symbols;
+use sc_parse_unit::{Around, Obstacle, Stage};
 use sc_tree::Unit;
-use sc_unit::{Around, Obstacle, Stage};
 use std::alloc::Global;
 
 /// The word of a construct that is left out.

@@ -17,28 +17,28 @@ use Rattle.sc_tree.specs.declared.expression.Declarator.{Declarator}
 use Rattle.sc_tree.specs.declared.expression.TypeName.{TypeName}
 use Rattle.sc_tree.specs.declared.expression.Member.{Member}
 use Rattle.sc_tree.specs.declared.expression.Parameter.{Parameter}
-use Rattle.sc_symbol.specs.declared.kind.Symbol.{Symbol}
-use Rattle.sc_symbol.specs.declared.kind.Kind.{Kind}
-use Rattle.sc_symbol.specs.declared.kind.Kind.TheVariants as k
-use Rattle.sc_symbol.specs.Names.{Scope, Names, is_typed, typed_by, declare, enter}
-use Rattle.sc_phrase.specs.declared.operand.Operand.{Operand}
-use Rattle.sc_phrase.specs.declared.operand.Direct.{Direct}
-use Rattle.sc_phrase.specs.declared.operand.Whole.{Whole}
-use Rattle.sc_phrase.specs.declared.operand.Mode.{Mode}
-use Rattle.sc_phrase.specs.declared.operand.Mode.TheVariants as mode
-use Rattle.sc_phrase.specs.declared.frame.Frame.{Frame}
-use Rattle.sc_phrase.specs.declared.frame.Frame.TheVariants as f
-use Rattle.sc_phrase.specs.declared.frame.State.{State}
-use Rattle.sc_phrase.specs.declared.frame.State.TheVariants as s
-use Rattle.sc_phrase.specs.declared.trouble.Trouble.TheVariants as no
-use Rattle.sc_phrase.specs.declared.trouble.Limit.TheVariants as limit
-use Rattle.sc_phrase.specs.Kinds.{word_of, power_of, begins_type, begins_specifiers, begins_parameters}
-use Rattle.sc_phrase.specs.Nodes.{offsetof_name, name_level, name_node, constant_node, text_node, paren_node, offset_node, index_node, call_node, member_node, arrow_node, postfix_node, size_type_node}
-use Rattle.sc_phrase.specs.Types.{is_empty, has_words, no_words, with_word, with_const, with_storage, identifier_at, no_direct, named_direct, with_step, pointed, whole, declarator_of, declarator_in, declare_plain, declare_in, type_of, parameter_of, item_of}
-use Rattle.sc_phrase.specs.Grammar.{Keeps, starts_at, text_with, is_named, is_abstract, is_group, is_void, is_right_paren, void_alone, Strings, a_text, more_text, Stars, a_star, more_star, const_star, Tag, no_tag, a_tag, Trailing, no_comma, a_comma, Phrase, name, constant, string, paren, offset_of, index, call, call_none, member, arrow, postfix, unary, size_of, size_of_type, cast, binary, conditional, assign, comma, Arguments, first, more, Specified, none, simple, const, stored, typedef, struct_tag, enum_tag, structure, enumeration, Members, one_member, more_members, MemberTokens, a_member, Declarators, one_declarator, more_declarators, Items, one_item, more_items, ItemTokens, bare_item, valued_item, TypeTokens, plain_type, derived_type, Level, direct, pointer, bare_pointer, DirectTokens, named, group, bare, suffix, Suffix, unsized, sized, unprototyped, no_parameters, prototype, Parameters, one_parameter, more_parameters, ParameterTokens, unnamed, declared}
-use Rattle.sc_phrase.specs.Machine as mc
-use Rattle.sc_phrase.specs.Machine.{Outcome, on_ok, needs, settle, settled, fits, few, have, run, finish, level_ends, item_behind, parameter_behind, under, inner_specified}
-use Rattle.sc_sound.proofs.Levels.{level-small, level-positive, operand-tight, power-binary, power-assign, not_between}
+use Rattle.sc_parse_names.specs.declared.kind.Symbol.{Symbol}
+use Rattle.sc_parse_names.specs.declared.kind.Kind.{Kind}
+use Rattle.sc_parse_names.specs.declared.kind.Kind.TheVariants as k
+use Rattle.sc_parse_names.specs.Names.{Scope, Names, is_typed, typed_by, declare, enter}
+use Rattle.sc_parse_grammar.specs.declared.operand.Operand.{Operand}
+use Rattle.sc_parse_grammar.specs.declared.operand.Direct.{Direct}
+use Rattle.sc_parse_grammar.specs.declared.operand.Whole.{Whole}
+use Rattle.sc_parse_grammar.specs.declared.operand.Mode.{Mode}
+use Rattle.sc_parse_grammar.specs.declared.operand.Mode.TheVariants as mode
+use Rattle.sc_parse_grammar.specs.declared.frame.Frame.{Frame}
+use Rattle.sc_parse_grammar.specs.declared.frame.Frame.TheVariants as f
+use Rattle.sc_parse_grammar.specs.declared.frame.State.{State}
+use Rattle.sc_parse_grammar.specs.declared.frame.State.TheVariants as s
+use Rattle.sc_parse_grammar.specs.declared.trouble.Trouble.TheVariants as no
+use Rattle.sc_parse_grammar.specs.declared.trouble.Limit.TheVariants as limit
+use Rattle.sc_parse_grammar.specs.Kinds.{word_of, power_of, begins_type, begins_specifiers, begins_parameters}
+use Rattle.sc_parse_grammar.specs.Nodes.{offsetof_name, name_level, name_node, constant_node, text_node, paren_node, offset_node, index_node, call_node, member_node, arrow_node, postfix_node, size_type_node}
+use Rattle.sc_parse_grammar.specs.Types.{is_empty, has_words, no_words, with_word, with_const, with_storage, identifier_at, no_direct, named_direct, with_step, pointed, whole, declarator_of, declarator_in, declare_plain, declare_in, type_of, parameter_of, item_of}
+use Rattle.sc_parse_grammar.specs.Grammar.{Keeps, starts_at, text_with, is_named, is_abstract, is_group, is_void, is_right_paren, void_alone, Strings, a_text, more_text, Stars, a_star, more_star, const_star, Tag, no_tag, a_tag, Trailing, no_comma, a_comma, Phrase, name, constant, string, paren, offset_of, index, call, call_none, member, arrow, postfix, unary, size_of, size_of_type, cast, binary, conditional, assign, comma, Arguments, first, more, Specified, none, simple, const, stored, typedef, struct_tag, enum_tag, structure, enumeration, Members, one_member, more_members, MemberTokens, a_member, Declarators, one_declarator, more_declarators, Items, one_item, more_items, ItemTokens, bare_item, valued_item, TypeTokens, plain_type, derived_type, Level, direct, pointer, bare_pointer, DirectTokens, named, group, bare, suffix, Suffix, unsized, sized, unprototyped, no_parameters, prototype, Parameters, one_parameter, more_parameters, ParameterTokens, unnamed, declared}
+use Rattle.sc_parse_grammar.specs.Machine as mc
+use Rattle.sc_parse_grammar.specs.Machine.{Outcome, on_ok, needs, settle, settled, fits, few, have, run, finish, level_ends, item_behind, parameter_behind, under, inner_specified}
+use Rattle.sc_parse_sound.proofs.Levels.{level-small, level-positive, operand-tight, power-binary, power-assign, not_between}
 use Rattle.sc_parse_expr.proofs.Runs.{Leads, same, ◌▸◌, after, stepped, steps, counted, counted_end, regrouped, tested, keeps-one, keeps-left, keeps-right}
 use Rattle.sc_parse_expr.proofs.Heads.{Head, head-test, longer, begins_operand, operand_no_type, starts_operand, starts_type, starts, begins, NoCast, no_cast, begin_specified, begin_type, Opening, begin_direct, Beginning, begin_level, more_beginning, opens_level, opens_direct, is_name}
 use Rattle.sc_parse_expr.proofs.Tokens as kinds

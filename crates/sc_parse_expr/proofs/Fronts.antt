@@ -2,23 +2,23 @@
 use Rattle.std.proofs.Common.{◌≡◌, ℕ, ◌≤◌, ◌<◌, Bool, true, false, cond, List, [], ◌∷◌, ◌++◌, length, None, Result, Ok, Err, refl, sym, ◌∙◌, ap, subst, arith, ◌⊎◌, inl, inr}
 use Rattle.std.specs.Prelude.{nat_lt, ◌+◌}
 use Rattle.std.proofs.lemmas.Bool.Decides.{nat_tests}
-use Rattle.sc_symbol.specs.declared.kind.Symbol.{Symbol}
-use Rattle.sc_symbol.specs.declared.kind.Kind.{Kind}
-use Rattle.sc_symbol.specs.declared.kind.Kind.TheVariants as k
-use Rattle.sc_symbol.specs.Names.{Names}
-use Rattle.sc_phrase.specs.declared.operand.Operand.{Operand}
-use Rattle.sc_phrase.specs.declared.frame.Frame.{Frame}
-use Rattle.sc_phrase.specs.declared.frame.Frame.TheVariants as f
-use Rattle.sc_phrase.specs.declared.frame.State.{State}
-use Rattle.sc_phrase.specs.declared.frame.State.TheVariants as s
-use Rattle.sc_phrase.specs.declared.trouble.Trouble.{Trouble}
-use Rattle.sc_phrase.specs.declared.trouble.Trouble.TheVariants as no
-use Rattle.sc_phrase.specs.declared.trouble.Limit.{Limit}
-use Rattle.sc_phrase.specs.declared.trouble.Limit.TheVariants as limit
-use Rattle.sc_phrase.specs.Kinds.{power_of}
-use Rattle.sc_phrase.specs.Grammar.{Keeps, Phrase}
-use Rattle.sc_phrase.specs.Machine.{Config, on_ok, mark_of, step, run, fits, have}
-use Rattle.sc_phrase.specs.Steps.{Moves}
+use Rattle.sc_parse_names.specs.declared.kind.Symbol.{Symbol}
+use Rattle.sc_parse_names.specs.declared.kind.Kind.{Kind}
+use Rattle.sc_parse_names.specs.declared.kind.Kind.TheVariants as k
+use Rattle.sc_parse_names.specs.Names.{Names}
+use Rattle.sc_parse_grammar.specs.declared.operand.Operand.{Operand}
+use Rattle.sc_parse_grammar.specs.declared.frame.Frame.{Frame}
+use Rattle.sc_parse_grammar.specs.declared.frame.Frame.TheVariants as f
+use Rattle.sc_parse_grammar.specs.declared.frame.State.{State}
+use Rattle.sc_parse_grammar.specs.declared.frame.State.TheVariants as s
+use Rattle.sc_parse_grammar.specs.declared.trouble.Trouble.{Trouble}
+use Rattle.sc_parse_grammar.specs.declared.trouble.Trouble.TheVariants as no
+use Rattle.sc_parse_grammar.specs.declared.trouble.Limit.{Limit}
+use Rattle.sc_parse_grammar.specs.declared.trouble.Limit.TheVariants as limit
+use Rattle.sc_parse_grammar.specs.Kinds.{power_of}
+use Rattle.sc_parse_grammar.specs.Grammar.{Keeps, Phrase}
+use Rattle.sc_parse_grammar.specs.Machine.{Config, on_ok, mark_of, step, run, fits, have}
+use Rattle.sc_parse_grammar.specs.Steps.{Moves}
 use Rattle.sc_parse_expr.specs.declared.driver.Found.{Found}
 use Rattle.sc_parse_expr.specs.declared.driver.Refused.{Refused}
 use Rattle.sc_parse_expr.specs.Brackets.{opens_with}

@@ -6,17 +6,17 @@ use Rattle.sc_tree.specs.declared.expression.TypeWord.{TypeWord}
 use Rattle.sc_tree.specs.declared.expression.Specifiers.{Specifiers}
 use Rattle.sc_tree.specs.declared.expression.TypeName.{TypeName}
 use Rattle.sc_tree.specs.declared.expression.Derivation.{Derivation}
-use Rattle.sc_symbol.specs.declared.kind.Symbol.{Symbol}
-use Rattle.sc_symbol.specs.declared.kind.Kind.{Kind}
-use Rattle.sc_symbol.specs.declared.kind.Kind.TheVariants as k
-use Rattle.sc_symbol.specs.Names.{Scope, Names, is_type, is_typed}
-use Rattle.sc_phrase.specs.declared.operand.Operand.{Operand}
-use Rattle.sc_phrase.specs.declared.operand.Direct.{Direct}
-use Rattle.sc_phrase.specs.declared.operand.Mode.{Mode}
-use Rattle.sc_phrase.specs.Kinds.{unary_of, word_of, begins_type, begins_specifiers}
-use Rattle.sc_phrase.specs.Machine.{is_left_paren}
-use Rattle.sc_phrase.specs.Grammar.{starts_at, is_abstract, Strings, a_text, more_text, Stars, a_star, more_star, const_star, Phrase, name, constant, string, paren, offset_of, index, call, call_none, member, arrow, postfix, unary, size_of, size_of_type, cast, binary, conditional, assign, comma, Specified, none, simple, const, stored, typedef, struct_tag, enum_tag, structure, enumeration, TypeTokens, plain_type, derived_type, Level, direct, pointer, bare_pointer, DirectTokens, named, group, bare, suffix, Suffix, unsized, sized, unprototyped, no_parameters, prototype}
-use Rattle.sc_sound.proofs.Levels.{level-small}
+use Rattle.sc_parse_names.specs.declared.kind.Symbol.{Symbol}
+use Rattle.sc_parse_names.specs.declared.kind.Kind.{Kind}
+use Rattle.sc_parse_names.specs.declared.kind.Kind.TheVariants as k
+use Rattle.sc_parse_names.specs.Names.{Scope, Names, is_type, is_typed}
+use Rattle.sc_parse_grammar.specs.declared.operand.Operand.{Operand}
+use Rattle.sc_parse_grammar.specs.declared.operand.Direct.{Direct}
+use Rattle.sc_parse_grammar.specs.declared.operand.Mode.{Mode}
+use Rattle.sc_parse_grammar.specs.Kinds.{unary_of, word_of, begins_type, begins_specifiers}
+use Rattle.sc_parse_grammar.specs.Machine.{is_left_paren}
+use Rattle.sc_parse_grammar.specs.Grammar.{starts_at, is_abstract, Strings, a_text, more_text, Stars, a_star, more_star, const_star, Phrase, name, constant, string, paren, offset_of, index, call, call_none, member, arrow, postfix, unary, size_of, size_of_type, cast, binary, conditional, assign, comma, Specified, none, simple, const, stored, typedef, struct_tag, enum_tag, structure, enumeration, TypeTokens, plain_type, derived_type, Level, direct, pointer, bare_pointer, DirectTokens, named, group, bare, suffix, Suffix, unsized, sized, unprototyped, no_parameters, prototype}
+use Rattle.sc_parse_sound.proofs.Levels.{level-small}
 
 -- a token with which an expression begins
 abbrev pub begins_operand : Bool → Kind → Bool

@@ -2,21 +2,21 @@
 use Rattle.std.proofs.Common.{◌≡◌, ℕ, Bool, true, false, List, [], ◌∷◌, Ok, Err, Result, refl, ap}
 use Rattle.sc_tree.specs.declared.expression.TypeWord.{TypeWord}
 use Rattle.sc_tree.specs.declared.expression.Specifiers.{Specifiers}
-use Rattle.sc_symbol.specs.declared.kind.Symbol.{Symbol}
-use Rattle.sc_symbol.specs.declared.kind.Kind.{Kind}
-use Rattle.sc_symbol.specs.declared.kind.Kind.TheVariants as k
-use Rattle.sc_symbol.specs.Names.{Names, is_typed}
-use Rattle.sc_phrase.specs.declared.operand.Mode.{Mode}
-use Rattle.sc_phrase.specs.declared.operand.Mode.TheVariants as mode
-use Rattle.sc_phrase.specs.declared.frame.Frame.{Frame}
-use Rattle.sc_phrase.specs.declared.frame.Frame.TheVariants as f
-use Rattle.sc_phrase.specs.declared.frame.State.{State}
-use Rattle.sc_phrase.specs.declared.trouble.Trouble.{Trouble}
-use Rattle.sc_phrase.specs.declared.trouble.Trouble.TheVariants as no
-use Rattle.sc_phrase.specs.Machine as m
-use Rattle.sc_phrase.specs.Machine.{Place, Config, Outcome, on_ok, mark_of, marked, effect, entered, enters, place, step}
-use Rattle.sc_phrase.specs.Types.{has_words}
-use Rattle.sc_phrase.specs.Steps.{Steps, Moves}
+use Rattle.sc_parse_names.specs.declared.kind.Symbol.{Symbol}
+use Rattle.sc_parse_names.specs.declared.kind.Kind.{Kind}
+use Rattle.sc_parse_names.specs.declared.kind.Kind.TheVariants as k
+use Rattle.sc_parse_names.specs.Names.{Names, is_typed}
+use Rattle.sc_parse_grammar.specs.declared.operand.Mode.{Mode}
+use Rattle.sc_parse_grammar.specs.declared.operand.Mode.TheVariants as mode
+use Rattle.sc_parse_grammar.specs.declared.frame.Frame.{Frame}
+use Rattle.sc_parse_grammar.specs.declared.frame.Frame.TheVariants as f
+use Rattle.sc_parse_grammar.specs.declared.frame.State.{State}
+use Rattle.sc_parse_grammar.specs.declared.trouble.Trouble.{Trouble}
+use Rattle.sc_parse_grammar.specs.declared.trouble.Trouble.TheVariants as no
+use Rattle.sc_parse_grammar.specs.Machine as m
+use Rattle.sc_parse_grammar.specs.Machine.{Place, Config, Outcome, on_ok, mark_of, marked, effect, entered, enters, place, step}
+use Rattle.sc_parse_grammar.specs.Types.{has_words}
+use Rattle.sc_parse_grammar.specs.Steps.{Steps, Moves}
 
 pub direct_else : (t : Symbol) (kd : Kind) (fs : List Frame) (l : ℕ) (n : Mode) (cs : List Bool) (r : Result State Trouble) (gs : List Frame) → (kd ≡ k.Name → ⊥) → (kd ≡ k.LeftParen → ⊥) →
     Steps (m.without_name kd fs l n cs) r gs → Steps (m.direct t kd fs l n cs) r gs

@@ -2,20 +2,20 @@
 use Rattle.std.proofs.Common.{◌≡◌, ℕ, ◌≤◌, ◌<◌, Bool, true, false, List, ◌∷◌, Result, Ok, Err, refl, ◌∙◌, ap, arith}
 use Rattle.std.specs.Prelude.{nat_lt, max, ◌+◌, if◌then◌else◌, cond}
 use Rattle.std.proofs.lemmas.Bool.Decides.{nat_tests}
-use Rattle.sc_symbol.specs.declared.kind.Symbol.{Symbol}
-use Rattle.sc_symbol.specs.declared.kind.Kind.{Kind}
-use Rattle.sc_symbol.specs.declared.kind.Kind.TheVariants as k
-use Rattle.sc_symbol.specs.Names.{Names}
-use Rattle.sc_phrase.specs.declared.operand.Operand.{Operand}
-use Rattle.sc_phrase.specs.declared.frame.Frame.{Frame}
-use Rattle.sc_phrase.specs.declared.frame.State.TheVariants as s
-use Rattle.sc_phrase.specs.declared.trouble.Trouble.{Trouble}
-use Rattle.sc_phrase.specs.declared.trouble.Trouble.TheVariants as no
-use Rattle.sc_phrase.specs.declared.trouble.Limit.{Limit}
-use Rattle.sc_phrase.specs.declared.trouble.Limit.TheVariants as limit
-use Rattle.sc_phrase.specs.Nodes.{higher}
-use Rattle.sc_phrase.specs.Grammar.{Keeps}
-use Rattle.sc_phrase.specs.Machine.{Config, Outcome, on_ok, mark_of, marked, effect, step, run, fits, few, have}
+use Rattle.sc_parse_names.specs.declared.kind.Symbol.{Symbol}
+use Rattle.sc_parse_names.specs.declared.kind.Kind.{Kind}
+use Rattle.sc_parse_names.specs.declared.kind.Kind.TheVariants as k
+use Rattle.sc_parse_names.specs.Names.{Names}
+use Rattle.sc_parse_grammar.specs.declared.operand.Operand.{Operand}
+use Rattle.sc_parse_grammar.specs.declared.frame.Frame.{Frame}
+use Rattle.sc_parse_grammar.specs.declared.frame.State.TheVariants as s
+use Rattle.sc_parse_grammar.specs.declared.trouble.Trouble.{Trouble}
+use Rattle.sc_parse_grammar.specs.declared.trouble.Trouble.TheVariants as no
+use Rattle.sc_parse_grammar.specs.declared.trouble.Limit.{Limit}
+use Rattle.sc_parse_grammar.specs.declared.trouble.Limit.TheVariants as limit
+use Rattle.sc_parse_grammar.specs.Nodes.{higher}
+use Rattle.sc_parse_grammar.specs.Grammar.{Keeps}
+use Rattle.sc_parse_grammar.specs.Machine.{Config, Outcome, on_ok, mark_of, marked, effect, step, run, fits, few, have}
 
 abbrev pub Answer : Type 0
 Answer = Result Config Trouble

@@ -11,22 +11,22 @@ use Rattle.sc_tree.specs.declared.expression.Specifiers.{Specifiers}
 use Rattle.sc_tree.specs.declared.expression.Member.{Member}
 use Rattle.sc_tree.specs.declared.expression.Enumerator.{Enumerator}
 use Rattle.sc_tree.specs.declared.expression.Expr.{Expr}
-use Rattle.sc_symbol.specs.declared.kind.Symbol.{Symbol}
-use Rattle.sc_symbol.specs.declared.kind.Kind.{Kind}
-use Rattle.sc_symbol.specs.declared.kind.Kind.TheVariants as k
-use Rattle.sc_phrase.specs.declared.operand.Operand.{Operand}
-use Rattle.sc_phrase.specs.declared.operand.Direct.{Direct}
-use Rattle.sc_phrase.specs.declared.operand.Mode.{Mode}
-use Rattle.sc_phrase.specs.declared.operand.Mode.TheVariants as mode
-use Rattle.sc_phrase.specs.declared.frame.Frame.{Frame}
-use Rattle.sc_phrase.specs.declared.frame.Frame.TheVariants as f
-use Rattle.sc_phrase.specs.declared.frame.State.TheVariants as s
-use Rattle.sc_phrase.specs.Kinds.{unary_of, postfix_of, binary_of, level_of, assign_of, word_of, power_of, begins_type, begins_specifiers}
-use Rattle.sc_phrase.specs.Nodes.{postfix_node}
-use Rattle.sc_phrase.specs.Types.{is_empty, has_words, no_words, with_word, no_direct, pointed}
-use Rattle.sc_phrase.specs.Grammar.{is_named, is_void, is_right_paren}
-use Rattle.sc_phrase.specs.Machine.{Outcome, needs, needs_in, level_in, settle, settled, fits, act, have, need, at_operator, at_postfix, at_unary, at_word, words, specified, due, void, tagged_structure, tagged_enumeration, items, is_left_paren, suffixes, direct_ends, stars, level_ends}
-use Rattle.sc_sound.proofs.Levels.{level-small, level-positive, operand-tight, power-binary}
+use Rattle.sc_parse_names.specs.declared.kind.Symbol.{Symbol}
+use Rattle.sc_parse_names.specs.declared.kind.Kind.{Kind}
+use Rattle.sc_parse_names.specs.declared.kind.Kind.TheVariants as k
+use Rattle.sc_parse_grammar.specs.declared.operand.Operand.{Operand}
+use Rattle.sc_parse_grammar.specs.declared.operand.Direct.{Direct}
+use Rattle.sc_parse_grammar.specs.declared.operand.Mode.{Mode}
+use Rattle.sc_parse_grammar.specs.declared.operand.Mode.TheVariants as mode
+use Rattle.sc_parse_grammar.specs.declared.frame.Frame.{Frame}
+use Rattle.sc_parse_grammar.specs.declared.frame.Frame.TheVariants as f
+use Rattle.sc_parse_grammar.specs.declared.frame.State.TheVariants as s
+use Rattle.sc_parse_grammar.specs.Kinds.{unary_of, postfix_of, binary_of, level_of, assign_of, word_of, power_of, begins_type, begins_specifiers}
+use Rattle.sc_parse_grammar.specs.Nodes.{postfix_node}
+use Rattle.sc_parse_grammar.specs.Types.{is_empty, has_words, no_words, with_word, no_direct, pointed}
+use Rattle.sc_parse_grammar.specs.Grammar.{is_named, is_void, is_right_paren}
+use Rattle.sc_parse_grammar.specs.Machine.{Outcome, needs, needs_in, level_in, settle, settled, fits, act, have, need, at_operator, at_postfix, at_unary, at_word, words, specified, due, void, tagged_structure, tagged_enumeration, items, is_left_paren, suffixes, direct_ends, stars, level_ends}
+use Rattle.sc_parse_sound.proofs.Levels.{level-small, level-positive, operand-tight, power-binary}
 use Rattle.sc_parse_expr.proofs.Heads.{opens_level}
 
 -- A frame in which an operand of level q may stand is not closed by a token that binds less tightly than its operator.

@@ -2,17 +2,17 @@
 use Rattle.std.proofs.Common.{◌≡◌, ℕ, suc, ◌≤◌, ◌<◌, Bool, true, false, List, [], ◌∷◌, length, Option, Some, None, Result, Ok, Err, refl, sym, ◌∙◌, ap, subst, arith}
 use Rattle.std.specs.Prelude.{nat_lt, ◌+◌, All}
 use Rattle.std.proofs.lemmas.Bool.Decides.{nat_tests}
-use Rattle.sc_symbol.specs.declared.kind.Symbol.{Symbol}
-use Rattle.sc_symbol.specs.Names.{Names}
-use Rattle.sc_phrase.specs.declared.operand.Operand.{Operand}
-use Rattle.sc_phrase.specs.declared.frame.Frame.{Frame}
-use Rattle.sc_phrase.specs.declared.frame.State.{State}
-use Rattle.sc_phrase.specs.declared.frame.State.TheVariants as s
-use Rattle.sc_phrase.specs.declared.trouble.Trouble.{Trouble}
-use Rattle.sc_phrase.specs.declared.trouble.Trouble.TheVariants as no
-use Rattle.sc_phrase.specs.declared.trouble.Limit.TheVariants as limit
-use Rattle.sc_phrase.specs.Machine.{Config, step}
-use Rattle.sc_phrase.specs.Steps.{Moves, IsSymbol}
+use Rattle.sc_parse_names.specs.declared.kind.Symbol.{Symbol}
+use Rattle.sc_parse_names.specs.Names.{Names}
+use Rattle.sc_parse_grammar.specs.declared.operand.Operand.{Operand}
+use Rattle.sc_parse_grammar.specs.declared.frame.Frame.{Frame}
+use Rattle.sc_parse_grammar.specs.declared.frame.State.{State}
+use Rattle.sc_parse_grammar.specs.declared.frame.State.TheVariants as s
+use Rattle.sc_parse_grammar.specs.declared.trouble.Trouble.{Trouble}
+use Rattle.sc_parse_grammar.specs.declared.trouble.Trouble.TheVariants as no
+use Rattle.sc_parse_grammar.specs.declared.trouble.Limit.TheVariants as limit
+use Rattle.sc_parse_grammar.specs.Machine.{Config, step}
+use Rattle.sc_parse_grammar.specs.Steps.{Moves, IsSymbol}
 use Rattle.sc_parse_expr.specs.declared.driver.Found.{Found}
 use Rattle.sc_parse_expr.specs.declared.driver.Refused.{Refused}
 use Rattle.sc_parse_expr.specs.declared.driver.Turn.{Turn}

@@ -1,7 +1,7 @@
 -- How many parentheses, brackets and braces are open.
 use Rattle.std.specs.Prelude.{ℕ, ◌+◌, ◌-◌}
-use Rattle.sc_symbol.specs.declared.kind.Kind.{Kind}
-use Rattle.sc_symbol.specs.declared.kind.Kind.TheVariants as k
+use Rattle.sc_parse_names.specs.declared.kind.Kind.{Kind}
+use Rattle.sc_parse_names.specs.declared.kind.Kind.TheVariants as k
 
 -- the same behind one token more
 abbrev pub opens_with : ℕ → Kind → ℕ

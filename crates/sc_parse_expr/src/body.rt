@@ -1,16 +1,16 @@
 // Bodies of structures and enumerations, and the beginning of parameters.
 ghost use Rattle.std.specs.Prelude.{◌≡◌, ◌<◌, ◌≤◌, List, [], ◌∷◌, ◌++◌, Some, None, Ok, length, IfOk};
-ghost use Rattle.sc_phrase.specs.Machine as spec;
-ghost use Rattle.sc_phrase.specs.Types.{with_word, no_words as no_words_at};
-ghost use Rattle.sc_phrase.specs.Steps.{Steps, IsSymbol, IsNamed};
+ghost use Rattle.sc_parse_grammar.specs.Machine as spec;
+ghost use Rattle.sc_parse_grammar.specs.Types.{with_word, no_words as no_words_at};
+ghost use Rattle.sc_parse_grammar.specs.Steps.{Steps, IsSymbol, IsNamed};
 
 use crate::words::{first_word, words};
 use sc_base::{Items, Name, Shared, Stack};
-use sc_phrase::close::item_of;
-use sc_phrase::nodes::name_of;
-use sc_phrase::parts::{added, no_words};
-use sc_phrase::{Direct, Frame, State, Trouble};
-use sc_symbol::{Kind, Symbol};
+use sc_parse_grammar::close::item_of;
+use sc_parse_grammar::nodes::name_of;
+use sc_parse_grammar::parts::{added, no_words};
+use sc_parse_grammar::{Direct, Frame, State, Trouble};
+use sc_parse_names::{Kind, Symbol};
 use sc_tree::{Derivation, Enumerator, Expr, Identifier, Member, Parameter, Specifiers, TypeWord};
 use std::alloc::Global;
 

@@ -1,19 +1,19 @@
 // Declarators.
 ghost use Rattle.std.specs.Prelude.{◌≡◌, ◌<◌, ◌≤◌, List, [], ◌∷◌, ◌++◌, Some, None, Ok, false, length, IfOk};
-ghost use Rattle.sc_phrase.specs.Machine as spec;
-ghost use Rattle.sc_phrase.specs.Types.{no_direct as nothing, named_direct as named_in, with_step as step_with, pointed as pointed_in, whole as whole_in, member_of, declarator_of as declarator_at};
-ghost use Rattle.sc_phrase.specs.Steps.{Steps, IsSymbol, IsNamed};
+ghost use Rattle.sc_parse_grammar.specs.Machine as spec;
+ghost use Rattle.sc_parse_grammar.specs.Types.{no_direct as nothing, named_direct as named_in, with_step as step_with, pointed as pointed_in, whole as whole_in, member_of, declarator_of as declarator_at};
+ghost use Rattle.sc_parse_grammar.specs.Steps.{Steps, IsSymbol, IsNamed};
 
 use crate::body::due;
 use crate::words::finish;
 use sc_base::{Items, Name, NoMemory, Stack};
-use sc_phrase::classes::begins_parameters;
-use sc_phrase::expression::need;
-use sc_phrase::parts::{
+use sc_parse_grammar::classes::begins_parameters;
+use sc_parse_grammar::expression::need;
+use sc_parse_grammar::parts::{
     const_star, declarator_of, more_stars, named_direct, no_direct, one_star, pointed, with_step,
 };
-use sc_phrase::{Direct, Frame, Mode, State, Trouble, Whole};
-use sc_symbol::{Entry, Kind, Mark, Symbol};
+use sc_parse_grammar::{Direct, Frame, Mode, State, Trouble, Whole};
+use sc_parse_names::{Entry, Kind, Mark, Symbol};
 use sc_tree::{Declarator, Derivation, Identifier, Member, Specifiers};
 use std::alloc::Global;
 

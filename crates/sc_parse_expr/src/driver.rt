@@ -1,16 +1,16 @@
 // An expression at the front of tokens.
 ghost use Rattle.std.specs.Prelude.{◌≡◌, ◌≤◌, ℕ, [], None, IfOk, IfErr, OnOk};
 ghost use Rattle.std.specs.Prelude.{All};
-ghost use Rattle.sc_phrase.specs.declared.operand.Operand.{Operand};
-ghost use Rattle.sc_phrase.specs.declared.frame.State.{State};
-ghost use Rattle.sc_phrase.specs.Steps.{IsSymbol};
+ghost use Rattle.sc_parse_grammar.specs.declared.operand.Operand.{Operand};
+ghost use Rattle.sc_parse_grammar.specs.declared.frame.State.{State};
+ghost use Rattle.sc_parse_grammar.specs.Steps.{IsSymbol};
 ghost use Rattle.sc_parse_expr.specs.Brackets as brackets;
 ghost use Rattle.sc_parse_expr.specs.Reading as spec;
 
 use crate::machine::step;
 use sc_base::{Bytes, NoMemory, Shared, Stack};
-use sc_phrase::{Frame, Limit, Operand, State, Trouble};
-use sc_symbol::{Kind, Symbol, TypeNames};
+use sc_parse_grammar::{Frame, Limit, Operand, State, Trouble};
+use sc_parse_names::{Kind, Symbol, TypeNames};
 use sc_tree::Expr;
 use std::alloc::Global;
 
@@ -29,7 +29,7 @@ pub struct Refused {
 }
 
 impl From<NoMemory> for Refused {
-    ghost use Rattle.sc_phrase.specs.declared.trouble.Trouble.TheVariants as trouble;
+    ghost use Rattle.sc_parse_grammar.specs.declared.trouble.Trouble.TheVariants as trouble;
 
     ghost from_gives = { λ _ e. e.trouble ≡ trouble.NoMemory };
 

@@ -1,9 +1,9 @@
 // The machine that reads expressions, type names, specifiers and declarators, one token at a time.
 ghost use Rattle.std.specs.Prelude.{◌≡◌, ◌<◌, ◌≤◌, List, [], ◌∷◌, ◌++◌, Some, None, Ok, Err, length, IfOk, OnOk};
-ghost use Rattle.sc_symbol.specs.Names.{is_typed as typed_in};
-ghost use Rattle.sc_phrase.specs.Machine as spec;
-ghost use Rattle.sc_phrase.specs.Types.{declare_in};
-ghost use Rattle.sc_phrase.specs.Steps.{Steps, Moves, IsSymbol};
+ghost use Rattle.sc_parse_names.specs.Names.{is_typed as typed_in};
+ghost use Rattle.sc_parse_grammar.specs.Machine as spec;
+ghost use Rattle.sc_parse_grammar.specs.Types.{declare_in};
+ghost use Rattle.sc_parse_grammar.specs.Steps.{Steps, Moves, IsSymbol};
 
 use crate::body::{
     due, enumeration, item, items, structure, tagged_enumeration, tagged_structure, void,
@@ -12,10 +12,12 @@ use crate::declarator::{begin, bracket, group, opens_parameters, stars, suffixes
 use crate::operand::{needed, opened, sized_opened};
 use crate::words::words;
 use sc_base::{Duplicate, Items, NoMemory, Stack};
-use sc_phrase::expression::{arrowed, dotted, have, offset_comma, offset_name, sized, texts};
-use sc_phrase::parts::{added, possible_declarator, with_step};
-use sc_phrase::{Direct, Frame, Limit, State, Trouble, Whole};
-use sc_symbol::{Kind, Symbol, TypeNames};
+use sc_parse_grammar::expression::{
+    arrowed, dotted, have, offset_comma, offset_name, sized, texts,
+};
+use sc_parse_grammar::parts::{added, possible_declarator, with_step};
+use sc_parse_grammar::{Direct, Frame, Limit, State, Trouble, Whole};
+use sc_parse_names::{Kind, Symbol, TypeNames};
 use sc_tree::{Derivation, Enumerator, Parameter, Specifiers, TypeWord};
 use std::alloc::Global;
 

@@ -1,14 +1,14 @@
 // Operands before which a type may stand.
 ghost use Rattle.std.specs.Prelude.{◌≡◌, ℕ, ◌<◌, ◌≤◌, List, [], ◌∷◌};
-ghost use Rattle.sc_phrase.specs.Machine as spec;
-ghost use Rattle.sc_phrase.specs.Steps.{Steps, IsSymbol};
+ghost use Rattle.sc_parse_grammar.specs.Machine as spec;
+ghost use Rattle.sc_parse_grammar.specs.Steps.{Steps, IsSymbol};
 
 use crate::words::first_word;
 use sc_base::{Items, Shared, Stack};
-use sc_phrase::classes::begins_type;
-use sc_phrase::expression::need;
-use sc_phrase::{Frame, Operand, State, Trouble};
-use sc_symbol::Symbol;
+use sc_parse_grammar::classes::begins_type;
+use sc_parse_grammar::expression::need;
+use sc_parse_grammar::{Frame, Operand, State, Trouble};
+use sc_parse_names::Symbol;
 use sc_tree::Expr;
 use std::alloc::Global;
 

@@ -1,18 +1,18 @@
 // The words of specifiers, and what ends with them.
 ghost use Rattle.std.specs.Prelude.{◌≡◌, ◌<◌, ◌≤◌, List, [], ◌∷◌, ◌++◌, Some, None, Ok, false, if◌then◌else◌, length, IfOk};
-ghost use Rattle.sc_phrase.specs.Machine as spec;
-ghost use Rattle.sc_phrase.specs.Types.{has_words, no_words as no_words_at, with_word, with_const, with_storage, type_of, declarator_of as declarator_at, declarator_in};
-ghost use Rattle.sc_phrase.specs.Kinds.{word_of as word_in};
-ghost use Rattle.sc_phrase.specs.Steps.{Steps, IsSymbol, IsNamed};
+ghost use Rattle.sc_parse_grammar.specs.Machine as spec;
+ghost use Rattle.sc_parse_grammar.specs.Types.{has_words, no_words as no_words_at, with_word, with_const, with_storage, type_of, declarator_of as declarator_at, declarator_in};
+ghost use Rattle.sc_parse_grammar.specs.Kinds.{word_of as word_in};
+ghost use Rattle.sc_parse_grammar.specs.Steps.{Steps, IsSymbol, IsNamed};
 
 use crate::declarator::begin;
 use sc_base::{Items, Name, NoMemory, Shared, Stack};
-use sc_phrase::classes::word_of;
-use sc_phrase::close::needs;
-use sc_phrase::nodes::{name_of, size_type_node};
-use sc_phrase::parts::{added, constant, no_words, stored, type_name};
-use sc_phrase::{Direct, Frame, Mode, State, Trouble, Whole};
-use sc_symbol::{Kind, Mark, Symbol};
+use sc_parse_grammar::classes::word_of;
+use sc_parse_grammar::close::needs;
+use sc_parse_grammar::nodes::{name_of, size_type_node};
+use sc_parse_grammar::parts::{added, constant, no_words, stored, type_name};
+use sc_parse_grammar::{Direct, Frame, Mode, State, Trouble, Whole};
+use sc_parse_names::{Kind, Mark, Symbol};
 use sc_tree::{Declarator, Derivation, Member, Parameter, Specifiers, Storage, TypeName, TypeWord};
 use std::alloc::Global;
 

@@ -1,16 +1,16 @@
 -- A step of the machine of expressions that fails.
 use Rattle.std.proofs.Common.{◌≡◌, List, Result, Ok, Err, refl, ap}
-use Rattle.sc_symbol.specs.declared.kind.Symbol.{Symbol}
-use Rattle.sc_symbol.specs.Names.{Names}
-use Rattle.sc_phrase.specs.declared.frame.Frame.{Frame}
-use Rattle.sc_phrase.specs.declared.trouble.Trouble.{Trouble}
-use Rattle.sc_phrase.specs.declared.trouble.Trouble.TheVariants as trouble
-use Rattle.sc_phrase.specs.Machine.{Config}
-use Rattle.sc_phrase.specs.Steps.{Moves}
-use Rattle.sc_unit.specs.declared.around.Around.{Around}
-use Rattle.sc_unit.specs.declared.obstacle.Obstacle.TheVariants as no
-use Rattle.sc_unit.specs.Machine.{in_expression, in_specifiers, in_declarator}
-use Rattle.sc_unit.specs.Steps.{Goes}
+use Rattle.sc_parse_names.specs.declared.kind.Symbol.{Symbol}
+use Rattle.sc_parse_names.specs.Names.{Names}
+use Rattle.sc_parse_grammar.specs.declared.frame.Frame.{Frame}
+use Rattle.sc_parse_grammar.specs.declared.trouble.Trouble.{Trouble}
+use Rattle.sc_parse_grammar.specs.declared.trouble.Trouble.TheVariants as trouble
+use Rattle.sc_parse_grammar.specs.Machine.{Config}
+use Rattle.sc_parse_grammar.specs.Steps.{Moves}
+use Rattle.sc_parse_unit.specs.declared.around.Around.{Around}
+use Rattle.sc_parse_unit.specs.declared.obstacle.Obstacle.TheVariants as no
+use Rattle.sc_parse_unit.specs.Machine.{in_expression, in_specifiers, in_declarator}
+use Rattle.sc_parse_unit.specs.Steps.{Goes}
 
 -- The three kinds of place fail alike.
 pub expression_err : (t : Symbol) (fs gs : List Around) (outcome : Result Config Trouble) (o : Trouble) (names before : Names) (frames : List Frame) →

@@ -4,18 +4,18 @@ use Rattle.sc_tree.specs.declared.operator.Binary.{Binary}
 use Rattle.sc_tree.specs.declared.expression.TypeWord.{TypeWord}
 use Rattle.sc_tree.specs.declared.expression.Specifiers.{Specifiers}
 use Rattle.sc_tree.specs.declared.declaration.InitDeclarator.{InitDeclarator}
-use Rattle.sc_symbol.specs.declared.kind.Symbol.{Symbol}
-use Rattle.sc_symbol.specs.declared.kind.Kind.{Kind}
-use Rattle.sc_symbol.specs.declared.kind.Kind.TheVariants as k
-use Rattle.sc_symbol.specs.Names.{Names}
-use Rattle.sc_phrase.specs.declared.operand.Whole.{Whole}
-use Rattle.sc_phrase.specs.Types.{declarator_of}
-use Rattle.sc_unit.specs.declared.around.Around.{Around}
-use Rattle.sc_unit.specs.declared.around.Stage.{Stage}
-use Rattle.sc_unit.specs.declared.obstacle.Obstacle.{Obstacle}
-use Rattle.sc_unit.specs.Trees.{init_declarator}
-use Rattle.sc_unit.specs.Machine as m
-use Rattle.sc_unit.specs.Steps.{Goes}
+use Rattle.sc_parse_names.specs.declared.kind.Symbol.{Symbol}
+use Rattle.sc_parse_names.specs.declared.kind.Kind.{Kind}
+use Rattle.sc_parse_names.specs.declared.kind.Kind.TheVariants as k
+use Rattle.sc_parse_names.specs.Names.{Names}
+use Rattle.sc_parse_grammar.specs.declared.operand.Whole.{Whole}
+use Rattle.sc_parse_grammar.specs.Types.{declarator_of}
+use Rattle.sc_parse_unit.specs.declared.around.Around.{Around}
+use Rattle.sc_parse_unit.specs.declared.around.Stage.{Stage}
+use Rattle.sc_parse_unit.specs.declared.obstacle.Obstacle.{Obstacle}
+use Rattle.sc_parse_unit.specs.Trees.{init_declarator}
+use Rattle.sc_parse_unit.specs.Machine as m
+use Rattle.sc_parse_unit.specs.Steps.{Goes}
 
 pub declared_assign : (t : Symbol) (kd : Kind) (names : Names) (fs : List Around) (v : Specifiers TypeWord) (ds : List InitDeclarator) (x : Whole) (r : Result Stage Obstacle) (gs : List Around) (op : Option Binary) →
     kd ≡ k.Assign op → Goes (m.declared_by t names fs v ds x (k.Assign op)) r names gs → Goes (m.declared_by t names fs v ds x kd) r names gs

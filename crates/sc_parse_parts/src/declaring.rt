@@ -1,23 +1,23 @@
 // Declarations and initialisers.
 ghost use Rattle.std.specs.Prelude.{◌≡◌, List, [], ◌∷◌, ◌++◌, Some, None, Ok, IfOk, OnOk};
-ghost use Rattle.sc_symbol.specs.declared.kind.Symbol.{Symbol as OneSymbol};
-ghost use Rattle.sc_symbol.specs.Names.{Names};
-ghost use Rattle.sc_phrase.specs.Machine as inner;
-ghost use Rattle.sc_phrase.specs.Steps.{IsSymbol};
-ghost use Rattle.sc_phrase.specs.Types as types;
-ghost use Rattle.sc_unit.specs.Machine as spec;
-ghost use Rattle.sc_unit.specs.Trees as trees;
-ghost use Rattle.sc_unit.specs.Steps.{Goes};
+ghost use Rattle.sc_parse_names.specs.declared.kind.Symbol.{Symbol as OneSymbol};
+ghost use Rattle.sc_parse_names.specs.Names.{Names};
+ghost use Rattle.sc_parse_grammar.specs.Machine as inner;
+ghost use Rattle.sc_parse_grammar.specs.Steps.{IsSymbol};
+ghost use Rattle.sc_parse_grammar.specs.Types as types;
+ghost use Rattle.sc_parse_unit.specs.Machine as spec;
+ghost use Rattle.sc_parse_unit.specs.Trees as trees;
+ghost use Rattle.sc_parse_unit.specs.Steps.{Goes};
 
 use sc_base::{Duplicate, Items, NoMemory, Stack};
 use sc_parse_expr::step;
-use sc_phrase::{Direct, Frame, Mode, State, Trouble, Whole};
-use sc_symbol::{Entry, Kind, Symbol, TypeNames};
+use sc_parse_grammar::{Direct, Frame, Mode, State, Trouble, Whole};
+use sc_parse_names::{Entry, Kind, Symbol, TypeNames};
+use sc_parse_unit::{Around, Obstacle, Stage};
 use sc_tree::{
     Binary, Block, Declaration, Declarator, External, Identifier, InitDeclarator, Initializer,
     Specifiers, Storage,
 };
-use sc_unit::{Around, Obstacle, Stage};
 use std::alloc::Global;
 
 /// Nothing of the grammar goes on with the token.

@@ -1,18 +1,18 @@
 // Expressions of statements and initialisers.
 ghost use Rattle.std.specs.Prelude.{◌≡◌, List, [], ◌∷◌, Some, None, Ok};
-ghost use Rattle.sc_symbol.specs.Names.{Names};
-ghost use Rattle.sc_phrase.specs.Machine as inner;
-ghost use Rattle.sc_phrase.specs.Steps.{IsSymbol};
-ghost use Rattle.sc_unit.specs.Machine as spec;
-ghost use Rattle.sc_unit.specs.Steps.{Goes};
+ghost use Rattle.sc_parse_names.specs.Names.{Names};
+ghost use Rattle.sc_parse_grammar.specs.Machine as inner;
+ghost use Rattle.sc_parse_grammar.specs.Steps.{IsSymbol};
+ghost use Rattle.sc_parse_unit.specs.Machine as spec;
+ghost use Rattle.sc_parse_unit.specs.Steps.{Goes};
 
 use crate::declaring::{STUCK, framed, initial_joins, initialized_ends, kept, list_ends};
 use sc_base::{Items, Shared, Stack};
 use sc_parse_expr::step;
-use sc_phrase::{Frame, Operand, State};
-use sc_symbol::{Kind, Symbol, TypeNames};
+use sc_parse_grammar::{Frame, Operand, State};
+use sc_parse_names::{Kind, Symbol, TypeNames};
+use sc_parse_unit::{Around, Head, Obstacle, Stage, Test};
 use sc_tree::{Expr, Initializer, Statement};
-use sc_unit::{Around, Head, Obstacle, Stage, Test};
 use std::alloc::Global;
 
 fn at_semicolon(

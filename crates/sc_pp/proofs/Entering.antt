@@ -12,7 +12,7 @@ use Rattle.sc_base.specs.declared.refusal.Refusal.{Refusal}
 use Rattle.sc_base.specs.declared.refusal.Fault.{Fault}
 use Rattle.sc_base.specs.declared.refusal.Fault.TheVariants as fault
 use Rattle.sc_outside.specs.Stored.{FileMap, Finds}
-use Rattle.sc_condition.specs.Verdict.{verdict}
+use Rattle.sc_pp_condition.specs.Verdict.{verdict}
 use Rattle.sc_pp.specs.declared.failure.Failure.{Failure}
 use Rattle.sc_pp.specs.declared.failure.Failure.TheVariants as failure
 use Rattle.sc_pp.specs.declared.line.Directive.{Directive}

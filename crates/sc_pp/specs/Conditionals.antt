@@ -5,8 +5,8 @@ use Rattle.sc_base.specs.declared.refusal.X.TheVariants as x
 use Rattle.sc_lex.specs.declared.token.Token.{Token}
 use Rattle.sc_lex.specs.declared.token.TokenKind.TheVariants as kind
 use Rattle.sc_macro.specs.Tokens.{is_name, is_mark}
-use Rattle.sc_condition.specs.declared.truth.ConditionFault.{ConditionFault}
-use Rattle.sc_condition.specs.declared.truth.ConditionFault.TheVariants as wrong
+use Rattle.sc_pp_condition.specs.declared.truth.ConditionFault.{ConditionFault}
+use Rattle.sc_pp_condition.specs.declared.truth.ConditionFault.TheVariants as wrong
 use Rattle.sc_pp.specs.declared.asking.Asking.{Asking}
 use Rattle.sc_pp.specs.declared.asking.Asking.TheVariants as asking
 use Rattle.sc_pp.specs.Outcomes.{Outcome, refuse}

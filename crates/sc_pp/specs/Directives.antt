@@ -10,7 +10,7 @@ use Rattle.sc_macro.specs.Tokens.{is_mark}
 use Rattle.sc_macro.specs.Table.{Table, is_fixed, undefined}
 use Rattle.sc_macro.specs.Define.{defined}
 use Rattle.sc_macro.specs.Refusals as macros
-use Rattle.sc_condition.specs.Verdict.{verdict}
+use Rattle.sc_pp_condition.specs.Verdict.{verdict}
 use Rattle.sc_pp.specs.declared.line.Word.{Word}
 use Rattle.sc_pp.specs.declared.line.Word.TheVariants as word
 use Rattle.sc_pp.specs.declared.line.Directive.{Directive}

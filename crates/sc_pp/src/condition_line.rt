@@ -3,7 +3,7 @@ ghost use Rattle.std.specs.Prelude.{◌≡◌, []};
 ghost use Rattle.sc_pp.specs.Outcomes.{Meets, Yields};
 ghost use Rattle.std.specs.Option.{option_map};
 ghost use Rattle.sc_pp.specs.declared.asking.Asking.TheVariants as asking;
-ghost use Rattle.sc_condition.specs.Verdict.{verdict};
+ghost use Rattle.sc_pp_condition.specs.Verdict.{verdict};
 ghost use Rattle.sc_pp.specs.Conditionals as conditions;
 ghost use Rattle.sc_pp.specs.Directives as spec;
 
@@ -13,8 +13,8 @@ use crate::line::{Directive, Word};
 use crate::state::{Place, State, expanded};
 use crate::token::is_name;
 use sc_base::{Bytes, Fault, X};
-use sc_condition::{ConditionFault, condition};
 use sc_lex::Token;
+use sc_pp_condition::{ConditionFault, condition};
 use std::alloc::Global;
 
 /// The one name that a directive takes.

@@ -1,5 +1,5 @@
 ghost use Rattle.std.specs.Prelude.{◌≡◌, ◌≤◌, length, codes, IfOk, Some};
-ghost use Rattle.sc_condition.specs.Verdict.{verdict, IsMeaning};
+ghost use Rattle.sc_pp_condition.specs.Verdict.{verdict, IsMeaning};
 ghost use Rattle.sc_pp.specs.Outcomes.{refusal};
 ghost use Rattle.sc_base.specs.declared.refusal.X.TheVariants as x;
 ghost use Rattle.sc_pp.specs.Preprocessing as spec;

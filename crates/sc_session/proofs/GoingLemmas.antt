@@ -1,7 +1,7 @@
 -- A go of a session, as its code comes to it: the modules, the stops and the run are the session's.
 use Rattle.std.proofs.Common.{◌≡◌, ℕ, List, Option, Some, ap, ◌∙◌, subst}
 use Rattle.sc_meaning.specs.Versions.{Text}
-use Rattle.sc_plain.specs.Ends.{start_of}
+use Rattle.sc_interp.specs.Ends.{start_of}
 use Rattle.sc_words.specs.declared.answer.Answer.TheVariants as answer
 use Rattle.sc_words.specs.declared.stop.StopAt.{StopAt}
 use Rattle.sc_words.specs.declared.stop.Walk.{Walk}

@@ -4,7 +4,7 @@ use Rattle.std.specs.Prelude.{slice_get, slice_set}
 use Rattle.std.proofs.lemmas.Option.{slice_get_within}
 use Rattle.sc_core.specs.declared.module.Core.{Core}
 use Rattle.sc_meaning.specs.Versions.{Text}
-use Rattle.sc_modules.specs.Clashes.{is_other}
+use Rattle.sc_session_conflicts.specs.Clashes.{is_other}
 use Rattle.sc_session.specs.Loading.{in_place, anew, IsPlace}
 
 -- the first modules are others

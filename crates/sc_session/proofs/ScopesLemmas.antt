@@ -3,7 +3,7 @@ use Rattle.std.proofs.Common.{◌≡◌, ◌<◌, ◌≤◌, ℕ, zero, suc, tru
 use Rattle.std.specs.Prelude.{slice_get, slice_set}
 use Rattle.std.specs.Str.{bytes_eq}
 use Rattle.std.proofs.lemmas.Option.{slice_get_within}
-use Rattle.sc_scopes.specs.declared.table.ModuleScopes.{ModuleScopes}
+use Rattle.sc_core_names.specs.declared.table.ModuleScopes.{ModuleScopes}
 use Rattle.sc_session.specs.Loading.{scopes_in_place, IsScopesPlace}
 
 -- the first scopes are those of other modules

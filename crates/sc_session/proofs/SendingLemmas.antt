@@ -5,8 +5,8 @@ use Rattle.std.specs.Prelude.{◌⊎◌}
 use Rattle.sc_meaning.specs.Behaviour.{Start}
 use Rattle.sc_meaning.specs.Versions.{Text}
 use Rattle.sc_meaning.specs.World.{World}
-use Rattle.sc_plain.specs.declared.running.Ended.TheVariants as ended
-use Rattle.sc_plain_world.specs.Outputs.{output}
+use Rattle.sc_interp.specs.declared.running.Ended.TheVariants as ended
+use Rattle.sc_interp_world.specs.Outputs.{output}
 use Rattle.sc_words.specs.declared.answer.Answer.{Answer}
 use Rattle.sc_words.specs.declared.answer.Answer.TheVariants as answer
 use Rattle.sc_words.specs.declared.command.Command.{Command}
@@ -19,7 +19,7 @@ use Rattle.sc_words.specs.declared.stop.Walk.TheVariants as walk
 use Rattle.sc_world.specs.declared.halt.Halt.{Halt}
 use Rattle.sc_world.specs.declared.halt.Halt.TheVariants as halt
 use Rattle.sc_world.specs.Goes.{Goes, started}
-use Rattle.sc_plain.specs.Ends.{start_of}
+use Rattle.sc_interp.specs.Ends.{start_of}
 use Rattle.sc_world.specs.Meant.{IsRunOf}
 use Rattle.sc_world.specs.Sends.{Sends, SendsSome, written}
 use Rattle.sc_world.specs.Standing.{Standing, world_of}

@@ -2,7 +2,7 @@
 use Rattle.std.proofs.Common.{◌≡◌, ap, ◌∙◌, subst, ℕ, List, Option}
 use Rattle.sc_meaning.specs.Versions.{Text}
 use Rattle.sc_meaning.specs.World.{World}
-use Rattle.sc_scopes.specs.declared.table.ModuleScopes.{ModuleScopes}
+use Rattle.sc_core_names.specs.declared.table.ModuleScopes.{ModuleScopes}
 use Rattle.sc_words.specs.declared.answer.Answer.{Answer}
 use Rattle.sc_world.specs.Standing.{Standing}
 use Rattle.sc_session.specs.Going.{IsWorldOf, RunsIn}

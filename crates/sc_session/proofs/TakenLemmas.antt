@@ -4,7 +4,7 @@ use Rattle.sc_base.specs.declared.key.Key.{Key}
 use Rattle.sc_build.specs.declared.building.Built.{Built}
 use Rattle.sc_core.specs.declared.module.Core.{Core}
 use Rattle.sc_meaning.specs.Versions.{Text}
-use Rattle.sc_scopes.specs.declared.table.ModuleScopes.{ModuleScopes}
+use Rattle.sc_core_names.specs.declared.table.ModuleScopes.{ModuleScopes}
 use Rattle.sc_words.specs.declared.denied.Denied.{Denied}
 use Rattle.sc_session.specs.declared.joining.Taken.{Taken}
 use Rattle.sc_session.specs.declared.joining.Taken.TheVariants as taken

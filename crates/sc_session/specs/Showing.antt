@@ -3,10 +3,10 @@ use Rattle.std.specs.Prelude.{◌≡◌, ℕ, List, [], ◌∷◌, ◌++◌, Opt
 use Rattle.sc_base.specs.declared.key.Key.{Key}
 use Rattle.sc_meaning.specs.Versions.{Text}
 use Rattle.sc_meaning.specs.World.{World}
-use Rattle.sc_scopes.specs.declared.table.ModuleScopes.{ModuleScopes}
-use Rattle.sc_show.specs.Frames.{where_lines}
-use Rattle.sc_show.specs.Listings.{module_lines, fun_lines}
-use Rattle.sc_show.specs.Visible.{print_line}
+use Rattle.sc_core_names.specs.declared.table.ModuleScopes.{ModuleScopes}
+use Rattle.sc_session_show.specs.Frames.{where_lines}
+use Rattle.sc_session_show.specs.Listings.{module_lines, fun_lines}
+use Rattle.sc_session_show.specs.Visible.{print_line}
 use Rattle.sc_words.specs.Texts.{stop_text}
 use Rattle.sc_words.specs.declared.answer.Answer.{Answer}
 use Rattle.sc_words.specs.declared.answer.Answer.TheVariants as answer

@@ -3,7 +3,7 @@
 use Rattle.std.specs.Prelude.{ℕ, Bool, ◌==◌, if◌then◌else◌, List, Option, Some, None}
 use Rattle.std.specs.List.{list_any}
 use Rattle.sc_meaning.specs.Versions.{Text}
-use Rattle.sc_modules.specs.Clashes.{is_present}
+use Rattle.sc_session_conflicts.specs.Clashes.{is_present}
 use Rattle.sc_words.specs.declared.command.Command.{Command}
 use Rattle.sc_words.specs.declared.command.Command.TheVariants as command
 use Rattle.sc_words.specs.declared.denied.Denied.{Denied}

@@ -3,19 +3,19 @@ ghost use Rattle.std.specs.Prelude.{◌≡◌, ◌≤◌, ◌++◌, ℕ, List, d
 ghost use Rattle.sc_meaning.specs.Behaviour.{main_key};
 ghost use Rattle.sc_meaning.specs.Versions.{callee_of};
 ghost use Rattle.sc_outside.specs.Causes.{Rose};
-ghost use Rattle.sc_reports.specs.Ends as ends;
-ghost use Rattle.sc_reports.specs.Words.{key_text};
+ghost use Rattle.sc_session_texts.specs.Ends as ends;
+ghost use Rattle.sc_session_texts.specs.Words.{key_text};
 ghost use Rattle.sc_session.specs.Going as spec;
 ghost use Rattle.sc_session.specs.declared.going.Lost.TheVariants as lost;
 ghost use Rattle.sc_world.specs.declared.post.Unsent.TheVariants as unsent;
 
 use crate::state::State;
 use sc_base::{Bytes, Key, Name, NoMemory};
+use sc_interp::Ended;
+use sc_interp_parts::{Callee, Text, callee_of};
+use sc_interp_world::{Frame, World};
 use sc_outside::Sink;
-use sc_plain::Ended;
-use sc_plain_parts::{Callee, Text, callee_of};
-use sc_plain_world::{Frame, World};
-use sc_reports::{put, put_decimal, put_key, stop_text};
+use sc_session_texts::{put, put_decimal, put_key, stop_text};
 use sc_words::{StopAt, Walk};
 use sc_world::{Halt, Halted, Run, Unsent, behind};
 use std::alloc::Global;

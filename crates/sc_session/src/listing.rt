@@ -5,11 +5,11 @@ ghost use Rattle.sc_session.specs.Showing as spec;
 use crate::state::State;
 use crate::stops::Stop;
 use sc_base::{Bytes, Duplicate, Name, NoMemory};
-use sc_plain_parts::Text;
-use sc_plain_world::World;
-use sc_reports::put;
-use sc_scopes::ModuleScopes;
-use sc_show::{Numbers, fun_lines, module_lines, print_line, where_lines};
+use sc_core_names::ModuleScopes;
+use sc_interp_parts::Text;
+use sc_interp_world::World;
+use sc_session_show::{Numbers, fun_lines, module_lines, print_line, where_lines};
+use sc_session_texts::put;
 use sc_words::{Answer, Denied, stop_line};
 use std::alloc::Global;
 

@@ -4,7 +4,7 @@ ghost use Rattle.std.specs.Str.{bytes_eq};
 ghost use Rattle.sc_session.specs.Loading as spec;
 
 use sc_base::{Duplicate, Name, NoMemory};
-use sc_scopes::{ModuleScopes, Scopes};
+use sc_core_names::{ModuleScopes, Scopes};
 use std::alloc::Global;
 
 /// The scopes of a module, with its name.

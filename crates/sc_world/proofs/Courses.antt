@@ -6,17 +6,17 @@ use Rattle.sc_meaning.specs.World.{World}
 use Rattle.sc_meaning.specs.Outcomes.{Ending}
 use Rattle.sc_meaning.specs.Versions.{Text}
 use Rattle.sc_meaning.specs.Expressions.{Answer}
-use Rattle.sc_machine.specs.Bodies as body
-use Rattle.sc_machine.specs.Runs.{Active, Caller, State, Runs, Makes, Answers, Ends}
-use Rattle.sc_plain_leaves.specs.declared.stop.Stop.{Stop}
-use Rattle.sc_plain_leaves.specs.Gives.{ending_of}
-use Rattle.sc_plain.specs.declared.going.Going.{Going}
-use Rattle.sc_plain.specs.declared.going.Going.TheVariants as going
-use Rattle.sc_plain.specs.declared.stepped.Shown.{Shown}
-use Rattle.sc_plain.specs.declared.stepped.Shown.TheVariants.{Nothing}
-use Rattle.sc_plain.specs.Shows.{shown, line_shown, entry_shown, StepsShowing}
-use Rattle.sc_plain.specs.Steady.{alone, advance, body_next}
-use Rattle.sc_plain.specs.Steps.{Is, is_over}
+use Rattle.sc_interp_machine.specs.Bodies as body
+use Rattle.sc_interp_machine.specs.Runs.{Active, Caller, State, Runs, Makes, Answers, Ends}
+use Rattle.sc_interp_access.specs.declared.stop.Stop.{Stop}
+use Rattle.sc_interp_access.specs.Gives.{ending_of}
+use Rattle.sc_interp.specs.declared.going.Going.{Going}
+use Rattle.sc_interp.specs.declared.going.Going.TheVariants as going
+use Rattle.sc_interp.specs.declared.stepped.Shown.{Shown}
+use Rattle.sc_interp.specs.declared.stepped.Shown.TheVariants.{Nothing}
+use Rattle.sc_interp.specs.Shows.{shown, line_shown, entry_shown, StepsShowing}
+use Rattle.sc_interp.specs.Steady.{alone, advance, body_next}
+use Rattle.sc_interp.specs.Steps.{Is, is_over}
 use Rattle.sc_world.specs.declared.count.Count.{Count}
 use Rattle.sc_world.specs.declared.halt.Halt.{Halt}
 use Rattle.sc_world.specs.declared.halt.Halt.TheVariants.{Ended, Paused}

@@ -3,17 +3,17 @@ use Rattle.std.proofs.Common.{◌≡◌, ◌+◌, ◌-◌, ◌<◌, List, sym, s
 use Rattle.sc_meaning.specs.World.{World}
 use Rattle.sc_meaning.specs.Outcomes.{Ending}
 use Rattle.sc_meaning.specs.Versions.{Text, History}
-use Rattle.sc_machine.specs.Runs.{Caller, State, Ends}
-use Rattle.sc_plain_leaves.specs.declared.stop.Stop.{Stop}
-use Rattle.sc_plain_leaves.specs.Gives.{ending_of}
-use Rattle.sc_plain.specs.declared.going.Going.{Going}
-use Rattle.sc_plain.specs.declared.stepped.Shown.{Shown}
-use Rattle.sc_plain.specs.declared.stepped.Shown.TheVariants.{Nothing}
-use Rattle.sc_plain.specs.Shows.{shown, StepsShowing}
-use Rattle.sc_plain.specs.Steady.{alone, advance}
-use Rattle.sc_plain.specs.Steps.{Is}
-use Rattle.sc_plain.proofs.Unchanged.{quiet}
-use Rattle.sc_plain_library.specs.Quiet.{IsQuiet}
+use Rattle.sc_interp_machine.specs.Runs.{Caller, State, Ends}
+use Rattle.sc_interp_access.specs.declared.stop.Stop.{Stop}
+use Rattle.sc_interp_access.specs.Gives.{ending_of}
+use Rattle.sc_interp.specs.declared.going.Going.{Going}
+use Rattle.sc_interp.specs.declared.stepped.Shown.{Shown}
+use Rattle.sc_interp.specs.declared.stepped.Shown.TheVariants.{Nothing}
+use Rattle.sc_interp.specs.Shows.{shown, StepsShowing}
+use Rattle.sc_interp.specs.Steady.{alone, advance}
+use Rattle.sc_interp.specs.Steps.{Is}
+use Rattle.sc_interp.proofs.Unchanged.{quiet}
+use Rattle.sc_lib.specs.Quiet.{IsQuiet}
 use Rattle.sc_world.specs.declared.count.Count.{Count}
 use Rattle.sc_world.specs.declared.halt.Halt.{Halt}
 use Rattle.sc_world.specs.declared.turn.Turned.TheVariants as turned

@@ -4,10 +4,10 @@ use Rattle.sc_meaning.specs.Outcomes.{Outcome, Done, Over}
 use Rattle.sc_meaning.specs.Versions.{Text, History}
 use Rattle.sc_meaning.specs.Changes.{statics_born}
 use Rattle.sc_meaning.specs.Behaviour.{Start, first_world}
-use Rattle.sc_machine.specs.Runs.{State, Runs, Makes, Answers, Ends, then_goes}
-use Rattle.sc_plain.specs.Steady.{alone, advance, ran}
-use Rattle.sc_plain.specs.Ends.{start_of}
-use Rattle.sc_plain.proofs.Whole.{run_ends, run_answers, births_end}
+use Rattle.sc_interp_machine.specs.Runs.{State, Runs, Makes, Answers, Ends, then_goes}
+use Rattle.sc_interp.specs.Steady.{alone, advance, ran}
+use Rattle.sc_interp.specs.Ends.{start_of}
+use Rattle.sc_interp.proofs.Whole.{run_ends, run_answers, births_end}
 use Rattle.sc_words.specs.declared.stop.StopAt.{StopAt}
 use Rattle.sc_words.specs.declared.stop.Walk.{Walk}
 use Rattle.sc_world.specs.declared.halt.Halt.{Halt}

@@ -4,10 +4,10 @@ use Rattle.std.proofs.lemmas.Bool.Decides.{nat_tests}
 use Rattle.std.specs.Prelude.{◌<◌, ◌≤◌, nat_le}
 use Rattle.sc_meaning.specs.World.{Frame}
 use Rattle.sc_meaning.specs.Versions.{Text}
-use Rattle.sc_machine.specs.Runs.{State, Runs, Makes, Answers, Ends}
-use Rattle.sc_plain.specs.declared.stepped.Shown.{Shown}
-use Rattle.sc_plain.specs.declared.stepped.Shown.TheVariants as shown
-use Rattle.sc_plain.specs.Steps.{is_over}
+use Rattle.sc_interp_machine.specs.Runs.{State, Runs, Makes, Answers, Ends}
+use Rattle.sc_interp.specs.declared.stepped.Shown.{Shown}
+use Rattle.sc_interp.specs.declared.stepped.Shown.TheVariants as shown
+use Rattle.sc_interp.specs.Steps.{is_over}
 use Rattle.sc_words.specs.declared.stop.StopAt.{StopAt}
 use Rattle.sc_words.specs.declared.stop.Walk.{Walk}
 use Rattle.sc_world.specs.declared.halt.Halt.{Halt}

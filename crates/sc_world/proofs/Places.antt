@@ -4,17 +4,17 @@ use Rattle.sc_meaning.specs.World.{World}
 use Rattle.sc_meaning.specs.Outcomes.{Ending}
 use Rattle.sc_meaning.specs.Versions.{Text}
 use Rattle.sc_meaning.specs.Behaviour.{first_world}
-use Rattle.sc_machine.specs.Runs.{Caller, State, Ends}
-use Rattle.sc_plain_leaves.specs.declared.stop.Stop.{Stop}
-use Rattle.sc_plain_leaves.specs.Gives.{ending_of}
-use Rattle.sc_plain.specs.declared.going.Going.{Going}
-use Rattle.sc_plain.specs.declared.going.Going.TheVariants as going
-use Rattle.sc_plain.specs.declared.running.Ended.{Ended}
-use Rattle.sc_plain.specs.declared.running.Ended.TheVariants as ended
-use Rattle.sc_plain.specs.declared.stepped.Shown.{Shown}
-use Rattle.sc_plain.specs.declared.stepped.Shown.TheVariants.{Nothing}
-use Rattle.sc_plain.specs.Ends.{start_of, end_of}
-use Rattle.sc_plain.specs.Steps.{Steps}
+use Rattle.sc_interp_machine.specs.Runs.{Caller, State, Ends}
+use Rattle.sc_interp_access.specs.declared.stop.Stop.{Stop}
+use Rattle.sc_interp_access.specs.Gives.{ending_of}
+use Rattle.sc_interp.specs.declared.going.Going.{Going}
+use Rattle.sc_interp.specs.declared.going.Going.TheVariants as going
+use Rattle.sc_interp.specs.declared.running.Ended.{Ended}
+use Rattle.sc_interp.specs.declared.running.Ended.TheVariants as ended
+use Rattle.sc_interp.specs.declared.stepped.Shown.{Shown}
+use Rattle.sc_interp.specs.declared.stepped.Shown.TheVariants.{Nothing}
+use Rattle.sc_interp.specs.Ends.{start_of, end_of}
+use Rattle.sc_interp.specs.Steps.{Steps}
 use Rattle.sc_words.specs.declared.stop.StopAt.{StopAt}
 use Rattle.sc_words.specs.declared.stop.Walk.{Walk}
 use Rattle.sc_world.specs.declared.course.Course.{Course}

@@ -8,19 +8,19 @@ use Rattle.sc_meaning.specs.Versions.{Text}
 use Rattle.sc_meaning.specs.Laws.{Leads}
 use Rattle.sc_meaning.proofs.Steps.{here, on}
 use Rattle.sc_meaning.proofs.Trails.{trail-passed}
-use Rattle.sc_machine.specs.Runs as machine
-use Rattle.sc_machine.specs.Runs.{Caller, State, Runs, Makes, Answers, Ends}
-use Rattle.sc_course.specs.Worlds as course
-use Rattle.sc_course.proofs.RunSteps.{advance_leads}
-use Rattle.sc_plain.specs.Steady.{alone, advance}
-use Rattle.sc_plain.specs.declared.going.Going.{Going}
-use Rattle.sc_plain.specs.declared.stepped.Shown.{Shown}
-use Rattle.sc_plain.specs.declared.stepped.Shown.TheVariants.{Nothing}
-use Rattle.sc_plain.specs.declared.running.Ended.{Ended}
-use Rattle.sc_plain.specs.Ends.{end_of}
-use Rattle.sc_plain.proofs.Unchanged.{quiet, present, same_step}
-use Rattle.sc_plain_leaves.specs.declared.stop.Stop.{Stop}
-use Rattle.sc_plain_world.specs.Outputs.{output, written_by}
+use Rattle.sc_interp_machine.specs.Runs as machine
+use Rattle.sc_interp_machine.specs.Runs.{Caller, State, Runs, Makes, Answers, Ends}
+use Rattle.sc_interp_laws.specs.Worlds as course
+use Rattle.sc_interp_laws.proofs.RunSteps.{advance_leads}
+use Rattle.sc_interp.specs.Steady.{alone, advance}
+use Rattle.sc_interp.specs.declared.going.Going.{Going}
+use Rattle.sc_interp.specs.declared.stepped.Shown.{Shown}
+use Rattle.sc_interp.specs.declared.stepped.Shown.TheVariants.{Nothing}
+use Rattle.sc_interp.specs.declared.running.Ended.{Ended}
+use Rattle.sc_interp.specs.Ends.{end_of}
+use Rattle.sc_interp.proofs.Unchanged.{quiet, present, same_step}
+use Rattle.sc_interp_access.specs.declared.stop.Stop.{Stop}
+use Rattle.sc_interp_world.specs.Outputs.{output, written_by}
 use Rattle.sc_words.specs.declared.stop.StopAt.{StopAt}
 use Rattle.sc_words.specs.declared.stop.Walk.{Walk}
 use Rattle.sc_world.specs.declared.count.Count.{Count}

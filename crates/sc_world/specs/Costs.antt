@@ -2,8 +2,8 @@
 use Rattle.std.specs.Prelude.{ℕ, ◌+◌, ◌-◌, ◌&&◌, Bool, true, false}
 use Rattle.sc_meaning.specs.World.{World, work}
 use Rattle.sc_meaning.specs.Outcomes.{Ending, Undefined, Exit, StackFull, BirthLimit, OutOfFuel}
-use Rattle.sc_machine.specs.Runs.{State, Runs, Makes, Answers, Ends}
-use Rattle.sc_plain_world.specs.Outputs.{bytes_moved}
+use Rattle.sc_interp_machine.specs.Runs.{State, Runs, Makes, Answers, Ends}
+use Rattle.sc_interp_world.specs.Outputs.{bytes_moved}
 use Rattle.sc_world.specs.Standing.{world_of}
 
 -- a call is to be made

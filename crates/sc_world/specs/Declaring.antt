@@ -1,9 +1,9 @@
 -- Which object a run initialises where it stands.
 use Rattle.std.specs.Prelude.{ℕ, Option, Some, None}
 use Rattle.sc_meaning.specs.Statements.{id_of}
-use Rattle.sc_machine.specs.declared.body.Doing.{Doing}
-use Rattle.sc_machine.specs.declared.body.Doing.TheVariants.{Pieces}
-use Rattle.sc_machine.specs.Runs.{State, Runs, Makes, Answers, Ends}
+use Rattle.sc_interp_machine.specs.declared.body.Doing.{Doing}
+use Rattle.sc_interp_machine.specs.declared.body.Doing.TheVariants.{Pieces}
+use Rattle.sc_interp_machine.specs.Runs.{State, Runs, Makes, Answers, Ends}
 
 -- where the pieces of an object's initialiser come next
 abbrev pub declaring_by : Doing → Option ℕ

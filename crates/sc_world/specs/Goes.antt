@@ -5,12 +5,12 @@ use Rattle.sc_meaning.specs.Outcomes.{Exit}
 use Rattle.sc_meaning.specs.Versions.{Text, callee_of}
 use Rattle.sc_meaning.specs.Changes.{statics_born}
 use Rattle.sc_meaning.specs.Behaviour.{first_world, main_key, status_of}
-use Rattle.sc_machine.specs.Runs.{Caller, State, Runs, Makes, Answers, Ends, then_goes}
-use Rattle.sc_plain.specs.declared.stepped.Shown.{Shown}
-use Rattle.sc_plain.specs.declared.stepped.Shown.TheVariants.{Nothing}
-use Rattle.sc_plain.specs.Steady.{alone, callee_next, advance}
-use Rattle.sc_plain.specs.Shows.{shown, entry_shown}
-use Rattle.sc_plain.specs.Ends.{start_of}
+use Rattle.sc_interp_machine.specs.Runs.{Caller, State, Runs, Makes, Answers, Ends, then_goes}
+use Rattle.sc_interp.specs.declared.stepped.Shown.{Shown}
+use Rattle.sc_interp.specs.declared.stepped.Shown.TheVariants.{Nothing}
+use Rattle.sc_interp.specs.Steady.{alone, callee_next, advance}
+use Rattle.sc_interp.specs.Shows.{shown, entry_shown}
+use Rattle.sc_interp.specs.Ends.{start_of}
 use Rattle.sc_words.specs.declared.stop.StopAt.{StopAt}
 use Rattle.sc_words.specs.declared.stop.Walk.{Walk}
 use Rattle.sc_world.specs.declared.halt.Halt.{Halt}

@@ -5,8 +5,8 @@ use Rattle.sc_meaning.specs.Outcomes.{Done}
 use Rattle.sc_meaning.specs.Versions.{Text}
 use Rattle.sc_meaning.specs.Changes.{statics_born}
 use Rattle.sc_meaning.specs.Behaviour.{Start, first_world, ending}
-use Rattle.sc_machine.specs.Runs.{State, Runs, Makes, Answers, Ends}
-use Rattle.sc_plain.specs.Steady.{alone, ran}
+use Rattle.sc_interp_machine.specs.Runs.{State, Runs, Makes, Answers, Ends}
+use Rattle.sc_interp.specs.Steady.{alone, ran}
 use Rattle.sc_world.specs.Standing.{Standing}
 use Rattle.sc_world.specs.Goes.{main_next}
 

@@ -2,13 +2,13 @@
 use Rattle.std.specs.Prelude.{◌≡◌, ℕ, Bool, true, false, List, Option, Some, None}
 use Rattle.sc_meaning.specs.World.{World}
 use Rattle.sc_meaning.specs.Outcomes.{Ending, world_at}
-use Rattle.sc_machine.specs.Runs.{Caller, State, Runs, Makes, Answers, Ends}
-use Rattle.sc_plain.specs.declared.going.Going.{Going}
-use Rattle.sc_plain.specs.declared.going.Going.TheVariants as going
-use Rattle.sc_plain.specs.declared.stepped.Shown.{Shown}
-use Rattle.sc_plain.specs.declared.stepped.Shown.TheVariants.{Nothing}
-use Rattle.sc_plain.specs.declared.running.Ended.{Ended}
-use Rattle.sc_plain.specs.Ends.{end_of}
+use Rattle.sc_interp_machine.specs.Runs.{Caller, State, Runs, Makes, Answers, Ends}
+use Rattle.sc_interp.specs.declared.going.Going.{Going}
+use Rattle.sc_interp.specs.declared.going.Going.TheVariants as going
+use Rattle.sc_interp.specs.declared.stepped.Shown.{Shown}
+use Rattle.sc_interp.specs.declared.stepped.Shown.TheVariants.{Nothing}
+use Rattle.sc_interp.specs.declared.running.Ended.{Ended}
+use Rattle.sc_interp.specs.Ends.{end_of}
 use Rattle.sc_world.specs.declared.count.Count.{Count}
 use Rattle.sc_world.specs.declared.course.Course.{Course}
 use Rattle.sc_world.specs.declared.course.Course.TheVariants.{On, Over}

@@ -2,13 +2,13 @@
 use Rattle.std.specs.Prelude.{◌≡◌, ◌<◌, ◌+◌, ℕ, List, length, Some, Result, Ok, Err}
 use Rattle.sc_meaning.specs.World.{World, work}
 use Rattle.sc_meaning.specs.Outcomes.{Ending}
-use Rattle.sc_machine.specs.Runs.{Caller, State, Ends}
-use Rattle.sc_plain.specs.declared.going.Going.{Going}
-use Rattle.sc_plain.specs.declared.stepped.Shown.{Shown}
-use Rattle.sc_plain.specs.declared.stepped.Shown.TheVariants.{Nothing}
-use Rattle.sc_plain_leaves.specs.declared.stop.Stop.{Stop}
-use Rattle.sc_plain_leaves.specs.Gives.{ending_of}
-use Rattle.sc_plain_world.specs.Outputs.{bytes_moved}
+use Rattle.sc_interp_machine.specs.Runs.{Caller, State, Ends}
+use Rattle.sc_interp.specs.declared.going.Going.{Going}
+use Rattle.sc_interp.specs.declared.stepped.Shown.{Shown}
+use Rattle.sc_interp.specs.declared.stepped.Shown.TheVariants.{Nothing}
+use Rattle.sc_interp_access.specs.declared.stop.Stop.{Stop}
+use Rattle.sc_interp_access.specs.Gives.{ending_of}
+use Rattle.sc_interp_world.specs.Outputs.{bytes_moved}
 use Rattle.sc_world.specs.declared.cost.Before.{Before}
 use Rattle.sc_world.specs.declared.count.Count.{Count}
 use Rattle.sc_world.specs.declared.halt.Halt.{Halt}

@@ -1,9 +1,9 @@
 -- What a go halts at.
 use Rattle.std.specs.Prelude.{ℕ, ◌-◌, Bool, true, false, ◌||◌, nat_le, if◌then◌else◌, List, [], ◌∷◌, Option, Some, None}
 use Rattle.sc_meaning.specs.World.{Frame}
-use Rattle.sc_plain.specs.declared.stepped.Shown.{Shown}
-use Rattle.sc_plain.specs.declared.stepped.Shown.TheVariants as shown
-use Rattle.sc_plain.specs.Steps.{is_over}
+use Rattle.sc_interp.specs.declared.stepped.Shown.{Shown}
+use Rattle.sc_interp.specs.declared.stepped.Shown.TheVariants as shown
+use Rattle.sc_interp.specs.Steps.{is_over}
 use Rattle.sc_words.specs.declared.stop.StopAt.{StopAt}
 use Rattle.sc_words.specs.declared.stop.Event.TheVariants.{Enter, At}
 use Rattle.sc_words.specs.declared.stop.Walk.{Walk}

@@ -1,17 +1,17 @@
 // A run begins: static objects are born, and `main` is called (ANSI 2.1.2.2, 3.5.7).
 ghost use Rattle.std.specs.Prelude.{◌≡◌, IfOk, List, Some};
 ghost use Rattle.sc_meaning.specs.World as worlds;
-ghost use Rattle.sc_machine.specs.Runs as runs;
-ghost use Rattle.sc_plain.specs.Steps.{Steps};
+ghost use Rattle.sc_interp_machine.specs.Runs as runs;
+ghost use Rattle.sc_interp.specs.Steps.{Steps};
 ghost use Rattle.sc_world.specs.Goes as goes;
 ghost use Rattle.sc_world.specs.Standing.{standing};
 
 use crate::course::Course;
 use sc_base::{NoMemory, Stack};
-use sc_plain::{Caller, Ended, Going, call_main, entry};
-use sc_plain_leaves::Stop;
-use sc_plain_parts::{Text, statics_born};
-use sc_plain_world::World;
+use sc_interp::{Caller, Ended, Going, call_main, entry};
+use sc_interp_access::Stop;
+use sc_interp_parts::{Text, statics_born};
+use sc_interp_world::World;
 
 /// From the births on, to where the call of `main` went out.
 ///

@@ -2,16 +2,16 @@
 ghost use Rattle.std.specs.Prelude.{◌≡◌, List, Some};
 ghost use Rattle.sc_meaning.specs.Outcomes as outcomes;
 ghost use Rattle.sc_meaning.specs.World as worlds;
-ghost use Rattle.sc_machine.specs.Runs as runs;
-ghost use Rattle.sc_plain_leaves.specs.Gives.{ending_of};
-ghost use Rattle.sc_plain_world.specs.Outputs.{bytes_moved};
+ghost use Rattle.sc_interp_machine.specs.Runs as runs;
+ghost use Rattle.sc_interp_access.specs.Gives.{ending_of};
+ghost use Rattle.sc_interp_world.specs.Outputs.{bytes_moved};
 ghost use Rattle.sc_world.specs.Costs as spec;
 ghost use Rattle.sc_world.specs.Standing.{state_of};
 ghost use Rattle.sc_world.specs.Turns.{IsBefore};
 
-use sc_plain::Going;
-use sc_plain_leaves::Stop;
-use sc_plain_world::World;
+use sc_interp::Going;
+use sc_interp_access::Stop;
+use sc_interp_world::World;
 
 /// How a run stood before a step: whether a call was to be made, the units of work so far, and the bytes that births and copies of
 /// structures touched.

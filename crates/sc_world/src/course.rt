@@ -1,6 +1,6 @@
 // How far a run is.
 
-use sc_plain::{Ended, Going, Shown};
+use sc_interp::{Ended, Going, Shown};
 
 /// A run goes on, where what was shown is still to be looked at; or it is over.
 #[derive(Drop)]

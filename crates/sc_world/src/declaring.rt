@@ -1,15 +1,15 @@
 // Which object a run initialises where it stands.
 ghost use Rattle.std.specs.Prelude.{◌≡◌, List, Some};
-ghost use Rattle.sc_machine.specs.Runs.{Caller as Waiting};
+ghost use Rattle.sc_interp_machine.specs.Runs.{Caller as Waiting};
 ghost use Rattle.sc_meaning.specs.World.{World};
 ghost use Rattle.sc_world.specs.Declaring as spec;
 ghost use Rattle.sc_world.specs.declared.count.Count.{Count};
 ghost use Rattle.sc_world.specs.Standing.{Standing, standing, state_of};
 
 use crate::course::Course;
-use sc_machine::Doing;
-use sc_plain::Going;
-use sc_plain_parts::id_of;
+use sc_interp::Going;
+use sc_interp_machine::Doing;
+use sc_interp_parts::id_of;
 
 fn declaring_by(doing: &Doing) -> Option<u32>
     ensures { result ≡ spec.declaring_by doing.now }

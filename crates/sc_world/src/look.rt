@@ -4,8 +4,8 @@ ghost use Rattle.sc_world.specs.Wants as spec;
 
 use crate::halt::Halt;
 use crate::marks::Marks;
-use sc_plain::Shown;
-use sc_plain_world::{Frame, World};
+use sc_interp::Shown;
+use sc_interp_world::{Frame, World};
 use sc_words::Walk;
 use std::marker::Model;
 

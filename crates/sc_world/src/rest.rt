@@ -1,11 +1,11 @@
 // Where a go leaves a run.
 ghost use Rattle.std.specs.Prelude.{◌≡◌, ◌≤◌, [], Err, IfOk, MatchResult, length};
 ghost use Rattle.sc_meaning.specs.World as worlds;
-ghost use Rattle.sc_machine.specs.Runs as runs;
-ghost use Rattle.sc_plain.specs.Ends.{end_of};
-ghost use Rattle.sc_plain.specs.declared.stepped.Shown.TheVariants.{Nothing};
-ghost use Rattle.sc_plain_leaves.specs.Gives.{ending_of};
-ghost use Rattle.sc_plain_world.specs.Outputs.{output};
+ghost use Rattle.sc_interp_machine.specs.Runs as runs;
+ghost use Rattle.sc_interp.specs.Ends.{end_of};
+ghost use Rattle.sc_interp.specs.declared.stepped.Shown.TheVariants.{Nothing};
+ghost use Rattle.sc_interp_access.specs.Gives.{ending_of};
+ghost use Rattle.sc_interp_world.specs.Outputs.{output};
 ghost use Rattle.sc_outside.specs.Causes.{Rose};
 ghost use Rattle.sc_world.specs.Goes as goes;
 ghost use Rattle.sc_world.specs.Sends.{LeavesFew, Sends, SendsFirst, SendsSome, SendsTo};
@@ -16,7 +16,7 @@ ghost use Rattle.sc_world.specs.declared.post.Unsent.TheVariants as unsent;
 ghost use Rattle.sc_world.specs.declared.count.Count as counts;
 ghost use Rattle.sc_world.specs.declared.halt.Halt.TheVariants as halting;
 ghost use Rattle.sc_world.specs.declared.turn.Turned.TheVariants as turns;
-ghost use Rattle.sc_plain_leaves.specs.declared.stop.Stop as stops;
+ghost use Rattle.sc_interp_access.specs.declared.stop.Stop as stops;
 
 use crate::count::Count;
 use crate::course::Course;
@@ -25,12 +25,12 @@ use crate::look::Want;
 use crate::post::Unsent;
 use crate::turn::{Turned, turns_taken};
 use sc_base::Stack;
+use sc_interp::{Caller, Ended, Going, Shown, status_of};
+use sc_interp_access::Stop;
+use sc_interp_parts::Text;
+use sc_interp_world::World;
+use sc_meaning_values::Answer;
 use sc_outside::Sink;
-use sc_plain::{Caller, Ended, Going, Shown, status_of};
-use sc_plain_leaves::Stop;
-use sc_plain_parts::Text;
-use sc_plain_world::World;
-use sc_values::Answer;
 
 /// Why a go halted, and how the run goes on from there, or ended.
 #[derive(Drop)]

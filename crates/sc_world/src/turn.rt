@@ -2,12 +2,12 @@
 ghost use Rattle.std.specs.Prelude.{◌≡◌, ◌≤◌, Err, IfOk, List, Some, length};
 ghost use Rattle.sc_meaning.specs.Outcomes as outcomes;
 ghost use Rattle.sc_meaning.specs.World as worlds;
-ghost use Rattle.sc_machine.specs.Runs as runs;
-ghost use Rattle.sc_plain.specs.Steps as course;
-ghost use Rattle.sc_plain.specs.declared.stepped.Shown as showing;
-ghost use Rattle.sc_plain.specs.declared.stepped.Shown.TheVariants.{Nothing};
-ghost use Rattle.sc_plain_leaves.specs.Gives.{ending_of};
-ghost use Rattle.sc_plain_world.specs.Outputs.{output};
+ghost use Rattle.sc_interp_machine.specs.Runs as runs;
+ghost use Rattle.sc_interp.specs.Steps as course;
+ghost use Rattle.sc_interp.specs.declared.stepped.Shown as showing;
+ghost use Rattle.sc_interp.specs.declared.stepped.Shown.TheVariants.{Nothing};
+ghost use Rattle.sc_interp_access.specs.Gives.{ending_of};
+ghost use Rattle.sc_interp_world.specs.Outputs.{output};
 ghost use Rattle.sc_outside.specs.Causes.{Rose};
 ghost use Rattle.sc_world.specs.Goes as goes;
 ghost use Rattle.sc_world.specs.Posts.{Posts};
@@ -23,11 +23,11 @@ use crate::halt::Halt;
 use crate::look::{Want, halt_if, wanted};
 use crate::post::{Unsent, post};
 use sc_base::Stack;
+use sc_interp::{Caller, Going, Shown, step_run};
+use sc_interp_access::Stop;
+use sc_interp_parts::Text;
+use sc_interp_world::World;
 use sc_outside::Sink;
-use sc_plain::{Caller, Going, Shown, step_run};
-use sc_plain_leaves::Stop;
-use sc_plain_parts::Text;
-use sc_plain_world::World;
 
 // Whether the run is over: no caller waits for its answer.
 fn is_over(going: &Going, callers: &Stack<Caller>) -> bool

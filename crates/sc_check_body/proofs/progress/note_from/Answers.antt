@@ -1,6 +1,6 @@
 use Rattle.std.proofs.Common.{rules, ◌≡◌, ℕ, ◌+◌, List, [], ◌∷◌, ◌++◌, ◌∙◌, ap}
-use Rattle.sc_linkage.specs.declared.births.Birth.{Birth}
-use Rattle.sc_linkage.specs.declared.births.Birth.TheVariants as birth
+use Rattle.sc_check_linkage.specs.declared.births.Birth.{Birth}
+use Rattle.sc_check_linkage.specs.declared.births.Birth.TheVariants as birth
 use Rattle.sc_check_body.specs.Progress.{literals}
 use Rattle.sc_check_body.proofs.Births.{one_more}
 use Rattle.sc_check_body.proofs.progress.note_from.Goals as goal

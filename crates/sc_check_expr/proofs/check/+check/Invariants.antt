@@ -1,7 +1,7 @@
 -- What the rest gives from here is what all give from the beginning.
 use Rattle.std.proofs.Common.{◌≡◌, [], None, drop, map}
-use Rattle.sc_scope.specs.Steps.{each}
-use Rattle.sc_scope.specs.Words.{no_words}
+use Rattle.sc_check_scope.specs.Steps.{each}
+use Rattle.sc_check_scope.specs.Words.{no_words}
 use Rattle.sc_check_expr.specs.Typed.{node, wording, declaring, membering, parametering, stepping, enumerating, one, one_argument, one_word, one_step, one_member, one_enumerator, no_parameters}
 use Rattle.sc_check_expr.proofs.check.+check.Given as goal
 

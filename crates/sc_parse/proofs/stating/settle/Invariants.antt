@@ -1,6 +1,6 @@
 -- What is left to end gives what the whole gives.
 use Rattle.std.proofs.Common.{◌≡◌, length}
-use Rattle.sc_unit.specs.Machine as spec
+use Rattle.sc_parse_unit.specs.Machine as spec
 use Rattle.sc_parse.proofs.stating.settle.Given as goal
 
 abbrev pub invariant-ending : goal.invariant-ending

@@ -1,10 +1,10 @@
 -- The symbols are those of the tokens, or there is no memory for them.
 use Rattle.std.proofs.Common.{◌≡◌, List, Err, subst, rules}
 use Rattle.sc_base.specs.declared.refusal.Fault.TheVariants as fault
-use Rattle.sc_symbol.specs.declared.kind.Symbol.{Symbol}
-use Rattle.sc_token.specs.Symbols.{symbols}
-use Rattle.sc_unit.specs.Claims.{Parses}
-use Rattle.sc_unit.proofs.Answers.{parses}
+use Rattle.sc_parse_names.specs.declared.kind.Symbol.{Symbol}
+use Rattle.sc_parse_tokens.specs.Symbols.{symbols}
+use Rattle.sc_parse_unit.specs.Claims.{Parses}
+use Rattle.sc_parse_unit.proofs.Answers.{parses}
 use Rattle.sc_parse.proofs.whole.parse.Goals as goal
 
 pub returns-in-Ok : goal.returns-in-Ok

@@ -1,7 +1,7 @@
 -- One token more, a token that is refused, and the end.
 use Rattle.std.proofs.Common.{rules, ◌≡◌, [], ◌∷◌}
-use Rattle.sc_unit.specs.Machine.{start}
-use Rattle.sc_unit.specs.Parse.{answer}
+use Rattle.sc_parse_unit.specs.Machine.{start}
+use Rattle.sc_parse_unit.specs.Parse.{answer}
 use Rattle.sc_parse.proofs.Turns.{reading_on, reading_stops, reading_ends, all_rest, first_is, none_left}
 use Rattle.sc_parse.proofs.whole.read.Goals as goal
 

@@ -1,9 +1,9 @@
 -- What is left gives what the whole gives.
 use Rattle.std.proofs.Common.{◌≡◌, ◌≤◌, length}
 use Rattle.std.specs.Prelude.{All}
-use Rattle.sc_phrase.specs.Steps.{IsSymbol}
-use Rattle.sc_unit.specs.Machine.{start}
-use Rattle.sc_unit.specs.Parse.{answer}
+use Rattle.sc_parse_grammar.specs.Steps.{IsSymbol}
+use Rattle.sc_parse_unit.specs.Machine.{start}
+use Rattle.sc_parse_unit.specs.Parse.{answer}
 use Rattle.sc_parse.proofs.whole.read.Given as goal
 
 abbrev pub invariant-symbols : goal.invariant-symbols

@@ -1,7 +1,7 @@
 -- No star.
 use Rattle.std.proofs.Common.{rules, ◌≡◌, List, Bool, subst}
-use Rattle.sc_phrase.specs.Machine as spec
-use Rattle.sc_phrase.specs.Steps.{Steps}
+use Rattle.sc_parse_grammar.specs.Machine as spec
+use Rattle.sc_parse_grammar.specs.Steps.{Steps}
 use Rattle.sc_parse_expr.proofs.Others.{begin_else}
 use Rattle.sc_parse_expr.proofs.declarator.begin.Goals as goal
 

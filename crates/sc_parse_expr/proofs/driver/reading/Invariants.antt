@@ -1,7 +1,7 @@
 -- What is left of the tokens gives what all of them give.
 use Rattle.std.proofs.Common.{◌≡◌, ◌≤◌, ◌+◌, length}
 use Rattle.std.specs.Prelude.{All}
-use Rattle.sc_phrase.specs.Steps.{IsSymbol}
+use Rattle.sc_parse_grammar.specs.Steps.{IsSymbol}
 use Rattle.sc_parse_expr.specs.Reading as spec
 use Rattle.sc_parse_expr.proofs.driver.reading.Given as goal
 

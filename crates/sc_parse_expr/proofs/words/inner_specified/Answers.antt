@@ -1,8 +1,8 @@
 -- Neither a parenthesis nor a comma.
 use Rattle.std.proofs.Common.{rules, ◌≡◌, List, ◌∷◌, subst}
-use Rattle.sc_phrase.specs.declared.frame.Frame.{Frame}
-use Rattle.sc_phrase.specs.Machine as spec
-use Rattle.sc_phrase.specs.Steps.{Steps}
+use Rattle.sc_parse_grammar.specs.declared.frame.Frame.{Frame}
+use Rattle.sc_parse_grammar.specs.Machine as spec
+use Rattle.sc_parse_grammar.specs.Steps.{Steps}
 use Rattle.sc_parse_expr.proofs.Others.{inner_else}
 use Rattle.sc_parse_expr.proofs.words.inner_specified.Goals as goal
 

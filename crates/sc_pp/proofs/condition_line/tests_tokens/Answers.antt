@@ -1,6 +1,6 @@
 use Rattle.std.proofs.Common.{ap}
 use Rattle.sc_pp.specs.Outcomes.{after}
-use Rattle.sc_condition.specs.Verdict.{verdict}
+use Rattle.sc_pp_condition.specs.Verdict.{verdict}
 use Rattle.sc_pp.specs.Conditionals.{told}
 use Rattle.sc_pp.specs.Directives.{with_state}
 use Rattle.sc_pp.proofs.Entering.{value_told}

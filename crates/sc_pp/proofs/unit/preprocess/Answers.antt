@@ -1,7 +1,7 @@
 use Rattle.std.proofs.Common.{◌∙◌, subst, Option}
 use Rattle.sc_outside.specs.Stored.{FileMap, FindsTold}
 use Rattle.sc_outside.specs.declared.files.FileGot.TheVariants as got
-use Rattle.sc_condition.proofs.Verdicts.{meaning}
+use Rattle.sc_pp_condition.proofs.Verdicts.{meaning}
 use Rattle.sc_pp.proofs.Naming.{whole_names}
 use Rattle.sc_pp.proofs.unit.preprocess.Goals as goal
 

@@ -1,5 +1,5 @@
 use Rattle.std.proofs.Common.{ap, sym, length}
-use Rattle.sc_plain_world.specs.Outputs.{output}
+use Rattle.sc_interp_world.specs.Outputs.{output}
 use Rattle.sc_world.specs.Goes.{gone}
 use Rattle.sc_world.specs.Standing.{state_of}
 use Rattle.sc_world.specs.Turns.{standing_at}

@@ -1,7 +1,7 @@
 -- What is left to be done from here comes to what all the turns come to; and what the program wrote was posted as far as the place that
 -- is kept.
 use Rattle.std.proofs.Common.{◌≡◌, ◌≤◌, ◌<◌, ◌+◌, ◌-◌, length}
-use Rattle.sc_plain_world.specs.Outputs.{output}
+use Rattle.sc_interp_world.specs.Outputs.{output}
 use Rattle.sc_world.specs.Posts.{Posted}
 use Rattle.sc_world.specs.Standing.{state_of}
 use Rattle.sc_world.specs.Turns.{standing_at}

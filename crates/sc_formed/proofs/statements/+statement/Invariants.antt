@@ -1,9 +1,0 @@
-use Rattle.std.proofs.Common.{◌≡◌, drop}
-use Rattle.sc_formed.specs.Open.{numbers}
-use Rattle.sc_formed.specs.Statements.{all_of}
-use Rattle.sc_formed.proofs.statements.+statement.Given as goal
-
--- what is to come decides
-abbrev pub invariant-statements-loop-s : goal.invariant-statements-loop-s
-invariant-statements-loop-s l =
-    all_of l.m.core.now l.f (drop l.s-index l.items) (numbers l.around) l.body l.at ≡ all_of l.m.core.now l.f l.items (numbers l.around) l.body l.next

@@ -1,0 +1,157 @@
+-- From a run's steps to what the whole program does.
+use Rattle.std.proofs.Common.{◌≡◌, ℕ, zero, suc, ◌+◌, ◌<◌, Bool, true, false, List, [], ◌∷◌, refl, ap, sym, subst, ◌∙◌, arith, add-one, Option, Some, None, Result, Ok, Err}
+use Rattle.std.specs.Prelude.{◌↔◌, IsTrue}
+use Rattle.std.specs.Result.{IsErrAnd}
+use Rattle.std.proofs.lemmas.Result.{err_from_is_err_and}
+use Rattle.sc_meaning.specs.World.{World, tick}
+use Rattle.sc_meaning.specs.Outcomes.{Outcome, Done, Over, Ending, Exit, and_then, went}
+use Rattle.sc_meaning.specs.Versions.{Text, History, callee_of, version_at}
+use Rattle.sc_meaning.specs.Changes.{settled, statics_born}
+use Rattle.sc_meaning.specs.Expressions.{Answer, value_rule}
+use Rattle.sc_meaning.specs.Values.{Value}
+use Rattle.sc_types.specs.declared.ctype.CType.{CType}
+use Rattle.sc_meaning.specs.Calls.{call}
+use Rattle.sc_meaning.specs.Behaviour.{Start, first_world, main_key, main_called, started, ending, status_of}
+use Rattle.sc_meaning.specs.Behaviour as behaviour
+use Rattle.sc_interp_machine.specs.Runs as runs
+use Rattle.sc_interp_machine.specs.Runs.{Caller, State, Makes, Answers, Ends}
+use Rattle.sc_interp_machine.proofs.RunFollows.{answers_meaning, ends_meaning}
+use Rattle.sc_interp_access.specs.declared.stop.Stop.{Stop}
+use Rattle.sc_interp_access.specs.Gives.{ending_of, Stops}
+use Rattle.sc_interp.specs.declared.drive.Reached.{Reached}
+use Rattle.sc_interp.specs.declared.going.Going.{Going}
+use Rattle.sc_interp.specs.declared.drive.Reached.TheVariants as reached
+use Rattle.sc_interp.specs.declared.stepped.Stepped.{Stepped}
+use Rattle.sc_interp.specs.Shows.{shown, entry_shown, StepsTo}
+use Rattle.sc_interp.specs.Steps.{Brings, Steps, is_over}
+use Rattle.sc_interp.specs.declared.running.Ended.{Ended}
+use Rattle.sc_interp.specs.declared.running.Ended.TheVariants as ended
+use Rattle.sc_interp.specs.Ends.{Finishes}
+use Rattle.sc_interp.specs.Steady as steady
+use Rattle.sc_interp.specs.Steady.{alone}
+use Rattle.sc_interp.proofs.Unchanged.{quiet, present, callee_step, same_run}
+
+not_empty : (c : Caller) (cs : List Caller) → c ∷ cs ≡ [] → ⊥
+not_empty c cs p = cc
+
+not_both : (b : Bool) → b ≡ false → b ≡ true → ⊥
+not_both b p q = cc
+
+-- where nothing is left to be done, steps change nothing
+pub stays_answered : (k : ℕ) (h : History) (texts : List Text) (a : Answer) (w : World) → steady.ran k h texts (Answers a [] w) ≡ Answers a [] w
+stays_answered zero h texts a w = refl
+stays_answered (suc k) h texts a w = stays_answered k h texts a w
+
+pub stays_ended : (k : ℕ) (h : History) (texts : List Text) (e : Ending) → steady.ran k h texts (Ends e) ≡ Ends e
+stays_ended zero h texts e = refl
+stays_ended (suc k) h texts e = stays_ended k h texts e
+
+-- an answer is the run's where no caller waits
+over_if : (a : Answer) (cs : List Caller) (w : World) (b : Bool) → (IsTrue b ↔ (cs ≡ [])) → b ≡ is_over (Answers a cs w)
+over_if a [] w b e = e.1 refl
+over_if a (c ∷ cs) w true e = absurd (not_empty c cs (e.0 refl))
+over_if a (c ∷ cs) w false e = refl
+
+pub over_where : (s : State) (a : Answer) (cs : List Caller) (w : World) (b : Bool) → s ≡ Answers a cs w → (IsTrue b ↔ (cs ≡ [])) → b ≡ is_over s
+over_where s a cs w b is e = over_if a cs w b e ∙ sym (ap is_over is)
+
+pub goes_on : (s : State) (a : Answer) (cs : List Caller) (w : World) (b : Bool) → s ≡ Answers a cs w → (IsTrue b ↔ (cs ≡ [])) → b ≡ false → is_over s ≡ false
+goes_on s a cs w b is e not_over = sym (over_where s a cs w b is e) ∙ not_over
+
+-- a run that is over is where it is after any more steps
+pub over_there : (k : ℕ) (h : History) (texts : List Text) (t : State) (r : Reached) (w : World) → Brings t (Ok r) w → is_over t ≡ true → Brings (steady.ran k h texts t) (Ok r) w
+over_there k h texts t (reached.Answer a) w p over = ap (steady.ran k h texts) p ∙ stays_answered k h texts a w
+over_there k h texts t reached.Nowhere w p over = absurd (not_both (is_over t) p over)
+
+pub ended_there : (k : ℕ) (h : History) (texts : List Text) (s : State) (e : Ending) → s ≡ Ends e → steady.ran k h texts s ≡ Ends e
+ended_there k h texts s e p = ap (steady.ran k h texts) p ∙ stays_ended k h texts e
+
+-- one step of those that are left
+pub one_less : (k j : ℕ) (h : History) (texts : List Text) (s : State) → k ≡ j + 1 → steady.ran k h texts s ≡ steady.ran j h texts (steady.advance h texts s)
+one_less k j h texts s is = ap (λ n. steady.ran n h texts s) (is ∙ add-one j)
+
+-- no steps are left
+pub none_left : (k : ℕ) (h : History) (texts : List Text) (t : State) (r : Result Reached Stop) (w : World) → k ≡ 0 → Brings t r w → Brings (steady.ran k h texts t) r w
+none_left k h texts t r w is = subst (λ k. Brings (steady.ran k h texts t) r w) (sym is)
+
+-- a step from a state that is another one
+pub from_there : (h : History) (texts : List Text) (s t : State) (r : Result Stepped Stop) (cs : List Caller) (w : World) → s ≡ t → StepsTo (steady.advance h texts t) (shown h texts t) r cs w → StepsTo (steady.advance h texts s) (shown h texts s) r cs w
+from_there h texts s t r cs w is = subst (λ s. StepsTo (steady.advance h texts s) (shown h texts s) r cs w) (sym is)
+
+-- a step that makes a call
+pub makes_there : (h : History) (texts : List Text) (s : State) (t : CType) (v : Value) (us vs : List Value) (c : Caller) (cs ds : List Caller) (w w2 : World) (g : Result Going Stop) (r : Result Stepped Stop) → s ≡ Makes t v vs c cs w → us ≡ vs → Steps (steady.made_unless (value_rule texts c.env.text t v) h texts v us (c ∷ cs) w) g ds w2 → ((s : State) (cs : List Caller) (w : World) → Steps s g cs w → StepsTo s (entry_shown s) r cs w) → StepsTo (steady.advance h texts s) (shown h texts s) r ds w2
+makes_there h texts s t v us vs c cs ds w w2 g r is same p f =
+    from_there h texts s (Makes t v vs c cs w) r ds w2 is
+    (f (steady.advance h texts (Makes t v vs c cs w)) ds w2 (subst (λ us. Steps (steady.made_unless (value_rule texts c.env.text t v) h texts v us (c ∷ cs) w) g ds w2) same p))
+
+-- a step that failed ends the whole, as `?` passes its end on
+pub ends_here : (t : State) (r : Result Reached Stop) (s : Stop) (w : World) → IsErrAnd r (λ e. e ≡ s) → ((e : Ending) → ending_of s w ≡ Some e → t ≡ Ends e) → Brings t r w
+ends_here t r s w p f = let q = err_from_is_err_and r p in subst (λ r. Brings t r w) (sym (q.1 ∙ ap (λ e. Err e) q.2)) f
+
+-- the first state of the call of main
+abbrev pub first_of : List Text → World → State
+first_of texts w = steady.callee_next (alone texts) main_key [] (callee_of texts main_key) [] (tick w)
+
+same_first : (texts : List Text) (w : World) → runs.callee_next (alone texts) main_key [] (callee_of (version_at (alone texts) w.count) main_key) [] w ≡ steady.callee_next (alone texts) main_key [] (callee_of texts main_key) [] w
+same_first texts w =
+    ap (λ ts. runs.callee_next (alone texts) main_key [] (callee_of ts main_key) [] w) (present texts w.count)
+    ∙ callee_step (alone texts) texts (quiet texts) (present texts) main_key [] (callee_of texts main_key) [] w
+
+same_from : (k : ℕ) (texts : List Text) (w : World) → runs.ran k (alone texts) (runs.callee_next (alone texts) main_key [] (callee_of (version_at (alone texts) w.count) main_key) [] w) ≡ steady.ran k (alone texts) texts (steady.callee_next (alone texts) main_key [] (callee_of texts main_key) [] w)
+same_from k texts w =
+    ap (runs.ran k (alone texts)) (same_first texts w) ∙ same_run (alone texts) texts (quiet texts) (present texts) k (steady.callee_next (alone texts) main_key [] (callee_of texts main_key) [] w)
+
+-- the births of one version
+settled_once : (r : Outcome (Unit {0})) → and_then r (λ _ w. went w) ≡ r
+settled_once (Done _ w) = refl
+settled_once (Over e) = refl
+
+abbrev begun_in : List Text → Start → Outcome (Unit {0})
+begun_in texts s = statics_born texts (first_world s)
+
+settles : (texts : List Text) (s : Start) → settled (alone texts) (first_world s) ≡ begun_in texts s
+settles texts s = settled_once (begun_in texts s)
+
+-- the run of a start whose history is one version
+starts : (texts : List Text) (s : Start) (n : ℕ) → s.history ≡ alone texts → started n s ≡ and_then (begun_in texts s) (λ _ w. main_called n (alone texts) w)
+starts texts s n is =
+    ap (λ h. and_then (settled h (first_world s)) (λ _ w. main_called n h w)) is
+    ∙ ap (λ r. and_then r (λ _ w. main_called n (alone texts) w)) (settles texts s)
+
+pub births_end : (texts : List Text) (s : Start) (n : ℕ) (e : Ending) → s.history ≡ alone texts → begun_in texts s ≡ Over e → ending n s ≡ e
+births_end texts s n e is p = ap behaviour.ending_of (starts texts s n is ∙ ap (λ r. and_then r (λ _ w. main_called n (alone texts) w)) p)
+
+comes : (texts : List Text) (s : Start) (n : ℕ) (w : World) (r : Outcome Answer) → s.history ≡ alone texts → begun_in texts s ≡ Done tt w → call n (alone texts) main_key [] (tick w) ≡ r → ending n s ≡ behaviour.ending_of (and_then r (λ a w. Done a (tick w)))
+comes texts s n w r is p q =
+    ap behaviour.ending_of (starts texts s n is ∙ ap (λ r. and_then r (λ _ w. main_called n (alone texts) w)) p ∙ ap (λ r. and_then r (λ a w. Done a (tick w))) q)
+
+pub run_ends : (texts : List Text) (s : Start) (k n : ℕ) (w : World) (e : Ending) → s.history ≡ alone texts → k < n → begun_in texts s ≡ Done tt w → steady.ran k (alone texts) texts (first_of texts w) ≡ Ends e → ending n s ≡ e
+run_ends texts s k n w e is lt p q =
+    comes texts s n w (Over e) is p (ends_meaning (alone texts) k n main_key [] (tick w) e (omega arith) (same_from k texts (tick w) ∙ q))
+
+pub run_answers : (texts : List Text) (s : Start) (k n : ℕ) (w v : World) (a : Answer) → s.history ≡ alone texts → k < n → begun_in texts s ≡ Done tt w → steady.ran k (alone texts) texts (first_of texts w) ≡ Answers a [] v → ending n s ≡ Exit (status_of a) (tick v)
+run_answers texts s k n w v a is lt p q =
+    comes texts s n w (Done a v) is p (answers_meaning (alone texts) k n main_key [] (tick w) v a (omega arith) (same_from k texts (tick w) ∙ q))
+
+-- What a part of the program answers, where the births end the run, the call of main ends it, or main comes back.
+pub births_finish : (texts : List Text) (s : Start) (steps : ℕ) (first w : World) (stop : Stop) → s.history ≡ alone texts → first ≡ first_world s → Stops (statics_born texts first) stop w → Finishes steps s (Err stop) w
+births_finish texts s steps first w stop is begins stops = λ n lt e p.
+    births_end texts s n e is (ap (statics_born texts) (sym begins) ∙ stops e p)
+
+pub call_finishes : (texts : List Text) (s : Start) (steps : ℕ) (first born w : World) (stop : Stop) → s.history ≡ alone texts → first ≡ first_world s → statics_born texts first ≡ Done tt born → ((e : Ending) → ending_of stop w ≡ Some e → steady.ran steps (alone texts) texts (first_of texts born) ≡ Ends e) → Finishes steps s (Err stop) w
+call_finishes texts s steps first born w stop is begins p q = λ n lt e r.
+    run_ends texts s steps n born e is lt (ap (statics_born texts) (sym begins) ∙ p) (q e r)
+
+told : (e : Ending) (status : ℕ) (w : World) → Some (Exit status w) ≡ Some e → Exit status w ≡ e
+told e status w p = cc
+
+pub answer_finishes : (texts : List Text) (s : Start) (steps : ℕ) (first born v w : World) (a : Answer) (status : ℕ) → s.history ≡ alone texts → first ≡ first_world s → statics_born texts first ≡ Done tt born → steady.ran steps (alone texts) texts (first_of texts born) ≡ Answers a [] v → status ≡ status_of a → w ≡ tick v → Finishes steps s (Ok (ended.Exit status)) w
+answer_finishes texts s steps first born v w a status is begins p q st back = λ n lt e r.
+    run_answers texts s steps n born v a is lt (ap (statics_born texts) (sym begins) ∙ p) q ∙ ap (λ st. Exit st (tick v)) (sym st) ∙ ap (Exit status) (sym back) ∙ told e status w r
+
+pub steps_used_up : (texts : List Text) (s : Start) (steps : ℕ) (first born w : World) → s.history ≡ alone texts → first ≡ first_world s → statics_born texts first ≡ Done tt born → is_over (steady.ran steps (alone texts) texts (first_of texts born)) ≡ false → Finishes steps s (Ok ended.OutOfSteps) w
+steps_used_up texts s steps first born w is begins p over = (texts, is, born, ap (statics_born texts) (sym begins) ∙ p, over)
+
+-- a part that failed ends the whole, as `?` passes its end on
+pub finishes_here : (s : Start) (steps : ℕ) (r : Result Ended Stop) (stop : Stop) (w : World) → IsErrAnd r (λ e. e ≡ stop) → Finishes steps s (Err stop) w → Finishes steps s r w
+finishes_here s steps r stop w p f = let q = err_from_is_err_and r p in subst (λ r. Finishes steps s r w) (sym (q.1 ∙ ap (λ e. Err e) q.2)) f

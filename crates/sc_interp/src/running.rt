@@ -1,0 +1,135 @@
+// A whole run (ANSI 2.1.2.2, 2.1.2.3).
+ghost use Rattle.std.specs.Prelude.{◌≡◌, [], ℕ, IfOk};
+ghost use Rattle.sc_meaning.specs.Behaviour as behaviour;
+ghost use Rattle.sc_meaning.specs.Versions as versions;
+ghost use Rattle.sc_meaning.specs.World as worlds;
+ghost use Rattle.sc_lib.specs.Quiet.{IsQuiet};
+ghost use Rattle.sc_interp.specs.Ends.{EndsSo, Finishes, start_of};
+ghost use Rattle.sc_interp.specs.Steady as steady;
+ghost use Rattle.sc_interp.specs.Steps.{Brings, Steps};
+
+use crate::calls::key_next;
+use crate::drive::{Reached, drive};
+use crate::going::{Caller, Going};
+use sc_base::{Items, Key, Name, NoMemory, Shared, Stack};
+use sc_interp_access::{Breach, Stop, bits};
+use sc_interp_parts::{Text, statics_born};
+use sc_interp_world::World;
+use sc_meaning_values::{Answer, Held};
+use std::alloc::Global;
+
+/// How a run ended: with a status; at an undefined step; as the stack had no room for a call of this function; as one object
+/// too many was born; as the steps were used up; or as no room was left.
+#[derive(Drop)]
+pub enum Ended {
+    Exit(u32),
+    Undefined(Shared<Breach>),
+    StackFull(Shared<Key>),
+    BirthLimit,
+    OutOfSteps,
+    NoRoom,
+}
+
+/// The bytes that the stack and the heap may have, and how many steps a run may take.
+#[derive(Clone, Copy)]
+pub struct Limits {
+    pub stack: u64,
+    pub heap: u64,
+    pub steps: u64,
+}
+
+/// What came of a run: how it ended, and the world at its end, with all that happened.
+#[derive(Drop)]
+pub struct Finished {
+    pub ended: Ended,
+    pub world: World,
+}
+
+// The key of `main`.
+fn main_key(alloc: Global) -> Result<Key, NoMemory>
+    ensures { IfOk result (λ key. key ≡ behaviour.main_key) }
+{
+    let Ok(name) = Name::new(alloc, b"main") else {
+        return Err(NoMemory)
+    };
+    Ok(Key { module: None, name })
+}
+
+/// The status with which the answer of `main` ends the run.
+pub fn status_of(a: &Answer) -> u32
+    ensures { result ≡ behaviour.status_of a.now }
+{
+    match &a.held {
+        Held::Plain(v) => bits(v),
+        Held::Place(_) => 0,
+        Held::Part(_, _) => 0,
+        Held::Nothing => 0,
+    }
+}
+
+/// The call of `main` goes out, behind the births.
+///
+/// # Errors
+///
+/// `U17` where nothing defines `main`, `StackFull`, `BirthLimit`, and what a function of the library ends with.
+pub fn call_main(texts: &[Text], callers: &Stack<Caller>, world: &mut World) -> Result<Going, Stop>
+    ensures { (h : versions.History) → IsQuiet h → Steps (steady.callee_next h behaviour.main_key [] (versions.callee_of texts.now behaviour.main_key) callers.now (worlds.tick world.old)) result callers.now world.new }
+{
+    let alloc = world.alloc();
+    let key = main_key(alloc)?;
+    world.tick()?;
+    let none = Items::new(alloc);
+    key_next(texts, key, none.as_slice(), callers, world)
+}
+
+// `main` is called, and comes back.
+fn main_called(texts: &[Text], steps: u64, world: &mut World) -> Result<Reached, Stop>
+    ensures { (h : versions.History) → IsQuiet h → Brings (steady.ran steps h texts.now (steady.callee_next h behaviour.main_key [] (versions.callee_of texts.now behaviour.main_key) [] (worlds.tick world.old))) result world.new }
+{
+    let mut callers = Stack::new(world.alloc());
+    let going = call_main(texts, &callers, world)?;
+    drive(texts, going, &mut callers, steps, world)
+}
+
+// From the births on.
+fn started(texts: &[Text], steps: u64, world: &mut World) -> Result<Ended, Stop>
+    ensures { (s : behaviour.Start) → s.history ≡ steady.alone texts.now → world.old ≡ behaviour.first_world s → Finishes steps s result world.new }
+{
+    statics_born(texts, world)?;
+    match main_called(texts, steps, world)? {
+        Reached::Answer(a) => {
+            world.tick()?;
+            Ok(Ended::Exit(status_of(&a)))
+        }
+        Reached::Nowhere => Ok(Ended::OutOfSteps),
+    }
+}
+
+// How an end is told.
+fn end_told(given: Result<Ended, Stop>) -> Ended
+    ensures { (steps : ℕ) (s : behaviour.Start) (w : worlds.World) → Finishes steps s given w → EndsSo steps s result w }
+{
+    match given {
+        Ok(end) => end,
+        Err(Stop::NoRoom) => Ended::NoRoom,
+        Err(Stop::Undefined(told)) => Ended::Undefined(told),
+        Err(Stop::Exit(status)) => Ended::Exit(status),
+        Err(Stop::StackFull(key)) => Ended::StackFull(key),
+        Err(Stop::BirthLimit) => Ended::BirthLimit,
+    }
+}
+
+/// A run of a program that does not change, from its start on, in at most so many steps of the machine: how it ends, as the
+/// meaning has it at every bound greater than these steps. Where the steps were used up, the run was not over behind them.
+pub fn run(
+    alloc: Global,
+    texts: &[Text],
+    limits: Limits,
+    input: Items<u8>,
+) -> Result<Finished, NoMemory>
+    ensures { IfOk result (λ r. EndsSo limits.steps (start_of texts.now limits.stack limits.heap input) r.ended r.world) }
+{
+    let mut world = World::new(alloc, limits.stack, limits.heap, input)?;
+    let ended = end_told(started(texts, limits.steps, &mut world));
+    Ok(Finished { ended, world })
+}

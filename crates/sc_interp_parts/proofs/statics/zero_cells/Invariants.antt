@@ -1,0 +1,6 @@
+use Rattle.std.proofs.Common.{◌≡◌, replicate}
+use Rattle.sc_meaning.specs.Values as value
+use Rattle.sc_interp_parts.proofs.statics.zero_cells.Given as goal
+
+abbrev pub invariant-loop : goal.invariant-loop
+invariant-loop l = l.cells ≡ replicate l.counter (value.Byte 0)

@@ -1,0 +1,522 @@
+// The world of a run, and the single changes to it.
+ghost use Rattle.std.specs.Prelude.{◌≡◌, true, false, not, ℕ, ◌+◌, ◌-◌, ◌∷◌, ◌++◌, [], List, length, reverse, IfOk, MatchOption, None, Some, slice_index, slice_set, replicate};
+ghost use Rattle.sc_meaning.specs.Violations.{of_object};
+ghost use Rattle.sc_meaning.specs.World as spec;
+ghost use Rattle.sc_interp_world.specs.Happenings.{item_of};
+ghost use Rattle.sc_interp_world.specs.Outputs.{bytes_moved, output};
+
+use crate::cells::{back, copy_cells, front, unwritten};
+use crate::event::{Change, Event, Item, Showing};
+use crate::names::Names;
+use crate::object::{Born, Cell, Frame, Object};
+use crate::past::Past;
+use sc_base::{Bytes, Duplicate, Items, Key, Kind, Name, NoMemory, Stack};
+use sc_program::StaticId;
+use std::alloc::Global;
+use std::marker::Model;
+use std::snapshot::Snapshot;
+
+/// The classes of the heap's blocks.
+const CLASSES: usize = 29;
+
+/// The world of a run: what is there, and all that happened so far.
+#[derive(Drop)]
+pub struct World {
+    alloc: Global,
+    stack: u64,
+    heap: u64,
+    objects: Vec<Object>,
+    used: u64,
+    free: Items<u64>,
+    made: u64,
+    input: Stack<u8>,
+    seed: u32,
+    frames: Stack<Frame>,
+    names: Names,
+    enters: u64,
+    count: u64,
+    begun: u64,
+    past: Past,
+}
+
+impl Model for World {
+    ghost use Rattle.sc_meaning.specs.World as spec;
+
+    ghost Value = { spec.World };
+
+    ghost view = { λ w. record { stack = w.stack; heap = w.heap; objects = w.objects.items; used = w.used; free = w.free; made = w.made; input = w.input; seed = w.seed; frames = w.frames; names = w.names; enters = w.enters; count = w.count; begun = w.begun; trail = w.past } };
+}
+
+// One more.
+fn more(n: u64) -> Result<u64, NoMemory>
+    ensures { IfOk result (λ m. m ≡ n + 1) }
+{
+    let Some(m) = n.checked_add(1) else {
+        return Err(NoMemory)
+    };
+    Ok(m)
+}
+
+/// The object with a number, counted from 1.
+pub fn object_at(objects: &[Object], id: u32) -> Option<&Object>
+    ensures { MatchOption result (spec.object_at objects.now id ≡ None) (λ o. spec.object_at objects.now id ≡ Some o.now) }
+{
+    if id == 0 {
+        return None;
+    }
+    objects.get(id as usize - 1)
+}
+
+// The innermost call gets a line.
+fn put_line(frames: &mut Stack<Frame>, line: u32) -> Result<(), NoMemory>
+    ensures { IfOk result (λ _. frames.new ≡ spec.on_innermost (λ f. record f { line = line }) frames.old) }
+{
+    if let Some(mut frame) = frames.pop() {
+        frame.line = line;
+        frames.push(frame)?;
+    }
+    Ok(())
+}
+
+// A block is entered in the innermost call.
+fn put_block(frames: &mut Stack<Frame>, born: Born) -> Result<(), NoMemory>
+    ensures { IfOk result (λ _. frames.new ≡ spec.on_innermost (λ f. record f { blocks = f.blocks ++ born ∷ [] }) frames.old) }
+{
+    if let Some(mut frame) = frames.pop() {
+        frame.blocks.push(born)?;
+        frames.push(frame)?;
+    }
+    Ok(())
+}
+
+// The last block of the innermost call is left.
+fn drop_block(frames: &mut Stack<Frame>) -> Result<(), NoMemory>
+    ensures { IfOk result (λ _. frames.new ≡ spec.on_innermost (λ f. record f { blocks = spec.without_last f.blocks }) frames.old) }
+{
+    if let Some(mut frame) = frames.pop() {
+        let kept = frame.blocks.len().saturating_sub(1);
+        frame.blocks.truncate(kept);
+        frames.push(frame)?;
+    }
+    Ok(())
+}
+
+// Another count of free blocks of a class.
+fn put_free(free: &mut Items<u64>, k: u32, n: u64)
+    ensures { free.new ≡ slice_set free.old k n }
+{
+    let k = k as usize;
+    if k < free.len() {
+        free.set(k, n);
+    }
+}
+
+// No class has a free block.
+fn no_block(alloc: Global) -> Result<Items<u64>, NoMemory>
+    ensures { IfOk result (λ free. free ≡ replicate 29 0) }
+{
+    let counts = Vec::from_elem(alloc, 0, CLASSES)?;
+    Ok(Items::from_vec(counts))
+}
+
+impl World {
+    /// A world in which nothing is there yet.
+    pub fn new(alloc: Global, stack: u64, heap: u64, input: Items<u8>) -> Result<World, NoMemory>
+        ensures { IfOk result (λ w. w ≡ record { stack = stack; heap = heap; objects = []; used = 0; free = replicate 29 0; made = 0; input = input; seed = 1; frames = []; names = []; enters = 0; count = 0; begun = 0; trail = [] }) }
+    {
+        let free = no_block(alloc)?;
+        let mut left = Stack::new(alloc);
+        left.push_all(input)?;
+        Ok(World {
+            alloc,
+            stack,
+            heap,
+            objects: Vec::new(alloc),
+            used: 0,
+            free,
+            made: 0,
+            input: left,
+            seed: 1,
+            frames: Stack::new(alloc),
+            names: Names::new(alloc),
+            enters: 0,
+            count: 0,
+            begun: 0,
+            past: Past::new(alloc),
+        })
+    }
+
+    /// The allocator of the run.
+    pub fn alloc(&self) -> Global {
+        self.alloc
+    }
+
+    /// The bytes that the stack may have.
+    pub fn stack(&self) -> u64
+        ensures { result ≡ self.now.stack }
+    {
+        self.stack
+    }
+
+    /// The bytes that the heap may have.
+    pub fn heap(&self) -> u64
+        ensures { result ≡ self.now.heap }
+    {
+        self.heap
+    }
+
+    /// The objects, of which the first has number 1.
+    pub fn objects(&self) -> &[Object]
+        ensures { result.now ≡ self.now.objects }
+    {
+        self.objects.as_slice()
+    }
+
+    /// The bytes of the stack that are used.
+    pub fn used(&self) -> u64
+        ensures { result ≡ self.now.used }
+    {
+        self.used
+    }
+
+    /// The heap's bytes that were made blocks.
+    pub fn made(&self) -> u64
+        ensures { result ≡ self.now.made }
+    {
+        self.made
+    }
+
+    /// How many heap blocks of a class are free.
+    pub fn free_of(&self, k: u32) -> u64
+        ensures { result ≡ spec.free_of self.now.free k }
+    {
+        match self.free.as_slice().get(k as usize) {
+            Some(n) => *n,
+            None => 0,
+        }
+    }
+
+    /// The innermost call.
+    pub fn innermost(&self) -> Option<&Frame>
+        ensures { MatchOption result (self.now.frames ≡ []) (λ top. (below : List spec.Frame) × (self.now.frames ≡ top.now ∷ below)) }
+    {
+        self.frames.top()
+    }
+
+    /// The active calls, from the outermost in.
+    pub fn frames(&self) -> &[Frame]
+        ensures { reverse result.now ≡ self.now.frames }
+    {
+        self.frames.as_slice()
+    }
+
+    /// The object with a name.
+    pub fn named(&self, id: &StaticId) -> Option<u32>
+        ensures { result ≡ spec.named_in self.now.names id.now }
+    {
+        self.names.named(id)
+    }
+
+    /// The object with the name that a key is.
+    pub fn keyed(&self, key: &Key) -> Option<u32>
+        ensures { result ≡ spec.named_in self.now.names (StaticId.Named key.now) }
+    {
+        self.names.keyed(key)
+    }
+
+    /// The object of a module's literal with these bytes.
+    pub fn literal(&self, home: &Name, bytes: &Bytes) -> Option<u32>
+        ensures { result ≡ spec.named_in self.now.names (StaticId.Literal home.now bytes.now) }
+    {
+        self.names.literal(home, bytes)
+    }
+
+    /// How many calls were entered.
+    pub fn enters(&self) -> u64
+        ensures { result ≡ self.now.enters }
+    {
+        self.enters
+    }
+
+    /// How many events passed.
+    pub fn count(&self) -> u64
+        ensures { result ≡ self.now.count }
+    {
+        self.count
+    }
+
+    /// How many statements have begun and not ended.
+    pub fn begun(&self) -> u64
+        ensures { result ≡ self.now.begun }
+    {
+        self.begun
+    }
+
+    /// The next byte of the input.
+    pub fn next_input(&self) -> Option<u8>
+        ensures { MatchOption result (self.now.input ≡ []) (λ b. (rest : List ℕ) × (self.now.input ≡ b ∷ rest)) }
+    {
+        match self.input.top() {
+            None => None,
+            Some(b) => Some(*b),
+        }
+    }
+
+    /// The last random number.
+    pub fn seed(&self) -> u32
+        ensures { result ≡ self.now.seed }
+    {
+        self.seed
+    }
+
+    /// The bytes that were written so far.
+    pub fn output(&self) -> &[u8]
+        ensures { result.now ≡ output self.now.trail }
+    {
+        self.past.written()
+    }
+
+    /// The units of work that were done so far.
+    pub fn work_done(&self) -> u64
+        ensures { result ≡ spec.work self.now.trail }
+    {
+        self.past.work()
+    }
+
+    /// The bytes that births and copies of structures touched so far.
+    pub fn moved(&self) -> u64
+        ensures { result ≡ bytes_moved self.now.trail }
+    {
+        self.past.moved()
+    }
+
+    // The trail keeps what happened.
+    fn keep(&mut self, change: Change) -> Result<(), NoMemory>
+        ensures { IfOk result (λ _. self.new ≡ record self.old { trail = self.old.trail ++ item_of change ∷ [] }) }
+    {
+        let item = Item { change };
+        let kept = self.past.push(&item);
+        drop(item);
+        kept
+    }
+
+    /// Some units of work.
+    pub fn work(&mut self, n: u32) -> Result<(), NoMemory>
+        ensures { IfOk result (λ _. self.new ≡ spec.pass (spec.Work n) self.old) }
+    {
+        self.keep(Change::Work(n))
+    }
+
+    /// One unit of work.
+    pub fn tick(&mut self) -> Result<(), NoMemory>
+        ensures { IfOk result (λ _. self.new ≡ spec.tick self.old) }
+    {
+        self.work(1)
+    }
+
+    /// A statement begins.
+    pub fn begin(&mut self) -> Result<(), NoMemory>
+        ensures { IfOk result (λ _. self.new ≡ spec.pass spec.Begin self.old) }
+    {
+        self.begun = more(self.begun)?;
+        self.keep(Change::Begin)
+    }
+
+    /// A statement ends.
+    pub fn end(&mut self) -> Result<(), NoMemory>
+        ensures { IfOk result (λ _. self.new ≡ spec.pass spec.End self.old) }
+    {
+        self.begun = self.begun.saturating_sub(1);
+        self.keep(Change::End)
+    }
+
+    /// An event passes.
+    pub fn happens(&mut self, event: Event) -> Result<(), NoMemory>
+        ensures { IfOk result (λ _. self.new ≡ spec.pass (spec.Happens event) self.old) }
+    {
+        self.count = more(self.count)?;
+        match &event.showing {
+            Showing::Enter(_, _) => self.enters = more(self.enters)?,
+            Showing::At(_, line, _) => put_line(&mut self.frames, *line)?,
+            Showing::Leave => (),
+            Showing::Out(_) => (),
+        }
+        self.keep(Change::Happens(event))
+    }
+
+    /// An object is born, its bytes unwritten.
+    pub fn birth(&mut self, size: u32, kind: Kind) -> Result<(), NoMemory>
+        ensures { IfOk result (λ _. self.new ≡ spec.pass (spec.Birth size kind) self.old) }
+    {
+        let cells = unwritten(self.alloc, size)?;
+        self.objects.push(Object::living(size, kind, cells))?;
+        self.keep(Change::Birth(size, kind))
+    }
+
+    /// An object dies.
+    pub fn death(&mut self, id: u32) -> Result<(), NoMemory>
+        ensures { IfOk result (λ _. self.new ≡ spec.pass (spec.Death id) self.old) }
+    {
+        end_object(self.alloc, &mut self.objects, id);
+        self.keep(Change::Death(id))
+    }
+
+    /// Bytes are written into an object from an offset on.
+    pub fn put(&mut self, id: u32, at: u32, new: Items<Cell>) -> Result<(), NoMemory>
+        ensures { IfOk result (λ _. self.new ≡ spec.pass (spec.Put id at new) self.old) }
+    {
+        self.keep(Change::Put(id, at, Snapshot::of(&new)))?;
+        write_object(self.alloc, &mut self.objects, id, at, new)
+    }
+
+    /// So many bytes go to an object and offset from an object and offset.
+    pub fn copy(&mut self, to: u32, at: u32, from: u32, off: u32, n: u32) -> Result<(), NoMemory>
+        ensures { IfOk result (λ _. self.new ≡ spec.pass (spec.Copy to at from off n) self.old) }
+    {
+        let Some(cells) = cells_at(self.objects.as_slice(), from, u64::from(off), n) else {
+            return Err(NoMemory)
+        };
+        let moved = copy_cells(self.alloc, cells)?;
+        write_object(self.alloc, &mut self.objects, to, at, moved)?;
+        self.keep(Change::Copy(to, at, from, off, n))
+    }
+
+    /// A free heap block of a class is taken.
+    pub fn take_free(&mut self, k: u32) -> Result<(), NoMemory>
+        ensures { IfOk result (λ _. self.new ≡ spec.pass (spec.TakeFree k) self.old) }
+    {
+        let left = self.free_of(k).saturating_sub(1);
+        put_free(&mut self.free, k, left);
+        self.keep(Change::TakeFree(k))
+    }
+
+    /// A heap block of this size is made and taken.
+    pub fn take_new(&mut self, size: u64) -> Result<(), NoMemory>
+        ensures { IfOk result (λ _. self.new ≡ spec.pass (spec.TakeNew size) self.old) }
+    {
+        let Some(made) = self.made.checked_add(size) else {
+            return Err(NoMemory)
+        };
+        self.made = made;
+        self.keep(Change::TakeNew(size))
+    }
+
+    /// A heap block of a class is given back.
+    pub fn give(&mut self, k: u32) -> Result<(), NoMemory>
+        ensures { IfOk result (λ _. self.new ≡ spec.pass (spec.Give k) self.old) }
+    {
+        let left = more(self.free_of(k))?;
+        put_free(&mut self.free, k, left);
+        self.keep(Change::Give(k))
+    }
+
+    /// So many bytes of the stack are used from here on.
+    pub fn use_stack(&mut self, n: u64) -> Result<(), NoMemory>
+        ensures { IfOk result (λ _. self.new ≡ spec.pass (spec.Stack n) self.old) }
+    {
+        self.used = n;
+        self.keep(Change::Stack(n))
+    }
+
+    /// A byte of the input is read.
+    pub fn read(&mut self) -> Result<(), NoMemory>
+        ensures { IfOk result (λ _. self.new ≡ spec.pass spec.Read self.old) }
+    {
+        let _ = self.input.pop();
+        self.keep(Change::Read)
+    }
+
+    /// The next random number comes from this one.
+    pub fn reseed(&mut self, n: u32) -> Result<(), NoMemory>
+        ensures { IfOk result (λ _. self.new ≡ spec.pass (spec.Seed n) self.old) }
+    {
+        self.seed = n;
+        self.keep(Change::Seed(n))
+    }
+
+    /// A call becomes active.
+    pub fn push(&mut self, frame: Frame) -> Result<(), NoMemory>
+        ensures { IfOk result (λ _. self.new ≡ spec.pass (spec.Push frame) self.old) }
+    {
+        self.keep(Change::Push(Snapshot::of(&frame)))?;
+        self.frames.push(frame)
+    }
+
+    /// The innermost call is no longer active.
+    pub fn pop(&mut self) -> Result<(), NoMemory>
+        ensures { IfOk result (λ _. self.new ≡ spec.pass spec.Pop self.old) }
+    {
+        drop(self.frames.pop());
+        self.keep(Change::Pop)
+    }
+
+    /// A block is entered in the innermost call.
+    pub fn open_block(&mut self, born: Born) -> Result<(), NoMemory>
+        ensures { IfOk result (λ _. self.new ≡ spec.pass (spec.OpenBlock born) self.old) }
+    {
+        self.keep(Change::OpenBlock(Snapshot::of(&born)))?;
+        put_block(&mut self.frames, born)
+    }
+
+    /// The last block of the innermost call is left.
+    pub fn close_block(&mut self) -> Result<(), NoMemory>
+        ensures { IfOk result (λ _. self.new ≡ spec.pass spec.CloseBlock self.old) }
+    {
+        drop_block(&mut self.frames)?;
+        self.keep(Change::CloseBlock)
+    }
+
+    /// An object has this name from here on.
+    pub fn name(&mut self, id: StaticId, object: u32) -> Result<(), NoMemory>
+        ensures { IfOk result (λ _. self.new ≡ spec.pass (spec.Name id object) self.old) }
+    {
+        self.names.put(id.copy(self.alloc)?, object)?;
+        self.keep(Change::Name(id, object))
+    }
+
+    /// No object has this name from here on.
+    pub fn unname(&mut self, id: StaticId) -> Result<(), NoMemory>
+        ensures { IfOk result (λ _. self.new ≡ spec.pass (spec.Unname id) self.old) }
+    {
+        self.names.take(&id);
+        self.keep(Change::Unname(id))
+    }
+}
+
+// An object dies.
+fn end_object(alloc: Global, objects: &mut Vec<Object>, id: u32)
+    ensures { objects.new.items ≡ spec.ended objects.old.items id (spec.object_at objects.old.items id) }
+{
+    if id != 0 && id as usize <= objects.len() {
+        objects[id as usize - 1].end(alloc);
+    }
+}
+
+// Bytes of an object are written.
+fn write_object(
+    alloc: Global,
+    objects: &mut Vec<Object>,
+    id: u32,
+    at: u32,
+    new: Items<Cell>,
+) -> Result<(), NoMemory>
+    ensures { IfOk result (λ _. objects.new.items ≡ spec.written objects.old.items id at new (spec.object_at objects.old.items id)) }
+{
+    if id == 0 || objects.len() < id as usize {
+        return Ok(());
+    }
+    objects[id as usize - 1].write(alloc, at, new)
+}
+
+/// The `n` bytes of an object from an offset on, where it is not dead.
+pub fn cells_at(objects: &[Object], id: u32, at: u64, n: u32) -> Option<&[Cell]>
+    ensures { MatchOption result (of_object false (λ o. not o.live) (spec.object_at objects.now id) ≡ true) (λ cells. cells.now ≡ spec.cells_at objects.now id at n) }
+{
+    match object_at(objects, id) {
+        None => Some(&[]),
+        Some(o) => match o.cells() {
+            None => None,
+            Some(cells) => Some(front(back(cells, at), n)),
+        },
+    }
+}

@@ -1,0 +1,27 @@
+use Rattle.std.proofs.Common.{◌∙◌, ◌==◌, ◌%◌, ap, cond, length, sym}
+use Rattle.std.specs.Prelude.{nat_lt}
+use Rattle.std.specs.Map.{lookup}
+use Rattle.sc_isa_image.specs.Lookups.{key_eq, stub_value, texts_of, value_or}
+use Rattle.sc_isa_image.specs.Stubs.{key_at, stub_word}
+use Rattle.sc_isa_image.specs.Texts.{text_word}
+use Rattle.sc_isa_image.proofs.Functions.{key_at-set_at, length-set_at, value-set_at, word-set_at}
+use Rattle.sc_isa_image.proofs.image.Image.set_word.Goals as goal
+
+pub returns-in-Some-clause-words : goal.returns-in-Some-clause-words
+returns-in-Some-clause-words c = λ q.
+    let fs = c.args.self.now.functions.entries in
+    let r = text_word (texts_of c.args.self.now) q in
+    let s = text_word (texts_of c.args.self.now) c.args.pc in
+    ap (λ xs. cond (nat_lt q 0x00100000) (stub_word xs q) r) c.set_half.ensures.entries
+    ∙ word-set_at fs c.in-Some.n c.args.pc c.args.word q r s c.if-pc-ge-TEXTS.false (sym c.in-Some.ensures) c.requires
+
+pub returns-in-Some-clause-count : goal.returns-in-Some-clause-count
+returns-in-Some-clause-count c = ap length c.set_half.ensures.entries ∙ length-set_at c.args.self.now.functions.entries c.in-Some.n (c.args.pc % 8 == 0) c.args.word
+
+pub returns-in-Some-clause-keys : goal.returns-in-Some-clause-keys
+returns-in-Some-clause-keys c = λ at. ap (λ xs. key_at xs at) c.set_half.ensures.entries ∙ key_at-set_at c.args.self.now.functions.entries c.in-Some.n (c.args.pc % 8 == 0) c.args.word at
+
+pub returns-in-Some-clause-values : goal.returns-in-Some-clause-values
+returns-in-Some-clause-values c = λ k.
+    ap (λ xs. value_or (lookup (key_eq k) c.args.self.now.values.entries) (stub_value (lookup (key_eq k) xs))) c.set_half.ensures.entries
+    ∙ ap (value_or (lookup (key_eq k) c.args.self.now.values.entries)) (value-set_at (key_eq k) c.args.self.now.functions.entries c.in-Some.n (c.args.pc % 8 == 0) c.args.word)

@@ -1,0 +1,13 @@
+use Rattle.std.proofs.Common.{◌∙◌, ap, sym, true, false}
+use Rattle.std.specs.Option.{option_copied_mut}
+use Rattle.sc_isa_image.proofs.Functions.{set_at-is, set_at-past}
+use Rattle.sc_isa_image.proofs.image.set_half.Goals as goal
+
+pub returns-then-first-clause-entries : goal.returns-then-first-clause-entries
+returns-then-first-clause-entries c = rw c.if-first.true (set_at-is c.args.functions.now.entries c.args.n c.in-Some.stub.now true c.args.word c.in-Some.ensures.value)
+
+pub returns-else-first-clause-entries : goal.returns-else-first-clause-entries
+returns-else-first-clause-entries c = rw c.if-first.false (set_at-is c.args.functions.now.entries c.args.n c.in-Some.stub.now false c.args.word c.in-Some.ensures.value)
+
+pub returns-in_default-clause-entries : goal.returns-in_default-clause-entries
+returns-in_default-clause-entries c = set_at-past c.args.functions.now.entries c.args.n c.args.first c.args.word (sym (ap option_copied_mut c.in_default.is) ∙ c.get_index_mut.ensures.value)

@@ -1,0 +1,71 @@
+-- Stubs of functions, and addresses in two parts.
+use Rattle.std.specs.Prelude.{ℕ, zero, suc, Bool, true, false, ◌+◌, ◌-◌, ◌*◌, ◌/◌, ◌%◌, ◌^◌, ◌==◌, nat_lt, if◌then◌else◌, List, [], ◌∷◌, slice_get, Option, Some, None, ℤ, pos}
+use Rattle.std.specs.Option.{option_map}
+use Rattle.sc_base.specs.declared.key.Key.{Key}
+use Rattle.sc_isa.specs.declared.instruction.Instr.TheVariants.{Lui, Jalr, Imm, Ecall}
+use Rattle.sc_isa.specs.declared.instruction.ImmOp.TheVariants.{Addi}
+use Rattle.sc_isa.specs.Table.{word_of}
+use Rattle.sc_isa.specs.Reading.{extend}
+use Rattle.sc_isa_image.specs.declared.stub.Stub.{Stub}
+
+-- the upper 20 bits of an address, one more where its lower 12 bits are taken as negative
+abbrev pub upper_of : ℕ → ℕ
+upper_of at = (at + 2048) % 2 ^ 32 / 2 ^ 12
+
+-- the lower 12 bits with their sign
+abbrev pub lower_of : ℕ → ℤ
+lower_of at = extend 2048 (at % 2 ^ 12)
+
+-- the stub of a function that is not in object form asks for service 1
+abbrev pub call_words : List ℕ
+call_words = word_of (Imm Addi 5 0 (pos 1)) ∷ word_of Ecall ∷ []
+
+-- the stub of a function in object form jumps to its text
+abbrev pub jump_words : ℕ → List ℕ
+jump_words at = word_of (Lui 6 (upper_of at)) ∷ word_of (Jalr 0 6 (lower_of at)) ∷ []
+
+-- the address of a function's stub, by the function's number
+abbrev pub stub_address : ℕ → ℕ
+stub_address n = 0x00010000 + 8 * n
+
+-- the function in whose stub a word at an address stands
+abbrev pub stub_of_word : ℕ → Option ℕ
+stub_of_word pc = if nat_lt pc 0x00010000 then None else if pc % 4 == 0 then Some ((pc - 0x00010000) / 8) else None
+
+-- the functions by their numbers, with their stubs
+abbrev pub Functions : Type 0
+Functions = List (Key × Stub)
+
+abbrev pub function_at : Functions → Option ℕ → Option (Key × Stub)
+function_at functions None = None
+function_at functions (Some n) = slice_get functions n
+
+abbrev pub half : ℕ → Stub → ℕ
+half pc stub = if pc % 8 == 0 then stub.first else stub.second
+
+-- the word at an address in a stub
+abbrev pub stub_word : Functions → ℕ → Option ℕ
+stub_word functions pc = option_map (λ e. half pc e.1) (function_at functions (stub_of_word pc))
+
+-- the function whose stub begins at an address
+abbrev pub key_at : Functions → ℕ → Option Key
+key_at functions at = if at % 8 == 0 then option_map (λ e. e.0) (function_at functions (stub_of_word at)) else None
+
+-- the stub of a new function
+abbrev pub new_stub : ℕ → Stub
+new_stub n = record { value = Some (stub_address n); first = word_of (Imm Addi 5 0 (pos 1)); second = word_of Ecall }
+
+-- what is seen of a function by its number: its key, and the words of its stub
+abbrev pub face : Key × Stub → Key × (ℕ × ℕ)
+face e = (e.0, (e.1.first, e.1.second))
+
+-- a stub with another word in one of its halves
+abbrev pub with_half : Bool → ℕ → Stub → Stub
+with_half true word stub = record stub { first = word }
+with_half false word stub = record stub { second = word }
+
+-- the functions with another word in the stub of one
+abbrev pub set_at : Functions → ℕ → Bool → ℕ → Functions
+set_at [] n first word = []
+set_at (e ∷ es) zero first word = (e.0, with_half first word e.1) ∷ es
+set_at (e ∷ es) (suc n) first word = e ∷ set_at es n first word

@@ -1,7 +1,0 @@
-use Rattle.std.proofs.Common.{◌≡◌, drop}
-use Rattle.sc_laws.specs.Nodes.{arguments}
-use Rattle.sc_laws.proofs.nodes.arguments.Given as goal
-
--- what the rest gives from here is what all give from the beginning
-abbrev pub invariant-loop-i : goal.invariant-loop-i
-invariant-loop-i l = arguments l.structs l.params l.i (drop l.i l.args) ≡ arguments l.structs l.params 0 l.args

@@ -1,0 +1,221 @@
+// The objects of a run.
+ghost use Rattle.std.specs.Prelude.{◌≡◌, ◌+◌, ◌<◌, ◌∷◌, ◌++◌, [], length, IfOk, MatchOption, None, Some};
+ghost use Rattle.sc_objects.specs.declared.objects.Obj.{Obj};
+ghost use Rattle.sc_objects.specs.Numbered.{IsLive};
+ghost use Rattle.sc_mem.specs.Flat.{with_death};
+ghost use Rattle.sc_mem_store.specs.Changes.{changed, item_of};
+ghost use Rattle.sc_meaning.specs.World.{Object, cells_at, ended, fresh, object_at, written};
+
+use crate::bytes::{bytes_at, cell_of};
+use crate::cell::Cell;
+use crate::few::{Few, few_at};
+use crate::history::{Change, History, Item};
+use crate::places::{Places, place_object};
+use crate::span::span_of;
+use sc_base::{Items, Key, Kind, NoMemory, Shared};
+use sc_mem::Memory;
+use sc_objects::Obj;
+use std::alloc::Global;
+use std::marker::Model;
+use std::snapshot::Snapshot;
+
+/// What is known of an object beside its bytes: its size, its kind, and whether it lives.
+#[derive(Clone, Copy, Debug, PartialEq, Eq)]
+pub struct Facts {
+    pub size: u32,
+    pub kind: Kind,
+    pub live: bool,
+}
+
+/// All objects that were born, in one memory: seen as the list of them, the dead ones with the bytes that they had. The
+/// number of an object is its place in the list, counted from 1.
+#[derive(Drop)]
+pub struct Store {
+    alloc: Global,
+    memory: Memory,
+    functions: Items<Shared<Key>>,
+    places: Places,
+    history: History,
+}
+
+impl Model for Store {
+    ghost use Rattle.std.specs.Prelude.{List};
+    ghost use Rattle.sc_meaning.specs.World.{Object};
+
+    ghost Value = { List Object };
+
+    ghost view = { λ s. s.history.objects };
+
+    ghost use Rattle.sc_mem_store.specs.Holding.{Holds};
+
+    ghost invariant = { λ s. Holds s.history.objects s.memory.flat s.functions };
+}
+
+impl Store {
+    ghost use Rattle.sc_mem_store.specs.Holding.{IsInside};
+
+    /// No object is born. The stack and the heap have these bytes.
+    #[tactic(auto, using(crate::proofs::Holding::holds_none))]
+    pub fn new(alloc: Global, stack: u64, heap: u64) -> Result<Store, NoMemory>
+        ensures { IfOk result (λ s. s ≡ []) }
+    {
+        if stack > 16777216 || heap > 67108864 {
+            return Err(NoMemory);
+        }
+        let memory = Memory::new(alloc, stack as u32, heap as u32)?;
+        Ok(Store {
+            alloc,
+            memory,
+            functions: Items::new(alloc),
+            places: Places::new(),
+            history: History::new(),
+        })
+    }
+
+    /// How many objects were born.
+    pub fn len(&self) -> u32
+        ensures { result ≡ length self.now }
+    {
+        self.memory.count()
+    }
+
+    /// The object with a number.
+    #[tactic(auto, using(crate::proofs::Holding::found_held, crate::proofs::Holding::held_nowhere))]
+    pub fn find(&self, id: u32) -> Option<Facts>
+        ensures { MatchOption result (object_at self.now id ≡ None) (λ f. (o : Object) × (object_at self.now id ≡ Some o) × (f.size ≡ o.size) × (f.kind ≡ o.kind) × (f.live ≡ o.live)) }
+    {
+        match self.memory.find(id) {
+            None => None,
+            Some(object) => Some(Facts {
+                size: object.size,
+                kind: object.kind,
+                live: object.live,
+            }),
+        }
+    }
+
+    /// The `n` bytes of a live object from an offset on, of which those outside the object are left out.
+    #[tactic(auto, using(crate::proofs::Reading::read_result))]
+    pub fn cells(&self, id: u32, at: u64, n: u32) -> Result<Items<Cell>, NoMemory>
+        ensures { IfOk result (λ cells. cells ≡ cells_at self.now id at n) }
+    {
+        let span = span_of(&self.memory, id, at, n)?;
+        bytes_at(
+            self.alloc,
+            self.functions.as_slice(),
+            &self.memory,
+            span.base,
+            span.count,
+        )
+    }
+
+    /// The same for at most four bytes, without a list.
+    #[tactic(auto, using(crate::proofs::Reading::read_result))]
+    pub fn few(&self, id: u32, at: u64, n: u32) -> Result<Few, NoMemory>
+        ensures { IfOk result (λ few. few ≡ cells_at self.now id at n) }
+    {
+        let span = span_of(&self.memory, id, at, n)?;
+        few_at(
+            self.functions.as_slice(),
+            &self.memory,
+            span.base,
+            span.count,
+        )
+    }
+
+    /// An object is born, its bytes unwritten.
+    #[tactic(auto, using(crate::proofs::Holding::holds_born))]
+    pub fn birth(&mut self, size: u32, kind: Kind) -> Result<(), NoMemory>
+        ensures { IfOk result (λ _. self.new ≡ self.old ++ fresh size kind ∷ []) }
+    {
+        place_object(&mut self.memory, &mut self.places, size, kind)?;
+        self.history = after(&self.history, Change::Birth(size, kind));
+        Ok(())
+    }
+
+    /// A live object dies.
+    #[tactic(auto, using(crate::proofs::Holding::holds_ended, crate::proofs::Holding::held_nowhere))]
+    pub fn death(&mut self, id: u32) -> Result<(), NoMemory>
+        ensures { IfOk result (λ _. self.new ≡ ended self.old id (object_at self.old id)) }
+    {
+        let Some(object) = self.memory.find(id) else {
+            return Ok(());
+        };
+        if !object.live {
+            return Err(NoMemory);
+        }
+        end_object(&mut self.memory, id, object);
+        self.places.leave(object);
+        self.history = after(&self.history, Change::Death(id));
+        Ok(())
+    }
+
+    // A byte is written into a live object.
+    #[tactic(auto, using(crate::proofs::Holding::holds_put, crate::proofs::Holding::holds_grown))]
+    fn put_byte(&mut self, id: u32, at: u32, cell: &Cell) -> Result<(), NoMemory>
+        ensures put { IfOk result (λ _. self.new ≡ written self.old id at (cell.now ∷ []) (object_at self.old id)) }
+        ensures inside { IfOk result (λ _. IsInside self.old id at) }
+    {
+        let Some(object) = self.memory.find(id) else {
+            return Err(NoMemory);
+        };
+        if !object.live || object.size <= at {
+            return Err(NoMemory);
+        }
+        let Some(address) = object.base.checked_add(at) else {
+            return Err(NoMemory);
+        };
+        let stored = cell_of(&mut self.functions, &self.memory, cell)?;
+        let Some(()) = self.memory.set_cell(address, stored) else {
+            return Err(NoMemory);
+        };
+        self.history = after(&self.history, Change::Put(id, at, Snapshot::of(cell)));
+        Ok(())
+    }
+
+    /// Bytes are written into a live object from an offset on.
+    #[tactic(auto, using(crate::proofs::Writing::put_nothing, crate::proofs::Writing::put_step, crate::proofs::Writing::put_all))]
+    pub fn put(&mut self, id: u32, at: u32, cells: &[Cell]) -> Result<(), NoMemory>
+        ensures { IfOk result (λ _. self.new ≡ written self.old id at cells.now (object_at self.old id)) }
+    {
+        let mut next = at;
+        for cell in cells {
+            self.put_byte(id, next, cell)?;
+            let Some(further) = next.checked_add(1) else {
+                return Err(NoMemory);
+            };
+            next = further;
+        }
+        Ok(())
+    }
+
+    /// So many bytes go to a live object and offset from a live object and offset, as if by way of another place.
+    pub fn copy(&mut self, to: u32, at: u32, from: u32, off: u32, n: u32) -> Result<(), NoMemory>
+        ensures { IfOk result (λ _. self.new ≡ written self.old to at (cells_at self.old from off n) (object_at self.old to)) }
+    {
+        let cells = self.cells(from, u64::from(off), n)?;
+        self.put(to, at, cells.as_slice())
+    }
+}
+
+// The objects after a change.
+fn after(history: &History, change: Change) -> History
+    ensures { result.objects ≡ changed history.now.objects (item_of change) }
+{
+    let item = Item { change };
+    let changed = History::with(history, &item);
+    drop(item);
+    changed
+}
+
+// A live object dies, and its block is given back where it is allocated.
+fn end_object(memory: &mut Memory, id: u32, object: Obj)
+    requires { IsLive memory.old.flat.objects id object }
+    ensures { memory.new.flat ≡ with_death memory.old.flat id }
+{
+    memory.death(id);
+    match object.kind {
+        Kind::Heap => memory.give(object.base),
+        Kind::Static | Kind::Const | Kind::Literal | Kind::Auto => (),
+    }
+}

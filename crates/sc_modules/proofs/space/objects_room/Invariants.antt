@@ -1,6 +1,0 @@
-use Rattle.std.proofs.Common.{◌≡◌, ◌+◌, drop}
-use Rattle.sc_modules.specs.Spaces as spec
-use Rattle.sc_modules.proofs.space.objects_room.Given as goal
-
-abbrev pub invariant-loop-o : goal.invariant-loop-o
-invariant-loop-o l = l.total + spec.objects_room l.structs (drop l.o-index l.objects) ≡ spec.objects_room l.structs l.objects

@@ -1,0 +1,9 @@
+-- What is left to be taken away is what was to be.
+use Rattle.std.proofs.Common.{◌≡◌, drop}
+use Rattle.sc_parse_names.proofs.latest.Latest.leave.Given as goal
+
+abbrev pub invariant-loop-left : goal.invariant-loop-left
+invariant-loop-left l = drop l.left l.self ≡ drop l.count l.fn.self
+
+abbrev pub decreases-loop-left : goal.decreases-loop-left
+decreases-loop-left l = l.left

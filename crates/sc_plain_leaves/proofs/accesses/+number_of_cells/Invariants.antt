@@ -1,5 +1,0 @@
-use Rattle.std.proofs.Common.{length}
-use Rattle.sc_plain_leaves.proofs.accesses.+number_of_cells.Given as goal
-
-abbrev pub decreases-number_of_cells : goal.decreases-number_of_cells
-decreases-number_of_cells l = length l.cells.now

@@ -1,8 +1,0 @@
-use Rattle.sc_ops.specs.Operators.{rule_of, value_of}
-use Rattle.sc_plain_leaves.proofs.Operations.{answered}
-use Rattle.sc_plain_leaves.proofs.operators.operated.Goals as goal
-
-pub returns : goal.returns
-returns c =
-    rw c.arith.ensures
-    (answered (rule_of c.args.op c.args.i c.args.a c.args.b) (value_of c.args.op c.args.i c.args.a c.args.b))

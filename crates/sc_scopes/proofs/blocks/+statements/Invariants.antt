@@ -1,8 +1,0 @@
-use Rattle.std.proofs.Common.{◌≡◌, ◌++◌, drop, map}
-use Rattle.sc_scopes.specs.Names.{joined}
-use Rattle.sc_scopes.specs.Scopes as spec
-use Rattle.sc_scopes.proofs.blocks.+statements.Given as goal
-
-abbrev pub invariant-put_statements-loop-s : goal.invariant-put_statements-loop-s
-invariant-put_statements-loop-s l =
-    l.scopes.items ++ joined (map spec.statement_scopes (drop l.s-index l.statements)) ≡ l.fn.scopes.items ++ joined (map spec.statement_scopes l.statements)

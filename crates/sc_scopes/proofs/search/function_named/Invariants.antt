@@ -1,6 +1,0 @@
-use Rattle.std.proofs.Common.{◌≡◌, drop}
-use Rattle.sc_scopes.specs.Scopes as spec
-use Rattle.sc_scopes.proofs.search.function_named.Given as goal
-
-abbrev pub invariant-loop-f : goal.invariant-loop-f
-invariant-loop-f l = spec.function_named (drop l.f-index l.functions) l.name ≡ spec.function_named l.functions l.name

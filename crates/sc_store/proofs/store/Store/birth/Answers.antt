@@ -1,8 +1,0 @@
-use Rattle.sc_store.proofs.Holding.{holds_born}
-use Rattle.sc_store.proofs.store.Store.birth.Goals as goal
-
-pub invariant_of-self-2 : goal.invariant_of-self-2
-invariant_of-self-2 c =
-    let s = c.self.inside in
-    rw c.after-self-inside.ensures
-    (holds_born s.history.objects s.memory c.place_object.new.memory.flat s.functions c.args.size c.args.kind c.place_object.ensures.safe c.self.invariant c.in_ok-place_object.ensures.birth)
