@@ -24,8 +24,8 @@ use Rattle.sc_interp.specs.declared.drive.Reached.TheVariants as reached
 use Rattle.sc_interp.specs.declared.stepped.Stepped.{Stepped}
 use Rattle.sc_interp.specs.Shows.{shown, entry_shown, StepsTo}
 use Rattle.sc_interp.specs.Steps.{Brings, Steps, is_over}
-use Rattle.sc_interp.specs.declared.running.Ended.{Ended}
-use Rattle.sc_interp.specs.declared.running.Ended.TheVariants as ended
+use Rattle.sc_interp_access.specs.declared.ended.Ended.{Ended}
+use Rattle.sc_interp_access.specs.declared.ended.Ended.TheVariants as ended
 use Rattle.sc_interp.specs.Ends.{Finishes}
 use Rattle.sc_interp.specs.Steady as steady
 use Rattle.sc_interp.specs.Steady.{alone}

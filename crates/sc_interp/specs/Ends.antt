@@ -7,8 +7,8 @@ use Rattle.sc_meaning.specs.Changes.{statics_born}
 use Rattle.sc_meaning.specs.Behaviour.{Start, ending, first_world, main_key}
 use Rattle.sc_interp_access.specs.declared.stop.Stop.{Stop}
 use Rattle.sc_interp_access.specs.Gives.{ending_of}
-use Rattle.sc_interp.specs.declared.running.Ended.{Ended}
-use Rattle.sc_interp.specs.declared.running.Ended.TheVariants as ended
+use Rattle.sc_interp_access.specs.declared.ended.Ended.{Ended}
+use Rattle.sc_interp_access.specs.declared.ended.Ended.TheVariants as ended
 use Rattle.sc_interp.specs.Steady.{alone, callee_next, ran}
 use Rattle.sc_interp.specs.Steps.{is_over}
 

@@ -12,23 +12,12 @@ use crate::calls::key_next;
 use crate::drive::{Reached, drive};
 use crate::going::{Caller, Going};
 use sc_base::{Items, Key, Name, NoMemory, Shared, Stack};
-use sc_interp_access::{Breach, Stop, bits};
-use sc_interp_parts::{Text, statics_born};
+use sc_core_held::Text;
+use sc_interp_access::{Ended, Stop, bits};
+use sc_interp_parts::statics_born;
 use sc_interp_world::World;
 use sc_meaning_values::{Answer, Held};
 use std::alloc::Global;
-
-/// How a run ended: with a status; at an undefined step; as the stack had no room for a call of this function; as one object
-/// too many was born; as the steps were used up; or as no room was left.
-#[derive(Drop)]
-pub enum Ended {
-    Exit(u32),
-    Undefined(Shared<Breach>),
-    StackFull(Shared<Key>),
-    BirthLimit,
-    OutOfSteps,
-    NoRoom,
-}
 
 /// The bytes that the stack and the heap may have, and how many steps a run may take.
 #[derive(Clone, Copy)]

@@ -4,7 +4,7 @@ use sc_base::{Bytes, Duplicate, Form, Int, Items, Key, Name, NoMemory, Op, Share
 use sc_core::{
     Auto, AutoInit, Core, CoreExpr, CoreStmt, Fun, Init, StaticObj, Step, UnaryOperator,
 };
-use sc_interp_parts::Text;
+use sc_core_held::Text;
 use sc_program::{Slot, StaticId};
 use sc_types::{CType, Member, Signature, Structs};
 use std::alloc::Global;

@@ -1,8 +1,8 @@
 // Worked programs that stop and go on, with the places where they halt.
 use crate::reader::{Reader, name};
 use sc_base::{Items, NoMemory};
-use sc_interp::Ended;
-use sc_interp_parts::Text;
+use sc_core_held::Text;
+use sc_interp_access::Ended;
 use sc_outside::MemSink;
 use sc_words::{StopAt, Walk};
 use sc_world::{Halt, Run};

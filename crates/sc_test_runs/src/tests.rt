@@ -1,8 +1,8 @@
 // Worked programs, as typed trees, with what they show.
 use crate::reader::Reader;
 use sc_base::{Items, Key, NoMemory, Rule};
-use sc_interp::{Ended, Finished, Limits, run};
-use sc_interp_access::Breach;
+use sc_interp::{Finished, Limits, run};
+use sc_interp_access::{Breach, Ended};
 use sc_interp_world::World;
 use sc_meaning_values::{Shape, Value};
 use std::alloc::Global;

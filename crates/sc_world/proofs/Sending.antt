@@ -16,7 +16,7 @@ use Rattle.sc_interp.specs.Steady.{alone, advance}
 use Rattle.sc_interp.specs.declared.going.Going.{Going}
 use Rattle.sc_interp.specs.declared.stepped.Shown.{Shown}
 use Rattle.sc_interp.specs.declared.stepped.Shown.TheVariants.{Nothing}
-use Rattle.sc_interp.specs.declared.running.Ended.{Ended}
+use Rattle.sc_interp_access.specs.declared.ended.Ended.{Ended}
 use Rattle.sc_interp.specs.Ends.{end_of}
 use Rattle.sc_interp.proofs.Unchanged.{quiet, present, same_step}
 use Rattle.sc_interp_access.specs.declared.stop.Stop.{Stop}

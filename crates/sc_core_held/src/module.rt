@@ -3,7 +3,7 @@ ghost use Rattle.std.specs.Prelude.{◌≡◌, Some, None, MatchOption, IfOk};
 ghost use Rattle.std.specs.HashMap.{get};
 ghost use Rattle.std.specs.Str.{bytes_eq};
 ghost use Rattle.sc_core.specs.Modules as spec;
-ghost use Rattle.sc_interp_parts.specs.Finding.{Adds, Finds};
+ghost use Rattle.sc_core_held.specs.Finding.{Adds, Finds};
 
 use sc_base::{Duplicate, Name, NoMemory, Shared};
 use sc_core::{Core, Fun};
@@ -27,7 +27,7 @@ impl Model for Indexed {
     ghost use Rattle.sc_core.specs.contracts.expression.CoreExpr as expressions;
     ghost use Rattle.sc_core.specs.contracts.statement.CoreStmt as statements;
     ghost use Rattle.sc_core.specs.declared.module.Core.{Core};
-    ghost use Rattle.sc_interp_parts.specs.Finding.{Finds};
+    ghost use Rattle.sc_core_held.specs.Finding.{Finds};
 
     ghost Value = { Core };
 

@@ -1,6 +1,6 @@
 -- The form of a type of the library, as the meaning has it.
-use Rattle.sc_interp_parts.specs.declared.library.TypeForm.{TypeForm}
-use Rattle.sc_interp_parts.specs.declared.library.TypeForm.TheVariants as form
+use Rattle.sc_core_held.specs.declared.library.TypeForm.{TypeForm}
+use Rattle.sc_core_held.specs.declared.library.TypeForm.TheVariants as form
 use Rattle.sc_meaning.specs.Signatures.{Shape, ToNone, ToInt, ToVoid, ToText}
 
 abbrev pub form_of : TypeForm → Shape

@@ -1,6 +1,6 @@
 use Rattle.std.proofs.Common.{◌≡◌, ◌≤◌, drop, take, length}
-use Rattle.sc_session_show.specs.Numbers as spec
-use Rattle.sc_session_show.proofs.numbers.mention_all.Given as goal
+use Rattle.sc_core_held.specs.Numbers as spec
+use Rattle.sc_core_held.proofs.numbers.mention_all.Given as goal
 
 -- what is to come decides, and the keys that were there stay in front
 abbrev pub invariant-loop-d : goal.invariant-loop-d

@@ -2,12 +2,12 @@
 ghost use Rattle.std.specs.Prelude.{◌≡◌, [], length, take, OnOk, OnErr};
 ghost use Rattle.sc_types.specs.declared.ctype.CType.{out-CType};
 ghost use Rattle.indexmap.specs.IndexSet.{insert_key};
-ghost use Rattle.sc_session_show.specs.Numbers as spec;
+ghost use Rattle.sc_core_held.specs.Numbers as spec;
 
+use crate::library::library_fun;
 use indexmap::IndexSet;
 use sc_base::{Duplicate, Key, NoMemory};
 use sc_core::{Core, Declared};
-use sc_interp_parts::library_fun;
 use sc_types::CType;
 use std::alloc::Global;
 use std::marker::Model;
@@ -54,7 +54,7 @@ fn takes_number(d: &Declared) -> bool
 }
 
 /// Puts a key behind some others, where it is not among them.
-pub(crate) fn insert(keys: &mut IndexSet<Key>, key: Key) -> Result<(), NoMemory>
+pub fn insert_key(keys: &mut IndexSet<Key>, key: Key) -> Result<(), NoMemory>
     ensures ok { OnOk result (keys.new.keys ≡ insert_key spec.key_eq keys.old.keys key) }
     ensures err { OnErr result (keys.new.keys ≡ keys.old.keys) }
 {
@@ -74,7 +74,7 @@ fn mention_all(
 {
     for d in declared {
         if takes_number(d) {
-            insert(keys, d.key.copy(alloc)?)?;
+            insert_key(keys, d.key.copy(alloc)?)?;
         }
     }
     Ok(())

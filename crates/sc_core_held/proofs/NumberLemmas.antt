@@ -5,7 +5,7 @@ use Rattle.std.specs.List.{list_any}
 use Rattle.std.proofs.lemmas.List.{take-append-le, length-append}
 use Rattle.indexmap.specs.IndexSet.{insert_key}
 use Rattle.sc_base.specs.declared.key.Key.{Key}
-use Rattle.sc_session_show.specs.Numbers.{key_eq}
+use Rattle.sc_core_held.specs.Numbers.{key_eq}
 
 module _ (old keys : List Key) (key : Key) (front : take (length old) keys ≡ old) (long : length old ≤ length keys) where
   front_by : (b : Bool) → take (length old) (if b then keys else keys ++ key ∷ []) ≡ old

@@ -3,7 +3,7 @@ ghost use Rattle.std.specs.Prelude.{◌≡◌, IfOk, MatchOption, None, Some};
 ghost use Rattle.sc_core.specs.Modules as modules;
 ghost use Rattle.sc_meaning.specs.Names as names;
 ghost use Rattle.sc_meaning.specs.Versions as spec;
-ghost use Rattle.sc_interp_parts.specs.Found.{callee_found};
+ghost use Rattle.sc_core_held.specs.Found.{callee_found};
 
 use crate::library::library_fun;
 use crate::module::Module;

@@ -4,7 +4,7 @@ ghost use Rattle.sc_types.specs.declared.ctype.CType.{out-CType};
 ghost use Rattle.sc_meaning.specs.Names as names;
 ghost use Rattle.sc_meaning.specs.Signatures as spec;
 ghost use Rattle.sc_types.specs.Compatibility as compatibility;
-ghost use Rattle.sc_interp_parts.specs.Forms.{form_of};
+ghost use Rattle.sc_core_held.specs.Forms.{form_of};
 
 use sc_base::{Int, Name};
 use sc_meaning::LibFun;

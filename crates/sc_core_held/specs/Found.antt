@@ -1,6 +1,6 @@
 -- What the program found, as the meaning has it.
-use Rattle.sc_interp_parts.specs.declared.text.Callee.{Callee as Found}
-use Rattle.sc_interp_parts.specs.declared.text.Callee.TheVariants as found
+use Rattle.sc_core_held.specs.declared.text.Callee.{Callee as Found}
+use Rattle.sc_core_held.specs.declared.text.Callee.TheVariants as found
 use Rattle.sc_meaning.specs.Versions.{Callee, Missing, InText, InLibrary}
 
 abbrev pub callee_found : Found → Callee
