@@ -10,14 +10,14 @@ use Rattle.sc_core.specs.declared.statement.CoreStmt.TheOpen.{CoreStmt-F}
 use Rattle.sc_core.specs.declared.statement.SwitchLabel.{SwitchLabel}
 use Rattle.sc_core.specs.Types.{type_of}
 use Rattle.sc_meaning.specs.Values.{Value, scalar_size}
-use Rattle.sc_meaning.specs.World.{World, Born, pass, Work, Begin, OpenBlock, tick}
+use Rattle.sc_meaning.specs.World.{World, Born, pass, Work, Begin, Declares, OpenBlock, tick}
 use Rattle.sc_meaning.specs.Outcomes.{Outcome, Done, Over, Ending, and_then, went}
 use Rattle.sc_meaning.specs.Violations.{bits}
 use Rattle.sc_meaning.specs.Accesses.{tested, set_at}
 use Rattle.sc_meaning.specs.Versions.{History}
 use Rattle.sc_meaning.specs.Changes.{reached}
 use Rattle.sc_meaning.specs.Expressions.{Env, Answer, Plain, Nothing, used, valued, automatic_in, either}
-use Rattle.sc_meaning.specs.Statements.{label_next as next_label, holds, Way, Normal, Broke, Continued, Jumped, Returned, place_in, jumped_to, after_list, list_of, resume_of, ended, born_autos, block_autos, with_block, after_stmt, stmts_of, block_ended, block_with, block_of, initial_structure, initial, initials, condition, condition_at, optional, label_of, body_from, landed, after_switch, after_turn, discarded, discarded_if, first_of, turn_of, returned, stmt_of, stmt_begun}
+use Rattle.sc_meaning.specs.Statements.{label_next as next_label, holds, Way, Normal, Broke, Continued, Jumped, Returned, place_in, jumped_to, after_list, list_of, resume_of, ended, born_autos, block_autos, with_block, after_stmt, stmts_of, block_ended, block_with, block_of, id_of, initial_structure, initial, initials, condition, condition_at, optional, label_of, body_from, landed, after_switch, after_turn, discarded, discarded_if, first_of, turn_of, returned, stmt_of, stmt_begun}
 use Rattle.sc_meaning.specs.Calls.{eval, exec, turn, resume}
 use Rattle.sc_interp_machine.specs.Machine as expr
 use Rattle.sc_interp_machine.specs.Means as past
@@ -272,7 +272,8 @@ module _ (h : History) (n : ℕ) (out : Outcome Way) where
   stmt_sim : (m : ℕ) → n ≤ m → (s : CoreStmt) (x : CoreStmt-F CoreStmt) (ss : List Pending) (env : Env) (w : World) → After h (suc n) ss env (stmt_of h (eval m h) (exec m h) (turn m h) (resume m h) env s x w) out → Comes h n (stmt_next s x ss env w) out
   stmt_sim m le s (CoreStmt-F.Block l b ls qs) ss env w p = enters_sim m le s b qs ss env w p
   stmt_sim m le s (CoreStmt-F.Initialize l b i is) ss env w p =
-      lines_sim ss env (reached h l w) (λ w. pieces_of (eval m h) env (automatic_in env.blocks b i) is w) (Pieces (automatic_in env.blocks b i) is) ss (λ w p. (m, le, weak ss env _ p)) p
+      let q : Value = automatic_in env.blocks b i in
+      lines_sim ss env (reached h l (pass (Declares (id_of q)) w)) (λ w. pieces_of (eval m h) env q is w) (Pieces q is) ss (λ w p. (m, le, weak ss env _ p)) p
   stmt_sim m le s (CoreStmt-F.Empty l) ss env w p = jump_sim m le l Normal ss env w p
   stmt_sim m le s (CoreStmt-F.Expression l e) ss env w p =
       lines_sim ss env (reached h l w) (λ w. and_then (discarded (eval m h) env e w) (λ _ w. ended Normal w)) (within e Discard) ss

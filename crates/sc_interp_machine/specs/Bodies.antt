@@ -10,7 +10,7 @@ use Rattle.sc_core.specs.declared.statement.CoreStmt.TheOpen.{CoreStmt-F}
 use Rattle.sc_core.specs.declared.statement.SwitchLabel.{SwitchLabel}
 use Rattle.sc_core.specs.Types.{type_of}
 use Rattle.sc_meaning.specs.Values.{Value, scalar_size}
-use Rattle.sc_meaning.specs.World.{World, Born, pass, Work, Begin, End as Ends, OpenBlock, CloseBlock, tick}
+use Rattle.sc_meaning.specs.World.{World, Born, pass, Work, Begin, End as Ends, Declares, OpenBlock, CloseBlock, tick}
 use Rattle.sc_meaning.specs.Outcomes.{Outcome, Done, Over, Ending}
 use Rattle.sc_meaning.specs.Violations.{bits}
 use Rattle.sc_meaning.specs.Accesses.{tested, set_at}
@@ -83,9 +83,12 @@ abbrev pub return_next : ℕ → Option CoreExpr → List Pending → Env → Wo
 return_next l None ss env w = Lines l (Leave (Returned Nothing)) (End ∷ ss) env w
 return_next l (Some e) ss env w = Lines l (within e Return) ss env w
 
+abbrev pub declares_next : ℕ → Value → List AutoInit → List Pending → Env → World → Advanced
+declares_next l p pieces ss env w = Lines l (Pieces p pieces) ss env (pass (Declares (id_of p)) w)
+
 abbrev pub stmt_next : CoreStmt → CoreStmt-F CoreStmt → List Pending → Env → World → Advanced
 stmt_next s (CoreStmt-F.Block l b ls qs) ss env w = enters s b qs ss env w
-stmt_next s (CoreStmt-F.Initialize l b i pieces) ss env w = Lines l (Pieces (automatic_in env.blocks b i) pieces) ss env w
+stmt_next s (CoreStmt-F.Initialize l b i pieces) ss env w = declares_next l (automatic_in env.blocks b i) pieces ss env w
 stmt_next s (CoreStmt-F.Empty l) ss env w = Lines l (Leave Normal) (End ∷ ss) env w
 stmt_next s (CoreStmt-F.Expression l e) ss env w = Lines l (within e Discard) ss env w
 stmt_next s (CoreStmt-F.If l e a b) ss env w = Lines l (within e (If (type_of e) a b)) ss env w

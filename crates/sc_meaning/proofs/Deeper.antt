@@ -4,7 +4,7 @@ use Rattle.sc_base.specs.declared.key.Key.{Key}
 use Rattle.sc_core.specs.declared.expression.CoreExpr.{CoreExpr, out-CoreExpr}
 use Rattle.sc_core.specs.declared.statement.CoreStmt.{CoreStmt, out-CoreStmt}
 use Rattle.sc_meaning.specs.Values.{Value}
-use Rattle.sc_meaning.specs.World.{World, tick, Work}
+use Rattle.sc_meaning.specs.World.{World, pass, GoesOut, ComesBack}
 use Rattle.sc_meaning.specs.Outcomes.{Outcome, Done, Over, Breach, Ending, Undefined, Exit, StackFull, BirthLimit, OutOfFuel, and_then, world_at, world_after}
 use Rattle.sc_meaning.specs.Versions.{History, version_at, callee_of}
 use Rattle.sc_meaning.specs.Changes.{settled}
@@ -96,7 +96,8 @@ module _ (h : History) where
 -- a run as a whole
 main_more : (n m : ℕ) → n ≤ m → (h : History) (w : World) → Extending.Rel w (main_called n h w) (main_called m h w)
 main_more n m le h w =
-    Extending.bind w (call n h main_key [] (tick w)) (call m h main_key [] (tick w)) _ _ (after_one Extending (Work 1) w (call n h main_key [] (tick w)) (call m h main_key [] (tick w)) (calls_more h n m le main_key [] (tick w))) (λ a v. passes Extending a (Work 1) v)
+    let v : World = pass GoesOut w in
+    Extending.bind w (call n h main_key [] v) (call m h main_key [] v) _ _ (after_one Extending GoesOut w (call n h main_key [] v) (call m h main_key [] v) (calls_more h n m le main_key [] v)) (λ a u. passes Extending a ComesBack u)
 
 started_more : (n m : ℕ) → n ≤ m → (s : Start) → Extending.Rel (first_world s) (started n s) (started m s)
 started_more n m le s =

@@ -6,13 +6,13 @@ use Rattle.sc_core.specs.declared.statement.CoreStmt.{CoreStmt, out-CoreStmt}
 use Rattle.sc_core.specs.declared.statement.CoreStmt.TheOpen.{CoreStmt-F}
 use Rattle.sc_core.specs.declared.module.Fun.{Fun}
 use Rattle.sc_meaning.specs.Values.{Value}
-use Rattle.sc_meaning.specs.World.{World, Born, Enter, Leave, pass, OpenBlock, Begin, Push, Pop, Stack}
+use Rattle.sc_meaning.specs.World.{World, Born, Enter, Leave, pass, OpenBlock, Begin, Declares, Push, Pop, Stack}
 use Rattle.sc_meaning.specs.Outcomes.{Outcome}
 use Rattle.sc_meaning.specs.Violations.{bits}
 use Rattle.sc_meaning.specs.Versions.{Text, History, Callee, Missing, InText, InLibrary, callee_of, version_at}
 use Rattle.sc_meaning.specs.Changes.{happened, reached}
 use Rattle.sc_meaning.specs.Expressions.{Env, Eval, valued, begun, automatic_in, either}
-use Rattle.sc_meaning.specs.Statements.{Way, Normal, Broke, Continued, Jumped, Returned, Exec, Resume, place_in, jumped_to, after_list, list_of, resume_of, ended, born_autos, all_dead, block_autos, with_block, after_stmt, stmts_of, block_ended, block_with, block_of, initials, condition_at, optional, label_of, body_from, landed, after_switch, after_turn, discarded, discarded_if, first_of, holds, turn_of, returned, stmt_of, stmt_begun}
+use Rattle.sc_meaning.specs.Statements.{Way, Normal, Broke, Continued, Jumped, Returned, Exec, Resume, place_in, jumped_to, after_list, list_of, resume_of, ended, born_autos, all_dead, block_autos, with_block, after_stmt, stmts_of, block_ended, block_with, block_of, id_of, initials, condition_at, optional, label_of, body_from, landed, after_switch, after_turn, discarded, discarded_if, first_of, holds, turn_of, returned, stmt_of, stmt_begun}
 use Rattle.sc_meaning.specs.Calls.{parameters, frame_of, answer_of, left, body_of, entered, call_of, eval, exec, turn, resume, call}
 use Rattle.sc_meaning.specs.Integers.{is_place_layer, WholeTo, IsWhole, Every, Optionally, returns_layer, ReturnsTo, ReturnsWhole, AreWhole, IsNumber, IsInteger, Gives}
 use Rattle.sc_meaning.proofs.Numbers.{then_, by_, either_, used_number}
@@ -146,7 +146,9 @@ module _ (h : History) (ev : Eval) (ex tu : Exec) (ig : (env : Env) (e : CoreExp
 
   pub stmt_gives : (env : Env) (s : CoreStmt) (x : CoreStmt-F CoreStmt) (w : World) → ((k : ℕ) → returns_layer k (ReturnsTo k) x) → ReturnsWhole s → Gives Gone (stmt_of h ev ex tu ra env s x w)
   stmt_gives env s (CoreStmt-F.Block l b ls ss) w q r = block_gone env s b ss w r q
-  stmt_gives env s (CoreStmt-F.Initialize l b i items) w q r = then_ Gone (reached h l w) _ (λ x u. then_ Gone (initials ev env (automatic_in env.blocks b i) items u) _ (λ y v. tt))
+  stmt_gives env s (CoreStmt-F.Initialize l b i items) w q r =
+      let p : Value = automatic_in env.blocks b i in
+      then_ Gone (reached h l (pass (Declares (id_of p)) w)) _ (λ x u. then_ Gone (initials ev env p items u) _ (λ y v. tt))
   stmt_gives env s (CoreStmt-F.Empty l) w q r = then_ Gone (reached h l w) _ (λ x u. tt)
   stmt_gives env s (CoreStmt-F.Expression l e) w q r = then_ Gone (reached h l w) _ (λ x u. then_ Gone (discarded ev env e u) _ (λ y v. tt))
   stmt_gives env s (CoreStmt-F.If l e a b) w q r =

@@ -10,14 +10,14 @@ use Rattle.sc_core.specs.declared.statement.CoreStmt.TheOpen.{CoreStmt-F}
 use Rattle.sc_core.specs.declared.statement.SwitchLabel.{SwitchLabel}
 use Rattle.sc_core.specs.Types.{type_of}
 use Rattle.sc_meaning.specs.Values.{Value, Byte, scalar_size}
-use Rattle.sc_meaning.specs.World.{World, Born, pass, Work, Begin, End, Death, Put, OpenBlock, CloseBlock, tick}
+use Rattle.sc_meaning.specs.World.{World, Item, Born, pass, Work, Begin, End, Declares, Death, Put, OpenBlock, CloseBlock, tick}
 use Rattle.sc_meaning.specs.Outcomes.{Outcome, Done, and_then}
 use Rattle.sc_meaning.specs.Violations.{bits, reach_rule}
 use Rattle.sc_meaning.specs.Accesses.{set_at, copy_at}
 use Rattle.sc_meaning.specs.Versions.{History}
 use Rattle.sc_meaning.specs.Changes.{born, at_line, reached}
 use Rattle.sc_meaning.specs.Expressions.{Env, Answer, Plain, Nothing, Eval, Call, valued, base_of, further_of, automatic_in}
-use Rattle.sc_meaning.specs.Statements.{Way, Normal, Broke, Continued, Jumped, Returned, Exec, Resume, place_in, jumped_to, after_list, list_of, resume_of, ended, auto_kind, born_autos, all_dead, block_autos, with_block, after_stmt, stmts_of, block_ended, block_with, block_of, set_bytes, id_of, initial_structure, initial, initials, condition, condition_at, optional, label_next, label_of, body_from, landed, after_switch, after_turn, discarded, discarded_if, first_of, holds, turn_of, returned, stmt_of}
+use Rattle.sc_meaning.specs.Statements.{Way, Normal, Broke, Continued, Jumped, Returned, Exec, Resume, place_in, jumped_to, after_list, list_of, resume_of, ended, auto_kind, born_autos, all_dead, block_autos, with_block, after_stmt, stmts_of, block_ended, block_with, block_of, set_bytes, id_of, initial_structure, initial, initials, initialised, condition, condition_at, optional, label_next, label_of, body_from, landed, after_switch, after_turn, discarded, discarded_if, first_of, holds, turn_of, returned, stmt_of}
 use Rattle.sc_meaning.specs.Laws.{Leads}
 use Rattle.sc_meaning.proofs.Relation.{Relation, Histories}
 use Rattle.sc_meaning.proofs.Steps.{here, on, one_more, and_more, same_done, passes, after_one, unless_goes, either_goes}
@@ -193,12 +193,16 @@ module _ (R : Relation) (h k : History) (H : Histories R h k) (ev ew : Eval) (ca
   jump_goes : (l : ℕ) (way : Way) (w : World) → R.Rel w (and_then (reached h l w) (λ x u. ended way u)) (and_then (reached k l w) (λ x u. ended way u))
   jump_goes l way w = R.bind w (reached h l w) (reached k l w) _ _ (reached_goes l w) (λ x u. ended_goes R way u)
 
+  initialised_goes : (env : Env) (l : ℕ) (p : Value) (items : List AutoInit) (w : World) → R.Rel w (initialised h ev env l p items w) (initialised k ew env l p items w)
+  initialised_goes env l p items w =
+      let i : Item = Declares (id_of p) in
+      let v : World = pass i w in
+      R.bind w (reached h l v) (reached k l v) _ _ (after_one R i w (reached h l v) (reached k l v) (reached_goes l v)) (λ x u.
+      R.bind u (initials ev env p items u) (initials ew env p items u) _ _ (initials_go env p items u) (λ y z. passes R Normal (Work 1) z))
+
   pub stmt_goes : (env : Env) (s : CoreStmt) (x : CoreStmt-F CoreStmt) (w : World) → R.Rel w (stmt_of h ev ex tu ra env s x w) (stmt_of k ew ey tv rb env s x w)
   stmt_goes env s (CoreStmt-F.Block l b ls ss) w = block_goes env s b ss w
-  stmt_goes env s (CoreStmt-F.Initialize l b i items) w =
-      R.bind w (reached h l w) (reached k l w) _ _ (reached_goes l w) (λ x u.
-      let p : Value = automatic_in env.blocks b i in
-      R.bind u (initials ev env p items u) (initials ew env p items u) _ _ (initials_go env p items u) (λ y v. passes R Normal (Work 1) v))
+  stmt_goes env s (CoreStmt-F.Initialize l b i items) w = initialised_goes env l (automatic_in env.blocks b i) items w
   stmt_goes env s (CoreStmt-F.Empty l) w = jump_goes l Normal w
   stmt_goes env s (CoreStmt-F.Expression l e) w =
       R.bind w (reached h l w) (reached k l w) _ _ (reached_goes l w) (λ x u. R.bind u (discarded ev env e u) (discarded ew env e u) _ _ (discarded_goes env e u) (λ y v. ended_goes R Normal v))

@@ -13,7 +13,7 @@ use Rattle.sc_core.specs.declared.statement.LabelAt.{LabelAt}
 use Rattle.sc_core.specs.declared.statement.SwitchLabel.{SwitchLabel}
 use Rattle.sc_core.specs.Types.{type_of}
 use Rattle.sc_meaning.specs.Values.{Value, Pointer, Byte, scalar_size}
-use Rattle.sc_meaning.specs.World.{World, Born, pass, Work, Begin, End, Death, Put, OpenBlock, CloseBlock, tick}
+use Rattle.sc_meaning.specs.World.{World, Born, pass, Work, Begin, End, Declares, Death, Put, OpenBlock, CloseBlock, tick}
 use Rattle.sc_meaning.specs.Outcomes.{Outcome, Done, and_then, Step, went, unless, access_breach}
 use Rattle.sc_meaning.specs.Violations.{bits, reach_rule}
 use Rattle.sc_meaning.specs.Accesses.{tested, set_at, copy_at}
@@ -141,6 +141,11 @@ abbrev pub initials : Eval → Env → Value → List AutoInit → Step
 initials eval env p [] w = went w
 initials eval env p (i ∷ is) w = and_then (initial eval env p i w) (λ _ w. initials eval env p is w)
 
+-- an initialised declarator, which has begun
+abbrev pub initialised : History → Eval → Env → ℕ → Value → List AutoInit → World → Outcome Way
+initialised h eval env l p items w =
+    and_then (reached h l (pass (Declares (id_of p)) w)) (λ _ w. and_then (initials eval env p items w) (λ _ w. Done Normal (tick w)))
+
 -- a scalar expression, and whether it is not 0
 abbrev pub condition : Eval → Env → CoreExpr → World → Outcome Bool
 condition eval env e w = and_then (valued eval env e w) (tested (type_of e))
@@ -226,8 +231,7 @@ returned h eval env l (Some e) w =
 -- a statement that has begun; an initialised declarator is work as a statement is
 abbrev pub stmt_of : History → Eval → Exec → Exec → Resume → Env → CoreStmt → CoreStmt-F CoreStmt → World → Outcome Way
 stmt_of h eval exec turn again env s (CoreStmt-F.Block l b ls ss) w = block_of exec again env s b ss w
-stmt_of h eval exec turn again env s (CoreStmt-F.Initialize l b i items) w =
-    and_then (reached h l w) (λ _ w. and_then (initials eval env (automatic_in env.blocks b i) items w) (λ _ w. Done Normal (tick w)))
+stmt_of h eval exec turn again env s (CoreStmt-F.Initialize l b i items) w = initialised h eval env l (automatic_in env.blocks b i) items w
 stmt_of h eval exec turn again env s (CoreStmt-F.Empty l) w = and_then (reached h l w) (λ _ w. ended Normal w)
 stmt_of h eval exec turn again env s (CoreStmt-F.Expression l e) w =
     and_then (reached h l w) (λ _ w. and_then (discarded eval env e w) (λ _ w. ended Normal w))
