@@ -42,7 +42,7 @@ use Rattle.sc_check_body.specs.Statements.{Checking}
 use Rattle.sc_check_body.specs.Progress.{Translating, in_scope, outside, first_body}
 use Rattle.sc_check_body.specs.Linked.{link, name_link}
 use Rattle.sc_check_body.specs.Locals.{local_of}
-use Rattle.sc_check_body.specs.Blocks.{Working, block}
+use Rattle.sc_check_body.specs.Blocks.{Working, block, end_body}
 use Rattle.sc_check.specs.declared.function.Head.{Head}
 use Rattle.sc_check.specs.Renumbered.{renumbered}
 use Rattle.sc_check.specs.Steps.{in_links}
@@ -177,8 +177,12 @@ made h blocks body = made_by h blocks (need_of_statement body).room (need_of_sta
 abbrev pub block_of : Function → Working CoreStmt
 block_of f w = block outside false f.body.line f.body.statements f.body.declarations w
 
+-- Each `goto` ends with the body, and then the frame is known.
+abbrev pub finished : Head → Body → CoreStmt → Checked Fun
+finished h f body = and_then (end_body f) (λ u. made h f.blocks body)
+
 abbrev pub body_of : Head → Function → Working Fun
-body_of h f w = and_then (block_of f w) (λ r. keep r.1 (made h r.1.1.blocks r.0))
+body_of h f w = and_then (block_of f w) (λ r. keep r.1 (finished h r.1.1 r.0))
 
 abbrev pub entered : Translation → Translation
 entered x = record x { st = enter x.st }

@@ -7,7 +7,9 @@ ghost use Rattle.sc_check.specs.Functions as spec;
 use crate::file::with_linkage;
 use crate::renumber::renumbered;
 use sc_base::{Duplicate, Items, Name, NoMemory, Shared};
-use sc_check_body::{Around, Body, Translation, UnitFault, block, link, local_of, name_link, rule};
+use sc_check_body::{
+    Around, Body, Translation, UnitFault, block, end_body, link, local_of, name_link, rule,
+};
 use sc_check_declare::{Place, defined_parameter, may_stand};
 use sc_check_expr::{declarator, parameters, specifiers};
 use sc_check_linkage::{Declaration as Linked, Local, cost, place as placed};
@@ -347,6 +349,7 @@ fn body_of(
     ensures { GivesWith (spec.body_of head.now f.now (m.old, body.old)) result (m.new, body.new) }
 {
     let core = block_of(alloc, m, body, f)?;
+    end_body(body)?;
     made(alloc, head, body.blocks.as_slice(), core)
 }
 
