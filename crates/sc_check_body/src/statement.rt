@@ -12,8 +12,8 @@ use crate::simple::{expression_statement, goto_statement, jump, node, return_sta
 use sc_base::{Items, Name, NoMemory, Shared};
 use sc_check_expr::constant;
 use sc_check_labels::{
-    add_label, check_gotos, close_list, close_switch, end_label, note_label, number_label, open_list,
-    open_switch,
+    add_label, check_gotos, close_list, close_switch, end_label, note_label, number_label,
+    open_list, open_switch,
 };
 use sc_check_scope::{State, enter, leave};
 use sc_core::{CoreExpr, CoreStmt};

@@ -37,7 +37,8 @@ use Rattle.sc_check_scope.specs.declared.words.Words.{Words}
 use Rattle.sc_check_scope.specs.declared.state.State.{State}
 use Rattle.sc_check_scope.specs.Steps.{Checked, and_then, keep, each, typing}
 use Rattle.sc_check_scope.specs.Steps as steps
-use Rattle.sc_check_scope.specs.Scopes.{Checking, enter, leave}
+use Rattle.sc_check_scope.specs.declared.state.Scope.{Scope}
+use Rattle.sc_check_scope.specs.Scopes.{Checking, enter, leave, taken}
 use Rattle.sc_check_scope.specs.Words.{no_words, with_word, list_type}
 use Rattle.sc_check_scope.specs.Tags as tags
 use Rattle.sc_check_scope.specs.Declarations as declarations
@@ -319,6 +320,20 @@ parametering = fold-Parameter Deriving Node Wording Declaring Membering Paramete
 
 abbrev pub stepping : Derivation → Deriving
 stepping = fold-Derivation Deriving Node Wording Declaring Membering Parametering Naming in_derivation in_expression in_word in_declarator in_member in_parameter in_type_name
+
+-- ---- definitions of functions (3.7.1)
+
+-- the parameters of a function, and their scope, which is that of its body too (3.1.2.1)
+abbrev pub own_parameters : List Parametering → Checking (Parameters × Scope)
+own_parameters ps s = and_then (each one ps no_parameters (enter s)) (λ r. Ok ((r.0, (taken s.began r.1).0), (taken s.began r.1).1))
+
+-- the type that a declarator gives whose first step is a function with these parameters, from its other steps
+abbrev pub type_behind : ℕ → Parameters → List Deriving → DeclaredType → Checking DeclaredType
+type_behind line own xs base s =
+    and_then (each (one_step line) xs (d.Function own ∷ []) s) (λ r. keep r.1 (steps.declaring (declarators.declarator r.1.structs line r.0 base)))
+
+abbrev pub definition : ℕ → List Parametering → List Deriving → DeclaredType → Checking (DeclaredType × Scope)
+definition line ps xs base s = and_then (own_parameters ps s) (λ own. and_then (type_behind line own.0.0 xs base own.1) (λ t. Ok ((t.0, own.0.1), t.1)))
 
 -- the same of lists of them, and of a list of specifiers
 abbrev pub enumerating : Enumerator Expr → Enumerator Node

@@ -543,7 +543,7 @@ pub fn declarator(
 
 /// One step of a declarator of this line, with its size or its parameters (ANSI 3.5.4.1 to 3.5.4.3).
 #[cycle(check)]
-fn derivation(
+pub(crate) fn derivation(
     alloc: Global,
     st: &mut State,
     line: u32,

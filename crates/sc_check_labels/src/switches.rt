@@ -68,11 +68,7 @@ fn note_in(
 
 /// The beginning of a statement with a label: `case` with the bits of its constant, or `default`. `place` is its place in the list of
 /// the innermost `switch`'s body, where it stands there. So labels stand in the order in which they are written.
-pub fn note_label(
-    f: &mut Labels,
-    bits: Option<u32>,
-    place: Option<u32>,
-) -> Result<(), NoMemory>
+pub fn note_label(f: &mut Labels, bits: Option<u32>, place: Option<u32>) -> Result<(), NoMemory>
     ensures { OnOk result (f.new ≡ spec.note_label bits place f.old) }
 {
     note_in(&mut f.switches, bits, place)

@@ -5,11 +5,7 @@ ghost use Rattle.sc_core_labels.specs.Targets as spec;
 use sc_base::{NoMemory, Shared};
 use sc_core::{CoreStmt, LabelAt};
 
-fn put_list(
-    found: &mut Vec<(u32, u32)>,
-    block: u32,
-    labels: &[LabelAt],
-) -> Result<(), NoMemory>
+fn put_list(found: &mut Vec<(u32, u32)>, block: u32, labels: &[LabelAt]) -> Result<(), NoMemory>
     ensures { OnOk result (found.new.items ≡ found.old.items ++ map (spec.target block) labels.now) }
 {
     for l in labels {
@@ -45,10 +41,7 @@ pub(crate) fn put_statement(found: &mut Vec<(u32, u32)>, s: &CoreStmt) -> Result
 }
 
 #[cycle(statements)]
-fn put_statements(
-    found: &mut Vec<(u32, u32)>,
-    items: &[Shared<CoreStmt>],
-) -> Result<(), NoMemory>
+fn put_statements(found: &mut Vec<(u32, u32)>, items: &[Shared<CoreStmt>]) -> Result<(), NoMemory>
     ensures { OnOk result (found.new.items ≡ found.old.items ++ spec.all_of (map spec.labels_of items.now)) }
 {
     for s in items {

@@ -117,7 +117,7 @@ stands_among structs is_union qualifier of n end [] = false
 stands_among structs is_union qualifier of n end (m ∷ ms) =
     nat_le end n && is_object structs m.of && nat_lt 0 (align_in structs m.of)
     && ((place_after structs end m.of == n && is_member_type structs qualifier of m.of)
-        || stands_among structs is_union qualifier of n (end_after structs is_union end m.of) ms)
+    || stands_among structs is_union qualifier of n (end_after structs is_union end m.of) ms)
 
 abbrev pub member_level : List StructDef → CType → ℕ → Level → Bool
 member_level structs of n (CType-F.Struct id c) = is_object structs (t.Struct id c) && stands_among structs (is_union_in structs id) c of n 0 (members_in structs id)

@@ -55,7 +55,7 @@ pub front-ends : (structs : List StructDef) (id k : ℕ) → Ends structs id →
     → (p : Layout) × ((members_from false (layout_in structs) (take k (members_in structs id)) beginning ≡ Some p) × (p.size ≤ largest))
 front-ends structs id k e plain =
     let r = front false (layout_in structs) (layout_in-aligned structs) (members_in structs id) k beginning e.end (omega arith)
-        (ap (λ (u : Bool). members_from u (layout_in structs) (members_in structs id) beginning) (sym plain) ∙ e.is) in
+    (ap (λ (u : Bool). members_from u (layout_in structs) (members_in structs id) beginning) (sym plain) ∙ e.is) in
     let le = r.1.1 in
     (r.0, (r.1.0, omega (arith, le, e.small)))
 
@@ -68,7 +68,7 @@ pub offset-is : (structs : List StructDef) (id k : ℕ) (m : Member) (own p : La
     → members_from false (layout_in structs) (take k (members_in structs id)) beginning ≡ Some p → rounded p.size own.align ≡ offset_in structs id k
 offset-is structs id k m own p plain there e h =
     sym (ap (λ (u : Bool). if u then 0 else
-        unwrap_or (option_map (λ (x : Member). rounded (end_in structs (take k (members_in structs id))) (align_in structs x.of)) (slice_get (members_in structs id) k)) 0) plain
+    unwrap_or (option_map (λ (x : Member). rounded (end_in structs (take k (members_in structs id))) (align_in structs x.of)) (slice_get (members_in structs id) k)) 0) plain
     ∙ ap (λ (o : Option Member). unwrap_or (option_map (λ (x : Member). rounded (end_in structs (take k (members_in structs id))) (align_in structs x.of)) o) 0) there
     ∙ ap (λ (o : Option Layout). rounded (unwrap_or (option_map (λ (l : Layout). l.size) o) 0) (align_in structs m.of)) h
     ∙ ap (λ (o : Option Layout). rounded p.size (unwrap_or (option_map (λ (l : Layout). l.align) o) 0)) e)
