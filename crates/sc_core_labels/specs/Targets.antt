@@ -45,6 +45,11 @@ are_new done (t ∷ ts) = is_none (lookup (nat_eq t.0) done) && are_new (done ++
 abbrev pub are_distinct : List Target → Bool
 are_distinct ts = are_new [] ts
 
+-- a label at the end of a list, where it is new
+abbrev pub Adds : Target → List Target → List Target → Bool → Type 0
+Adds t old new true = (is_none (lookup (nat_eq t.0) old) ≡ true) × (new ≡ old ++ t ∷ [])
+Adds t old new false = is_none (lookup (nat_eq t.0) old) ≡ false
+
 -- what an index of these is, where they are distinct
 abbrev pub Indexed : List Target → Option (List Target) → Type 0
 Indexed ts None = are_distinct ts ≡ false

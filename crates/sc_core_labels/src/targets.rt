@@ -36,12 +36,24 @@ impl Targets {
     }
 }
 
+/// Adds a label with its block; the answer says whether it is new.
+#[tactic(auto, using(crate::proofs::Added::added))]
+fn add(blocks: &mut IndexMap<u32, u32>, target: &(u32, u32)) -> Result<bool, NoMemory>
+    ensures { IfOk result (λ new. spec.Adds target.now blocks.old.entries blocks.new.entries new) }
+{
+    match blocks.insert(target.0, target.1) {
+        Ok(Some(_)) => Ok(false),
+        Ok(None) => Ok(true),
+        Err(_) => Err(NoMemory),
+    }
+}
+
 fn indexed(alloc: Global, found: &[(u32, u32)]) -> Result<Option<Targets>, NoMemory>
     ensures { IfOk result (λ r. spec.Indexed found.now r) }
 {
     let mut blocks = IndexMap::new(alloc);
     for target in found {
-        if blocks.insert(target.0, target.1)?.is_some() {
+        if !add(&mut blocks, target)? {
             return Ok(None);
         }
     }
