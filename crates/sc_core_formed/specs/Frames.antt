@@ -18,6 +18,7 @@ use Rattle.sc_core_needs.specs.Types.{alike}
 use Rattle.sc_core_needs.specs.Nodes.{limit, is_parameter, is_result}
 use Rattle.sc_core_labels.specs.Targets.{Target, labels_of, are_distinct}
 use Rattle.sc_core_needs.specs.Needs.{need_of_statement}
+use Rattle.sc_core_formed.specs.Known.{is_known, signature_known}
 use Rattle.sc_core_formed.specs.Statements.{statement}
 
 -- an object takes the least multiple of 4 that is greater than its size
@@ -26,7 +27,7 @@ slot_bytes size = (size / 4 + 1) * 4
 
 -- an object of a complete type, with its size, at this place of the frame
 abbrev pub is_auto : List StructDef → ℕ → Auto → Bool
-is_auto structs at x = is_object structs x.of && size_in structs x.of == x.slot.size && same_bool (is_const x.of) x.slot.constant && x.slot.offset == at
+is_auto structs at x = is_known structs x.of && is_object structs x.of && size_in structs x.of == x.slot.size && same_bool (is_const x.of) x.slot.constant && x.slot.offset == at
 
 -- the end of a block's objects, which stand one behind another from a place on
 abbrev pub block_end : List StructDef → ℕ → List Auto → Option ℕ
@@ -93,7 +94,7 @@ has_body core f = are_distinct (labels_of f.body) && numbers_up_to (length f.blo
 
 -- at most so many parameters, and nothing or a scalar as the result
 abbrev pub is_signature : List StructDef → Signature → Bool
-is_signature structs f = nat_le (length f.params) limit && is_result structs f.result
+is_signature structs f = nat_le (length f.params) limit && is_result structs f.result && signature_known structs f
 
 -- the parameters are block 0, and the body is a block
 abbrev pub has_start : Core → Fun → Bool

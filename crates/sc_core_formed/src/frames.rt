@@ -2,6 +2,7 @@
 ghost use Rattle.std.specs.Prelude.{◌≡◌, ◌≤◌, ◌<◌, ◌^◌, IfOk, IfSome, length, slice_get};
 ghost use Rattle.sc_core_formed.specs.Frames as spec;
 
+use crate::known::{is_known, signature_known};
 use crate::names::Indexed;
 use crate::open::{inside, outside};
 use crate::statements::{Body, statement};
@@ -26,7 +27,8 @@ fn slot_bytes(size: u32) -> u64
 fn is_auto(structs: &Structs, at: u64, x: &Auto) -> bool
     ensures { result ≡ spec.is_auto structs.now at x.now }
 {
-    is_object(&x.of, structs)
+    is_known(structs, &x.of)
+        && is_object(&x.of, structs)
         && size_of(&x.of, structs) == x.slot.size
         && same_bool(is_const(&x.of), x.slot.constant)
         && u64::from(x.slot.offset) == at
@@ -157,7 +159,7 @@ fn has_body(m: &Indexed, f: &Fun) -> Result<bool, NoMemory>
 fn is_signature(structs: &Structs, f: &Signature) -> bool
     ensures { result ≡ spec.is_signature structs.now f.now }
 {
-    f.params.len() <= MAX_ARGUMENTS && is_result(structs, &f.result)
+    f.params.len() <= MAX_ARGUMENTS && is_result(structs, &f.result) && signature_known(structs, f)
 }
 
 /// Whether a function's parameters are block 0, and its body is a block.
