@@ -51,6 +51,7 @@ pub fn answer_of(way: Way) -> Answer
         Exit::Normal => Answer::nothing(),
         Exit::Broke => Answer::nothing(),
         Exit::Continued => Answer::nothing(),
+        Exit::Jumped(_) => Answer::nothing(),
         Exit::Returned(a) => a,
     }
 }

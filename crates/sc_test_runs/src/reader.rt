@@ -2,7 +2,7 @@
 // colons. A type is one letter.
 use sc_base::{Bytes, Duplicate, Form, Int, Items, Key, Name, NoMemory, Op, Shared};
 use sc_core::{
-    Auto, AutoInit, Core, CoreExpr, CoreStmt, Fun, Init, StaticObj, Step, UnaryOperator,
+    Auto, AutoInit, Core, CoreExpr, CoreStmt, Fun, Init, LabelAt, StaticObj, Step, UnaryOperator,
 };
 use sc_core_held::Text;
 use sc_program::{Slot, StaticId};
@@ -17,6 +17,7 @@ pub struct Reader {
     exprs: Vec<Shared<CoreExpr>>,
     stmts: Vec<Shared<CoreStmt>>,
     marks: Vec<usize>,
+    labels: Vec<(usize, LabelAt)>,
     pieces: Vec<AutoInit>,
     blocks: Vec<Items<Auto>>,
     funs: Vec<Shared<Fun>>,
@@ -175,6 +176,7 @@ impl Reader {
             exprs: Vec::new(alloc),
             stmts: Vec::new(alloc),
             marks: Vec::new(alloc),
+            labels: Vec::new(alloc),
             pieces: Vec::new(alloc),
             blocks: Vec::new(alloc),
             funs: Vec::new(alloc),
@@ -321,16 +323,44 @@ impl Reader {
         Ok(true)
     }
 
+    // A label before the last statement, which stands in the list of the innermost block.
+    fn label(&mut self, a: &str) -> Result<(), NoMemory> {
+        let s = self.last()?;
+        let first = self.marks.last().copied().unwrap_or(0);
+        let Ok(at) = u32::try_from(self.stmts.len().saturating_sub(first)) else {
+            return Err(NoMemory)
+        };
+        let label = number(a);
+        self.labels
+            .push((self.marks.len(), LabelAt { label, at }))?;
+        self.statement(CoreStmt::Label(self.line, s))
+    }
+
+    // The labels of the innermost block.
+    fn labels_of(&mut self) -> Result<Items<LabelAt>, NoMemory> {
+        let mut labels = Vec::new(self.alloc);
+        for _ in 0..self.labels.len() {
+            match self.labels.last() {
+                Some((depth, label)) if *depth == self.marks.len() => labels.push(*label)?,
+                _ => break,
+            }
+            let _ = self.labels.pop();
+        }
+        Ok(Items::from_vec(labels))
+    }
+
     // A block: the statements since it began.
     fn block(&mut self, a: &str) -> Result<(), NoMemory> {
         let alloc = self.alloc;
+        let labels = self.labels_of()?;
         let at = self.marks.pop().unwrap_or(0);
         let mut inside = Vec::new(alloc);
         for _ in at..self.stmts.len() {
             inside.push(self.last()?)?;
         }
         inside.reverse();
-        self.statement(CoreStmt::Block(self.line, number(a), Items::from_vec(inside)))
+        let inside = Items::from_vec(inside);
+        self.statement(CoreStmt::Block(self.line, number(a), labels, inside))
     }
 
     // An initialised declarator, of the pieces since the last one.
@@ -441,6 +471,8 @@ impl Reader {
         let alloc = self.alloc;
         match word {
             "}" => self.block(a),
+            "label" => self.label(a),
+            "goto" => self.statement(CoreStmt::Goto(self.line, number(a))),
             "call" => self.call(a, b),
             "at" => self.callee(a),
             "init" => self.declarator(a, b),

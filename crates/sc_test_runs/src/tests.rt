@@ -152,7 +152,7 @@ fn shown(alloc: Global, finished: &Finished) -> Result<Vec<u8>, NoMemory> {
     Ok(text)
 }
 
-fn ran(alloc: Global, program: &str, limits: Limits) -> Result<Vec<u8>, NoMemory> {
+fn finished(alloc: Global, program: &str, limits: Limits) -> Result<Finished, NoMemory> {
     let mut reader = Reader::new(alloc);
     for line in program.split('\n') {
         for word in line.split(' ') {
@@ -161,8 +161,17 @@ fn ran(alloc: Global, program: &str, limits: Limits) -> Result<Vec<u8>, NoMemory
             }
         }
     }
-    let finished = run(alloc, reader.texts.as_slice(), limits, Items::new(alloc))?;
+    run(alloc, reader.texts.as_slice(), limits, Items::new(alloc))
+}
+
+fn ran(alloc: Global, program: &str, limits: Limits) -> Result<Vec<u8>, NoMemory> {
+    let finished = finished(alloc, program, limits)?;
     shown(alloc, &finished)
+}
+
+fn worked(alloc: Global, program: &str) -> Result<u64, NoMemory> {
+    let finished = finished(alloc, program, AMPLE)?;
+    Ok(finished.world.work_done())
 }
 
 // Two modules that call each other and print.
@@ -329,6 +338,45 @@ const MISSING: &str = "blk blk { fn:g:i at:i call:i:0 ret }:1 def:main:i:16 modu
 
 const UNLIKE: &str = "blk blk { fn:puts:i at:i call:i:0 ret }:1 def:main:i:16 module:m";
 
+// int i; i = 0; again: i++; if (i < 3) goto again; return i;
+const AGAIN: &str = "
+blk blk var:i:4 { auto:i:1:0 num:0 set:i ; auto:i:1:0 inc:i:1 ; label:0 auto:i:1:0 get:i num:3 op:lt goto:0 if auto:i:1:0 get:i ret }:1
+def:main:i:16 module:m";
+
+// int *p; p = 0; { int x; x = 5; p = &x; goto out; } out: return *p;
+const OUT: &str = "
+blk blk var:p:4 blk var:i:4 { auto:p:1:0 num:0 get:p set:p ;
+{ auto:i:2:0 num:5 set:i ; auto:p:1:0 auto:i:2:0 addr:p set:p ; goto:0 }:2 auto:p:1:0 get:p star:i get:i ret label:0 }:1
+def:main:i:16 module:m";
+
+// int n = 0, *p; again: n++; if (n == 2) goto out; p = &n; goto again; out: return *p; the block's objects are born once.
+const KEPT: &str = "
+blk blk var:i:4 var:p:4 { num:0 piece:0:i init:1:0 auto:i:1:0 inc:i:1 ; label:0 auto:i:1:0 get:i num:2 op:eq goto:1 if
+auto:p:1:1 auto:i:1:0 addr:p set:p ; goto:0 auto:p:1:1 get:p star:i get:i ret label:1 }:1 def:main:i:16 module:m";
+
+// i = 0; n = 0; while (1) { while (1) { i++; if (i == 3) goto done; n = n + i; } n = 100; } done: return n;
+const LOOPS: &str = "
+blk blk var:i:4 var:i:4 blk blk { auto:i:1:0 num:0 set:i ; auto:i:1:1 num:0 set:i ;
+num:1 { num:1 { auto:i:1:0 inc:i:1 ; auto:i:1:0 get:i num:3 op:eq goto:0 if
+auto:i:1:1 auto:i:1:1 get:i auto:i:1:0 get:i op:add set:i ; }:3 while auto:i:1:1 num:100 set:i ; }:2 while
+auto:i:1:1 get:i ret label:0 }:1 def:main:i:16 module:m";
+
+// return 0;
+const NOTHING: &str = "blk blk { num:0 ret }:1 def:main:i:16 module:m";
+
+// int f(int i) { return i + 1; } .. return f(f(1));
+const NESTED: &str = "
+blk var:i:4 blk { auto:i:0:0 get:i num:1 op:add ret }:1 def:f:i,i:32
+blk blk { fn:f:i,i at:i,i fn:f:i,i at:i,i num:1 call:i:1 call:i:1 ret }:1 def:main:i:16 module:m";
+
+// struct { int a, b; } x, y; x.a = 1; x.b = 2; y = x; return y.b;
+const STRUCTURES: &str = "
+blk blk var:s:8 var:s:8 { auto:s:1:0 mem:i:0 num:1 set:i ; auto:s:1:0 mem:i:4 num:2 set:i ;
+auto:s:1:1 auto:s:1:0 copy:s:8 ; auto:s:1:1 mem:i:4 get:i ret }:1 def:main:i:32 module:m";
+
+// putchar(65); return 0;
+const LETTER: &str = "blk blk { fn:putchar:i,i at:i,i num:65 call:i:1 ; num:0 ret }:1 def:main:i:16 module:m";
+
 const AMPLE: Limits = Limits {
     stack: 1_048_576,
     heap: 4_194_304,
@@ -342,7 +390,7 @@ const SMALL: Limits = Limits {
 };
 
 // Each program, what it may take, and what it shows.
-const PROGRAMS: [(&str, Limits, &str); 31] = [
+const PROGRAMS: [(&str, Limits, &str); 35] = [
     (
         CALLS,
         AMPLE,
@@ -446,7 +494,41 @@ const PROGRAMS: [(&str, Limits, &str); 31] = [
         AMPLE,
         "> violation U12 in main at m:1 left 0 right 0",
     ),
+    (AGAIN, AMPLE, "> exit 3"),
+    (
+        OUT,
+        AMPLE,
+        "> violation U3 in main at m:1 object 2 offset 0 size 4",
+    ),
+    (KEPT, AMPLE, "> exit 2"),
+    (LOOPS, AMPLE, "> exit 3"),
 ];
+
+// The work of each program. The call of `main`, its Enter and Leave, its block and `return` are 8 in each of them.
+const WORKS: [(&str, u64); 6] = [
+    // the number 2
+    (NOTHING, 10),
+    // birth 4, `i = 0;` 8, three times `again: i++;` 8 and `if (i < 3)` 8, two jumps 2 each, `i` 2
+    (AGAIN, 74),
+    // two calls 6 each, the number 2, two bodies 16 each: Enter and Leave, birth 4, block, `return`, `i + 1` 6
+    (NESTED, 54),
+    // birth 16, declarator 2, the number 2, 16 bytes set, `a[3]` 6
+    (INITIAL, 50),
+    // births 16, two assignments 10 each, the copy 8 and 8 bytes, `y.b` 4
+    (STRUCTURES, 64),
+    // statement, call, function and number 8, the call out and back 2, a byte 1, the number 2
+    (LETTER, 21),
+];
+
+#[test]
+fn work_is_what_is_counted_by_hand(rt: HostRuntime) -> Result<(), Fail> {
+    let alloc = rt.alloc();
+    for (program, expected) in &WORKS {
+        let work = worked(alloc, program)?;
+        assert_eq!(rt; work, *expected, "{program}");
+    }
+    Ok(())
+}
 
 #[test]
 fn programs_show_what_is_worked_out(rt: HostRuntime) -> Result<(), Fail> {

@@ -67,7 +67,7 @@ fn stays(halt: Halt, going: Going) -> Rested
 fn came_back(halt: Halt, a: &Answer, world: &mut World) -> Rested
     ensures { (c : counts.Count) (out : goes.Gone) → out ≡ (halt, standing_at (runs.Answers a.now [] world.old) Nothing c) → goes.Leaves out result.halt (standing.standing result.course [] world.new c) }
 {
-    match world.tick() {
+    match world.comes_back() {
         Ok(()) => Rested {
             halt,
             course: Course::Over(Ended::Exit(status_of(a))),
