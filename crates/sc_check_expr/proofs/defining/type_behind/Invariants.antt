@@ -2,7 +2,7 @@ use Rattle.std.proofs.Common.{◌≡◌, [], ◌∷◌, drop, map}
 use Rattle.sc_check_declare.specs.declared.derivation.Derived.TheVariants as d
 use Rattle.sc_check_scope.specs.Steps.{each}
 use Rattle.sc_check_expr.specs.Typed.{stepping, one_step}
-use Rattle.sc_check_expr.proofs.definition.type_behind.Given as goal
+use Rattle.sc_check_expr.proofs.defining.type_behind.Given as goal
 
 -- what the rest gives from here is what all give from the beginning
 abbrev pub invariant-loop-x : goal.invariant-loop-x
