@@ -7,4 +7,4 @@ use Rattle.sc_check_expr.proofs.defining.type_behind.Given as goal
 -- what the rest gives from here is what all give from the beginning
 abbrev pub invariant-loop-x : goal.invariant-loop-x
 invariant-loop-x l =
-    each (one_step l.line) (map stepping (drop l.x-index l.rest)) l.steps l.st ≡ each (one_step l.line) (map stepping l.rest) (d.Function l.own ∷ []) l.fn.st
+    each (one_step l.line) (map stepping (drop l.x-index l.rest)) l.steps l.st ≡ each (one_step l.line) (map stepping l.rest) (d.Function l.fn.own ∷ []) l.fn.st
