@@ -331,8 +331,7 @@ impl Reader {
             return Err(NoMemory)
         };
         let label = number(a);
-        self.labels
-            .push((self.marks.len(), LabelAt { label, at }))?;
+        self.labels.push((self.marks.len(), LabelAt { label, at }))?;
         self.statement(CoreStmt::Label(self.line, s))
     }
 

@@ -375,7 +375,8 @@ blk blk var:s:8 var:s:8 { auto:s:1:0 mem:i:0 num:1 set:i ; auto:s:1:0 mem:i:4 nu
 auto:s:1:1 auto:s:1:0 copy:s:8 ; auto:s:1:1 mem:i:4 get:i ret }:1 def:main:i:32 module:m";
 
 // putchar(65); return 0;
-const LETTER: &str = "blk blk { fn:putchar:i,i at:i,i num:65 call:i:1 ; num:0 ret }:1 def:main:i:16 module:m";
+const LETTER: &str =
+    "blk blk { fn:putchar:i,i at:i,i num:65 call:i:1 ; num:0 ret }:1 def:main:i:16 module:m";
 
 const AMPLE: Limits = Limits {
     stack: 1_048_576,
