@@ -28,8 +28,6 @@ fn word_of(mark: Mark) -> &'static [u8]
     match mark {
         Mark::Float => b"float",
         Mark::Volatile => b"volatile",
-        Mark::Union => b"union",
-        Mark::Goto => b"goto",
         Mark::Variadic => b"variadic",
         Mark::LongLong => b"longlong",
         Mark::Wide => b"wide",

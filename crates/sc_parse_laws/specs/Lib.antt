@@ -1,4 +1,3 @@
 pub mod Marks
-pub mod Limits
 pub mod Refusals
 pub mod Claims

@@ -19,7 +19,7 @@ use Rattle.sc_parse_unit.specs.declared.around.Stage.{Stage}
 use Rattle.sc_parse_unit.specs.declared.around.Stage.TheVariants as at
 use Rattle.sc_parse_unit.specs.declared.obstacle.Obstacle.{Obstacle}
 use Rattle.sc_parse_unit.specs.declared.obstacle.Obstacle.TheVariants as no
-use Rattle.sc_parse_unit.specs.Machine.{Point, Move, place, run, on_ok, marked, mark_of, in_expression, in_specifiers, in_declarator}
+use Rattle.sc_parse_unit.specs.Machine.{Point, Move, place, run, on_ok, marked, mark_on, in_expression, in_specifiers, in_declarator}
 
 -- a limit is passed
 abbrev pub Limited : Move → Type 0
@@ -44,16 +44,12 @@ pub ◌▸◌ : {w : Bool} {a b c : Move} → Leads w a b → Leads w b c → Le
 abbrev pub after : Symbol → List Symbol → Move → Move
 after t ts move = on_ok (λ q. run q ts) (marked t.kind move)
 
-mark-nesting : (kd : Kind) → mark_of kd no.Nesting ≡ no.Nesting
-mark-nesting (k.LeftOut m) = refl
-mark-nesting _ = refl
-
-mark-limit : (kd : Kind) (l : Limit) → mark_of kd (no.Inner (trouble.Limit l)) ≡ no.Inner (trouble.Limit l)
+mark-limit : (kd : Kind) (l : Limit) → mark_on kd (no.Inner (trouble.Limit l)) ≡ no.Inner (trouble.Limit l)
 mark-limit (k.LeftOut m) l = refl
 mark-limit _ l = refl
 
 pub after-nesting : (t : Symbol) (ts : List Symbol) → after t ts (Err no.Nesting) ≡ Err no.Nesting
-after-nesting t ts = ap (λ (o : Obstacle). Err o) (mark-nesting t.kind)
+after-nesting t ts = refl
 
 pub after-limit : (t : Symbol) (ts : List Symbol) (l : Limit) → after t ts (Err (no.Inner (trouble.Limit l))) ≡ Err (no.Inner (trouble.Limit l))
 after-limit t ts l = ap (λ (o : Obstacle). Err o) (mark-limit t.kind l)
@@ -84,6 +80,11 @@ Firm (Err trouble.Syntax) = ⊥
 Firm (Err (trouble.LeftOut which)) = ⊥
 Firm (Err trouble.NoMemory) = ⊥
 
+-- What ends well, or with a limit, refuses no token.
+pub firm_leads : {w : Bool} {a : Answer} {d : Config} → inner.Leads w a (Ok d) → Firm a
+firm_leads (inner.same p) = subst Firm (sym p) tt
+firm_leads (inner.passed i l) = subst Firm (sym l.1) tt
+
 mark-firm : (kd : Kind) → Firm (Err (lower.mark_of kd trouble.Syntax)) → ⊥
 mark-firm (k.LeftOut m) h = h
 mark-firm _ h = h
@@ -94,7 +95,7 @@ end-firm t names gs (e.Specified v) ts i h = mark-firm t.kind h
 end-firm t names gs (e.Declared x) ts i h = mark-firm t.kind h
 end-firm t names gs _ ts i h = cc
 
-end-firm_behind : (xs : List Symbol) (u : Symbol) (names : Names) (gs : List Frame) (st : State) → is_end st ≡ true → Firm (lower.run (names, (gs, st)) (xs ++ u ∷ [])) → ⊥
+pub end-firm_behind : (xs : List Symbol) (u : Symbol) (names : Names) (gs : List Frame) (st : State) → is_end st ≡ true → Firm (lower.run (names, (gs, st)) (xs ++ u ∷ [])) → ⊥
 end-firm_behind [] u names gs st i h = end-firm u names gs st [] i h
 end-firm_behind (t ∷ xs) u names gs st i h = end-firm t names gs st (xs ++ u ∷ []) i h
 
