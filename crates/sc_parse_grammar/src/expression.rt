@@ -3,7 +3,7 @@ ghost use Rattle.std.specs.Prelude.{◌≡◌, ℕ, ◌<◌, ◌≤◌, List, []
 ghost use Rattle.sc_parse_grammar.specs.Machine as spec;
 ghost use Rattle.sc_parse_grammar.specs.Steps.{Steps, IsSymbol, IsNamed};
 ghost use Rattle.sc_parse_grammar.specs.Grammar.{text_with};
-ghost use Rattle.sc_parse_grammar.specs.Nodes.{name_node as name_in, constant_node as constant_in};
+ghost use Rattle.sc_parse_grammar.specs.Nodes.{name_node as name_in, constant_node as constant_in, text_node as text_in};
 ghost use Rattle.sc_parse_grammar.specs.Kinds.{binary_of as binary_in, postfix_of as postfix_in, unary_of as unary_in};
 
 use crate::classes::{binary_of, postfix_of, power_of, unary_of};
@@ -308,7 +308,21 @@ pub fn sized(
     }
 }
 
+fn text_ends(
+    alloc: Global,
+    kind: Kind,
+    frames: &mut Stack<Frame>,
+    line: u32,
+    text: Option<Bytes>,
+) -> Result<State, Trouble>
+    ensures { Steps (spec.have kind frames.old (text_in line text)) result frames.new }
+{
+    let made = text_node(alloc, line, text)?;
+    have(alloc, kind, frames, made)
+}
+
 /// A token behind strings.
+#[tactic(auto, using(crate::proofs::Others::texts_else))]
 pub fn texts(
     alloc: Global,
     token: &Symbol,
@@ -323,10 +337,7 @@ pub fn texts(
             let all = joined(alloc, text, fits, &token.text)?;
             Ok(State::Texts(line, all))
         }
-        other => {
-            let made = text_node(alloc, line, text)?;
-            have(alloc, other, frames, made)
-        }
+        _ => text_ends(alloc, token.kind, frames, line, text),
     }
 }
 

@@ -1,6 +1,6 @@
 -- No token that is left out is taken.
 use Rattle.std.proofs.Common.{◌≡◌, ℕ, Bool, List, [], ◌∷◌, Option, Some, None, Ok, Err, sym, subst}
-use Rattle.std.specs.Prelude.{nat_lt, Result}
+use Rattle.std.specs.Prelude.{nat_lt, length, Result}
 use Rattle.sc_tree.specs.declared.expression.Storage.{Storage}
 use Rattle.sc_tree.specs.declared.expression.TypeWord.{TypeWord}
 use Rattle.sc_tree.specs.declared.expression.TypeWord.TheVariants as word

@@ -16,7 +16,7 @@ use Rattle.sc_parse_grammar.specs.Nodes.{named_node}
 use Rattle.sc_parse_grammar.specs.Types.{no_words, with_word}
 use Rattle.sc_parse_grammar.specs.Machine.{Config, Place}
 use Rattle.sc_parse_grammar.specs.Machine as inner
-use Rattle.sc_parse_expr.specs.Brackets.{opens_with}
+use Rattle.sc_parse_expr.specs.Brackets.{opens_with, AreShallow}
 use Rattle.sc_parse_expr.specs.Reading as reading
 use Rattle.sc_parse_unit.specs.declared.around.Around.{Around}
 use Rattle.sc_parse_unit.specs.declared.around.Stage.{Stage}
@@ -25,7 +25,7 @@ use Rattle.sc_parse_unit.specs.Grammar.{IsUnit}
 use Rattle.sc_parse_unit.specs.Machine.{Point, settle, is_else}
 use Rattle.sc_parse_unit.specs.Machine as outer
 use Rattle.sc_parse_unit.specs.Parse.{answer, end_at, word_of}
-use Rattle.sc_parse_unit.specs.Claims.{AreWithin, NoneBegins, last_line}
+use Rattle.sc_parse_unit.specs.Claims.{NoneBegins, last_line}
 use Rattle.sc_parse_laws.specs.Marks.{AreKept, Shows}
 use Rattle.sc_parse_sound.specs.Limits.{Passes}
 
@@ -161,5 +161,5 @@ NamesUnitLimit = (ts : List Symbol) (word : List ℕ) (l : ℕ) → answer 0 1 o
 
 -- X10 is the answer to each unit of the grammar that is not within the limits.
 abbrev pub RefusesBeyond : Type 0
-RefusesBeyond = (ts : List Symbol) (all : List External) → IsUnit false ts all → ((them : List External) → IsUnit true ts them → AreWithin 0 ts → ⊥) →
+RefusesBeyond = (ts : List Symbol) (all : List External) → IsUnit false ts all → ((them : List External) → IsUnit true ts them → AreShallow 0 ts → ⊥) →
     (word : List ℕ) × (l : ℕ) × (answer 0 1 outer.start ts ≡ Err (x.X10 word, l))
