@@ -5,7 +5,7 @@ ghost use Rattle.sc_parse_grammar.specs.Steps.{IsSymbol};
 ghost use Rattle.sc_parse_expr.specs.Brackets as brackets;
 ghost use Rattle.sc_parse_unit.specs.Machine.{start};
 ghost use Rattle.sc_parse_unit.specs.Parse.{Gives};
-ghost use Rattle.sc_parse_unit.specs.Claims.{Parses};
+ghost use Rattle.sc_parse_laws.specs.Causes.{Parses};
 ghost use Rattle.sc_parse_tokens.specs.Symbols.{symbols as symbols_of};
 ghost use Rattle.sc_parse_unit.specs.Parse as spec;
 ghost use Rattle.sc_parse.specs.Turns.{Turns};

@@ -280,7 +280,7 @@ module _ (w : Bool) where
   due_member b fs v l union tag ms ts us h = rw h.2 (same (ap (after h.0.kind b (h.1 ++ us)) (kinds.due-struct (is_typed b h.0) h.0 v l union tag ms fs h.0.kind h.3)))
 
   -- Specifiers are due where parameters begin or go on.
-  due_parameter : (b : Names) (fs : List Frame) (d : Direct) (ps : List Parameter) (ts us : List Symbol) → Head (starts true b) ts → (is_empty ps ≡ true → void_alone (ts ++ us) ≡ false) → no_brace us ≡ true →
+  pub due_parameter : (b : Names) (fs : List Frame) (d : Direct) (ps : List Parameter) (ts us : List Symbol) → Head (starts true b) ts → (is_empty ps ≡ true → void_alone (ts ++ us) ≡ false) → no_brace us ≡ true →
       Leads w (run (b, (f.Parameters d ps ∷ fs, s.Due)) (ts ++ us)) (run (b, (f.Parameters d ps ∷ fs, s.Words (no_words (line_of (ts ++ us))))) (ts ++ us))
   unfolding Head
   due_parameter b fs d (p ∷ ps) ts us h v n = rw h.2 (same refl)
@@ -319,7 +319,7 @@ module _ (w : Bool) where
       go t us h v n = at t us (is_void t.kind) refl h v n
 
   -- A declarator begins behind the words of a type name or a parameter.
-  begins_inner : (c : Names) (context : Frame) (fs : List Frame) (v : Specifiers TypeWord) (n : Mode) (ts us : List Symbol) → Beginning n ts → has_words v.words ≡ true →
+  pub begins_inner : (c : Names) (context : Frame) (fs : List Frame) (v : Specifiers TypeWord) (n : Mode) (ts us : List Symbol) → Beginning n ts → has_words v.words ≡ true →
       ((t : Symbol) → mc.specified t (context ∷ fs) v ≡ inner_specified t t.kind (context ∷ fs) v n) →
       Leads w (run (c, (context ∷ fs, s.Words v)) (ts ++ us)) (run (c, (f.Specifiers v ∷ context ∷ fs, s.Begin n)) (ts ++ us))
   begins_inner c context fs v n ts us o h g =
@@ -489,10 +489,10 @@ module _ (w : Bool) where
   begin_declarators (more_declarators {ts} {us} t d h e) = more_beginning ts (t ∷ us) (begin_declarators d)
 
   -- No brace stands where a declarator begins.
-  beginning-no_brace : (n : Mode) (ts us : List Symbol) → Beginning n ts → no_brace (ts ++ us) ≡ true
+  pub beginning-no_brace : (n : Mode) (ts us : List Symbol) → Beginning n ts → no_brace (ts ++ us) ≡ true
   beginning-no_brace n ts us o = let a = o.all in rw a (let q = level-no_brace o.t.kind o.opens in rw q refl)
 
-  head-no_brace : (u : Symbol) (us : List Symbol) (kd : Kind) → u.kind ≡ kd → kinds.is_brace kd ≡ false → no_brace (u ∷ us) ≡ true
+  pub head-no_brace : (u : Symbol) (us : List Symbol) (kd : Kind) → u.kind ≡ kd → kinds.is_brace kd ≡ false → no_brace (u ∷ us) ≡ true
   head-no_brace u us kd h g = rw (h, g) refl
 
   paren-no_brace : (closing : Bool) → kinds.is_brace (end_paren closing) ≡ false
@@ -506,7 +506,7 @@ module _ (w : Bool) where
   parameter-ends c fs d ps v x us true = refl
   parameter-ends c fs d ps v x us false = refl
 
-  some_parameters : {b c : Names} {ts : List Symbol} {ps : List Parameter} → Parameters w b c ts ps → is_empty ps ≡ false
+  pub some_parameters : {b c : Names} {ts : List Symbol} {ps : List Parameter} → Parameters w b c ts ps → is_empty ps ≡ false
   some_parameters (one_parameter d) = refl
   some_parameters (more_parameters {ps} {p} t d h e z) = kinds.some_more ps p
 
@@ -654,7 +654,7 @@ module _ (w : Bool) where
         counted w r.kind d us (length args) o i
 
     -- the arguments up to a comma
-    continues : {b c : Names} {ts : List Symbol} {args : List Expr} {n : ℕ} → Arguments w b c ts args n → (fs : List Frame) (a : Operand) (t : Symbol) (us : List Symbol) →
+    pub continues : {b c : Names} {ts : List Symbol} {args : List Expr} {n : ℕ} → Arguments w b c ts args n → (fs : List Frame) (a : Operand) (t : Symbol) (us : List Symbol) →
         Keeps w n 200 → t.kind ≡ k.Comma → Leads w (run (b, (f.Arguments a [] 0 ∷ fs, s.Need)) (ts ++ t ∷ us)) (run (c, (f.Arguments a args n ∷ fs, s.Need)) us)
     continues {b} {c} (first {xs} {x} d e) fs a t us z g =
         let one = keeps-right w 0 x.height z in
@@ -854,7 +854,7 @@ module _ (w : Bool) where
         reads_parameters y fs d true r us h (void-further ts r us h v)
 
     -- the parameters, and the token behind them
-    reads_parameters : {b c : Names} {ts : List Symbol} {ps : List Parameter} → Parameters w b c ts ps → (fs : List Frame) (d : Direct) (closing : Bool) (u : Symbol) (us : List Symbol) → u.kind ≡ end_paren closing →
+    pub reads_parameters : {b c : Names} {ts : List Symbol} {ps : List Parameter} → Parameters w b c ts ps → (fs : List Frame) (d : Direct) (closing : Bool) (u : Symbol) (us : List Symbol) → u.kind ≡ end_paren closing →
         void_alone (ts ++ u ∷ us) ≡ false → Leads w (run (b, (f.Parameters d [] ∷ fs, s.Due)) (ts ++ u ∷ us)) (on_ok (λ e. run e us) (parameter_behind c fs d ps closing))
     reads_parameters (one_parameter x) fs d closing u us h v = reads_parameter x fs d [] closing u us h (λ e. omega arith) (λ e. v)
     reads_parameters {b} (more_parameters {c} {ts} {us = vs} {ps} t x g y z) fs d closing u us h v =

@@ -37,7 +37,7 @@ ended_at _ x h = absurd cc
 module _ (names : Names) where
   -- The expression ended before this token.
   stops : (pre : List Symbol) (t : Symbol) (c d : Config) (x : Operand) (us : List Symbol) (taken : ℕ) (r : Found) → run (start names) pre ≡ Ok c → step t c ≡ Ok d → ended_in d.1.1 ≡ Some x → length pre ≡ taken →
-      (closes t.kind ≡ true → Follows us) → (m : Names) → (r, m) ≡ (found x.tree taken, d.0) → IsFound names m (pre ++ us) r
+      (closes t.kind ≡ true → Follows us) → (m : Names) → ◌≡◌ {A = Found × Names} (r, m) (found x.tree taken, d.0) → IsFound names m (pre ++ us) r
   stops pre t c (after, (fs, state)) x us taken r h q e n ends m both =
       let same : r ≡ found x.tree taken = ap (λ (z : Found × Names). z.0) both in
       let now : state ≡ s.Expression x = ended_at state x e in

@@ -207,6 +207,10 @@ ends k.Comma = true
 ends k.Semicolon = true
 ends k.LeftBrace = true
 ends (k.Assign None) = true
+ends k.RightBracket = true
+ends k.RightBrace = true
+ends k.Colon = true
+ends k.End = true
 ends _ = false
 
 pub ends-closed : (kd : Kind) → ends kd ≡ true → is_left_paren kd ≡ false
@@ -231,4 +235,12 @@ ends-stars t k.Comma fs l mode.Either c cs h g = refl
 ends-stars t k.Semicolon fs l mode.Either c cs h g = refl
 ends-stars t k.LeftBrace fs l mode.Either c cs h g = refl
 ends-stars t (k.Assign None) fs l mode.Either c cs h g = refl
+ends-stars t k.RightBracket fs l mode.Abstract c cs h g = refl
+ends-stars t k.RightBrace fs l mode.Abstract c cs h g = refl
+ends-stars t k.Colon fs l mode.Abstract c cs h g = refl
+ends-stars t k.End fs l mode.Abstract c cs h g = refl
+ends-stars t k.RightBracket fs l mode.Either c cs h g = refl
+ends-stars t k.RightBrace fs l mode.Either c cs h g = refl
+ends-stars t k.Colon fs l mode.Either c cs h g = refl
+ends-stars t k.End fs l mode.Either c cs h g = refl
 ends-stars t kd fs l m c cs h g = cc

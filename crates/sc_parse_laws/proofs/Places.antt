@@ -210,4 +210,4 @@ module _ (b : Names) (base : Frame) where
       go : (o : Outcome) → Tells t (fs, state) d o → Good b base (entered (enters (is_typed c t) t.kind state) c) o (d ++ t ∷ []) →
           Explained t (fs, state) d (on_ok (effect (entered (enters (is_typed c t) t.kind state) c)) (marked t.kind o))
       go (Ok (fs1, state1)) h q = effect-told t (fs, state) d _ fs1 state1 q
-      go (Err e) h q = marked-explains t (fs, state) d _ t.kind e refl h q
+      go (Err e) h q = marked-explains t (fs, state) d (entered (enters (is_typed c t) t.kind state) c) t.kind e refl h q

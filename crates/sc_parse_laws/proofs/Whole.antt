@@ -35,7 +35,7 @@ use Rattle.sc_parse_laws.proofs.Clear.{kept_so_far}
 use Rattle.sc_parse_laws.proofs.Points.{Told, Tells, advance-told}
 
 -- why the answer is this refusal
-abbrev Why : List Symbol → X × ℕ → Type 0
+abbrev pub Why : List Symbol → X × ℕ → Type 0
 Why ts (x.X5, l) = Faulty ts l
 Why ts (x.X9 word, l) = UnitMark ts word l
 Why ts (x.X10 word, l) = UnitLimit ts word l
@@ -127,7 +127,7 @@ why (t ∷ ts) pre last p r i v z h = deep
     deep rest true j h = brackets pre t ts r (ltb-true _ _ j) h
     deep rest false j h = go rest (advance t p) refl (advance-fine p t pre v) (advance-told p t pre v) h
 
-whole : (ts : List Symbol) (r : X × ℕ) → answer 0 1 start ts ≡ Err r → Why ts r
+pub whole : (ts : List Symbol) (r : X × ℕ) → answer 0 1 start ts ≡ Err r → Why ts r
 whole ts r h = why ts [] 1 start r refl (n.at_file g.no_external) refl h
 
 pub names_no_mark : (ts : List Symbol) (l : ℕ) → answer 0 1 start ts ≡ Err (x.X5, l) → Faulty ts l
@@ -140,7 +140,7 @@ pub names_unit_limit : (ts : List Symbol) (word : List ℕ) (l : ℕ) → answer
 names_unit_limit ts word l h = whole ts (x.X10 word, l) h
 
 -- At most 500 brackets are open in what is found.
-within : (ts : List Symbol) (m last : ℕ) (p : Point) (items : List External) → answer m last p ts ≡ Ok items → AreShallow m ts
+pub within : (ts : List Symbol) (m last : ℕ) (p : Point) (items : List External) → answer m last p ts ≡ Ok items → AreShallow m ts
 within [] m last p items h = tt
 within (t ∷ ts) m last p items h = deep (λ q w. within ts (opens_with m t.kind) t.line q items w) (nat_lt 500 (opens_with m t.kind)) refl h
   where

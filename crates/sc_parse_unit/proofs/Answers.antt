@@ -21,8 +21,7 @@ use Rattle.sc_parse_expr.specs.Brackets.{opens_with, AreShallow}
 use Rattle.sc_parse_unit.specs.Grammar.{IsUnit}
 use Rattle.sc_parse_unit.specs.Machine.{Point, Move, advance, run, start, on_ok}
 use Rattle.sc_parse_unit.specs.Parse.{Answer, next, end_at, ended, answer, refusal, Gives}
-use Rattle.sc_parse_unit.proofs.Taken.{found_only}
-use Rattle.sc_parse_unit.specs.Claims.{Finds, last_line, NoneBegins, Fails, at_token, at_end, FailsRightly, Parses}
+use Rattle.sc_parse_unit.specs.Claims.{Finds, last_line, NoneBegins, Fails, at_token, at_end}
 use Rattle.sc_parse_unit.proofs.Runs.{Leads, same, passed, Limited}
 use Rattle.sc_parse_unit.proofs.Units.{reads_all}
 
@@ -220,11 +219,3 @@ fails ts l h = go (syntax ts 0 1 l start h)
     go : Refuses start ts l ⊎ EndsEarly start ts 1 l → Fails l ts
     go (inl r) = at_token r.before r.t r.us r.all r.line (none_begins (r.before ++ r.t ∷ []) r.refused)
     go (inr e) = at_end e.line (λ all d. no_unit e all (reads_all d (end_at (last_line 1 ts) ∷ [])))
-
-pub fails_rightly : (ts : List Symbol) (result : Result Tree Fault) → Gives (answer 0 1 start ts) result → FailsRightly ts result
-fails_rightly ts (Ok unit) h = tt
-fails_rightly ts (Err fault.NoMemory) h = tt
-fails_rightly ts (Err (fault.Refused r)) h = λ k. fails ts r.line (h.0 ∙ ap (λ (kind : X). Err (kind, r.line)) k)
-
-pub parses : (ts : List Symbol) (result : Result Tree Fault) → Gives (answer 0 1 start ts) result → Parses ts result
-parses ts result h = record { answers = h; finds = λ all d w. finds result h d w; only = found_only ts result h; fails = fails_rightly ts result h }

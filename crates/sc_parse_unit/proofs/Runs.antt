@@ -19,6 +19,7 @@ use Rattle.sc_parse_unit.specs.declared.around.Stage.{Stage}
 use Rattle.sc_parse_unit.specs.declared.around.Stage.TheVariants as at
 use Rattle.sc_parse_unit.specs.declared.obstacle.Obstacle.{Obstacle}
 use Rattle.sc_parse_unit.specs.declared.obstacle.Obstacle.TheVariants as no
+use Rattle.sc_parse_unit.specs.Parts.{Part, in_expressions, in_heads, in_declarators, stage_of}
 use Rattle.sc_parse_unit.specs.Machine.{Point, Move, place, run, on_ok, marked, mark_on, in_expression, in_specifiers, in_declarator}
 
 -- a limit is passed
@@ -132,6 +133,12 @@ module _ (stage : List Frame → State → Stage) (answers : Symbol → List Aro
   follow (t ∷ xs) u us fs names gs st h =
       ap (after t (xs ++ u ∷ us)) (place-is t names fs gs st) ∙ follow-step t u xs us fs (step t (names, (gs, st))) (λ n g s. follow xs u us fs n g s) h
 
+  -- a limit that is passed below
+  pub limit_follows : (xs : List Symbol) (u : Symbol) (us : List Symbol) (fs : List Around) (names : Names) (gs : List Frame) (st : State) (l : Limit) →
+      lower.run (names, (gs, st)) (xs ++ u ∷ []) ≡ Err (trouble.Limit l) → run (names, (fs, stage gs st)) (xs ++ u ∷ us) ≡ Err (no.Inner (trouble.Limit l))
+  limit_follows xs u us fs names gs st l h =
+      follow xs u us fs names gs st (subst Firm (sym h) tt) ∙ ap (λ (a : Answer). after u us (answers u fs a)) h ∙ limit-is u us fs l
+
   pub follows : {w : Bool} (xs : List Symbol) (u : Symbol) (us : List Symbol) (fs : List Around) (names : Names) (gs : List Frame) (st : State) (d : Config) →
       inner.Leads w (lower.run (names, (gs, st)) (xs ++ u ∷ [])) (Ok d) → Leads w (run (names, (fs, stage gs st)) (xs ++ u ∷ us)) (after u us (answers u fs (Ok d)))
   follows xs u us fs names gs st d (inner.same p) =
@@ -162,3 +169,10 @@ follows_specifiers = follows (λ gs st. at.Specifiers gs st) in_specifiers (λ t
 pub follows_declarator : {w : Bool} (xs : List Symbol) (u : Symbol) (us : List Symbol) (fs : List Around) (names : Names) (gs : List Frame) (st : State) (d : Config) →
     inner.Leads w (lower.run (names, (gs, st)) (xs ++ u ∷ [])) (Ok d) → Leads w (run (names, (fs, at.Declarator gs st)) (xs ++ u ∷ us)) (after u us (in_declarator u fs (Ok d)))
 follows_declarator = follows (λ gs st. at.Declarator gs st) in_declarator (λ t n fs gs st. refl) declarator-goes (λ t fs o. refl)
+
+-- A limit that is passed inside one of the three kinds of place is passed outside.
+pub part_limited : (part : Part) (xs : List Symbol) (u : Symbol) (us : List Symbol) (fs : List Around) (names : Names) (gs : List Frame) (st : State) (l : Limit) →
+    lower.run (names, (gs, st)) (xs ++ u ∷ []) ≡ Err (trouble.Limit l) → run (names, (fs, stage_of part gs st)) (xs ++ u ∷ us) ≡ Err (no.Inner (trouble.Limit l))
+part_limited in_expressions = limit_follows (λ gs st. at.Expression gs st) in_expression (λ t n fs gs st. refl) expression-goes (λ t fs o. refl)
+part_limited in_heads = limit_follows (λ gs st. at.Specifiers gs st) in_specifiers (λ t n fs gs st. refl) specifiers-goes (λ t fs o. refl)
+part_limited in_declarators = limit_follows (λ gs st. at.Declarator gs st) in_declarator (λ t n fs gs st. refl) declarator-goes (λ t fs o. refl)

@@ -48,16 +48,3 @@ abbrev pub FoundOnly : List Symbol → Result Tree Fault → Type 0
 FoundOnly ts (Ok unit) = IsUnit true ts unit.items
 FoundOnly ts (Err fault.NoMemory) = Unit {0}
 FoundOnly ts (Err (fault.Refused r)) = Unit {0}
-
--- A refusal as no unit comes only where that holds.
-abbrev pub FailsRightly : List Symbol → Result Tree Fault → Type 0
-FailsRightly ts (Ok unit) = Unit {0}
-FailsRightly ts (Err fault.NoMemory) = Unit {0}
-FailsRightly ts (Err (fault.Refused r)) = r.kind ≡ x.X5 → Fails r.line ts
-
--- The answer to the tokens is that of the machine. A unit within the limits is found, and found to be no other; what is found is a unit within the limits; a refusal as no unit comes only where the tokens are none.
-pub record Parses (ts : List Symbol) (result : Result Tree Fault) : Type 0 where
-  pub answers : Gives (answer 0 1 start ts) result
-  pub finds : (all : List External) → IsUnit true ts all → AreShallow 0 ts → Finds all result
-  pub only : FoundOnly ts result
-  pub fails : FailsRightly ts result

@@ -8,4 +8,4 @@ use Rattle.sc_parse_expr.specs.Reading.{IsFound}
 
 -- What is found has a room of at most 6,600: 33 for each level of its height.
 abbrev pub NeedsLittleRoom : Type 0
-NeedsLittleRoom = (names : Names) (tokens : List Symbol) (r : Found) → IsFound names tokens r → room_of r.tree ≤ 6600
+NeedsLittleRoom = (names after : Names) (tokens : List Symbol) (r : Found) → IsFound names after tokens r → room_of r.tree ≤ 6600

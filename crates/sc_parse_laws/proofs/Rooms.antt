@@ -177,8 +177,8 @@ mutual
   few (g.first {x} p i) = few_first x.tree x.height (rooms p)
   few (g.more {x} {args} {n} t p i q j m) = few_more args x.tree n x.height (few p) (m refl) (rooms q)
 
-pub little_room : (names : Names) (tokens : List Symbol) (r : Found) → IsFound names tokens r → room_of r.tree ≤ 6600
-little_room names tokens r v =
+pub little_room : (names after : Names) (tokens : List Symbol) (r : Found) → IsFound names after tokens r → room_of r.tree ≤ 6600
+little_room names after tokens r v =
     let h = v.height in
     let p = rooms v.begins.phrase h in
     subst (λ z. room_of z ≤ 6600) (sym v.tree) (omega (arith, p, h))
