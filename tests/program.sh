@@ -61,6 +61,16 @@ expect 'a full disk' 4 ''
 yes run | head -n 200000 | { "$program" 2> err; echo $? > code; } | head -n 1 > out
 code=$(cat code)
 expect 'a closed pipe' 4 '> refused C13'
+for words in '--turns 0' '--heap=32' '--stack -4096' '--stack 4097' '--turns' '--dir'; do
+    # shellcheck disable=SC2086
+    run $words < /dev/null
+    expect "bad words: $words" 2 ''
+done
+run --dir '' < /dev/null
+expect 'bad words: an empty folder' 2 ''
+yes '' | head -n 1000001 | { run; echo "$code" > code; }
+code=$(cat code)
+expect 'the limit of lines' 5 ''
 head -c 1048577 /dev/zero | { run; echo "$code" > code; }
 code=$(cat code)
 expect 'a long line' 5 ''

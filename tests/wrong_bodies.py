@@ -9,7 +9,7 @@ usage: tests/wrong_bodies.py CRATE..      tries the edits of these crates (those
 An edit is a file wrong_bodies/CRATE/NAME.edit, or crates/CRATE/must-fail/NAME.edit where the gate tries it too:
 lines 'file: src/x.rt', then pairs 'old: TEXT' (standing once in that file) and 'new: TEXT', each TEXT on one line.
 The trial works in a copy of the tree. It says for each edit: refused; proved, which is a finding; or cannot be applied.
-It notes date and result in wrong_bodies/TRIED, with a sum of the crate's text, and ends with 1 if an edit was not refused.
+It notes day and result in wrong_bodies/TRIED, with a sum of the text. It ends with 1 if an edit was not refused.
 """
 import datetime
 import hashlib
@@ -27,15 +27,16 @@ TABLE = ROOT / "docs" / "WRONG_BODIES.md"
 TOLD = re.compile(r"must-fail (\S+)/(\S+\.edit): (.*)")
 HEAD = """# Wrong bodies
 
-An edit that turns the meaning of a function has to be refused by the prover. If such an edit is still proved, the contract
-says too little. The edits stand in `wrong_bodies/CRATE/NAME.edit`. Those that turn the meaning most stand in
-`crates/CRATE/must-fail/NAME.edit`, where the gate tries them at each run ("gate" below).
+An edit that turns the meaning of a function has to be refused by the prover. If such an edit is still proved,
+the contract says too little. The edits stand in `wrong_bodies/CRATE/NAME.edit`. Those that turn the meaning
+most stand in `crates/CRATE/must-fail/NAME.edit`, where the gate tries them at each run ("gate" below).
 
-`tests/wrong_bodies.py CRATE..` tries the edits of crates in a copy of the tree, and `tests/wrong_bodies.py --stands` says
-which no longer apply. `tests/wrong_bodies.py --table` writes this page from the edits and from `wrong_bodies/TRIED`.
-The file TRIED holds for each edit the day of its last trial, the result and a sum of the crate's text. "Present text" below
-means that the crate's sources and definitions have not changed since. "Earlier text" means that they have changed, or that
-it is not known whether they have. An edit that was never tried says nothing yet.
+`tests/wrong_bodies.py CRATE..` tries the edits of crates in a copy of the tree, and `tests/wrong_bodies.py
+--stands` says which no longer apply. `tests/wrong_bodies.py --table` writes this page from the edits and from
+`wrong_bodies/TRIED`. The file TRIED holds for each edit the day of its last trial, the result and a sum of
+the crate's text. "Present text" below means that the crate's sources and definitions have not changed since.
+"Earlier text" means that they have changed, or that it is not known whether they have. An edit that was never
+tried says nothing yet.
 
 """
 
@@ -121,8 +122,8 @@ def note(results):
             kept[crate, name] = [today, result, sum_of(crate)]
     present = edits()
     lines = [" ".join([*key, *kept[key]]) for key in sorted(kept) if key in present]
-    TRIED.write_text("# crate, edit, day of the last trial, result, sum of the crate's text then (- where it is not known)\n"
-                     + "\n".join(lines) + "\n")
+    head = "# crate, edit, day of the last trial, result, sum of the crate's text then (- if it is not known)"
+    TRIED.write_text("\n".join([head, *lines]) + "\n")
 
 
 def result_of(said):
@@ -166,7 +167,8 @@ def try_crates(crates):
     for crate, name in sorted(wanted - results.keys()):
         print(f"{crate}/{name}: not tried (its libraries were not proved)")
     count = [*results.values()].count
-    print(f"{count('refused')} refused, {count('proved')} proved, {len(wanted) - count('refused') - count('proved')} not tried")
+    rest = len(wanted) - count("refused") - count("proved")
+    print(f"{count('refused')} refused, {count('proved')} proved, {rest} not tried")
     return count("refused") == len(wanted)
 
 
@@ -193,7 +195,7 @@ def last_trial(key, known):
         return "never"
     day, result, total = known[key]
     over = "present text" if total == sum_of(key[0]) else "earlier text"
-    return f"{result} {day}, {over}"
+    return f"{day}, {over}" if result == "refused" else f"{day}, {over}: PROVED"
 
 
 def table():
@@ -206,7 +208,8 @@ def table():
             crate = key[0]
             text += f"\n## {crate}\n\n| What it turns | Where | Gate | Last trial |\n|---|---|---|---|\n"
         where = "gate" if file.parent.name == "must-fail" else "-"
-        text += f"| {key[1][:-5].replace('_', ' ')} | {function_of(crate, file)} | {where} | {last_trial(key, known)} |\n"
+        words = key[1][:-5].replace("_", " ")
+        text += f"| {words} | {function_of(crate, file)} | {where} | {last_trial(key, known)} |\n"
     TABLE.write_text(text)
     return True
 
