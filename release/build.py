@@ -89,7 +89,7 @@ def call(words, name):
 def estimate(left, spent, done):
     """What is told of the time that is left: by the pace so far, if there is one."""
     if done > 0:
-        return f"about {max(1, round(left * spent / done / 60))} minutes left at this pace"
+        return f"about {round(left * spent / done / 60) + 1} minutes left at this pace"
     return f"between {round(left / (os.cpu_count() or 1))} and {round(left)} minutes left"
 
 
