@@ -16,7 +16,7 @@ PAGE = ROOT / "docs" / "TRUST.md"
 TAGS = {
     "yardstick": "-- Yardstick: to be compared with what it restates (docs/TRUST.md).",
     "machine": "-- Machine: the program once more; a theorem ties it to a yardstick (docs/TRUST.md).",
-    "inside": "-- Inside: nothing that the program answers rests on reading this (docs/TRUST.md).",
+    "inside": "-- Inside: plumbing, a representation, an invariant or a promise beside the claim (docs/TRUST.md).",
 }
 ROW = re.compile(r"^\| `(sc_\w+)` \| ([^|]*) \| ([^|]*) \| ([^|]*) \|$", re.M)
 # A public function without parameters and without a body, which has a contract.
