@@ -2,7 +2,8 @@
 """Holds docs/TRUST.md to the repository: each file of definitions is in its table once, and each law is named in it.
 
 usage: tests/trust.py            checks, and says what is missing
-       tests/trust.py --tag      writes the first line of each file by the table
+       tests/trust.py --tag      writes the first line of each file by the table, if the table has the file
+       tests/trust.py --table    writes the table by the first lines of the files that have them
 
 If any file of definitions begins with a line that says its kind, all have to, and as the table says.
 The last line is 'N passed, M failed'.
@@ -72,6 +73,19 @@ def tag(kinds):
         file.write_text(TAGS[kind] + "\n" + rest)
 
 
+def write_table(kinds):
+    names = re.findall(r"^(sc_\w+)[^:\n]*:", (ROOT / "crates.txt").read_text(), re.M)
+    rows = {name: {kind: [] for kind in TAGS} for name in names}
+    for (crate, name), file in files().items():
+        kind = tagged(file) or kind_of((crate, name), kinds)
+        if kind and name != "Lib":
+            rows[crate][kind].append(name)
+    lines = [f"| `{name}` | " + " | ".join(", ".join(row[kind]) or "-" for kind in TAGS) + " |"
+             for name, row in rows.items() if any(row.values())]
+    text, mark, _ = PAGE.read_text().partition("| Crate | Yardstick | Machine | Inside |\n|---|---|---|---|\n")
+    PAGE.write_text(text + mark + "\n".join(lines) + "\n")
+
+
 def faults(kinds):
     found, told = files(), {key: tagged(file) for key, file in files().items()}
     wrong = [f"{crate}: {name} is in no column" for crate, name in found if kind_of((crate, name), kinds) is None]
@@ -89,6 +103,9 @@ def main():
     kinds, twice = table()
     if sys.argv[1:] == ["--tag"]:
         tag(kinds)
+        return 0
+    if sys.argv[1:] == ["--table"]:
+        write_table(kinds)
         return 0
     if sys.argv[1:]:
         sys.exit(__doc__)
