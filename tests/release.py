@@ -3,8 +3,9 @@
 
 usage: tests/release.py PROGRAM
 
-It gives every stored transcript (tests/programs.py). If it is of the sources of this tree and of this toolchain, it is
-also compared with the built program, without symbols. If the two differ it is said where; the transcripts decide then.
+It gives every stored transcript: those of tests/programs.py, tests/violations.py and tests/tour.py. If it is of the
+sources of this tree and of this toolchain, it is also compared with the built program, without symbols. If the two
+differ it is said where; the transcripts decide then.
 The last line is 'N passed, M failed'.
 """
 import hashlib
@@ -56,11 +57,15 @@ def main():
     if not whole:
         print("FAIL: release/saber is not the program that release/SOURCES names")
     print(compared(pathlib.Path(sys.argv[1]).resolve(), known))
-    ran = subprocess.run([ROOT / "tests" / "programs.py", released], capture_output=True, text=True)
-    print(ran.stdout, end="")
-    passed, failed = map(int, re.search(r"(\d+) passed, (\d+) failed\n\Z", ran.stdout).groups())
-    print(f"{passed + whole} passed, {failed + (not whole)} failed")
-    return 0 if whole and not failed and passed else 1
+    passed, failed = int(whole), int(not whole)
+    for script in ("programs.py", "violations.py", "tour.py"):
+        ran = subprocess.run([ROOT / "tests" / script, released], capture_output=True, text=True)
+        print(ran.stdout, end="")
+        sums = re.search(r"(\d+) passed, (\d+) failed\n\Z", ran.stdout)
+        passed += int(sums[1]) if sums else 0
+        failed += int(sums[2]) if sums else 1
+    print(f"{passed} passed, {failed} failed")
+    return 1 if failed else 0
 
 
 if __name__ == "__main__":
