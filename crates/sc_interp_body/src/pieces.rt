@@ -107,8 +107,9 @@ fn body_next(
         CoreStmt::Block(_, b, _, _) => {
             let b = *b;
             let block = s.share()?;
+            let rest = Statements::from(s, at as usize);
             world.begin()?;
-            enters(block, b, Statements::from(s, at as usize), stmts, env, world)
+            enters(block, b, rest, stmts, env, world)
         }
         _ => Ok(Move::Go(Doing::Exec(s))),
     }

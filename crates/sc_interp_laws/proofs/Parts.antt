@@ -1,5 +1,5 @@
 -- The parts of an expression go along the ways.
-use Rattle.std.proofs.Common.{ℕ, Bool, true, false, if◌then◌else◌, Option, Some, None}
+use Rattle.std.proofs.Common.{ℕ, Bool, true, false, if◌then◌else◌, Option, Some, None, refl}
 use Rattle.sc_base.specs.declared.integer.Int.{Int}
 use Rattle.sc_base.specs.declared.integer.Int.TheVariants.{UInt, Int as PlainInt}
 use Rattle.sc_base.specs.declared.key.Key.{Key}
