@@ -34,7 +34,7 @@ going l n =
     ∙ ap (λ (v : Statement-F Statement). in_statement (map-Statement Statement Standing standing v)) (st.outs-Goto l n)
 
 -- what changes the body alone, in the unit
-raised : (g : CoreStmt) (f : Body) (m : Translation) (r : Result CoreStmt UnitFault) (new : Body) → GivesWith (Ok (g, f)) r new → GivesWith (Ok (g, (m, f))) r (m, new)
+raised : (g : CoreStmt) (f : Body) (m : Translation) (r : Result CoreStmt UnitFault) (new : Body) → GivesWith {S = Body} (Ok (g, f)) r new → GivesWith {S = Place} (Ok (g, (m, f))) r (m, new)
 raised g f m (Ok a) new h = ap (λ (o : Checked (CoreStmt × Body)). and_then o (λ p. Ok (p.0, (m, p.1)))) h
 raised g f m (Err (fault.Found x)) new h = ap (λ (o : Checked (CoreStmt × Body)). and_then o (λ p. Ok (p.0, (m, p.1)))) h
 raised g f m (Err fault.NoMemory) new h = tt
