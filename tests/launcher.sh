@@ -72,7 +72,15 @@ expect 'a library that is not proved' 1 0 "saber: the sources are not those of r
 SLEEPS=$work/pid
 FAILS=
 export SLEEPS
-(cd folder && timeout --preserve-status -s INT 2 ../saber < /dev/null > ../out 2> ../err)
+(cd folder && exec ../saber < /dev/null > ../out 2> ../err) &
+saber=$!
+waited=0
+while ! [ -s pid ] && [ "$waited" -lt 60 ]; do
+    sleep 1
+    waited=$((waited + 1))
+done
+kill -INT "$saber"
+wait "$saber"
 code=$?
 if [ "$code" = 130 ] && grep -q '^saber: ended' err && ! kill -0 "$(cat pid)" 2> /dev/null; then
     passed=$((passed + 1))
