@@ -3,8 +3,10 @@
 #![tactic(auto)]
 
 mod check;
+mod definition;
 mod line;
 mod parts;
 
 pub use check::{constant, declarator, expression, parameters, specifiers, type_name};
+pub use definition::definition;
 pub use line::line_of;

@@ -7,4 +7,4 @@ mod statement;
 
 pub use expression::{CoreExpr, Step, UnaryOperator, type_of};
 pub use module::{Auto, Core, Declared, Fun, Init, StaticObj};
-pub use statement::{AutoInit, CoreStmt, SwitchLabel};
+pub use statement::{AutoInit, CoreStmt, LabelAt, SwitchLabel};

@@ -24,12 +24,21 @@ pub struct SwitchLabel {
     pub at: u32,
 }
 
+/// A label that stands in a block's list (ANSI 3.6.1): its number in the function, and the place in this list of the
+/// statement that it labels. A function's labels are counted from 0 in the order in which they are first named.
+#[derive(Clone, Copy, Debug, PartialEq, Eq)]
+pub struct LabelAt {
+    pub label: u32,
+    pub at: u32,
+}
+
 /// A statement, with its line. A block has a number: the parameters are block 0, the body is block 1, and the blocks
 /// inside are counted on in the order in which they begin.
 #[derive(Drop)]
 pub enum CoreStmt {
-    /// `{ .. }`: the block's number, and its initialised automatic objects and statements in order (3.6.2).
-    Block(u32, u32, Items<Shared<CoreStmt>>),
+    /// `{ .. }`: the block's number, the labels that stand in its list, and its initialised automatic objects and
+    /// statements in order (3.6.2).
+    Block(u32, u32, Items<LabelAt>, Items<Shared<CoreStmt>>),
     /// An automatic object that has an initialiser: its block, its place in it, and the pieces; the line is that of its
     /// name (3.5.7).
     Initialize(u32, u32, u32, Items<AutoInit>),
@@ -58,6 +67,10 @@ pub enum CoreStmt {
     Case(u32, Shared<CoreStmt>),
     /// The statement behind `default` (3.6.1).
     Default(u32, Shared<CoreStmt>),
+    /// A statement behind a label (3.6.1). Where it stands in a block's list, the block says which label it is.
+    Label(u32, Shared<CoreStmt>),
+    /// `goto`: the number of the label in its function (3.6.6.1).
+    Goto(u32, u32),
     /// `continue;` (3.6.6.2).
     Continue(u32),
     /// `break;` (3.6.6.3).

@@ -47,7 +47,7 @@ in_derivation Derivation-F.Function = 0
 in_derivation (Derivation-F.Prototype ps) = sum ps
 
 abbrev pub in_word : Numbers TypeWord-F → ℕ
-in_word (TypeWord-F.Struct l n ms) = sum ms
+in_word (TypeWord-F.Struct l u n ms) = sum ms
 in_word (TypeWord-F.Enum l n es) = sum_by in_enumerator es
 in_word _ = 0
 
@@ -147,6 +147,8 @@ in_statement (Statement-F.Do l s m e) = 1 + s + expression_nodes e
 in_statement (Statement-F.For l a b c s) = 1 + optional_nodes a + optional_nodes b + optional_nodes c + s
 in_statement (Statement-F.Case l e s) = 1 + expression_nodes e + s
 in_statement (Statement-F.Default l s) = 1 + s
+in_statement (Statement-F.Label l n s) = 1 + s
+in_statement (Statement-F.Goto l n) = 1
 in_statement (Statement-F.Continue l) = 1
 in_statement (Statement-F.Break l) = 1
 in_statement (Statement-F.Return l e) = 1 + optional_nodes e

@@ -42,9 +42,9 @@ pub enum Expr {
     Index(u32, Shared<Expr>, Shared<Expr>),
     /// The function and the arguments (3.3.2.2).
     Call(u32, Shared<Expr>, Items<Shared<Expr>>),
-    /// `structure.member` (3.3.2.3).
+    /// `structure.member`, also of a union (3.3.2.3).
     Member(u32, Shared<Expr>, Name),
-    /// `pointer->member` (3.3.2.3).
+    /// `pointer->member`, also of a union (3.3.2.3).
     Arrow(u32, Shared<Expr>, Name),
     Postfix(u32, Postfix, Shared<Expr>),
     Unary(u32, Unary, Shared<Expr>),
@@ -92,10 +92,10 @@ pub enum TypeWord {
     Long,
     Signed,
     Unsigned,
-    /// `struct name` (3.5.2.3).
-    StructTag(u32, Name),
-    /// `struct name { .. }`, with at least one member (3.5.2.1).
-    Struct(u32, Option<Name>, Items<Member>),
+    /// `struct name`, or `union name` where it is true (3.5.2.3).
+    StructTag(u32, bool, Name),
+    /// `struct name { .. }`, or `union name { .. }` where it is true, with at least one member (3.5.2.1).
+    Struct(u32, bool, Option<Name>, Items<Member>),
     /// `enum name` (3.5.2.3).
     EnumTag(u32, Name),
     /// `enum name { .. }`, with at least one item (3.5.2.2).
@@ -104,7 +104,7 @@ pub enum TypeWord {
     Typedef(u32, Name),
 }
 
-/// The members that one list of specifiers declares, at least one (ANSI 3.5.2.1).
+/// The members of a structure or union that one list of specifiers declares, at least one (ANSI 3.5.2.1).
 #[cycle(tree)]
 #[derive(Drop)]
 pub struct Member {

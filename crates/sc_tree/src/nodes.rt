@@ -76,7 +76,7 @@ fn of_word(word: &TypeWord) -> u64
     ensures { result ≡ spec.word_nodes word.now }
 {
     match word {
-        TypeWord::Struct(_, _, members) => of_members(members.as_slice()),
+        TypeWord::Struct(_, _, _, members) => of_members(members.as_slice()),
         TypeWord::Enum(_, _, items) => of_enumerators(items.as_slice()),
         _ => 0,
     }
@@ -250,7 +250,10 @@ fn of_statement(s: &Statement) -> u64
     ensures { result ≡ spec.statement_nodes s.now }
 {
     match s {
-        Statement::Empty(_) | Statement::Continue(_) | Statement::Break(_) => 1,
+        Statement::Empty(_)
+        | Statement::Continue(_)
+        | Statement::Break(_)
+        | Statement::Goto(_, _) => 1,
         Statement::Block(_, declarations, statements) => {
             1 + of_declarations(declarations.as_slice()) + of_statements(statements.as_slice())
         }
@@ -266,7 +269,7 @@ fn of_statement(s: &Statement) -> u64
             1 + of_possible(a) + of_possible(b) + of_possible(c) + of_statement(s.get())
         }
         Statement::Case(_, e, s) => 1 + of_expression(e.get()) + of_statement(s.get()),
-        Statement::Default(_, s) => 1 + of_statement(s.get()),
+        Statement::Default(_, s) | Statement::Label(_, _, s) => 1 + of_statement(s.get()),
         Statement::Return(_, e) => 1 + of_possible(e),
     }
 }

@@ -2,7 +2,7 @@
 
 use crate::declaration::Declaration;
 use crate::expression::{Declarator, Expr, Specifiers};
-use sc_base::{Items, Shared};
+use sc_base::{Items, Name, Shared};
 
 /// A statement (ANSI 3.6), each with its line.
 #[derive(Drop)]
@@ -23,6 +23,10 @@ pub enum Statement {
     For(u32, Option<Shared<Expr>>, Option<Shared<Expr>>, Option<Shared<Expr>>, Shared<Statement>),
     Case(u32, Shared<Expr>, Shared<Statement>),
     Default(u32, Shared<Statement>),
+    /// `name: statement`: the name and the statement that it labels (3.6.1).
+    Label(u32, Name, Shared<Statement>),
+    /// `goto name;` (3.6.6.1).
+    Goto(u32, Name),
     Continue(u32),
     Break(u32),
     Return(u32, Option<Shared<Expr>>),
