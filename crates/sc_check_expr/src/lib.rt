@@ -3,10 +3,10 @@
 #![tactic(auto)]
 
 mod check;
-mod definition;
+mod defining;
 mod line;
 mod parts;
 
 pub use check::{constant, declarator, expression, parameters, specifiers, type_name};
-pub use definition::definition;
+pub use defining::definition;
 pub use line::line_of;
