@@ -1,13 +1,10 @@
-union both {
-    int *place;
-    int number;
-};
+union both { int *p; int n; };
 
 int main(void)
 {
     int a;
     union both x;
 
-    x.place = &a;
-    return x.number;
+    x.p = &a;
+    return x.n;
 }

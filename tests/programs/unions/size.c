@@ -1,0 +1,3 @@
+union wide { char c[5]; int i; };
+
+int main(void) { return sizeof(union wide); }

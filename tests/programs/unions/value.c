@@ -1,0 +1,2 @@
+union u { int a; };
+void f(union u x);
