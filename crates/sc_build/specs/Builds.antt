@@ -18,6 +18,7 @@ use Rattle.sc_pp.specs.Asked.{asked_in}
 use Rattle.sc_core_names.specs.Scopes.{scopes_of}
 use Rattle.sc_parse_tokens.specs.Symbols.{symbols}
 use Rattle.sc_tree.specs.declared.statement.External.{External}
+use Rattle.sc_parse_expr.specs.Brackets.{AreShallow}
 use Rattle.sc_parse_unit.specs.Grammar as grammar
 use Rattle.sc_parse_laws.specs.Causes.{Cause}
 use Rattle.sc_build.specs.declared.building.Built.{Built}
@@ -28,9 +29,9 @@ use Rattle.sc_build.specs.declared.building.BuildFault.TheVariants as fault
 abbrev pub Reads : Option FileMap → List ℕ → Result (List Token) PpFault → Type 0
 Reads held file outcome = Known held (λ map. preprocessed map file ≡ outcome)
 
--- The tokens are a unit of the grammar within the limits, which has these functions and declarations.
+-- The tokens are a unit of the grammar within the limits, which has these functions and declarations; at most 500 brackets are open at one place.
 abbrev pub IsUnit : List Token → List External → Type 0
-IsUnit tokens items = grammar.IsUnit true (symbols tokens) items
+IsUnit tokens items = grammar.IsUnit true (symbols tokens) items × AreShallow 0 (symbols tokens)
 
 -- there is no such file, or it is longer than a file may be
 abbrev pub IsMissing : Option FileMap → List ℕ → Type 0

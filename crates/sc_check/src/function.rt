@@ -369,7 +369,9 @@ fn in_new_scope(
     ensures { GivesWith (spec.in_new_scope head.now list.now scope f.now m.old) result m.new }
 {
     let mut body = begun(alloc, &mut m.st, head, list, scope)?;
-    body_of(alloc, m, &mut body, head, f)
+    let fun = body_of(alloc, m, &mut body, head, f);
+    drop(body);
+    fun
 }
 
 /// The body with the parameters in its scope (ANSI 3.1.2.1).

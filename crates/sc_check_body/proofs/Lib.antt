@@ -1,3 +1,4 @@
 mod Births
 mod Turns
 mod Blocked
+mod Labelled

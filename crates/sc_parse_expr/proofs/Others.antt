@@ -1,6 +1,7 @@
 -- The tokens that a function of the code does not name.
 use Rattle.std.proofs.Common.{◌≡◌, ℕ, Bool, true, false, List, [], ◌∷◌, Ok, Err, Result, refl, ap}
 use Rattle.sc_tree.specs.declared.expression.TypeWord.{TypeWord}
+use Rattle.sc_tree.specs.declared.expression.TypeWord.TheVariants as word
 use Rattle.sc_tree.specs.declared.expression.Specifiers.{Specifiers}
 use Rattle.sc_parse_names.specs.declared.kind.Symbol.{Symbol}
 use Rattle.sc_parse_names.specs.declared.kind.Kind.{Kind}
@@ -15,7 +16,7 @@ use Rattle.sc_parse_grammar.specs.declared.trouble.Trouble.{Trouble}
 use Rattle.sc_parse_grammar.specs.declared.trouble.Trouble.TheVariants as no
 use Rattle.sc_parse_grammar.specs.Machine as m
 use Rattle.sc_parse_grammar.specs.Machine.{Place, Config, Outcome, on_ok, mark_of, marked, effect, entered, enters, place, step}
-use Rattle.sc_parse_grammar.specs.Types.{has_words}
+use Rattle.sc_parse_grammar.specs.Types.{has_words, with_word}
 use Rattle.sc_parse_grammar.specs.Steps.{Steps, Moves}
 
 pub direct_else : (t : Symbol) (kd : Kind) (fs : List Frame) (l : ℕ) (n : Mode) (cs : List Bool) (r : Result State Trouble) (gs : List Frame) → (kd ≡ k.Name → ⊥) → (kd ≡ k.LeftParen → ⊥) →
@@ -43,6 +44,16 @@ inner_else t _ fs v n r gs a b h = h
 pub in_group_else : (t : Symbol) (kd : Kind) (fs : List Frame) (n : Mode) (r : Result State Trouble) (gs : List Frame) → (kd ≡ k.Name → ⊥) → Steps (m.begin t kd fs n) r gs → Steps (m.in_group t fs n kd) r gs
 in_group_else t k.Name fs n r gs a h = absurd (a refl)
 in_group_else t _ fs n r gs a h = h
+
+pub tagged_structure_else : (typed : Bool) (t : Symbol) (fs : List Frame) (v : Specifiers TypeWord) (l : ℕ) (union : Bool) (tag : List ℕ) (kd : Kind) (r : Result State Trouble) (gs : List Frame) → (kd ≡ k.LeftBrace → ⊥) →
+    Steps (m.words typed t fs (with_word v (word.StructTag l union tag)) kd) r gs → Steps (m.tagged_structure typed t fs v l union tag kd) r gs
+tagged_structure_else typed t fs v l union tag k.LeftBrace r gs a h = absurd (a refl)
+tagged_structure_else typed t fs v l union tag _ r gs a h = h
+
+pub tagged_enumeration_else : (typed : Bool) (t : Symbol) (fs : List Frame) (v : Specifiers TypeWord) (l : ℕ) (tag : List ℕ) (kd : Kind) (r : Result State Trouble) (gs : List Frame) → (kd ≡ k.LeftBrace → ⊥) →
+    Steps (m.words typed t fs (with_word v (word.EnumTag l tag)) kd) r gs → Steps (m.tagged_enumeration typed t fs v l tag kd) r gs
+tagged_enumeration_else typed t fs v l tag k.LeftBrace r gs a h = absurd (a refl)
+tagged_enumeration_else typed t fs v l tag _ r gs a h = h
 
 -- What is left out is named.
 pub marks : (kd : Kind) (o : Outcome) (e : Trouble) (fs : List Frame) → Steps o (Err e) fs → Steps (marked kd o) (Err (mark_of kd e)) fs

@@ -189,6 +189,22 @@ pub fn structure(
     }
 }
 
+/// A word of a type joins the specifiers, and a token behind it is read.
+fn words_behind(
+    alloc: Global,
+    typed: bool,
+    token: &Symbol,
+    frames: &mut Stack<Frame>,
+    v: Specifiers,
+    word: TypeWord,
+) -> Result<State, Trouble>
+    requires { IsSymbol token.now }
+    ensures { Steps (spec.words typed token.now frames.old (with_word v word) token.now.kind) result frames.new }
+{
+    let all = added(v, word)?;
+    words(alloc, typed, token, frames, all)
+}
+
 /// A token behind `struct` or `union` and a tag.
 pub fn tagged_structure(
     alloc: Global,
@@ -206,8 +222,8 @@ pub fn tagged_structure(
     match token.kind {
         Kind::LeftBrace => structure_opens(alloc, frames, v, line, union, Some(tag)),
         _ => {
-            let all = added(v, TypeWord::StructTag(line, union, tag))?;
-            words(alloc, typed, token, frames, all)
+            let word = TypeWord::StructTag(line, union, tag);
+            words_behind(alloc, typed, token, frames, v, word)
         }
     }
 }
@@ -275,8 +291,8 @@ pub fn tagged_enumeration(
     match token.kind {
         Kind::LeftBrace => enumeration_opens(alloc, frames, v, line, Some(tag)),
         _ => {
-            let all = added(v, TypeWord::EnumTag(line, tag))?;
-            words(alloc, typed, token, frames, all)
+            let word = TypeWord::EnumTag(line, tag);
+            words_behind(alloc, typed, token, frames, v, word)
         }
     }
 }

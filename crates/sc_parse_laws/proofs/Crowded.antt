@@ -1,6 +1,6 @@
 -- Lists of arguments and parameters that are too long are refused for that, whatever comes behind them.
 use Rattle.std.proofs.Common.{◌≡◌, ℕ, suc, ◌≤◌, ◌<◌, Bool, true, false, not, List, [], ◌∷◌, ◌++◌, length, Option, Some, None, Ok, Err, refl, sym, ◌∙◌, ap, subst, arith, append_assoc}
-use Rattle.std.specs.Prelude.{nat_lt, cond, if◌then◌else◌}
+use Rattle.std.specs.Prelude.{nat_lt, cond, if◌then◌else◌, codes}
 use Rattle.std.proofs.lemmas.Bool.Decides.{nat_tests}
 use Rattle.std.proofs.lemmas.List.{length-append}
 use Rattle.sc_base.specs.declared.refusal.X.TheVariants as x
@@ -96,7 +96,7 @@ run-more (t ∷ xs) zs p q h = go (m.advance t p) (λ r. run-more xs zs r q) h
 -- Where the machine of units stops for a limit, the answer is one.
 pub answer_limited : (ts : List Symbol) (n before : ℕ) (p : m.Point) (l : Limit) → m.run p ts ≡ Err (obstacle.Inner (no.Limit l)) → (word : List ℕ) × (line : ℕ) × (answer n before p ts ≡ Err (x.X10 word, line))
 answer_limited [] n before p l h = cc
-answer_limited (t ∷ ts) n before p l h = deep (nat_lt 500 (opens_with n t.kind))
+answer_limited (t ∷ ts) n before p l h = deep (nat_lt 500 (opens_with n t.kind)) (λ q i. answer_limited ts (opens_with n t.kind) t.line q l i)
   where
     at : (o : m.Move) → ((q : m.Point) → m.run q ts ≡ Err (obstacle.Inner (no.Limit l)) → (word : List ℕ) × (line : ℕ) × (answer (opens_with n t.kind) t.line q ts ≡ Err (x.X10 word, line))) →
         m.on_ok (λ q. m.run q ts) o ≡ Err (obstacle.Inner (no.Limit l)) → (word : List ℕ) × (line : ℕ) × (next (λ q. answer (opens_with n t.kind) t.line q ts) before t.line o ≡ Err (x.X10 word, line))
@@ -110,9 +110,10 @@ answer_limited (t ∷ ts) n before p l h = deep (nat_lt 500 (opens_with n t.kind
             which limit.Height = (_, _, refl)
             which limit.Arguments = (_, _, refl)
 
-    deep : (b : Bool) → (word : List ℕ) × (line : ℕ) × (cond b (Err (x.X10 _, t.line)) (next (λ q. answer (opens_with n t.kind) t.line q ts) before t.line (m.advance t p)) ≡ Err (x.X10 word, line))
-    deep true = (_, t.line, refl)
-    deep false = at (m.advance t p) (λ q i. answer_limited ts (opens_with n t.kind) t.line q l i) h
+    deep : (b : Bool) → ((q : m.Point) → m.run q ts ≡ Err (obstacle.Inner (no.Limit l)) → (word : List ℕ) × (line : ℕ) × (answer (opens_with n t.kind) t.line q ts ≡ Err (x.X10 word, line))) →
+        (word : List ℕ) × (line : ℕ) × (cond b (Err (x.X10 (codes "height"), t.line)) (next (λ q. answer (opens_with n t.kind) t.line q ts) before t.line (m.advance t p)) ≡ Err (x.X10 word, line))
+    deep true more = (codes "height", t.line, refl)
+    deep false more = at (m.advance t p) more h
 
 pub crowded_call : (ts : List Symbol) → CrowdedCall ts → (word : List ℕ) × (line : ℕ) × (answer 0 1 m.start ts ≡ Err (x.X10 word, line))
 crowded_call ts v =

@@ -44,3 +44,10 @@ pub type_else : (t : Symbol) (kd : Kind) (names : Names) (fs : List Around) (l :
     Goes (m.in_specifiers t fs (step t (names, (f.Outer ∷ [], e.Words (with_word (no_words l) (word.Typedef l text)))))) r after gs → Goes (m.behind_type t names fs l text kd) r after gs
 type_else t k.Colon names fs l text r after gs p h = absurd (p refl)
 type_else t _ names fs l text r after gs p h = h
+
+-- An initialiser that is an expression.
+pub initial_else : (t : Symbol) (names : Names) (fs : List Around) (kd : Kind) (r : Result Stage Obstacle) (after : Names) (gs : List Around) → (kd ≡ k.LeftBrace → ⊥) → (kd ≡ k.RightBrace → ⊥) →
+    Goes (m.begin 2 t names fs) r after gs → Goes (m.initial t names fs kd) r after gs
+initial_else t names fs k.LeftBrace r after gs p q h = absurd (p refl)
+initial_else t names fs k.RightBrace r after gs p q h = absurd (q refl)
+initial_else t names fs _ r after gs p q h = h

@@ -27,6 +27,18 @@ const COUNTS: &[(u32, &str, [&str; 4])] = &[
         "taken",
         ["void f(int i) { switch (i) {", " case ", ": ;", " } }"],
     ),
+    (1499, "taken", ["void f(void) {", " a", ":", " ; }"]),
+    (1500, "X10 height 1", ["void f(void) {", " a", ":", " ; }"]),
+    (
+        10000,
+        "taken",
+        ["void f(void) {", " a", ": ;", " goto a0; goto a9999; }"],
+    ),
+    (
+        10000,
+        "X6 2",
+        ["void f(void) { goto a0; {\n", " goto a", ";", " } a0: ; }"],
+    ),
     (10000, "taken", ["", "int a", ";", " int *p = &a9999;"]),
     (10000, "taken", ["", "int f", "(int a) { return a; }", ""]),
     (

@@ -159,7 +159,7 @@ implicitint|f\n\
 5|{ a + b: ; }\n\
 5|{ 1: ; }\n\
 5|{ int: ; }\n\
-5|a: ;\n\
+implicitint|a: ;\n\
 1|{ a: b: c: ; d: { e: x; } }\n\
 1|{ int x; a: x = 1; goto a; b: return; }\n\
 1|{ a: a: ; }\n\

@@ -2,7 +2,7 @@ use Rattle.sc_build.proofs.Phases.{grammar_fails}
 use Rattle.sc_build.proofs.building.parsed.Goals as goal
 
 pub returns-in-Ok : goal.returns-in-Ok
-returns-in-Ok c = c.checked.ensures c.args.tokens.now c.in-Ok.ensures.only
+returns-in-Ok c = c.checked.ensures c.args.tokens.now (c.in-Ok.ensures.only, c.in-Ok.ensures.shallow)
 
 pub returns-in-Err : goal.returns-in-Err
 returns-in-Err c =
