@@ -1,9 +1,13 @@
-union word { int i; unsigned char b[4]; };
+union word {
+    unsigned number;
+    unsigned char bytes[4];
+};
 
 int main(void)
 {
-    union word x;
+    union word w;
 
-    x.i = 258;
-    return x.b[0] + x.b[1];
+    w.number = 258;
+    w.bytes[1] = 3;
+    return w.number == 770 && w.bytes[0] == 2;
 }

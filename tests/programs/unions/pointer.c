@@ -1,10 +1,13 @@
-union both { int *p; int n; };
+union both {
+    int *place;
+    int number;
+};
 
 int main(void)
 {
     int a;
     union both x;
 
-    x.p = &a;
-    return x.n;
+    x.place = &a;
+    return x.number;
 }
