@@ -166,7 +166,7 @@ impl Store {
             return Err(NoMemory);
         };
         let stored = cell_of(&mut self.functions, &self.memory, cell)?;
-        let Some(()) = self.memory.set_cell(address, stored) else {
+        let Some(()) = self.memory.set_cell(address, stored)? else {
             return Err(NoMemory);
         };
         self.history = after(&self.history, Change::Put(id, at, Snapshot::of(cell)));
