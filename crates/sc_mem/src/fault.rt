@@ -3,7 +3,8 @@ ghost use Rattle.std.specs.Prelude.{◌≡◌};
 
 use sc_base::{NoMemory, Rule};
 
-/// Why a checked store or copy did not take place: the first rule that it breaks, or, where it breaks none, want of memory.
+/// Why a checked store or copy did not take place: the first rule that it breaks, or, where it breaks none, want of
+/// memory.
 #[derive(Clone, Copy, Debug, PartialEq, Eq)]
 pub enum StoreFault {
     Broken(Rule),
