@@ -55,11 +55,9 @@ fn image(alloc: Global, first: u32, second: u32) -> Result<Image, NoMemory> {
     Ok(image)
 }
 
-// A memory of 4,096 bytes of stack and of heap, in which this word stands at `PLACE`.
-fn memory(alloc: Global, stored: Word) -> Result<Memory, NoMemory> {
-    let mut memory = Memory::new(alloc, 4096, 4096)?;
-    let _ = memory.raw_store(PLACE, 4, stored)?;
-    Ok(memory)
+// A memory of 4,096 bytes of stack and of heap. To make one takes long, so each test makes one alone.
+fn memory(alloc: Global) -> Result<Memory, NoMemory> {
+    Memory::new(alloc, 4096, 4096)
 }
 
 // Registers with these words in a1 and a2, at the start of the texts.
@@ -72,12 +70,18 @@ fn registers(a: Word, b: Word) -> Regs {
 }
 
 // What a0 holds behind one step of an instruction, or 1 or 0 as it is a branch that is taken or not.
-fn result(alloc: Global, instruction: u32, a: u32, b: u32) -> Result<Option<u32>, NoMemory> {
+fn result(
+    alloc: Global,
+    memory: &mut Memory,
+    instruction: u32,
+    a: u32,
+    b: u32,
+) -> Result<Option<u32>, NoMemory> {
     let image = image(alloc, instruction, 0)?;
-    let mut memory = memory(alloc, word(a, 0))?;
+    let _ = memory.raw_store(PLACE, 4, word(a, 0))?;
     let place = if instruction % 128 == 3 { PLACE } else { b };
     let mut regs = registers(word(a, 0), word(place, 0));
-    if step(&mut regs, &image, &mut memory) != Step::Went {
+    if step(&mut regs, &image, memory) != Step::Went {
         return Ok(None);
     }
     let taken = if regs.pc() == TEXTS + 8 { 1 } else { 0 };
@@ -91,7 +95,7 @@ fn number(text: Option<&str>) -> Option<u32> {
 }
 
 // Whether a line of the table holds.
-fn holds(alloc: Global, line: &str) -> Result<bool, NoMemory> {
+fn holds(alloc: Global, memory: &mut Memory, line: &str) -> Result<bool, NoMemory> {
     let mut parts = line.split(' ').skip(1);
     let instruction = number(parts.next());
     let a = number(parts.next());
@@ -100,14 +104,15 @@ fn holds(alloc: Global, line: &str) -> Result<bool, NoMemory> {
     let (Some(instruction), Some(a), Some(b)) = (instruction, a, b) else {
         return Ok(false);
     };
-    Ok(want.is_some() && result(alloc, instruction, a, b)? == want)
+    Ok(want.is_some() && result(alloc, memory, instruction, a, b)? == want)
 }
 
 #[test]
 fn numbers_as_qemu_gives_them(rt: HostRuntime) -> Result<(), Fail> {
+    let mut memory = memory(rt.alloc())?;
     let mut lines = 0u32;
     for line in ROWS.lines() {
-        assert!(rt; holds(rt.alloc(), line)?, "{line}");
+        assert!(rt; holds(rt.alloc(), &mut memory, line)?, "{line}");
         lines = lines.saturating_add(1);
     }
     assert_eq!(rt; lines, COUNT);
@@ -115,16 +120,23 @@ fn numbers_as_qemu_gives_them(rt: HostRuntime) -> Result<(), Fail> {
 }
 
 // What a0 holds behind one step, with its tag.
-fn tagged(alloc: Global, instruction: u32, a: Word, b: Word) -> Result<Word, NoMemory> {
+fn tagged(
+    alloc: Global,
+    memory: &mut Memory,
+    instruction: u32,
+    a: Word,
+    b: Word,
+) -> Result<Word, NoMemory> {
     let image = image(alloc, instruction, 0)?;
-    let mut memory = memory(alloc, word(0x1000_0000, 9))?;
+    let _ = memory.raw_store(PLACE, 4, word(0x1000_0000, 9))?;
     let mut regs = registers(a, b);
-    let _ = step(&mut regs, &image, &mut memory);
+    let _ = step(&mut regs, &image, memory);
     Ok(regs.get(10))
 }
 
 #[test]
 fn tags_stay_with_pointers(rt: HostRuntime) -> Result<(), Fail> {
+    let mut memory = memory(rt.alloc())?;
     let four = word(4, 0);
     let p = word(PLACE, 7);
     for (instruction, a, b, want) in [
@@ -140,29 +152,31 @@ fn tags_stay_with_pointers(rt: HostRuntime) -> Result<(), Fail> {
         (0x0005_a503, p, four, word(0x1000_0000, 9)), // lw
         (0x0035_8503, p, four, word(0x10, 0)), // lb 3
     ] {
-        assert_eq!(rt;
-            tagged(rt.alloc(), instruction, a, b)?,
-            want,
-            "{instruction}"
-        );
+        let is = tagged(rt.alloc(), &mut memory, instruction, a, b)?;
+        assert_eq!(rt; is, want, "{instruction}");
     }
     Ok(())
 }
 
 // How the first step ends that does not go on, of two, and where the next instruction is then.
-fn ends(alloc: Global, first: u32, second: u32) -> Result<(Step, u32), NoMemory> {
+fn ends(
+    alloc: Global,
+    memory: &mut Memory,
+    first: u32,
+    second: u32,
+) -> Result<(Step, u32), NoMemory> {
     let image = image(alloc, first, second)?;
-    let mut memory = memory(alloc, word(0, 0))?;
     let mut regs = registers(word(0xf000, 0), word(0x2000_0000, 0));
-    let mut last = step(&mut regs, &image, &mut memory);
+    let mut last = step(&mut regs, &image, memory);
     if last == Step::Went {
-        last = step(&mut regs, &image, &mut memory);
+        last = step(&mut regs, &image, memory);
     }
     Ok((last, regs.pc()))
 }
 
 #[test]
 fn steps_that_do_not_go_on(rt: HostRuntime) -> Result<(), Fail> {
+    let mut memory = memory(rt.alloc())?;
     for (first, second, last, pc) in [
         (0x0000_0067, 0, Step::Stopped(Crash::BadFetch), 0), // jalr x0, 0(x0)
         (0x0020_0067, 0, Step::Stopped(Crash::Misfetch), 2), // jalr x0, 2(x0)
@@ -182,11 +196,8 @@ fn steps_that_do_not_go_on(rt: HostRuntime) -> Result<(), Fail> {
             TEXTS + 4,
         ), // fence; ebreak
     ] {
-        assert_eq!(rt;
-            ends(rt.alloc(), first, second)?,
-            (last, pc),
-            "{first} {second}"
-        );
+        let is = ends(rt.alloc(), &mut memory, first, second)?;
+        assert_eq!(rt; is, (last, pc), "{first} {second}");
     }
     Ok(())
 }
@@ -195,7 +206,7 @@ fn steps_that_do_not_go_on(rt: HostRuntime) -> Result<(), Fail> {
 #[test]
 fn stores_are_seen_by_loads(rt: HostRuntime) -> Result<(), Fail> {
     let image = image(rt.alloc(), 0x00b6_2023, 0x0006_00a3)?; // sw a1, 0(a2); sb x0, 1(a2)
-    let mut memory = memory(rt.alloc(), word(0, 0))?;
+    let mut memory = memory(rt.alloc())?;
     let mut regs = registers(word(0x1234_5678, 9), word(PLACE, 0));
     for want in [word(0x1234_5678, 9), word(0x1234_0078, 0)] {
         assert_eq!(rt; step(&mut regs, &image, &mut memory), Step::Went);
@@ -207,7 +218,7 @@ fn stores_are_seen_by_loads(rt: HostRuntime) -> Result<(), Fail> {
 #[test]
 fn register_0_stays_0(rt: HostRuntime) -> Result<(), Fail> {
     let image = image(rt.alloc(), 0x00b0_0033, 0x0005_8013)?; // add x0, x0, a1; addi x0, a1, 0
-    let mut memory = memory(rt.alloc(), word(0, 0))?;
+    let mut memory = memory(rt.alloc())?;
     let mut regs = registers(word(5, 9), word(0, 0));
     for _ in 0..2u32 {
         assert_eq!(rt; step(&mut regs, &image, &mut memory), Step::Went);
