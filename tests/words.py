@@ -44,23 +44,25 @@ def shown(words):
     """Objdump's text of each word as the only one of a file; empty where it is no instruction of RV32IM."""
     with tempfile.TemporaryDirectory() as room:
         at = pathlib.Path(room) / "words"
-        # a word that is no whole instruction may swallow what follows, so each stands before three that show where it ends
-        at.write_bytes(b"".join(struct.pack("<4I", w, 0x13, 0x13, 0x13) for w in words))
+        # a word that is no whole instruction may swallow what follows, so each stands before seven that show where it ends
+        at.write_bytes(b"".join(struct.pack("<8I", w, *[0x13] * 7) for w in words))
         out = subprocess.run(["riscv64-unknown-elf-objdump", "-D", "-b", "binary", "-m", "riscv:rv32", "-M", "no-aliases,numeric", at],
                              check=True, capture_output=True, text=True).stdout
     texts = {}
     for line in out.splitlines():
         found = re.match(r"\s*([0-9a-f]+):\s+([0-9a-f]{8})\s+(\S+)\s*(\S*)", line)
-        if found and int(found[1], 16) % 16 == 0:
-            texts[int(found[1], 16) // 16] = (found[3], found[4])
+        if found and int(found[1], 16) % 32 == 0:
+            texts[int(found[1], 16) // 32] = (found[3], found[4])
     for n, word in enumerate(words):
         name, operands = texts.get(n, ("", ""))
         if name in ("jal", *BRANCHES):
             # the target as an offset from the word
             first, target = operands.rsplit(",", 1)
-            offset = (int(target, 16) - 16 * n + 2 ** 31) % 2 ** 32 - 2 ** 31
+            offset = (int(target, 16) - 32 * n + 2 ** 31) % 2 ** 32 - 2 ** 31
             operands = f"{first},{offset}"
-        known = name in NAMES or word == 0x0FF0000F
+        # objdump shows counts of 64-bit shifts, too
+        counted = name in ("slli", "srli", "srai") and int(operands.rsplit(",", 1)[1], 0) > 31
+        known = name in NAMES and not counted or word == 0x0FF0000F
         yield f"{name} {operands}".strip() if known else ""
 
 
