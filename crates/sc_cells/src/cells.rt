@@ -1,5 +1,5 @@
 // A list of cells of a fixed length.
-ghost use Rattle.std.specs.Prelude.{◌≡◌, ◌+◌, ◌<◌, ◌≤◌, length, replicate, slice_get, slice_set, IfOk, List};
+ghost use Rattle.std.specs.Prelude.{◌≡◌, ◌+◌, ◌<◌, ◌≤◌, length, replicate, slice_get, slice_set, IfOk, List, MatchResult};
 ghost use Rattle.sc_base.specs.declared.memory.Cell.{Cell};
 ghost use Rattle.sc_cells.specs.Range.{range_of, with_range};
 
@@ -7,7 +7,8 @@ use sc_base::{Cell, NoMemory};
 use std::alloc::Global;
 use std::marker::Model;
 
-/// As many cells as were asked for, seen as the list of them. Only `new` takes memory. A cell takes at most 16 bytes.
+/// As many cells as were asked for, seen as the list of them. What writes cells may answer want of memory, and changes
+/// nothing then; what reads or clears them never does. A cell takes at most 16 bytes.
 #[derive(Drop)]
 pub struct Cells {
     cells: Vec<Cell>,
@@ -37,18 +38,30 @@ impl Cells {
     }
 
     /// Puts another cell at a place.
-    pub fn write(&mut self, at: u32, c: Cell)
+    pub fn write(&mut self, at: u32, c: Cell) -> Result<(), NoMemory>
         requires { at < length self.old }
-        ensures { self.new ≡ slice_set self.old at c }
+        ensures { MatchResult result (λ _. self.new ≡ slice_set self.old at c) (λ _. self.new ≡ self.old) }
     {
         self.cells[at as usize] = c;
+        Ok(())
+    }
+
+    /// Puts other cells at the places from `at` on, all of them or none.
+    pub fn write_row(&mut self, at: u32, row: &[Cell]) -> Result<(), NoMemory>
+        requires { at + length row.now ≤ length self.old }
+        ensures cells { MatchResult result (λ _. self.new ≡ with_range self.old at row.now) (λ _. self.new ≡ self.old) }
+        ensures len { length self.new ≡ length self.old }
+    {
+        let at = at as usize;
+        self.cells[at..at + row.len()].copy_from_slice(row);
+        Ok(())
     }
 
     /// Copies the `n` cells from `from` on to the places from `to` on, as if by way of another place.
-    pub fn copy(&mut self, to: u32, from: u32, n: u32)
+    pub fn copy(&mut self, to: u32, from: u32, n: u32) -> Result<(), NoMemory>
         requires target { to + n ≤ length self.old }
         requires source { from + n ≤ length self.old }
-        ensures cells { self.new ≡ with_range self.old to (range_of self.old from n) }
+        ensures cells { MatchResult result (λ _. self.new ≡ with_range self.old to (range_of self.old from n)) (λ _. self.new ≡ self.old) }
         ensures len { length self.new ≡ length self.old }
     {
         if to <= from {
@@ -56,6 +69,7 @@ impl Cells {
         } else {
             copy_downward(&mut self.cells, to as usize, from as usize, n as usize);
         }
+        Ok(())
     }
 
     /// Makes the `n` cells from `at` on unwritten.

@@ -2,7 +2,7 @@
 use Rattle.std.specs.Prelude.{ℕ, ◌+◌, ◌*◌, ◌-◌, ◌/◌, ◌%◌, ◌^◌, ◌==◌, nat_lt, if◌then◌else◌, ℤ, pos, negsuc, Option, Some, None}
 use Rattle.std.specs.Option.{option_map}
 use Rattle.sc_isa.specs.declared.instruction.Instr.{Instr}
-use Rattle.sc_isa.specs.declared.instruction.Instr.TheVariants.{Lui, Auipc, Jal, Jalr, Branch, Load, Store, Imm, Reg}
+use Rattle.sc_isa.specs.declared.instruction.Instr.TheVariants.{Lui, Auipc, Jal, Jalr, Branch, Load, Store, Imm, Reg, Ecall, Fence}
 use Rattle.sc_isa.specs.declared.instruction.BranchOp.{BranchOp}
 use Rattle.sc_isa.specs.declared.instruction.BranchOp.TheVariants.{Beq, Bne, Blt, Bge, Bltu, Bgeu}
 use Rattle.sc_isa.specs.declared.instruction.LoadOp.{LoadOp}
@@ -126,3 +126,7 @@ by_opcode opcode w =
     if opcode == 0x23 then read_store w else
     if opcode == 0x13 then read_imm w else
     if opcode == 0x33 then read_reg w else None
+
+-- the instruction of a word; `None` for a word that is not in the table
+abbrev pub instr_of : ℕ → Option Instr
+instr_of w = if w == 0x00000073 then Some Ecall else if w == 0x0ff0000f then Some Fence else by_opcode (w % 2 ^ 7) w

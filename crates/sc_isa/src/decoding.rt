@@ -2,13 +2,15 @@
 ghost use Rattle.std.specs.Prelude.{◌≡◌, ℕ, ◌+◌, ◌*◌, ◌/◌, ◌%◌, ◌^◌, ◌<◌, ◌≤◌, IfSome};
 ghost use Rattle.sc_isa.specs.declared.instruction.Instr.{Instr as Instruction};
 ghost use Rattle.sc_isa.specs.Table.{word_of, IsSound};
-ghost use Rattle.sc_isa.specs.Reading.{rd_of, funct3_of, rs1_of, rs2_of, funct7_of, extend, branch_bits, jump_bits, branch_op, load_op, store_op, shift_op, short_op, base_op, other_op, multiply_op, reg_op, read_jalr, read_branch, read_load, read_store, read_shift, read_short, read_imm, read_reg, by_opcode};
+ghost use Rattle.sc_isa.specs.Reading.{rd_of, funct3_of, rs1_of, rs2_of, funct7_of, extend, branch_bits, jump_bits, branch_op, load_op, store_op, shift_op, short_op, base_op, other_op, multiply_op, reg_op, instr_of, read_jalr, read_branch, read_load, read_store, read_shift, read_short, read_imm, read_reg, by_opcode};
 
 use crate::{BranchOp, ImmOp, Instr, LoadOp, RegOp, StoreOp};
 
 /// The instruction of a word (RISC-V unprivileged manual, 2.2 and 2.3). `None` says that no instruction of `Instr` has this word,
 /// as for other fences, the system's instructions and other extensions. Undoes `encode`, and `encode` undoes it.
+#[inline(always)]
 pub fn decode(w: u32) -> Option<Instr>
+    ensures value { result ≡ instr_of w }
     ensures sound { IfSome result (λ i. IsSound i × (word_of i ≡ w)) }
     ensures complete { (i : Instruction) → IsSound i → word_of i ≡ w → result ≡ Some i }
 {

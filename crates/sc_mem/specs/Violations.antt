@@ -1,6 +1,6 @@
 -- The tests of undefined steps on pointers and accesses, over the cells and the objects by number: each is the one test of
--- its rule, on what the word's tag and address find.
-use Rattle.std.specs.Prelude.{ℕ, ◌+◌, ◌==◌, ◌||◌, Bool, true, false, List, [], ◌∷◌, Option, None, Some, ℤ, pos, ◌+ℤ◌, ◌*ℤ◌}
+-- its rule, on what the word's tag finds, and on the word's offset in it.
+use Rattle.std.specs.Prelude.{ℕ, ◌+◌, ◌-◌, ◌%◌, ◌^◌, ◌==◌, Bool, true, false, List, [], ◌∷◌, Option, None, Some, ℤ, pos, ◌+ℤ◌, ◌*ℤ◌}
 use Rattle.std.specs.List.{list_any, list_all}
 use Rattle.sc_base.specs.declared.memory.Cell.{Cell}
 use Rattle.sc_base.specs.declared.memory.Cell.TheVariants.{Unwritten, Byte, Frag}
@@ -27,9 +27,17 @@ of_object none test (Some o) = test o
 abbrev pub is_dead : List Obj → Word → Bool
 is_dead objects p = of_object false (λ o. tests.is_dead o.live) (object_of objects p.tag)
 
+-- how far behind its object's base an address lies, modulo 2^32; the address itself where there is no object
+abbrev pub offset_from : ℕ → Option Obj → ℕ
+offset_from bits None = bits
+offset_from bits (Some o) = (bits + (2 ^ 32 - o.base)) % 2 ^ 32
+
+abbrev pub offset_in : List Obj → Word → ℕ
+offset_in objects p = offset_from p.bits (object_of objects p.tag)
+
 -- U2: the n bytes are not inside the object, or the pointer has no object, as a function's and a number
 abbrev pub is_outside : List Obj → Word → ℕ → Bool
-is_outside objects p n = of_object true (λ o. tests.begins_outside o.base p.bits || tests.ends_outside (o.base + o.size) p.bits n) (object_of objects p.tag)
+is_outside objects p n = of_object true (λ o. tests.ends_outside o.size (offset_in objects p) n) (object_of objects p.tag)
 
 -- U10: the address is no multiple of the size
 abbrev pub is_misaligned : Word → ℕ → Bool
@@ -76,18 +84,18 @@ copy_rule m to from n = orders.first_rule ((is_null from, U4) ∷ (is_dead m.obj
 abbrev pub is_number : Word → Bool
 is_number p = tests.is_number (p.tag == 0) p.bits
 
--- where p + n points, for elements of this size
-abbrev pub target : Word → ℤ → ℕ → ℤ
-target p n size = pos p.bits +ℤ n *ℤ pos size
+-- the offset that lies n elements of this size from another one
+abbrev pub target : ℕ → ℤ → ℕ → ℤ
+target offset n size = pos offset +ℤ n *ℤ pos size
 
--- a place is below an object's base or past its end
-abbrev pub is_beyond : ℕ → ℕ → ℤ → Bool
-is_beyond base size place = tests.is_beyond base (base + size) place
+-- an offset is below 0 or past the end of an object of this size
+abbrev pub is_beyond : ℕ → ℤ → Bool
+is_beyond size place = tests.is_beyond 0 size place
 
 -- U5: pointer plus n is below its object or past its end, or n is not 0 and the pointer null. A function's pointer
 -- has no object that the result could be in
 abbrev pub leaves_object : List Obj → Word → ℤ → ℕ → Bool
-leaves_object objects p n size = tests.leaves_object (is_null p) n (of_object true (λ o. is_beyond o.base o.size (target p n size)) (object_of objects p.tag))
+leaves_object objects p n size = tests.leaves_object (is_null p) n (of_object true (λ o. is_beyond o.size (target (offset_in objects p) n size)) (object_of objects p.tag))
 
 -- the rule that pointer plus n breaks
 abbrev pub shift_rule : Flat → Word → ℤ → ℕ → Option Rule

@@ -19,10 +19,10 @@ pub fn reach(objects: &Objects, p: Word, n: u32) -> Option<Rule>
     match objects.find(p.tag) {
         None => Some(Rule::U2),
         Some(object) => {
-            let end = u64::from(object.base) + u64::from(object.size);
+            let offset = u64::from(p.bits.wrapping_sub(object.base));
             if !object.live {
                 Some(Rule::U3)
-            } else if p.bits < object.base || end < u64::from(p.bits) + u64::from(n) {
+            } else if u64::from(object.size) < offset + u64::from(n) {
                 Some(Rule::U2)
             } else {
                 None

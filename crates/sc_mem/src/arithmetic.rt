@@ -1,18 +1,29 @@
-// Pointer arithmetic in whole numbers, whatever their size.
-ghost use Rattle.std.specs.Prelude.{◌≡◌, ◌+◌, ◌^◌, ◌<◌, true, false, pos, MatchOption};
-ghost use Rattle.sc_mem.specs.Violations.{is_beyond, target};
+// Offsets of pointers in their objects, and sums with them in whole numbers, whatever their size.
+ghost use Rattle.std.specs.Prelude.{◌≡◌, ◌≤◌, true, false, pos, IfSome, MatchOption};
+ghost use Rattle.sc_mem.specs.Violations.{is_beyond, offset_in, target};
 
 use sc_base::Word;
+use sc_objects::Objects;
 
-/// The address that lies `n` elements of `size` bytes from a pointer's: `None` exactly where it is below the base of
-/// an object or past its end.
-pub fn moved(p: Word, n: i64, size: u32, base: u32, bytes: u32) -> Option<u32>
-    requires { base + bytes < 2 ^ 32 }
-    ensures { MatchOption result (is_beyond base bytes (target p n size) ≡ true) (λ at. (is_beyond base bytes (target p n size) ≡ false) × (pos at ≡ target p n size)) }
+/// How far behind its object's base a pointer points, modulo 2^32. Without an object, its address.
+pub fn offset(objects: &Objects, p: Word) -> u32
+    ensures { result ≡ offset_in objects.now p }
+{
+    match objects.find(p.tag) {
+        None => p.bits,
+        Some(object) => p.bits.wrapping_sub(object.base),
+    }
+}
+
+/// The offset that lies `n` elements of `size` bytes from another one: `None` exactly where it is below 0 or past the
+/// end of an object of so many bytes.
+pub fn moved(offset: u32, n: i64, size: u32, bytes: u32) -> Option<u32>
+    ensures inside { IfSome result (λ at. at ≤ bytes) }
+    ensures place { MatchOption result (is_beyond bytes (target offset n size) ≡ true) (λ at. (is_beyond bytes (target offset n size) ≡ false) × (pos at ≡ target offset n size)) }
 {
     let step = n.checked_mul(i64::from(size))?;
-    let place = step.checked_add(i64::from(p.bits))?;
-    if place < i64::from(base) || i64::from(base + bytes) < place {
+    let place = step.checked_add(i64::from(offset))?;
+    if place < 0 || i64::from(bytes) < place {
         return None;
     }
     Some(place as u32)

@@ -2,10 +2,12 @@
 ghost use Rattle.std.specs.Prelude.{◌≡◌, ◌<◌, None, Some, MatchResult};
 ghost use Rattle.sc_rules.specs.Tests as tests;
 ghost use Rattle.sc_mem.specs.Violations.{is_dead, is_number};
-ghost use Rattle.sc_mem.specs.Comparisons.{are_unrelated, difference_rule, elements_of, equality_rule, free_rule, is_overlapping, order_rule, truth_rule};
+ghost use Rattle.sc_mem.specs.Comparisons.{are_unrelated, difference_rule, elements_of, equality_rule, free_rule, is_overlapping, order_of, order_rule, truth_rule};
 
+use crate::arithmetic::offset;
 use sc_base::{Kind, Rule, Word};
 use sc_objects::Objects;
+use std::cmp::Ordering;
 
 /// The first of U15 and U3 that a truth test breaks.
 pub fn truth(objects: &Objects, p: Word) -> Option<Rule>
@@ -51,7 +53,7 @@ pub fn order(objects: &Objects, p: Word, q: Word) -> Option<Rule>
 /// The elements of `size` bytes from `q` to `p`, or the first of U15, U3, U6 and U5 that their difference breaks.
 pub fn difference(objects: &Objects, p: Word, q: Word, size: u32) -> Result<i64, Rule>
     requires { 0 < size }
-    ensures { MatchResult result (λ n. (difference_rule objects.now p q size ≡ None) × (n ≡ elements_of p q size)) (λ rule. difference_rule objects.now p q size ≡ Some rule) }
+    ensures { MatchResult result (λ n. (difference_rule objects.now p q size ≡ None) × (n ≡ elements_of objects.now p q size)) (λ rule. difference_rule objects.now p q size ≡ Some rule) }
 {
     if number(p) || number(q) {
         return Err(Rule::U15);
@@ -62,7 +64,7 @@ pub fn difference(objects: &Objects, p: Word, q: Word, size: u32) -> Result<i64,
     if unrelated(objects, p, q) {
         return Err(Rule::U6);
     }
-    let bytes = i64::from(p.bits) - i64::from(q.bits);
+    let bytes = i64::from(offset(objects, p)) - i64::from(offset(objects, q));
     if uneven(bytes, size) {
         return Err(Rule::U5);
     }
@@ -80,18 +82,27 @@ pub fn freeing(objects: &Objects, p: Word) -> Option<Rule>
         return Some(Rule::U14);
     };
     match object.kind {
-        Kind::Heap if object.live && p.bits == object.base => None,
+        Kind::Heap if object.live && p.bits.wrapping_sub(object.base) == 0 => None,
         _ => Some(Rule::U14),
     }
 }
 
 /// Whether `n` bytes from `p` on and `m` bytes from `q` on have a byte in common (U18).
-pub fn overlap(p: Word, n: u32, q: Word, m: u32) -> bool
-    ensures { result ≡ is_overlapping p n q m }
+pub fn overlap(objects: &Objects, p: Word, n: u32, q: Word, m: u32) -> bool
+    ensures { result ≡ is_overlapping objects.now p n q m }
 {
-    let end = u64::from(p.bits) + u64::from(n);
-    let other = u64::from(q.bits) + u64::from(m);
-    p.tag == q.tag && u64::from(p.bits.max(q.bits)) < end.min(other)
+    let first = offset(objects, p);
+    let other = offset(objects, q);
+    let end = u64::from(first) + u64::from(n);
+    let last = u64::from(other) + u64::from(m);
+    p.tag == q.tag && u64::from(first.max(other)) < end.min(last)
+}
+
+/// The order of the offsets of two pointers.
+pub fn ordering(objects: &Objects, p: Word, q: Word) -> Ordering
+    ensures { result ≡ order_of objects.now p q }
+{
+    offset(objects, p).cmp(&offset(objects, q))
 }
 
 // U15: a number that is not null.

@@ -5,8 +5,9 @@ mod access;
 mod areas;
 mod arithmetic;
 mod comparison;
+mod fault;
 mod memory;
 mod words;
 
-pub use comparison::overlap;
+pub use fault::StoreFault;
 pub use memory::Memory;

@@ -10,9 +10,10 @@ ghost use Rattle.std.specs.Prelude.{IsTrue};
 
 use crate::access::{constant, reach, rule_in};
 use crate::areas::{HEAP, STACK_END, STATIC_BYTES, place};
-use crate::arithmetic::moved;
-use crate::comparison::{difference, equality, freeing, order, truth};
-use crate::words::{load_word, put_one, store_word};
+use crate::arithmetic::{moved, offset};
+use crate::comparison::{difference, equality, freeing, order, ordering, overlap, truth};
+use crate::fault::StoreFault;
+use crate::words::{load_word, store_word};
 use sc_base::{Cell, Kind, NoMemory, Rule, Word};
 use sc_cells::Cells;
 use sc_objects::{BirthFault, Heap, Obj, Objects};
@@ -87,29 +88,37 @@ impl Memory {
     }
 
     /// Writes the `size` bytes at an address, without a test, as the note `Put` does: `None` exactly outside the
-    /// areas and where the address is no multiple of the size, and nothing is changed then.
-    pub fn raw_store(&mut self, at: u32, size: u8, w: Word) -> Option<()>
+    /// areas and where the address is no multiple of the size. Nothing is changed then, nor where memory runs out.
+    #[inline(always)]
+    pub fn raw_store(&mut self, at: u32, size: u8, w: Word) -> Result<Option<()>, NoMemory>
         requires { IsSize size }
-        ensures { MatchOption result ((aligned_place self.old.flat at size ≡ None) × (self.new ≡ self.old)) (λ _. (self.new.flat ≡ apply self.old.flat (Put at size w)) × (self.new.blocks ≡ self.old.blocks)) }
+        ensures { MatchResult result (λ done. MatchOption done ((aligned_place self.old.flat at size ≡ None) × (self.new ≡ self.old)) (λ _. IsSome (aligned_place self.old.flat at size) × (self.new.flat ≡ apply self.old.flat (Put at size w)) × (self.new.blocks ≡ self.old.blocks))) (λ _. IsSome (aligned_place self.old.flat at size) × (self.new ≡ self.old)) }
     {
         if at % u32::from(size) != 0 {
-            return None;
+            return Ok(None);
         }
-        let i = place(self.heap_bytes, self.stack, at, u32::from(size))?;
-        store_word(&mut self.cells, i, size, w);
-        Some(())
+        let Some(i) = place(self.heap_bytes, self.stack, at, u32::from(size)) else {
+            return Ok(None);
+        };
+        store_word(&mut self.cells, i, size, w)?;
+        Ok(Some(()))
     }
 
     /// Copies `n` cells as they are, without a test and as if by way of another place, as the note `Copy` does:
-    /// `None` exactly where one of the two ranges is outside the areas, and nothing is changed then.
-    pub fn raw_copy(&mut self, to: u32, from: u32, n: u32) -> Option<()>
-        ensures none { MatchOption result ((place_of self.old.flat to n ≡ None) ⊎ (place_of self.old.flat from n ≡ None)) (λ _. IsSome (place_of self.old.flat to n) × IsSome (place_of self.old.flat from n)) }
-        ensures copy { MatchOption result (self.new ≡ self.old) (λ _. (self.new.flat ≡ apply self.old.flat (Copy to from n)) × (self.new.blocks ≡ self.old.blocks)) }
+    /// `None` exactly where one of the two ranges is outside the areas. Nothing is changed then, nor where memory runs
+    /// out.
+    pub fn raw_copy(&mut self, to: u32, from: u32, n: u32) -> Result<Option<()>, NoMemory>
+        ensures none { MatchResult result (λ done. MatchOption done ((place_of self.old.flat to n ≡ None) ⊎ (place_of self.old.flat from n ≡ None)) (λ _. IsSome (place_of self.old.flat to n) × IsSome (place_of self.old.flat from n))) (λ _. IsSome (place_of self.old.flat to n) × IsSome (place_of self.old.flat from n)) }
+        ensures copy { MatchResult result (λ done. MatchOption done (self.new ≡ self.old) (λ _. (self.new.flat ≡ apply self.old.flat (Copy to from n)) × (self.new.blocks ≡ self.old.blocks))) (λ _. self.new ≡ self.old) }
     {
-        let to = place(self.heap_bytes, self.stack, to, n)?;
-        let from = place(self.heap_bytes, self.stack, from, n)?;
-        self.cells.copy(to, from, n);
-        Some(())
+        let Some(to) = place(self.heap_bytes, self.stack, to, n) else {
+            return Ok(None);
+        };
+        let Some(from) = place(self.heap_bytes, self.stack, from, n) else {
+            return Ok(None);
+        };
+        self.cells.copy(to, from, n)?;
+        Ok(Some(()))
     }
 
     /// The object with a number: `None` exactly for a number that is not born.
@@ -132,7 +141,8 @@ impl Memory {
 impl Memory {
     ghost use Rattle.sc_mem.specs.Flat.{Flat, apply, cells_at};
     ghost use Rattle.sc_mem.specs.Words.{word_of};
-    ghost use Rattle.sc_mem.specs.Violations.{copy_rule, load_rule, shift_rule, store_rule, target};
+    ghost use Rattle.sc_mem.specs.Faults.{IsFaultOf};
+    ghost use Rattle.sc_mem.specs.Violations.{copy_rule, load_rule, offset_in, shift_rule, store_rule, target};
 
     /// A checked load of 1, 2 or 4 bytes through a pointer, of a pointer or of a number: the first of U4, U3, U2,
     /// U10, U1 and U15 that it breaks, else what the bytes hold.
@@ -160,7 +170,7 @@ impl Memory {
     /// A pointer plus `n` elements of `size` bytes: the first of U15, U3 and U5 that it breaks, else the pointer to
     /// that place, in the same object. Null plus 0 is null.
     pub fn shift(&self, p: Word, n: i64, size: u32) -> Result<Word, Rule>
-        ensures { MatchResult result (λ w. (shift_rule self.now.flat p n size ≡ None) × (pos w.bits ≡ target p n size) × (w.tag ≡ p.tag)) (λ rule. shift_rule self.now.flat p n size ≡ Some rule) }
+        ensures { MatchResult result (λ w. (shift_rule self.now.flat p n size ≡ None) × (pos (offset_in self.now.flat.objects w) ≡ target (offset_in self.now.flat.objects p) n size) × (w.tag ≡ p.tag)) (λ rule. shift_rule self.now.flat p n size ≡ Some rule) }
     {
         let objects = &self.objects;
         if p.tag == 0 {
@@ -178,81 +188,92 @@ impl Memory {
         if !object.live {
             return Err(Rule::U3);
         }
-        match moved(p, n, size, object.base, object.size) {
-            Some(bits) => Ok(Word { bits, tag: p.tag }),
+        match moved(offset(objects, p), n, size, object.size) {
+            Some(further) => Ok(Word {
+                bits: object.base + further,
+                tag: p.tag,
+            }),
             None => Err(Rule::U5),
         }
     }
 
     /// A checked store of 1, 2 or 4 bytes through a pointer, as the note `Put` does it: the first of U4, U3, U2, U10
-    /// and U11 that it breaks, and nothing is changed then.
-    pub fn store(&mut self, p: Word, size: u8, w: Word) -> Result<(), Rule>
+    /// and U11 that it breaks. After a fault nothing is changed.
+    pub fn store(&mut self, p: Word, size: u8, w: Word) -> Result<(), StoreFault>
         requires { IsSize size }
-        ensures rule { MatchResult result (λ _. store_rule self.old.flat p size ≡ None) (λ rule. store_rule self.old.flat p size ≡ Some rule) }
+        ensures rule { MatchResult result (λ _. store_rule self.old.flat p size ≡ None) (IsFaultOf (store_rule self.old.flat p size)) }
         ensures put { MatchResult result (λ _. (self.new.flat ≡ apply self.old.flat (Put p.bits size w)) × (self.new.blocks ≡ self.old.blocks)) (λ _. self.new ≡ self.old) }
     {
         let n = u32::from(size);
         if let Some(rule) = reach(&self.objects, p, n) {
-            return Err(rule);
+            return Err(StoreFault::Broken(rule));
         }
         if p.bits % n != 0 {
-            return Err(Rule::U10);
+            return Err(StoreFault::Broken(Rule::U10));
         }
         if constant(&self.objects, p) {
-            return Err(Rule::U11);
+            return Err(StoreFault::Broken(Rule::U11));
         }
-        self.put(p.bits, size, w);
+        self.put(p.bits, size, w)?;
         Ok(())
     }
 
-    /// Writes an initial value where nothing is tested, as the note `Put` does it.
-    pub fn init(&mut self, at: u32, size: u8, w: Word)
+    /// Writes an initial value where nothing is tested, as the note `Put` does it. Where memory runs out nothing is
+    /// changed.
+    pub fn init(&mut self, at: u32, size: u8, w: Word) -> Result<(), NoMemory>
         requires size { IsSize size }
         requires live { (id : ℕ) × (o : Obj) × IsLive self.old.flat.objects id o × (o.base ≤ at) × (at + size ≤ o.base + o.size) }
-        ensures flat { self.new.flat ≡ apply self.old.flat (Put at size w) }
-        ensures blocks { self.new.blocks ≡ self.old.blocks }
+        ensures { MatchResult result (λ _. (self.new.flat ≡ apply self.old.flat (Put at size w)) × (self.new.blocks ≡ self.old.blocks)) (λ _. self.new ≡ self.old) }
     {
-        self.put(at, size, w);
+        self.put(at, size, w)
     }
 
     // The effect of `Put`, aligned or not.
-    fn put(&mut self, at: u32, size: u8, w: Word)
+    fn put(&mut self, at: u32, size: u8, w: Word) -> Result<(), NoMemory>
         requires { IsSize size }
-        ensures flat { self.new.flat ≡ apply self.old.flat (Put at size w) }
-        ensures blocks { self.new.blocks ≡ self.old.blocks }
+        ensures { MatchResult result (λ _. (self.new.flat ≡ apply self.old.flat (Put at size w)) × (self.new.blocks ≡ self.old.blocks)) (λ _. self.new ≡ self.old) }
     {
-        if let Some(i) = place(self.heap_bytes, self.stack, at, u32::from(size)) {
-            store_word(&mut self.cells, i, size, w);
+        match place(self.heap_bytes, self.stack, at, u32::from(size)) {
+            Some(i) => store_word(&mut self.cells, i, size, w),
+            None => Ok(()),
         }
     }
 
     /// A checked copy of `n` cells from one pointer to another, as the note `Copy` does it: the first of U4, U3 and U2
-    /// that the source breaks, then of U4, U3, U2 and U11 that the target breaks, and nothing is changed then.
-    pub fn copy(&mut self, to: Word, from: Word, n: u32) -> Result<(), Rule>
-        ensures rule { MatchResult result (λ _. copy_rule self.old.flat to from n ≡ None) (λ rule. copy_rule self.old.flat to from n ≡ Some rule) }
+    /// that the source breaks, then of U4, U3, U2 and U11 that the target breaks. After a fault nothing is changed.
+    pub fn copy(&mut self, to: Word, from: Word, n: u32) -> Result<(), StoreFault>
+        ensures rule { MatchResult result (λ _. copy_rule self.old.flat to from n ≡ None) (IsFaultOf (copy_rule self.old.flat to from n)) }
         ensures copy { MatchResult result (λ _. (self.new.flat ≡ apply self.old.flat (Copy to.bits from.bits n)) × (self.new.blocks ≡ self.old.blocks)) (λ _. self.new ≡ self.old) }
     {
         if let Some(rule) = reach(&self.objects, from, n) {
-            return Err(rule);
+            return Err(StoreFault::Broken(rule));
         }
         if let Some(rule) = reach(&self.objects, to, n) {
-            return Err(rule);
+            return Err(StoreFault::Broken(rule));
         }
         if constant(&self.objects, to) {
-            return Err(Rule::U11);
+            return Err(StoreFault::Broken(Rule::U11));
         }
-        let source = place(self.heap_bytes, self.stack, from.bits, n);
-        let target = place(self.heap_bytes, self.stack, to.bits, n);
-        if let (Some(target), Some(source)) = (target, source) {
-            self.cells.copy(target, source, n);
-        }
+        self.move_cells(to.bits, from.bits, n)?;
         Ok(())
+    }
+
+    // The effect of `Copy`.
+    fn move_cells(&mut self, to: u32, from: u32, n: u32) -> Result<(), NoMemory>
+        ensures { MatchResult result (λ _. (self.new.flat ≡ apply self.old.flat (Copy to from n)) × (self.new.blocks ≡ self.old.blocks)) (λ _. self.new ≡ self.old) }
+    {
+        let source = place(self.heap_bytes, self.stack, from, n);
+        let target = place(self.heap_bytes, self.stack, to, n);
+        match (target, source) {
+            (Some(target), Some(source)) => self.cells.copy(target, source, n),
+            _ => Ok(()),
+        }
     }
 }
 
 impl Memory {
     ghost use Rattle.sc_mem.specs.Violations.{reach_rule};
-    ghost use Rattle.sc_mem.specs.Comparisons.{difference_rule, elements_of, equality_rule, free_rule, is_same, order_of, order_rule, truth_of, truth_rule, write_rule};
+    ghost use Rattle.sc_mem.specs.Comparisons.{difference_rule, elements_of, equality_rule, free_rule, is_overlapping, is_same, order_of, order_rule, truth_of, truth_rule, write_rule};
 
     /// Whether a pointer is not null, or the first of U15 and U3 that the test breaks.
     pub fn truth(&self, p: Word) -> Result<bool, Rule>
@@ -277,11 +298,11 @@ impl Memory {
 
     /// The order of two pointers into one object, or of null and null, or the first of U15, U3 and U6 that it breaks.
     pub fn order(&self, p: Word, q: Word) -> Result<Ordering, Rule>
-        ensures { MatchResult result (λ is. (order_rule self.now.flat.objects p q ≡ None) × (is ≡ order_of p q)) (λ rule. order_rule self.now.flat.objects p q ≡ Some rule) }
+        ensures { MatchResult result (λ is. (order_rule self.now.flat.objects p q ≡ None) × (is ≡ order_of self.now.flat.objects p q)) (λ rule. order_rule self.now.flat.objects p q ≡ Some rule) }
     {
         match order(&self.objects, p, q) {
             Some(rule) => Err(rule),
-            None => Ok(p.bits.cmp(&q.bits)),
+            None => Ok(ordering(&self.objects, p, q)),
         }
     }
 
@@ -289,7 +310,7 @@ impl Memory {
     /// breaks. Null minus null is 0.
     pub fn difference(&self, p: Word, q: Word, size: u32) -> Result<i64, Rule>
         requires { 0 < size }
-        ensures { MatchResult result (λ n. (difference_rule self.now.flat.objects p q size ≡ None) × (n ≡ elements_of p q size)) (λ rule. difference_rule self.now.flat.objects p q size ≡ Some rule) }
+        ensures { MatchResult result (λ n. (difference_rule self.now.flat.objects p q size ≡ None) × (n ≡ elements_of self.now.flat.objects p q size)) (λ rule. difference_rule self.now.flat.objects p q size ≡ Some rule) }
     {
         difference(&self.objects, p, q, size)
     }
@@ -312,6 +333,13 @@ impl Memory {
             return Some(Rule::U11);
         }
         None
+    }
+
+    /// Whether `n` bytes from `p` on and `m` bytes from `q` on have a byte in common (U18).
+    pub fn overlaps(&self, p: Word, n: u32, q: Word, m: u32) -> bool
+        ensures { result ≡ is_overlapping self.now.flat.objects p n q m }
+    {
+        overlap(&self.objects, p, n, q, m)
     }
 
     /// U14, where a pointer is neither null nor the start of a live allocated object, so that it cannot be freed.
@@ -412,14 +440,17 @@ impl Memory {
         objects.len()
     }
 
-    /// Puts another cell at an address, without a test: `None` exactly outside the areas, and nothing is changed then.
-    pub fn set_cell(&mut self, at: u32, cell: Cell) -> Option<()>
+    /// Puts another cell at an address, without a test: `None` exactly outside the areas. Nothing is changed then, nor
+    /// where memory runs out.
+    pub fn set_cell(&mut self, at: u32, cell: Cell) -> Result<Option<()>, NoMemory>
         ensures safe { IsSafe self.old }
-        ensures cell { MatchOption result ((place_of self.old.flat at 1 ≡ None) × (self.new ≡ self.old)) (λ _. IsSome (place_of self.old.flat at 1) × (self.new.flat ≡ written_at self.old.flat (place_of self.old.flat at 1) (cell ∷ [])) × (self.new.blocks ≡ self.old.blocks)) }
+        ensures cell { MatchResult result (λ done. MatchOption done ((place_of self.old.flat at 1 ≡ None) × (self.new ≡ self.old)) (λ _. IsSome (place_of self.old.flat at 1) × (self.new.flat ≡ written_at self.old.flat (place_of self.old.flat at 1) (cell ∷ [])) × (self.new.blocks ≡ self.old.blocks))) (λ _. IsSome (place_of self.old.flat at 1) × (self.new ≡ self.old)) }
     {
-        let i = place(self.heap_bytes, self.stack, at, 1)?;
-        put_one(&mut self.cells, i, cell);
-        Some(())
+        let Some(i) = place(self.heap_bytes, self.stack, at, 1) else {
+            return Ok(None);
+        };
+        self.cells.write_row(i, &[cell])?;
+        Ok(Some(()))
     }
 
     // Whether an object outside the heap can be born at an address that is a multiple of 4.

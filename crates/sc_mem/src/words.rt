@@ -1,10 +1,11 @@
 // Words as cells, and cells as words.
-ghost use Rattle.std.specs.Prelude.{◌≡◌, ◌+◌, ◌^◌, ◌<◌, ◌≤◌, ◌∷◌, [], length, slice_index};
-ghost use Rattle.sc_mem.specs.Words.{IsSize, byte_of, bytes_of, cells_of, tag_of, word_of};
+ghost use Rattle.std.specs.Prelude.{◌≡◌, ◌+◌, ◌^◌, ◌<◌, ◌≤◌, ◌∷◌, [], length, map, slice_index, MatchResult};
+ghost use Rattle.sc_base.specs.declared.memory.Cell.TheVariants.{Byte};
+ghost use Rattle.sc_mem.specs.Words.{IsSize, byte_of, bytes_of, cells_of, pieces_of, tag_of, word_of};
 ghost use Rattle.sc_mem.specs.Words.{is_piece as piece};
 ghost use Rattle.sc_cells.specs.Range.{range_of, with_range};
 
-use sc_base::{Cell, Word};
+use sc_base::{Cell, NoMemory, Word};
 use sc_cells::Cells;
 
 /// A cell as a byte.
@@ -109,37 +110,48 @@ pub fn load_word(cells: &Cells, i: u32, n: u8) -> Word
     word_of_four(a, b, c, d)
 }
 
-/// Writes a word to the `n` cells from a place on: a whole pointer as its pieces, all else as bytes.
-pub fn store_word(cells: &mut Cells, i: u32, n: u8, w: Word)
+/// Writes a word to the `n` cells from a place on: a whole pointer as its pieces, all else as bytes. Where memory runs
+/// out nothing is changed.
+#[inline(always)]
+pub fn store_word(cells: &mut Cells, i: u32, n: u8, w: Word) -> Result<(), NoMemory>
     requires size { IsSize n }
     requires inside { i + n ≤ length cells.old }
-    requires fits { i < 2 ^ 31 }
-    ensures { cells.new ≡ with_range cells.old i (cells_of n w) }
+    ensures cells { MatchResult result (λ _. cells.new ≡ with_range cells.old i (cells_of n w)) (λ _. cells.new ≡ cells.old) }
+    ensures len { length cells.new ≡ length cells.old }
 {
-    let Word { bits, tag } = w;
-    if n == 4 && tag != 0 {
-        put_four(
-            cells,
-            i,
-            piece_of(w, 0),
-            piece_of(w, 1),
-            piece_of(w, 2),
-            piece_of(w, 3),
-        );
+    if n == 4 && w.tag != 0 {
+        cells.write_row(i, &pieces(w))
     } else if n == 4 {
-        put_four(
-            cells,
-            i,
-            byte_cell(bits, 0),
-            byte_cell(bits, 1),
-            byte_cell(bits, 2),
-            byte_cell(bits, 3),
-        );
+        cells.write_row(i, &bytes(w.bits))
     } else if n == 2 {
-        put_two(cells, i, byte_cell(bits, 0), byte_cell(bits, 1));
+        cells.write_row(i, &[byte_cell(w.bits, 0), byte_cell(w.bits, 1)])
     } else {
-        put_one(cells, i, byte_cell(bits, 0));
+        cells.write_row(i, &[byte_cell(w.bits, 0)])
     }
+}
+
+// The four pieces of a pointer.
+fn pieces(w: Word) -> [Cell; 4]
+    ensures { result ≡ pieces_of w }
+{
+    [
+        piece_of(w, 0),
+        piece_of(w, 1),
+        piece_of(w, 2),
+        piece_of(w, 3),
+    ]
+}
+
+// The four bytes of a number, the lowest first.
+fn bytes(bits: u32) -> [Cell; 4]
+    ensures { result ≡ map Byte (bytes_of bits) }
+{
+    [
+        byte_cell(bits, 0),
+        byte_cell(bits, 1),
+        byte_cell(bits, 2),
+        byte_cell(bits, 3),
+    ]
 }
 
 fn piece_of(w: Word, k: u8) -> Cell
@@ -156,33 +168,4 @@ fn byte_cell(bits: u32, k: u8) -> Cell
     ensures { result ≡ Cell.Byte (slice_index (bytes_of bits) k) }
 {
     Cell::Byte(byte_of_number(bits, k))
-}
-
-/// Puts a cell at a place.
-pub fn put_one(cells: &mut Cells, i: u32, a: Cell)
-    requires inside { i < length cells.old }
-    requires fits { i < 2 ^ 31 }
-    ensures { cells.new ≡ with_range cells.old i (a ∷ []) }
-{
-    cells.write(i, a);
-}
-
-fn put_two(cells: &mut Cells, i: u32, a: Cell, b: Cell)
-    requires inside { i + 1 < length cells.old }
-    requires fits { i < 2 ^ 31 }
-    ensures { cells.new ≡ with_range cells.old i (a ∷ b ∷ []) }
-{
-    cells.write(i, a);
-    cells.write(i + 1, b);
-}
-
-fn put_four(cells: &mut Cells, i: u32, a: Cell, b: Cell, c: Cell, d: Cell)
-    requires inside { i + 3 < length cells.old }
-    requires fits { i < 2 ^ 31 }
-    ensures { cells.new ≡ with_range cells.old i (a ∷ b ∷ c ∷ d ∷ []) }
-{
-    cells.write(i, a);
-    cells.write(i + 1, b);
-    cells.write(i + 2, c);
-    cells.write(i + 3, d);
 }

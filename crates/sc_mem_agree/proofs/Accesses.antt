@@ -1,5 +1,5 @@
 -- The rules of accesses.
-use Rattle.std.proofs.Common.{◌≡◌, ◌⊎◌, ℕ, ◌+◌, ◌%◌, ◌==◌, Bool, true, false, not, List, [], ◌∷◌, Some, refl, ap, subst, inl, inr, arith}
+use Rattle.std.proofs.Common.{◌≡◌, ◌⊎◌, ℕ, ◌+◌, ◌-◌, ◌%◌, ◌==◌, Bool, true, false, not, List, [], ◌∷◌, Some, refl, ap, subst, inl, inr, arith}
 use Rattle.sc_base.specs.declared.key.Key.{Key}
 use Rattle.sc_base.specs.declared.memory.Word.{Word}
 use Rattle.sc_base.specs.declared.report.Rule.TheVariants.{U2, U3, U4, U10, U11}
@@ -28,7 +28,7 @@ pub write_same : (f : Key → ℕ) (os : List Object) (t : List Obj) (w : Word) 
 write_same f os t w v n a s = four (memory.is_null w) (memory.is_dead t w) (memory.is_outside t w n) (memory.is_constant t w) (meaning.is_null v) (meaning.is_dead os v) (meaning.is_outside os v 0 n) (meaning.is_constant os v) (null_same f t w v s) (dead_same f os t w v a s) (outside_same f os t w v n a s) (constant_same f os t w v a s)
 
 -- bases are multiples of every size
-pub aligned_numbers : (bits base i n : ℕ) → IsSize n → base % 4 ≡ 0 → bits ≡ base + i → bits % n ≡ (i + 0) % n
+pub aligned_numbers : (bits base i n : ℕ) → IsSize n → base % 4 ≡ 0 → (bits + (4294967296 - base)) % 4294967296 ≡ i → bits % n ≡ (i + 0) % n
 aligned_numbers bits base i n size h g = elim size [ inl e ↦ rw e (omega arith) | inr r ↦ elim r [ inl e ↦ rw e (omega arith) | inr e ↦ rw e (omega arith) ] ]
 
 -- U10, where U2 does not hold
@@ -39,7 +39,7 @@ misaligned_same f os t w (Pointer o i) n size a s =
     let p = s.0 in
     let here : AreSame (object_at os o) (Some p) = subst (λ x. AreSame (object_at os o) x) s.2 (a o) in
     let q = found (object_at os o) p here in
-    inr (ap (λ (r : ℕ). not (r == 0)) (aligned_numbers w.bits p.base i n size q.2.base s.3))
+    inr (ap (λ (r : ℕ). not (r == 0)) (aligned_numbers w.bits p.base i n size q.2.base s.4))
 
 stored : (a b c d e d2 : Bool) → (c ≡ true) ⊎ (d ≡ d2) → first_rule ((a, U4) ∷ (b, U3) ∷ (c, U2) ∷ (d, U10) ∷ (e, U11) ∷ []) ≡ first_rule ((a, U4) ∷ (b, U3) ∷ (c, U2) ∷ (d2, U10) ∷ (e, U11) ∷ [])
 stored true b c d e d2 h = refl

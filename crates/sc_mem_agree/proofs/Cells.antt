@@ -1,5 +1,5 @@
 -- What a load reads, of memory and of the meaning.
-use Rattle.std.proofs.Common.{◌≡◌, ◌≢◌, ◌∙◌, ℕ, ◌+◌, ◌==◌, ◌&&◌, Bool, true, false, not, List, [], ◌∷◌, Some, None, refl, sym, ap, inl, inr, if◌then◌else◌, arith}
+use Rattle.std.proofs.Common.{◌≡◌, ◌≢◌, ◌∙◌, ℕ, ◌+◌, ◌-◌, ◌%◌, ◌<◌, ◌==◌, ◌&&◌, Bool, true, false, not, List, [], ◌∷◌, Some, None, refl, sym, ap, subst, inl, inr, if◌then◌else◌, arith}
 use Rattle.std.specs.List.{list_any, list_all}
 use Rattle.std.proofs.lemmas.Bool.Decides.{eqb_tells, nat_tests}
 use Rattle.sc_base.specs.declared.key.Key.{Key}
@@ -71,13 +71,14 @@ other_number o k h = equal_sym k o ∙ h
 both_false : (a b c : Bool) → b ≡ false → (a && b) ≡ (false && c)
 both_false a b c h = rw h (and_false a)
 
-base_away : (base i j : ℕ) → (base + i == base + j) ≡ (i == j)
-base_away base i j = grind (arith, nat_tests)
+-- two addresses are one where they lie equally far from a base
+one_place : (a b i j rest : ℕ) → a < 4294967296 → b < 4294967296 → (a + rest) % 4294967296 ≡ i → (b + rest) % 4294967296 ≡ j → (a == b) ≡ (i == j)
+one_place a b i j rest small less h g = grind (arith, nat_tests)
 
-pair_same : (a b i j o p base : ℕ) → a ≡ base + i → (o ≡ p → b ≡ base + j) → ((a == b) && (o == p)) ≡ ((o == p) && (i == j))
-pair_same a b i j o p base h g =
+pair_same : (a b i j o p base : ℕ) → a < 4294967296 → b < 4294967296 → (a + (4294967296 - base)) % 4294967296 ≡ i → (o ≡ p → (b + (4294967296 - base)) % 4294967296 ≡ j) → ((a == b) && (o == p)) ≡ ((o == p) && (i == j))
+pair_same a b i j o p base small less h g =
     elim (eqb_tells o p) [
-      | inl e ↦ rw e.0 (rw h (rw (g e.1) (and_true (base + i == base + j) ∙ base_away base i j)))
+      | inl e ↦ rw e.0 (and_true (a == b) ∙ one_place a b i j (4294967296 - base) small less h (g e.1))
       | inr e ↦ rw e.0 (and_false (a == b))
     ]
 
@@ -91,7 +92,7 @@ same_word f t w x (FunctionAt k) (FunctionAt l) d s r = rw s.0 (rw r.0 (rw s.1 (
 same_word f t w x (FunctionAt k) (Pointer p j) d s r = rw r.1 (rw (other_number p w.tag (other_tag t p w.tag r.0 r.2 s.2)) (and_false (w.bits == x.bits)))
 same_word f t w x (Pointer o i) (Number n) d s r = rw s.1 (rw r.1 (rw (tagged t o s.0 s.2) (and_false (w.bits == x.bits))))
 same_word f t w x (Pointer o i) (FunctionAt k) d s r = rw s.1 (rw (other_tag t o x.tag s.0 s.2 r.2) (and_false (w.bits == x.bits)))
-same_word f t w x (Pointer o i) (Pointer p j) d s r = rw s.1 (rw r.1 (pair_same w.bits x.bits i j o p s.0.base s.3 (λ e. r.3 ∙ ap (λ (b : ℕ). b + j) (one_base t o p s.0 r.0 e s.2 r.2))))
+same_word f t w x (Pointer o i) (Pointer p j) d s r = rw s.1 (rw r.1 (pair_same w.bits x.bits i j o p s.0.base s.3 r.3 s.4 (λ e. subst (λ (b : ℕ). (x.bits + (4294967296 - b)) % 4294967296 ≡ j) (one_base t o p s.0 r.0 e s.2 r.2) r.4)))
 
 joined : (a b c d : Bool) → (a && b) ≡ d → (a && b && c) ≡ (d && c)
 joined true true c d h = rw (sym h) refl

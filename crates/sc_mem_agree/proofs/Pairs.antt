@@ -1,6 +1,5 @@
 -- The rules of comparisons.
 use Rattle.std.proofs.Common.{◌≡◌, ◌⊎◌, ◌≢◌, ◌∙◌, ℕ, ◌+◌, ◌==◌, ◌&&◌, ◌||◌, Bool, true, false, not, List, [], ◌∷◌, Some, None, refl, sym, ap, subst, inl, inr, if◌then◌else◌, arith}
-use Rattle.std.proofs.lemmas.Int.{ints}
 use Rattle.std.proofs.lemmas.Bool.Decides.{eqb_tells, nat_tests}
 use Rattle.std.specs.Prelude.{ℤ, pos, ◌-ℤ◌}
 use Rattle.sc_base.specs.declared.key.Key.{Key}
@@ -16,7 +15,7 @@ use Rattle.sc_meaning.specs.Values.{Value, Number, FunctionAt, Pointer}
 use Rattle.sc_meaning.specs.World.{Object}
 use Rattle.sc_meaning.specs.Violations as meaning
 use Rattle.sc_mem_agree.specs.Agreement.{Agree, StandsFor}
-use Rattle.sc_mem_agree.proofs.Tests.{tagged, null_same, number_same, dead_same}
+use Rattle.sc_mem_agree.proofs.Tests.{tagged, offset_is, null_same, number_same, dead_same}
 use Rattle.sc_mem_agree.proofs.Steps.{or_false}
 
 pub no_tag : (o k : ℕ) → o ≢ k → (o == k) ≡ false
@@ -108,29 +107,25 @@ order_same f os t w x v u a s r = three (memory.is_number w || memory.is_number 
 uneven_is : (a b : ℤ) (size : ℕ) → a ≡ b → tests.is_uneven a size ≡ tests.is_uneven b size
 uneven_is a b size h = rw h refl
 
-distance_is : (a b base i j : ℕ) → a ≡ base + i → b ≡ base + j → (pos a -ℤ pos b) ≡ (pos i -ℤ pos j)
-distance_is a b base i j h g = omega (arith, ints)
+distance_is : (a b i j : ℕ) → a ≡ i → b ≡ j → (pos a -ℤ pos b) ≡ (pos i -ℤ pos j)
+distance_is a b i j h g = rw h (rw g refl)
 
 pub one_base : (t : List Obj) (o p : ℕ) (q r : Obj) → o ≡ p → object_of t o ≡ Some q → object_of t p ≡ Some r → r.base ≡ q.base
 one_base t o p q r e h g = let there : object_of t p ≡ Some q = subst (λ n. object_of t n ≡ Some q) e h in (let same : Some r ≡ Some q = sym g ∙ there in (let one : r ≡ q = cc in ap (λ (b : Obj). b.base) one))
 
 -- U5 of a difference, where neither U15 nor U6 holds
-pub uneven_same : (f : Key → ℕ) (t : List Obj) (w x : Word) (v u : Value) (size : ℕ) → StandsFor f t w v → StandsFor f t x u → ((meaning.is_number v || meaning.is_number u) ≡ true) ⊎ ((meaning.are_unrelated v u ≡ true) ⊎ (compared.is_uneven w x size ≡ meaning.is_uneven v u size))
+pub uneven_same : (f : Key → ℕ) (t : List Obj) (w x : Word) (v u : Value) (size : ℕ) → StandsFor f t w v → StandsFor f t x u → ((meaning.is_number v || meaning.is_number u) ≡ true) ⊎ ((meaning.are_unrelated v u ≡ true) ⊎ (compared.is_uneven t w x size ≡ meaning.is_uneven v u size))
 uneven_same f t w x (Number m) (Number n) size s r =
     elim (nulls m n) [
       | inl h ↦ inl h
-      | inr h ↦ inr (inr (uneven_is (pos w.bits -ℤ pos x.bits) (pos 0 -ℤ pos 0) size (rw s.0 (rw r.0 (rw h.0 (rw h.1 refl))))))
+      | inr h ↦ inr (inr (uneven_is (compared.distance t w x) (pos 0 -ℤ pos 0) size (rw s.1 (rw r.1 (rw s.0 (rw r.0 (rw h.0 (rw h.1 refl))))))))
     ]
 uneven_same f t w x (Number m) (FunctionAt k) size s r = inr (inl refl)
 uneven_same f t w x (Number m) (Pointer p j) size s r = inr (inl refl)
 uneven_same f t w x (FunctionAt k) u size s r = inr (inl refl)
 uneven_same f t w x (Pointer o i) (Number n) size s r = inr (inl refl)
 uneven_same f t w x (Pointer o i) (FunctionAt k) size s r = inr (inl refl)
-uneven_same f t w x (Pointer o i) (Pointer p j) size s r =
-    inr (elim (eqb_tells o p) [
-      | inl h ↦ inr (uneven_is (pos w.bits -ℤ pos x.bits) (pos i -ℤ pos j) size (distance_is w.bits x.bits s.0.base i j s.3 (r.3 ∙ ap (λ (b : ℕ). b + j) (one_base t o p s.0 r.0 h.1 s.2 r.2))))
-      | inr h ↦ inl (ap not h.0)
-    ])
+uneven_same f t w x (Pointer o i) (Pointer p j) size s r = inr (inr (uneven_is (compared.distance t w x) (pos i -ℤ pos j) size (distance_is (memory.offset_in t w) (memory.offset_in t x) i j (offset_is f t w o i s) (offset_is f t x p j r))))
 
 later : (b c d d2 : Bool) → (c ≡ true) ⊎ (d ≡ d2) → first_rule ((false, U15) ∷ (b, U3) ∷ (c, U6) ∷ (d, U5) ∷ []) ≡ first_rule ((false, U15) ∷ (b, U3) ∷ (c, U6) ∷ (d2, U5) ∷ [])
 later true c d d2 h = refl
@@ -148,4 +143,4 @@ four : (a b c d a2 b2 c2 d2 : Bool) → a ≡ a2 → b ≡ b2 → (a2 ≡ true) 
 four a b c d a2 b2 c2 d2 e f g h = rw e (rw f (differing a2 b2 c d c2 d2 g h))
 
 pub difference_same : (f : Key → ℕ) (os : List Object) (t : List Obj) (w x : Word) (v u : Value) (size : ℕ) → Agree os t → StandsFor f t w v → StandsFor f t x u → compared.difference_rule t w x size ≡ meaning.difference_rule os v u size
-difference_same f os t w x v u size a s r = four (memory.is_number w || memory.is_number x) (memory.is_dead t w || memory.is_dead t x) (compared.are_unrelated t w x) (compared.is_uneven w x size) (meaning.is_number v || meaning.is_number u) (meaning.is_dead os v || meaning.is_dead os u) (meaning.are_unrelated v u) (meaning.is_uneven v u size) (numbers_same f t w x v u s r) (deaths_same f os t w x v u a s r) (unrelated_same f t w x v u s r) (uneven_same f t w x v u size s r)
+difference_same f os t w x v u size a s r = four (memory.is_number w || memory.is_number x) (memory.is_dead t w || memory.is_dead t x) (compared.are_unrelated t w x) (compared.is_uneven t w x size) (meaning.is_number v || meaning.is_number u) (meaning.is_dead os v || meaning.is_dead os u) (meaning.are_unrelated v u) (meaning.is_uneven v u size) (numbers_same f t w x v u s r) (deaths_same f os t w x v u a s r) (unrelated_same f t w x v u s r) (uneven_same f t w x v u size s r)

@@ -1,8 +1,6 @@
 -- The rules of pointer plus a number, and of freeing.
-use Rattle.std.proofs.Common.{◌≡◌, ℕ, ◌+◌, ◌==◌, ◌&&◌, ◌||◌, Bool, true, false, not, List, [], ◌∷◌, refl, ap, arith}
-use Rattle.std.proofs.lemmas.Int.{ints}
-use Rattle.std.proofs.lemmas.Bool.Decides.{nat_tests}
-use Rattle.std.specs.Prelude.{ℤ, pos, ◌+ℤ◌, ◌*ℤ◌, int_lt}
+use Rattle.std.proofs.Common.{◌≡◌, ℕ, ◌==◌, ◌&&◌, ◌||◌, Bool, true, false, not, List, [], ◌∷◌, refl, ap}
+use Rattle.std.specs.Prelude.{ℤ, pos, ◌+ℤ◌, ◌*ℤ◌}
 use Rattle.sc_base.specs.declared.key.Key.{Key}
 use Rattle.sc_base.specs.declared.memory.Word.{Word}
 use Rattle.sc_base.specs.declared.report.Rule.TheVariants.{U3, U5, U14, U15}
@@ -23,14 +21,8 @@ pub or_false : (b : Bool) → (b || false) ≡ b
 or_false true = refl
 or_false false = refl
 
-pub below : (base i : ℕ) (z : ℤ) → int_lt (pos (base + i) +ℤ z) (pos base) ≡ int_lt (pos i +ℤ z) (pos 0)
-below base i z = grind (arith, ints)
-
-pub above : (base i size : ℕ) (z : ℤ) → int_lt (pos (base + size)) (pos (base + i) +ℤ z) ≡ int_lt (pos size) (pos i +ℤ z)
-above base i size z = grind (arith, ints)
-
-pub beyond_numbers : (bits base i size other : ℕ) (z : ℤ) → bits ≡ base + i → size ≡ other → memory.is_beyond base size (pos bits +ℤ z) ≡ meaning.is_beyond other (pos i +ℤ z)
-beyond_numbers bits base i size other z h g = rw h (rw g (rw (below base i z) (rw (above base i other z) refl)))
+pub beyond_numbers : (offset i size other : ℕ) (z : ℤ) → offset ≡ i → size ≡ other → memory.is_beyond size (pos offset +ℤ z) ≡ meaning.is_beyond other (pos i +ℤ z)
+beyond_numbers offset i size other z h g = rw h (rw g refl)
 
 choice : (a b : Bool) (n : ℤ) (e f : Bool) → a ≡ b → e ≡ f → tests.leaves_object a n e ≡ tests.leaves_object b n f
 choice a b n e f h g = rw h (rw g refl)
@@ -38,9 +30,9 @@ choice a b n e f h g = rw h (rw g refl)
 -- U5
 pub leaves_same : (f : Key → ℕ) (os : List Object) (t : List Obj) (w : Word) (v : Value) (n : ℤ) (size : ℕ) → Agree os t → StandsFor f t w v → memory.leaves_object t w n size ≡ meaning.leaves_object os v n size
 leaves_same f os t w v n size a s =
-    let far : memory.of_object true (λ o. memory.is_beyond o.base o.size (memory.target w n size)) (object_of t w.tag) ≡ meaning.of_object true (λ o. meaning.is_beyond o.size (meaning.target v n size)) (meaning.object_of os v) =
-    on_object f os t w v true (λ o. memory.is_beyond o.base o.size (memory.target w n size)) (λ o. meaning.is_beyond o.size (meaning.target v n size)) a s (λ i p q e same b. rw e (beyond_numbers w.bits p.base i p.size q.size (n *ℤ pos size) b same.size)) in
-    choice (memory.is_null w) (meaning.is_null v) n (memory.of_object true (λ o. memory.is_beyond o.base o.size (memory.target w n size)) (object_of t w.tag)) (meaning.of_object true (λ o. meaning.is_beyond o.size (meaning.target v n size)) (meaning.object_of os v)) (null_same f t w v s) far
+    let far : memory.of_object true (λ o. memory.is_beyond o.size (memory.target (memory.offset_in t w) n size)) (object_of t w.tag) ≡ meaning.of_object true (λ o. meaning.is_beyond o.size (meaning.target v n size)) (meaning.object_of os v) =
+    on_object f os t w v true (λ o. memory.is_beyond o.size (memory.target (memory.offset_in t w) n size)) (λ o. meaning.is_beyond o.size (meaning.target v n size)) a s (λ i p q e same b. rw e (beyond_numbers (memory.offset_in t w) i p.size q.size (n *ℤ pos size) b same.size)) in
+    choice (memory.is_null w) (meaning.is_null v) n (memory.of_object true (λ o. memory.is_beyond o.size (memory.target (memory.offset_in t w) n size)) (object_of t w.tag)) (meaning.of_object true (λ o. meaning.is_beyond o.size (meaning.target v n size)) (meaning.object_of os v)) (null_same f t w v s) far
 
 three : (a b c a2 b2 c2 : Bool) → a ≡ a2 → b ≡ b2 → c ≡ c2 → first_rule ((a, U15) ∷ (b, U3) ∷ (c, U5) ∷ []) ≡ first_rule ((a2 || false, U15) ∷ (b2, U3) ∷ (c2, U5) ∷ [])
 three a b c a2 b2 c2 d e f = rw (or_false a2) (rw d (rw e (rw f refl)))
@@ -49,9 +41,6 @@ pub shift_same : (f : Key → ℕ) (os : List Object) (m : Flat) (w : Word) (v :
 shift_same f os m w v x size n a s =
     let t = m.objects in
     three (memory.is_number w) (memory.is_dead t w) (memory.leaves_object t w n size) (meaning.is_number v) (meaning.is_dead os v) (meaning.leaves_object os v n size) (number_same f t w v s) (dead_same f os t w v a s) (leaves_same f os t w v n size a s)
-
-pub start_numbers : (bits base i : ℕ) → bits ≡ base + i → (bits == base) ≡ (i == 0)
-start_numbers bits base i h = grind (arith, nat_tests)
 
 unowned : (a b c d e f : Bool) → a ≡ b → c ≡ d → e ≡ f → not (a && c && e) ≡ not (b && d && f)
 unowned a b c d e f h g i = rw h (rw g (rw i refl))
@@ -62,9 +51,9 @@ both a b c d h g = rw h (rw g refl)
 -- U14
 pub unallocated_same : (f : Key → ℕ) (os : List Object) (t : List Obj) (w : Word) (v : Value) → Agree os t → StandsFor f t w v → compared.is_unallocated t w ≡ meaning.is_unallocated os v
 unallocated_same f os t w v a s =
-    both (memory.is_null w) (meaning.is_null v) (memory.of_object true (λ o. not (o.live && tests.is_heap o.kind && (w.bits == o.base))) (object_of t w.tag)) (meaning.of_object true (λ o. not (o.live && tests.is_heap o.kind && (meaning.offset_of v == 0))) (meaning.object_of os v)) (null_same f t w v s)
-    (on_object f os t w v true (λ o. not (o.live && tests.is_heap o.kind && (w.bits == o.base))) (λ o. not (o.live && tests.is_heap o.kind && (meaning.offset_of v == 0))) a s
-    (λ i p q e same b. rw e (unowned p.live q.live (tests.is_heap p.kind) (tests.is_heap q.kind) (w.bits == p.base) (i == 0) same.live (ap tests.is_heap same.kind) (start_numbers w.bits p.base i b))))
+    both (memory.is_null w) (meaning.is_null v) (memory.of_object true (λ o. not (o.live && tests.is_heap o.kind && (memory.offset_in t w == 0))) (object_of t w.tag)) (meaning.of_object true (λ o. not (o.live && tests.is_heap o.kind && (meaning.offset_of v == 0))) (meaning.object_of os v)) (null_same f t w v s)
+    (on_object f os t w v true (λ o. not (o.live && tests.is_heap o.kind && (memory.offset_in t w == 0))) (λ o. not (o.live && tests.is_heap o.kind && (meaning.offset_of v == 0))) a s
+    (λ i p q e same b. rw e (unowned p.live q.live (tests.is_heap p.kind) (tests.is_heap q.kind) (memory.offset_in t w == 0) (i == 0) same.live (ap tests.is_heap same.kind) (ap (λ (k : ℕ). k == 0) b))))
 
 one : (a b : Bool) → a ≡ b → first_rule ((a, U14) ∷ []) ≡ first_rule ((b, U14) ∷ [])
 one a b h = rw h refl

@@ -1,5 +1,5 @@
 -- Each test of memory against the meaning's.
-use Rattle.std.proofs.Common.{◌≡◌, ℕ, zero, suc, ◌+◌, ◌==◌, ◌&&◌, ◌||◌, Bool, true, false, not, List, Option, Some, None, refl, ap, subst, arith}
+use Rattle.std.proofs.Common.{◌≡◌, ℕ, zero, suc, ◌+◌, ◌==◌, ◌&&◌, Bool, true, false, not, List, Option, Some, None, refl, ap, subst, arith}
 use Rattle.std.specs.Prelude.{nat_lt}
 use Rattle.std.proofs.lemmas.Bool.Decides.{nat_tests}
 use Rattle.sc_base.specs.declared.key.Key.{Key}
@@ -18,15 +18,19 @@ pub found : (a : Option Object) (p : Obj) → AreSame a (Some p) → (q : Object
 found None p h = absurd h
 found (Some q) p h = (q, refl, h)
 
+-- the offset of an object's pointer is the value's
+pub offset_is : (f : Key → ℕ) (t : List Obj) (w : Word) (o i : ℕ) → StandsFor f t w (Pointer o i) → memory.offset_in t w ≡ i
+offset_is f t w o i s = rw s.1 (rw s.2 s.4)
+
 -- a test on the object of a pointer
-pub on_object : (f : Key → ℕ) (os : List Object) (t : List Obj) (w : Word) (v : Value) (none : Bool) (fits : Obj → Bool) (holds : Object → Bool) → Agree os t → StandsFor f t w v → ((i : ℕ) (p : Obj) (q : Object) → meaning.offset_of v ≡ i → IsSame q p → w.bits ≡ p.base + i → fits p ≡ holds q) → memory.of_object none fits (object_of t w.tag) ≡ meaning.of_object none holds (meaning.object_of os v)
+pub on_object : (f : Key → ℕ) (os : List Object) (t : List Obj) (w : Word) (v : Value) (none : Bool) (fits : Obj → Bool) (holds : Object → Bool) → Agree os t → StandsFor f t w v → ((i : ℕ) (p : Obj) (q : Object) → meaning.offset_of v ≡ i → IsSame q p → memory.offset_in t w ≡ i → fits p ≡ holds q) → memory.of_object none fits (object_of t w.tag) ≡ meaning.of_object none holds (meaning.object_of os v)
 on_object f os t w (Number n) none fits holds a s same = rw s.1 refl
 on_object f os t w (FunctionAt k) none fits holds a s same = rw s.2 refl
 on_object f os t w (Pointer o i) none fits holds a s same =
     let p = s.0 in
     let here : AreSame (object_at os o) (Some p) = subst (λ x. AreSame (object_at os o) x) s.2 (a o) in
     let q = found (object_at os o) p here in
-    rw s.1 (rw s.2 (rw q.1 (same i p q.0 refl q.2 s.3)))
+    rw s.1 (rw s.2 (rw q.1 (same i p q.0 refl q.2 (offset_is f t w o i s))))
 
 -- a pointer to an object has a tag
 pub tagged : (t : List Obj) (o : ℕ) (p : Obj) → object_of t o ≡ Some p → (o == 0) ≡ false
@@ -61,9 +65,9 @@ dead_same f os t w v a s = on_object f os t w v false (λ o. not o.live) (λ o. 
 pub constant_same : (f : Key → ℕ) (os : List Object) (t : List Obj) (w : Word) (v : Value) → Agree os t → StandsFor f t w v → memory.is_constant t w ≡ meaning.is_constant os v
 constant_same f os t w v a s = on_object f os t w v false (λ o. tests.is_constant o.kind) (λ o. tests.is_constant o.kind) a s (λ i p q e same b. ap tests.is_constant same.kind)
 
-pub outside_numbers : (bits base i n size other : ℕ) → bits ≡ base + i → size ≡ other → (nat_lt bits base || nat_lt (base + size) (bits + n)) ≡ nat_lt other (i + 0 + n)
-outside_numbers bits base i n size other h g = grind (arith, nat_tests)
+pub outside_numbers : (offset i n size other : ℕ) → offset ≡ i → size ≡ other → nat_lt size (offset + n) ≡ nat_lt other (i + 0 + n)
+outside_numbers offset i n size other h g = grind (arith, nat_tests)
 
 -- U2
 pub outside_same : (f : Key → ℕ) (os : List Object) (t : List Obj) (w : Word) (v : Value) (n : ℕ) → Agree os t → StandsFor f t w v → memory.is_outside t w n ≡ meaning.is_outside os v 0 n
-outside_same f os t w v n a s = on_object f os t w v true (λ o. nat_lt w.bits o.base || nat_lt (o.base + o.size) (w.bits + n)) (λ o. nat_lt o.size (meaning.offset_of v + 0 + n)) a s (λ i p q e same b. rw e (outside_numbers w.bits p.base i n p.size q.size b same.size))
+outside_same f os t w v n a s = on_object f os t w v true (λ o. nat_lt o.size (memory.offset_in t w + n)) (λ o. nat_lt o.size (meaning.offset_of v + 0 + n)) a s (λ i p q e same b. rw e (outside_numbers (memory.offset_in t w) i n p.size q.size b same.size))

@@ -1,11 +1,12 @@
 -- What it is that a memory has the objects of a world of the meaning, and that a word stands for a value.
-use Rattle.std.specs.Prelude.{◌≡◌, ◌≢◌, ⊤, ℕ, ◌+◌, ◌%◌, ◌==◌, List, [], ◌∷◌, Option, Some, None}
+use Rattle.std.specs.Prelude.{◌≡◌, ◌≢◌, ⊤, ℕ, ◌%◌, ◌^◌, ◌<◌, ◌==◌, List, [], ◌∷◌, Option, Some, None}
 use Rattle.sc_base.specs.declared.key.Key.{Key}
 use Rattle.sc_base.specs.declared.memory.Cell.{Cell as Stored}
 use Rattle.sc_base.specs.declared.memory.Cell.TheVariants.{Unwritten as Empty, Byte as Octet, Frag}
 use Rattle.sc_base.specs.declared.memory.Word.{Word}
 use Rattle.sc_objects.specs.declared.objects.Obj.{Obj}
 use Rattle.sc_objects.specs.Numbered.{object_of}
+use Rattle.sc_mem.specs.Violations.{offset_from}
 use Rattle.sc_meaning.specs.Values.{Value, Number, FunctionAt, Pointer, Cell, Unwritten, Byte, Piece, same_key}
 use Rattle.sc_meaning.specs.World.{Object, object_at}
 
@@ -31,11 +32,11 @@ AreDistinct f = (k l : Key) → (f k == f l) ≡ same_key k l
 
 -- A word stands for a value, where functions have these addresses. A number has no tag; a function's pointer has the tag of
 -- functions, which is no object's number; an object's pointer has the object's number, and lies as far behind the object's
--- base as the value says.
+-- base as the value says, modulo 2^32.
 abbrev pub StandsFor : (Key → ℕ) → List Obj → Word → Value → Type 0
 StandsFor f table w (Number n) = (w.bits ≡ n) × (w.tag ≡ 0)
 StandsFor f table w (FunctionAt k) = (w.bits ≡ f k) × (w.tag ≡ 4294967295) × (object_of table w.tag ≡ None)
-StandsFor f table w (Pointer o i) = (p : Obj) × (w.tag ≡ o) × (object_of table o ≡ Some p) × (w.bits ≡ p.base + i)
+StandsFor f table w (Pointer o i) = (p : Obj) × (w.tag ≡ o) × (object_of table o ≡ Some p) × (w.bits < 2 ^ 32) × (offset_from w.bits (Some p) ≡ i)
 
 -- a cell of memory stands for a byte of the meaning
 abbrev pub CellFor : (Key → ℕ) → List Obj → Stored → Cell → Type 0

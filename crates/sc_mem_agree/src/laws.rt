@@ -38,7 +38,7 @@ pub fn comparisons_agree()
     ensures order { (f : Key → ℕ) (os : List Object) (t : List Obj) (w x : Word) (v u : Value) → Agree os t → StandsFor f t w v → StandsFor f t x u → order_rule t w x ≡ order_of_meaning os v u }
     ensures difference { (f : Key → ℕ) (os : List Object) (t : List Obj) (w x : Word) (v u : Value) (size : ℕ) → Agree os t → StandsFor f t w v → StandsFor f t x u → difference_rule t w x size ≡ difference_of_meaning os v u size }
     ensures same { (f : Key → ℕ) (t : List Obj) (w x : Word) (v u : Value) → AreDistinct f → StandsFor f t w v → StandsFor f t x u → is_same w x ≡ same_value v u }
-    ensures overlap { (f : Key → ℕ) (t : List Obj) (w x : Word) (o i n p j m : ℕ) → StandsFor f t w (Pointer o i) → StandsFor f t x (Pointer p j) → is_overlapping w n x m ≡ overlapping_of_meaning (Pointer o i) n (Pointer p j) m }
+    ensures overlap { (f : Key → ℕ) (t : List Obj) (w x : Word) (o i n p j m : ℕ) → StandsFor f t w (Pointer o i) → StandsFor f t x (Pointer p j) → is_overlapping t w n x m ≡ overlapping_of_meaning (Pointer o i) n (Pointer p j) m }
 {}
 
 /// So does freeing.

@@ -1,8 +1,9 @@
 // The objects of a run.
-ghost use Rattle.std.specs.Prelude.{◌≡◌, ◌+◌, ◌<◌, ◌∷◌, ◌++◌, [], length, IfOk, MatchOption, None, Some};
+ghost use Rattle.std.specs.Prelude.{◌≡◌, ◌+◌, ◌<◌, ◌∷◌, ◌++◌, [], length, IfOk, IsSome, MatchOption, MatchResult, None, Some};
 ghost use Rattle.sc_objects.specs.declared.objects.Obj.{Obj};
 ghost use Rattle.sc_objects.specs.Numbered.{IsLive};
-ghost use Rattle.sc_mem.specs.Flat.{with_death};
+ghost use Rattle.sc_mem.specs.Flat.{place, with_death, written_at};
+ghost use Rattle.sc_mem.specs.Safe.{IsSafe};
 ghost use Rattle.sc_mem_store.specs.Changes.{changed, item_of};
 ghost use Rattle.sc_meaning.specs.World.{Object, cells_at, ended, fresh, object_at, written};
 
@@ -12,7 +13,7 @@ use crate::few::{Few, few_at};
 use crate::history::{Change, History, Item};
 use crate::places::{Places, place_object};
 use crate::span::span_of;
-use sc_base::{Items, Key, Kind, NoMemory, Shared};
+use sc_base::{Cell as Stored, Items, Key, Kind, NoMemory, Shared};
 use sc_mem::Memory;
 use sc_objects::Obj;
 use std::alloc::Global;
@@ -166,9 +167,7 @@ impl Store {
             return Err(NoMemory);
         };
         let stored = cell_of(&mut self.functions, &self.memory, cell)?;
-        let Some(()) = self.memory.set_cell(address, stored) else {
-            return Err(NoMemory);
-        };
+        put_cell(&mut self.memory, address, stored)?;
         self.history = after(&self.history, Change::Put(id, at, Snapshot::of(cell)));
         Ok(())
     }
@@ -206,6 +205,18 @@ fn after(history: &History, change: Change) -> History
     let changed = History::with(history, &item);
     drop(item);
     changed
+}
+
+// Another cell is put at an address.
+fn put_cell(memory: &mut Memory, at: u32, cell: Stored) -> Result<(), NoMemory>
+    ensures safe { IsSafe memory.old }
+    ensures cell { MatchResult result (λ _. IsSome (place memory.old.flat at 1) × (memory.new.flat ≡ written_at memory.old.flat (place memory.old.flat at 1) (cell ∷ []))) (λ _. memory.new.flat ≡ memory.old.flat) }
+{
+    match memory.set_cell(at, cell) {
+        Ok(Some(())) => Ok(()),
+        Ok(None) => Err(NoMemory),
+        Err(fault) => Err(fault),
+    }
 }
 
 // A live object dies, and its block is given back where it is allocated.

@@ -11,12 +11,12 @@ fn sample(alloc: Global) -> Result<Cells, NoMemory>
     ensures { IfOk result (λ cells. length cells ≡ 8) }
 {
     let mut cells = Cells::new(alloc, 8)?;
-    cells.write(0, Cell::Byte(10));
-    cells.write(1, Cell::Byte(11));
-    cells.write(2, piece(0));
-    cells.write(3, piece(1));
-    cells.write(4, piece(2));
-    cells.write(5, piece(3));
+    cells.write(0, Cell::Byte(10))?;
+    cells.write(1, Cell::Byte(11))?;
+    cells.write(2, piece(0))?;
+    cells.write(3, piece(1))?;
+    cells.write(4, piece(2))?;
+    cells.write(5, piece(3))?;
     Ok(cells)
 }
 
@@ -61,14 +61,14 @@ fn row(cells: &Cells) -> [u32; 8]
 #[test]
 fn copies_as_if_by_way_of_another_place(rt: HostRuntime) -> Result<(), Fail> {
     let mut up = sample(rt.alloc())?;
-    up.copy(1, 0, 6);
+    up.copy(1, 0, 6)?;
     assert_eq!(rt; row(&up), [10, 10, 11, 900, 901, 902, 903, 256]);
     let mut down = sample(rt.alloc())?;
-    down.copy(0, 1, 7);
+    down.copy(0, 1, 7)?;
     assert_eq!(rt; row(&down), [11, 900, 901, 902, 903, 256, 256, 256]);
     let mut apart = sample(rt.alloc())?;
-    apart.copy(6, 3, 2);
-    apart.copy(8, 0, 0);
+    apart.copy(6, 3, 2)?;
+    apart.copy(8, 0, 0)?;
     assert_eq!(rt; row(&apart), [10, 11, 900, 901, 902, 903, 901, 902]);
     Ok(())
 }

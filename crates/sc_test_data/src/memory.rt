@@ -1,6 +1,6 @@
 // Accesses to a memory with 4,096 bytes of stack and 128 of heap, against values worked out by hand.
 use sc_base::{Kind, NoMemory, Rule, Word};
-use sc_mem::{Memory, overlap};
+use sc_mem::{Memory, StoreFault};
 use std::alloc::Global;
 use std::cmp::Ordering;
 use std::test::Fail;
@@ -24,7 +24,7 @@ fn small(alloc: Global) -> Result<Memory, NoMemory> {
 // A memory whose stack has the pointer 0x10203040 to object 3 at 0x1FFFFFF8.
 fn with_pointer(alloc: Global) -> Result<Memory, NoMemory> {
     let mut m = small(alloc)?;
-    let _ = m.raw_store(0x1FFFFFF8, 4, word(0x10203040, 3));
+    let _ = m.raw_store(0x1FFFFFF8, 4, word(0x10203040, 3))?;
     Ok(m)
 }
 
@@ -72,13 +72,13 @@ fn copies_without_a_test(rt: HostRuntime) -> Result<(), Fail> {
         (0x10000010, 0x10000001, Some(())),
         (0x10000010, 0x1000007D, None),
     ] {
-        assert_eq!(rt; m.raw_copy(to, from, 4), want, "{to} {from}");
+        assert_eq!(rt; m.raw_copy(to, from, 4)?, want, "{to} {from}");
     }
     for (at, want) in [
         (0x10000014, word(0x10203040, 3)),
         (0x10000010, word(0x10203007, 0)),
     ] {
-        let _ = m.raw_store(at, 1, word(7, 3));
+        let _ = m.raw_store(at, 1, word(7, 3))?;
         assert_eq!(rt; m.raw_load(0x10000010, 4), Some(want), "{at}");
     }
     Ok(())
@@ -96,7 +96,7 @@ fn allocate(m: &mut Memory, n: u32) -> Result<Option<u32>, Fail> {
     let Ok(id) = m.birth(n, Kind::Heap, base) else {
         return Err(Fail::from("no memory"));
     };
-    m.init(base, 4, word(5, 0));
+    m.init(base, 4, word(5, 0))?;
     Ok(Some(id))
 }
 
@@ -169,7 +169,7 @@ fn checked_loads(rt: HostRuntime) -> Result<(), Fail> {
 #[test]
 fn a_byte_that_only_a_raw_store_wrote(rt: HostRuntime) -> Result<(), Fail> {
     let mut m = one(rt.alloc())?;
-    let _ = m.raw_store(0x10000005, 1, word(9, 0));
+    let _ = m.raw_store(0x10000005, 1, word(9, 0))?;
     for (bits, want) in [
         (0x10000004, Err(Rule::U1)),
         (0x10000005, Ok(word(9, 0))),
@@ -180,13 +180,17 @@ fn a_byte_that_only_a_raw_store_wrote(rt: HostRuntime) -> Result<(), Fail> {
     Ok(())
 }
 
+fn broken(rule: Rule) -> Result<(), StoreFault> {
+    Err(StoreFault::Broken(rule))
+}
+
 #[test]
 fn checked_stores(rt: HostRuntime) -> Result<(), Fail> {
     let mut m = one(rt.alloc())?;
     for (bits, want) in [
         (0x10000004, Ok(())),
-        (0x10000006, Err(Rule::U2)),
-        (0x10000002, Err(Rule::U10)),
+        (0x10000006, broken(Rule::U2)),
+        (0x10000002, broken(Rule::U10)),
     ] {
         assert_eq!(rt; m.store(word(bits, 1), 4, FIRST), want, "{bits}");
     }
@@ -198,7 +202,7 @@ fn checked_stores(rt: HostRuntime) -> Result<(), Fail> {
 fn checked_copies(rt: HostRuntime) -> Result<(), Fail> {
     let mut m = one(rt.alloc())?;
     let _ = m.store(word(0x10000004, 1), 4, FIRST);
-    for (to, want) in [(0x10000000, Ok(())), (0x10000006, Err(Rule::U2))] {
+    for (to, want) in [(0x10000000, Ok(())), (0x10000006, broken(Rule::U2))] {
         assert_eq!(rt; m.copy(word(to, 1), word(0x10000004, 1), 4), want, "{to}");
     }
     for (as_pointer, want) in [(true, Ok(FIRST)), (false, Err(Rule::U15))] {
@@ -234,7 +238,7 @@ fn constant(alloc: Global) -> Result<Memory, Fail> {
     if m.birth(8, Kind::Const, 0x08000000).is_err() {
         return Err(Fail::from("no memory"));
     }
-    let _ = m.raw_store(0x08000000, 4, word(5, 0));
+    let _ = m.raw_store(0x08000000, 4, word(5, 0))?;
     Ok(m)
 }
 
@@ -243,13 +247,13 @@ fn a_constant_object_is_only_read(rt: HostRuntime) -> Result<(), Fail> {
     let mut m = constant(rt.alloc())?;
     let first = word(0x08000000, 1);
     for (bits, want) in [
-        (0x08000000, Err(Rule::U11)),
-        (0x08000002, Err(Rule::U10)),
-        (0x08000008, Err(Rule::U2)),
+        (0x08000000, broken(Rule::U11)),
+        (0x08000002, broken(Rule::U10)),
+        (0x08000008, broken(Rule::U2)),
     ] {
         assert_eq!(rt; m.store(word(bits, 1), 4, word(6, 0)), want, "{bits}");
     }
-    assert_eq!(rt; m.copy(word(0x08000004, 1), first, 4), Err(Rule::U11));
+    assert_eq!(rt; m.copy(word(0x08000004, 1), first, 4), broken(Rule::U11));
     assert_eq!(rt; m.writes(word(0x08000003, 1), 4), Some(Rule::U11));
     assert_eq!(rt; m.reads(word(0x08000003, 1), 4), None);
     assert_eq!(rt; m.load(first, 4, false), Ok(word(5, 0)));
@@ -330,7 +334,8 @@ fn pointers_by_number(rt: HostRuntime) -> Result<(), Fail> {
 }
 
 #[test]
-fn ranges_with_a_byte_in_common(rt: HostRuntime) {
+fn ranges_with_a_byte_in_common(rt: HostRuntime) -> Result<(), Fail> {
+    let memory = small(rt.alloc())?;
     for (p, n, q, m, want) in [
         (word(100, 1), 4, word(104, 1), 4, false),
         (word(100, 1), 5, word(104, 1), 4, true),
@@ -339,6 +344,7 @@ fn ranges_with_a_byte_in_common(rt: HostRuntime) {
         (word(100, 1), 4, word(100, 2), 4, false),
         (word(100, 1), 8, word(104, 1), 0, false),
     ] {
-        assert_eq!(rt; overlap(p, n, q, m), want, "{p:?} {n} {q:?} {m}");
+        assert_eq!(rt; memory.overlaps(p, n, q, m), want, "{p:?} {n} {q:?} {m}");
     }
+    Ok(())
 }

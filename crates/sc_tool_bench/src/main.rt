@@ -78,7 +78,7 @@ fn allocate(memory: &mut Memory) -> Option<Word> {
     };
     match memory.birth(16, Kind::Heap, base) {
         Ok(tag) => {
-            memory.init(base, 4, Word { bits: 5, tag: 0 });
+            memory.init(base, 4, Word { bits: 5, tag: 0 }).ok()?;
             Some(Word { bits: base, tag })
         }
         Err(_) => None,

@@ -1,0 +1,76 @@
+// Runs a text on the machine.
+ghost use Rattle.std.specs.Prelude.{◌≡◌, ◌≤◌, ◌<◌};
+
+use sc_base::{Items, Key, Name, NoMemory};
+use sc_emu::{Regs, Step, step};
+use sc_isa_image::{Image, TextAt};
+use sc_mem::Memory;
+use sc_program::FrameTable;
+use std::alloc::Global;
+use std::io;
+
+/// Where texts begin.
+const TEXTS: u32 = 0x0010_0000;
+
+/// The bytes of the stack, which ends at 0x20000000, and of the heap.
+const STACK: u32 = 65536;
+
+/// Runs words as a text from its start on, for at most so many steps: how it ends, the address of the next instruction
+/// and the 32 registers with their tags.
+pub fn run(alloc: Global, words: Vec<u32>, steps: u64) -> io::Result<Vec<u8>> {
+    let mut text = Vec::new(alloc);
+    let Ok(image) = placed(alloc, words) else {
+        return Ok(text);
+    };
+    let Ok(mut memory) = Memory::new(alloc, STACK, STACK) else {
+        return Ok(text);
+    };
+    let mut regs = Regs::new();
+    regs.set_pc(TEXTS);
+    let mut last = Step::Went;
+    for _ in 0..steps {
+        last = step(&mut regs, &image, &mut memory);
+        if last != Step::Went {
+            break;
+        }
+    }
+    let pc = regs.pc();
+    let line = format!(in alloc; "{last:?} {pc:08x}\n")?;
+    text.extend_from_slice(line.as_bytes())?;
+    for r in 0..32u8 {
+        let word = regs.get(r);
+        let line = format!(in alloc; "{:08x} {:x}\n", word.bits, word.tag)?;
+        text.extend_from_slice(line.as_bytes())?;
+    }
+    Ok(text)
+}
+
+// An image with these words as its only text.
+fn placed(alloc: Global, words: Vec<u32>) -> Result<Image, NoMemory> {
+    let mut image = Image::new(alloc);
+    if words.is_empty() || words.len() > 1000000 {
+        return Ok(image);
+    }
+    let fun = Key {
+        module: None,
+        name: name(alloc)?,
+    };
+    let frame = FrameTable {
+        symbol: 0,
+        cost: 16,
+        blocks: Items::new(alloc),
+    };
+    let at = TextAt {
+        fun,
+        module: name(alloc)?,
+        start: TEXTS,
+        frame,
+    };
+    image.make_room(1, 0, 0, 0)?;
+    image.put_text(at, words);
+    Ok(image)
+}
+
+fn name(alloc: Global) -> Result<Name, NoMemory> {
+    Name::new(alloc, b"main").map_err(|_| NoMemory)
+}
