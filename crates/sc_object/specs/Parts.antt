@@ -155,11 +155,16 @@ symbols_part strings locals bytes = record {
 abbrev pub strings_part : List ℕ → List ℕ → Part
 strings_part name bytes = plain_part name 3 0 bytes (length bytes) 1
 
+-- the table of symbols, which points to the names with this number, and the names
+abbrev pub symbol_parts : ℕ → List Symbol → List Part
+symbol_parts strings ss =
+    symbols_part strings (length (filter is_local ss)) (symbol_table ss).entries
+    ∷ strings_part (codes ".strtab") (symbol_table ss).names
+    ∷ []
+
 -- the three parts behind the sections and their relocations; the table of symbols has this number
 abbrev pub tables : ℕ → ℕ → Object → List Part
-tables version symbols o =
-    saber_part (saber_words version o.frames) ∷ symbols_part (symbols + 1) (length (filter is_local o.symbols)) (symbol_table o.symbols).entries
-    ∷ strings_part (codes ".strtab") (symbol_table o.symbols).names ∷ []
+tables version symbols o = saber_part (saber_words version o.frames) ∷ symbol_parts (symbols + 1) o.symbols
 
 abbrev pub all_relas : Object → List Rela
 all_relas o = relas o.relocs [] 0 o.sections
