@@ -1,0 +1,4 @@
+pub mod Relocation
+pub mod Symbols
+pub mod Entries
+pub mod Linked
