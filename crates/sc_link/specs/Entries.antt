@@ -94,13 +94,17 @@ pub record Fix : Type 0 where
 abbrev pub fix_at : Placed → Reloc → ℕ → Bool → ℕ → Fix
 fix_at e r p second at = record { at = at; kind = r.kind; second = second; place = p; addend = r.addend; base = base_of e (slice_get e.object.symbols r.symbol) }
 
-abbrev pub fixes_from : Placed → Reloc → ℕ → List Fix
-fixes_from e r p = fix_at e r p false p ∷ (if r.kind == 19 then fix_at e r p true ((p + 4) % 2 ^ 32) ∷ [] else [])
+abbrev pub fixes_from : Placed → Reloc → ℕ → ℕ → List Fix
+fixes_from e r len p = fix_at e r p false p ∷ (if r.kind == 19 && nat_le (r.at + 8) len then fix_at e r p true ((p + 4) % 2 ^ 32) ∷ [] else [])
 
+-- a relocation changes words of its own section alone
 abbrev pub fixes_at : Placed → Reloc → Option Section → Option ℕ → List Fix
 fixes_at e r None at = []
 fixes_at e r (Some section) None = []
-fixes_at e r (Some section) (Some at) = if is_text section.kind then fixes_from e r ((at + r.at) % 2 ^ 32) else []
+fixes_at e r (Some section) (Some at) =
+  if is_text section.kind && nat_le (r.at + 4) (length section.bytes)
+  then fixes_from e r (length section.bytes) ((at + r.at) % 2 ^ 32)
+  else []
 
 -- the words that a relocation changes, in a text
 abbrev pub fixes_of : Placed → Reloc → List Fix

@@ -8,6 +8,7 @@ use Rattle.sc_isa_image.specs.declared.image.Image.{Image}
 use Rattle.sc_isa_image.specs.declared.literals.Literal.{Literal}
 use Rattle.sc_isa_image.specs.declared.text.Text.{Text}
 use Rattle.sc_isa_image.specs.declared.text.TextAt.{TextAt}
+use Rattle.sc_isa_image.specs.Literals as named
 use Rattle.sc_isa_image.specs.Stubs.{call_words, jump_words, stub_address, stub_of_word}
 use Rattle.sc_isa_image.specs.Texts.{end_of, holds, place_of as where_of, text_holding, text_word}
 use Rattle.sc_isa_image.specs.Lookups.{functions_of, key_eq, key_of, literal_in, text_at, value_of, word_at}
@@ -57,16 +58,14 @@ base_value value (Place at) = or_zero at
 abbrev pub fixed_by : (Key → Option ℕ) → Fix → ℕ → ℕ
 fixed_by value f word = relocated f.kind f.second (target_of f.kind (base_value value f.base) f.addend f.place) word
 
-abbrev pub fixed : (Key → Option ℕ) → Option Fix → ℕ → ℕ
-fixed value None word = word
-fixed value (Some f) word = fixed_by value f word
+-- a word with each relocation at its address, in their order
+abbrev pub fixed_all : (Key → Option ℕ) → List Fix → ℕ → ℕ → ℕ
+fixed_all value [] pc word = word
+fixed_all value (f ∷ fs) pc word = fixed_all value fs pc (if f.at == pc then fixed_by value f word else word)
 
-abbrev pub fix_for : List Fix → ℕ → Option Fix
-fix_for fixes pc = find (λ f. f.at == pc) fixes
-
--- the word of a text at an address, with its relocation
+-- the word of a text at an address, with its relocations
 abbrev pub text_word_in : (Key → Option ℕ) → List Fix → List Text → ℕ → Option ℕ
-text_word_in value fixes texts pc = option_map (fixed value (fix_for fixes pc)) (text_word texts pc)
+text_word_in value fixes texts pc = option_map (fixed_all value fixes pc) (text_word texts pc)
 
 abbrev pub word_in : List Placed → List Key → ℕ → Option ℕ
 word_in es funs pc =
@@ -86,6 +85,21 @@ at_of p = option_map (λ (q : LiteralAt). q.at) p
 -- the place of a literal: in the last entry that holds it
 abbrev pub literal_place : List LiteralAt → Literal → Option ℕ
 literal_place literals l = at_of (find (is_literal_at l) (reverse literals))
+
+-- no key twice
+abbrev pub AreDistinct : List Key → Type 0
+AreDistinct ks = (m n : ℕ) (k : Key) → slice_get ks m ≡ Some k → slice_get ks n ≡ Some k → m ≡ n
+
+-- no two texts hold one address
+abbrev pub AreApart : List Text → Type 0
+AreApart ts = (m n : ℕ) (t u : Text) (pc : ℕ) → slice_get ts m ≡ Some t → slice_get ts n ≡ Some u → holds pc t ≡ true → holds pc u ≡ true → m ≡ n
+
+abbrev pub literal_of : LiteralAt → Literal
+literal_of x = named.literal_of x.«module» x.bytes
+
+-- no two literals have one place
+abbrev pub AreOnePlaced : List LiteralAt → Type 0
+AreOnePlaced xs = (m n : ℕ) (x y : LiteralAt) → slice_get xs m ≡ Some x → slice_get xs n ≡ Some y → x.at ≡ y.at → literal_of x ≡ literal_of y
 
 -- The image has just these functions, values, words, texts and literals.
 pub record IsLinked (es : List Placed) (funs : List Key) (i : Image) : Type 0 where

@@ -2,13 +2,21 @@
 #![tactic(auto)]
 
 mod collect;
+mod linking;
+mod literals;
 mod placed;
+mod relocating;
 mod relocation;
+mod steps;
 mod symbol;
 
 pub use collect::{
     add_jumps, add_literals, add_statics, add_texts, copies, jumps_in, literals_in, statics_in, texts_in,
 };
+pub use linking::{MOST_FUNCTIONS, STATICS, STATICS_END, TEXTS, TEXTS_END, link};
+pub use literals::put_literals;
 pub use placed::{Area, LinkFault, LiteralAt, Placed};
+pub use relocating::{bases_of, relocate, relocate_entry, relocate_one};
 pub use relocation::{relocated, target_of, words_of};
+pub use steps::{put_functions, put_statics, put_texts, set_jumps};
 pub use symbol::{is_literal, is_text, key_of, literal_of, place_of, section_of, static_of};
