@@ -1,5 +1,7 @@
 -- Relocations one after another.
-use Rattle.std.proofs.Common.{◌≡◌, ◌≢◌, ℕ, zero, suc, ◌+◌, ◌<◌, ◌≤◌, ◌==◌, ◌&&◌, ◌%◌, ◌^◌, Bool, true, false, cond, List, [], ◌∷◌, ◌++◌, length, map, refl, sym, ap, ◌∙◌, Option, Some, None, arith, true≢false}
+use Rattle.std.proofs.Common.{◌≡◌, ◌≢◌, ℕ, zero, suc, ◌+◌, ◌<◌, ◌≤◌, ◌==◌, ◌&&◌, ◌%◌, ◌^◌, Bool, true, false, cond, List, [], ◌∷◌, ◌++◌, length, map, take, append_assoc, refl, sym, ap, ◌∙◌, Option, Some, None, arith, true≢false}
+use Rattle.std.proofs.Common.{add-one, subst}
+use Rattle.std.proofs.lemmas.List.{append-nil}
 use Rattle.std.specs.Prelude.{nat_lt, nat_le, flat_map}
 use Rattle.std.specs.List.{slice_get}
 use Rattle.std.specs.Option.{option_map}
@@ -10,10 +12,10 @@ use Rattle.sc_isa_image.specs.declared.image.Image.{Image}
 use Rattle.sc_isa_image.specs.Lookups.{value_of, word_at}
 use Rattle.sc_link.specs.declared.placed.Placed.{Placed}
 use Rattle.sc_link.specs.Relocation.{relocated, target_of}
-use Rattle.sc_link.specs.Entries.{Fix, base_of, fix_at, fixes_from, fixes_of}
+use Rattle.sc_link.specs.Entries.{Fix, base_of, fix_at, fixes_at, fixes_from, fixes_if, fixes_of, has_second, is_object}
 use Rattle.sc_link.specs.Linked.{base_value, fixed_all, fixed_by, or_zero}
 use Rattle.sc_link.specs.Steps.{FixesWord, Relocates}
-use Rattle.sc_link.proofs.Keys.{eq-true, eq-false, none-some}
+use Rattle.sc_link.proofs.Keys.{eq-true, eq-false, same-some}
 use Rattle.sc_link.proofs.Sequences.{spends-none, spends-then}
 
 map-same : (f : ℕ → ℕ) (r : Option ℕ) → ((w : ℕ) → f w ≡ w) → option_map f r ≡ r
@@ -63,24 +65,24 @@ same-target : (value : Key → Option ℕ) (e : Placed) (r : Reloc) (base p : �
 same-target value e r base p h = ap (λ b. target_of r.kind b r.addend p) h
 
 -- a relocation of one word
-pub fixes-first : (value : Key → Option ℕ) (e : Placed) (r : Reloc) (base p len target : ℕ) (i j : Image) → base_value value (base_of e (slice_get e.object.symbols r.symbol)) ≡ base → target ≡ target_of r.kind base r.addend p → (r.kind == 19 && nat_le (r.at + 8) len) ≡ false → FixesWord p r.kind false target i j → Relocates value (fixes_from e r len p) i j
+pub fixes-first : (value : Key → Option ℕ) (e : Placed) (r : Reloc) (base : ℕ) (spot : ℕ × ℕ) (target : ℕ) (i j : Image) → base_value value (base_of e (slice_get e.object.symbols r.symbol)) ≡ base → target ≡ target_of r.kind base r.addend spot.0 → has_second r spot.1 ≡ false → FixesWord spot.0 r.kind false target i j → Relocates value (fixes_from e r spot) i j
 fixes-first value e r base p len target i j h t none w =
-    let a : Relocates value (fix_at e r p false p ∷ []) i j = fixes-one value (fix_at e r p false p) target i j (same-target value e r base p h ∙ sym t) w in
-    by (r.kind == 19 && nat_le (r.at + 8) len) none a
+    let a : Relocates value (fix_at e r spot.0 false spot.0 ∷ []) i j = fixes-one value (fix_at e r spot.0 false spot.0) target i j (same-target value e r base spot.0 h ∙ sym t) w in
+    by has_second r spot.1 none a
   where
-    by : (b : Bool) → b ≡ false → Relocates value (fix_at e r p false p ∷ []) i j → Relocates value (fix_at e r p false p ∷ cond b (fix_at e r p true ((p + 4) % 2 ^ 32) ∷ []) []) i j
+    by : (b : Bool) → b ≡ false → Relocates value (fix_at e r spot.0 false spot.0 ∷ []) i j → Relocates value (fix_at e r spot.0 false spot.0 ∷ cond b (fix_at e r spot.0 true ((spot.0 + 4) % 2 ^ 32) ∷ []) []) i j
     by true g a = absurd (true≢false g)
     by false g a = a
 
 -- a relocation of two words
-pub fixes-both : (value : Key → Option ℕ) (e : Placed) (r : Reloc) (base p len target : ℕ) (i j f : Image) → base_value value (base_of e (slice_get e.object.symbols r.symbol)) ≡ base → target ≡ target_of r.kind base r.addend p → (r.kind == 19 && nat_le (r.at + 8) len) ≡ true → FixesWord p r.kind false target i j → FixesWord ((p + 4) % 2 ^ 32) r.kind true target j f → Relocates value (fixes_from e r len p) i f
+pub fixes-both : (value : Key → Option ℕ) (e : Placed) (r : Reloc) (base : ℕ) (spot : ℕ × ℕ) (target : ℕ) (i j f : Image) → base_value value (base_of e (slice_get e.object.symbols r.symbol)) ≡ base → target ≡ target_of r.kind base r.addend spot.0 → has_second r spot.1 ≡ true → FixesWord spot.0 r.kind false target i j → FixesWord ((spot.0 + 4) % 2 ^ 32) r.kind true target j f → Relocates value (fixes_from e r spot) i f
 fixes-both value e r base p len target i j f h t some w x =
-    let s : target_of r.kind (base_value value (base_of e (slice_get e.object.symbols r.symbol))) r.addend p ≡ target = same-target value e r base p h ∙ sym t in
-    let a : Relocates value (fix_at e r p false p ∷ []) i j = fixes-one value (fix_at e r p false p) target i j s w in
-    let b : Relocates value (fix_at e r p true ((p + 4) % 2 ^ 32) ∷ []) j f = fixes-one value (fix_at e r p true ((p + 4) % 2 ^ 32)) target j f s x in
-    by (r.kind == 19 && nat_le (r.at + 8) len) some (relocates-then value (fix_at e r p false p ∷ []) (fix_at e r p true ((p + 4) % 2 ^ 32) ∷ []) i j f a b)
+    let s : target_of r.kind (base_value value (base_of e (slice_get e.object.symbols r.symbol))) r.addend spot.0 ≡ target = same-target value e r base spot.0 h ∙ sym t in
+    let a : Relocates value (fix_at e r spot.0 false spot.0 ∷ []) i j = fixes-one value (fix_at e r spot.0 false spot.0) target i j s w in
+    let b : Relocates value (fix_at e r spot.0 true ((spot.0 + 4) % 2 ^ 32) ∷ []) j f = fixes-one value (fix_at e r spot.0 true ((spot.0 + 4) % 2 ^ 32)) target j f s x in
+    by has_second r spot.1 some (relocates-then value (fix_at e r spot.0 false spot.0 ∷ []) (fix_at e r spot.0 true ((spot.0 + 4) % 2 ^ 32) ∷ []) i j f a b)
   where
-    by : (b : Bool) → b ≡ true → Relocates value (fix_at e r p false p ∷ fix_at e r p true ((p + 4) % 2 ^ 32) ∷ []) i f → Relocates value (fix_at e r p false p ∷ cond b (fix_at e r p true ((p + 4) % 2 ^ 32) ∷ []) []) i f
+    by : (b : Bool) → b ≡ true → Relocates value (fix_at e r spot.0 false spot.0 ∷ fix_at e r spot.0 true ((spot.0 + 4) % 2 ^ 32) ∷ []) i f → Relocates value (fix_at e r spot.0 false spot.0 ∷ cond b (fix_at e r spot.0 true ((spot.0 + 4) % 2 ^ 32) ∷ []) []) i f
     by true g a = a
     by false g a = absurd (true≢false (sym g))
 
@@ -121,3 +123,42 @@ base-at e ss v bases n base h b = go ss n ∙ (ap (λ bs. or_zero (slice_get bs 
     go [] n = refl
     go (s ∷ ss) zero = refl
     go (s ∷ ss) (suc n) = go ss n
+
+-- the word that is in a text
+text-there : (b : Bool) (r : Option ℕ) (word : ℕ) → Some word ≡ cond b None r → (b ≡ false) × (r ≡ Some word)
+text-there true r word h = absurd (cc)
+text-there false r word h = (refl, sym h)
+
+pub fixes-done : (i j : Image) (at kind : ℕ) (second : Bool) (target word new : ℕ) → Some word ≡ cond (nat_lt at 0x00100000) None (word_at i at) → new ≡ relocated kind second target word → ((q : ℕ) → word_at j q ≡ cond (q == at) (Some new) (word_at i q)) → (pc : ℕ) → word_at j pc ≡ cond (nat_lt pc 0x00100000) (word_at i pc) (option_map (λ w. cond (at == pc) (relocated kind second target w) w) (word_at i pc))
+fixes-done i j at kind second target word new found is set pc =
+    let t = text-there (nat_lt at 0x00100000) (word_at i at) word found in
+    fixes-set i j at kind second target word t.0 t.1 (λ q. set q ∙ ap (λ n. cond (q == at) (Some n) (word_at i q)) is) pc
+
+pub fixes-missing : (i : Image) (at kind : ℕ) (second : Bool) (target : ℕ) → None ≡ cond (nat_lt at 0x00100000) None (word_at i at) → FixesWord at kind second target i i
+fixes-missing i at kind second target none = fixes-nothing i at kind second target (λ pc e low. ap (word_at i) e ∙ by (nat_lt at 0x00100000) (ap (λ x. nat_lt x 0x00100000) (sym e) ∙ low) none)
+  where
+    by : (b : Bool) → b ≡ false → None ≡ cond b None (word_at i at) → word_at i at ≡ None
+    by true g h = absurd (true≢false g)
+    by false g h = sym h
+
+pub relocates-if : (value : Key → Option ℕ) (e : Placed) (i j : Image) → is_object e.form ≡ true → Relocates value (flat_map (fixes_of e) e.object.relocs) i j → Relocates value (fixes_if e) i j
+relocates-if value e i j h p = by (is_object e.form) h
+  where
+    by : (b : Bool) → b ≡ true → Relocates value (cond b (flat_map (fixes_of e) e.object.relocs) []) i j
+    by true g = p
+    by false g = absurd (true≢false (sym g))
+
+pub relocates-else : (value : Key → Option ℕ) (e : Placed) (i : Image) → is_object e.form ≡ false → Relocates value (fixes_if e) i i
+relocates-else value e i h = by (is_object e.form) h
+  where
+    by : (b : Bool) → b ≡ false → Relocates value (cond b (flat_map (fixes_of e) e.object.relocs) []) i i
+    by true g = absurd (true≢false g)
+    by false g = relocates-none value i
+
+flat-more : {A : Type 0} (f : A → List Fix) (xs : List A) (n : ℕ) (x : A) → slice_get xs n ≡ Some x → flat_map f (take (suc n) xs) ≡ flat_map f (take n xs) ++ f x
+flat-more f [] n x h = absurd (cc)
+flat-more f (y ∷ xs) zero x h = append-nil (f y) ∙ ap f (same-some y x h)
+flat-more f (y ∷ xs) (suc n) x h = ap (λ zs. f y ++ zs) (flat-more f xs n x h) ∙ sym (append_assoc (f y) (flat_map f (take n xs)) (f x))
+
+pub relocates-more : {A : Type 0} (value : Key → Option ℕ) (f : A → List Fix) (xs : List A) (n : ℕ) (x : A) (i j k : Image) → slice_get xs n ≡ Some x → Relocates value (flat_map f (take n xs)) i j → Relocates value (f x) j k → Relocates value (flat_map f (take (n + 1) xs)) i k
+relocates-more value f xs n x i j k h p q = subst (λ fs. Relocates value fs i k) (sym (ap (λ m. flat_map f (take m xs)) (add-one n) ∙ flat-more f xs n x h)) (relocates-then value (flat_map f (take n xs)) (f x) i j k p q)

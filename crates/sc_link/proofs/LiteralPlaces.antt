@@ -1,15 +1,15 @@
 -- Literals one after another.
 use Rattle.std.proofs.Common.{◌≡◌, ◌≢◌, ◌⊎◌, inl, inr, ℕ, zero, suc, ◌+◌, ◌<◌, ◌≤◌, ◌==◌, ◌&&◌, Bool, true, false, cond, List, [], ◌∷◌, ◌++◌, length, reverse, refl, sym, ap, ◌∙◌, Option, Some, None, find, arith, true≢false, append_assoc}
 use Rattle.std.proofs.lemmas.List.{append-nil, reverse-append}
-use Rattle.std.specs.Prelude.{◌↔◌, nat_eq}
+use Rattle.std.specs.Prelude.{◌↔◌, IsSome, is_some, nat_eq}
 use Rattle.std.specs.List.{slice_get}
 use Rattle.std.specs.Str.{bytes_eq}
 use Rattle.sc_isa_image.specs.declared.image.Image.{Image}
 use Rattle.sc_isa_image.specs.declared.literals.Literal.{Literal}
-use Rattle.sc_isa_image.specs.Lookups.{literal_in}
+use Rattle.sc_isa_image.specs.Lookups.{SameKeys, SameTexts, SameValues, SameWords, Spends, literal_in}
 use Rattle.sc_link.specs.declared.placed.LiteralAt.{LiteralAt}
 use Rattle.sc_link.specs.Linked.{at_of, is_literal_at, literal_of, literal_place}
-use Rattle.sc_link.specs.Steps.{AreLiteralsFree, HasLiterals, MayHold, PutsLiterals}
+use Rattle.sc_link.specs.Steps.{AreLiteralsFree, HasLiterals, IsFound, MayHold, PutsLiterals, count_of}
 use Rattle.sc_link.proofs.Keys.{bytes-refl, bytes-same, eq-true, eq-false, true-eq, false-eq, same-some}
 use Rattle.sc_link.proofs.Sequences.{spends-none, spends-then}
 
@@ -136,10 +136,6 @@ changed-may x i j c at = λ l e. by l e (at == x.at) refl
     by l e true g = let s = eq-true at x.at g in inr (0, x, refl, sym s, same-some (literal_of x) l (sym (ap (literal_in j) s ∙ c.here) ∙ e))
     by l e false g = inl (other l (eq-false at x.at g) e (is_literal_at l x) refl)
 
--- what is found of a literal is its one place
-abbrev pub IsFound : Image → Literal → Option ℕ → Type 0
-IsFound i l found = (at : ℕ) → (found ≡ Some at) ↔ (literal_in i at ≡ Some l)
-
 none-from : {A : Type 0} (r : Option A) → ((x : A) → r ≢ Some x) → r ≡ None
 none-from None h = refl
 none-from (Some x) h = absurd (h x refl)
@@ -204,3 +200,13 @@ changes-move x i j f before a found take put = record {
     stays : (at : ℕ) (l : Literal) → l ≢ literal_of x → literal_in i at ≡ Some l → (b : Bool) → nat_eq before at ≡ b → cond b None (literal_in i at) ≡ Some l
     stays at l other e true g = absurd (other (same-some l (literal_of x) (sym e ∙ (ap (literal_in i) (sym (eq-true before at g)) ∙ (found before).0 refl))))
     stays at l other e false g = e
+
+-- what a change comes to where all else stays
+pub literal-puts : (x : LiteralAt) (i j : Image) → Changes x i j → (count_of j ≡ count_of i) → SameKeys i j → SameValues i j → SameWords i j → SameTexts i j → Spends i j 0 0 1 0 → PutsLiterals (x ∷ []) i j
+literal-puts x i j c count keys values words texts room = record {
+  literals = λ ls h. changed-place ls x i j c h; places = λ at. changed-may x i j c at;
+  count = count; keys = keys; values = values; words = words; texts = texts; room = room;
+}
+
+pub is-there : (i : Image) (at : ℕ) (l : Literal) → literal_in i at ≡ Some l → IsSome (literal_in i at)
+is-there i at l e = ap is_some e

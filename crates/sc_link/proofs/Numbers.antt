@@ -110,11 +110,11 @@ stubs-first n (k ∷ ks) q r d = by (key_eq k q) refl (stubs-first (n + 1) ks q 
 pub stub-number : (n : ℕ) (ks : List Key) (m : ℕ) (k : Key) → AreDistinct ks → slice_get ks m ≡ Some k → stub_from n ks k ≡ Some (stub_address (n + m))
 stub-number n [] m k d h = absurd (cc)
 stub-number n (x ∷ ks) zero k d h = ap (λ b. cond b (Some (stub_address n)) (stub_from (n + 1) ks k)) (ap (λ y. key_eq x y) (sym (same-some x k h)) ∙ key-refl x) ∙ ap (λ a. Some (stub_address a)) (omega arith)
-stub-number n (x ∷ ks) (suc m) k d h = by (key_eq x k) refl
+stub-number n (x ∷ ks) (suc m) k d h = by (key_eq x k) refl (stub-number (n + 1) ks m k (distinct-rest x ks d) h)
   where
-    by : (b : Bool) → key_eq x k ≡ b → cond b (Some (stub_address n)) (stub_from (n + 1) ks k) ≡ Some (stub_address (n + suc m))
-    by true e = absurd (distinct-first x ks d m (h ∙ ap Some (sym (key-same x k e))))
-    by false e = stub-number (n + 1) ks m k (distinct-rest x ks d) h ∙ ap (λ a. Some (stub_address a)) (omega arith)
+    by : (b : Bool) → key_eq x k ≡ b → stub_from (n + 1) ks k ≡ Some (stub_address ((n + 1) + m)) → cond b (Some (stub_address n)) (stub_from (n + 1) ks k) ≡ Some (stub_address (n + suc m))
+    by true e rest = absurd (distinct-first x ks d m (h ∙ ap Some (sym (key-same x k e))))
+    by false e rest = rest ∙ ap (λ a. Some (stub_address a)) (omega arith)
 
 -- the key of a stub's address
 pub found-key : (ks : List Key) (at : ℕ) (k : Key) → key_in ks at ≡ Some k → (n : ℕ) × (at ≡ stub_address n) × (slice_get ks n ≡ Some k)

@@ -1,5 +1,7 @@
 -- One step before others.
-use Rattle.std.proofs.Common.{◌≡◌, ◌≢◌, length-append, ℕ, zero, suc, ◌+◌, ◌<◌, ◌≤◌, ◌==◌, Bool, true, false, cond, List, [], ◌∷◌, ◌++◌, length, refl, sym, ap, ◌∙◌, Option, Some, None, find, arith, true≢false}
+use Rattle.std.proofs.Common.{◌≡◌, ◌≢◌, length-append, ℕ, zero, suc, ◌+◌, ◌*◌, ◌<◌, ◌≤◌, ◌==◌, ◌&&◌, Bool, true, false, cond, List, [], ◌∷◌, ◌++◌, length, refl, sym, ap, ◌∙◌, Option, Some, None, find, arith, true≢false}
+use Rattle.std.proofs.lemmas.Bool.Decides.{nat_tests}
+use Rattle.std.specs.Prelude.{nat_le, nat_lt}
 use Rattle.std.specs.List.{slice_get}
 use Rattle.std.specs.Option.{option_or}
 use Rattle.sc_base.specs.declared.key.Key.{Key}
@@ -7,7 +9,7 @@ use Rattle.sc_isa_image.specs.declared.image.Image.{Image}
 use Rattle.sc_isa_image.specs.declared.text.Text.{Text}
 use Rattle.sc_isa_image.specs.declared.text.TextAt.{TextAt}
 use Rattle.sc_isa_image.specs.Stubs.{stub_address}
-use Rattle.sc_isa_image.specs.Texts.{holds, place_of as where_of}
+use Rattle.sc_isa_image.specs.Texts.{end_of, holds, place_of as where_of, text_with, word_in}
 use Rattle.sc_isa_image.specs.Lookups.{Spends, key_eq, key_of, text_at, value_of, value_or, word_at}
 use Rattle.sc_link.specs.Linked.{place_in}
 use Rattle.sc_link.specs.Steps.{AreFree, AreNew, PutsFunctions, PutsStatics, PutsTexts, call_over, count_of, key_from, stub_over, word_over}
@@ -111,6 +113,12 @@ value-kept k q at v old some = by (key_eq k q) refl
     by true e = let s : old q ≡ Some v = ap old (sym (key-same k q e)) ∙ some in s ∙ sym (ap (λ r. value_or r (Some at)) s)
     by false e = sym (value_or-none (old q))
 
+pub static-kept : (object : Key × ℕ) (i : Image) (v : ℕ) → value_of i object.0 ≡ Some v → PutsStatics (object ∷ []) i i
+static-kept object i v some = record {
+  values = λ q. value-kept object.0 q object.1 v (value_of i) some; count = refl; keys = λ at. refl; words = λ pc. refl; texts = λ pc. refl; literals = λ at. refl;
+  room = record { for_texts = omega arith; for_values = omega arith; for_literals = omega arith; for_functions = omega arith };
+}
+
 pub texts-none : (i : Image) → PutsTexts [] i i
 texts-none i = record {
   words = λ pc. refl; texts = λ pc. refl; count = refl; keys = λ at. refl; values = λ q. refl; literals = λ at. refl; room = spends-none i;
@@ -169,3 +177,56 @@ free-front t ts i j a p = record {
     by : (n : ℕ) (u : Text) (pc : ℕ) → slice_get ts n ≡ Some u → holds pc u ≡ true → (b : Bool) → holds pc t ≡ b → option_or (where_of (cond b (Some t) None)) (text_at i pc) ≡ None
     by n u pc h g true e = absurd (let same = a.apart n (length ts) u t pc (get-front ts (t ∷ []) n u h) (get-last ts t) g e in let l = get-within ts n u h in omega arith)
     by n u pc h g false e = a.free n u pc (get-front ts (t ∷ []) n u h) g
+
+-- a text without a word holds no address
+pub text-none : (t : Text) (i : Image) → t.words ≡ [] → PutsTexts (t ∷ []) i i
+text-none t i e = record {
+  words = λ pc. by pc (holds pc t) refl; texts = λ pc. at pc (holds pc t) refl;
+  count = refl; keys = λ p. refl; values = λ q. refl; literals = λ p. refl;
+  room = record { for_texts = omega arith; for_values = omega arith; for_literals = omega arith; for_functions = omega arith };
+}
+  where
+    empty : (pc start n : ℕ) → n ≡ 0 → nat_le start pc && nat_lt pc (start + 4 * n) ≡ true → ⊥
+    empty pc start n z h = grind (arith, nat_tests)
+
+    holds-none : (pc : ℕ) → holds pc t ≡ true → ⊥
+    holds-none pc h = empty pc t.at.start (length t.words) (ap length e) h
+
+    by : (pc : ℕ) (b : Bool) → holds pc t ≡ b → word_at i pc ≡ word_over pc (cond b (Some t) None) (word_at i pc)
+    by pc true h = absurd (holds-none pc h)
+    by pc false h = refl
+
+    at : (pc : ℕ) (b : Bool) → holds pc t ≡ b → text_at i pc ≡ option_or (where_of (cond b (Some t) None)) (text_at i pc)
+    at pc true h = absurd (holds-none pc h)
+    at pc false h = refl
+
+-- a text with words
+pub text-word : (t : Text) (ws : List ℕ) (pc : ℕ) (i j : Image) → ws ≡ t.words → word_at j pc ≡ cond (holds pc (text_with t.at ws)) (word_in pc (text_with t.at ws)) (word_at i pc) → word_at j pc ≡ word_over pc (find (holds pc) (t ∷ [])) (word_at i pc)
+text-word t ws pc i j e h = h ∙ ((λ m. cond (holds pc (text_with t.at (e m))) (word_in pc (text_with t.at (e m))) (word_at i pc)) ∙ by (holds pc t))
+  where
+    by : (b : Bool) → cond b (word_in pc t) (word_at i pc) ≡ word_over pc (cond b (Some t) None) (word_at i pc)
+    by true = refl
+    by false = refl
+
+pub text-place : (t : Text) (ws : List ℕ) (pc : ℕ) (i j : Image) → ws ≡ t.words → text_at j pc ≡ cond (holds pc (text_with t.at ws)) (Some t.at) (text_at i pc) → text_at j pc ≡ option_or (where_of (find (holds pc) (t ∷ []))) (text_at i pc)
+text-place t ws pc i j e h = h ∙ ((λ m. cond (holds pc (text_with t.at (e m))) (Some t.at) (text_at i pc)) ∙ by (holds pc t))
+  where
+    by : (b : Bool) → cond b (Some t.at) (text_at i pc) ≡ option_or (where_of (cond b (Some t) None)) (text_at i pc)
+    by true = refl
+    by false = refl
+
+pub text-free : (t : Text) (ws : List ℕ) (i : Image) → ws ≡ t.words → AreFree (t ∷ []) i → (pc : ℕ) → t.at.start ≤ pc → pc < t.at.start + 4 * length ws → text_at i pc ≡ None
+text-free t ws i e a pc l h = a.free 0 t pc refl (by t.at.start (end_of t) l (let g : length ws ≡ length t.words = ap length e in omega arith))
+  where
+    by : (a b : ℕ) → a ≤ pc → pc < b → nat_le a pc && nat_lt pc b ≡ true
+    by a b l h = grind (arith, nat_tests)
+
+pub text-high : (t : Text) (ws : List ℕ) (i : Image) → ws ≡ t.words → AreFree (t ∷ []) i → t.at.start + 4 * length ws ≤ 0x04100000
+text-high t ws i e a = let h = a.high 0 t refl in let g : length ws ≡ length t.words = ap length e in omega arith
+
+pub text-some : (t : Text) (ws : List ℕ) → ws ≡ t.words → (t.words ≡ [] → ⊥) → 0 < length ws
+text-some t ws e h = by ws e
+  where
+    by : (ws : List ℕ) → ws ≡ t.words → 0 < length ws
+    by [] g = absurd (h (sym g))
+    by (x ∷ xs) g = omega arith

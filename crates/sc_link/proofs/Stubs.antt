@@ -142,3 +142,9 @@ jump-absent i key at none = record {
     by : (pc : ℕ) (x : Option Key) → key_of i (pc / 8 * 8) ≡ x → word_at i pc ≡ jump_over pc (jump_for ((key, at) ∷ []) x) (word_at i pc)
     by pc None e = refl
     by pc (Some k) e = match pc k e (key_eq key k) refl
+
+pub stub-known : (i : Image) (key : Key) (stub : ℕ) → AreStubs i → (p : ℕ) × (key_of i p ≡ Some key) → Some stub ≡ value_of i key → key_of i stub ≡ Some key
+stub-known i key stub a known v = ap (key_of i) (same-some stub known.0 (v ∙ a.values known.0 key known.1)) ∙ known.1
+
+pub stub-missing : (i : Image) (key : Key) → AreStubs i → (p : ℕ) × (key_of i p ≡ Some key) → None ≡ value_of i key → ⊥
+stub-missing i key a known v = let z : ◌≡◌ {A = Option ℕ} None (Some known.0) = v ∙ a.values known.0 key known.1 in absurd (cc)

@@ -94,21 +94,32 @@ pub record Fix : Type 0 where
 abbrev pub fix_at : Placed → Reloc → ℕ → Bool → ℕ → Fix
 fix_at e r p second at = record { at = at; kind = r.kind; second = second; place = p; addend = r.addend; base = base_of e (slice_get e.object.symbols r.symbol) }
 
-abbrev pub fixes_from : Placed → Reloc → ℕ → ℕ → List Fix
-fixes_from e r len p = fix_at e r p false p ∷ (if r.kind == 19 && nat_le (r.at + 8) len then fix_at e r p true ((p + 4) % 2 ^ 32) ∷ [] else [])
+-- both words of a pair are inside the section
+abbrev pub has_second : Reloc → ℕ → Bool
+has_second r len = r.kind == 19 && nat_le (r.at + 8) len
 
--- a relocation changes words of its own section alone
-abbrev pub fixes_at : Placed → Reloc → Option Section → Option ℕ → List Fix
-fixes_at e r None at = []
-fixes_at e r (Some section) None = []
-fixes_at e r (Some section) (Some at) =
+abbrev pub fixes_from : Placed → Reloc → ℕ × ℕ → List Fix
+fixes_from e r spot = fix_at e r spot.0 false spot.0 ∷ (if has_second r spot.1 then fix_at e r spot.0 true ((spot.0 + 4) % 2 ^ 32) ∷ [] else [])
+
+abbrev pub spot_at : Reloc → Option Section → Option ℕ → Option (ℕ × ℕ)
+spot_at r None at = None
+spot_at r (Some section) None = None
+spot_at r (Some section) (Some at) =
   if is_text section.kind && nat_le (r.at + 4) (length section.bytes)
-  then fixes_from e r (length section.bytes) ((at + r.at) % 2 ^ 32)
-  else []
+  then Some ((at + r.at) % 2 ^ 32, length section.bytes)
+  else None
 
--- the words that a relocation changes, in a text
+-- the address of a relocation in a text, and the text's length in bytes: a relocation changes words of its own section
+abbrev pub spot_of : Placed → Reloc → Option (ℕ × ℕ)
+spot_of e r = spot_at r (slice_get e.object.sections r.section) (slice_get e.places r.section)
+
+abbrev pub fixes_at : Placed → Reloc → Option (ℕ × ℕ) → List Fix
+fixes_at e r None = []
+fixes_at e r (Some spot) = fixes_from e r spot
+
+-- the words that a relocation changes
 abbrev pub fixes_of : Placed → Reloc → List Fix
-fixes_of e r = fixes_at e r (slice_get e.object.sections r.section) (slice_get e.places r.section)
+fixes_of e r = fixes_at e r (spot_of e r)
 
 abbrev pub fixes_if : Placed → List Fix
 fixes_if e = if is_object e.form then flat_map (fixes_of e) e.object.relocs else []

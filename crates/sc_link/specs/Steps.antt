@@ -137,6 +137,10 @@ pub record AreLiteralsFree (xs : List LiteralAt) (i : Image) : Type 0 where
   pub free : (n : ℕ) (x : LiteralAt) (l : Literal) → slice_get xs n ≡ Some x → literal_in i x.at ≡ Some l → l ≡ literal_of x
   pub apart : (m n : ℕ) (x y : LiteralAt) → slice_get xs m ≡ Some x → slice_get xs n ≡ Some y → x.at ≡ y.at → literal_of x ≡ literal_of y
 
+-- what is found of a literal is its one place
+abbrev pub IsFound : Image → Literal → Option ℕ → Type 0
+IsFound i l found = (at : ℕ) → (found ≡ Some at) ↔ (literal_in i at ≡ Some l)
+
 -- the word at an address of the text area gets a part of an address
 pub record FixesWord (at kind : ℕ) (second : Bool) (target : ℕ) (old new : Image) : Type 0 where
   pub words : (pc : ℕ) → word_at new pc ≡ (if nat_lt pc 0x00100000 then word_at old pc else option_map (λ w. if at == pc then relocated kind second target w else w) (word_at old pc))

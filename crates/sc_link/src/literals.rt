@@ -1,7 +1,8 @@
 // The literals of an image.
-ghost use Rattle.std.specs.Prelude.{◌<◌, ◌≤◌, [], ◌∷◌, length, reverse};
+ghost use Rattle.std.specs.Prelude.{◌<◌, ◌≤◌, [], ◌∷◌, None, Some, length, reverse};
 ghost use Rattle.sc_isa_image.specs.Lookups.{literal_room};
-ghost use Rattle.sc_link.specs.Steps.{AreLiteralsFree, PutsLiterals};
+ghost use Rattle.sc_link.specs.Linked.{literal_of};
+ghost use Rattle.sc_link.specs.Steps.{AreLiteralsFree, IsFound, PutsLiterals};
 
 use crate::placed::LiteralAt;
 use sc_base::Items;
@@ -35,14 +36,35 @@ fn put_literal(image: &mut Image, literal: LiteralAt)
     requires free { AreLiteralsFree (literal ∷ []) image.old }
     ensures { PutsLiterals (literal ∷ []) image.old image.new }
 {
-    let LiteralAt { module, bytes, at } = literal;
-    match image.literal(&module, bytes.as_slice()) {
-        None => image.put_literal(module, bytes, at),
-        Some(before) => {
-            if before != at {
-                image.take_literal(before);
-                image.put_literal(module, bytes, at);
-            }
-        }
+    match image.literal(&literal.module, literal.bytes.as_slice()) {
+        Some(before) => move_literal(image, before, literal),
+        None => put_first(image, literal),
     }
+}
+
+// Gives a literal that has no place its first one.
+fn put_first(image: &mut Image, literal: LiteralAt)
+    requires room { 0 < literal_room image.old }
+    requires free { AreLiteralsFree (literal ∷ []) image.old }
+    requires absent { IsFound image.old (literal_of literal) None }
+    ensures { PutsLiterals (literal ∷ []) image.old image.new }
+{
+    let LiteralAt { module, bytes, at } = literal;
+    image.put_literal(module, bytes, at);
+}
+
+// Gives a literal another place than the one that it has.
+fn move_literal(image: &mut Image, before: u32, literal: LiteralAt)
+    requires room { 0 < literal_room image.old }
+    requires free { AreLiteralsFree (literal ∷ []) image.old }
+    requires found { IsFound image.old (literal_of literal) (Some before) }
+    ensures { PutsLiterals (literal ∷ []) image.old image.new }
+{
+    if before == literal.at {
+        drop(literal);
+        return;
+    }
+    image.take_literal(before);
+    let LiteralAt { module, bytes, at } = literal;
+    image.put_literal(module, bytes, at);
 }

@@ -64,8 +64,9 @@ fn put_static(image: &mut Image, object: (Key, u32))
     ensures { PutsStatics (object ∷ []) image.old image.new }
 {
     let (key, at) = object;
-    if image.value(&key).is_none() {
-        image.put_value(key, at);
+    match image.value(&key) {
+        Some(_) => drop(key),
+        None => image.put_value(key, at),
     }
 }
 
@@ -95,13 +96,12 @@ fn put_text(image: &mut Image, text: Text)
     requires free { AreFree (text ∷ []) image.old }
     ensures { PutsTexts (text ∷ []) image.old image.new }
 {
-    let Text { at, words } = text;
-    if words.is_empty() {
-        drop(at);
-        drop(words);
-    } else {
-        image.put_text(at, words.into_vec());
+    if text.words.is_empty() {
+        drop(text);
+        return;
     }
+    let Text { at, words } = text;
+    image.put_text(at, words.into_vec());
 }
 
 /// Lets the stubs of functions lead to the first text that a list has for them.
@@ -139,8 +139,9 @@ fn set_function(image: &mut Image, key: &Key, at: u32)
     requires known { (p : ℕ) × (key_of image.old p ≡ Some key.now) }
     ensures { SetsJumps ((key.now, at) ∷ []) image.old image.new }
 {
-    if let Some(stub) = image.value(key) {
-        set_stub(image, stub, at);
+    match image.value(key) {
+        Some(stub) => set_stub(image, stub, at),
+        None => {}
     }
 }
 
