@@ -7,3 +7,4 @@ mod LiteralPlaces
 mod Numbers
 mod Parts
 mod Turns
+mod Assembly

@@ -20,3 +20,6 @@ pub use relocating::{bases_of, relocate, relocate_entry, relocate_one};
 pub use relocation::{relocated, target_of, words_of};
 pub use steps::{put_functions, put_statics, put_texts, set_jumps};
 pub use symbol::{is_literal, is_text, key_of, literal_of, place_of, section_of, static_of};
+
+#[cfg(test)]
+mod tests;
