@@ -29,7 +29,12 @@ same-if false r s h = sym h
 pub relocates-none : (value : Key → Option ℕ) (i : Image) → Relocates value [] i i
 relocates-none value i = record {
   words = λ pc. same-if (nat_lt pc 0x00100000) (word_at i pc) (option_map (fixed_all value [] pc) (word_at i pc)) (map-same (fixed_all value [] pc) (word_at i pc) (λ w. refl));
-  count = refl; keys = λ at. refl; values = λ q. refl; texts = λ pc. refl; literals = λ at. refl; room = spends-none i;
+  count = refl;
+  keys = λ at. refl;
+  values = λ q. refl;
+  texts = λ pc. refl;
+  literals = λ at. refl;
+  room = spends-none i;
 }
 
 fixed-append : (value : Key → Option ℕ) (xs ys : List Fix) (pc w : ℕ) → fixed_all value ys pc (fixed_all value xs pc w) ≡ fixed_all value (xs ++ ys) pc w
@@ -58,7 +63,12 @@ pub fixes-one : (value : Key → Option ℕ) (f : Fix) (target : ℕ) (i j : Ima
 fixes-one value f target i j e w = record {
   words = λ pc.
       w.words pc ∙ ap (λ t. cond (nat_lt pc 0x00100000) (word_at i pc) (option_map (λ x. cond (f.at == pc) (relocated f.kind f.second t x) x) (word_at i pc))) (sym e);
-  count = w.count; keys = w.keys; values = w.values; texts = w.texts; literals = w.literals; room = w.room;
+  count = w.count;
+  keys = w.keys;
+  values = w.values;
+  texts = w.texts;
+  literals = w.literals;
+  room = w.room;
 }
 
 same-target : (value : Key → Option ℕ) (e : Placed) (r : Reloc) (base p : ℕ) → base_value value (base_of e (slice_get e.object.symbols r.symbol)) ≡ base → target_of r.kind (base_value value (base_of e (slice_get e.object.symbols r.symbol))) r.addend p ≡ target_of r.kind base r.addend p
@@ -66,9 +76,9 @@ same-target value e r base p h = ap (λ b. target_of r.kind b r.addend p) h
 
 -- a relocation of one word
 pub fixes-first : (value : Key → Option ℕ) (e : Placed) (r : Reloc) (base : ℕ) (spot : ℕ × ℕ) (target : ℕ) (i j : Image) → base_value value (base_of e (slice_get e.object.symbols r.symbol)) ≡ base → target ≡ target_of r.kind base r.addend spot.0 → has_second r spot.1 ≡ false → FixesWord spot.0 r.kind false target i j → Relocates value (fixes_from e r spot) i j
-fixes-first value e r base p len target i j h t none w =
+fixes-first value e r base spot target i j h t none w =
     let a : Relocates value (fix_at e r spot.0 false spot.0 ∷ []) i j = fixes-one value (fix_at e r spot.0 false spot.0) target i j (same-target value e r base spot.0 h ∙ sym t) w in
-    by has_second r spot.1 none a
+    by (has_second r spot.1) none a
   where
     by : (b : Bool) → b ≡ false → Relocates value (fix_at e r spot.0 false spot.0 ∷ []) i j → Relocates value (fix_at e r spot.0 false spot.0 ∷ cond b (fix_at e r spot.0 true ((spot.0 + 4) % 2 ^ 32) ∷ []) []) i j
     by true g a = absurd (true≢false g)
@@ -76,11 +86,11 @@ fixes-first value e r base p len target i j h t none w =
 
 -- a relocation of two words
 pub fixes-both : (value : Key → Option ℕ) (e : Placed) (r : Reloc) (base : ℕ) (spot : ℕ × ℕ) (target : ℕ) (i j f : Image) → base_value value (base_of e (slice_get e.object.symbols r.symbol)) ≡ base → target ≡ target_of r.kind base r.addend spot.0 → has_second r spot.1 ≡ true → FixesWord spot.0 r.kind false target i j → FixesWord ((spot.0 + 4) % 2 ^ 32) r.kind true target j f → Relocates value (fixes_from e r spot) i f
-fixes-both value e r base p len target i j f h t some w x =
+fixes-both value e r base spot target i j f h t some w x =
     let s : target_of r.kind (base_value value (base_of e (slice_get e.object.symbols r.symbol))) r.addend spot.0 ≡ target = same-target value e r base spot.0 h ∙ sym t in
     let a : Relocates value (fix_at e r spot.0 false spot.0 ∷ []) i j = fixes-one value (fix_at e r spot.0 false spot.0) target i j s w in
     let b : Relocates value (fix_at e r spot.0 true ((spot.0 + 4) % 2 ^ 32) ∷ []) j f = fixes-one value (fix_at e r spot.0 true ((spot.0 + 4) % 2 ^ 32)) target j f s x in
-    by has_second r spot.1 some (relocates-then value (fix_at e r spot.0 false spot.0 ∷ []) (fix_at e r spot.0 true ((spot.0 + 4) % 2 ^ 32) ∷ []) i j f a b)
+    by (has_second r spot.1) some (relocates-then value (fix_at e r spot.0 false spot.0 ∷ []) (fix_at e r spot.0 true ((spot.0 + 4) % 2 ^ 32) ∷ []) i j f a b)
   where
     by : (b : Bool) → b ≡ true → Relocates value (fix_at e r spot.0 false spot.0 ∷ fix_at e r spot.0 true ((spot.0 + 4) % 2 ^ 32) ∷ []) i f → Relocates value (fix_at e r spot.0 false spot.0 ∷ cond b (fix_at e r spot.0 true ((spot.0 + 4) % 2 ^ 32) ∷ []) []) i f
     by true g a = a
@@ -90,7 +100,12 @@ fixes-both value e r base p len target i j f h t some w x =
 pub fixes-nothing : (i : Image) (at kind : ℕ) (second : Bool) (target : ℕ) → ((pc : ℕ) → pc ≡ at → nat_lt pc 0x00100000 ≡ false → word_at i pc ≡ None) → FixesWord at kind second target i i
 fixes-nothing i at kind second target none = record {
   words = λ pc. by pc (nat_lt pc 0x00100000) refl (at == pc) refl;
-  count = refl; keys = λ p. refl; values = λ q. refl; texts = λ pc. refl; literals = λ p. refl; room = spends-none i;
+  count = refl;
+  keys = λ p. refl;
+  values = λ q. refl;
+  texts = λ pc. refl;
+  literals = λ p. refl;
+  room = spends-none i;
 }
   where
     by : (pc : ℕ) (b : Bool) → nat_lt pc 0x00100000 ≡ b → (c : Bool) → (at == pc) ≡ c → word_at i pc ≡ cond b (word_at i pc) (option_map (λ w. cond c (relocated kind second target w) w) (word_at i pc))

@@ -8,3 +8,4 @@ mod Numbers
 mod Parts
 mod Turns
 mod Assembly
+mod Patches

@@ -33,7 +33,14 @@ place-push ls x l = ap (λ zs. at_of (find (is_literal_at l) zs)) (reverse-appen
 
 pub literals-none : (i : Image) → PutsLiterals [] i i
 literals-none i = record {
-  literals = λ ls h. by ls h; places = λ at l e. inl e; count = refl; keys = λ at. refl; values = λ q. refl; words = λ pc. refl; texts = λ pc. refl; room = spends-none i;
+  literals = λ ls h. by ls h;
+  places = λ at l e. inl e;
+  count = refl;
+  keys = λ at. refl;
+  values = λ q. refl;
+  words = λ pc. refl;
+  texts = λ pc. refl;
+  room = spends-none i;
 }
   where
     by : (ls : List LiteralAt) → HasLiterals ls i → HasLiterals (ls ++ []) i
@@ -118,12 +125,14 @@ changed-place ls x i j c h = λ l at. by l at (is_literal_at l x) refl
 
     by : (l : Literal) (at : ℕ) (b : Bool) → is_literal_at l x ≡ b → (literal_in j at ≡ Some l) ↔ (literal_place (ls ++ x ∷ []) l ≡ Some at)
     by l at true e =
-        let same : literal_of x ≡ l = literal-same l x e in
-        ( (λ g. place-push ls x l ∙ (ap (λ b. cond b (Some x.at) (literal_place ls l)) e ∙ ap Some (new at (g ∙ ap Some (sym same)))))
-        , (λ g. ap (literal_in j) (sym (same-some x.at at (ap (λ b. cond b (Some x.at) (literal_place ls l)) (sym e) ∙ (sym (place-push ls x l) ∙ g)))) ∙ (c.here ∙ ap Some same)) )
-    by l at false e =
-        ( (λ g. place-push ls x l ∙ (ap (λ b. cond b (Some x.at) (literal_place ls l)) e ∙ (h l at).0 (there at l (differ l e) (at == x.at) refl g)))
-        , (λ g. back at l (differ l e) (at == x.at) refl c.free ((h l at).1 (ap (λ b. cond b (Some x.at) (literal_place ls l)) (sym e) ∙ (sym (place-push ls x l) ∙ g)))) )
+        let same : literal_of x ≡ l = literal-same l x e in (
+          (λ g. place-push ls x l ∙ (ap (λ b. cond b (Some x.at) (literal_place ls l)) e ∙ ap Some (new at (g ∙ ap Some (sym same))))),
+          (λ g. ap (literal_in j) (sym (same-some x.at at (ap (λ b. cond b (Some x.at) (literal_place ls l)) (sym e) ∙ (sym (place-push ls x l) ∙ g)))) ∙ (c.here ∙ ap Some same)),
+        )
+    by l at false e = (
+      (λ g. place-push ls x l ∙ (ap (λ b. cond b (Some x.at) (literal_place ls l)) e ∙ (h l at).0 (there at l (differ l e) (at == x.at) refl g))),
+      (λ g. back at l (differ l e) (at == x.at) refl c.free ((h l at).1 (ap (λ b. cond b (Some x.at) (literal_place ls l)) (sym e) ∙ (sym (place-push ls x l) ∙ g)))),
+    )
 
 pub changed-may : (x : LiteralAt) (i j : Image) → Changes x i j → (at : ℕ) → MayHold (x ∷ []) (literal_in i at) at (literal_in j at)
 changed-may x i j c at = λ l e. by l e (at == x.at) refl
@@ -204,8 +213,14 @@ changes-move x i j f before a found take put = record {
 -- what a change comes to where all else stays
 pub literal-puts : (x : LiteralAt) (i j : Image) → Changes x i j → (count_of j ≡ count_of i) → SameKeys i j → SameValues i j → SameWords i j → SameTexts i j → Spends i j 0 0 1 0 → PutsLiterals (x ∷ []) i j
 literal-puts x i j c count keys values words texts room = record {
-  literals = λ ls h. changed-place ls x i j c h; places = λ at. changed-may x i j c at;
-  count = count; keys = keys; values = values; words = words; texts = texts; room = room;
+  literals = λ ls h. changed-place ls x i j c h;
+  places = λ at. changed-may x i j c at;
+  count = count;
+  keys = keys;
+  values = values;
+  words = words;
+  texts = texts;
+  room = room;
 }
 
 pub is-there : (i : Image) (at : ℕ) (l : Literal) → literal_in i at ≡ Some l → IsSome (literal_in i at)

@@ -177,9 +177,6 @@ half pc = by (nat_lt pc 0x00010000) refl (pc % 8 == 0) refl (pc % 8 == 4) refl
     by false e false g true h = second ((pc - 0x00010000) / 8) (let l = lt-false pc 0x00010000 e in let r = eq-true (pc % 8) 4 h in omega arith)
     by false e false g false h = odd (λ z. let a = eq-false (pc % 8) 0 g in let b = eq-false (pc % 8) 4 h in absurd (omega arith))
 
-half-words : (js : List (Key × ℕ)) (pc : ℕ) → Option Key → Option ℕ
-half-words js pc x = option_and_then (λ key. stub_half pc (stub_words (place_in js key))) x
-
 stub_in-none : (js : List (Key × ℕ)) (ks : List Key) (pc : ℕ) → stub_of_word pc ≡ None → stub_in js ks pc ≡ None
 stub_in-none js ks pc e = ap (option_and_then (λ n. option_and_then (λ key. stub_half pc (stub_words (place_in js key))) (slice_get ks n))) e
 

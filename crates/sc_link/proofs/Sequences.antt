@@ -28,7 +28,13 @@ spends-none i = record { for_texts = omega arith; for_values = omega arith; for_
 
 pub functions-none : (i : Image) → PutsFunctions [] i i
 functions-none i = record {
-  count = omega arith; keys = λ at. refl; values = λ q. refl; words = λ pc. refl; texts = λ pc. refl; literals = λ at. refl; room = spends-none i;
+  count = omega arith;
+  keys = λ at. refl;
+  values = λ q. refl;
+  words = λ pc. refl;
+  texts = λ pc. refl;
+  literals = λ at. refl;
+  room = spends-none i;
 }
 
 pub functions-then : (k : Key) (ks : List Key) (i j f : Image) → PutsFunctions (k ∷ []) i j → PutsFunctions ks j f → PutsFunctions (k ∷ ks) i f
@@ -78,7 +84,13 @@ new-first k ks i a = record {
 
 pub statics-none : (i : Image) → PutsStatics [] i i
 statics-none i = record {
-  values = λ q. sym (value_or-none (value_of i q)); count = refl; keys = λ at. refl; words = λ pc. refl; texts = λ pc. refl; literals = λ at. refl; room = spends-none i;
+  values = λ q. sym (value_or-none (value_of i q));
+  count = refl;
+  keys = λ at. refl;
+  words = λ pc. refl;
+  texts = λ pc. refl;
+  literals = λ at. refl;
+  room = spends-none i;
 }
 
 value-then : (a : Option ℕ) (b : Bool) (y : ℕ) (r : Option ℕ) → value_or (value_or a (cond b (Some y) None)) r ≡ value_or a (cond b (Some y) r)
@@ -115,13 +127,24 @@ value-kept k q at v old some = by (key_eq k q) refl
 
 pub static-kept : (object : Key × ℕ) (i : Image) (v : ℕ) → value_of i object.0 ≡ Some v → PutsStatics (object ∷ []) i i
 static-kept object i v some = record {
-  values = λ q. value-kept object.0 q object.1 v (value_of i) some; count = refl; keys = λ at. refl; words = λ pc. refl; texts = λ pc. refl; literals = λ at. refl;
+  values = λ q. value-kept object.0 q object.1 v (value_of i) some;
+  count = refl;
+  keys = λ at. refl;
+  words = λ pc. refl;
+  texts = λ pc. refl;
+  literals = λ at. refl;
   room = record { for_texts = omega arith; for_values = omega arith; for_literals = omega arith; for_functions = omega arith };
 }
 
 pub texts-none : (i : Image) → PutsTexts [] i i
 texts-none i = record {
-  words = λ pc. refl; texts = λ pc. refl; count = refl; keys = λ at. refl; values = λ q. refl; literals = λ at. refl; room = spends-none i;
+  words = λ pc. refl;
+  texts = λ pc. refl;
+  count = refl;
+  keys = λ at. refl;
+  values = λ q. refl;
+  literals = λ at. refl;
+  room = spends-none i;
 }
 
 word-then : (pc : ℕ) (a b : Option Text) (r : Option ℕ) → word_over pc a (word_over pc b r) ≡ word_over pc (option_or a b) r
@@ -181,8 +204,12 @@ free-front t ts i j a p = record {
 -- a text without a word holds no address
 pub text-none : (t : Text) (i : Image) → t.words ≡ [] → PutsTexts (t ∷ []) i i
 text-none t i e = record {
-  words = λ pc. by pc (holds pc t) refl; texts = λ pc. at pc (holds pc t) refl;
-  count = refl; keys = λ p. refl; values = λ q. refl; literals = λ p. refl;
+  words = λ pc. by pc (holds pc t) refl;
+  texts = λ pc. at pc (holds pc t) refl;
+  count = refl;
+  keys = λ p. refl;
+  values = λ q. refl;
+  literals = λ p. refl;
   room = record { for_texts = omega arith; for_values = omega arith; for_literals = omega arith; for_functions = omega arith };
 }
   where

@@ -39,7 +39,13 @@ over-twice pc (Some at) (Some y) r = by (pc % 8 == 0) (pc % 8 == 4)
 
 pub jumps-none : (i : Image) → SetsJumps [] i i
 jumps-none i = record {
-  words = λ pc. by pc (key_of i (pc / 8 * 8)); count = refl; keys = λ at. refl; values = λ q. refl; texts = λ pc. refl; literals = λ at. refl; room = spends-none i;
+  words = λ pc. by pc (key_of i (pc / 8 * 8));
+  count = refl;
+  keys = λ at. refl;
+  values = λ q. refl;
+  texts = λ pc. refl;
+  literals = λ at. refl;
+  room = spends-none i;
 }
   where
     by : (pc : ℕ) (k : Option Key) → word_at i pc ≡ jump_over pc (jump_for [] k) (word_at i pc)
@@ -96,7 +102,13 @@ jump-found key at x e = ap (jump_for ((key, at) ∷ [])) e ∙ ap (λ b. cond b 
 
 pub jump-set : (i j : Image) (key : Key) (stub at : ℕ) → AreStubs i → key_of i stub ≡ Some key → SetsStub stub at i j → SetsJumps ((key, at) ∷ []) i j
 jump-set i j key stub at a is s = record {
-  words = λ pc. s.words pc ∙ second pc (pc == stub + 4) refl; count = s.count; keys = s.keys; values = s.values; texts = s.texts; literals = s.literals; room = s.room;
+  words = λ pc. s.words pc ∙ second pc (pc == stub + 4) refl;
+  count = s.count;
+  keys = s.keys;
+  values = s.values;
+  texts = s.texts;
+  literals = s.literals;
+  room = s.room;
 }
   where
     round : stub % 8 ≡ 0
@@ -132,7 +144,13 @@ jump-set i j key stub at a is s = record {
 
 pub jump-absent : (i : Image) (key : Key) (at : ℕ) → ((p : ℕ) → key_of i p ≢ Some key) → SetsJumps ((key, at) ∷ []) i i
 jump-absent i key at none = record {
-  words = λ pc. by pc (key_of i (pc / 8 * 8)) refl; count = refl; keys = λ p. refl; values = λ q. refl; texts = λ pc. refl; literals = λ p. refl; room = spends-none i;
+  words = λ pc. by pc (key_of i (pc / 8 * 8)) refl;
+  count = refl;
+  keys = λ p. refl;
+  values = λ q. refl;
+  texts = λ pc. refl;
+  literals = λ p. refl;
+  room = spends-none i;
 }
   where
     match : (pc : ℕ) (k : Key) → key_of i (pc / 8 * 8) ≡ Some k → (b : Bool) → key_eq key k ≡ b → word_at i pc ≡ jump_over pc (cond b (Some at) None) (word_at i pc)

@@ -26,9 +26,9 @@ text_at e f None at key = None
 text_at e f (Some section) None key = None
 text_at e f (Some section) (Some at) None = None
 text_at e f (Some section) (Some at) (Some key) =
-  if is_text section.kind
-  then Some (text_with (record { fun = key; «module» = e.home; start = at; frame = f }) (words section.bytes))
-  else None
+    if is_text section.kind
+    then Some (text_with (record { fun = key; «module» = e.home; start = at; frame = f }) (words section.bytes))
+    else None
 
 abbrev pub text_by : Placed → FrameTable → Symbol → Option Text
 text_by e f s = text_at e f (section_of e.object s) (place_of e s) (key_of e.home s)
@@ -105,9 +105,9 @@ abbrev pub spot_at : Reloc → Option Section → Option ℕ → Option (ℕ × 
 spot_at r None at = None
 spot_at r (Some section) None = None
 spot_at r (Some section) (Some at) =
-  if is_text section.kind && nat_le (r.at + 4) (length section.bytes)
-  then Some ((at + r.at) % 2 ^ 32, length section.bytes)
-  else None
+    if is_text section.kind && nat_le (r.at + 4) (length section.bytes)
+    then Some ((at + r.at) % 2 ^ 32, length section.bytes)
+    else None
 
 -- the address of a relocation in a text, and the text's length in bytes: a relocation changes words of its own section
 abbrev pub spot_of : Placed → Reloc → Option (ℕ × ℕ)

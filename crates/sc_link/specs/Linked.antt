@@ -69,8 +69,8 @@ text_word_in value fixes texts pc = option_map (fixed_all value fixes pc) (text_
 
 abbrev pub word_in : List Placed → List Key → ℕ → Option ℕ
 word_in es funs pc =
-  if nat_lt pc 0x00100000 then stub_in (jumps_in es) funs pc
-  else text_word_in (value_in es funs) (fixes_in es) (texts_in es) pc
+    if nat_lt pc 0x00100000 then stub_in (jumps_in es) funs pc
+    else text_word_in (value_in es funs) (fixes_in es) (texts_in es) pc
 
 -- the text that holds an address of the text area
 abbrev pub text_in : List Placed → ℕ → Option TextAt

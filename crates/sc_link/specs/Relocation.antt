@@ -38,9 +38,9 @@ with_split at word = word % 2 ^ 7 + at % 2 ^ 5 * 2 ^ 7 + word / 2 ^ 12 % 2 ^ 13 
 -- R_RISCV_32, R_RISCV_HI20, R_RISCV_LO12_I, R_RISCV_LO12_S, and both words of R_RISCV_CALL_PLT
 abbrev pub relocated : ℕ → Bool → ℕ → ℕ → ℕ
 relocated kind second at word =
-  if kind == 1 then at
-  else if kind == 26 then with_upper at word
-  else if kind == 27 then with_lower at word
-  else if kind == 28 then with_split at word
-  else if kind == 19 then (if second then with_lower at word else with_upper at word)
-  else word
+    if kind == 1 then at
+    else if kind == 26 then with_upper at word
+    else if kind == 27 then with_lower at word
+    else if kind == 28 then with_split at word
+    else if kind == 19 then (if second then with_lower at word else with_upper at word)
+    else word

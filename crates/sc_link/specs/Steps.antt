@@ -28,7 +28,7 @@ stub_over n (k ∷ ks) key before = stub_over (n + 1) ks key (if key_eq k key th
 abbrev pub call_over : ℕ → List Key → ℕ → Option ℕ → Option ℕ
 call_over n [] pc before = before
 call_over n (k ∷ ks) pc before =
-  call_over (n + 1) ks pc (if pc == stub_address n then slice_get call_words 0 else if pc == stub_address n + 4 then slice_get call_words 1 else before)
+    call_over (n + 1) ks pc (if pc == stub_address n then slice_get call_words 0 else if pc == stub_address n + 4 then slice_get call_words 1 else before)
 
 -- functions get the next numbers
 pub record PutsFunctions (ks : List Key) (old new : Image) : Type 0 where

@@ -99,11 +99,7 @@ pub fn jumps_in(alloc: Global, placed: &[Placed]) -> Result<Vec<(Key, u32)>, NoM
 
 /// Appends the functions of an entry with the places of their texts, none where it is a former one or not in object
 /// form.
-pub fn add_jumps(
-    alloc: Global,
-    jumps: &mut Vec<(Key, u32)>,
-    entry: &Placed,
-) -> Result<(), NoMemory>
+pub fn add_jumps(alloc: Global, jumps: &mut Vec<(Key, u32)>, entry: &Placed) -> Result<(), NoMemory>
     ensures { OnOk result (jumps.new.items ≡ jumps.old.items ++ spec.jumps_if entry.now) }
 {
     if entry.retired {

@@ -2,6 +2,7 @@
 #![tactic(auto)]
 
 mod collect;
+mod laws;
 mod linking;
 mod literals;
 mod placed;
@@ -11,11 +12,15 @@ mod steps;
 mod symbol;
 
 pub use collect::{
-    add_jumps, add_literals, add_statics, add_texts, copies, jumps_in, literals_in, statics_in, texts_in,
+    add_jumps, add_literals, add_statics, add_texts, copies, jumps_in, literals_in, statics_in,
+    texts_in,
 };
-pub use linking::{MOST_FUNCTIONS, STATICS, STATICS_END, TEXTS, TEXTS_END, link};
+pub use laws::patches_over;
+pub use linking::link;
 pub use literals::put_literals;
-pub use placed::{Area, LinkFault, LiteralAt, Placed};
+pub use placed::{
+    Area, LinkFault, LiteralAt, MOST_FUNCTIONS, Placed, STATICS, STATICS_END, TEXTS, TEXTS_END,
+};
 pub use relocating::{bases_of, relocate, relocate_entry, relocate_one};
 pub use relocation::{relocated, target_of, words_of};
 pub use steps::{put_functions, put_statics, put_texts, set_jumps};

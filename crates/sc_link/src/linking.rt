@@ -9,7 +9,9 @@ ghost use Rattle.sc_link.specs.Steps.{HasParts, IsBare};
 
 use crate::collect::{copies, jumps_in, literals_in, statics_in, texts_in};
 use crate::literals::put_literals;
-use crate::placed::{Area, LinkFault, LiteralAt, Placed};
+use crate::placed::{
+    Area, LinkFault, LiteralAt, MOST_FUNCTIONS, Placed, STATICS, STATICS_END, TEXTS, TEXTS_END,
+};
 use crate::relocating::relocate;
 use crate::steps::{put_functions, put_statics, put_texts, set_jumps};
 use crate::symbol::{is_text, place_of, section_of};
@@ -17,17 +19,6 @@ use sc_base::{Key, NoMemory};
 use sc_isa_image::{Image, Text};
 use sc_object::Symbol;
 use std::alloc::Global;
-
-/// How many functions have a number at most.
-pub const MOST_FUNCTIONS: usize = 65536;
-
-/// Where the texts begin, and the address behind their area.
-pub const TEXTS: u32 = 0x0010_0000;
-pub const TEXTS_END: u32 = 0x0410_0000;
-
-/// Where the objects of static storage duration begin, and the address behind their area.
-pub const STATICS: u32 = 0x0800_0000;
-pub const STATICS_END: u32 = 0x0810_0000;
 
 /// The image of a list of entries and of the functions by their numbers. Its words are those of the texts of all entries
 /// in object form, former ones too, relocated under the keys that the present entries define. `Space` names the first
@@ -143,7 +134,9 @@ fn is_text_inside(text: &Text) -> bool
     ensures { result ≡ in_text text.now }
 {
     let len = text.words.as_slice().len();
-    text.at.start >= TEXTS && len <= ((TEXTS_END - TEXTS) / 4) as usize && text.at.start as usize + 4 * len <= TEXTS_END as usize
+    text.at.start >= TEXTS
+        && len <= ((TEXTS_END - TEXTS) / 4) as usize
+        && text.at.start as usize + 4 * len <= TEXTS_END as usize
 }
 
 // Whether all objects of static storage duration are inside their area, former ones and literals too.
@@ -169,5 +162,6 @@ fn is_inside(entry: &Placed, symbol: &Symbol) -> bool
     let Some(at) = place_of(entry, symbol) else {
         return true;
     };
-    is_text(section.kind) || (at >= STATICS && u64::from(at) + u64::from(section.size) <= u64::from(STATICS_END))
+    is_text(section.kind)
+        || (at >= STATICS && u64::from(at) + u64::from(section.size) <= u64::from(STATICS_END))
 }

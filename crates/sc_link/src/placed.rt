@@ -31,6 +31,19 @@ pub enum Area {
     Static,
 }
 
+/// How many functions have a number at most.
+pub const MOST_FUNCTIONS: usize = 65536;
+
+/// Where the texts begin, and the address behind their area.
+pub const TEXTS: u32 = 0x0010_0000;
+
+pub const TEXTS_END: u32 = 0x0410_0000;
+
+/// Where the objects of static storage duration begin, and the address behind their area.
+pub const STATICS: u32 = 0x0800_0000;
+
+pub const STATICS_END: u32 = 0x0810_0000;
+
 /// Why there is no image: a place outside its area, or no memory.
 #[derive(Clone, Copy, Debug, PartialEq, Eq)]
 pub enum LinkFault {

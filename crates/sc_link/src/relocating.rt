@@ -7,16 +7,13 @@ ghost use Rattle.sc_link.specs.Entries.{base_of, fixes_from, fixes_if, fixes_in,
 ghost use Rattle.sc_link.specs.Linked.{base_value, or_zero};
 ghost use Rattle.sc_link.specs.Steps.{FixesWord, Relocates};
 
-use crate::placed::Placed;
+use crate::placed::{Placed, TEXTS};
 use crate::relocation::{CALL, relocated, target_of};
 use crate::symbol::{is_literal, is_text, key_of, place_of};
 use sc_base::{Form, NoMemory};
 use sc_isa_image::Image;
 use sc_object::{Reloc, Symbol};
 use std::alloc::Global;
-
-/// Where the text area begins.
-const TEXTS: u32 = 0x0010_0000;
 
 /// Makes the relocations of all entries in object form, with the values that the image has for keys.
 pub fn relocate(alloc: Global, image: &mut Image, placed: &[Placed]) -> Result<(), NoMemory>
@@ -55,12 +52,7 @@ pub fn bases_of(alloc: Global, image: &Image, entry: &Placed) -> Result<Vec<u32>
 }
 
 // To what the relocations that name a symbol add.
-fn base_of(
-    alloc: Global,
-    image: &Image,
-    entry: &Placed,
-    symbol: &Symbol,
-) -> Result<u32, NoMemory>
+fn base_of(alloc: Global, image: &Image, entry: &Placed, symbol: &Symbol) -> Result<u32, NoMemory>
     ensures { IfOk result (λ base. base ≡ base_value (value_of image.now) (base_of entry.now (Some symbol.now))) }
 {
     if is_literal(symbol.name.as_slice()) {

@@ -1,5 +1,4 @@
 use Rattle.std.proofs.Common.{◌≡◌, ◌++◌, flat_map, map, take}
-
 use Rattle.sc_link.proofs.collect.copies.Given as goal
 
 abbrev pub invariant-loop-key : goal.invariant-loop-key

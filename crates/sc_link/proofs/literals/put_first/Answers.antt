@@ -3,7 +3,10 @@ use Rattle.sc_link.proofs.literals.put_first.Goals as goal
 
 pub put_literal-requires : goal.put_literal-requires
 put_literal-requires c = record {
-  room = c.requires.room; free = free-place c.args.literal c.args.image.now c.requires.free c.requires.absent; absent = not-there c.args.literal c.args.image.now c.requires.absent }
+  room = c.requires.room;
+  free = free-place c.args.literal c.args.image.now c.requires.free c.requires.absent;
+  absent = not-there c.args.literal c.args.image.now c.requires.absent;
+}
 
 pub returns : goal.returns
 returns c =

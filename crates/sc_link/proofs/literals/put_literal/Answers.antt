@@ -1,4 +1,3 @@
-
 use Rattle.sc_link.proofs.literals.put_literal.Goals as goal
 
 pub put_first-requires : goal.put_first-requires

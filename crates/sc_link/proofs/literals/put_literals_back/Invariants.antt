@@ -8,7 +8,8 @@ abbrev pub invariant-putting : goal.invariant-putting
 invariant-putting l = record {
   later : (f : Image) → PutsLiterals (reverse l.literals) l.image f → PutsLiterals (reverse l.initial.literals) l.initial.image f;
   room : length l.literals ≤ literal_room l.image;
-  free : AreLiteralsFree (reverse l.literals) l.image }
+  free : AreLiteralsFree (reverse l.literals) l.image;
+}
 
 abbrev pub decreases-putting : goal.decreases-putting
 decreases-putting l = length l.literals

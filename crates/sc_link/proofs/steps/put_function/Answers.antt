@@ -6,6 +6,11 @@ put_fun-requires c = record { room = c.requires.room; few = c.requires.few; new 
 
 pub returns : goal.returns
 returns c = record {
-  count = c.put_fun.ensures.count; keys = c.put_fun.ensures.keys; values = c.put_fun.ensures.values; words = c.put_fun.ensures.words;
-  texts = c.put_fun.ensures.texts; literals = c.put_fun.ensures.literals; room = c.put_fun.ensures.room;
+  count = c.put_fun.ensures.count;
+  keys = c.put_fun.ensures.keys;
+  values = c.put_fun.ensures.values;
+  words = c.put_fun.ensures.words;
+  texts = c.put_fun.ensures.texts;
+  literals = c.put_fun.ensures.literals;
+  room = c.put_fun.ensures.room;
 }

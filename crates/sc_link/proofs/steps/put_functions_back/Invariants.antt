@@ -9,7 +9,8 @@ invariant-putting l = record {
   later : (f : Image) → PutsFunctions (reverse l.keys) l.image f → PutsFunctions (reverse l.initial.keys) l.initial.image f;
   room : length l.keys ≤ function_room l.image;
   few : count_of l.image + length l.keys ≤ 65536;
-  new : AreNew (reverse l.keys) l.image }
+  new : AreNew (reverse l.keys) l.image;
+}
 
 abbrev pub decreases-putting : goal.decreases-putting
 decreases-putting l = length l.keys

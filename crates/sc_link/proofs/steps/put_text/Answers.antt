@@ -22,6 +22,9 @@ returns c =
     record {
       words = λ pc. text-word c.args.text _ pc c.args.image.now c.put_text.new.self e (c.put_text.ensures.words pc);
       texts = λ pc. text-place c.args.text _ pc c.args.image.now c.put_text.new.self e (c.put_text.ensures.texts pc);
-      count = c.put_text.ensures.count; keys = c.put_text.ensures.keys; values = c.put_text.ensures.values;
-      literals = c.put_text.ensures.literals; room = c.put_text.ensures.room;
+      count = c.put_text.ensures.count;
+      keys = c.put_text.ensures.keys;
+      values = c.put_text.ensures.values;
+      literals = c.put_text.ensures.literals;
+      room = c.put_text.ensures.room;
     }

@@ -8,7 +8,8 @@ abbrev pub invariant-putting : goal.invariant-putting
 invariant-putting l = record {
   later : (f : Image) → PutsTexts l.texts l.image f → PutsTexts l.initial.texts l.initial.image f;
   room : length l.texts ≤ text_room l.image;
-  free : AreFree l.texts l.image }
+  free : AreFree l.texts l.image;
+}
 
 abbrev pub decreases-putting : goal.decreases-putting
 decreases-putting l = length l.texts

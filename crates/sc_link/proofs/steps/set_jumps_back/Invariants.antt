@@ -6,7 +6,8 @@ use Rattle.sc_link.proofs.steps.set_jumps_back.Given as goal
 abbrev pub invariant-setting : goal.invariant-setting
 invariant-setting l = record {
   later : (f : Image) → SetsJumps l.jumps l.image f → SetsJumps l.initial.jumps l.initial.image f;
-  stubs : AreStubs l.image }
+  stubs : AreStubs l.image;
+}
 
 abbrev pub decreases-setting : goal.decreases-setting
 decreases-setting l = length l.jumps
