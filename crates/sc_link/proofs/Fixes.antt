@@ -1,6 +1,9 @@
 -- Relocations one after another.
 use Rattle.std.proofs.Common.{◌≡◌, ◌≢◌, ℕ, zero, suc, ◌+◌, ◌<◌, ◌≤◌, ◌==◌, ◌&&◌, ◌%◌, ◌^◌, Bool, true, false, cond, List, [], ◌∷◌, ◌++◌, length, map, take, append_assoc, refl, sym, ap, ◌∙◌, Option, Some, None, arith, true≢false}
-use Rattle.std.proofs.Common.{add-one, subst}
+use Rattle.std.proofs.Common.{ℤ, add-one, subst}
+use Rattle.std.proofs.lemmas.Int.{to_z-of_z}
+use mir.Syntax.{w32}
+use mir.Val.{SFits, of_z, to_z}
 use Rattle.std.proofs.lemmas.List.{append-nil}
 use Rattle.std.specs.Prelude.{nat_lt, nat_le, flat_map}
 use Rattle.std.specs.List.{slice_get}
@@ -177,3 +180,7 @@ flat-more f (y ∷ xs) (suc n) x h = ap (λ zs. f y ++ zs) (flat-more f xs n x h
 
 pub relocates-more : {A : Type 0} (value : Key → Option ℕ) (f : A → List Fix) (xs : List A) (n : ℕ) (x : A) (i j k : Image) → slice_get xs n ≡ Some x → Relocates value (flat_map f (take n xs)) i j → Relocates value (f x) j k → Relocates value (flat_map f (take (n + 1) xs)) i k
 relocates-more value f xs n x i j k h p q = subst (λ fs. Relocates value fs i k) (sym (ap (λ m. flat_map f (take m xs)) (add-one n) ∙ flat-more f xs n x h)) (relocates-then value (flat_map f (take n xs)) (f x) i j k p q)
+
+-- a signed number that is passed
+pub passed : (f : ℤ → ℕ) (x : ℤ) (r : ℕ) → SFits w32 x → r ≡ f (to_z w32 (of_z w32 x)) → r ≡ f x
+passed f x r fits e = grind (arith, to_z-of_z)

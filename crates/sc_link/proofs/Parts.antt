@@ -9,9 +9,10 @@ use Rattle.sc_isa_image.specs.declared.image.Image.{Image}
 use Rattle.sc_isa_image.specs.declared.literals.Literal.{Literal}
 use Rattle.sc_isa_image.specs.declared.text.Text.{Text}
 use Rattle.sc_isa_image.specs.declared.text.TextAt.{TextAt}
-use Rattle.sc_isa_image.specs.Stubs.{call_words, stub_address, stub_of_word}
+use Rattle.sc_isa_image.specs.declared.stub.Stub.{Stub}
+use Rattle.sc_isa_image.specs.Stubs.{Functions, call_words, function_at, key_at, stub_address, stub_of_word}
 use Rattle.sc_isa_image.specs.Texts.{end_of, holds, place_of as where_of, text_holding, text_word, word_in_found}
-use Rattle.sc_isa_image.specs.Lookups.{key_of, literal_in, text_at, value_of, value_or, word_at}
+use Rattle.sc_isa_image.specs.Lookups.{IsBlank, SameKeys, SameLiterals, SameTexts, SameValues, SameWords, functions_of, key_of, literal_in, text_at, value_of, value_or, word_at}
 use Rattle.sc_link.specs.declared.placed.Placed.{Placed}
 use Rattle.sc_link.specs.declared.placed.LiteralAt.{LiteralAt}
 use Rattle.sc_link.specs.Areas.{in_text}
@@ -21,6 +22,25 @@ use Rattle.sc_link.specs.Steps.{AreFree, AreLiteralsFree, AreNew, AreStubs, HasL
 use Rattle.sc_link.proofs.Keys.{eq-true, eq-false, true-eq, true-lt, false-lt, lt-true, lt-false, get-within, none-some, find-some}
 use Rattle.sc_link.proofs.Stubs.{over-other}
 use Rattle.sc_link.proofs.Numbers.{calls-first, found-key, jumps-first, keys-first, no-key, no-stub, stub-number, stub-at, stub_in-at, stubs-first}
+
+bare-key : (fs : Functions) (at : ℕ) → fs ≡ [] → key_at fs at ≡ None
+bare-key fs at e = ap (λ xs. key_at xs at) e ∙ by (at % 8 == 0) (stub_of_word at)
+  where
+    by : (b : Bool) (n : Option ℕ) → cond b (option_map (λ (f : Key × Stub). f.0) (function_at [] n)) None ≡ None
+    by true None = refl
+    by true (Some n) = refl
+    by false n = refl
+
+-- an image that is made and given room
+pub bare-from : (i j : Image) → IsBlank i → count_of j ≡ count_of i → SameKeys i j → SameValues i j → SameWords i j → SameTexts i j → SameLiterals i j → IsBare j
+bare-from i j b count keys values words texts literals = record {
+  count = count ∙ ap length b.functions;
+  keys = λ at. keys at ∙ bare-key (functions_of i) at b.functions;
+  values = λ q. values q ∙ b.values q;
+  words = λ pc. words pc ∙ b.words pc;
+  texts = λ pc. texts pc ∙ b.texts pc;
+  literals = λ at. literals at ∙ b.literals at;
+}
 
 none-is : {A : Type 0} (r : Option A) (x : A) → r ≡ None → r ≢ Some x
 none-is r x e h = none-some r x e h

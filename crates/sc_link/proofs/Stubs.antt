@@ -166,3 +166,11 @@ stub-known i key stub a known v = ap (key_of i) (same-some stub known.0 (v ∙ a
 
 pub stub-missing : (i : Image) (key : Key) → AreStubs i → (p : ℕ) × (key_of i p ≡ Some key) → None ≡ value_of i key → ⊥
 stub-missing i key a known v = let z : ◌≡◌ {A = Option ℕ} None (Some known.0) = v ∙ a.values known.0 key known.1 in absurd (cc)
+
+-- both words of a stub are written
+pub stub-written : (i j f : Image) (stub at first second : ℕ) → Some first ≡ slice_get (jump_words at) 0 → Some second ≡ slice_get (jump_words at) 1 → ((q : ℕ) → word_at j q ≡ cond (q == stub) (Some first) (word_at i q)) → ((q : ℕ) → word_at f q ≡ cond (q == stub + 4) (Some second) (word_at j q)) → (pc : ℕ) → word_at f pc ≡ cond (pc == stub + 4) (slice_get (jump_words at) 1) (cond (pc == stub) (slice_get (jump_words at) 0) (word_at i pc))
+stub-written i j f stub at first second a b g h pc =
+    h pc ∙ ((λ m. cond (pc == stub + 4) (b m) (word_at j pc)) ∙ (ap (cond (pc == stub + 4) (slice_get (jump_words at) 1)) (g pc) ∙ (λ m. cond (pc == stub + 4) (slice_get (jump_words at) 1) (cond (pc == stub) (a m) (word_at i pc)))))
+
+pub second-there : (i j : Image) (stub first : ℕ) → ((q : ℕ) → word_at j q ≡ cond (q == stub) (Some first) (word_at i q)) → IsSome (word_at i (stub + 4)) → IsSome (word_at j (stub + 4))
+second-there i j stub first g h = some-same (word_at i (stub + 4)) (word_at j (stub + 4)) (g (stub + 4) ∙ ap (λ b. cond b (Some first) (word_at i (stub + 4))) (false-eq (stub + 4) stub (λ e. absurd (omega arith)))) h

@@ -1,5 +1,6 @@
 // The steps of linking, each of which changes one kind of look-up of an image and takes no memory.
-ghost use Rattle.std.specs.Prelude.{◌≡◌, ℕ, Some, ◌+◌, ◌^◌, ◌<◌, ◌≤◌, [], ◌∷◌, IsSome, length, reverse};
+ghost use Rattle.std.specs.Prelude.{◌≡◌, ℕ, Some, ◌+◌, ◌^◌, ◌<◌, ◌≤◌, [], ◌∷◌, IsSome, length, reverse, slice_get};
+ghost use Rattle.sc_isa_image.specs.Stubs.{jump_words};
 ghost use Rattle.sc_isa_image.specs.Lookups.{function_room, functions_of, key_of, text_room, value_room, word_at};
 ghost use Rattle.sc_link.specs.Steps.{AreFree, AreNew, AreStubs, PutsFunctions, PutsStatics, PutsTexts, SetsJumps, SetsStub};
 
@@ -152,7 +153,22 @@ fn set_stub(image: &mut Image, stub: u32, at: u32)
     requires small { stub + 4 < 2 ^ 32 }
     ensures { SetsStub stub at image.old image.new }
 {
+    image.set_word(stub, first_word(at));
+    image.set_word(stub + 4, second_word(at));
+}
+
+// The first word of a stub that leads to a text.
+fn first_word(at: u32) -> u32
+    ensures { Some result ≡ slice_get (jump_words at) 0 }
+{
     let words = jump_stub(at);
-    image.set_word(stub, words[0]);
-    image.set_word(stub + 4, words[1]);
+    words[0]
+}
+
+// The second word of a stub that leads to a text.
+fn second_word(at: u32) -> u32
+    ensures { Some result ≡ slice_get (jump_words at) 1 }
+{
+    let words = jump_stub(at);
+    words[1]
 }

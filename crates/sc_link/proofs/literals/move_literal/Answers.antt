@@ -11,14 +11,14 @@ take_literal-requires c = is-there c.args.image.now c.args.before (literal_of c.
 pub put_literal-requires : goal.put_literal-requires
 put_literal-requires c = record {
   room = let a = c.requires.room in let b = c.take_literal.ensures.room.for_literals in omega arith;
-  free = taken-free c.args.literal c.args.image.now c.take_literal.new.self c.args.before c.requires.free c.requires.found c.if-before-at.false c.take_literal.ensures.literals;
+  free = taken-free c.args.literal c.args.image.now c.take_literal.new.self c.args.before c.requires.free c.requires.found c.if-before-literal.false c.take_literal.ensures.literals;
   absent = taken-absent c.args.literal c.args.image.now c.take_literal.new.self c.args.before c.requires.found c.take_literal.ensures.literals;
 }
 
-pub returns-then-before-at : goal.returns-then-before-at
-returns-then-before-at c =
+pub returns-then-before-literal : goal.returns-then-before-literal
+returns-then-before-literal c =
     literal-puts c.args.literal c.args.image.now c.args.image.now
-    (changes-nothing c.args.literal c.args.image.now c.requires.free (subst (λ p. IsFound c.args.image.now (literal_of c.args.literal) (Some p)) c.if-before-at.true c.requires.found))
+    (changes-nothing c.args.literal c.args.image.now c.requires.free (subst (λ p. IsFound c.args.image.now (literal_of c.args.literal) (Some p)) c.if-before-literal.true c.requires.found))
     refl (λ _. refl) (λ _. refl) (λ _. refl) (λ _. refl) (record { for_texts = omega arith; for_values = omega arith; for_literals = omega arith; for_functions = omega arith })
 
 pub returns : goal.returns

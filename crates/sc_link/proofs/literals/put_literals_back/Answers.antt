@@ -14,7 +14,7 @@ putting-preserved c =
     }
 
 pub returns : goal.returns
-returns c = c.putting.invariant.later c.putting.image (literals-end c.putting.literals c.putting.image c.in-None.ensures.0)
+returns c = c.putting.invariant.later c.putting.image (literals-end c.putting.literals c.putting.image c.in_default.ensures.0)
 
 pub put_literal-requires : goal.put_literal-requires
 put_literal-requires c = record {

@@ -15,7 +15,7 @@ putting-preserved c =
     }
 
 pub returns : goal.returns
-returns c = c.putting.invariant.later c.putting.image (functions-end c.putting.keys c.putting.image c.in-None.ensures.0)
+returns c = c.putting.invariant.later c.putting.image (functions-end c.putting.keys c.putting.image c.in_default.ensures.0)
 
 pub put_function-requires : goal.put_function-requires
 put_function-requires c =

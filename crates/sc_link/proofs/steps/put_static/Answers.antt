@@ -4,7 +4,7 @@ use Rattle.sc_link.proofs.Sequences.{static-kept, value-put}
 use Rattle.sc_link.proofs.steps.put_static.Goals as goal
 
 pub put_value-requires : goal.put_value-requires
-put_value-requires c = record { room = c.requires; absent = sym c.in-None.ensures }
+put_value-requires c = record { room = c.requires.room; absent = sym c.in-None.ensures }
 
 pub returns-in-None : goal.returns-in-None
 returns-in-None c = record {

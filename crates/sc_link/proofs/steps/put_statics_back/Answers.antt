@@ -2,7 +2,7 @@ use Rattle.sc_link.proofs.Turns.{room-some, room-turn, statics-end, statics-turn
 use Rattle.sc_link.proofs.steps.put_statics_back.Goals as goal
 
 pub putting-init : goal.putting-init
-putting-init c = record { later = λ f h. h; room = c.requires }
+putting-init c = record { later = λ f h. h; room = c.requires.room }
 
 pub putting-preserved : goal.putting-preserved
 putting-preserved c =
@@ -13,7 +13,7 @@ putting-preserved c =
     }
 
 pub returns : goal.returns
-returns c = c.putting.invariant.later c.putting.image (statics-end c.putting.statics c.putting.image c.in-None.ensures.0)
+returns c = c.putting.invariant.later c.putting.image (statics-end c.putting.statics c.putting.image c.in_default.ensures.0)
 
 pub put_static-requires : goal.put_static-requires
 put_static-requires c = room-some c.putting.statics c.pop.new.self c.in-Some.object _ c.in-Some.ensures c.putting.invariant.room

@@ -14,7 +14,7 @@ putting-preserved c =
     }
 
 pub returns : goal.returns
-returns c = c.putting.invariant.later c.putting.image (texts-end c.putting.texts c.putting.image c.in-None.ensures.0)
+returns c = c.putting.invariant.later c.putting.image (texts-end c.putting.texts c.putting.image c.in_default.ensures.0)
 
 pub put_text-requires : goal.put_text-requires
 put_text-requires c = record {

@@ -15,7 +15,7 @@ setting-preserved c =
     }
 
 pub returns : goal.returns
-returns c = c.setting.invariant.later c.setting.image (jumps-end c.setting.jumps c.setting.image c.in-None.ensures.0)
+returns c = c.setting.invariant.later c.setting.image (jumps-end c.setting.jumps c.setting.image c.in_default.ensures.0)
 
 pub set_jump-requires : goal.set_jump-requires
 set_jump-requires c = c.setting.invariant.stubs
