@@ -1,8 +1,8 @@
 // The image of a list of entries, from nothing.
-ghost use Rattle.std.specs.Prelude.{◌≡◌, ◌≤◌, ◌<◌, false, length, IfOk, OnOk, IsTrue};
+ghost use Rattle.std.specs.Prelude.{◌≡◌, ◌≤◌, ◌<◌, false, length, IfErr, IfOk, OnOk, IsTrue};
 ghost use Rattle.std.specs.List.{list_all};
 ghost use Rattle.sc_isa_image.specs.Lookups.{function_room, literal_room, text_room, value_room};
-ghost use Rattle.sc_link.specs.Areas.{are_statics_inside, in_text, is_inside};
+ghost use Rattle.sc_link.specs.Areas.{AreInside, IsRefused, are_statics_inside, in_text, is_inside};
 ghost use Rattle.sc_link.specs.Entries as spec;
 ghost use Rattle.sc_link.specs.Linked.{AreApart, AreDistinct, AreOnePlaced, IsLinked};
 ghost use Rattle.sc_link.specs.Steps.{HasParts, IsBare};
@@ -28,17 +28,16 @@ pub fn link(alloc: Global, placed: &[Placed], funs: &[Key]) -> Result<Image, Lin
     requires texts { AreApart (spec.texts_in placed.now) }
     requires literals { AreOnePlaced (spec.literals_in placed.now) }
     ensures linked { IfOk result (IsLinked placed.now funs.now) }
-    ensures stubs_inside { OnOk result (length funs.now ≤ MOST_FUNCTIONS) }
-    ensures texts_inside { OnOk result (IsTrue (list_all in_text (spec.texts_in placed.now))) }
-    ensures statics_inside { OnOk result (IsTrue (are_statics_inside placed.now)) }
-    ensures stubs { result ≡ Err (LinkFault.Space Area.Stubs) → MOST_FUNCTIONS < length funs.now }
-    ensures text { result ≡ Err (LinkFault.Space Area.Text) → list_all in_text (spec.texts_in placed.now) ≡ false }
-    ensures statics { result ≡ Err (LinkFault.Space Area.Static) → are_statics_inside placed.now ≡ false }
+    ensures inside { OnOk result (AreInside placed.now funs.now) }
+    ensures refused { IfErr result (IsRefused placed.now funs.now) }
 {
     if funs.len() > MOST_FUNCTIONS {
         return Err(LinkFault::Space(Area::Stubs));
     }
-    let texts = texts_in(alloc, placed)?;
+    let texts = match texts_in(alloc, placed) {
+        Ok(texts) => texts,
+        Err(_) => return Err(LinkFault::NoMemory),
+    };
     if !are_texts_inside(texts.as_slice()) {
         drop(texts);
         return Err(LinkFault::Space(Area::Text));
@@ -47,8 +46,10 @@ pub fn link(alloc: Global, placed: &[Placed], funs: &[Key]) -> Result<Image, Lin
         drop(texts);
         return Err(LinkFault::Space(Area::Static));
     }
-    let image = assemble(alloc, placed, funs, texts)?;
-    Ok(image)
+    match assemble(alloc, placed, funs, texts) {
+        Ok(image) => Ok(image),
+        Err(_) => Err(LinkFault::NoMemory),
+    }
 }
 
 // The image of entries whose texts are given.
