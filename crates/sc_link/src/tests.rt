@@ -1,6 +1,5 @@
-// Words with relocations, encoded by hand from the RISC-V manual and the psABI, and the image of one function.
-use super::{link, relocated, target_of};
-use sc_base::{Key, Name};
+// Words with relocations, encoded by hand from the RISC-V manual and the psABI.
+use super::{relocated, target_of};
 use std::test::Fail;
 
 // A relocation by its type, whether the word is the second of a pair, the symbol's value, the addend, the place, the word
@@ -101,17 +100,5 @@ fn words_with_relocations(rt: HostRuntime) -> Result<(), Fail> {
         let at = target_of(*kind, *symbol, *addend, *place);
         assert_eq!(rt; relocated(*kind, *second, at, *word), *expected, "{kind}");
     }
-    Ok(())
-}
-
-#[test]
-fn a_function_without_text(rt: HostRuntime) -> Result<(), Fail> {
-    let name = Name::new(rt.alloc(), b"f")?;
-    let funs = [Key { module: None, name }];
-    let image = link(rt.alloc(), &[], &funs)?;
-    assert_eq!(rt; image.word(0x0001_0000), Some(0x0010_0293));
-    assert_eq!(rt; image.word(0x0001_0004), Some(0x0000_0073));
-    assert_eq!(rt; image.word(0x0010_0000), None);
-    assert_eq!(rt; image.functions(), 1);
     Ok(())
 }
