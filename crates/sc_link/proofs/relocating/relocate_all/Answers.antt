@@ -1,6 +1,6 @@
 use Rattle.std.proofs.Common.{◌≡◌, arith, flat_map, length, refl, rules, subst, take}
 use Rattle.std.proofs.lemmas.Grind.{common_steps}
-use Rattle.std.proofs.lemmas.Option.{slice_get_read}
+use Rattle.std.proofs.lemmas.Option.{slice_get-get_or}
 use Rattle.sc_link.specs.Entries.{fixes_of}
 use Rattle.sc_link.specs.Steps.{Relocates}
 use Rattle.sc_link.proofs.Fixes.{base-at, relocates-more}
@@ -9,10 +9,10 @@ use Rattle.sc_link.proofs.relocating.relocate_all.Goals as goal
 pub loop-reloc-preserved : goal.loop-reloc-preserved
 loop-reloc-preserved c = λ value h.
     let xs = c.as_slice-reloc-items.result.now in
-    relocates-more value (fixes_of c.args.entry.now) xs c.loop-reloc.reloc-index c.reloc-item.result c.args.image.now c.loop-reloc.image c.relocate_one.new.image
-    (slice_get_read xs (length xs) c.loop-reloc.reloc-index c.reloc-item.result refl (search rules) c.reloc-item.is)
+    relocates-more value (fixes_of c.args.entry.now) xs c.loop-reloc.reloc-index _ c.args.image.now c.loop-reloc.image c.relocate_one.new.image
+    (slice_get-get_or xs c.loop-reloc.reloc-index _ (search rules))
     (c.loop-reloc.invariant value h)
-    (c.relocate_one.ensures value (base-at c.args.entry.now c.args.entry.now.object.symbols value c.args.bases.now c.reloc-item.result.symbol c.base_at-base.result h c.base_at-base.ensures))
+    (c.relocate_one.ensures value (base-at c.args.entry.now c.args.entry.now.object.symbols value c.args.bases.now _ c.base_at-base.result h c.base_at-base.ensures))
 
 pub returns : goal.returns
 returns c = λ value h.

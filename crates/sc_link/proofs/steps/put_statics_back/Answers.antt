@@ -16,4 +16,4 @@ pub returns : goal.returns
 returns c = c.putting.invariant.later c.putting.image (statics-end c.putting.statics c.putting.image c.in_default.ensures.0)
 
 pub put_static-requires : goal.put_static-requires
-put_static-requires c = room-some c.putting.statics c.pop.new.self c.in-Some.object _ c.in-Some.ensures c.putting.invariant.room
+put_static-requires c = record { room = room-some c.putting.statics c.pop.new.self c.in-Some.object _ c.in-Some.ensures c.putting.invariant.room }

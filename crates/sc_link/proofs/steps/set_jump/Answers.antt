@@ -7,5 +7,5 @@ set_function-requires c = record { stubs = c.requires; known = c.if-is_function.
 pub returns-then-is_function : goal.returns-then-is_function
 returns-then-is_function c = c.set_function.ensures
 
-pub returns-else-is_function : goal.returns-else-is_function
-returns-else-is_function c = jump-absent c.args.image.now c.args.jump.0 c.args.jump.1 c.if-is_function.ensures
+pub returns : goal.returns
+returns c = jump-absent c.args.image.now c.args.jump.0 c.args.jump.1 c.if-is_function.ensures
