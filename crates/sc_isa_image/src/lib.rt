@@ -9,4 +9,4 @@ mod texts;
 
 pub use image::Image;
 pub use stub::{call_stub, jump_stub, lower, upper};
-pub use text::TextAt;
+pub use text::{Text, TextAt};

@@ -1,7 +1,7 @@
 // Placed texts.
 
 use sc_base::{Duplicate, Items, Key, Name, NoMemory};
-use sc_program::FrameTable;
+use sc_object::FrameTable;
 use std::alloc::Global;
 
 /// The text of a function in a module: the address of its first byte, and its frame.

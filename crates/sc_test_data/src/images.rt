@@ -5,7 +5,8 @@ ghost use Rattle.sc_isa_image.specs.Texts.{starts_at};
 
 use sc_base::{Bytes, Duplicate, Items, Key, Name, NoMemory};
 use sc_isa_image::{Image, TextAt, call_stub, jump_stub, lower, upper};
-use sc_program::{FrameTable, Slot};
+use sc_object::{BlockTable, FrameTable};
+use sc_program::Slot;
 use std::alloc::Global;
 use std::test::Fail;
 
@@ -120,10 +121,10 @@ fn frame(alloc: Global) -> Result<FrameTable, NoMemory> {
         size: 4,
         constant: false,
     };
-    let mut block = Items::new(alloc);
-    block.push(slot)?;
+    let mut slots = Items::new(alloc);
+    slots.push(slot)?;
     let mut blocks = Items::new(alloc);
-    blocks.push(block)?;
+    blocks.push(BlockTable { line: 1, slots })?;
     Ok(FrameTable {
         symbol: 1,
         cost: 16,

@@ -7,7 +7,7 @@ ghost use Rattle.sc_isa_image.specs.Lookups.{text_at};
 use sc_base::{Items, Key, Kind, Name, NoMemory, Word};
 use sc_isa_image::{Image, TextAt};
 use sc_mem::Memory;
-use sc_program::FrameTable;
+use sc_object::FrameTable;
 use std::alloc::Global;
 
 const USAGE: &str =

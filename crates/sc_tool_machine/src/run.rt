@@ -5,7 +5,7 @@ use sc_base::{Items, Key, Name, NoMemory};
 use sc_emu::{Regs, Step, step};
 use sc_isa_image::{Image, TextAt};
 use sc_mem::Memory;
-use sc_program::FrameTable;
+use sc_object::FrameTable;
 use std::alloc::Global;
 use std::io;
 
