@@ -1,0 +1,4 @@
+pub mod Jumps
+pub mod Initializers
+pub mod Statements
+pub mod Functions

@@ -1,0 +1,4 @@
+pub mod Code
+pub mod Operators
+pub mod Calls
+pub mod Expressions
