@@ -1,6 +1,5 @@
 -- The code of operators, on values that stand in registers: the result is put into a0 (ANSI 3.3).
 use Rattle.std.specs.Prelude.{ℕ, ◌+◌, ◌-◌, ◌*◌, ◌%◌, ◌^◌, ◌==◌, Bool, true, false, ◌&&◌, if◌then◌else◌, nat_lt, List, [], ◌∷◌, ◌++◌, ℤ, pos, negsuc}
-use Rattle.std.specs.Int.{w32, cast_signed}
 use Rattle.sc_base.specs.declared.integer.Int.{Int}
 use Rattle.sc_base.specs.declared.integer.Int.TheVariants as int
 use Rattle.sc_base.specs.declared.operator.Op.{Op}
@@ -176,20 +175,23 @@ is_before DecrementFirst = true
 is_before IncrementAfter = false
 is_before DecrementAfter = false
 
--- what is added, modulo 2^32
+-- what is added to a pointer, modulo 2^32
 abbrev pub addend : Step → ℕ → ℕ
 addend s n = if is_increment s then n else (0 + (2 ^ 32 - n)) % 2 ^ 32
 
--- the next value of a pointer, or of an integer, from a0 to a2
-abbrev pub next_value : CType → ℕ → Code
-next_value t n =
-    if is_pointer t then li t1 n ++ apply reg.Add a2 a0 t1 ∷ []
-    else addi a2 a0 (cast_signed w32 n) ∷ convert t a2
+abbrev pub one : Step → ℤ
+one s = if is_increment s then pos 1 else negsuc 0
+
+-- the next value of a pointer to elements of n bytes, or of an integer, from a0 to a2
+abbrev pub next_value : Step → ℕ → CType → Code
+next_value s n t =
+    if is_pointer t then li t1 (addend s n) ++ apply reg.Add a2 a0 t1 ∷ []
+    else addi a2 a0 (one s) ∷ convert t a2
 
 -- ++ and -- on the place in a0: its value ends in a0, the one after the step where the operator stands before it (3.3.2.4, 3.3.3.1)
 abbrev pub stepped : Step → ℕ → CType → Code
 stepped s n t =
-    mv a1 a0 ∷ load t a0 a1 ∷ next_value t (addend s n) ++ store t a2 a1 ∷ (if is_before s then mv a0 a2 ∷ [] else [])
+    mv a1 a0 ∷ load t a0 a1 ∷ next_value s n t ++ store t a2 a1 ∷ (if is_before s then mv a0 a2 ∷ [] else [])
 
 -- the place in a1 is changed by the value in a0, and read only now (3.3.16.2)
 abbrev pub changed : Op → Int → CType → Code

@@ -271,15 +271,27 @@ pub fn further(code: &mut Items<Symbolic>, n: u32) -> Result<(), NoMemory>
     put_one(code, apply(RegOp::Add, A0, A0, T1))
 }
 
+fn is_increment(step: Step) -> bool
+    ensures { result ≡ spec.is_increment step }
+{
+    match step {
+        Step::IncrementFirst => true,
+        Step::IncrementAfter => true,
+        Step::DecrementFirst => false,
+        Step::DecrementAfter => false,
+    }
+}
+
 fn addend(step: Step, n: u32) -> u32
     ensures { result ≡ spec.addend step n }
 {
-    match step {
-        Step::IncrementFirst => n,
-        Step::IncrementAfter => n,
-        Step::DecrementFirst => 0u32.wrapping_sub(n),
-        Step::DecrementAfter => 0u32.wrapping_sub(n),
-    }
+    if is_increment(step) { n } else { 0u32.wrapping_sub(n) }
+}
+
+fn one(step: Step) -> i32
+    ensures { result ≡ spec.one step }
+{
+    if is_increment(step) { 1 } else { -1 }
 }
 
 fn is_before(step: Step) -> bool
@@ -293,14 +305,14 @@ fn is_before(step: Step) -> bool
     }
 }
 
-fn next_value(code: &mut Items<Symbolic>, t: &CType, n: u32) -> Result<(), NoMemory>
-    ensures { OnOk result (code.new ≡ code.old ++ spec.next_value t.now n) }
+fn next_value(code: &mut Items<Symbolic>, step: Step, n: u32, t: &CType) -> Result<(), NoMemory>
+    ensures { OnOk result (code.new ≡ code.old ++ spec.next_value step n t.now) }
 {
     if is_pointer(t) {
-        li(code, T1, n)?;
+        li(code, T1, addend(step, n))?;
         put_one(code, apply(RegOp::Add, A2, A0, T1))
     } else {
-        put_one(code, addi(A2, A0, n.cast_signed()))?;
+        put_one(code, addi(A2, A0, one(step)))?;
         convert(code, t, A2)
     }
 }
@@ -310,7 +322,7 @@ pub fn stepped(code: &mut Items<Symbolic>, step: Step, n: u32, t: &CType) -> Res
     ensures { OnOk result (code.new ≡ code.old ++ spec.stepped step n t.now) }
 {
     put(code, &[addi(A1, A0, 0), load(t, A0, A1)])?;
-    next_value(code, t, addend(step, n))?;
+    next_value(code, step, n, t)?;
     put_one(code, store(t, A2, A1))?;
     if is_before(step) {
         put_one(code, addi(A0, A2, 0))
