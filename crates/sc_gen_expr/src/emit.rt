@@ -1,5 +1,5 @@
 // What is written of an object so far: the words of one text, relocations, and the targets that they name.
-ghost use Rattle.std.specs.Prelude.{◌≡◌, ◌+◌, ◌*◌, ◌<◌, ◌^◌, [], ◌∷◌, ◌++◌, length, OnOk, IfOk, pos};
+ghost use Rattle.std.specs.Prelude.{◌≡◌, ◌+◌, ◌*◌, ◌<◌, ◌^◌, [], ◌∷◌, ◌++◌, length, slice_get, min, None, Some, MatchOption, OnOk, IfOk, pos};
 ghost use Rattle.sc_gen_expr.specs.Emitted as emitted;
 ghost use Rattle.sc_gen_expr.specs.Expressions.{expression_code};
 ghost use Rattle.sc_gen_expr.specs.Words as spec;
@@ -48,6 +48,13 @@ impl Targets {
         }
     }
 
+    /// The target of a number.
+    pub fn get(&self, n: usize) -> Option<&Target>
+        ensures { MatchOption result (slice_get self.now n ≡ None) (λ t. slice_get self.now n ≡ Some t.now) }
+    {
+        self.all.get_index(n)
+    }
+
     /// How many targets there are.
     pub fn len(&self) -> usize
         ensures { result ≡ length self.now }
@@ -67,7 +74,8 @@ pub struct Emit {
     pub temporaries: u32,
 }
 
-fn fitted(n: usize) -> u32
+/// Numbers above 2^32 - 1 are counted as that one.
+pub fn fitted(n: usize) -> u32
     ensures { result ≡ spec.fitted n }
 {
     if n < 4294967295 { n as u32 } else { 4294967295 }
