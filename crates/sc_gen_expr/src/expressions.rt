@@ -165,16 +165,16 @@ pub fn expression(
 fn both(
     alloc: Global,
     slots: &[Items<Auto>],
-    a: &CoreExpr,
-    b: &CoreExpr,
+    left: &CoreExpr,
+    right: &CoreExpr,
     t: u32,
     code: &mut Items<Symbolic>,
 ) -> Result<(), NoMemory>
-    ensures { OnOk result (code.new ≡ code.old ++ spec.both (spec.part_of slots.now a.now) (spec.part_of slots.now b.now) a.now b.now t) }
+    ensures { OnOk result (code.new ≡ code.old ++ spec.both (spec.part_of slots.now left.now) (spec.part_of slots.now right.now) left.now right.now t) }
 {
-    expression(alloc, slots, a, t, code)?;
+    expression(alloc, slots, left, t, code)?;
     push(code, t)?;
-    expression(alloc, slots, b, next(t), code)?;
+    expression(alloc, slots, right, next(t), code)?;
     pop(code, A1, t)
 }
 
