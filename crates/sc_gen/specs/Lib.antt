@@ -5,3 +5,5 @@ pub mod Functions
 pub mod Blocks
 pub mod Sections
 pub mod Objects
+pub mod Nodes
+pub mod Turns

@@ -209,7 +209,7 @@ fn open_labels(labels: &[LabelAt], text: &mut Text) -> Result<(), NoMemory> {
 fn set_labels(code: &mut Items<Symbolic>, first: usize, labels: &[LabelAt], starts: &[usize]) {
     let mut at = first;
     for l in labels {
-        at += 1;
+        at = at.saturating_add(1);
         if at < code.len() {
             code.set(at, Symbolic::Plain(jump(at, start_of(first, starts, l.at))));
         }
