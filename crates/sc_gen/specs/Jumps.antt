@@ -1,5 +1,5 @@
 -- Jumps to places of a function's text, which are counted in words from its beginning, and the blocks that are left on the way.
-use Rattle.std.specs.Prelude.{ℕ, ◌+◌, ◌*◌, ◌==◌, ◌&&◌, if◌then◌else◌, nat_lt, List, [], ◌∷◌, ◌++◌, length, slice_get, slice_index_or, Option, Some, None, ℤ, pos, ◌-ℤ◌}
+use Rattle.std.specs.Prelude.{ℕ, ◌+◌, ◌*◌, ◌==◌, ◌&&◌, if◌then◌else◌, nat_lt, List, [], ◌∷◌, ◌++◌, length, slice_get, slice_set, slice_index_or, replicate, Option, Some, None, ℤ, pos, ◌-ℤ◌}
 use Rattle.std.specs.Option.{option_or}
 use Rattle.sc_isa.specs.declared.instruction.Instr.TheVariants.{Jal, Branch}
 use Rattle.sc_isa.specs.declared.instruction.BranchOp.TheVariants.{Bne}
@@ -81,6 +81,16 @@ label_rows at start (l ∷ ls) = over (length (l ∷ ls)) ∷ label_jumps (at + 
 abbrev pub rows : List LabelAt → ℕ
 rows [] = 0
 rows (l ∷ ls) = 1 + length (l ∷ ls)
+
+-- the words that stand there before the statements are known
+abbrev pub label_holes : List LabelAt → Code
+label_holes [] = []
+label_holes (l ∷ ls) = over (length (l ∷ ls)) ∷ replicate (length (l ∷ ls)) (over 0)
+
+-- words behind a place become the jumps of labels
+abbrev pub with_jumps : Code → ℕ → (ℕ → ℕ) → List LabelAt → Code
+with_jumps code at start [] = code
+with_jumps code at start (l ∷ ls) = with_jumps (slice_set code (at + 1) (jump (at + 1) (start l.at))) (at + 1) start ls
 
 -- around the statements of a block, whose labels' jumps begin at a place
 abbrev pub inside : Around → ℕ → List LabelAt → ℕ → Around

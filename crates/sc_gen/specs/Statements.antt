@@ -18,7 +18,7 @@ use Rattle.sc_gen_expr.specs.Expressions.{expression_code, slot_of}
 use Rattle.sc_gen.specs.declared.jumps.Place.{Place}
 use Rattle.sc_gen.specs.declared.jumps.Exits.{Exits}
 use Rattle.sc_gen.specs.declared.jumps.Text.{Text}
-use Rattle.sc_gen.specs.Jumps.{Around, jump, entering, go, go_in, unless_equal, labelled, start_of, label_rows, rows, inside, in_loop, in_switch}
+use Rattle.sc_gen.specs.Jumps.{Around, jump, entering, go, go_in, unless_equal, labelled, label_holes, label_places, label_rows, nowhere, rows, start_of, inside, in_loop, in_switch}
 use Rattle.sc_gen.specs.Initializers.{pieces_code}
 
 -- A function's frame, from its low end: the words of arguments past the eighth, temporaries, the slots of its objects, the saved registers.
@@ -112,10 +112,6 @@ abbrev pub choice : Code → Code → Option Code → Code
 choice test first None = test ++ (skip_if ∷ over (length first) ∷ first)
 choice test first (Some other) = test ++ (skip_if ∷ over (length first + 1) ∷ first ++ over (length other) ∷ other)
 
-abbrev pub other_code : Option Body → Option CoreStmt → ℕ → Around → Option Code
-other_code (Some p) (Some s) at around = Some (whole p s at around)
-other_code _ _ at around = None
-
 -- case v: a comparison, and the entry of the body's block and a jump where it holds
 abbrev pub case_code : Option ℕ → ℕ → ℕ → ℕ → Code
 case_code block at v to = li t1 v ++ (unless_equal (length (entering block) + 1) ∷ go_in block (at + length (li t1 v) + 1) to)
@@ -149,34 +145,58 @@ returned f None = service 6 ++ epilogue f.cost
 returned f (Some e) = expression_code f.slots e f.temporaries ++ (block_service 3 0 ++ epilogue f.cost)
 
 -- goto label;
-abbrev pub go_to : Around → ℕ → Option Place → Code
-go_to around at None = []
-go_to around at (Some place) = go around.open at place
+abbrev pub go_to : List ℕ → ℕ → Option Place → Code
+go_to open at None = []
+go_to open at (Some place) = go open at place
+
+-- if (e) s
+abbrev pub branch_code : Frame → Body → CoreExpr → CoreStmt → ℕ → Around → Code
+branch_code f p e s at around =
+    let test = expression_code f.slots e f.temporaries in
+    choice test (whole p s (at + length test + 2) around) None
+
+-- if (e) s else r
+abbrev pub choice_code : Frame → Body → Body → CoreExpr → CoreStmt → CoreStmt → ℕ → Around → Code
+choice_code f p q e s r at around =
+    let test = expression_code f.slots e f.temporaries in
+    let first = whole p s (at + length test + 2) around in
+    choice test first (Some (whole q r (at + length test + 2 + length first + 1) around))
+
+abbrev pub if_code : Frame → Body → Option Body → CoreExpr → CoreStmt → Option CoreStmt → ℕ → Around → Code
+if_code f p (Some q) e s (Some r) at around = choice_code f p q e s r at around
+if_code f p _ e s _ at around = branch_code f p e s at around
+
+-- a loop with its test, and what comes after each turn
+abbrev pub turns_code : Frame → Body → Bool → Option CoreExpr → Option CoreExpr → CoreStmt → ℕ → Around → Code
+turns_code f p body_first e after s at around = loop at body_first (loop_body p s at around) (value_or_none f after) (test_code f e)
+
+-- for (first; e; after) s
+abbrev pub for_code : Frame → Body → Option CoreExpr → Option CoreExpr → Option CoreExpr → CoreStmt → ℕ → Around → Code
+for_code f p first e after s at around =
+    let before = value_or_none f first in
+    before ++ turns_code f p false e after s (at + length before) around
+
+-- switch (e) s
+abbrev pub switch_of : Frame → Body → CoreExpr → List SwitchLabel → CoreStmt → ℕ → Around → Code
+switch_of f p e labels s at around =
+    let value = expression_code f.slots e f.temporaries in
+    switch_code value labels (block_of s) (switch_inner value p s at around) at
 
 -- one statement, by the code of the statements inside it
 abbrev pub statement_layer : Frame → CoreStmt-F Body → CoreStmt-F CoreStmt → ℕ → Around → Inner
 statement_layer f (CoreStmt-F.Block _ _ _ ps) (CoreStmt-F.Block l b ls ss) at around = block_inner b ls ps ss at around
--- int x = 1;
 statement_layer f _ (CoreStmt-F.Initialize l b i ps) at around = alone (pieces_code f.slots f.temporaries (slot_of f.slots b i) ps)
 statement_layer f _ (CoreStmt-F.Empty l) at around = alone []
 statement_layer f _ (CoreStmt-F.Expression l e) at around = alone (expression_code f.slots e f.temporaries)
-statement_layer f (CoreStmt-F.If _ _ p q) (CoreStmt-F.If l e s other) at around =
-    let test = expression_code f.slots e f.temporaries in
-    let first = whole p s (at + length test + 2) around in
-    alone (choice test first (other_code q other (at + length test + 2 + length first + 1) around))
-statement_layer f (CoreStmt-F.Switch _ _ _ p) (CoreStmt-F.Switch l e labels s) at around =
-    let value = expression_code f.slots e f.temporaries in
-    alone (switch_code value labels (block_of s) (switch_inner value p s at around) at)
-statement_layer f (CoreStmt-F.While _ _ p) (CoreStmt-F.While l e s) at around = alone (loop at false (loop_body p s at around) [] (test_code f (Some e)))
-statement_layer f (CoreStmt-F.Do _ p _ _) (CoreStmt-F.Do l s line e) at around = alone (loop at true (loop_body p s at around) [] (test_code f (Some e)))
-statement_layer f (CoreStmt-F.For _ _ _ _ p) (CoreStmt-F.For l first e after s) at around =
-    let before = value_or_none f first in
-    let start = at + length before in
-    alone (before ++ loop start false (loop_body p s start around) (value_or_none f after) (test_code f e))
+statement_layer f (CoreStmt-F.If _ _ p q) (CoreStmt-F.If l e s other) at around = alone (if_code f p q e s other at around)
+statement_layer f (CoreStmt-F.Switch _ _ _ p) (CoreStmt-F.Switch l e labels s) at around = alone (switch_of f p e labels s at around)
+statement_layer f (CoreStmt-F.While _ _ p) (CoreStmt-F.While l e s) at around = alone (turns_code f p false (Some e) None s at around)
+statement_layer f (CoreStmt-F.Do _ p _ _) (CoreStmt-F.Do l s line e) at around = alone (turns_code f p true (Some e) None s at around)
+statement_layer f (CoreStmt-F.For _ _ _ _ p) (CoreStmt-F.For l first e after s) at around = alone (for_code f p first e after s at around)
 statement_layer f (CoreStmt-F.Case _ p) (CoreStmt-F.Case l s) at around = alone (whole p s at around)
 statement_layer f (CoreStmt-F.Default _ p) (CoreStmt-F.Default l s) at around = alone (whole p s at around)
 statement_layer f (CoreStmt-F.Label _ p) (CoreStmt-F.Label l s) at around = alone (whole p s at around)
-statement_layer f _ (CoreStmt-F.Goto l k) at around = alone (go_to around at (labelled k around.labels))
+statement_layer f _ (CoreStmt-F.Goto l k) at around = alone (go_to around.open at (labelled k around.labels))
 statement_layer f _ (CoreStmt-F.Continue l) at around = alone (go around.open at around.on_continue)
 statement_layer f _ (CoreStmt-F.Break l) at around = alone (go around.open at around.on_break)
 statement_layer f _ (CoreStmt-F.Return l e) at around = alone (returned f e)
@@ -193,8 +213,26 @@ statement_code f s at around = whole (body_of f s) s at around
 abbrev pub around : Text → Exits → Around
 around text exits = record { open = text.open; on_break = exits.on_break; on_continue = exits.on_continue; labels = text.labels }
 
+-- the same for a loop, which has exits of its own
+abbrev pub loop_around : Text → Around
+loop_around text = record nowhere { open = text.open; labels = text.labels }
+
 -- a text with more code, at whose end the same blocks are open
 pub record Adds (code : Code) (old new : Text) : Type 0 where
   pub appended : new.code ≡ old.code ++ code
   pub same_blocks : new.open ≡ old.open
   pub same_labels : new.labels ≡ old.labels
+
+-- the same with the places at which statements begin
+pub record Lists (code : Code) (places : List ℕ) (old new : Text) (found : List ℕ) : Type 0 where
+  pub places_are : found ≡ places
+  pub added : Adds code old new
+
+abbrev pub Enters : Inner → Text → Text → List ℕ → Type 0
+Enters inner old new found = Lists inner.code inner.starts old new found
+
+-- a text with the words of a block's labels, whose places are known
+pub record Opens (labels : List LabelAt) (old new : Text) : Type 0 where
+  pub appended : new.code ≡ old.code ++ label_holes labels
+  pub same_blocks : new.open ≡ old.open
+  pub more_labels : new.labels ≡ old.labels ++ label_places (length old.code + 1) (length old.open) labels

@@ -44,11 +44,11 @@ abbrev pub straight : Code → Way
 straight code = Plain_way (turns code)
 
 -- one and then the other
-abbrev pub then : Way → Way → Way
-then (Plain_way m) (Plain_way n) = Plain_way (m + n)
-then (Plain_way m) (With_units b k e) = With_units (m + b) k e
-then (With_units b k e) (Plain_way n) = With_units b k (e + n)
-then (With_units b k e) (With_units c m f) = With_units b (max (max k m) (e + c)) f
+abbrev pub follow : Way → Way → Way
+follow (Plain_way m) (Plain_way n) = Plain_way (m + n)
+follow (Plain_way m) (With_units b k e) = With_units (m + b) k e
+follow (With_units b k e) (Plain_way n) = With_units b k (e + n)
+follow (With_units b k e) (With_units c m f) = With_units b (max (max k m) (e + c)) f
 
 -- the worse of two ways
 abbrev pub either : Way → Way → Way
@@ -59,11 +59,11 @@ either (With_units b k e) (With_units c m f) = With_units (max b c) (max k m) (m
 
 abbrev pub in_order : List Way → Way
 in_order [] = Plain_way 0
-in_order (w ∷ ws) = then w (in_order ws)
+in_order (w ∷ ws) = follow w (in_order ws)
 
 -- an expression that begins and ends with a unit
 abbrev pub node : List Way → Way
-node ws = then unit (then (in_order ws) unit)
+node ws = follow unit (follow (in_order ws) unit)
 
 -- the ways through an expression, by the offset of its first temporary
 abbrev pub Ways : Type 0
@@ -75,12 +75,12 @@ both p q a b t own = node (p a t ∷ straight (push t) ∷ q b (next t) ∷ stra
 abbrev pub further_arguments : List Ways → List CoreExpr → ℕ → Way
 further_arguments [] es t = Plain_way 0
 further_arguments (p ∷ ps) [] t = Plain_way 0
-further_arguments (p ∷ ps) (e ∷ es) t = then (straight (push t)) (then (p e (next t)) (further_arguments ps es (next t)))
+further_arguments (p ∷ ps) (e ∷ es) t = follow (straight (push t)) (follow (p e (next t)) (further_arguments ps es (next t)))
 
 abbrev pub arguments : List Ways → List CoreExpr → ℕ → Way
 arguments [] es t = Plain_way 0
 arguments (p ∷ ps) [] t = Plain_way 0
-arguments (p ∷ ps) (e ∷ es) t = then (p e t) (further_arguments ps es t)
+arguments (p ∷ ps) (e ∷ es) t = follow (p e t) (further_arguments ps es t)
 
 -- The name of a function that is called by it is a node without code. The call's end is a unit.
 abbrev pub called : Ways → List Ways → CoreExpr → List CoreExpr → ℕ → Option Key → Way
@@ -114,14 +114,14 @@ expression_layer slots (CoreExpr-F.Compare _ _ _ p q) (CoreExpr-F.Compare l t o 
 expression_layer slots (CoreExpr-F.And _ _ p q) (CoreExpr-F.And l t a b) at = node (p a at ∷ jumps 1 ∷ either (jumps 1) (q b at) ∷ jumps 1 ∷ [])
 expression_layer slots (CoreExpr-F.Or _ _ p q) (CoreExpr-F.Or l t a b) at = node (p a at ∷ jumps 1 ∷ either (jumps 1) (q b at) ∷ jumps 1 ∷ [])
 expression_layer slots (CoreExpr-F.Conditional _ _ p q r) (CoreExpr-F.Conditional l t a b d) at =
-    node (p a at ∷ jumps 1 ∷ either (then (q b at) (jumps 1)) (then (jumps 1) (r d at)) ∷ [])
+    node (p a at ∷ jumps 1 ∷ either (follow (q b at) (jumps 1)) (follow (jumps 1) (r d at)) ∷ [])
 expression_layer slots (CoreExpr-F.Assign _ _ p q) (CoreExpr-F.Assign l t a b) at = both p q a b at (store (type_of a) a0 a1 ∷ [])
 expression_layer slots (CoreExpr-F.AssignStructure _ _ _ p q) (CoreExpr-F.AssignStructure l t n a b) at =
     node (p a at ∷ straight (push at) ∷ q b (next at) ∷ straight (mv a1 a0 ∷ pop a0 at ++ copied n) ∷ [])
 expression_layer slots (CoreExpr-F.Compound _ _ _ _ p q) (CoreExpr-F.Compound l t o k a b) at = both p q a b at (changed o k (type_of a))
 expression_layer slots (CoreExpr-F.CompoundOffset _ _ _ _ p q) (CoreExpr-F.CompoundOffset l t o n a b) at = both p q a b at (moved_by o n (type_of a))
 expression_layer slots (CoreExpr-F.Comma _ _ p q) (CoreExpr-F.Comma l t a b) at = node (p a at ∷ q b at ∷ [])
-expression_layer slots (CoreExpr-F.Convert _ _ p) (CoreExpr-F.Convert l t a) at = then (p a at) (straight (read a ++ reconvert (type_of a) t))
+expression_layer slots (CoreExpr-F.Convert _ _ p) (CoreExpr-F.Convert l t a) at = follow (p a at) (straight (read a ++ reconvert (type_of a) t))
 expression_layer slots _ _ at = Plain_way 0
 
 abbrev pub ways_of : List (List Auto) → CoreExpr → Ways

@@ -78,7 +78,9 @@ fn returned(
     epilogue(code, f.cost)
 }
 
-fn goes_to(text: &mut Text, label: u32) -> Result<(), NoMemory> {
+fn goes_to(text: &mut Text, label: u32) -> Result<(), NoMemory>
+    ensures { OnOk result (spec.Adds (spec.go_to text.old.open (length text.old.code) (jumps.labelled label text.old.labels)) text.old text.new) }
+{
     match labelled(text.labels.as_slice(), label) {
         Some(place) => go(&mut text.code, text.open.as_slice(), place),
         None => Ok(()),
@@ -181,7 +183,9 @@ fn items_from(
     items: &[Shared<CoreStmt>],
     exits: Exits,
     text: &mut Text,
-) -> Result<Items<usize>, NoMemory> {
+) -> Result<Items<usize>, NoMemory>
+    ensures { IfOk result (λ found. spec.Lists (spec.items_code (map (spec.body_of (spec.frame f.now temporaries)) items.now) items.now (length text.old.code) (spec.around text.old exits)) (spec.starts (map (spec.body_of (spec.frame f.now temporaries)) items.now) items.now (length text.old.code) (spec.around text.old exits)) text.old text.new found) }
+{
     let mut starts = Items::new(alloc);
     for s in items {
         starts.push(text.code.len())?;
@@ -191,7 +195,9 @@ fn items_from(
 }
 
 // The jumps of a block's labels stand in front of its statements, behind one over them. Where they go is not known yet.
-fn open_labels(labels: &[LabelAt], text: &mut Text) -> Result<(), NoMemory> {
+fn open_labels(labels: &[LabelAt], text: &mut Text) -> Result<(), NoMemory>
+    ensures { OnOk result (spec.Opens labels.now text.old text.new) }
+{
     if labels.is_empty() {
         return Ok(());
     }
@@ -206,7 +212,9 @@ fn open_labels(labels: &[LabelAt], text: &mut Text) -> Result<(), NoMemory> {
 }
 
 // The jumps of labels, the first of which stands at a place.
-fn set_labels(code: &mut Items<Symbolic>, first: usize, labels: &[LabelAt], starts: &[usize]) {
+fn set_labels(code: &mut Items<Symbolic>, first: usize, labels: &[LabelAt], starts: &[usize])
+    ensures { code.new ≡ jumps.with_jumps code.old first (jumps.start_of first starts.now) labels.now }
+{
     let mut at = first;
     for l in labels {
         at = at.saturating_add(1);
@@ -227,7 +235,9 @@ fn block(
     items: &[Shared<CoreStmt>],
     exits: Exits,
     text: &mut Text,
-) -> Result<Items<usize>, NoMemory> {
+) -> Result<Items<usize>, NoMemory>
+    ensures { IfOk result (λ found. spec.Enters (spec.block_inner number labels.now (map (spec.body_of (spec.frame f.now temporaries)) items.now) items.now (length text.old.code) (spec.around text.old exits)) text.old text.new found) }
+{
     let first = text.code.len();
     let outer = text.labels.len();
     text.open.push(number)?;
@@ -250,7 +260,9 @@ fn branch(
     first: &CoreStmt,
     exits: Exits,
     text: &mut Text,
-) -> Result<(), NoMemory> {
+) -> Result<(), NoMemory>
+    ensures { OnOk result (spec.Adds (spec.branch_code (spec.frame f.now temporaries) (spec.body_of (spec.frame f.now temporaries) first.now) e.now first.now (length text.old.code) (spec.around text.old exits)) text.old text.new) }
+{
     expression(alloc, f.blocks.as_slice(), e, temporaries, &mut text.code)?;
     put_one(&mut text.code, skip_if())?;
     let end = text.code.len();
@@ -271,7 +283,9 @@ fn choice(
     second: &CoreStmt,
     exits: Exits,
     text: &mut Text,
-) -> Result<(), NoMemory> {
+) -> Result<(), NoMemory>
+    ensures { OnOk result (spec.Adds (spec.choice_code (spec.frame f.now temporaries) (spec.body_of (spec.frame f.now temporaries) first.now) (spec.body_of (spec.frame f.now temporaries) second.now) e.now first.now second.now (length text.old.code) (spec.around text.old exits)) text.old text.new) }
+{
     expression(alloc, f.blocks.as_slice(), e, temporaries, &mut text.code)?;
     put_one(&mut text.code, skip_if())?;
     let other = text.code.len();
@@ -296,7 +310,9 @@ fn turns(
     after: Option<&CoreExpr>,
     body: &CoreStmt,
     text: &mut Text,
-) -> Result<(), NoMemory> {
+) -> Result<(), NoMemory>
+    ensures { OnOk result (spec.Adds (spec.turns_code (spec.frame f.now temporaries) (spec.body_of (spec.frame f.now temporaries) body.now) body_first (option_map (λ e. e.now) e.entry) (option_map (λ e. e.now) after.entry) body.now (length text.old.code) (spec.loop_around text.old)) text.old text.new) }
+{
     let depth = text.open.len();
     let start = text.code.len();
     put_one(&mut text.code, over(2))?;
@@ -331,7 +347,9 @@ fn inner(
     s: &CoreStmt,
     exits: Exits,
     text: &mut Text,
-) -> Result<Items<usize>, NoMemory> {
+) -> Result<Items<usize>, NoMemory>
+    ensures { IfOk result (λ found. spec.Enters (spec.body_of (spec.frame f.now temporaries) s.now s.now (length text.old.code) (spec.around text.old exits)) text.old text.new found) }
+{
     match s {
         CoreStmt::Block(_, number, labels, items) => {
             block(alloc, f, temporaries, *number, labels.as_slice(), items.as_slice(), exits, text)
@@ -354,7 +372,9 @@ fn switch(
     body: &CoreStmt,
     exits: Exits,
     text: &mut Text,
-) -> Result<(), NoMemory> {
+) -> Result<(), NoMemory>
+    ensures { OnOk result (spec.Adds (spec.switch_of (spec.frame f.now temporaries) (spec.body_of (spec.frame f.now temporaries) body.now) e.now labels.now body.now (length text.old.code) (spec.around text.old exits)) text.old text.new) }
+{
     expression(alloc, f.blocks.as_slice(), e, temporaries, &mut text.code)?;
     let depth = text.open.len();
     let to_labels = text.code.len();
