@@ -15,10 +15,12 @@ HERE = os.path.dirname(os.path.abspath(__file__))
 PROGRAM = os.path.abspath(sys.argv[1])
 ANSWER = re.compile(rb"> (loaded \w+|refused C\d+[^\n]*)\Z")
 faults = 0
+checks = 0
 
 
 def check(name, holds, told=""):
-    global faults
+    global faults, checks
+    checks += 1
     if not holds:
         faults += 1
     print("%s %s %s" % ("ok  " if holds else "FAIL", name, told))
@@ -104,6 +106,7 @@ def main():
         many_stops(folder)
         prefixes(folder)
         vanishing_files(folder)
+    print("%d passed, %d failed" % (checks - faults, faults))
     sys.exit(1 if faults else 0)
 
 

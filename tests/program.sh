@@ -61,10 +61,27 @@ expect 'a full disk' 4 ''
 yes run | head -n 200000 | { "$program" 2> err; echo $? > code; } | head -n 1 > out
 code=$(cat code)
 expect 'a closed pipe' 4 '> refused C13'
+for words in '--turns 0' '--heap=32' '--stack -4096' '--stack 4097' '--turns' '--dir'; do
+    # shellcheck disable=SC2086
+    run $words < /dev/null
+    expect "bad words: $words" 2 ''
+done
+run --dir '' < /dev/null
+expect 'bad words: an empty folder' 2 ''
+yes '' | head -n 1000001 | { run; echo "$code" > code; }
+code=$(cat code)
+expect 'the limit of lines' 5 ''
 head -c 1048577 /dev/zero | { run; echo "$code" > code; }
 code=$(cat code)
 expect 'a long line' 5 ''
 run --help < /dev/null
-[ "$code" = 0 ] && grep -q '^Usage: saber' out && passed=$((passed + 1)) || failed=$((failed + 1))
+cp out help
+grep -c '^Usage: saber' help > out
+expect 'help' 0 1
+for word in C1 C2 C3 C4 C5 C6 C7 C8 C10 C11 C12 C13 C14 C15 C16 C18 C19 X1 X2 X3 X4 X5 X6 X7 X8 X9 X10 \
+    U1 U2 U3 U4 U5 U6 U7 U8 U9 U10 U11 U12 U13 U14 U15 U16 U17 U18; do
+    grep "^  $word  " help || echo "no line for $word"
+done | grep '^no line' > out
+expect 'help has a line for each short word' 0 ''
 echo "$passed passed, $failed failed"
 [ "$failed" = 0 ]

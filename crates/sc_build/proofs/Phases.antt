@@ -18,8 +18,7 @@ use Rattle.sc_core_names.specs.declared.table.Scopes.{Scopes}
 use Rattle.sc_core_names.specs.Scopes.{scopes_of}
 use Rattle.sc_parse_tokens.specs.Symbols.{symbols}
 use Rattle.sc_tree.specs.declared.statement.External.{External}
-use Rattle.sc_parse_unit.specs.Machine.{start}
-use Rattle.sc_parse_unit.specs.Parse.{answer, Gives}
+use Rattle.sc_parse_laws.specs.Causes.{HasCause}
 use Rattle.sc_build.specs.declared.building.BuildFault.{BuildFault}
 use Rattle.sc_build.specs.declared.building.BuildFault.TheVariants as fault
 use Rattle.sc_build.specs.Builds.{Answers, Checks, Reads, IsUnit, Refuses, in_preprocessing, in_grammar, in_types, InFile, of_files}
@@ -38,9 +37,9 @@ files_fail held before now file name pp.NoMemory gives blames names = tt
 
 -- the grammar refuses the tokens
 pub grammar_fails : (tokens : List Token) (file name : List ℕ) (f : Fault) (q : BuildFault)
-    → Gives (answer 0 1 start (symbols tokens)) (Err f) → InFile file f q → Checks tokens file name (Err q)
+    → HasCause (symbols tokens) (Err f) → InFile file f q → Checks tokens file name (Err q)
 grammar_fails tokens file name (base.Refused r) (fault.Refused q) gives e held before now reads =
-    subst (Refuses held file name) (sym e) (in_grammar tokens r.kind r.line reads gives.0)
+    subst (Refuses held file name) (sym e) (in_grammar tokens r.kind r.line reads gives)
 grammar_fails tokens file name (base.Refused r) fault.Missing gives e held before now reads = absurd e
 grammar_fails tokens file name (base.Refused r) fault.TooLong gives e held before now reads = absurd e
 grammar_fails tokens file name (base.Refused r) (fault.File asked) gives e held before now reads = absurd e

@@ -18,8 +18,8 @@ use Rattle.sc_pp.specs.Asked.{asked_in}
 use Rattle.sc_core_names.specs.Scopes.{scopes_of}
 use Rattle.sc_parse_tokens.specs.Symbols.{symbols}
 use Rattle.sc_tree.specs.declared.statement.External.{External}
-use Rattle.sc_parse_unit.specs.Machine.{start}
-use Rattle.sc_parse_unit.specs.Parse.{answer}
+use Rattle.sc_parse_unit.specs.Grammar as grammar
+use Rattle.sc_parse_laws.specs.Causes.{Cause}
 use Rattle.sc_build.specs.declared.building.Built.{Built}
 use Rattle.sc_build.specs.declared.building.BuildFault.{BuildFault}
 use Rattle.sc_build.specs.declared.building.BuildFault.TheVariants as fault
@@ -28,9 +28,9 @@ use Rattle.sc_build.specs.declared.building.BuildFault.TheVariants as fault
 abbrev pub Reads : Option FileMap → List ℕ → Result (List Token) PpFault → Type 0
 Reads held file outcome = Known held (λ map. preprocessed map file ≡ outcome)
 
--- the tokens are a unit of the grammar, which has these functions and declarations
+-- The tokens are a unit of the grammar within the limits, which has these functions and declarations.
 abbrev pub IsUnit : List Token → List External → Type 0
-IsUnit tokens items = answer 0 1 start (symbols tokens) ≡ Ok items
+IsUnit tokens items = grammar.IsUnit true (symbols tokens) items
 
 -- there is no such file, or it is longer than a file may be
 abbrev pub IsMissing : Option FileMap → List ℕ → Type 0
@@ -58,7 +58,7 @@ pub record Builds (held : Option FileMap) (file name : List ℕ) (built : Built)
 -- of types, where the grammar refuses nothing.
 pub data Refuses (held : Option FileMap) (file name : List ℕ) : Refusal → Type 0 where
   in_preprocessing : (r : Refusal) → Reads held file (Err (pp.Refused r)) → Refuses held file name r
-  in_grammar : (tokens : List Token) (kind : X) (line : ℕ) → Reads held file (Ok tokens) → answer 0 1 start (symbols tokens) ≡ Err (kind, line) → Refuses held file name (record { kind = kind; file = file; line = line })
+  in_grammar : (tokens : List Token) (kind : X) (line : ℕ) → Reads held file (Ok tokens) → Cause (symbols tokens) kind line → Refuses held file name (record { kind = kind; file = file; line = line })
   in_types : (tokens : List Token) (items : List External) (kind : X) (line : ℕ) → Reads held file (Ok tokens) → IsUnit tokens items → IsRefused (unit_of name items) kind line → Refuses held file name (record { kind = kind; file = file; line = line })
 
 -- what the code answers

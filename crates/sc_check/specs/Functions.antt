@@ -1,5 +1,5 @@
 -- Definitions of functions (ANSI 3.7.1).
-use Rattle.std.specs.Prelude.{ℕ, ◌-◌, Bool, false, if◌then◌else◌, List, [], ◌∷◌, ◌++◌, length, map, slice_get, Option, Some, None, is_some, is_none, option_map, Ok}
+use Rattle.std.specs.Prelude.{ℕ, Bool, false, if◌then◌else◌, List, [], ◌∷◌, ◌++◌, map, drop, slice_get, Option, Some, None, is_some, is_none, option_map, Ok}
 use Rattle.sc_tree.specs.declared.expression.Expr.{Expr}
 use Rattle.sc_tree.specs.declared.expression.TypeWord.{TypeWord}
 use Rattle.sc_tree.specs.declared.expression.TypeName.{TypeName}
@@ -31,9 +31,9 @@ use Rattle.sc_check_linkage.specs.Frames.{cost, slots, slots_begin, blocks_from}
 use Rattle.sc_check_scope.specs.declared.state.Meaning.{Meaning}
 use Rattle.sc_check_scope.specs.declared.state.Meaning.TheVariants as m
 use Rattle.sc_check_scope.specs.declared.state.Marks.{Marks}
+use Rattle.sc_check_scope.specs.declared.state.Scope.{Scope}
 use Rattle.sc_check_scope.specs.declared.state.State.{State}
-use Rattle.sc_check_scope.specs.Scopes.{enter, leave}
-use Rattle.sc_check_scope.specs.Steps.{each}
+use Rattle.sc_check_scope.specs.Scopes.{enter, leave, with_scope}
 use Rattle.sc_check_expr.specs.Typed as typed
 use Rattle.sc_check_body.specs.declared.progress.Translation.{Translation}
 use Rattle.sc_check_body.specs.declared.progress.Body.{Body}
@@ -42,9 +42,8 @@ use Rattle.sc_check_body.specs.Statements.{Checking}
 use Rattle.sc_check_body.specs.Progress.{Translating, in_scope, outside, first_body}
 use Rattle.sc_check_body.specs.Linked.{link, name_link}
 use Rattle.sc_check_body.specs.Locals.{local_of}
-use Rattle.sc_check_body.specs.Blocks.{Working, block}
+use Rattle.sc_check_body.specs.Blocks.{Working, block, end_body}
 use Rattle.sc_check.specs.declared.function.Head.{Head}
-use Rattle.sc_check.specs.Renumbered.{renumbered}
 use Rattle.sc_check.specs.Steps.{in_links}
 use Rattle.sc_check.specs.Files.{with_linkage}
 
@@ -62,14 +61,11 @@ parameters_by _ = None
 abbrev pub own_parameters : Declarator → Option (List Parameter)
 own_parameters d = parameters_by (option_map out-Derivation (slice_get d.derivations 0))
 
--- The parameters stand in the scope of the body, so that the structures that they declare are those of that scope, and are counted behind those of
--- the declarator, which are as many.
-abbrev pub in_body : List StructDef → List StructDef → CType → CType
-in_body before after of = renumbered (length before) (length after - length before) of
-
-abbrev pub definition_type : Specifiers TypeWord → Declarator → Checking CType
-definition_type list d s =
-    and_then (within (typed.specifying list s)) (λ b. and_then (within ((typed.declaring d).of b.0 b.1)) (λ r. Ok (in_body b.1.structs r.1.structs r.0.of, r.1)))
+-- The parameters stand in the scope of the body (3.1.2.1), which is kept until the body comes.
+abbrev pub definition_type : Specifiers TypeWord → Declarator → List Parameter → Checking (CType × Scope)
+definition_type list d ps s =
+    and_then (within (typed.specifying list s)) (λ b. and_then (within (typed.definition d.line (map typed.parametering ps) (map typed.stepping (drop 1 d.derivations)) b.0 b.1))
+    (λ r. Ok ((r.0.0.of, r.0.1), r.1)))
 
 abbrev pub signature_by : CType-F CType Signature → Option Signature
 signature_by (CType-F.Function f) = Some f
@@ -105,9 +101,10 @@ with_signature_by (Some signature) f ps structs of = and_then (may_define f ps s
 abbrev pub with_signature : Function → List Parameter → List StructDef → CType → Checked (CType × Signature)
 with_signature f ps structs of = with_signature_by (signature_by (out-CType of)) f ps structs of
 
--- the type of a function that is defined with these parameters
-abbrev pub function_type : Function → List Parameter → Checking (CType × Signature)
-function_type f ps s = and_then (definition_type f.specifiers f.declarator s) (λ r. keep r.1 (with_signature f ps r.1.structs r.0))
+-- the type of a function that is defined with these parameters, and their scope
+abbrev pub function_type : Function → List Parameter → Checking ((CType × Signature) × Scope)
+function_type f ps s =
+    and_then (definition_type f.specifiers f.declarator ps s) (λ r. and_then (with_signature f ps r.1.structs r.0.0) (λ t. Ok ((t, r.0.1), r.1)))
 
 -- ---- the name of the function, at file scope
 
@@ -133,8 +130,8 @@ is_external at x = is_external_by (slice_get x.links at)
 abbrev pub headed_by : Function → Identifier → CType × Signature → Translating (Head × ℕ)
 headed_by f id t x = and_then (named (declared f id t.0) x) (λ r. Ok ((head f id (is_external r.0 r.1) t.1, r.0), r.1))
 
-abbrev pub headed : Function → Identifier → List Parameter → Translating (Head × ℕ)
-headed f id ps x = and_then (in_scope (function_type f ps) x) (λ t. headed_by f id t.0 t.1)
+abbrev pub headed : Function → Identifier → List Parameter → Translating ((Head × ℕ) × Scope)
+headed f id ps x = and_then (in_scope (function_type f ps) x) (λ t. and_then (headed_by f id t.0.0 t.1) (λ h. Ok ((h.0, t.0.1), h.1)))
 
 -- ---- the parameters as objects
 
@@ -154,14 +151,14 @@ abbrev pub locals : List Parameter → List Local → State → Checked (List Lo
 locals [] done s = Ok done
 locals (p ∷ ps) done s = and_then (parameter_local p s) (λ x. locals ps (done ++ x ∷ []) s)
 
--- The parameters are declared in the scope of the body, and are the objects of block 0.
-abbrev pub parameter_locals : List Parameter → Checking (List Local)
-parameter_locals ps s = and_then (within (each typed.one (map typed.parametering ps) typed.no_parameters s)) (λ r. keep r.1 (locals ps [] r.1))
+-- The parameters are in the scope of the body, and are the objects of block 0.
+abbrev pub parameter_locals : List Parameter → Scope → Checking (List Local)
+parameter_locals ps scope s = keep (with_scope scope s) (locals ps [] (with_scope scope s))
 
 -- ---- the body
 
-abbrev pub begun : Head → List Parameter → Checking Body
-begun h ps s = and_then (parameter_locals ps s) (λ r. Ok (first_body h.name h.of.result r.0, r.1))
+abbrev pub begun : Head → List Parameter → Scope → Checking Body
+begun h ps scope s = and_then (parameter_locals ps scope s) (λ r. Ok (first_body h.name h.of.result r.0, r.1))
 
 abbrev pub framed : Head → List (List Auto) → CoreStmt → ℕ → Fun
 framed h blocks body bytes = record { name = h.name; external = h.external; line = h.name_line; of = h.of; blocks = blocks; cost = bytes; body = body }
@@ -177,8 +174,12 @@ made h blocks body = made_by h blocks (need_of_statement body).room (need_of_sta
 abbrev pub block_of : Function → Working CoreStmt
 block_of f w = block outside false f.body.line f.body.statements f.body.declarations w
 
+-- Each `goto` ends with the body, and then the frame is known.
+abbrev pub finished : Head → Body → CoreStmt → Checked Fun
+finished h f body = and_then (end_body f) (λ u. made h f.blocks body)
+
 abbrev pub body_of : Head → Function → Working Fun
-body_of h f w = and_then (block_of f w) (λ r. keep r.1 (made h r.1.1.blocks r.0))
+body_of h f w = and_then (block_of f w) (λ r. keep r.1 (finished h r.1.1 r.0))
 
 abbrev pub entered : Translation → Translation
 entered x = record x { st = enter x.st }
@@ -186,12 +187,12 @@ entered x = record x { st = enter x.st }
 abbrev pub left : Marks → Translation → Translation
 left outer x = record x { st = leave outer x.st }
 
-abbrev pub in_new_scope : Head → List Parameter → Function → Translating Fun
-in_new_scope h ps f x = and_then (in_scope (begun h ps) x) (λ b. and_then (body_of h f (b.1, b.0)) (λ r. Ok (r.0, r.1.0)))
+abbrev pub in_new_scope : Head → List Parameter → Scope → Function → Translating Fun
+in_new_scope h ps scope f x = and_then (in_scope (begun h ps scope) x) (λ b. and_then (body_of h f (b.1, b.0)) (λ r. Ok (r.0, r.1.0)))
 
 -- The body has a scope, which has the parameters too (3.1.2.1).
-abbrev pub with_body : Head → List Parameter → Function → Translating Fun
-with_body h ps f x = and_then (in_new_scope h ps f (entered x)) (λ r. Ok (r.0, left x.st.began r.1))
+abbrev pub with_body : Head → List Parameter → Scope → Function → Translating Fun
+with_body h ps scope f x = and_then (in_new_scope h ps scope f (entered x)) (λ r. Ok (r.0, left x.st.began r.1))
 
 -- ---- the whole
 
@@ -202,11 +203,14 @@ abbrev pub ended : Function → ℕ → Fun → Translating (Unit {0})
 ended f at fun x = and_then (in_links (change (give_body f.line) at) x) (λ r. Ok (tt, with_function fun r.1))
 
 abbrev pub defined : Function → Identifier → List Parameter → Translating (Unit {0})
-defined f id ps x = and_then (headed f id ps x) (λ h. and_then (with_body h.0.0 ps f h.1) (λ r. ended f h.0.1 r.0 r.1))
+defined f id ps x = and_then (headed f id ps x) (λ h. and_then (with_body h.0.0.0 ps h.0.1 f h.1) (λ r. ended f h.0.0.1 r.0 r.1))
+
+abbrev pub declared_type : Specifiers TypeWord → Declarator → Checking CType
+declared_type list d s = and_then (within (typed.specifying list s)) (λ b. and_then (within ((typed.declaring d).of b.0 b.1)) (λ r. Ok (r.0.of, r.1)))
 
 -- The declarator is not itself that of a function; its own refusals come first.
 abbrev pub no_function : Function → Translating (Unit {0})
-no_function f x = and_then (in_scope (definition_type f.specifiers f.declarator) x) (λ r. rule f.declarator.line)
+no_function f x = and_then (in_scope (declared_type f.specifiers f.declarator) x) (λ r. rule f.declarator.line)
 
 abbrev pub definition_by : Option Identifier → Option (List Parameter) → Function → Translating (Unit {0})
 definition_by (Some id) (Some ps) f x = defined f id ps x

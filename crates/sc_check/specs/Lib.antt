@@ -1,5 +1,4 @@
 pub mod Outcomes
-pub mod Renumbered
 pub mod Steps
 pub mod Files
 pub mod Functions

@@ -8,6 +8,8 @@ use Rattle.sc_base.specs.declared.refusal.Fault.TheVariants as translation
 use Rattle.sc_check_operand.specs.Causes.{kind_of}
 use Rattle.sc_check_declare.specs.Outcomes.{word}
 use Rattle.sc_check_scope.specs.declared.fault.Problem.TheVariants as problem
+use Rattle.sc_check_labels.specs.declared.fault.LabelRule.{LabelRule}
+use Rattle.sc_check_labels.specs.declared.fault.LabelRule.TheVariants as rule
 use Rattle.sc_check_body.specs.declared.fault.Finding.{Finding}
 use Rattle.sc_check_body.specs.declared.fault.Finding.TheVariants as finding
 use Rattle.sc_check_body.specs.declared.fault.UnitFault.{UnitFault}
@@ -15,17 +17,22 @@ use Rattle.sc_check_body.specs.declared.fault.UnitFault.TheVariants as fault
 use Rattle.sc_core.specs.declared.module.Core.{Core}
 use Rattle.sc_check_body.specs.Faults.{Checked}
 
+abbrev pub label_kind : LabelRule → X
+label_kind rule.Constraint = x.X7
+label_kind rule.CaseDepth = x.X9 (codes "casedepth")
+label_kind rule.Cases = x.X10 (codes "cases")
+label_kind rule.Undeclared = x.X6
+label_kind rule.GotoIn = x.X9 (codes "gotoin")
+
 abbrev pub kind : Finding → X
 kind (finding.Construct (problem.Typing d)) = kind_of d.cause
 kind (finding.Construct (problem.Declaring r)) = word r.reason
-kind (finding.CaseDepth line) = x.X9 (codes "casedepth")
-kind (finding.Cases line) = x.X10 (codes "cases")
+kind (finding.Label r) = label_kind r.rule
 
 abbrev pub line_of : Finding → ℕ
 line_of (finding.Construct (problem.Typing d)) = d.line
 line_of (finding.Construct (problem.Declaring r)) = r.line
-line_of (finding.CaseDepth line) = line
-line_of (finding.Cases line) = line
+line_of (finding.Label r) = r.line
 
 -- what is told of a fault; the file stays empty
 abbrev pub Tells : UnitFault → Fault → Type 0

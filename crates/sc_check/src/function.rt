@@ -5,13 +5,14 @@ ghost use Rattle.sc_check_body.specs.Faults.{Says, GivesWith};
 ghost use Rattle.sc_check.specs.Functions as spec;
 
 use crate::file::with_linkage;
-use crate::renumber::renumbered;
 use sc_base::{Duplicate, Items, Name, NoMemory, Shared};
-use sc_check_body::{Around, Body, Translation, UnitFault, block, link, local_of, name_link, rule};
+use sc_check_body::{
+    Around, Body, Translation, UnitFault, block, end_body, link, local_of, name_link, rule,
+};
 use sc_check_declare::{Place, defined_parameter, may_stand};
-use sc_check_expr::{declarator, parameters, specifiers};
+use sc_check_expr::{declarator, definition, specifiers};
 use sc_check_linkage::{Declaration as Linked, Local, cost, place as placed};
-use sc_check_scope::{Meaning, State, enter, leave};
+use sc_check_scope::{Meaning, Scope, State, enter, leave, put_scope};
 use sc_core::{Auto, CoreStmt, Fun};
 use sc_core_formed::{most_arguments, room};
 use sc_tree::{Declarator, Derivation, Function, Identifier, Parameter, Specifiers};
@@ -31,21 +32,19 @@ fn own_parameters(d: &Declarator) -> Option<&[Parameter]>
     }
 }
 
-/// The type of the function, as it is where the parameters stand in the scope of its body. The structures that the list of parameters
-/// declares are made there once more, so that they are counted on.
+/// The type of the function, and the scope of its parameters, which is that of its body too.
 fn definition_type(
     alloc: Global,
     st: &mut State,
     list: &Specifiers,
     d: &Declarator,
-) -> Result<CType, UnitFault>
-    ensures { GivesWith (spec.definition_type list.now d.now st.old) result st.new }
+    own: &[Parameter],
+) -> Result<(CType, Scope), UnitFault>
+    ensures { GivesWith (spec.definition_type list.now d.now own.now st.old) result st.new }
 {
     let base = specifiers(alloc, st, list)?;
-    let before = st.structs.as_slice().len();
-    let of = declarator(alloc, st, d, base)?;
-    let more = st.structs.as_slice().len().saturating_sub(before);
-    Ok(renumbered(alloc, &of.of, before, more)?)
+    let (of, scope) = definition(alloc, st, d, own, base)?;
+    Ok((of.of, scope))
 }
 
 fn signature_of(alloc: Global, of: &CType) -> Result<Option<Signature>, NoMemory>
@@ -110,17 +109,18 @@ fn with_signature(
     Ok((of, signature))
 }
 
-/// The type of a definition whose declarator is that of a function with these parameters.
+/// The type of a definition whose declarator is that of a function with these parameters, and their scope.
 fn function_type(
     alloc: Global,
     st: &mut State,
     f: &Function,
     list: &[Parameter],
-) -> Result<(CType, Signature), UnitFault>
+) -> Result<((CType, Signature), Scope), UnitFault>
     ensures { GivesWith (spec.function_type f.now list.now st.old) result st.new }
 {
-    let of = definition_type(alloc, st, &f.specifiers, &f.declarator)?;
-    with_signature(alloc, st, f, list, of)
+    let (of, scope) = definition_type(alloc, st, &f.specifiers, &f.declarator, list)?;
+    let of = with_signature(alloc, st, f, list, of)?;
+    Ok((of, scope))
 }
 
 // ---- the name of the function, at file scope
@@ -202,18 +202,19 @@ fn headed_by(
     Ok((head, place))
 }
 
-/// What a definition says before its body, and its place among the names with linkage.
+/// What a definition says before its body, its place among the names with linkage, and the scope of the parameters.
 fn headed(
     alloc: Global,
     m: &mut Translation,
     f: &Function,
     id: &Identifier,
     list: &[Parameter],
-) -> Result<(Head, usize), UnitFault>
+) -> Result<((Head, usize), Scope), UnitFault>
     ensures { GivesWith (spec.headed f.now id.now list.now m.old) result m.new }
 {
-    let (of, signature) = function_type(alloc, &mut m.st, f, list)?;
-    headed_by(alloc, m, f, id, of, signature)
+    let ((of, signature), scope) = function_type(alloc, &mut m.st, f, list)?;
+    let head = headed_by(alloc, m, f, id, of, signature)?;
+    Ok((head, scope))
 }
 
 // ---- the parameters as objects
@@ -242,25 +243,31 @@ fn locals(alloc: Global, st: &State, list: &[Parameter]) -> Result<Items<Local>,
     Ok(done)
 }
 
-/// The parameters, declared in the scope of the body, which is there; they are block 0.
+/// The parameters, whose scope is put into that of the body, which is there; they are block 0.
 fn parameter_locals(
     alloc: Global,
     st: &mut State,
     list: &[Parameter],
+    scope: Scope,
 ) -> Result<Items<Local>, UnitFault>
-    ensures { GivesWith (spec.parameter_locals list.now st.old) result st.new }
+    ensures { GivesWith (spec.parameter_locals list.now scope st.old) result st.new }
 {
-    let declared = parameters(alloc, st, list)?;
-    drop(declared);
+    put_scope(alloc, st, scope)?;
     locals(alloc, st, list)
 }
 
 // ---- the body
 
-fn begun(alloc: Global, st: &mut State, head: &Head, list: &[Parameter]) -> Result<Body, UnitFault>
-    ensures { GivesWith (spec.begun head.now list.now st.old) result st.new }
+fn begun(
+    alloc: Global,
+    st: &mut State,
+    head: &Head,
+    list: &[Parameter],
+    scope: Scope,
+) -> Result<Body, UnitFault>
+    ensures { GivesWith (spec.begun head.now list.now scope st.old) result st.new }
 {
-    let locals = parameter_locals(alloc, st, list)?;
+    let locals = parameter_locals(alloc, st, list, scope)?;
     Ok(Body::new(alloc, &head.name, &head.of.result, locals)?)
 }
 
@@ -347,6 +354,7 @@ fn body_of(
     ensures { GivesWith (spec.body_of head.now f.now (m.old, body.old)) result (m.new, body.new) }
 {
     let core = block_of(alloc, m, body, f)?;
+    end_body(body)?;
     made(alloc, head, body.blocks.as_slice(), core)
 }
 
@@ -355,11 +363,12 @@ fn in_new_scope(
     m: &mut Translation,
     head: &Head,
     list: &[Parameter],
+    scope: Scope,
     f: &Function,
 ) -> Result<Fun, UnitFault>
-    ensures { GivesWith (spec.in_new_scope head.now list.now f.now m.old) result m.new }
+    ensures { GivesWith (spec.in_new_scope head.now list.now scope f.now m.old) result m.new }
 {
-    let mut body = begun(alloc, &mut m.st, head, list)?;
+    let mut body = begun(alloc, &mut m.st, head, list, scope)?;
     body_of(alloc, m, &mut body, head, f)
 }
 
@@ -369,12 +378,13 @@ fn with_body(
     m: &mut Translation,
     head: &Head,
     list: &[Parameter],
+    scope: Scope,
     f: &Function,
 ) -> Result<Fun, UnitFault>
-    ensures { GivesWith (spec.with_body head.now list.now f.now m.old) result m.new }
+    ensures { GivesWith (spec.with_body head.now list.now scope f.now m.old) result m.new }
 {
     let outer = enter(&mut m.st);
-    let fun = in_new_scope(alloc, m, head, list, f)?;
+    let fun = in_new_scope(alloc, m, head, list, scope, f)?;
     leave(&mut m.st, outer);
     Ok(fun)
 }
@@ -404,16 +414,29 @@ fn defined(
 ) -> Result<(), UnitFault>
     ensures { GivesWith (spec.defined f.now id.now list.now m.old) result m.new }
 {
-    let (head, place) = headed(alloc, m, f, id, list)?;
-    let fun = with_body(alloc, m, &head, list, f)?;
+    let ((head, place), scope) = headed(alloc, m, f, id, list)?;
+    let fun = with_body(alloc, m, &head, list, scope, f)?;
     ended(alloc, m, f, place, fun)
+}
+
+fn declared_type(
+    alloc: Global,
+    st: &mut State,
+    list: &Specifiers,
+    d: &Declarator,
+) -> Result<CType, UnitFault>
+    ensures { GivesWith (spec.declared_type list.now d.now st.old) result st.new }
+{
+    let base = specifiers(alloc, st, list)?;
+    let of = declarator(alloc, st, d, base)?;
+    Ok(of.of)
 }
 
 /// A declarator that defines no function, whose own refusals come first.
 fn no_function(alloc: Global, m: &mut Translation, f: &Function) -> Result<(), UnitFault>
     ensures { GivesWith (spec.no_function f.now m.old) result m.new }
 {
-    let of = definition_type(alloc, &mut m.st, &f.specifiers, &f.declarator)?;
+    let of = declared_type(alloc, &mut m.st, &f.specifiers, &f.declarator)?;
     drop(of);
     Err(rule(f.declarator.line))
 }

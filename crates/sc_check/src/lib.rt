@@ -5,7 +5,6 @@
 mod file;
 mod function;
 mod outcome;
-mod renumber;
 mod unit;
 
 pub use unit::check;

@@ -5,6 +5,7 @@ ghost use Rattle.sc_check.specs.Outcomes as spec;
 use sc_base::{Bytes, Fault, NoMemory, Refusal, X};
 use sc_check_body::{Finding, UnitFault};
 use sc_check_declare::{Failure, told as declaring};
+use sc_check_labels::LabelRule;
 use sc_check_operand::kind_of;
 use sc_check_scope::Problem;
 use std::alloc::Global;
@@ -19,6 +20,18 @@ fn limit(alloc: Global, word: &[u8]) -> Result<X, NoMemory>
     ensures { IfOk result (λ x. x ≡ X.X10 word.now) }
 {
     Ok(X::X10(Bytes::from_slice(alloc, word)?))
+}
+
+fn label_kind(alloc: Global, rule: LabelRule) -> Result<X, NoMemory>
+    ensures { IfOk result (λ x. x ≡ spec.label_kind rule) }
+{
+    match rule {
+        LabelRule::Constraint => Ok(X::X7),
+        LabelRule::CaseDepth => left_out(alloc, b"casedepth"),
+        LabelRule::Cases => limit(alloc, b"cases"),
+        LabelRule::Undeclared => Ok(X::X6),
+        LabelRule::GotoIn => left_out(alloc, b"gotoin"),
+    }
 }
 
 /// The refusal of this kind; its file stays empty.
@@ -45,8 +58,7 @@ fn found(alloc: Global, finding: Finding) -> Fault
     ensures { spec.Tells (UnitFault.Found finding) result }
 {
     match finding {
-        Finding::CaseDepth(line) => told_by(alloc, left_out(alloc, b"casedepth"), line),
-        Finding::Cases(line) => told_by(alloc, limit(alloc, b"cases"), line),
+        Finding::Label(r) => told_by(alloc, label_kind(alloc, r.rule), r.line),
         Finding::Construct(Problem::Typing(d)) => told_by(alloc, kind_of(alloc, d.cause), d.line),
         Finding::Construct(Problem::Declaring(r)) => declaring(alloc, Failure::Refused(r)),
     }

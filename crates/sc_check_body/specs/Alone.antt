@@ -24,8 +24,8 @@ WordLevel = TypeWord-F Derivation Expr TypeWord Declarator Member Parameter Type
 
 -- a word that declares a tag, or enumeration constants
 abbrev pub declares_by : WordLevel → Bool
-declares_by (TypeWord-F.Struct l tag ms) = is_some tag
-declares_by (TypeWord-F.StructTag l tag) = true
+declares_by (TypeWord-F.Struct l is_union tag ms) = is_some tag
+declares_by (TypeWord-F.StructTag l is_union tag) = true
 declares_by (TypeWord-F.EnumTag l tag) = true
 declares_by (TypeWord-F.Enum l tag es) = true
 declares_by _ = false
@@ -35,12 +35,12 @@ abbrev pub declares : List TypeWord → Bool
 declares (w ∷ []) = declares_by (out-TypeWord w)
 declares _ = false
 
-abbrev pub tag_by : WordLevel → Option (ℕ × List ℕ)
-tag_by (TypeWord-F.StructTag l tag) = Some (l, tag)
+abbrev pub tag_by : WordLevel → Option (ℕ × Bool × List ℕ)
+tag_by (TypeWord-F.StructTag l is_union tag) = Some (l, is_union, tag)
 tag_by _ = None
 
--- the line and the tag of `struct tag` alone
-abbrev pub tag_alone : List TypeWord → Option (ℕ × List ℕ)
+-- the line, the kind and the tag of `struct tag`, or `union tag`, alone
+abbrev pub tag_alone : List TypeWord → Option (ℕ × Bool × List ℕ)
 tag_alone (w ∷ []) = tag_by (out-TypeWord w)
 tag_alone _ = None
 
@@ -48,15 +48,15 @@ abbrev pub opened : ℕ → Option ℕ → Checked (Unit {0})
 opened line (Some id) = Ok tt
 opened line None = rule line
 
--- `struct tag;` declares the tag in the innermost scope (3.5.2.3).
-abbrev pub declare_tag : ℕ → List ℕ → State → Checked (Unit {0} × State)
-declare_tag line tag s = and_then (within (open_structure (Some tag) s)) (λ r. keep r.1 (opened line r.0))
+-- `struct tag;`, or `union tag;`, declares the tag in the innermost scope (3.5.2.3).
+abbrev pub declare_tag : ℕ → Bool → List ℕ → State → Checked (Unit {0} × State)
+declare_tag line is_union tag s = and_then (within (open_structure is_union (Some tag) s)) (λ r. keep r.1 (opened line r.0))
 
 abbrev pub specified_for_nothing : Specifiers TypeWord → State → Checked (Unit {0} × State)
 specified_for_nothing list s = and_then (within (specifying list s)) (λ r. Ok (tt, r.1))
 
-abbrev pub specified_by : Option (ℕ × List ℕ) → Specifiers TypeWord → State → Checked (Unit {0} × State)
-specified_by (Some x) list s = declare_tag x.0 x.1 s
+abbrev pub specified_by : Option (ℕ × Bool × List ℕ) → Specifiers TypeWord → State → Checked (Unit {0} × State)
+specified_by (Some x) list s = declare_tag x.0 x.1 x.2 s
 specified_by None list s = specified_for_nothing list s
 
 abbrev pub specified_alone : Specifiers TypeWord → State → Checked (Unit {0} × State)

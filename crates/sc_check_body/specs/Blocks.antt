@@ -18,10 +18,13 @@ use Rattle.sc_check_body.specs.declared.progress.Around.{Around}
 use Rattle.sc_check_body.specs.declared.progress.Body.{Body}
 use Rattle.sc_check_body.specs.declared.progress.OpenBlock.{OpenBlock}
 use Rattle.sc_check_body.specs.declared.progress.Translation.{Translation}
-use Rattle.sc_check_body.specs.Faults.{Checked, and_then, each, within, rule}
-use Rattle.sc_check_body.specs.Progress.{with_scope, open_block, part, looped, switched, listed}
+use Rattle.sc_check_labels.specs.declared.labels.Labels.{Labels}
+use Rattle.sc_check_labels.specs.Switches as switches
+use Rattle.sc_check_labels.specs.Jumps as jumps
+use Rattle.sc_check_labels.specs.Faults as label
+use Rattle.sc_check_body.specs.Faults.{Checked, and_then, each, within, labelling, rule}
+use Rattle.sc_check_body.specs.Progress.{with_scope, open_block, part, looped, switched, alone, listed}
 use Rattle.sc_check_body.specs.Locals.{Opened, Declaring, declare_local}
-use Rattle.sc_check_body.specs.Labels as labels
 use Rattle.sc_check_body.specs.Statements.{value, condition, selector, returned, optional}
 
 -- the unit, and the function's body so far
@@ -35,6 +38,14 @@ Working A = Place → Checked (A × Place)
 -- what asks of what is in scope alone
 abbrev pub scoped : {A : Type 0} → (State → Checked (A × State)) → Working A
 scoped f w = and_then (f w.0.st) (λ r. Ok (r.0, (with_scope r.1 w.0, w.1)))
+
+-- what changes the labels alone
+abbrev pub with_labels : Labels → Place → Place
+with_labels l w = (w.0, record w.1 { labels = l })
+
+-- a rule of labels
+abbrev pub by_labels : (Labels → label.Checked (Unit {0} × Labels)) → Place → Checked Place
+by_labels f w = and_then (labelling (f w.1.labels)) (λ r. Ok (with_labels r.1 w))
 
 -- A statement: its typed tree where it stands, and that as the body of a `switch`.
 pub record Standing : Type 0 where
@@ -62,7 +73,7 @@ declared ds w = and_then (declare_all ds (w.0, (w.1, open_block (length w.1.bloc
 
 -- where the next statement of a list stands
 abbrev pub next_place : Bool → List CoreStmt → Around → Around
-next_place in_switch done around = if in_switch then listed (length done) around else part around
+next_place in_switch done around = listed in_switch (length done) around
 
 abbrev pub one_statement : Around → Bool → Standing → List CoreStmt → Working (List CoreStmt)
 one_statement around in_switch x done w = and_then (x.typed (next_place in_switch done around) w) (λ r. Ok (done ++ r.0 ∷ [], r.1))
@@ -71,10 +82,20 @@ one_statement around in_switch x done w = and_then (x.typed (next_place in_switc
 abbrev pub statements : Around → Bool → List Standing → List CoreStmt → Working (List CoreStmt)
 statements around in_switch xs done w = each (one_statement around in_switch) xs done w
 
+-- the list of the block with this number begins
+abbrev pub list_begun : ℕ → Place → Place
+list_begun number w = with_labels (jumps.open_list number w.1.labels) w
+
+-- and ends: its labels are known
+abbrev pub list_ended : ℕ → ℕ → List CoreStmt × Place → CoreStmt × Place
+list_ended line number r = (s.Block line number (jumps.close_list r.1.1.labels).0 r.0, with_labels (jumps.close_list r.1.1.labels).1 r.1)
+
+abbrev pub listed_in : Around → Bool → ℕ → List Standing → (ℕ × List CoreStmt) × Place → Checked (CoreStmt × Place)
+listed_in around in_switch line xs d = and_then (statements around in_switch xs d.0.1 (list_begun d.0.0 d.1)) (λ r. Ok (list_ended line d.0.0 r))
+
 -- a block whose scope is there; `in_switch` says whether it is the body of a `switch`
 abbrev pub block_of : Around → Bool → ℕ → List Standing → List Declaration → Working CoreStmt
-block_of around in_switch line xs ds w =
-    and_then (declared ds w) (λ d. and_then (statements around in_switch xs d.0.1 d.1) (λ r. Ok (s.Block line d.0.0 r.0, r.1)))
+block_of around in_switch line xs ds w = and_then (declared ds w) (λ d. listed_in around in_switch line xs d)
 
 abbrev pub entered : Place → Place
 entered w = (with_scope (scopes.enter w.0.st) w.0, w.1)
@@ -112,10 +133,10 @@ conditional line e a b around w =
     and_then (scoped (condition (node e)) w) (λ c. and_then (a.typed (part around) c.1) (λ x. otherwise line c.0 x.0 b around x.1))
 
 abbrev pub opened : Int → Place → Place
-opened of w = (w.0, labels.open_switch of w.1)
+opened of w = with_labels (switches.open_switch of w.1.labels) w
 
 abbrev pub closed : ℕ → CoreExpr → CoreStmt × Place → CoreStmt × Place
-closed line e r = (s.Switch line e (labels.close_switch r.1.1).0 r.0, (r.1.0, (labels.close_switch r.1.1).1))
+closed line e r = (s.Switch line e (switches.close_switch r.1.1.labels).0 r.0, with_labels (switches.close_switch r.1.1.labels).1 r.1)
 
 abbrev pub switch_on : ℕ → CoreExpr → Standing → Around → Working CoreStmt
 switch_on line e x around w = and_then (x.as_body (switched around) w) (λ r. Ok (closed line e r))
@@ -143,16 +164,36 @@ abbrev pub for_loop : ℕ → Option Expr → Option Expr → Option Expr → St
 for_loop line a b c x around w =
     and_then (scoped (for_begin a b) w) (λ r. and_then (scoped (optional value (option_map node c)) r.1) (λ c. for_body line r.0.0 r.0.1 c.0 x around c.1))
 
-abbrev pub labelled : ℕ → Option ℕ → Around → (CoreStmt → CoreStmt) → CoreStmt × Place → Checked (CoreStmt × Place)
-labelled line bits around make r = and_then (labels.add_label line bits around.at r.1.1) (λ f. Ok (make r.0, (r.1.0, f.1)))
+-- the end of a statement with a label, whose rules come behind it
+abbrev pub labelled : (Labels → label.Checked (Unit {0} × Labels)) → CoreStmt → Place → Checked (CoreStmt × Place)
+labelled rules made w = and_then (by_labels rules w) (λ w. Ok (made, w))
 
--- 3.6.1; the constant comes before the statement, and the rules of the label after it
+abbrev pub noted : Option ℕ → Around → Place → Place
+noted bits around w = with_labels (switches.note_label bits around.at w.1.labels) w
+
+-- a statement with a label of a `switch`, by the bits of its constant; the label is noted before it
+abbrev pub with_case : ℕ → Option ℕ → (CoreStmt → CoreStmt) → Standing → Around → Working CoreStmt
+with_case line bits make x around w =
+    and_then (x.typed around (noted bits around w)) (λ r. labelled (switches.add_label line bits around.at) (make r.0) r.1)
+
+-- 3.6.1; the constant comes before the statement
 abbrev pub case : ℕ → Expr → Standing → Around → Working CoreStmt
-case line e x around w =
-    and_then (scoped (λ st. within (constant (node e) st)) w) (λ k. and_then (x.typed around k.1) (λ r. labelled line (Some k.0.0) around (s.Case line) r))
+case line e x around w = and_then (scoped (λ st. within (constant (node e) st)) w) (λ k. with_case line (Some k.0.0) (s.Case line) x around k.1)
 
 abbrev pub default_case : ℕ → Standing → Around → Working CoreStmt
-default_case line x around w = and_then (x.typed around w) (λ r. labelled line None around (s.Default line) r)
+default_case line x around w = with_case line None (s.Default line) x around w
+
+-- a name before a colon
+abbrev pub named_label : ℕ → ℕ → Standing → Around → Working CoreStmt
+named_label line number x around w = and_then (x.typed around w) (λ r. labelled (jumps.end_label line number around.place) (s.Label line r.0) r.1)
+
+abbrev pub label_statement : ℕ → List ℕ → Standing → Around → Working CoreStmt
+label_statement line name x around w =
+    named_label line (jumps.numbered name w.1.labels).0 x around (with_labels (jumps.numbered name w.1.labels).1 w)
+
+-- 3.6.6.1
+abbrev pub goto_statement : ℕ → List ℕ → Working CoreStmt
+goto_statement line name w = Ok (s.Goto line (jumps.goto line name w.1.labels).0, with_labels (jumps.goto line name w.1.labels).1 w)
 
 -- 3.6.6.4
 abbrev pub return_value : ℕ → CType → Option Expr → State → Checked (CoreStmt × State)
@@ -172,6 +213,8 @@ typed_by (Statement-F.Do l x n e) around w = do_loop l x n e around w
 typed_by (Statement-F.For l a b c x) around w = for_loop l a b c x around w
 typed_by (Statement-F.Case l e x) around w = case l e x around w
 typed_by (Statement-F.Default l x) around w = default_case l x around w
+typed_by (Statement-F.Label l n x) around w = label_statement l n x around w
+typed_by (Statement-F.Goto l n) around w = goto_statement l n w
 typed_by (Statement-F.Continue l) around w = jump l around.in_loop (s.Continue l) w
 typed_by (Statement-F.Break l) around w = jump l around.may_break (s.Break l) w
 typed_by (Statement-F.Return l e) around w = scoped (return_value l w.1.result e) w
@@ -179,13 +222,17 @@ typed_by (Statement-F.Return l e) around w = scoped (return_value l w.1.result e
 -- The statements of a block are the list of the `switch`, and another statement is a list of itself alone.
 abbrev pub body_by : Statement-F Standing → Around → Working CoreStmt
 body_by (Statement-F.Block l ds xs) around w = inner_block around true l xs ds w
-body_by x around w = typed_by x (listed 0 around) w
+body_by x around w = typed_by x (alone around) w
 
 abbrev pub in_statement : Statement-F Standing → Standing
 in_statement x = record { typed = typed_by x; as_body = body_by x }
 
 abbrev pub standing : Statement → Standing
 standing = fold-Statement Standing in_statement
+
+-- The end of a body, where each `goto` ends.
+abbrev pub end_body : Body → Checked (Unit {0})
+end_body f = labelling (jumps.all_jump f.labels)
 
 -- a block of these statements, whose scope is there
 abbrev pub block : Around → Bool → ℕ → List Statement → List Declaration → Working CoreStmt

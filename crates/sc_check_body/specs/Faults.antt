@@ -5,6 +5,9 @@ use Rattle.sc_check_operand.specs.declared.fault.TypeFault.{TypeFault}
 use Rattle.sc_check_declare.specs.declared.failure.Reason.TheVariants as r
 use Rattle.sc_check_declare.specs.declared.failure.Refused.{Refused}
 use Rattle.sc_check_declare.specs.declared.failure.Failure.{Failure}
+use Rattle.sc_check_labels.specs.declared.fault.LabelRefused.{LabelRefused}
+use Rattle.sc_check_labels.specs.declared.fault.LabelFault.{LabelFault}
+use Rattle.sc_check_labels.specs.declared.fault.LabelFault.TheVariants as label
 use Rattle.sc_check_scope.specs.declared.fault.Problem.{Problem}
 use Rattle.sc_check_scope.specs.declared.fault.Problem.TheVariants as problem
 use Rattle.sc_check_scope.specs.declared.fault.CheckFault.{CheckFault}
@@ -46,6 +49,11 @@ abbrev pub declaring : {A : Type 0} → Result A Refused → Checked A
 declaring (Ok a) = Ok a
 declaring (Err r) = Err (finding.Construct (problem.Declaring r))
 
+-- by a rule of labels
+abbrev pub labelling : {A : Type 0} → Result A LabelRefused → Checked A
+labelling (Ok a) = Ok a
+labelling (Err r) = Err (finding.Label r)
+
 -- X7 for a construct of this line
 abbrev pub rule : {A : Type 0} → ℕ → Checked A
 rule line = Err (finding.Construct (problem.Declaring (record { reason = r.Rule; line = line })))
@@ -54,6 +62,10 @@ rule line = Err (finding.Construct (problem.Declaring (record { reason = r.Rule;
 abbrev pub of_check : CheckFault → UnitFault
 of_check (below.Found p) = fault.Found (finding.Construct p)
 of_check below.NoMemory = fault.NoMemory
+
+abbrev pub of_label : LabelFault → UnitFault
+of_label (label.Refused r) = fault.Found (finding.Label r)
+of_label label.NoMemory = fault.NoMemory
 
 abbrev pub of_typing : TypeFault → UnitFault
 of_typing x = of_check (of_type_fault x)

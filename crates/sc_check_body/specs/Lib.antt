@@ -3,6 +3,5 @@ pub mod Progress
 pub mod Alone
 pub mod Linked
 pub mod Locals
-pub mod Labels
 pub mod Statements
 pub mod Blocks

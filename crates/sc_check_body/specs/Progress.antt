@@ -1,5 +1,5 @@
 -- What the text of a unit has given up to a place, and what is open there (ANSI 3.6, 3.7).
-use Rattle.std.specs.Prelude.{ℕ, ◌+◌, ◌-◌, true, false, List, [], ◌∷◌, ◌++◌, length, map, Option, Some, None, Ok}
+use Rattle.std.specs.Prelude.{ℕ, ◌+◌, ◌-◌, Bool, true, false, if◌then◌else◌, List, [], ◌∷◌, ◌++◌, length, map, Option, Some, None, Ok}
 use Rattle.std.specs.List.{range_with_len}
 use Rattle.std.specs.Map.{lookup}
 use Rattle.std.specs.Str.{bytes_eq}
@@ -10,6 +10,7 @@ use Rattle.sc_check_linkage.specs.declared.births.Birth.TheVariants as birth
 use Rattle.sc_check_linkage.specs.declared.frame.Local.{Local}
 use Rattle.sc_check_scope.specs.declared.state.State.{State}
 use Rattle.sc_check_scope.specs.Scopes as scopes
+use Rattle.sc_check_labels.specs.Jumps.{no_labels}
 use Rattle.sc_check_body.specs.declared.progress.Translation.{Translation}
 use Rattle.sc_check_body.specs.declared.progress.Body.{Body}
 use Rattle.sc_check_body.specs.declared.progress.OpenBlock.{OpenBlock}
@@ -67,7 +68,7 @@ counted name counts = insert_entry bytes_eq counts name (count name counts + 1)
 
 -- at its beginning: the function's name, the type of its result, and its parameters, which are block 0
 abbrev pub first_body : List ℕ → CType → List Local → Body
-first_body name gives parameters = record { name = name; result = gives; blocks = parameters ∷ []; counts = []; switches = [] }
+first_body name gives parameters = record { name = name; result = gives; blocks = parameters ∷ []; counts = []; labels = no_labels }
 
 -- a block of which nothing is declared yet
 abbrev pub open_block : ℕ → OpenBlock
@@ -76,20 +77,24 @@ open_block number = record { number = number; locals = []; initialized = [] }
 -- ---- where a statement stands
 
 abbrev pub outside : Around
-outside = record { in_loop = false; may_break = false; at = None }
+outside = record { in_loop = false; may_break = false; at = None; place = None }
 
--- a part of a statement, which is in no list of a `switch`
+-- a part of a statement, which is in no list
 abbrev pub part : Around → Around
-part around = record around { at = None }
+part around = record around { at = None; place = None }
 
 -- the body of a loop
 abbrev pub looped : Around → Around
-looped around = record { in_loop = true; may_break = true; at = None }
+looped around = record { in_loop = true; may_break = true; at = None; place = None }
 
 -- the body of a `switch`
 abbrev pub switched : Around → Around
-switched around = record around { may_break = true; at = None }
+switched around = record around { may_break = true; at = None; place = None }
 
--- a statement at this place of the list of a `switch`'s body
-abbrev pub listed : ℕ → Around → Around
-listed n around = record around { at = Some n }
+-- the body of a `switch` that is no block: a list of itself alone, and in no block's list
+abbrev pub alone : Around → Around
+alone around = record around { at = Some 0 }
+
+-- a statement at this place of a block's list; the truth value says whether the block is the body of a `switch`
+abbrev pub listed : Bool → ℕ → Around → Around
+listed in_switch n around = record around { at = if in_switch then Some n else None; place = Some n }

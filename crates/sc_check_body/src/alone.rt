@@ -17,20 +17,26 @@ fn declares(words: &[TypeWord]) -> bool
     ensures { result ≡ spec.declares words.now }
 {
     match words {
-        [TypeWord::Struct(_, tag, _)] => tag.is_some(),
-        [TypeWord::StructTag(_, _)] => true,
+        [TypeWord::Struct(_, _, tag, _)] => tag.is_some(),
+        [TypeWord::StructTag(_, _, _)] => true,
         [TypeWord::EnumTag(_, _)] => true,
         [TypeWord::Enum(_, _, _)] => true,
         _ => false,
     }
 }
 
-/// `struct tag;`, which declares the tag in the innermost scope (ANSI 3.5.2.3).
-fn tag_alone(alloc: Global, st: &mut State, line: u32, tag: &Name) -> Result<(), UnitFault>
-    ensures { GivesWith (spec.declare_tag line tag.now st.old) result st.new }
+/// `struct tag;`, or `union tag;` where it is true, which declares the tag in the innermost scope (ANSI 3.5.2.3).
+fn tag_alone(
+    alloc: Global,
+    st: &mut State,
+    line: u32,
+    is_union: bool,
+    tag: &Name,
+) -> Result<(), UnitFault>
+    ensures { GivesWith (spec.declare_tag line is_union tag.now st.old) result st.new }
 {
     let tag = Some(tag.copy(alloc)?);
-    match open_structure(alloc, st, &tag)? {
+    match open_structure(alloc, st, is_union, &tag)? {
         Some(_) => Ok(()),
         None => Err(rule(line)),
     }
@@ -48,7 +54,7 @@ fn specifiers_alone(alloc: Global, st: &mut State, list: &Specifiers) -> Result<
     ensures { GivesWith (spec.specified_alone list.now st.old) result st.new }
 {
     match list.words.as_slice() {
-        [TypeWord::StructTag(line, tag)] => tag_alone(alloc, st, *line, tag),
+        [TypeWord::StructTag(line, is_union, tag)] => tag_alone(alloc, st, *line, *is_union, tag),
         _ => specifiers_for_nothing(alloc, st, list),
     }
 }

@@ -3,17 +3,15 @@ ghost use Rattle.std.specs.Prelude.{◌≡◌};
 
 use sc_base::NoMemory;
 use sc_check_declare::{Failure, Reason, Refused};
+use sc_check_labels::{LabelFault, LabelRefused};
 use sc_check_operand::TypeFault;
 use sc_check_scope::{CheckFault, Problem};
 
-/// What is found: the rule of a construct that fails, or a rule of the labels of a `switch`, with the label's line.
+/// What is found: the rule of a construct that fails, or a rule of labels.
 #[derive(Clone, Copy, Debug, PartialEq, Eq)]
 pub enum Finding {
     Construct(Problem),
-    /// A label below the list of its `switch`'s body (X9 `casedepth`).
-    CaseDepth(u32),
-    /// More `case` labels than one `switch` may have (X10 `cases`).
-    Cases(u32),
+    Label(LabelRefused),
 }
 
 /// Why a unit has no typed tree.
@@ -30,6 +28,19 @@ impl From<NoMemory> for UnitFault {
 
     fn from(_: NoMemory) -> UnitFault {
         UnitFault::NoMemory
+    }
+}
+
+impl From<LabelFault> for UnitFault {
+    ghost use Rattle.sc_check_body.specs.Faults.{of_label};
+
+    ghost from_gives = { λ x e. e ≡ of_label x };
+
+    fn from(fault: LabelFault) -> UnitFault {
+        match fault {
+            LabelFault::Refused(r) => UnitFault::Found(Finding::Label(r)),
+            LabelFault::NoMemory => UnitFault::NoMemory,
+        }
     }
 }
 

@@ -2,11 +2,12 @@
 ghost use Rattle.std.specs.Prelude.{◌≡◌, ◌++◌, OnOk, IfOk};
 ghost use Rattle.sc_check_body.specs.Progress as spec;
 
-use crate::tables::{Counts, Values};
-use sc_base::{Duplicate, Int, Items, Name, NoMemory, Shared, Stack};
+use crate::tables::Counts;
+use sc_base::{Duplicate, Items, Name, NoMemory, Shared};
+use sc_check_labels::Labels;
 use sc_check_linkage::{Birth, Links, Local};
 use sc_check_scope::State;
-use sc_core::{CoreStmt, Fun, Init, StaticObj, SwitchLabel};
+use sc_core::{CoreStmt, Fun, Init, StaticObj};
 use sc_types::CType;
 use std::alloc::Global;
 
@@ -76,25 +77,15 @@ impl Translation {
     }
 }
 
-/// A `switch` whose body is being checked: the type of its controlling expression, the values of its labels, whether `default` is
-/// among them, and the labels.
-#[derive(Drop)]
-pub struct OpenSwitch {
-    pub of: Int,
-    pub values: Values,
-    pub has_default: bool,
-    pub labels: Items<SwitchLabel>,
-}
-
 /// A function whose body is being checked: its name, the type of its result, the objects of each block so far, how many static
-/// objects of each name its blocks have had, and the `switch` statements that are open.
+/// objects of each name its blocks have had, and its labels.
 #[derive(Drop)]
 pub struct Body {
     pub name: Name,
     pub result: CType,
     pub blocks: Items<Items<Local>>,
     pub counts: Counts,
-    pub switches: Stack<OpenSwitch>,
+    pub labels: Labels,
 }
 
 impl Body {
@@ -116,7 +107,7 @@ impl Body {
             result,
             blocks,
             counts: Counts::new(alloc),
-            switches: Stack::new(alloc),
+            labels: Labels::new(alloc),
         })
     }
 }
@@ -142,13 +133,14 @@ impl OpenBlock {
     }
 }
 
-/// Where a statement stands: whether it is in a loop, whether in a loop or a `switch`, and its place in the list of the innermost
-/// `switch`'s body, where it stands there.
+/// Where a statement stands: whether it is in a loop, whether in a loop or a `switch`; its place in the list of the innermost
+/// `switch`'s body, where it stands there; and its place in the list of the innermost block, where it stands there.
 #[derive(Clone, Copy, Debug, PartialEq, Eq)]
 pub struct Around {
     pub in_loop: bool,
     pub may_break: bool,
     pub at: Option<u32>,
+    pub place: Option<u32>,
 }
 
 impl Around {
@@ -157,13 +149,18 @@ impl Around {
         in_loop: false,
         may_break: false,
         at: None,
+        place: None,
     };
 
-    /// A part of a statement here, which is in no list of a `switch`.
+    /// A part of a statement here, which is in no list.
     pub fn part(self) -> Around
         ensures { result ≡ spec.part self }
     {
-        Around { at: None, ..self }
+        Around {
+            at: None,
+            place: None,
+            ..self
+        }
     }
 
     /// The body of a loop here.
@@ -174,6 +171,7 @@ impl Around {
             in_loop: true,
             may_break: true,
             at: None,
+            place: None,
         }
     }
 
@@ -184,16 +182,29 @@ impl Around {
         Around {
             may_break: true,
             at: None,
+            place: None,
             ..self
         }
     }
 
-    /// A statement at this place of the list of a `switch`'s body.
-    pub fn listed(self, at: u32) -> Around
-        ensures { result ≡ spec.listed at self }
+    /// The body of a `switch` that is no block, and so a list of itself alone.
+    pub fn alone(self) -> Around
+        ensures { result ≡ spec.alone self }
     {
         Around {
-            at: Some(at),
+            at: Some(0),
+            ..self
+        }
+    }
+
+    /// A statement at this place of a block's list; `switched` says whether the block is the body of a `switch`.
+    pub fn listed(self, switched: bool, at: u32) -> Around
+        ensures { result ≡ spec.listed switched at self }
+    {
+        let place = Some(at);
+        Around {
+            at: if switched { place } else { None },
+            place,
             ..self
         }
     }

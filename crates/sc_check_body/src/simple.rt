@@ -1,12 +1,14 @@
 // Statements without statements inside (ANSI 3.6.3, 3.6.6).
 ghost use Rattle.std.specs.Prelude.{Ok, if◌then◌else◌};
 ghost use Rattle.sc_check_body.specs.Faults.{Says, GivesWith, rule as refuses};
+ghost use Rattle.sc_check_labels.specs.Jumps as jumps;
 ghost use Rattle.sc_check_body.specs.Blocks as spec;
 
 use crate::expressions::{returned, value};
 use crate::fault::{UnitFault, rule};
 use crate::progress::Body;
-use sc_base::Shared;
+use sc_base::{Name, Shared};
+use sc_check_labels::goto;
 use sc_check_scope::State;
 use sc_core::CoreStmt;
 use sc_tree::Expr;
@@ -48,6 +50,19 @@ pub(crate) fn expression_statement(
 {
     let core = value(alloc, st, e)?;
     node(alloc, CoreStmt::Expression(line, core))
+}
+
+/// `goto`, whose label is looked for at the end of the body (ANSI 3.6.6.1).
+pub(crate) fn goto_statement(
+    alloc: Global,
+    f: &mut Body,
+    line: u32,
+    name: &Name,
+) -> Result<Shared<CoreStmt>, UnitFault>
+    ensures { GivesWith (Ok (CoreStmt.Goto line (jumps.goto line name.now f.old.labels).0, record f.old { labels = (jumps.goto line name.now f.old.labels).1 })) result f.new }
+{
+    let label = goto(alloc, &mut f.labels, line, name)?;
+    node(alloc, CoreStmt::Goto(line, label))
 }
 
 /// `break` and `continue`, where they may stand (ANSI 3.6.6.2, 3.6.6.3).

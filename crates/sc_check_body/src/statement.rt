@@ -1,17 +1,20 @@
 // Statements (ANSI 3.6).
 ghost use Rattle.std.specs.Prelude.{◌≡◌, map, IfOk};
 ghost use Rattle.std.specs.Option.{option_map};
-ghost use Rattle.sc_check_body.specs.Faults.{GivesWith};
+ghost use Rattle.sc_check_body.specs.Faults.{Says, GivesWith};
 ghost use Rattle.sc_check_body.specs.Blocks as spec;
 
 use crate::declarations::declared;
 use crate::expressions::{condition, optional_condition, optional_value, selector};
 use crate::fault::UnitFault;
-use crate::labels::{add_label, close_switch, open_switch};
 use crate::progress::{Around, Body, Translation};
-use crate::simple::{expression_statement, jump, node, return_statement};
-use sc_base::{Items, NoMemory, Shared};
+use crate::simple::{expression_statement, goto_statement, jump, node, return_statement};
+use sc_base::{Items, Name, NoMemory, Shared};
 use sc_check_expr::constant;
+use sc_check_labels::{
+    add_label, check_gotos, close_list, close_switch, end_label, note_label, number_label,
+    open_list, open_switch,
+};
 use sc_check_scope::{State, enter, leave};
 use sc_core::{CoreExpr, CoreStmt};
 use sc_tree::{Declaration, Expr, Statement};
@@ -25,11 +28,8 @@ fn next_place(
 ) -> Result<Around, NoMemory>
     ensures { IfOk result (λ next. next ≡ spec.next_place switched list.now around) }
 {
-    if !switched {
-        return Ok(around.part());
-    }
     match u32::try_from(list.len()) {
-        Ok(at) => Ok(around.listed(at)),
+        Ok(at) => Ok(around.listed(switched, at)),
         Err(_) => Err(NoMemory),
     }
 }
@@ -75,8 +75,10 @@ pub fn block(
     ensures { GivesWith (spec.block around switched line statements.now declarations.now (m.old, f.old)) result (m.new, f.new) }
 {
     let (number, initialized) = declared(alloc, m, f, declarations)?;
+    open_list(alloc, &mut f.labels, number)?;
     let all = listed(alloc, m, f, around, switched, statements, initialized)?;
-    node(alloc, CoreStmt::Block(line, number, all))
+    let labels = close_list(alloc, &mut f.labels);
+    node(alloc, CoreStmt::Block(line, number, labels, all))
 }
 
 /// A block with a scope of its own (ANSI 3.1.2.1).
@@ -155,7 +157,7 @@ fn switch_body(
             statements.as_slice(),
             declarations.as_slice(),
         ),
-        _ => statement(alloc, m, f, around.listed(0), body),
+        _ => statement(alloc, m, f, around.alone(), body),
     }
 }
 
@@ -173,9 +175,9 @@ fn switch_statement(
     ensures { GivesWith (spec.switch line e.now (spec.standing body.now) around (m.old, f.old)) result (m.new, f.new) }
 {
     let (e, of) = selector(alloc, &mut m.st, e)?;
-    open_switch(alloc, f, of)?;
+    open_switch(alloc, &mut f.labels, of)?;
     let body = switch_body(alloc, m, f, around.switched(), body)?;
-    let labels = close_switch(alloc, f);
+    let labels = close_switch(alloc, &mut f.labels);
     node(alloc, CoreStmt::Switch(line, e, labels, body))
 }
 
@@ -265,8 +267,9 @@ fn case_statement(
     ensures { GivesWith (spec.case line e.now (spec.standing below.now) around (m.old, f.old)) result (m.new, f.new) }
 {
     let (bits, _) = constant(alloc, &mut m.st, e)?;
+    note_label(&mut f.labels, Some(bits), around.at)?;
     let below = statement(alloc, m, f, around, below)?;
-    add_label(f, line, Some(bits), around.at)?;
+    add_label(&mut f.labels, line, Some(bits), around.at)?;
     node(alloc, CoreStmt::Case(line, below))
 }
 
@@ -282,9 +285,29 @@ fn default_statement(
 ) -> Result<Shared<CoreStmt>, UnitFault>
     ensures { GivesWith (spec.default_case line (spec.standing below.now) around (m.old, f.old)) result (m.new, f.new) }
 {
+    note_label(&mut f.labels, None, around.at)?;
     let below = statement(alloc, m, f, around, below)?;
-    add_label(f, line, None, around.at)?;
+    add_label(&mut f.labels, line, None, around.at)?;
     node(alloc, CoreStmt::Default(line, below))
+}
+
+/// A statement behind a name and a colon, whose own rule comes after it (ANSI 3.6.1).
+#[cycle(statements)]
+fn label_statement(
+    alloc: Global,
+    m: &mut Translation,
+    f: &mut Body,
+    around: Around,
+    line: u32,
+    below: &Statement,
+    name: &Name,
+) -> Result<Shared<CoreStmt>, UnitFault>
+    ensures { GivesWith (spec.label_statement line name.now (spec.standing below.now) around (m.old, f.old)) result (m.new, f.new) }
+{
+    let label = number_label(alloc, &mut f.labels, name)?;
+    let below = statement(alloc, m, f, around, below)?;
+    end_label(&mut f.labels, line, label, around.place)?;
+    node(alloc, CoreStmt::Label(line, below))
 }
 
 /// A statement.
@@ -293,7 +316,7 @@ fn default_statement(
 ///
 /// The first refusal in the order in which constructs end. Its own: `Rule` (X7) for a controlling expression that is no scalar, or of
 /// a `switch` no integer; for `break`, `continue` and labels outside of what they belong to; for equal labels; for a `return`
-/// whose value the result does not take. X9 `casedepth` and X10 `cases` of labels.
+/// whose value the result does not take. X9 `casedepth` and X10 `cases` of labels. A `goto` is looked at in `end_body`.
 #[cycle(statements)]
 fn statement(
     alloc: Global,
@@ -340,10 +363,26 @@ fn statement(
         Statement::Default(line, below) => {
             default_statement(alloc, m, f, around, *line, below.get())
         }
+        Statement::Label(line, name, below) => {
+            label_statement(alloc, m, f, around, *line, below.get(), name)
+        }
+        Statement::Goto(line, name) => goto_statement(alloc, f, *line, name),
         Statement::Continue(line) => {
             jump(alloc, *line, around.in_loop, CoreStmt::Continue(*line))
         }
         Statement::Break(line) => jump(alloc, *line, around.may_break, CoreStmt::Break(*line)),
         Statement::Return(line, e) => return_statement(alloc, &mut m.st, f, *line, e),
     }
+}
+
+/// The end of a body, where each `goto` ends.
+///
+/// # Errors
+///
+/// Of the first `goto` that breaks a rule: X6 where its label is nowhere in the function; X9 `gotoin` where it is not inside a block in
+/// whose list its label stands.
+pub fn end_body(f: &Body) -> Result<(), UnitFault>
+    ensures { Says (spec.end_body f.now) result }
+{
+    Ok(check_gotos(&f.labels)?)
 }

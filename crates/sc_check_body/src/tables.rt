@@ -1,9 +1,8 @@
-// What a body keeps to find by name or by value: how many static objects of a name there are, and the values of labels.
-ghost use Rattle.std.specs.Prelude.{◌≡◌, ℕ, List, [], ◌∷◌, ◌++◌, length, nat_eq, false, OnOk, IfOk};
-ghost use Rattle.std.specs.List.{list_any};
+// What a body keeps to find by name: how many static objects of a name there are.
+ghost use Rattle.std.specs.Prelude.{◌≡◌, ℕ, List, [], OnOk, IfOk};
 ghost use Rattle.sc_check_body.specs.Progress as spec;
 
-use indexmap::{IndexMap, IndexSet};
+use indexmap::IndexMap;
 use sc_base::{Duplicate, Name, NoMemory};
 use std::alloc::Global;
 use std::marker::Model;
@@ -55,53 +54,5 @@ impl Counts {
         let name = name.copy(alloc)?;
         self.numbers.insert(name, next)?;
         Ok(count)
-    }
-}
-
-/// Values that differ, seen as the list of them in their order.
-#[derive(Drop)]
-pub struct Values {
-    values: IndexSet<u32>,
-}
-
-impl Model for Values {
-    ghost use Rattle.std.specs.Prelude.{ℕ, List};
-
-    ghost Value = { List ℕ };
-
-    ghost view = { λ s. s.values.keys };
-}
-
-impl Values {
-    /// No values, which takes no memory.
-    pub fn new(alloc: Global) -> Values
-        ensures { result ≡ [] }
-    {
-        Values {
-            values: IndexSet::new(alloc),
-        }
-    }
-
-    /// How many there are.
-    pub fn len(&self) -> usize
-        ensures { result ≡ length self.now }
-    {
-        self.values.len()
-    }
-
-    /// Whether a value is among them.
-    pub fn has(&self, value: u32) -> bool
-        ensures { result ≡ list_any (nat_eq value) self.now }
-    {
-        self.values.contains(&value)
-    }
-
-    /// One more value, which is not there yet.
-    pub fn push(&mut self, value: u32) -> Result<(), NoMemory>
-        requires { list_any (nat_eq value) self.old ≡ false }
-        ensures { OnOk result (self.new ≡ self.old ++ value ∷ []) }
-    {
-        self.values.insert(value)?;
-        Ok(())
     }
 }

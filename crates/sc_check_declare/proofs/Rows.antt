@@ -1,5 +1,5 @@
 -- A name space and the places of its names.
-use Rattle.std.proofs.Common.{◌≡◌, ℕ, zero, suc, ◌+◌, ◌-◌, ◌<◌, ◌≤◌, Bool, true, false, List, [], ◌∷◌, ◌++◌, length, take, drop, Option, Some, None, refl, sym, ◌∙◌, ap, arith}
+use Rattle.std.proofs.Common.{◌≡◌, ℕ, zero, suc, ◌+◌, ◌-◌, ◌<◌, ◌≤◌, Bool, true, false, List, [], ◌∷◌, ◌++◌, length, take, drop, Option, Some, None, refl, sym, ◌∙◌, ap, arith, append_assoc}
 use Rattle.std.specs.Prelude.{if◌then◌else◌, reverse, slice_get}
 use Rattle.std.specs.Option.{option_map}
 use Rattle.std.specs.Str.{bytes_eq}
@@ -102,3 +102,13 @@ one-less [] began h = absurd (omega (arith, h))
 one-less (x ∷ xs) began h =
     let e : suc (length xs) - began ≡ suc (length xs - began) = omega (arith, h) in
     ap (λ (n : ℕ). drop n (x ∷ xs)) (sym e)
+
+-- the latest name of a scope is taken behind those that are
+pub one-taken : {X : Type 0} (rows rest : List X) (row : X) (began : ℕ) → began < length (row ∷ rest)
+    → ((rows ++ row ∷ []) ++ take (length rest - began) rest ≡ rows ++ take (length (row ∷ rest) - began) (row ∷ rest))
+    × (drop (length rest - began) rest ≡ drop (length (row ∷ rest) - began) (row ∷ rest))
+one-taken rows rest row began h =
+    let e : length (row ∷ rest) - began ≡ suc (length rest - began) = omega (arith, h) in (
+      append_assoc rows (row ∷ []) (take (length rest - began) rest) ∙ ap (λ n. rows ++ take n (row ∷ rest)) (sym e),
+      ap (λ n. drop n (row ∷ rest)) (sym e),
+    )

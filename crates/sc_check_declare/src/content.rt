@@ -1,4 +1,4 @@
-// Structures and enumerations (ANSI 3.5.2.1 to 3.5.2.3).
+// Structures, unions and enumerations (ANSI 3.5.2.1 to 3.5.2.3).
 ghost use Rattle.std.specs.Prelude.{◌≡◌, [], ◌++◌, ◌∷◌, OnOk, false};
 ghost use Rattle.sc_check_declare.specs.Contents as spec;
 ghost use Rattle.sc_check_declare.specs.Outcomes.{Meets, Gives};
@@ -11,14 +11,14 @@ use sc_types::{CType, Member, Structs, is_complete};
 use std::alloc::Global;
 use std::marker::Model;
 
-/// What a tag names: a structure, by its number, or an enumeration.
+/// What a tag names: a structure, or a union where it is true, by its number; or an enumeration.
 #[derive(Clone, Copy, Debug, PartialEq, Eq)]
 pub enum Tag {
-    Structure(u32),
+    Structure(u32, bool),
     Enumeration,
 }
 
-/// What `struct` with a tag names: a structure that is new, one that is there, or a tag of another kind.
+/// What `struct` or `union` with a tag names: a type that is new, one that is there, or a tag of another kind.
 #[derive(Clone, Copy, Debug, PartialEq, Eq)]
 pub enum StructureTag {
     New,
@@ -26,14 +26,20 @@ pub enum StructureTag {
     Other,
 }
 
-/// What `struct` with a tag names, from the tag's meaning: of the whole scope, or of the innermost block alone where
-/// members follow and in a declaration of the tag alone (ANSI 3.5.2.3).
-pub fn structure_tag(found: Option<Tag>) -> StructureTag
-    ensures { result ≡ spec.structure_tag found }
+/// What `struct` with a tag names, or `union`, from the tag's meaning: of the whole scope, or of the innermost block alone
+/// where members follow and in a declaration of the tag alone (ANSI 3.5.2.3).
+pub fn structure_tag(is_union: bool, found: Option<Tag>) -> StructureTag
+    ensures { result ≡ spec.structure_tag is_union found }
 {
     match found {
         None => StructureTag::New,
-        Some(Tag::Structure(id)) => StructureTag::Known(id),
+        Some(Tag::Structure(id, of_union)) => {
+            if is_union == of_union {
+                StructureTag::Known(id)
+            } else {
+                StructureTag::Other
+            }
+        }
         Some(Tag::Enumeration) => StructureTag::Other,
     }
 }
@@ -44,11 +50,11 @@ pub fn enumeration_tag(line: u32, found: Option<Tag>) -> Result<(), Failure>
 {
     match found {
         Some(Tag::Enumeration) => Ok(()),
-        Some(Tag::Structure(_)) | None => Err(refusal(Reason::Rule, line)),
+        Some(Tag::Structure(_, _)) | None => Err(refusal(Reason::Rule, line)),
     }
 }
 
-/// The members of a structure, which have different names, seen as the list of them.
+/// The members of a structure or a union, which have different names, seen as the list of them.
 #[derive(Drop)]
 pub struct MemberList {
     members: Items<Member>,
@@ -129,7 +135,7 @@ impl MemberList {
     }
 }
 
-/// Gives a structure its members (ANSI 3.5.2.1): X7 where it has members already, or is not there, X10 `size` where it is
+/// Gives a structure or a union its members (ANSI 3.5.2.1): X7 where it has members already, or is not there, X10 `size` where it is
 /// too large. The members are of complete object types.
 pub fn complete(
     structs: &mut Structs,

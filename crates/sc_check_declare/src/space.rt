@@ -1,12 +1,12 @@
 // Name spaces and scopes (ANSI 3.1.2.1, 3.1.2.3).
-ghost use Rattle.std.specs.Prelude.{◌≡◌, ◌<◌, ◌-◌, [], ◌∷◌, length, drop, slice_get, OnOk, OnErr};
+ghost use Rattle.std.specs.Prelude.{◌≡◌, ◌<◌, ◌-◌, [], ◌∷◌, ◌++◌, length, drop, slice_get, IfOk, OnOk, OnErr};
 ghost use Rattle.std.specs.Option.{option_copied, option_map};
 ghost use Rattle.sc_check_declare.specs.Spaces as spec;
 ghost use Rattle.sc_check_declare.specs.Outcomes.{Gives};
 
 use crate::failure::{Failure, Reason, refusal};
 use indexmap::IndexMap;
-use sc_base::{Duplicate, Name, NoMemory, Stack};
+use sc_base::{Duplicate, Items, Name, NoMemory, Stack};
 use std::alloc::Global;
 use std::marker::Model;
 
@@ -138,6 +138,55 @@ impl<T: Drop> NameSpace<T> {
         while self.len() > began {
             self.forget();
         }
+    }
+
+    /// Takes the latest name away; the answer is its row.
+    fn take_row(&mut self, alloc: Global) -> Result<(Name, T), NoMemory>
+        requires { 0 < length self.old }
+        ensures { IfOk result (λ row. self.old ≡ row ∷ self.new) }
+    {
+        let key = match self.rows.top() {
+            Some(row) => row.0.copy(alloc)?,
+            None => unreachable!(),
+        };
+        let row = match self.rows.pop() {
+            Some(row) => row,
+            None => unreachable!(),
+        };
+        match self.hidden.pop() {
+            Some(Some(place)) => match self.places.insert(key, place) {
+                Ok(_) => {}
+                Err(_) => unreachable!(),
+            },
+            Some(None) | None => {
+                self.places.swap_remove(&key);
+            }
+        }
+        Ok(row)
+    }
+
+    /// Ends the innermost scope, which began at this length; the answer is its names, the latest first.
+    pub fn take_scope(&mut self, alloc: Global, began: usize) -> Result<Items<(Name, T)>, NoMemory>
+        ensures scope { IfOk result (λ rows. rows ≡ spec.innermost began self.old) }
+        ensures left { OnOk result (self.new ≡ drop (length self.old - began) self.old) }
+    {
+        let mut rows = Items::new(alloc);
+        while self.len() > began {
+            let row = self.take_row(alloc)?;
+            rows.push(row)?;
+        }
+        Ok(rows)
+    }
+
+    /// The names of a scope that was taken, in the innermost scope.
+    pub fn put_scope(&mut self, alloc: Global, rows: Items<(Name, T)>) -> Result<(), NoMemory>
+        ensures { OnOk result (self.new ≡ rows ++ self.old) }
+    {
+        let mut rows = rows;
+        while let Some((name, meaning)) = rows.pop() {
+            self.declare(alloc, name, meaning)?;
+        }
+        Ok(())
     }
 
     /// Declares a name in the innermost scope, which began at this length (ANSI 3.5): X7 where it is declared there already.

@@ -37,7 +37,8 @@ use Rattle.sc_check_scope.specs.declared.words.Words.{Words}
 use Rattle.sc_check_scope.specs.declared.state.State.{State}
 use Rattle.sc_check_scope.specs.Steps.{Checked, and_then, keep, each, typing}
 use Rattle.sc_check_scope.specs.Steps as steps
-use Rattle.sc_check_scope.specs.Scopes.{Checking, enter, leave}
+use Rattle.sc_check_scope.specs.declared.state.Scope.{Scope}
+use Rattle.sc_check_scope.specs.Scopes.{Checking, enter, leave, taken}
 use Rattle.sc_check_scope.specs.Words.{no_words, with_word, list_type}
 use Rattle.sc_check_scope.specs.Tags as tags
 use Rattle.sc_check_scope.specs.Declarations as declarations
@@ -139,7 +140,7 @@ abbrev pub in_parameter : Level Parameter-F → Parametering
 in_parameter p done s =
     and_then (in_specifiers p.specifiers s) (λ b. and_then (declared p.declarator b.0 b.1) (λ t. declarations.add_parameter p.line p.specifiers.storage (name_of p.declarator) t.0 done t.1))
 
--- ---- structures and enumerations
+-- ---- structures, unions and enumerations
 
 -- the members with one more of this type
 abbrev pub with_member : ℕ → Option Identifier → DeclaredType → List StructureMember → State → Checked (List StructureMember)
@@ -166,8 +167,8 @@ one_enumerator x before s = and_then (enumerator_bits x.line x.name before x.val
 abbrev pub as_named : Checked (DeclaredType × State) → Checked (Specified × State)
 as_named r = and_then r (λ x. Ok (word.Named x.0, x.1))
 
-abbrev pub structure : ℕ → Option (List ℕ) → List Membering → Checking DeclaredType
-structure line tag ms s = and_then (tags.open_structure tag s) (λ o. and_then (each one ms [] o.1) (λ r. tags.close_structure line o.0 r.0 r.1))
+abbrev pub structure : ℕ → Bool → Option (List ℕ) → List Membering → Checking DeclaredType
+structure line is_union tag ms s = and_then (tags.open_structure is_union tag s) (λ o. and_then (each one ms [] o.1) (λ r. tags.close_structure line o.0 r.0 r.1))
 
 abbrev pub enumeration : ℕ → Option (List ℕ) → List (Enumerator Node) → Checking DeclaredType
 enumeration line tag es s = and_then (tags.open_enumeration tag s) (λ o. and_then (each one_enumerator es None o.1) (λ r. keep r.1 (tags.close_enumeration line o.0)))
@@ -180,8 +181,8 @@ in_word TypeWord-F.Int s = Ok (word.Basic w.Int, s)
 in_word TypeWord-F.Long s = Ok (word.Basic w.Long, s)
 in_word TypeWord-F.Signed s = Ok (word.Basic w.Signed, s)
 in_word TypeWord-F.Unsigned s = Ok (word.Basic w.Unsigned, s)
-in_word (TypeWord-F.StructTag line tag) s = as_named (tags.structure_named line tag s)
-in_word (TypeWord-F.Struct line tag ms) s = as_named (structure line tag ms s)
+in_word (TypeWord-F.StructTag line is_union tag) s = as_named (tags.structure_named line is_union tag s)
+in_word (TypeWord-F.Struct line is_union tag ms) s = as_named (structure line is_union tag ms s)
 in_word (TypeWord-F.EnumTag line tag) s = as_named (keep s (tags.enumeration_named line tag s))
 in_word (TypeWord-F.Enum line tag es) s = as_named (enumeration line tag es s)
 in_word (TypeWord-F.Typedef line n) s = as_named (keep s (declarations.typedef_named line n s))
@@ -319,6 +320,20 @@ parametering = fold-Parameter Deriving Node Wording Declaring Membering Paramete
 
 abbrev pub stepping : Derivation → Deriving
 stepping = fold-Derivation Deriving Node Wording Declaring Membering Parametering Naming in_derivation in_expression in_word in_declarator in_member in_parameter in_type_name
+
+-- ---- definitions of functions (3.7.1)
+
+-- the parameters of a function, and their scope, which is that of its body too (3.1.2.1)
+abbrev pub own_parameters : List Parametering → Checking (Parameters × Scope)
+own_parameters ps s = and_then (each one ps no_parameters (enter s)) (λ r. Ok ((r.0, (taken s.began r.1).0), (taken s.began r.1).1))
+
+-- the type that a declarator gives whose first step is a function with these parameters, from its other steps
+abbrev pub type_behind : ℕ → Parameters → List Deriving → DeclaredType → Checking DeclaredType
+type_behind line own xs base s =
+    and_then (each (one_step line) xs (d.Function own ∷ []) s) (λ r. keep r.1 (steps.declaring (declarators.declarator r.1.structs line r.0 base)))
+
+abbrev pub definition : ℕ → List Parametering → List Deriving → DeclaredType → Checking (DeclaredType × Scope)
+definition line ps xs base s = and_then (own_parameters ps s) (λ own. and_then (type_behind line own.0.0 xs base own.1) (λ t. Ok ((t.0, own.0.1), t.1)))
 
 -- the same of lists of them, and of a list of specifiers
 abbrev pub enumerating : Enumerator Expr → Enumerator Node

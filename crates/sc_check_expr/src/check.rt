@@ -375,12 +375,17 @@ fn word(alloc: Global, st: &mut State, w: &TypeWord) -> Result<Specified, CheckF
         TypeWord::Long => Ok(Specified::Basic(Word::Long)),
         TypeWord::Signed => Ok(Specified::Basic(Word::Signed)),
         TypeWord::Unsigned => Ok(Specified::Basic(Word::Unsigned)),
-        TypeWord::StructTag(line, tag) => {
-            Ok(Specified::Named(structure_named(alloc, st, *line, tag)?))
+        TypeWord::StructTag(line, is_union, tag) => {
+            Ok(Specified::Named(structure_named(alloc, st, *line, *is_union, tag)?))
         }
-        TypeWord::Struct(line, tag, list) => {
-            Ok(Specified::Named(structure(alloc, st, *line, tag, list.as_slice())?))
-        }
+        TypeWord::Struct(line, is_union, tag, list) => Ok(Specified::Named(structure(
+            alloc,
+            st,
+            *line,
+            *is_union,
+            tag,
+            list.as_slice(),
+        )?)),
         TypeWord::EnumTag(line, tag) => Ok(Specified::Named(enumeration_named(st, *line, tag)?)),
         TypeWord::Enum(line, tag, list) => {
             Ok(Specified::Named(enumeration(alloc, st, *line, tag, list.as_slice())?))
@@ -389,18 +394,19 @@ fn word(alloc: Global, st: &mut State, w: &TypeWord) -> Result<Specified, CheckF
     }
 }
 
-/// `struct tag { .. }`, with these members (ANSI 3.5.2.1).
+/// `struct tag { .. }`, or `union tag { .. }` where it is true, with these members (ANSI 3.5.2.1).
 #[cycle(check)]
 fn structure(
     alloc: Global,
     st: &mut State,
     line: u32,
+    is_union: bool,
     tag: &Option<Name>,
     list: &[Member],
 ) -> Result<DeclaredType, CheckFault>
-    ensures { GivesWith (spec.structure line tag.now (map spec.membering list.now) st.old) result st.new }
+    ensures { GivesWith (spec.structure line is_union tag.now (map spec.membering list.now) st.old) result st.new }
 {
-    let opened = open_structure(alloc, st, tag)?;
+    let opened = open_structure(alloc, st, is_union, tag)?;
     let held = members(alloc, st, list)?;
     close_structure(st, line, opened, held.into_items())
 }
@@ -421,7 +427,7 @@ fn enumeration(
     Ok(close_enumeration(line, again)?)
 }
 
-/// The members of a structure (ANSI 3.5.2.1).
+/// The members of a structure or a union (ANSI 3.5.2.1).
 #[cycle(check)]
 fn members(alloc: Global, st: &mut State, list: &[Member]) -> Result<MemberList, CheckFault>
     ensures { GivesWith (each spec.one (map spec.membering list.now) [] st.old) result st.new }
@@ -537,7 +543,7 @@ pub fn declarator(
 
 /// One step of a declarator of this line, with its size or its parameters (ANSI 3.5.4.1 to 3.5.4.3).
 #[cycle(check)]
-fn derivation(
+pub(crate) fn derivation(
     alloc: Global,
     st: &mut State,
     line: u32,

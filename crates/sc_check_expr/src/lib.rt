@@ -3,8 +3,10 @@
 #![tactic(auto)]
 
 mod check;
+mod defining;
 mod line;
 mod parts;
 
 pub use check::{constant, declarator, expression, parameters, specifiers, type_name};
+pub use defining::definition;
 pub use line::line_of;

@@ -1,5 +1,5 @@
 -- The places of an aggregate that a list of initialisers fills (ANSI 3.5.7).
-use Rattle.std.specs.Prelude.{ℕ, zero, suc, ◌+◌, ◌-◌, ◌*◌, ◌==◌, nat_lt, nat_le, Bool, true, false, not, ◌&&◌, ◌||◌, if◌then◌else◌, List, [], ◌∷◌, ◌++◌, length, slice_get, Option, Some, None, Ok}
+use Rattle.std.specs.Prelude.{ℕ, zero, suc, ◌+◌, ◌-◌, ◌*◌, ◌==◌, nat_lt, nat_le, Bool, true, false, not, ◌&&◌, ◌||◌, if◌then◌else◌, min, List, [], ◌∷◌, ◌++◌, length, slice_get, Option, Some, None, Ok}
 use Rattle.sc_base.specs.declared.integer.Int.{Int}
 use Rattle.sc_base.specs.declared.integer.Int.TheVariants as i
 use Rattle.sc_types.specs.declared.ctype.CType.{CType, out-CType}
@@ -8,7 +8,7 @@ use Rattle.sc_types.specs.declared.ctype.CType.TheOpen.{CType-F}
 use Rattle.sc_types.specs.declared.ctype.Signature.{Signature}
 use Rattle.sc_types.specs.declared.ctype.Member.{Member}
 use Rattle.sc_types.specs.declared.ctype.StructDef.{StructDef}
-use Rattle.sc_types.specs.Layouts.{size_in, offset_in, members_in}
+use Rattle.sc_types.specs.Layouts.{size_in, offset_in, is_union_in, members_in}
 use Rattle.sc_types.specs.Tables.{is_object, largest}
 use Rattle.sc_check_declare.specs.declared.failure.Reason.TheVariants as r
 use Rattle.sc_check_declare.specs.Outcomes.{Outcome, refuse, after}
@@ -16,10 +16,14 @@ use Rattle.sc_check_places.specs.declared.level.Level.{Level}
 use Rattle.sc_check_places.specs.declared.level.Place.{Place}
 use Rattle.sc_check_places.specs.declared.level.Zeros.{Zeros}
 
+-- how many members of a structure have items of their own; of a union the first alone
+abbrev pub member_places : List StructDef → ℕ → ℕ
+member_places structs id = if is_union_in structs id then min 1 (length (members_in structs id)) else length (members_in structs id)
+
 -- whether an aggregate has as many places before this one; an array of unknown size has as many as are wanted
 abbrev pub full_layer : List StructDef → ℕ → CType-F CType Signature → Bool
 full_layer structs next (CType-F.Array u n) = not (n == 0) && nat_le n next
-full_layer structs next (CType-F.Struct id c) = nat_le (length (members_in structs id)) next
+full_layer structs next (CType-F.Struct id c) = nat_le (member_places structs id) next
 full_layer structs next (CType-F.Void c) = true
 full_layer structs next (CType-F.Int i c) = true
 full_layer structs next (CType-F.Pointer u c) = true

@@ -37,13 +37,25 @@ pub struct Zeros {
     pub count: u32,
 }
 
+/// How many members of a structure have items of their own; of a union the first alone (ANSI 3.5.7).
+fn member_places(structs: &Structs, id: u32) -> usize
+    ensures { result ≡ spec.member_places structs.now id }
+{
+    let count = structs.members(id).len();
+    if structs.is_union(id) {
+        count.min(1)
+    } else {
+        count
+    }
+}
+
 /// Whether each place of the aggregate has its item.
 pub(crate) fn is_full(structs: &Structs, l: &Level) -> bool
     ensures { result ≡ spec.is_full structs.now l.now }
 {
     match &l.of {
         CType::Array(_, n) => *n != 0 && *n <= l.next,
-        CType::Struct(id, _) => structs.members(*id).len() <= l.next as usize,
+        CType::Struct(id, _) => member_places(structs, *id) <= l.next as usize,
         CType::Void(_) | CType::Int(_, _) | CType::Pointer(_, _) | CType::Function(_) => true,
     }
 }

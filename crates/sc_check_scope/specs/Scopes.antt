@@ -1,9 +1,10 @@
 -- Scopes (ANSI 3.1.2.1), and what a unit's text has given so far.
 use Rattle.std.specs.Prelude.{ℕ, ◌-◌, true, List, [], ◌∷◌, ◌++◌, length, drop, position, Option, Ok}
 use Rattle.std.specs.Str.{bytes_eq}
-use Rattle.sc_check_declare.specs.Spaces.{declare_once}
+use Rattle.sc_check_declare.specs.Spaces.{declare_once, innermost}
 use Rattle.sc_check_scope.specs.declared.state.Meaning.{Meaning}
 use Rattle.sc_check_scope.specs.declared.state.Marks.{Marks}
+use Rattle.sc_check_scope.specs.declared.state.Scope.{Scope}
 use Rattle.sc_check_scope.specs.declared.state.State.{State}
 use Rattle.sc_check_scope.specs.Steps.{Checked, and_then, declaring}
 
@@ -30,6 +31,18 @@ leave outer s = record s {
   tags = drop (length s.tags - s.began.tags) s.tags;
   began = outer;
 }
+
+-- the names and tags of the innermost scope
+abbrev pub scope_of : State → Scope
+scope_of s = record { names = innermost s.began.names s.names; tags = innermost s.began.tags s.tags }
+
+-- it ends, and its names and tags are kept
+abbrev pub taken : Marks → State → Scope × State
+taken outer s = (scope_of s, leave outer s)
+
+-- the innermost scope with the names and tags of one that ended
+abbrev pub with_scope : Scope → State → State
+with_scope scope s = record s { names = scope.names ++ s.names; tags = scope.tags ++ s.tags }
 
 -- A literal has a zero byte at its end (3.1.4).
 abbrev pub terminated : List ℕ → List ℕ

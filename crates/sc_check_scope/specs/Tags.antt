@@ -1,4 +1,4 @@
--- Structures and enumerations in scope (ANSI 3.5.2.1 to 3.5.2.3).
+-- Structures, unions and enumerations in scope (ANSI 3.5.2.1 to 3.5.2.3).
 use Rattle.std.specs.Prelude.{ℕ, nat_lt, Bool, true, false, if◌then◌else◌, List, [], ◌∷◌, ◌++◌, length, slice_set, Option, Some, None, is_some, Ok}
 use Rattle.sc_base.specs.declared.integer.Int.TheVariants as i
 use Rattle.sc_types.specs.declared.ctype.CType.TheVariants as t
@@ -28,40 +28,42 @@ structure id = record { of = t.Struct id false; depth = 0 }
 abbrev pub integer : DeclaredType
 integer = record { of = t.Int i.Int false; depth = 0 }
 
--- a structure that has no members yet
-abbrev pub with_structure : Option (List ℕ) → State → State
-with_structure name s = record s { structs = s.structs ++ record { tag = name; members = None } ∷ []; known = s.known ++ false ∷ [] }
+-- a structure, or a union where it is true, that has no members yet
+abbrev pub with_structure : Bool → Option (List ℕ) → State → State
+with_structure is_union name s =
+    record s { structs = s.structs ++ record { tag = name; members = None; is_union = is_union } ∷ []; known = s.known ++ false ∷ [] }
 
 abbrev pub with_tag : List ℕ → Tag → State → State
 with_tag name meaning s = record s { tags = (name, meaning) ∷ s.tags }
 
 -- its number is how many there were
-abbrev pub new_structure : Option (List ℕ) → Checking ℕ
-new_structure name s = Ok (length s.structs, with_structure name s)
+abbrev pub new_structure : Bool → Option (List ℕ) → Checking ℕ
+new_structure is_union name s = Ok (length s.structs, with_structure is_union name s)
 
-abbrev pub tagged_structure : List ℕ → Checking ℕ
-tagged_structure name s = Ok (length s.structs, with_tag name (tag.Structure (length s.structs)) (with_structure (Some name) s))
+abbrev pub tagged_structure : Bool → List ℕ → Checking ℕ
+tagged_structure is_union name s =
+    Ok (length s.structs, with_tag name (tag.Structure (length s.structs) is_union) (with_structure is_union (Some name) s))
 
-abbrev pub named_by : ℕ → List ℕ → StructureTag → Checking DeclaredType
-named_by line name named.New s = and_then (tagged_structure name s) (λ x. Ok (structure x.0, x.1))
-named_by line name (named.Known id) s = Ok (structure id, s)
-named_by line name named.Other s = rule line
+abbrev pub named_by : ℕ → Bool → List ℕ → StructureTag → Checking DeclaredType
+named_by line is_union name named.New s = and_then (tagged_structure is_union name s) (λ x. Ok (structure x.0, x.1))
+named_by line is_union name (named.Known id) s = Ok (structure id, s)
+named_by line is_union name named.Other s = rule line
 
--- `struct name`
-abbrev pub structure_named : ℕ → List ℕ → Checking DeclaredType
-structure_named line name s = named_by line name (contents.structure_tag (find name s.tags)) s
+-- `struct name`, or `union name`
+abbrev pub structure_named : ℕ → Bool → List ℕ → Checking DeclaredType
+structure_named line is_union name s = named_by line is_union name (contents.structure_tag is_union (find name s.tags)) s
 
-abbrev pub opened_by : List ℕ → StructureTag → Checking (Option ℕ)
-opened_by name named.New s = and_then (tagged_structure name s) (λ x. Ok (Some x.0, x.1))
-opened_by name (named.Known id) s = Ok (Some id, s)
-opened_by name named.Other s = Ok (None, s)
+abbrev pub opened_by : Bool → List ℕ → StructureTag → Checking (Option ℕ)
+opened_by is_union name named.New s = and_then (tagged_structure is_union name s) (λ x. Ok (Some x.0, x.1))
+opened_by is_union name (named.Known id) s = Ok (Some id, s)
+opened_by is_union name named.Other s = Ok (None, s)
 
--- the structure of `struct name { .. }`; none where the innermost scope has the tag for an enumeration
-abbrev pub open_structure : Option (List ℕ) → Checking (Option ℕ)
-open_structure None s = and_then (new_structure None s) (λ x. Ok (Some x.0, x.1))
-open_structure (Some name) s = opened_by name (contents.structure_tag (find name (innermost s.began.tags s.tags))) s
+-- what `struct name { .. }`, or `union name { .. }`, gives its members; none where the innermost scope has the tag for another kind
+abbrev pub open_structure : Bool → Option (List ℕ) → Checking (Option ℕ)
+open_structure is_union None s = and_then (new_structure is_union None s) (λ x. Ok (Some x.0, x.1))
+open_structure is_union (Some name) s = opened_by is_union name (contents.structure_tag is_union (find name (innermost s.began.tags s.tags))) s
 
--- whether structure `id` has a const member
+-- whether structure or union `id` has a const member
 abbrev pub noting : ℕ → Bool → State → State
 noting id holds s = if nat_lt id (length s.known) then record s { known = slice_set s.known id holds } else s
 

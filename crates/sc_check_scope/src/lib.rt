@@ -19,8 +19,8 @@ pub use produce::{
     arrow, assign, binary, call, cast, comma, conditional, constant, index, is_register, member,
     name, offset_of, postfix, size_of, string, unary,
 };
-pub use scopes::{enter, leave};
-pub use state::{Literals, Marks, Meaning, State};
+pub use scopes::{enter, leave, put_scope, take_scope};
+pub use state::{Literals, Marks, Meaning, Scope, State};
 pub use tags::{
     close_enumeration, close_structure, enumeration_named, open_enumeration, open_structure,
     structure_named,

@@ -88,6 +88,13 @@ pub struct Marks {
     pub tags: usize,
 }
 
+/// The names and tags of a scope that ended, the latest first.
+#[derive(Drop)]
+pub struct Scope {
+    pub names: Items<(Name, Meaning)>,
+    pub tags: Items<(Name, Tag)>,
+}
+
 /// What is in scope at a place of a unit (ANSI 3.1.2.1, 3.1.2.3), and what the text has given up to it: the structures, and
 /// of each whether it has a const member; and the literals. Whether what is checked is evaluated: the operand of `sizeof` is
 /// not, and its literals are none of the unit's.

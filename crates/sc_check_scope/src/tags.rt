@@ -1,4 +1,4 @@
-// Structures and enumerations in scope (ANSI 3.5.2.1 to 3.5.2.3).
+// Structures, unions and enumerations in scope (ANSI 3.5.2.1 to 3.5.2.3).
 ghost use Rattle.std.specs.Prelude.{◌≡◌};
 ghost use Rattle.sc_check_scope.specs.Steps.{Says, GivesWith};
 ghost use Rattle.sc_check_scope.specs.Tags as spec;
@@ -29,64 +29,72 @@ fn integer() -> DeclaredType
     }
 }
 
-/// A new structure; the answer is its number.
-fn new_structure(st: &mut State, tag: Option<Name>) -> Result<u32, CheckFault>
-    ensures { GivesWith (spec.new_structure tag st.old) result st.new }
+/// A new structure, or a union where it is true; the answer is its number.
+fn new_structure(st: &mut State, is_union: bool, tag: Option<Name>) -> Result<u32, CheckFault>
+    ensures { GivesWith (spec.new_structure is_union tag st.old) result st.new }
 {
     let Ok(id) = u32::try_from(st.structs.as_slice().len()) else {
         return Err(CheckFault::NoMemory);
     };
-    st.structs.declare(tag)?;
+    st.structs.declare(tag, is_union)?;
     st.known.push(false)?;
     Ok(id)
 }
 
-/// A new structure with a tag in the innermost scope.
-fn tagged_structure(alloc: Global, st: &mut State, tag: &Name) -> Result<u32, CheckFault>
-    ensures { GivesWith (spec.tagged_structure tag.now st.old) result st.new }
+/// A new structure or union with a tag in the innermost scope.
+fn tagged_structure(
+    alloc: Global,
+    st: &mut State,
+    is_union: bool,
+    tag: &Name,
+) -> Result<u32, CheckFault>
+    ensures { GivesWith (spec.tagged_structure is_union tag.now st.old) result st.new }
 {
     let own = tag.copy(alloc)?;
-    let id = new_structure(st, Some(own))?;
+    let id = new_structure(st, is_union, Some(own))?;
     let own = tag.copy(alloc)?;
-    st.tags.declare(alloc, own, Tag::Structure(id))?;
+    st.tags.declare(alloc, own, Tag::Structure(id, is_union))?;
     Ok(id)
 }
 
-/// `struct tag` (ANSI 3.5.2.3): the structure that the tag names, a new one in the innermost scope where it names none.
+/// `struct tag`, or `union tag` where it is true (ANSI 3.5.2.3): the type that the tag names, a new one in the innermost scope
+/// where it names none.
 ///
 /// # Errors
 ///
-/// `Rule` (X7): the tag names an enumeration.
+/// `Rule` (X7): the tag is of another kind.
 pub fn structure_named(
     alloc: Global,
     st: &mut State,
     line: u32,
+    is_union: bool,
     tag: &Name,
 ) -> Result<DeclaredType, CheckFault>
-    ensures { GivesWith (spec.structure_named line tag.now st.old) result st.new }
+    ensures { GivesWith (spec.structure_named line is_union tag.now st.old) result st.new }
 {
-    match structure_tag(st.tags.find(tag).copied()) {
-        StructureTag::New => Ok(structure(tagged_structure(alloc, st, tag)?)),
+    match structure_tag(is_union, st.tags.find(tag).copied()) {
+        StructureTag::New => Ok(structure(tagged_structure(alloc, st, is_union, tag)?)),
         StructureTag::Known(id) => Ok(structure(id)),
         StructureTag::Other => Err(rule(line)),
     }
 }
 
-/// The structure that `struct tag { .. }` gives its members (ANSI 3.5.2.1): that of the tag in the innermost scope, or a new
-/// one; none where the tag names an enumeration there.
+/// What `struct tag { .. }` gives its members, or `union tag { .. }` where it is true (ANSI 3.5.2.1): the type of the tag in the
+/// innermost scope, or a new one; none where the tag is of another kind there.
 pub fn open_structure(
     alloc: Global,
     st: &mut State,
+    is_union: bool,
     tag: &Option<Name>,
 ) -> Result<Option<u32>, CheckFault>
-    ensures { GivesWith (spec.open_structure (tag.now) st.old) result st.new }
+    ensures { GivesWith (spec.open_structure is_union (tag.now) st.old) result st.new }
 {
     let Some(tag) = tag else {
-        return Ok(Some(new_structure(st, None)?));
+        return Ok(Some(new_structure(st, is_union, None)?));
     };
     let began = st.began.tags;
-    match structure_tag(st.tags.find_innermost(began, tag).copied()) {
-        StructureTag::New => Ok(Some(tagged_structure(alloc, st, tag)?)),
+    match structure_tag(is_union, st.tags.find_innermost(began, tag).copied()) {
+        StructureTag::New => Ok(Some(tagged_structure(alloc, st, is_union, tag)?)),
         StructureTag::Known(id) => Ok(Some(id)),
         StructureTag::Other => Ok(None),
     }
@@ -115,12 +123,12 @@ fn complete_structure(
     Ok(structure(id))
 }
 
-/// The end of `struct tag { .. }`, which gives the structure these members (ANSI 3.5.2.1).
+/// The end of `struct tag { .. }` or `union tag { .. }`, which gives the type these members (ANSI 3.5.2.1).
 ///
 /// # Errors
 ///
-/// - `Rule` (X7): the structure has members already, or the tag is one of an enumeration.
-/// - `Size` (X10 `size`): the structure is too large.
+/// - `Rule` (X7): the type has members already, or the tag is of another kind.
+/// - `Size` (X10 `size`): the type is too large.
 pub fn close_structure(
     st: &mut State,
     line: u32,

@@ -5,7 +5,7 @@ use Rattle.sc_types.specs.declared.ctype.CType.{CType}
 use Rattle.sc_types.specs.declared.ctype.StructDef.{StructDef}
 use Rattle.sc_core.specs.declared.module.Auto.{Auto}
 use Rattle.sc_core_needs.specs.Types.{alike}
-use Rattle.sc_core_formed.specs.Frames.{parameters}
+use Rattle.sc_core_formed.specs.Frames.{takes, parameters}
 use Rattle.sc_core_formed.specs.Modules.{parameters as types_alike}
 
 -- lists of different lengths have no parameters alike
@@ -14,7 +14,7 @@ parameters-length structs [] [] h = absurd (h refl)
 parameters-length structs [] (x ∷ xs) h = refl
 parameters-length structs (p ∷ ps) [] h = refl
 parameters-length structs (p ∷ ps) (x ∷ xs) h =
-    elim (alike structs p x.of) as (λ (b : Bool). false ≡ (b && parameters structs ps xs))
+    elim (takes structs p x.of) as (λ (b : Bool). false ≡ (b && parameters structs ps xs))
     [ false ↦ refl | true ↦ parameters-length structs ps xs (λ e. h (ap suc e)) ]
 
 pub types-length : (structs : List StructDef) (ps qs : List CType) → (length ps ≡ length qs → ⊥) → false ≡ types_alike structs ps qs

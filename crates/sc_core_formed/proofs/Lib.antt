@@ -1,2 +1,3 @@
 pub mod Indexes
 pub mod Lengths
+pub mod Bodies

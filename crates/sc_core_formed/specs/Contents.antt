@@ -14,6 +14,7 @@ use Rattle.sc_core.specs.declared.module.Init.TheVariants as init
 use Rattle.sc_core.specs.declared.module.StaticObj.{StaticObj}
 use Rattle.sc_check_operand.specs.Types.{is_const, is_function}
 use Rattle.sc_core_needs.specs.Types.{same}
+use Rattle.sc_core_formed.specs.Known.{is_known}
 use Rattle.sc_core_formed.specs.Names.{key_eq, declared_as, object_as, is_literal_of, distinct}
 
 abbrev pub is_home_name : Core → Option (List ℕ) → Bool
@@ -60,7 +61,7 @@ is_named core x (Some d) = d.defined && same core.structs x.of d.of
 
 abbrev pub is_static_object : Core → StaticObj → Bool
 is_static_object core x =
-    is_home core x.key && not (is_function x.of) && same_bool x.constant (is_const x.of) && is_filled core x && is_named core x (declared_as x.key core.declared)
+    is_known core.structs x.of && is_home core x.key && not (is_function x.of) && same_bool x.constant (is_const x.of) && is_filled core x && is_named core x (declared_as x.key core.declared)
 
 abbrev pub objects : Core → List StaticObj → Bool
 objects core [] = true

@@ -6,6 +6,7 @@ use Rattle.sc_core.specs.declared.expression.CoreExpr.{CoreExpr, out-CoreExpr, f
 use Rattle.sc_core.specs.declared.expression.CoreExpr.TheOpen.{CoreExpr-F}
 use Rattle.sc_core.specs.declared.module.Auto.{Auto}
 use Rattle.sc_core.specs.declared.module.Core.{Core}
+use Rattle.sc_core_formed.specs.Known.{is_known}
 use Rattle.sc_core_formed.specs.Open.{is_open}
 use Rattle.sc_core_needs.specs.Types.{same}
 use Rattle.sc_core_formed.specs.Names.{is_static, is_declared_function}
@@ -56,8 +57,9 @@ node_level core blocks around (CoreExpr-F.CompoundOffset l of o n a b) = is_move
 node_level core blocks around (CoreExpr-F.Comma l of a b) = is_sequence core.structs of a b
 node_level core blocks around (CoreExpr-F.Convert l of a) = converts core.structs of a
 
+-- the same, of a type whose structures are those of the module
 abbrev pub node : Core → List (List Auto) → List ℕ → CoreExpr → Bool
-node core blocks around e = node_level core blocks around (out-CoreExpr e)
+node core blocks around e = is_known core.structs (type_of e) && node_level core blocks around (out-CoreExpr e)
 
 abbrev pub each : List (CoreExpr → Bool) → List CoreExpr → Bool
 each [] [] = true

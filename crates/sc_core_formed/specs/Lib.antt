@@ -1,4 +1,5 @@
 pub mod Names
+pub mod Known
 pub mod Open
 pub mod Expressions
 pub mod Statements

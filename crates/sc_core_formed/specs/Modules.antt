@@ -13,6 +13,7 @@ use Rattle.sc_core.specs.declared.module.Fun.{Fun}
 use Rattle.sc_check_operand.specs.Types.{Level, is_function}
 use Rattle.sc_core_needs.specs.Types.{same, alike}
 use Rattle.sc_core_formed.specs.Names.{key_eq, declared_as, object_as, function_as, distinct}
+use Rattle.sc_core_formed.specs.Known.{is_known, table_known}
 use Rattle.sc_core_formed.specs.Frames.{functions}
 use Rattle.sc_core_formed.specs.Contents.{is_home, objects, literals_end, are_born}
 
@@ -26,7 +27,7 @@ abbrev pub is_defined : Core → Declared → Bool
 is_defined core d = if is_function d.of then is_function_of d.key (function_as d.key.name core.funs) else is_some (object_as d.key core.objects)
 
 abbrev pub is_declaration : Core → Declared → Bool
-is_declaration core d = is_home core d.key && same_bool d.defined (is_defined core d)
+is_declaration core d = is_known core.structs d.of && is_home core d.key && same_bool d.defined (is_defined core d)
 
 abbrev pub declarations : Core → List Declared → Bool
 declarations core [] = true
@@ -61,7 +62,7 @@ bodies core (f ∷ fs) = is_body core f && bodies core fs
 -- Each function is declared, each object and literal is born once, each name is defined as it says, and all keep their laws.
 abbrev pub is_lawful : Core → Bool
 is_lawful core =
-    bodies core core.funs && are_born core && functions core core.funs
+    table_known core.structs core.structs && bodies core core.funs && are_born core && functions core core.funs
     && (declarations core core.declared && objects core core.objects && literals_end core.literals)
 
 -- literals, functions, objects and names with linkage stand for one thing each

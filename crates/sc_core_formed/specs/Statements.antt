@@ -1,5 +1,6 @@
 -- What holds of every statement of a typed tree (ANSI 3.6), and how its blocks are numbered.
-use Rattle.std.specs.Prelude.{ℕ, ◌+◌, ◌==◌, nat_lt, nat_le, Bool, true, false, not, ◌&&◌, ◌||◌, if◌then◌else◌, List, [], ◌∷◌, length, map, Option, Some, None, is_some, option_and_then}
+use Rattle.std.specs.Prelude.{ℕ, ◌+◌, ◌%◌, ◌==◌, nat_eq, nat_lt, nat_le, Bool, true, false, not, ◌&&◌, ◌||◌, if◌then◌else◌, List, [], ◌∷◌, length, map, Option, Some, None, is_some, option_and_then}
+use Rattle.std.specs.Map.{lookup}
 use Rattle.sc_types.specs.declared.ctype.CType.{CType}
 use Rattle.sc_types.specs.Layouts.{size_in}
 use Rattle.sc_types.specs.Tables.{is_object}
@@ -7,6 +8,8 @@ use Rattle.sc_core.specs.declared.expression.CoreExpr.{CoreExpr}
 use Rattle.sc_core.specs.declared.statement.AutoInit.{AutoInit}
 use Rattle.sc_core.specs.declared.statement.AutoInit.TheVariants as piece
 use Rattle.sc_core.specs.declared.statement.SwitchLabel.{SwitchLabel}
+use Rattle.sc_core.specs.declared.statement.LabelAt.{LabelAt}
+use Rattle.sc_core_labels.specs.Targets.{Target}
 use Rattle.sc_core.specs.declared.statement.CoreStmt.{CoreStmt, out-CoreStmt, fold-CoreStmt}
 use Rattle.sc_core.specs.declared.statement.CoreStmt.TheOpen.{CoreStmt-F}
 use Rattle.sc_core.specs.declared.module.Auto.{Auto}
@@ -40,9 +43,9 @@ test_or_none core f around (Some e) = is_test core f around e
 abbrev pub is_given : Core → Fun → List ℕ → CType → CoreExpr → Bool
 is_given core f around of e = expression core f.blocks around e && is_value_for core.structs of e
 
--- the end of what has n bytes and stands at a place, behind what ends before it and inside the object
+-- the end of what has n bytes, at least one, and stands at a place, behind what ends before it and inside the object
 abbrev pub placed : ℕ → ℕ → ℕ → ℕ → Option ℕ
-placed size end at n = if nat_le end at && nat_le (at + n) size then Some (at + n) else None
+placed size end at n = if nat_lt 0 n && nat_le end at && nat_le (at + n) size then Some (at + n) else None
 
 abbrev pub when : {A : Type 0} → Bool → Option A → Option A
 when b x = if b then x else None
@@ -55,9 +58,13 @@ is_scalar_piece core f around of e = is_object core.structs of && is_scalar (sha
 abbrev pub is_structure_piece : Core → Fun → List ℕ → CType → CoreExpr → Bool
 is_structure_piece core f around of e = is_structure (shape core.structs of) && is_given core f around of e
 
+-- a scalar stands at a multiple of its size
+abbrev pub scalar_placed : ℕ → ℕ → ℕ → ℕ → Option ℕ
+scalar_placed size end at n = if nat_lt 0 n && at % n == 0 then placed size end at n else None
+
 -- where one piece of an object of this type and size ends, of which the ones before end at a place
 abbrev pub piece_end : Core → Fun → List ℕ → CType → ℕ → ℕ → AutoInit → Option ℕ
-piece_end core f around whole size end (piece.Value at of e) = when (is_scalar_piece core f around of e) (placed size end at (size_in core.structs of))
+piece_end core f around whole size end (piece.Value at of e) = when (is_scalar_piece core f around of e) (scalar_placed size end at (size_in core.structs of))
 piece_end core f around whole size end (piece.Text at bytes) = placed size end at (length bytes)
 piece_end core f around whole size end (piece.Zero at n) = placed size end at n
 piece_end core f around whole size end (piece.Structure n e) = when (is_structure_piece core f around whole e && n == size) (placed size end 0 n)
@@ -75,6 +82,19 @@ pieces_of core f around (Some x) ps = is_some (pieces_end core f around x.of x.s
 abbrev pub is_initialized : Core → Fun → List ℕ → ℕ → ℕ → List AutoInit → Bool
 is_initialized core f around block n ps = is_open around block && pieces_of core f around (auto_at f.blocks block n) ps
 
+-- each place is below the number of a block's items
+abbrev pub stand_below : ℕ → List LabelAt → Bool
+stand_below n [] = true
+stand_below n (l ∷ ls) = nat_lt l.at n && stand_below n ls
+
+-- the label of a `goto` stands in the list of a block that is open there (3.6.6.1)
+abbrev pub is_open_target : List ℕ → Option ℕ → Bool
+is_open_target around None = false
+is_open_target around (Some block) = is_open around block
+
+abbrev pub is_target : List Target → List ℕ → ℕ → Bool
+is_target targets around label = is_open_target around (lookup (nat_eq label) targets)
+
 -- each place is below the number of the body's statements
 abbrev pub are_below : ℕ → List SwitchLabel → Bool
 are_below n [] = true
@@ -86,7 +106,7 @@ are_labels n ls = are_below n ls && distinct value_eq (map (λ l. l.value) ls)
 
 -- a body that is no block is a list of itself alone
 abbrev pub items_layer : CoreStmt-F CoreStmt → ℕ
-items_layer (CoreStmt-F.Block l n ss) = length ss
+items_layer (CoreStmt-F.Block l n labels ss) = length ss
 items_layer _ = 1
 
 -- a formed value in a promoted type
@@ -127,30 +147,38 @@ optional None None around body next = Some next
 optional (Some p) (Some s) around body next = p s around body next
 optional _ _ around body next = None
 
-abbrev pub level : Core → Fun → CoreStmt-F (CoreStmt → Test) → CoreStmt-F CoreStmt → Test
-level core f (CoreStmt-F.Block _ _ ps) (CoreStmt-F.Block l n ss) around body next = when (n == next && nat_lt next (length f.blocks)) (each ps ss (n ∷ around) body (next + 1))
-level core f (CoreStmt-F.Initialize _ _ _ _) (CoreStmt-F.Initialize l block n ps) around body next = when (is_initialized core f around block n ps) (Some next)
-level core f (CoreStmt-F.Empty _) (CoreStmt-F.Empty l) around body next = Some next
-level core f (CoreStmt-F.Expression _ _) (CoreStmt-F.Expression l e) around body next = when (is_whole core f around e) (Some next)
-level core f (CoreStmt-F.If _ _ p q) (CoreStmt-F.If l e s other) around body next =
+-- the next block, which has a table, with the labels of its list
+abbrev pub is_block : Fun → ℕ → ℕ → List LabelAt → ℕ → Bool
+is_block f next n labels items = n == next && nat_lt next (length f.blocks) && stand_below items labels
+
+abbrev pub level : Core → Fun → List Target → CoreStmt-F (CoreStmt → Test) → CoreStmt-F CoreStmt → Test
+level core f targets (CoreStmt-F.Block _ _ _ ps) (CoreStmt-F.Block l n labels ss) around body next =
+    when (is_block f next n labels (length ss)) (each ps ss (n ∷ around) body (next + 1))
+level core f targets (CoreStmt-F.Initialize _ _ _ _) (CoreStmt-F.Initialize l block n ps) around body next = when (is_initialized core f around block n ps) (Some next)
+level core f targets (CoreStmt-F.Empty _) (CoreStmt-F.Empty l) around body next = Some next
+level core f targets (CoreStmt-F.Expression _ _) (CoreStmt-F.Expression l e) around body next = when (is_whole core f around e) (Some next)
+level core f targets (CoreStmt-F.If _ _ p q) (CoreStmt-F.If l e s other) around body next =
     when (is_test core f around e) (option_and_then (λ next. optional q other around body next) (p s around body next))
-level core f (CoreStmt-F.Switch _ _ _ p) (CoreStmt-F.Switch l e labels s) around body next = when (is_switch core f around e labels s) (p s around (of_switch body) next)
-level core f (CoreStmt-F.While _ _ p) (CoreStmt-F.While l e s) around body next = when (is_test core f around e) (p s around (of_loop body) next)
-level core f (CoreStmt-F.Do _ p _ _) (CoreStmt-F.Do l s line e) around body next = when (is_test core f around e) (p s around (of_loop body) next)
-level core f (CoreStmt-F.For _ _ _ _ p) (CoreStmt-F.For l first e after s) around body next =
+level core f targets (CoreStmt-F.Switch _ _ _ p) (CoreStmt-F.Switch l e labels s) around body next = when (is_switch core f around e labels s) (p s around (of_switch body) next)
+level core f targets (CoreStmt-F.While _ _ p) (CoreStmt-F.While l e s) around body next = when (is_test core f around e) (p s around (of_loop body) next)
+level core f targets (CoreStmt-F.Do _ p _ _) (CoreStmt-F.Do l s line e) around body next = when (is_test core f around e) (p s around (of_loop body) next)
+level core f targets (CoreStmt-F.For _ _ _ _ p) (CoreStmt-F.For l first e after s) around body next =
     when (is_head core f around first e after) (p s around (of_loop body) next)
-level core f (CoreStmt-F.Case _ p) (CoreStmt-F.Case l s) around body next = when body.in_switch (p s around body next)
-level core f (CoreStmt-F.Default _ p) (CoreStmt-F.Default l s) around body next = when body.in_switch (p s around body next)
-level core f (CoreStmt-F.Continue _) (CoreStmt-F.Continue l) around body next = when body.in_loop (Some next)
-level core f (CoreStmt-F.Break _) (CoreStmt-F.Break l) around body next = when (body.in_loop || body.in_switch) (Some next)
-level core f (CoreStmt-F.Return _ _) (CoreStmt-F.Return l e) around body next = when (is_return core f around e) (Some next)
-level core f _ _ around body next = None
+level core f targets (CoreStmt-F.Case _ p) (CoreStmt-F.Case l s) around body next = when body.in_switch (p s around body next)
+level core f targets (CoreStmt-F.Default _ p) (CoreStmt-F.Default l s) around body next = when body.in_switch (p s around body next)
+level core f targets (CoreStmt-F.Label _ p) (CoreStmt-F.Label l s) around body next = p s around body next
+level core f targets (CoreStmt-F.Goto _ _) (CoreStmt-F.Goto l label) around body next = when (is_target targets around label) (Some next)
+level core f targets (CoreStmt-F.Continue _) (CoreStmt-F.Continue l) around body next = when body.in_loop (Some next)
+level core f targets (CoreStmt-F.Break _) (CoreStmt-F.Break l) around body next = when (body.in_loop || body.in_switch) (Some next)
+level core f targets (CoreStmt-F.Return _ _) (CoreStmt-F.Return l e) around body next = when (is_return core f around e) (Some next)
+level core f targets _ _ around body next = None
 
-abbrev pub test_of : Core → Fun → CoreStmt → CoreStmt → Test
-test_of core f = fold-CoreStmt (CoreStmt → Test) (λ p s. level core f p (out-CoreStmt s))
+abbrev pub test_of : Core → Fun → List Target → CoreStmt → CoreStmt → Test
+test_of core f targets = fold-CoreStmt (CoreStmt → Test) (λ p s. level core f targets p (out-CoreStmt s))
 
-abbrev pub statement : Core → Fun → CoreStmt → Test
-statement core f s = test_of core f s s
+-- a statement of a function with these labels
+abbrev pub statement : Core → Fun → List Target → CoreStmt → Test
+statement core f targets s = test_of core f targets s s
 
-abbrev pub all_of : Core → Fun → List CoreStmt → Test
-all_of core f ss = each (map (test_of core f) ss) ss
+abbrev pub all_of : Core → Fun → List Target → List CoreStmt → Test
+all_of core f targets ss = each (map (test_of core f targets) ss) ss

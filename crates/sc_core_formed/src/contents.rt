@@ -4,6 +4,7 @@ ghost use Rattle.std.specs.Str.{bytes_eq};
 ghost use Rattle.sc_core_formed.specs.Contents as spec;
 ghost use Rattle.sc_core_formed.specs.Names.{is_literal_of, distinct, key_eq, declared_as};
 
+use crate::known::is_known;
 use crate::names::{Indexed, add_key, add_text, declared_as, is_literal_of, object_as};
 use indexmap::IndexSet;
 use sc_base::{Bytes, Key, Name, NoMemory};
@@ -108,7 +109,8 @@ fn is_named(m: &Indexed, x: &StaticObj) -> bool
 fn is_static_object(m: &Indexed, x: &StaticObj) -> bool
     ensures { result ≡ spec.is_static_object m.now.core.now x.now }
 {
-    is_home(m.core, &x.key)
+    is_known(&m.core.structs, &x.of)
+        && is_home(m.core, &x.key)
         && !is_function(&x.of)
         && same_bool(x.constant, is_const(&x.of))
         && is_filled(m, x)

@@ -4,6 +4,7 @@ ghost use Rattle.sc_core_formed.specs.Open.{numbers};
 ghost use Rattle.sc_core_formed.specs.Expressions as spec;
 ghost use Rattle.sc_core.specs.declared.expression.CoreExpr.{out-CoreExpr};
 
+use crate::known::is_known;
 use crate::names::{Indexed, is_declared_function, is_static};
 use crate::open::{Open, is_open};
 use sc_base::{Items, Shared};
@@ -41,9 +42,16 @@ fn is_automatic(
     is_open(around, block) && fits_auto(structs, of, blocks, block, n)
 }
 
-/// What a construct says of itself and asks of its operands.
+/// What a construct says of itself and asks of its operands, where its type's structures are those of the module.
 fn node(m: &Indexed, blocks: &[Items<Auto>], around: &Open, e: &CoreExpr) -> bool
     ensures { result ≡ spec.node m.now.core.now blocks.now (numbers around.now) e.now }
+{
+    is_known(&m.core.structs, type_of(e)) && construct(m, blocks, around, e)
+}
+
+/// What a construct says of itself and asks of its operands.
+fn construct(m: &Indexed, blocks: &[Items<Auto>], around: &Open, e: &CoreExpr) -> bool
+    ensures { result ≡ spec.node_level m.now.core.now blocks.now (numbers around.now) (out-CoreExpr e.now) }
 {
     let structs = &m.core.structs;
     match e {

@@ -1,15 +1,19 @@
 // What holds of a function: its parameters, its blocks, where its objects stand in the frame, and what the frame costs.
-ghost use Rattle.std.specs.Prelude.{◌≡◌, ◌≤◌, ◌<◌, ◌^◌, IfOk, IfSome, slice_get};
+ghost use Rattle.std.specs.Prelude.{◌≡◌, ◌≤◌, ◌<◌, ◌^◌, IfOk, IfSome, length, slice_get};
 ghost use Rattle.sc_core_formed.specs.Frames as spec;
 
+use crate::known::{is_known, signature_known};
 use crate::names::Indexed;
 use crate::open::{inside, outside};
 use crate::statements::{Body, statement};
 use sc_base::{Items, NoMemory, Shared};
 use sc_check_operand::is_const;
 use sc_core::{Auto, CoreStmt, Fun};
-use sc_core_needs::{Need, alike, need_of_statement, same_bool};
-use sc_types::{CType, MAX_FRAME, Structs, is_object, size_of};
+use sc_core_labels::{Targets, targets_of};
+use sc_core_needs::{
+    MAX_ARGUMENTS, Need, alike, is_parameter, is_result, need_of_statement, same_bool,
+};
+use sc_types::{CType, MAX_FRAME, Signature, Structs, is_object, size_of};
 
 /// The least multiple of 4 that is greater than a size.
 fn slot_bytes(size: u32) -> u64
@@ -23,7 +27,8 @@ fn slot_bytes(size: u32) -> u64
 fn is_auto(structs: &Structs, at: u64, x: &Auto) -> bool
     ensures { result ≡ spec.is_auto structs.now at x.now }
 {
-    is_object(&x.of, structs)
+    is_known(structs, &x.of)
+        && is_object(&x.of, structs)
         && size_of(&x.of, structs) == x.slot.size
         && same_bool(is_const(&x.of), x.slot.constant)
         && u64::from(x.slot.offset) == at
@@ -86,6 +91,13 @@ fn is_frame(structs: &Structs, f: &Fun) -> bool
     }
 }
 
+/// Whether the object of a parameter has its type.
+fn takes(structs: &Structs, p: &CType, of: &CType) -> bool
+    ensures { result ≡ spec.takes structs.now p.now of.now }
+{
+    is_parameter(structs, p) && alike(structs, p, of)
+}
+
 fn parameters(structs: &Structs, params: &[CType], autos: &[Auto]) -> bool
     ensures { result ≡ spec.parameters structs.now params.now autos.now }
 {
@@ -93,7 +105,7 @@ fn parameters(structs: &Structs, params: &[CType], autos: &[Auto]) -> bool
         return false;
     }
     for (i, p) in params.iter().enumerate() {
-        if !alike(structs, p, &autos[i].of) {
+        if !takes(structs, p, &autos[i].of) {
             return false;
         }
     }
@@ -113,14 +125,14 @@ fn is_block(s: &CoreStmt) -> bool
     ensures { result ≡ spec.is_block s.now }
 {
     match s {
-        CoreStmt::Block(_, _, _) => true,
+        CoreStmt::Block(_, _, _, _) => true,
         _ => false,
     }
 }
 
 /// Whether every block of the body has its number and its table.
-fn has_blocks(m: &Indexed, f: &Fun) -> Result<bool, NoMemory>
-    ensures { IfOk result (λ yes. yes ≡ spec.has_body m.now.core.now f.now) }
+fn has_blocks(m: &Indexed, f: &Fun, targets: &Targets) -> Result<bool, NoMemory>
+    ensures { IfOk result (λ yes. yes ≡ spec.numbers_up_to (length f.now.blocks) (spec.body_end m.now.core.now f.now targets.now)) }
 {
     let nothing = outside();
     let around = inside(0, &nothing);
@@ -128,17 +140,34 @@ fn has_blocks(m: &Indexed, f: &Fun) -> Result<bool, NoMemory>
         in_loop: false,
         in_switch: false,
     };
-    match statement(m, f, &around, body, f.body.get(), 1)? {
+    match statement(m, f, targets, &around, body, f.body.get(), 1)? {
         Some(n) => Ok(n == f.blocks.len()),
         None => Ok(false),
     }
+}
+
+/// Whether each label of the body stands once, and every block has its number and its table.
+fn has_body(m: &Indexed, f: &Fun) -> Result<bool, NoMemory>
+    ensures { IfOk result (λ yes. yes ≡ spec.has_body m.now.core.now f.now) }
+{
+    match targets_of(m.alloc, f.body.get())? {
+        Some(targets) => has_blocks(m, f, &targets),
+        None => Ok(false),
+    }
+}
+
+fn is_signature(structs: &Structs, f: &Signature) -> bool
+    ensures { result ≡ spec.is_signature structs.now f.now }
+{
+    f.params.len() <= MAX_ARGUMENTS && is_result(structs, &f.result) && signature_known(structs, f)
 }
 
 /// Whether a function's parameters are block 0, and its body is a block.
 fn has_start(m: &Indexed, f: &Fun) -> bool
     ensures { result ≡ spec.has_start m.now.core.now f.now }
 {
-    has_parameters(&m.core.structs, f.of.params.as_slice(), f.blocks.as_slice())
+    is_signature(&m.core.structs, &f.of)
+        && has_parameters(&m.core.structs, f.of.params.as_slice(), f.blocks.as_slice())
         && is_block(f.body.get())
 }
 
@@ -149,7 +178,7 @@ fn is_function(m: &Indexed, f: &Fun) -> Result<bool, NoMemory>
     if !has_start(m, f) {
         return Ok(false);
     }
-    if !has_blocks(m, f)? {
+    if !has_body(m, f)? {
         return Ok(false);
     }
     Ok(is_frame(&m.core.structs, f))

@@ -4,6 +4,7 @@
 mod contents;
 mod expressions;
 mod frames;
+mod known;
 mod module;
 mod names;
 mod open;

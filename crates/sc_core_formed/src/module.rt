@@ -6,6 +6,7 @@ ghost use Rattle.sc_core_formed.specs.Modules as spec;
 
 use crate::contents::{are_born, is_home, literals_end, objects};
 use crate::frames::functions;
+use crate::known::{is_known, table_known};
 use crate::names::{
     Indexed, declared_as, declared_keys, function_as, function_names, literal_texts, object_as,
     object_keys,
@@ -41,7 +42,9 @@ fn is_defined(m: &Indexed, d: &Declared) -> bool
 fn is_declaration(m: &Indexed, d: &Declared) -> bool
     ensures { result ≡ spec.is_declaration m.now.core.now d.now }
 {
-    is_home(m.core, &d.key) && same_bool(d.defined, is_defined(m, d))
+    is_known(&m.core.structs, &d.of)
+        && is_home(m.core, &d.key)
+        && same_bool(d.defined, is_defined(m, d))
 }
 
 fn declarations(m: &Indexed, declared: &[Declared]) -> bool
@@ -134,6 +137,9 @@ fn is_lawful(alloc: Global, m: &Indexed) -> Result<bool, NoMemory>
     ensures { IfOk result (λ yes. yes ≡ spec.is_lawful m.now.core.now) }
 {
     let core = m.core;
+    if !table_known(&core.structs, core.structs.as_slice()) {
+        return Ok(false);
+    }
     if !bodies(alloc, m, core.funs.as_slice())? {
         return Ok(false);
     }

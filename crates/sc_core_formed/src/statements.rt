@@ -12,7 +12,8 @@ use crate::open::{Open, inside, is_open};
 use indexmap::IndexSet;
 use sc_base::{NoMemory, Shared};
 use sc_check_operand::{is_scalar, is_void, shape_of};
-use sc_core::{Auto, AutoInit, CoreExpr, CoreStmt, Fun, SwitchLabel};
+use sc_core::{Auto, AutoInit, CoreExpr, CoreStmt, Fun, LabelAt, SwitchLabel};
+use sc_core_labels::Targets;
 use sc_core_needs::{is_condition, is_done, is_promoted_value, is_structure, is_value_for};
 use sc_types::{CType, is_object, size_of};
 use std::alloc::Global;
@@ -84,13 +85,24 @@ fn placed(size: u32, end: u32, at: u32, n: u32) -> Option<u32>
 {
     match at.checked_add(n) {
         Some(next) => {
-            if end <= at && next <= size {
+            if n > 0 && end <= at && next <= size {
                 Some(next)
             } else {
                 None
             }
         }
         None => None,
+    }
+}
+
+/// The end of a scalar, which stands at a multiple of its size.
+fn scalar_placed(size: u32, end: u32, at: u32, n: u32) -> Option<u32>
+    ensures { result ≡ spec.scalar_placed size end at n }
+{
+    if n > 0 && at % n == 0 {
+        placed(size, end, at, n)
+    } else {
+        None
     }
 }
 
@@ -133,7 +145,7 @@ fn piece_end(
     match piece {
         AutoInit::Value(at, of, e) => {
             if is_scalar_piece(m, f, around, of, e.get()) {
-                placed(size, end, *at, size_of(of, &m.core.structs))
+                scalar_placed(size, end, *at, size_of(of, &m.core.structs))
             } else {
                 None
             }
@@ -195,6 +207,35 @@ fn is_initialized(
     is_open(around, block) && pieces_of(m, f, around, block, n, pieces)
 }
 
+/// Whether each place is below the number of a block's items.
+fn stand_below(n: usize, labels: &[LabelAt]) -> bool
+    ensures { result ≡ spec.stand_below n labels.now }
+{
+    for l in labels {
+        if l.at as usize >= n {
+            return false;
+        }
+    }
+    true
+}
+
+/// The next block, which has a table, with the labels of its list.
+fn is_block(f: &Fun, next: usize, n: u32, labels: &[LabelAt], items: usize) -> bool
+    ensures { result ≡ spec.is_block f.now next n labels.now items }
+{
+    n as usize == next && next < f.blocks.len() && stand_below(items, labels)
+}
+
+/// Whether the label of a `goto` stands in the list of a block that is open there (ANSI 3.6.6.1).
+fn is_target(targets: &Targets, around: &Open, label: u32) -> bool
+    ensures { result ≡ spec.is_target targets.now (numbers around.now) label }
+{
+    match targets.block(label) {
+        Some(block) => is_open(around, block),
+        None => false,
+    }
+}
+
 /// Whether each place is below the number of the body's statements.
 fn are_below(n: usize, labels: &[SwitchLabel]) -> bool
     ensures { result ≡ spec.are_below n labels.now }
@@ -235,7 +276,7 @@ fn items_of(s: &CoreStmt) -> usize
     ensures { result ≡ spec.items_layer (out-CoreStmt s.now) }
 {
     match s {
-        CoreStmt::Block(_, _, items) => items.len(),
+        CoreStmt::Block(_, _, _, items) => items.len(),
         _ => 1,
     }
 }
@@ -292,24 +333,25 @@ fn when(yes: bool, next: usize) -> Option<usize>
     if yes { Some(next) } else { None }
 }
 
-/// Whether a statement is formed whose first block has this number: the number of the next block behind it. `around` are the
-/// blocks that are open there.
+/// Whether a statement is formed whose first block has this number: the number of the next block behind it. `targets` are the
+/// labels of the function, and `around` the blocks that are open there.
 #[cycle(statement)]
 pub(crate) fn statement(
     m: &Indexed,
     f: &Fun,
+    targets: &Targets,
     around: &Open,
     body: Body,
     s: &CoreStmt,
     next: usize,
 ) -> Result<Option<usize>, NoMemory>
-    ensures { IfOk result (λ end. end ≡ spec.statement m.now.core.now f.now s.now (numbers around.now) body next) }
+    ensures { IfOk result (λ end. end ≡ spec.statement m.now.core.now f.now targets.now s.now (numbers around.now) body next) }
 {
     match s {
-        CoreStmt::Block(_, n, items) => {
-            if *n as usize == next && next < f.blocks.len() {
+        CoreStmt::Block(_, n, labels, items) => {
+            if is_block(f, next, *n, labels.as_slice(), items.len()) {
                 let here = inside(*n, around);
-                statements(m, f, &here, body, items.as_slice(), next + 1)
+                statements(m, f, targets, &here, body, items.as_slice(), next + 1)
             } else {
                 Ok(None)
             }
@@ -324,11 +366,11 @@ pub(crate) fn statement(
             if !is_test(m, f, around, e.get()) {
                 return Ok(None);
             }
-            let Some(next) = statement(m, f, around, body, s.get(), next)? else {
+            let Some(next) = statement(m, f, targets, around, body, s.get(), next)? else {
                 return Ok(None);
             };
             match other {
-                Some(other) => statement(m, f, around, body, other.get(), next),
+                Some(other) => statement(m, f, targets, around, body, other.get(), next),
                 None => Ok(Some(next)),
             }
         }
@@ -336,26 +378,28 @@ pub(crate) fn statement(
             if !is_switch(m, f, around, e.get(), labels.as_slice(), s.get())? {
                 return Ok(None);
             }
-            statement(m, f, around, of_switch(body), s.get(), next)
+            statement(m, f, targets, around, of_switch(body), s.get(), next)
         }
         CoreStmt::While(_, e, s) | CoreStmt::Do(_, s, _, e) => {
             if !is_test(m, f, around, e.get()) {
                 return Ok(None);
             }
-            statement(m, f, around, of_loop(body), s.get(), next)
+            statement(m, f, targets, around, of_loop(body), s.get(), next)
         }
         CoreStmt::For(_, first, e, after, s) => {
             if !is_head(m, f, around, first, e, after) {
                 return Ok(None);
             }
-            statement(m, f, around, of_loop(body), s.get(), next)
+            statement(m, f, targets, around, of_loop(body), s.get(), next)
         }
         CoreStmt::Case(_, s) | CoreStmt::Default(_, s) => {
             if !body.in_switch {
                 return Ok(None);
             }
-            statement(m, f, around, body, s.get(), next)
+            statement(m, f, targets, around, body, s.get(), next)
         }
+        CoreStmt::Label(_, s) => statement(m, f, targets, around, body, s.get(), next),
+        CoreStmt::Goto(_, label) => Ok(when(is_target(targets, around, *label), next)),
         CoreStmt::Continue(_) => Ok(when(body.in_loop, next)),
         CoreStmt::Break(_) => Ok(when(body.in_loop || body.in_switch, next)),
         CoreStmt::Return(_, e) => Ok(when(is_return(m, f, around, e), next)),
@@ -367,16 +411,17 @@ pub(crate) fn statement(
 fn statements(
     m: &Indexed,
     f: &Fun,
+    targets: &Targets,
     around: &Open,
     body: Body,
     items: &[Shared<CoreStmt>],
     next: usize,
 ) -> Result<Option<usize>, NoMemory>
-    ensures { IfOk result (λ end. end ≡ spec.all_of m.now.core.now f.now items.now (numbers around.now) body next) }
+    ensures { IfOk result (λ end. end ≡ spec.all_of m.now.core.now f.now targets.now items.now (numbers around.now) body next) }
 {
     let mut at = next;
     for s in items {
-        match statement(m, f, around, body, s.get(), at)? {
+        match statement(m, f, targets, around, body, s.get(), at)? {
             Some(next) => at = next,
             None => return Ok(None),
         }

@@ -39,7 +39,7 @@ Layer F = F (Unit {0}) (Unit {0}) Scope (Unit {0}) Scope (Unit {0}) (Unit {0})
 -- a type word declares the constants of its list, or those that its members' specifiers declare
 abbrev pub in_word : Layer TypeWord-F → Scope
 in_word (TypeWord-F.Enum l tag items) = map constant items
-in_word (TypeWord-F.Struct l tag members) = joined members
+in_word (TypeWord-F.Struct l is_union tag members) = joined members
 in_word _ = []
 
 abbrev pub in_member : Layer Member-F → Scope

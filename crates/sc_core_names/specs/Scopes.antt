@@ -37,6 +37,7 @@ in_statement (Statement-F.Do l s m e) = s
 in_statement (Statement-F.For l a b c s) = s
 in_statement (Statement-F.Case l e s) = s
 in_statement (Statement-F.Default l s) = s
+in_statement (Statement-F.Label l name s) = s
 in_statement _ = []
 
 abbrev pub statement_scopes : Statement → List Scope

@@ -55,6 +55,7 @@ fn put_statement(
         Statement::For(_, _, _, _, s) => put_statement(scopes, alloc, s.get()),
         Statement::Case(_, _, s) => put_statement(scopes, alloc, s.get()),
         Statement::Default(_, s) => put_statement(scopes, alloc, s.get()),
+        Statement::Label(_, _, s) => put_statement(scopes, alloc, s.get()),
         _ => Ok(()),
     }
 }

@@ -43,7 +43,7 @@ fn put_word(names: &mut Vec<DeclaredName>, alloc: Global, word: &TypeWord) -> Re
     ensures { OnOk result (names.new.items ≡ names.old.items ++ spec.constants_of_word word.now) }
 {
     match word {
-        TypeWord::Struct(_, _, members) => put_members(names, alloc, members.as_slice()),
+        TypeWord::Struct(_, _, _, members) => put_members(names, alloc, members.as_slice()),
         TypeWord::Enum(_, _, items) => put_constants(names, alloc, items.as_slice()),
         _ => Ok(()),
     }
@@ -63,7 +63,7 @@ fn put_members(
     Ok(())
 }
 
-/// The enumeration constants that specifiers declare, those inside structures among them.
+/// The enumeration constants that specifiers declare, those inside structures and unions among them.
 #[cycle(constants)]
 pub fn put_specifiers(
     names: &mut Vec<DeclaredName>,

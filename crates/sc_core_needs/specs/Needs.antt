@@ -95,7 +95,7 @@ optional None = nothing
 optional (Some a) = a
 
 abbrev pub statement_layer : CoreStmt-F Need → Need
-statement_layer (CoreStmt-F.Block l n ss) = all ss
+statement_layer (CoreStmt-F.Block l n labels ss) = all ss
 statement_layer (CoreStmt-F.Initialize l block n ps) = all (map need_of_piece ps)
 statement_layer (CoreStmt-F.Empty l) = nothing
 statement_layer (CoreStmt-F.Expression l e) = need e
@@ -106,6 +106,8 @@ statement_layer (CoreStmt-F.Do l s line e) = beside s (need e)
 statement_layer (CoreStmt-F.For l first e after s) = beside (beside (beside (need_of_option first) (need_of_option e)) (need_of_option after)) s
 statement_layer (CoreStmt-F.Case l s) = s
 statement_layer (CoreStmt-F.Default l s) = s
+statement_layer (CoreStmt-F.Label l s) = s
+statement_layer (CoreStmt-F.Goto l k) = nothing
 statement_layer (CoreStmt-F.Continue l) = nothing
 statement_layer (CoreStmt-F.Break l) = nothing
 statement_layer (CoreStmt-F.Return l e) = need_of_option e

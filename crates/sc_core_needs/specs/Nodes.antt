@@ -12,7 +12,7 @@ use Rattle.sc_types.specs.declared.ctype.Member.{Member}
 use Rattle.sc_types.specs.declared.ctype.StructDef.{StructDef}
 use Rattle.sc_types.specs.Compatibility.{same_int}
 use Rattle.sc_types.specs.Conversions.{promote, usual}
-use Rattle.sc_types.specs.Layouts.{rounded, size_in, align_in, members_in}
+use Rattle.sc_types.specs.Layouts.{rounded, size_in, align_in, is_union_in, members_in}
 use Rattle.sc_types.specs.Tables.{is_object}
 use Rattle.sc_ops.specs.Numbers.{converted}
 use Rattle.sc_core.specs.declared.expression.UnaryOperator.{UnaryOperator}
@@ -60,9 +60,21 @@ abbrev pub is_further_shape : Shape → Bool
 is_further_shape (s.Integer k) = is_promoted k
 is_further_shape shape = is_pointer shape
 
+-- the type of a parameter is that of a scalar
+abbrev pub is_parameter : List StructDef → CType → Bool
+is_parameter structs of = is_scalar (shape structs of)
+
+-- a function gives nothing, or a scalar
+abbrev pub is_result : List StructDef → CType → Bool
+is_result structs of = is_void of || is_scalar (shape structs of)
+
+-- the most parameters of a function, and arguments of a call
+abbrev pub limit : ℕ
+limit = 31
+
 -- an argument at the place of a parameter has its type; one behind the parameters is a promoted integer or a pointer
 abbrev pub argument : List StructDef → Option CType → CoreExpr → Bool
-argument structs (Some p) e = is_value_for structs p e
+argument structs (Some p) e = is_parameter structs p && is_value_for structs p e
 argument structs None e = is_further_shape (value structs e)
 
 abbrev pub arguments : List StructDef → List CType → ℕ → List CoreExpr → Bool
@@ -74,7 +86,8 @@ abbrev pub fits : Signature → ℕ → Bool
 fits f n = length f.params == n || (f.variadic && nat_lt (length f.params) n)
 
 abbrev pub calls_function : List StructDef → CType → Signature → List CoreExpr → Bool
-calls_function structs of f args = is_plain_of structs of f.result && fits f (length args) && arguments structs f.params 0 args
+calls_function structs of f args =
+    nat_le (length args) limit && is_result structs f.result && is_plain_of structs of f.result && fits f (length args) && arguments structs f.params 0 args
 
 abbrev pub calls_level : List StructDef → CType → Level → List CoreExpr → Bool
 calls_level structs of (CType-F.Function f) args = calls_function structs of f args
@@ -92,18 +105,25 @@ is_call structs of f args = is_done f && calls_by structs of (out-CType (type_of
 abbrev pub place_after : List StructDef → ℕ → CType → ℕ
 place_after structs end of = rounded end (align_in structs of)
 
--- Whether one of these members, of which the first is behind `end` bytes, stands at n and has this type.
-abbrev pub stands_among : List StructDef → Bool → CType → ℕ → ℕ → List Member → Bool
-stands_among structs qualifier of n end [] = false
-stands_among structs qualifier of n end (m ∷ ms) =
+-- what the next member stands behind, where one of this type is behind `end` bytes; each member of a union stands where the first does
+abbrev pub end_after : List StructDef → Bool → ℕ → CType → ℕ
+end_after structs false end of = place_after structs end of + size_in structs of
+end_after structs true end of = end
+
+-- Whether one of these members of a structure, or of a union where it is true, of which the first is behind `end` bytes, stands at n and
+-- has this type.
+abbrev pub stands_among : List StructDef → Bool → Bool → CType → ℕ → ℕ → List Member → Bool
+stands_among structs is_union qualifier of n end [] = false
+stands_among structs is_union qualifier of n end (m ∷ ms) =
     nat_le end n && is_object structs m.of && nat_lt 0 (align_in structs m.of)
-    && ((place_after structs end m.of == n && is_member_type structs qualifier of m.of) || stands_among structs qualifier of n (place_after structs end m.of + size_in structs m.of) ms)
+    && ((place_after structs end m.of == n && is_member_type structs qualifier of m.of)
+    || stands_among structs is_union qualifier of n (end_after structs is_union end m.of) ms)
 
 abbrev pub member_level : List StructDef → CType → ℕ → Level → Bool
-member_level structs of n (CType-F.Struct id c) = is_object structs (t.Struct id c) && stands_among structs c of n 0 (members_in structs id)
+member_level structs of n (CType-F.Struct id c) = is_object structs (t.Struct id c) && stands_among structs (is_union_in structs id) c of n 0 (members_in structs id)
 member_level structs of n _ = false
 
--- the member of a complete structure at this offset, of its type (3.3.2.3)
+-- the member of a complete structure or union at this offset, of its type (3.3.2.3)
 abbrev pub is_member : List StructDef → CType → ℕ → CType → Bool
 is_member structs of n structure = member_level structs of n (out-CType structure)
 

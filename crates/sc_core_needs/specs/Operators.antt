@@ -18,7 +18,7 @@ use Rattle.sc_check_operand.specs.Types.{shape, is_const, is_pointer, is_scalar}
 use Rattle.sc_check_operand.specs.Constants.{is_null}
 use Rattle.sc_core_needs.specs.declared.operators.Kind.{Kind}
 use Rattle.sc_core_needs.specs.declared.operators.Kind.TheVariants as kind
-use Rattle.sc_core_needs.specs.Types.{is_plain_of, targets_alike, targets_join, is_promoted, is_int_of}
+use Rattle.sc_core_needs.specs.Types.{is_plain_of, is_given_as, targets_alike, targets_join, is_promoted, is_int_of}
 use Rattle.sc_core_needs.specs.Values.{is_done, value, is_condition, is_promoted_value, is_value_for}
 use Rattle.sc_core_needs.specs.Nodes.{writes}
 
@@ -162,4 +162,4 @@ is_movement structs of o n a b = writes structs of a && moved_by o n (shape stru
 
 -- `a, b` (3.3.17)
 abbrev pub is_sequence : List StructDef → CType → CoreExpr → CoreExpr → Bool
-is_sequence structs of a b = is_done a && is_done b && is_plain_of structs of (type_of b)
+is_sequence structs of a b = is_done a && is_done b && is_given_as structs of (type_of b)

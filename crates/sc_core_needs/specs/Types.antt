@@ -1,12 +1,12 @@
 -- Which types go together in a typed tree (ANSI 3.1.2.6, 3.2.2.3, 3.3.16.1).
-use Rattle.std.specs.Prelude.{ℕ, ◌==◌, Bool, true, false, not, ◌&&◌, ◌||◌, List}
+use Rattle.std.specs.Prelude.{ℕ, ◌==◌, Bool, true, false, not, ◌&&◌, ◌||◌, if◌then◌else◌, List}
 use Rattle.sc_base.specs.declared.integer.Int.{Int}
 use Rattle.sc_types.specs.declared.ctype.CType.{CType, out-CType, fold-CType}
 use Rattle.sc_types.specs.declared.ctype.CType.TheOpen.{CType-F}
 use Rattle.sc_types.specs.declared.ctype.StructDef.{StructDef}
 use Rattle.sc_types.specs.Compatibility.{compatible, same_bool, same_int, same_length}
 use Rattle.sc_types.specs.Conversions.{promote}
-use Rattle.sc_check_operand.specs.Types.{Level, is_const, is_function, is_function_level, is_void, is_void_level}
+use Rattle.sc_check_operand.specs.Types.{Level, is_array, is_const, is_function, is_function_level, is_void, is_void_level}
 
 -- compatible types of one module, qualifiers and all
 abbrev pub same : List StructDef → CType → CType → Bool
@@ -29,6 +29,10 @@ alike structs t u = fold-CType (CType → CType → Bool) (Unit {0}) (λ p t u. 
 -- the type of a value of an object of type u: without qualifier
 abbrev pub is_plain_of : List StructDef → CType → CType → Bool
 is_plain_of structs t u = not (is_const t) && alike structs t u
+
+-- the type of what an expression of type u gives: without qualifier, but an array keeps that of its elements
+abbrev pub is_given_as : List StructDef → CType → CType → Bool
+is_given_as structs t u = (if is_array u then same_bool (is_const t) (is_const u) else not (is_const t)) && alike structs t u
 
 -- the type of a member of type u, in a structure that is const or is not
 abbrev pub is_member_type : List StructDef → Bool → CType → CType → Bool

@@ -5,7 +5,7 @@ ghost use Rattle.sc_types.specs.Compatibility.{same_int, same_length, same_bool}
 ghost use Rattle.sc_types.specs.declared.ctype.CType.{out-CType};
 
 use sc_base::Int;
-use sc_check_operand::{is_const, is_function, is_void};
+use sc_check_operand::{is_array, is_const, is_function, is_void};
 use sc_types::{CType, Structs, compatible, promote};
 
 pub(crate) fn same_int(a: Int, b: Int) -> bool
@@ -65,6 +65,18 @@ pub(crate) fn is_plain_of(structs: &Structs, t: &CType, u: &CType) -> bool
     ensures { result ≡ spec.is_plain_of structs.now t.now u.now }
 {
     !is_const(t) && alike(structs, t, u)
+}
+
+/// Whether this is the type of what an expression of type `u` gives; an array keeps the qualifier of its elements.
+pub(crate) fn is_given_as(structs: &Structs, t: &CType, u: &CType) -> bool
+    ensures { result ≡ spec.is_given_as structs.now t.now u.now }
+{
+    let qualified = if is_array(u) {
+        same_bool(is_const(t), is_const(u))
+    } else {
+        !is_const(t)
+    };
+    qualified && alike(structs, t, u)
 }
 
 /// Whether this is the type of a member of type `u`, in a structure that is const or is not.

@@ -10,8 +10,8 @@ mod values;
 pub use agreement::{alike, same, same_bool};
 pub use needs::{Need, most_arguments, need_of, need_of_statement, room};
 pub use nodes::{
-    is_address, is_arrow, is_call, is_cast, is_element, is_indirection, is_literal, is_member,
-    is_number, is_step, is_unary,
+    MAX_ARGUMENTS, is_address, is_arrow, is_call, is_cast, is_element, is_indirection, is_literal,
+    is_member, is_number, is_parameter, is_result, is_step, is_unary,
 };
 pub use operators::{
     is_assignment, is_binary, is_choice, is_compare, is_compound, is_copy, is_difference,

@@ -172,7 +172,7 @@ pub fn need_of_statement(s: &CoreStmt) -> Need
     ensures { result ≡ spec.need_of_statement s.now }
 {
     match s {
-        CoreStmt::Block(_, _, items) => statements(items.as_slice()),
+        CoreStmt::Block(_, _, _, items) => statements(items.as_slice()),
         CoreStmt::Initialize(_, _, _, items) => pieces(items.as_slice()),
         CoreStmt::Empty(_) => nothing(),
         CoreStmt::Expression(_, e) => need_of(e.get()),
@@ -195,6 +195,8 @@ pub fn need_of_statement(s: &CoreStmt) -> Need
         }
         CoreStmt::Case(_, s) => need_of_statement(s.get()),
         CoreStmt::Default(_, s) => need_of_statement(s.get()),
+        CoreStmt::Label(_, s) => need_of_statement(s.get()),
+        CoreStmt::Goto(_, _) => nothing(),
         CoreStmt::Continue(_) => nothing(),
         CoreStmt::Break(_) => nothing(),
         CoreStmt::Return(_, e) => need_of_option(e),

@@ -10,8 +10,8 @@ use crate::agreement::{is_int_of, is_member_type, is_plain_of, is_promoted, poin
 use crate::values::{is_done, is_value_for, value};
 use sc_base::{Bytes, Int, Shared};
 use sc_check_operand::{
-    Shape, is_array, is_const, is_function, is_lvalue, is_pointer, is_scalar, is_zero_constant,
-    shape_of,
+    Shape, is_array, is_const, is_function, is_lvalue, is_pointer, is_scalar, is_void,
+    is_zero_constant, shape_of,
 };
 use sc_core::{CoreExpr, UnaryOperator, type_of};
 use sc_ops::convert;
@@ -66,11 +66,28 @@ fn is_further(structs: &Structs, e: &CoreExpr) -> bool
     }
 }
 
+/// Whether the type of a parameter is that of a scalar.
+pub fn is_parameter(structs: &Structs, of: &CType) -> bool
+    ensures { result ≡ spec.is_parameter structs.now of.now }
+{
+    is_scalar(shape_of(structs, of))
+}
+
+/// Whether a function gives nothing, or a scalar.
+pub fn is_result(structs: &Structs, of: &CType) -> bool
+    ensures { result ≡ spec.is_result structs.now of.now }
+{
+    is_void(of) || is_scalar(shape_of(structs, of))
+}
+
+/// The most parameters of a function, and arguments of a call.
+pub const MAX_ARGUMENTS: usize = 31;
+
 fn argument(structs: &Structs, params: &[CType], i: usize, e: &CoreExpr) -> bool
     ensures { result ≡ spec.argument structs.now (slice_get params.now i) e.now }
 {
     match params.get(i) {
-        Some(p) => is_value_for(structs, p, e),
+        Some(p) => is_parameter(structs, p) && is_value_for(structs, p, e),
         None => is_further(structs, e),
     }
 }
@@ -95,7 +112,9 @@ fn fits(f: &Signature, n: usize) -> bool
 fn calls_function(structs: &Structs, of: &CType, f: &Signature, args: &[Shared<CoreExpr>]) -> bool
     ensures { result ≡ spec.calls_function structs.now of.now f.now args.now }
 {
-    is_plain_of(structs, of, &f.result)
+    args.len() <= MAX_ARGUMENTS
+        && is_result(structs, &f.result)
+        && is_plain_of(structs, of, &f.result)
         && fits(f, args.len())
         && arguments(structs, f.params.as_slice(), args)
 }
@@ -128,9 +147,16 @@ fn rounded(place: u64, align: u32) -> u64
     (place + (align - 1)) / align * align
 }
 
-/// Whether one of these members stands at this offset and has this type.
-fn stands_among(structs: &Structs, qualifier: bool, of: &CType, n: u32, members: &[Member]) -> bool
-    ensures { result ≡ spec.stands_among structs.now qualifier of.now n 0 members.now }
+/// Whether one of these members of a structure, or of a union where it is true, stands at this offset and has this type.
+fn stands_among(
+    structs: &Structs,
+    is_union: bool,
+    qualifier: bool,
+    of: &CType,
+    n: u32,
+    members: &[Member],
+) -> bool
+    ensures { result ≡ spec.stands_among structs.now is_union qualifier of.now n 0 members.now }
 {
     let mut end = 0;
     for member in members {
@@ -145,18 +171,22 @@ fn stands_among(structs: &Structs, qualifier: bool, of: &CType, n: u32, members:
         if place == u64::from(n) && is_member_type(structs, qualifier, of, &member.of) {
             return true;
         }
-        end = place + u64::from(size_of(&member.of, structs));
+        if !is_union {
+            end = place + u64::from(size_of(&member.of, structs));
+        }
     }
     false
 }
 
-/// The member of a complete structure at this offset, of its type (ANSI 3.3.2.3).
+/// The member of a complete structure or union at this offset, of its type (ANSI 3.3.2.3).
 pub fn is_member(structs: &Structs, of: &CType, n: u32, structure: &CType) -> bool
     ensures { result ≡ spec.is_member structs.now of.now n structure.now }
 {
     match structure {
         CType::Struct(id, c) => {
-            is_object(structure, structs) && stands_among(structs, *c, of, n, structs.members(*id))
+            let is_union = structs.is_union(*id);
+            let members = structs.members(*id);
+            is_object(structure, structs) && stands_among(structs, is_union, *c, of, n, members)
         }
         _ => false,
     }

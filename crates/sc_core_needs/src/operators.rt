@@ -5,7 +5,7 @@ ghost use Rattle.sc_types.specs.declared.ctype.CType.{out-CType};
 ghost use Rattle.sc_core.specs.Types.{type_of};
 
 use crate::agreement::{
-    is_int_of, is_plain_of, is_promoted, same_int, targets_alike, targets_join,
+    is_given_as, is_int_of, is_plain_of, is_promoted, same_int, targets_alike, targets_join,
 };
 use crate::nodes::writes;
 use crate::values::{is_condition, is_done, is_value_for, value};
@@ -274,5 +274,5 @@ pub fn is_movement(
 pub fn is_sequence(structs: &Structs, of: &CType, a: &CoreExpr, b: &CoreExpr) -> bool
     ensures { result ≡ spec.is_sequence structs.now of.now a.now b.now }
 {
-    is_done(a) && is_done(b) && is_plain_of(structs, of, type_of(b))
+    is_done(a) && is_done(b) && is_given_as(structs, of, type_of(b))
 }

@@ -3,7 +3,7 @@ use Rattle.std.proofs.Common.{◌≡◌, ℕ, zero, suc, ◌+◌, ◌<◌, Bool,
 use Rattle.std.specs.Prelude.{◌↔◌, IsTrue}
 use Rattle.std.specs.Result.{IsErrAnd}
 use Rattle.std.proofs.lemmas.Result.{err_from_is_err_and}
-use Rattle.sc_meaning.specs.World.{World, tick}
+use Rattle.sc_meaning.specs.World.{World, GoesOut, ComesBack, pass}
 use Rattle.sc_meaning.specs.Outcomes.{Outcome, Done, Over, Ending, Exit, and_then, went}
 use Rattle.sc_meaning.specs.Versions.{Text, History, callee_of, version_at}
 use Rattle.sc_meaning.specs.Changes.{settled, statics_born}
@@ -24,8 +24,8 @@ use Rattle.sc_interp.specs.declared.drive.Reached.TheVariants as reached
 use Rattle.sc_interp.specs.declared.stepped.Stepped.{Stepped}
 use Rattle.sc_interp.specs.Shows.{shown, entry_shown, StepsTo}
 use Rattle.sc_interp.specs.Steps.{Brings, Steps, is_over}
-use Rattle.sc_interp.specs.declared.running.Ended.{Ended}
-use Rattle.sc_interp.specs.declared.running.Ended.TheVariants as ended
+use Rattle.sc_interp_access.specs.declared.ended.Ended.{Ended}
+use Rattle.sc_interp_access.specs.declared.ended.Ended.TheVariants as ended
 use Rattle.sc_interp.specs.Ends.{Finishes}
 use Rattle.sc_interp.specs.Steady as steady
 use Rattle.sc_interp.specs.Steady.{alone}
@@ -90,7 +90,7 @@ ends_here t r s w p f = let q = err_from_is_err_and r p in subst (λ r. Brings t
 
 -- the first state of the call of main
 abbrev pub first_of : List Text → World → State
-first_of texts w = steady.callee_next (alone texts) main_key [] (callee_of texts main_key) [] (tick w)
+first_of texts w = steady.callee_next (alone texts) main_key [] (callee_of texts main_key) [] (pass GoesOut w)
 
 same_first : (texts : List Text) (w : World) → runs.callee_next (alone texts) main_key [] (callee_of (version_at (alone texts) w.count) main_key) [] w ≡ steady.callee_next (alone texts) main_key [] (callee_of texts main_key) [] w
 same_first texts w =
@@ -121,17 +121,17 @@ starts texts s n is =
 pub births_end : (texts : List Text) (s : Start) (n : ℕ) (e : Ending) → s.history ≡ alone texts → begun_in texts s ≡ Over e → ending n s ≡ e
 births_end texts s n e is p = ap behaviour.ending_of (starts texts s n is ∙ ap (λ r. and_then r (λ _ w. main_called n (alone texts) w)) p)
 
-comes : (texts : List Text) (s : Start) (n : ℕ) (w : World) (r : Outcome Answer) → s.history ≡ alone texts → begun_in texts s ≡ Done tt w → call n (alone texts) main_key [] (tick w) ≡ r → ending n s ≡ behaviour.ending_of (and_then r (λ a w. Done a (tick w)))
+comes : (texts : List Text) (s : Start) (n : ℕ) (w : World) (r : Outcome Answer) → s.history ≡ alone texts → begun_in texts s ≡ Done tt w → call n (alone texts) main_key [] (pass GoesOut w) ≡ r → ending n s ≡ behaviour.ending_of (and_then r (λ a w. Done a (pass ComesBack w)))
 comes texts s n w r is p q =
-    ap behaviour.ending_of (starts texts s n is ∙ ap (λ r. and_then r (λ _ w. main_called n (alone texts) w)) p ∙ ap (λ r. and_then r (λ a w. Done a (tick w))) q)
+    ap behaviour.ending_of (starts texts s n is ∙ ap (λ r. and_then r (λ _ w. main_called n (alone texts) w)) p ∙ ap (λ r. and_then r (λ a w. Done a (pass ComesBack w))) q)
 
 pub run_ends : (texts : List Text) (s : Start) (k n : ℕ) (w : World) (e : Ending) → s.history ≡ alone texts → k < n → begun_in texts s ≡ Done tt w → steady.ran k (alone texts) texts (first_of texts w) ≡ Ends e → ending n s ≡ e
 run_ends texts s k n w e is lt p q =
-    comes texts s n w (Over e) is p (ends_meaning (alone texts) k n main_key [] (tick w) e (omega arith) (same_from k texts (tick w) ∙ q))
+    comes texts s n w (Over e) is p (ends_meaning (alone texts) k n main_key [] (pass GoesOut w) e (omega arith) (same_from k texts (pass GoesOut w) ∙ q))
 
-pub run_answers : (texts : List Text) (s : Start) (k n : ℕ) (w v : World) (a : Answer) → s.history ≡ alone texts → k < n → begun_in texts s ≡ Done tt w → steady.ran k (alone texts) texts (first_of texts w) ≡ Answers a [] v → ending n s ≡ Exit (status_of a) (tick v)
+pub run_answers : (texts : List Text) (s : Start) (k n : ℕ) (w v : World) (a : Answer) → s.history ≡ alone texts → k < n → begun_in texts s ≡ Done tt w → steady.ran k (alone texts) texts (first_of texts w) ≡ Answers a [] v → ending n s ≡ Exit (status_of a) (pass ComesBack v)
 run_answers texts s k n w v a is lt p q =
-    comes texts s n w (Done a v) is p (answers_meaning (alone texts) k n main_key [] (tick w) v a (omega arith) (same_from k texts (tick w) ∙ q))
+    comes texts s n w (Done a v) is p (answers_meaning (alone texts) k n main_key [] (pass GoesOut w) v a (omega arith) (same_from k texts (pass GoesOut w) ∙ q))
 
 -- What a part of the program answers, where the births end the run, the call of main ends it, or main comes back.
 pub births_finish : (texts : List Text) (s : Start) (steps : ℕ) (first w : World) (stop : Stop) → s.history ≡ alone texts → first ≡ first_world s → Stops (statics_born texts first) stop w → Finishes steps s (Err stop) w
@@ -145,9 +145,9 @@ call_finishes texts s steps first born w stop is begins p q = λ n lt e r.
 told : (e : Ending) (status : ℕ) (w : World) → Some (Exit status w) ≡ Some e → Exit status w ≡ e
 told e status w p = cc
 
-pub answer_finishes : (texts : List Text) (s : Start) (steps : ℕ) (first born v w : World) (a : Answer) (status : ℕ) → s.history ≡ alone texts → first ≡ first_world s → statics_born texts first ≡ Done tt born → steady.ran steps (alone texts) texts (first_of texts born) ≡ Answers a [] v → status ≡ status_of a → w ≡ tick v → Finishes steps s (Ok (ended.Exit status)) w
+pub answer_finishes : (texts : List Text) (s : Start) (steps : ℕ) (first born v w : World) (a : Answer) (status : ℕ) → s.history ≡ alone texts → first ≡ first_world s → statics_born texts first ≡ Done tt born → steady.ran steps (alone texts) texts (first_of texts born) ≡ Answers a [] v → status ≡ status_of a → w ≡ pass ComesBack v → Finishes steps s (Ok (ended.Exit status)) w
 answer_finishes texts s steps first born v w a status is begins p q st back = λ n lt e r.
-    run_answers texts s steps n born v a is lt (ap (statics_born texts) (sym begins) ∙ p) q ∙ ap (λ st. Exit st (tick v)) (sym st) ∙ ap (Exit status) (sym back) ∙ told e status w r
+    run_answers texts s steps n born v a is lt (ap (statics_born texts) (sym begins) ∙ p) q ∙ ap (λ st. Exit st (pass ComesBack v)) (sym st) ∙ ap (Exit status) (sym back) ∙ told e status w r
 
 pub steps_used_up : (texts : List Text) (s : Start) (steps : ℕ) (first born w : World) → s.history ≡ alone texts → first ≡ first_world s → statics_born texts first ≡ Done tt born → is_over (steady.ran steps (alone texts) texts (first_of texts born)) ≡ false → Finishes steps s (Ok ended.OutOfSteps) w
 steps_used_up texts s steps first born w is begins p over = (texts, is, born, ap (statics_born texts) (sym begins) ∙ p, over)

@@ -1,14 +1,14 @@
 -- How the program says that a run ended.
 use Rattle.std.specs.Prelude.{◌≡◌, ℕ, ◌<◌, false, List, [], Option, Some, None, Result, Ok, Err}
-use Rattle.sc_meaning.specs.World.{World, tick}
+use Rattle.sc_meaning.specs.World.{World, GoesOut, pass}
 use Rattle.sc_meaning.specs.Outcomes.{Done, Ending, Exit, Undefined, StackFull, BirthLimit}
 use Rattle.sc_meaning.specs.Versions.{Text, callee_of}
 use Rattle.sc_meaning.specs.Changes.{statics_born}
 use Rattle.sc_meaning.specs.Behaviour.{Start, ending, first_world, main_key}
 use Rattle.sc_interp_access.specs.declared.stop.Stop.{Stop}
 use Rattle.sc_interp_access.specs.Gives.{ending_of}
-use Rattle.sc_interp.specs.declared.running.Ended.{Ended}
-use Rattle.sc_interp.specs.declared.running.Ended.TheVariants as ended
+use Rattle.sc_interp_access.specs.declared.ended.Ended.{Ended}
+use Rattle.sc_interp_access.specs.declared.ended.Ended.TheVariants as ended
 use Rattle.sc_interp.specs.Steady.{alone, callee_next, ran}
 use Rattle.sc_interp.specs.Steps.{is_over}
 
@@ -29,7 +29,7 @@ start_of texts stack heap input = record { stack = stack; heap = heap; input = i
 abbrev pub LastsLonger : ℕ → Start → Type 0
 LastsLonger steps s =
     (texts : List Text) × (s.history ≡ alone texts) × (born : World) × (statics_born texts (first_world s) ≡ Done tt born)
-    × (is_over (ran steps (alone texts) texts (callee_next (alone texts) main_key [] (callee_of texts main_key) [] (tick born))) ≡ false)
+    × (is_over (ran steps (alone texts) texts (callee_next (alone texts) main_key [] (callee_of texts main_key) [] (pass GoesOut born))) ≡ false)
 
 -- so the run ends, at every bound greater than these steps; only one that lasts longer uses its steps up
 abbrev pub EndsSo : ℕ → Start → Ended → World → Type 0

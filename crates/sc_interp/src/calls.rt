@@ -6,19 +6,18 @@ ghost use Rattle.sc_meaning.specs.Expressions as expressions;
 ghost use Rattle.sc_meaning.specs.Versions as versions;
 ghost use Rattle.sc_meaning.specs.World as worlds;
 ghost use Rattle.sc_lib.specs.Quiet.{IsQuiet};
-ghost use Rattle.sc_interp_parts.specs.Found.{callee_found};
+ghost use Rattle.sc_core_held.specs.Found.{callee_found};
 ghost use Rattle.sc_interp.specs.Steady as steady;
 ghost use Rattle.sc_interp.specs.Steps.{Steps};
 
 use crate::going::{Active, Caller, Going};
 use sc_base::{Duplicate, Items, Key, NoMemory, Shared, Stack};
 use sc_core::{Auto, Fun};
+use sc_core_held::{Callee, Text, callee_of};
 use sc_interp_access::Stop;
 use sc_interp_expr::Env;
 use sc_interp_machine::Doing;
-use sc_interp_parts::{
-    Callee, Text, all_dead, call_breach, callee_of, parameters, undefined_name, value_rule,
-};
+use sc_interp_parts::{all_dead, call_breach, parameters, undefined_name, value_rule};
 use sc_interp_world::{Born, Event, Frame, World};
 use sc_lib::library_call;
 use sc_meaning::LibFun;
@@ -52,6 +51,7 @@ pub fn answer_of(way: Way) -> Answer
         Exit::Normal => Answer::nothing(),
         Exit::Broke => Answer::nothing(),
         Exit::Continued => Answer::nothing(),
+        Exit::Jumped(_) => Answer::nothing(),
         Exit::Returned(a) => a,
     }
 }

@@ -11,8 +11,8 @@ ghost use Rattle.sc_interp.specs.Steps as course;
 use crate::going::{Caller, Going};
 use crate::step::step_once;
 use sc_base::Stack;
+use sc_core_held::Text;
 use sc_interp_access::Stop;
-use sc_interp_parts::Text;
 use sc_interp_world::World;
 use sc_meaning_values::Answer;
 

@@ -10,6 +10,6 @@ mod step;
 mod stepped;
 
 pub use going::{Active, Caller, Going};
-pub use running::{Ended, Finished, Limits, call_main, run, status_of};
+pub use running::{Finished, Limits, call_main, run, status_of};
 pub use step::step_run;
 pub use stepped::{Shown, Stepped, entry};

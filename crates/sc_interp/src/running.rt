@@ -12,23 +12,12 @@ use crate::calls::key_next;
 use crate::drive::{Reached, drive};
 use crate::going::{Caller, Going};
 use sc_base::{Items, Key, Name, NoMemory, Shared, Stack};
-use sc_interp_access::{Breach, Stop, bits};
-use sc_interp_parts::{Text, statics_born};
+use sc_core_held::Text;
+use sc_interp_access::{Ended, Stop, bits};
+use sc_interp_parts::statics_born;
 use sc_interp_world::World;
 use sc_meaning_values::{Answer, Held};
 use std::alloc::Global;
-
-/// How a run ended: with a status; at an undefined step; as the stack had no room for a call of this function; as one object
-/// too many was born; as the steps were used up; or as no room was left.
-#[derive(Drop)]
-pub enum Ended {
-    Exit(u32),
-    Undefined(Shared<Breach>),
-    StackFull(Shared<Key>),
-    BirthLimit,
-    OutOfSteps,
-    NoRoom,
-}
 
 /// The bytes that the stack and the heap may have, and how many steps a run may take.
 #[derive(Clone, Copy)]
@@ -73,18 +62,18 @@ pub fn status_of(a: &Answer) -> u32
 ///
 /// `U17` where nothing defines `main`, `StackFull`, `BirthLimit`, and what a function of the library ends with.
 pub fn call_main(texts: &[Text], callers: &Stack<Caller>, world: &mut World) -> Result<Going, Stop>
-    ensures { (h : versions.History) → IsQuiet h → Steps (steady.callee_next h behaviour.main_key [] (versions.callee_of texts.now behaviour.main_key) callers.now (worlds.tick world.old)) result callers.now world.new }
+    ensures { (h : versions.History) → IsQuiet h → Steps (steady.callee_next h behaviour.main_key [] (versions.callee_of texts.now behaviour.main_key) callers.now (worlds.pass worlds.GoesOut world.old)) result callers.now world.new }
 {
     let alloc = world.alloc();
     let key = main_key(alloc)?;
-    world.tick()?;
+    world.goes_out()?;
     let none = Items::new(alloc);
     key_next(texts, key, none.as_slice(), callers, world)
 }
 
 // `main` is called, and comes back.
 fn main_called(texts: &[Text], steps: u64, world: &mut World) -> Result<Reached, Stop>
-    ensures { (h : versions.History) → IsQuiet h → Brings (steady.ran steps h texts.now (steady.callee_next h behaviour.main_key [] (versions.callee_of texts.now behaviour.main_key) [] (worlds.tick world.old))) result world.new }
+    ensures { (h : versions.History) → IsQuiet h → Brings (steady.ran steps h texts.now (steady.callee_next h behaviour.main_key [] (versions.callee_of texts.now behaviour.main_key) [] (worlds.pass worlds.GoesOut world.old))) result world.new }
 {
     let mut callers = Stack::new(world.alloc());
     let going = call_main(texts, &callers, world)?;
@@ -98,7 +87,7 @@ fn started(texts: &[Text], steps: u64, world: &mut World) -> Result<Ended, Stop>
     statics_born(texts, world)?;
     match main_called(texts, steps, world)? {
         Reached::Answer(a) => {
-            world.tick()?;
+            world.comes_back()?;
             Ok(Ended::Exit(status_of(&a)))
         }
         Reached::Nowhere => Ok(Ended::OutOfSteps),

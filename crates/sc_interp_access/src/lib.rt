@@ -3,6 +3,7 @@
 
 mod accesses;
 mod breaches;
+mod ended;
 mod operators;
 mod stop;
 mod violations;
@@ -12,6 +13,7 @@ pub use accesses::{
     number_of_cells, pieces, scalar_size, set_at, stored,
 };
 pub use breaches::{access_breach, breach, line_of, moved, operand_breach, sum};
+pub use ended::Ended;
 pub use operators::{
     compared, computed, member_address, number_of, promoted, shifted, tested, truth_number,
 };

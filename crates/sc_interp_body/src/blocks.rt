@@ -7,8 +7,8 @@ ghost use Rattle.sc_interp_machine.specs.declared.body.Pending.TheVariants as ki
 ghost use Rattle.sc_interp_body.specs.Moves.{Moves};
 
 use crate::moves::{Move, leaves};
-use sc_base::{Duplicate, Items, NoMemory, Stack};
-use sc_core::Auto;
+use sc_base::{Duplicate, Items, NoMemory, Shared, Stack};
+use sc_core::{Auto, CoreStmt};
 use sc_interp_access::Stop;
 use sc_interp_expr::Env;
 use sc_interp_machine::{Pending, Statements};
@@ -36,6 +36,7 @@ fn with_block(env: &mut Env, born: Born) -> Result<(), NoMemory>
 
 // The objects of a block are born, and it is entered.
 fn opened(
+    s: Shared<CoreStmt>,
     b: u32,
     rest: Statements,
     stmts: &mut Stack<Pending>,
@@ -43,32 +44,33 @@ fn opened(
     ids: Items<u32>,
     world: &mut World,
 ) -> Result<Move, Stop>
-    ensures { Moves (machine.opened b rest stmts.old env.old ids world.old) result stmts.new env.new world.new }
+    ensures { Moves (machine.opened s b rest stmts.old env.old ids world.old) result stmts.new env.new world.new }
 {
     let born = Born { block: b, ids };
     stmts.push(Pending::EndBlock(env.blocks.len()))?;
-    stmts.push(Pending::Rest(rest))?;
+    stmts.push(Pending::Rest(s, rest))?;
     with_block(env, born.copy(world.alloc())?)?;
     world.open_block(born)?;
     Ok(leaves(Way::normal()))
 }
 
-/// A block is entered, from one of its statements on.
+/// The block `s`, which has the number `b`, is entered, from one of its statements on.
 ///
 /// # Errors
 ///
 /// `BirthLimit`.
 pub fn enters(
+    s: Shared<CoreStmt>,
     b: u32,
     rest: Statements,
     stmts: &mut Stack<Pending>,
     env: &mut Env,
     world: &mut World,
 ) -> Result<Move, Stop>
-    ensures { Moves (machine.enters b rest stmts.old env.old world.old) result stmts.new env.new world.new }
+    ensures { Moves (machine.enters s b rest stmts.old env.old world.old) result stmts.new env.new world.new }
 {
     let ids = born_autos(block_autos(env, b), world)?;
-    opened(b, rest, stmts, env, ids, world)
+    opened(s, b, rest, stmts, env, ids, world)
 }
 
 // The objects of the first of some blocks die.

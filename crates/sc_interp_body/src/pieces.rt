@@ -104,10 +104,12 @@ fn body_next(
     ensures { Moves (machine.body_next s at (out-CoreStmt s) stmts.old env.old world.old) result stmts.new env.new world.new }
 {
     match s.get() {
-        CoreStmt::Block(_, b, _) => {
+        CoreStmt::Block(_, b, _, _) => {
             let b = *b;
+            let block = s.share()?;
+            let rest = Statements::from(s, at as usize);
             world.begin()?;
-            enters(b, Statements::from(s, at as usize), stmts, env, world)
+            enters(block, b, rest, stmts, env, world)
         }
         _ => Ok(Move::Go(Doing::Exec(s))),
     }

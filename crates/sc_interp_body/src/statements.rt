@@ -5,7 +5,7 @@ ghost use Rattle.sc_core.specs.declared.statement.CoreStmt.{out-CoreStmt};
 ghost use Rattle.sc_meaning.specs.Expressions as spec;
 ghost use Rattle.sc_meaning.specs.Statements as statement;
 ghost use Rattle.sc_interp_machine.specs.Bodies as machine;
-ghost use Rattle.sc_interp_machine.specs.Rests.{labels_in};
+ghost use Rattle.sc_interp_machine.specs.Rests.{labels_in, pieces_in};
 ghost use Rattle.sc_interp_machine.specs.declared.body.Pending.{Pending};
 ghost use Rattle.sc_interp_machine.specs.declared.body.Pending.TheVariants as kind;
 ghost use Rattle.sc_interp_machine.specs.declared.body.Doing.TheVariants as doing;
@@ -19,9 +19,9 @@ use sc_core::{CoreExpr, CoreStmt, type_of};
 use sc_interp_access::Stop;
 use sc_interp_expr::Env;
 use sc_interp_machine::{Doing, Labels, Pending, Pieces, Statements, Use};
-use sc_interp_parts::automatic_in;
+use sc_interp_parts::{automatic_in, id_of};
 use sc_interp_world::World;
-use sc_meaning_values::{Answer, Way};
+use sc_meaning_values::{Answer, Value, Way};
 use sc_types::CType;
 
 /// A statement, or an initialised declarator, begins, which is work.
@@ -146,6 +146,21 @@ fn switch_next(
     on_line(l, e, Use::Switch(Labels::of(s), a), world)
 }
 
+// An initialised declarator: its line is reached, and then its pieces are set.
+fn declares_next(
+    l: u32,
+    p: Value,
+    s: Shared<CoreStmt>,
+    stmts: &Stack<Pending>,
+    env: &Env,
+    world: &mut World,
+) -> Result<Move, Stop>
+    ensures { Moves (machine.declares_next l p (pieces_in (out-CoreStmt s)) stmts.now env.now world.old) result stmts.now env.now world.new }
+{
+    world.declares(id_of(&p))?;
+    Ok(Move::Line(l, Doing::Pieces(p, Pieces::of(s))))
+}
+
 /// A statement has begun.
 ///
 /// # Errors
@@ -160,14 +175,15 @@ pub fn stmt_next(
     ensures { Moves (machine.stmt_next s (out-CoreStmt s) stmts.old env.old world.old) result stmts.new env.new world.new }
 {
     match s.get() {
-        CoreStmt::Block(_, b, _) => {
+        CoreStmt::Block(_, b, _, _) => {
             let b = *b;
-            enters(b, Statements::from(s, 0), stmts, env, world)
+            let block = s.share()?;
+            enters(block, b, Statements::from(s, 0), stmts, env, world)
         }
         CoreStmt::Initialize(l, b, i, _) => {
             let l = *l;
             let p = automatic_in(env.blocks.as_slice(), *b, *i);
-            Ok(Move::Line(l, Doing::Pieces(p, Pieces::of(s))))
+            declares_next(l, p, s, stmts, env, world)
         }
         CoreStmt::Empty(l) => jump(*l, Way::normal(), stmts, env, world),
         CoreStmt::Expression(l, e) => on_line(*l, e, Use::Discard, world),
@@ -178,6 +194,8 @@ pub fn stmt_next(
         CoreStmt::For(l, e, _, _, _) => first_next(*l, e, &s, world),
         CoreStmt::Case(_, a) => execs(a, Pending::End, stmts, env, world),
         CoreStmt::Default(_, a) => execs(a, Pending::End, stmts, env, world),
+        CoreStmt::Label(_, a) => execs(a, Pending::End, stmts, env, world),
+        CoreStmt::Goto(l, k) => jump(*l, Way::jumped(*k), stmts, env, world),
         CoreStmt::Continue(l) => jump(*l, Way::continued(), stmts, env, world),
         CoreStmt::Break(l) => jump(*l, Way::broke(), stmts, env, world),
         CoreStmt::Return(l, e) => return_next(*l, e, stmts, env, world),

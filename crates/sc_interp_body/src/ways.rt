@@ -1,6 +1,7 @@
 // What is done with the way in which a statement was left (ANSI 3.6.2, 3.6.4.2, 3.6.5, 3.6.6).
-ghost use Rattle.std.specs.Prelude.{List};
+ghost use Rattle.std.specs.Prelude.{◌≡◌, List};
 ghost use Rattle.sc_core.specs.Types as types;
+ghost use Rattle.sc_core.specs.declared.statement.CoreStmt.{out-CoreStmt};
 ghost use Rattle.sc_meaning.specs.Expressions as spec;
 ghost use Rattle.sc_meaning.specs.Statements as statement;
 ghost use Rattle.sc_interp_machine.specs.Bodies as machine;
@@ -12,7 +13,7 @@ ghost use Rattle.sc_interp_body.specs.Moves.{Moves};
 use crate::blocks::block_ends;
 use crate::moves::{Move, ends, execs, leaves, turns, within};
 use sc_base::{Duplicate, Shared, Stack};
-use sc_core::{CoreExpr, CoreStmt, type_of};
+use sc_core::{CoreExpr, CoreStmt, LabelAt, type_of};
 use sc_interp_access::Stop;
 use sc_interp_expr::Env;
 use sc_interp_machine::{Pending, Statements, Use};
@@ -21,34 +22,95 @@ use sc_meaning_values::{Exit, Way};
 
 // The next statement of a block.
 fn next_of(
+    block: Shared<CoreStmt>,
     rest: Statements,
     stmts: &mut Stack<Pending>,
     env: &Env,
     world: &World,
 ) -> Result<Move, Stop>
-    ensures { Moves (machine.rest_next statement.Normal rest stmts.old env.now world.now) result stmts.new env.now world.now }
+    ensures { Moves (machine.rest_next statement.Normal block rest stmts.old env.now world.now) result stmts.new env.now world.now }
 {
     let mut rest = rest;
     match rest.next()? {
         None => Ok(leaves(Way::normal())),
-        Some(s) => execs(&s, Pending::Rest(rest), stmts, env, world),
+        Some(s) => execs(&s, Pending::Rest(block, rest), stmts, env, world),
     }
 }
 
-// In a block: a jump passes over what is left of it.
+// The place at which a label stands in a list.
+fn place_of(k: u32, labels: &[LabelAt]) -> Option<u32>
+    ensures { result ≡ statement.place_of k labels.now }
+{
+    for l in labels {
+        if l.label == k {
+            return Some(l.at);
+        }
+    }
+    None
+}
+
+// The place at which a label stands in a block's list.
+fn place_in(k: u32, s: &CoreStmt) -> Option<u32>
+    ensures { result ≡ statement.place_in k (out-CoreStmt s.now) }
+{
+    match s {
+        CoreStmt::Block(_, _, labels, _) => place_of(k, labels.as_slice()),
+        _ => None,
+    }
+}
+
+// A block that is open goes on at one of its statements.
+fn resumed_next(
+    block: Shared<CoreStmt>,
+    at: u32,
+    stmts: &mut Stack<Pending>,
+    env: &Env,
+    world: &World,
+) -> Result<Move, Stop>
+    ensures { Moves (machine.resumed_next block at (out-CoreStmt block) stmts.old env.now world.now) result stmts.new env.now world.now }
+{
+    match block.get() {
+        CoreStmt::Block(_, _, _, _) => {
+            let rest = Statements::from(block.share()?, at as usize);
+            stmts.push(Pending::Rest(block, rest))?;
+            Ok(leaves(Way::normal()))
+        }
+        _ => Ok(leaves(Way::normal())),
+    }
+}
+
+// A jump goes on in the block that has its label, or leaves it (3.6.6.1).
+fn jumped_next(
+    k: u32,
+    block: Shared<CoreStmt>,
+    stmts: &mut Stack<Pending>,
+    env: &Env,
+    world: &World,
+) -> Result<Move, Stop>
+    ensures { Moves (machine.jumped_next block k (statement.place_in k (out-CoreStmt block)) stmts.old env.now world.now) result stmts.new env.now world.now }
+{
+    match place_in(k, block.get()) {
+        None => Ok(leaves(Way::jumped(k))),
+        Some(at) => resumed_next(block, at, stmts, env, world),
+    }
+}
+
+// In a block: `break`, `continue` and `return` pass over what is left of it, and a jump for a label.
 fn rest_next(
     way: Way,
+    block: Shared<CoreStmt>,
     rest: Statements,
     stmts: &mut Stack<Pending>,
     env: &Env,
     world: &World,
 ) -> Result<Move, Stop>
-    ensures { Moves (machine.rest_next way rest stmts.old env.now world.now) result stmts.new env.now world.now }
+    ensures { Moves (machine.rest_next way block rest stmts.old env.now world.now) result stmts.new env.now world.now }
 {
     match way.exit {
-        Exit::Normal => next_of(rest, stmts, env, world),
+        Exit::Normal => next_of(block, rest, stmts, env, world),
         Exit::Broke => Ok(leaves(Way::broke())),
         Exit::Continued => Ok(leaves(Way::continued())),
+        Exit::Jumped(k) => jumped_next(k, block, stmts, env, world),
         Exit::Returned(a) => Ok(leaves(Way::returned(a))),
     }
 }
@@ -61,6 +123,7 @@ fn switch_next(way: Way, world: &mut World) -> Result<Move, Stop>
         Exit::Normal => Way::normal(),
         Exit::Broke => Way::normal(),
         Exit::Continued => Way::continued(),
+        Exit::Jumped(k) => Way::jumped(k),
         Exit::Returned(a) => Way::returned(a),
     };
     ends(way, world)
@@ -74,6 +137,7 @@ fn again_next(s: Shared<CoreStmt>, way: Way, world: &mut World) -> Result<Move, 
         Exit::Normal => Ok(turns(s)),
         Exit::Continued => Ok(turns(s)),
         Exit::Broke => ends(Way::normal(), world),
+        Exit::Jumped(k) => ends(Way::jumped(k), world),
         Exit::Returned(a) => ends(Way::returned(a), world),
     }
 }
@@ -101,6 +165,7 @@ fn check_next(
         Exit::Normal => checked(l, e, s, world),
         Exit::Continued => checked(l, e, s, world),
         Exit::Broke => ends(Way::normal(), world),
+        Exit::Jumped(k) => ends(Way::jumped(k), world),
         Exit::Returned(a) => ends(Way::returned(a), world),
     }
 }
@@ -131,6 +196,7 @@ fn third_next(
         Exit::Normal => third(x, s, world),
         Exit::Continued => third(x, s, world),
         Exit::Broke => ends(Way::normal(), world),
+        Exit::Jumped(k) => ends(Way::jumped(k), world),
         Exit::Returned(a) => ends(Way::returned(a), world),
     }
 }
@@ -147,7 +213,7 @@ fn item_next(
 {
     match item {
         Pending::End => ends(way, world),
-        Pending::Rest(rest) => rest_next(way, rest, stmts, env, world),
+        Pending::Rest(block, rest) => rest_next(way, block, rest, stmts, env, world),
         Pending::EndBlock(k) => block_ends(k, way, stmts, env, world),
         Pending::EndSwitch => switch_next(way, world),
         Pending::Again(s) => again_next(s, way, world),

@@ -17,9 +17,10 @@ use crate::parts::{
 };
 use sc_base::{Duplicate, Key, NoMemory, Shared, Stack};
 use sc_core::CoreExpr;
+use sc_core_held::Text;
 use sc_interp_access::Stop;
 use sc_interp_machine::{Item, Pair, Single};
-use sc_interp_parts::{Text, at_place, automatic_in, literal_of, plain, static_place};
+use sc_interp_parts::{at_place, automatic_in, literal_of, plain, static_place};
 use sc_interp_world::{Born, World};
 use sc_meaning_values::Value;
 

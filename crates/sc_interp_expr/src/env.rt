@@ -2,7 +2,7 @@
 
 use sc_base::{Items, Shared};
 use sc_core::Fun;
-use sc_interp_parts::Text;
+use sc_core_held::Text;
 use sc_interp_world::Born;
 use std::marker::Model;
 

@@ -67,7 +67,7 @@ fn unary_of(o: UnaryOperator, t: &CType, a: Answer, world: &mut World) -> Result
 fn back(a: Answer, world: &mut World) -> Result<Answer, Stop>
     ensures { Gives (machine.single_of kind.Back a world.old) result world.new }
 {
-    world.tick()?;
+    world.comes_back()?;
     finished(a, world)
 }
 

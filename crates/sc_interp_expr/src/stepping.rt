@@ -143,7 +143,7 @@ fn args_next(
     match rest.next()? {
         None => {
             items.push(Item::Alone(Single::Back))?;
-            world.tick()?;
+            world.goes_out()?;
             Ok(Next::Call(t, v, vs))
         }
         Some(e) => evals(&e, Item::Argument(t, v, rest, vs), items, world),

@@ -9,22 +9,22 @@ use Rattle.sc_core.specs.declared.statement.CoreStmt.TheOpen.{CoreStmt-F}
 use Rattle.sc_core.specs.declared.statement.SwitchLabel.{SwitchLabel}
 use Rattle.sc_core.specs.Types.{type_of}
 use Rattle.sc_meaning.specs.Values.{Value, Byte, scalar_size}
-use Rattle.sc_meaning.specs.World.{World, Born, pass, Work, Begin, End as Ends, OpenBlock, CloseBlock, Put, tick}
+use Rattle.sc_meaning.specs.World.{World, Born, pass, Work, Begin, End as Ends, Declares, OpenBlock, CloseBlock, Put, tick}
 use Rattle.sc_meaning.specs.Outcomes.{Outcome, Done, Over, world_after}
 use Rattle.sc_meaning.specs.Accesses.{tested, set_at}
-use Rattle.sc_meaning.specs.Expressions.{Env, Answer, Plain, used}
-use Rattle.sc_meaning.specs.Statements.{Way, Normal, Broke, Continued, Returned, born_autos, all_dead, block_autos, set_bytes, id_of, initial_structure, stmt_begun}
+use Rattle.sc_meaning.specs.Expressions.{Env, Answer, Plain, used, automatic_in}
+use Rattle.sc_meaning.specs.Statements.{Way, Normal, Broke, Continued, Jumped, Returned, place_in, born_autos, all_dead, block_autos, set_bytes, id_of, initial_structure, stmt_begun}
 use Rattle.sc_meaning.proofs.Steps.{and_more}
 use Rattle.sc_meaning.proofs.StatementsGo.{deaths_lead}
 use Rattle.sc_interp_machine.specs.Machine as expr
-use Rattle.sc_interp_machine.specs.Bodies.{Advanced, GoesOn, Lines, CallsOut, Leaves, Breaks, then_goes as then_next, whether, within, ends, execs, turns, opened, enters, optional_next, first_next, return_next, stmt_next, holds_next, turn_next, tests, use_next, piece_next, pieces_next, body_next, landed_next, label_next, labels_next, rest_next, switch_next, goes_round, third_next, without_blocks, first_ids, item_next, way_next, expr_next, advance}
+use Rattle.sc_interp_machine.specs.Bodies.{Advanced, GoesOn, Lines, CallsOut, Leaves, Breaks, then_goes as then_next, whether, within, ends, execs, turns, opened, enters, optional_next, first_next, return_next, declares_next, stmt_next, holds_next, turn_next, tests, use_next, piece_next, pieces_next, body_next, landed_next, label_next, labels_next, resumed_next, jumped_next, rest_next, switch_next, goes_round, third_next, without_blocks, first_ids, item_next, way_next, expr_next, advance}
 use Rattle.sc_interp_machine.specs.declared.body.Use.{Use}
 use Rattle.sc_interp_machine.specs.declared.body.Use.TheVariants.{Discard, Turns, Return, If, While, Repeat, For, Switch, Set, Copy}
 use Rattle.sc_interp_machine.specs.declared.body.Pending.{Pending}
 use Rattle.sc_interp_machine.specs.declared.body.Pending.TheVariants.{End, Rest, EndBlock, EndSwitch, Again, Check, Third}
 use Rattle.sc_interp_machine.specs.declared.body.Doing.{Doing}
 use Rattle.sc_interp_machine.specs.declared.body.Doing.TheVariants.{Within, Exec, Turn, Leave, Pieces, Labels}
-use Rattle.sc_interp_laws.specs.Paid.{done, begin_credit, mode_credit, items_credit, ExprPaid, use_credit, pending_credit, pendings_credit, is_default, has_default, default_credit, doing_credit, BodyPaid, is_something, piece_pays, label_pays, doing_pays}
+use Rattle.sc_interp_laws.specs.Paid.{done, begin_credit, mode_credit, items_credit, ExprPaid, use_credit, pending_credit, pendings_credit, is_default, has_default, default_credit, way_credit, doing_credit, BodyPaid, is_something, piece_pays, label_pays, doing_pays}
 use Rattle.sc_interp_laws.proofs.Works.{leads_work, pass_work, tick_work}
 use Rattle.sc_interp_laws.proofs.ExprMeans.{used_leads, tested_leads}
 use Rattle.sc_interp_laws.proofs.BodySteps.{bytes_lead, autos_lead, structure_leads, set_and_work}
@@ -40,6 +40,20 @@ tested_keeps t v w = leads_work w (world_after (tested t v w)) (tested_leads t v
 default_small : (b : Bool) → default_credit b ≤ 1
 default_small true = omega arith
 default_small false = omega arith
+
+way_least : (way : Way) → 2 ≤ way_credit way
+way_least Normal = omega arith
+way_least Broke = omega arith
+way_least Continued = omega arith
+way_least (Jumped k) = omega arith
+way_least (Returned a) = omega arith
+
+way_most : (way : Way) → way_credit way ≤ 3
+way_most Normal = omega arith
+way_most Broke = omega arith
+way_most Continued = omega arith
+way_most (Jumped k) = omega arith
+way_most (Returned a) = omega arith
 
 -- a step that is paid by less is paid by more
 pub paid_more : (k m u v : ℕ) (a : Advanced) → k + 4 * u ≤ m + 4 * v → BodyPaid k v a → BodyPaid m u a
@@ -59,7 +73,10 @@ whether_paid k v false f g w p q = q
 
 -- a statement ends, which is work
 ends_paid : (k : ℕ) (way : Way) (ss : List Pending) (env : Env) (w : World) → pendings_credit ss ≤ k → BodyPaid k (done w) (ends way ss env w)
-ends_paid k way ss env w le = let more : done (pass Ends w) ≡ done w + 1 = pass_work Ends w in omega (arith, le, more)
+ends_paid k way ss env w le =
+    let more : done (pass Ends w) ≡ done w + 1 = pass_work Ends w in
+    let small : way_credit way ≤ 3 = way_most way in
+    omega (arith, le, more, small)
 
 -- a whole expression begins
 line_paid : (k : ℕ) (l : ℕ) (e : CoreExpr) (u : Use) (ss : List Pending) (env : Env) (w : World) → 3 + use_credit u + pendings_credit ss ≤ k → BodyPaid k (done w) (Lines l (within e u) ss env w)
@@ -68,9 +85,9 @@ line_paid k l e u ss env w le = let small : begin_credit (out-CoreExpr e) ≤ 2 
 within_paid : (k : ℕ) (e : CoreExpr) (u : Use) (ss : List Pending) (env : Env) (w : World) → 3 + use_credit u + pendings_credit ss ≤ k → BodyPaid k (done w) (GoesOn (within e u) ss env w)
 within_paid k e u ss env w le = let small : begin_credit (out-CoreExpr e) ≤ 2 = begin_small (out-CoreExpr e) in omega (arith, le, small)
 
-enters_paid : (k : ℕ) (b : ℕ) (qs : List CoreStmt) (ss : List Pending) (env : Env) (w : World) → 4 + pendings_credit ss ≤ k → BodyPaid k (done w) (enters b qs ss env w)
-enters_paid k b qs ss env w le =
-    then_paid k w (born_autos (block_autos env b) [] w) (opened b qs ss env) (omega (arith, le)) (leads_work w (world_after (born_autos (block_autos env b) [] w)) (autos_lead (block_autos env b) [] w)) (λ ids u.
+enters_paid : (k : ℕ) (s : CoreStmt) (b : ℕ) (qs : List CoreStmt) (ss : List Pending) (env : Env) (w : World) → 4 + pendings_credit ss ≤ k → BodyPaid k (done w) (enters s b qs ss env w)
+enters_paid k s b qs ss env w le =
+    then_paid k w (born_autos (block_autos env b) [] w) (opened s b qs ss env) (omega (arith, le)) (leads_work w (world_after (born_autos (block_autos env b) [] w)) (autos_lead (block_autos env b) [] w)) (λ ids u.
     let born : Born = record { block = b; ids = ids } in
     let more : done (pass (OpenBlock born) u) ≡ done u + 0 = pass_work (OpenBlock born) u in
     omega (arith, le, more))
@@ -109,9 +126,14 @@ return_paid : (l : ℕ) (e : Option CoreExpr) (ss : List Pending) (env : Env) (w
 return_paid l None ss env w = omega arith
 return_paid l (Some e) ss env w = line_paid _ l e Return ss env w (omega arith)
 
+declares_paid : (l : ℕ) (p : Value) (pieces : List AutoInit) (ss : List Pending) (env : Env) (w : World) → BodyPaid (4 + pendings_credit ss) (done w) (declares_next l p pieces ss env w)
+declares_paid l p pieces ss env w =
+    let more : done (pass (Declares (id_of p)) w) ≡ done w + 0 = pass_work (Declares (id_of p)) w in
+    omega (arith, more)
+
 stmt_paid : (s : CoreStmt) (x : CoreStmt-F CoreStmt) (ss : List Pending) (env : Env) (w : World) → BodyPaid (4 + pendings_credit ss) (done w) (stmt_next s x ss env w)
-stmt_paid s (CoreStmt-F.Block l b qs) ss env w = enters_paid _ b qs ss env w (omega arith)
-stmt_paid s (CoreStmt-F.Initialize l b i pieces) ss env w = omega arith
+stmt_paid s (CoreStmt-F.Block l b ls qs) ss env w = enters_paid _ s b qs ss env w (omega arith)
+stmt_paid s (CoreStmt-F.Initialize l b i pieces) ss env w = declares_paid l (automatic_in env.blocks b i) pieces ss env w
 stmt_paid s (CoreStmt-F.Empty l) ss env w = omega arith
 stmt_paid s (CoreStmt-F.Expression l e) ss env w = line_paid _ l e Discard ss env w (omega arith)
 stmt_paid s (CoreStmt-F.If l e a b) ss env w = line_paid _ l e (If (type_of e) a b) ss env w (omega arith)
@@ -121,6 +143,8 @@ stmt_paid s (CoreStmt-F.Do l a m e) ss env w = omega arith
 stmt_paid s (CoreStmt-F.For l f c x a) ss env w = first_paid l f s ss env w
 stmt_paid s (CoreStmt-F.Case l a) ss env w = omega arith
 stmt_paid s (CoreStmt-F.Default l a) ss env w = omega arith
+stmt_paid s (CoreStmt-F.Label l a) ss env w = omega arith
+stmt_paid s (CoreStmt-F.Goto l k) ss env w = omega arith
 stmt_paid s (CoreStmt-F.Continue l) ss env w = omega arith
 stmt_paid s (CoreStmt-F.Break l) ss env w = omega arith
 stmt_paid s (CoreStmt-F.Return l e) ss env w = return_paid l e ss env w
@@ -162,10 +186,10 @@ pieces_paid p (i ∷ is) ss env w z = piece_paid p i is ss env w z
 
 -- labels
 body_paid : (k : ℕ) (s : CoreStmt) (at : ℕ) (x : CoreStmt-F CoreStmt) (ss : List Pending) (env : Env) (w : World) → 3 + pendings_credit ss ≤ k → BodyPaid k (done w) (body_next s at x ss env w)
-body_paid k s at (CoreStmt-F.Block l b qs) ss env w le =
+body_paid k s at (CoreStmt-F.Block l b ls qs) ss env w le =
     let v : World = pass Begin w in
     let more : done v ≡ done w + 1 = pass_work Begin w in
-    paid_more (4 + pendings_credit ss) k (done w) (done v) (enters b (drop at qs) ss env v) (omega (arith, le, more)) (enters_paid (4 + pendings_credit ss) b (drop at qs) ss env v (omega arith))
+    paid_more (4 + pendings_credit ss) k (done w) (done v) (enters s b (drop at qs) ss env v) (omega (arith, le, more)) (enters_paid (4 + pendings_credit ss) s b (drop at qs) ss env v (omega arith))
 body_paid k s at _ ss env w le = omega (arith, le)
 
 landed_paid : (k : ℕ) (s : CoreStmt) (at : Option ℕ) (ss : List Pending) (env : Env) (w : World) → 3 + pendings_credit ss ≤ k → BodyPaid k (done w) (landed_next s at (EndSwitch ∷ ss) env w)
@@ -191,28 +215,39 @@ labels_paid [] n default s ss env w z = landed_paid _ s default ss env w (omega 
 labels_paid (l ∷ ls) n default s ss env w z = label_paid l.value l.at ls n default s ss env w z
 
 -- what is pending
-rest_paid : (way : Way) (qs : List CoreStmt) (ss : List Pending) (env : Env) (w : World) → BodyPaid (2 + (1 + pendings_credit ss)) (done w) (rest_next way qs ss env w)
-rest_paid Normal [] ss env w = omega arith
-rest_paid Normal (q ∷ qs) ss env w = omega arith
-rest_paid Broke qs ss env w = omega arith
-rest_paid Continued qs ss env w = omega arith
-rest_paid (Returned a) qs ss env w = omega arith
+resumed_paid : (s : CoreStmt) (at : ℕ) (x : CoreStmt-F CoreStmt) (ss : List Pending) (env : Env) (w : World) → BodyPaid (3 + (1 + pendings_credit ss)) (done w) (resumed_next s at x ss env w)
+resumed_paid s at (CoreStmt-F.Block l b ls qs) ss env w = omega arith
+resumed_paid s at _ ss env w = omega arith
+
+jumped_paid : (s : CoreStmt) (k : ℕ) (at : Option ℕ) (ss : List Pending) (env : Env) (w : World) → BodyPaid (3 + (1 + pendings_credit ss)) (done w) (jumped_next s k at ss env w)
+jumped_paid s k None ss env w = omega arith
+jumped_paid s k (Some at) ss env w = resumed_paid s at (out-CoreStmt s) ss env w
+
+rest_paid : (way : Way) (s : CoreStmt) (qs : List CoreStmt) (ss : List Pending) (env : Env) (w : World) → BodyPaid (way_credit way + (1 + pendings_credit ss)) (done w) (rest_next way s qs ss env w)
+rest_paid Normal s [] ss env w = omega arith
+rest_paid Normal s (q ∷ qs) ss env w = omega arith
+rest_paid Broke s qs ss env w = omega arith
+rest_paid Continued s qs ss env w = omega arith
+rest_paid (Jumped k) s qs ss env w = jumped_paid s k (place_in k (out-CoreStmt s)) ss env w
+rest_paid (Returned a) s qs ss env w = omega arith
 
 switch_paid : (k : ℕ) (way : Way) (ss : List Pending) (env : Env) (w : World) → pendings_credit ss ≤ k → BodyPaid k (done w) (switch_next way ss env w)
 switch_paid k Normal ss env w le = ends_paid k Normal ss env w le
 switch_paid k Broke ss env w le = ends_paid k Normal ss env w le
 switch_paid k Continued ss env w le = ends_paid k Continued ss env w le
+switch_paid k (Jumped l) ss env w le = ends_paid k (Jumped l) ss env w le
 switch_paid k (Returned a) ss env w le = ends_paid k (Returned a) ss env w le
 
 round_paid : (k : ℕ) (way : Way) (again : World → Advanced) (ss : List Pending) (env : Env) (w : World) → pendings_credit ss ≤ k → BodyPaid k (done w) (again w) → BodyPaid k (done w) (goes_round way again ss env w)
 round_paid k Normal again ss env w le q = q
 round_paid k Continued again ss env w le q = q
 round_paid k Broke again ss env w le q = ends_paid k Normal ss env w le
+round_paid k (Jumped l) again ss env w le q = ends_paid k (Jumped l) ss env w le
 round_paid k (Returned a) again ss env w le q = ends_paid k (Returned a) ss env w le
 
-third_paid : (x : Option CoreExpr) (s : CoreStmt) (ss : List Pending) (env : Env) (w : World) → BodyPaid (2 + (2 + pendings_credit ss)) (done w) (third_next x s ss env w)
-third_paid None s ss env w = omega arith
-third_paid (Some e) s ss env w = within_paid _ e (Turns s) ss env w (omega arith)
+third_paid : (k : ℕ) (x : Option CoreExpr) (s : CoreStmt) (ss : List Pending) (env : Env) (w : World) → 4 + pendings_credit ss ≤ k → BodyPaid k (done w) (third_next x s ss env w)
+third_paid k None s ss env w le = omega (arith, le)
+third_paid k (Some e) s ss env w le = within_paid k e (Turns s) ss env w (omega (arith, le))
 
 block_paid : (k : ℕ) (way : Way) (ids : List ℕ) (ss : List Pending) (env : Env) (w : World) → pendings_credit ss ≤ k → BodyPaid k (done w) (ends way ss env (pass CloseBlock (all_dead ids w)))
 block_paid k way ids ss env w le =
@@ -220,17 +255,19 @@ block_paid k way ids ss env w le =
     let more : done w ≤ done v = leads_work w v (and_more CloseBlock w (all_dead ids w) (deaths_lead ids w)) in
     paid_more k k (done w) (done v) (ends way ss env v) (omega (arith, more)) (ends_paid k way ss env v le)
 
-item_paid : (i : Pending) (way : Way) (ss : List Pending) (env : Env) (w : World) → BodyPaid (2 + (pending_credit i + pendings_credit ss)) (done w) (item_next i way ss env w)
+item_paid : (i : Pending) (way : Way) (ss : List Pending) (env : Env) (w : World) → BodyPaid (way_credit way + (pending_credit i + pendings_credit ss)) (done w) (item_next i way ss env w)
 item_paid End way ss env w = ends_paid _ way ss env w (omega arith)
-item_paid (Rest qs) way ss env w = rest_paid way qs ss env w
+item_paid (Rest s qs) way ss env w = rest_paid way s qs ss env w
 item_paid (EndBlock k) way ss env w = block_paid _ way (first_ids (drop k env.blocks)) ss (without_blocks k env) w (omega arith)
 item_paid EndSwitch way ss env w = switch_paid _ way ss env w (omega arith)
-item_paid (Again s) way ss env w = round_paid _ way (turns s ss env) ss env w (omega arith) (omega arith)
-item_paid (Check l e s) way ss env w = round_paid _ way (λ w. Lines l (within e (Repeat (type_of e) s)) ss env w) ss env w (omega arith) (line_paid _ l e (Repeat (type_of e) s) ss env w (omega arith))
-item_paid (Third x s) way ss env w = round_paid _ way (third_next x s ss env) ss env w (omega arith) (third_paid x s ss env w)
+item_paid (Again s) way ss env w = let least : 2 ≤ way_credit way = way_least way in round_paid _ way (turns s ss env) ss env w (omega arith) (omega (arith, least))
+item_paid (Check l e s) way ss env w =
+    let least : 2 ≤ way_credit way = way_least way in
+    round_paid _ way (λ w. Lines l (within e (Repeat (type_of e) s)) ss env w) ss env w (omega arith) (line_paid _ l e (Repeat (type_of e) s) ss env w (omega (arith, least)))
+item_paid (Third x s) way ss env w = let least : 2 ≤ way_credit way = way_least way in round_paid _ way (third_next x s ss env) ss env w (omega arith) (third_paid _ x s ss env w (omega (arith, least)))
 
-way_paid : (ss : List Pending) (way : Way) (env : Env) (w : World) → BodyPaid (2 + pendings_credit ss) (done w) (way_next ss way env w)
-way_paid [] way env w = omega arith
+way_paid : (ss : List Pending) (way : Way) (env : Env) (w : World) → BodyPaid (way_credit way + pendings_credit ss) (done w) (way_next ss way env w)
+way_paid [] way env w = let least : 2 ≤ way_credit way = way_least way in omega (arith, least)
 way_paid (i ∷ ss) way env w = item_paid i way ss env w
 
 -- a step within an expression

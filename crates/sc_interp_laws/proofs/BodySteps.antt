@@ -10,16 +10,16 @@ use Rattle.sc_core.specs.declared.statement.CoreStmt.TheOpen.{CoreStmt-F}
 use Rattle.sc_core.specs.declared.statement.SwitchLabel.{SwitchLabel}
 use Rattle.sc_core.specs.Types.{type_of}
 use Rattle.sc_meaning.specs.Values.{Value, Number, FunctionAt, Pointer, Byte, cells_of, scalar_size}
-use Rattle.sc_meaning.specs.World.{World, Born, Birth, Death, pass, Work, Begin, End as Ends, OpenBlock, CloseBlock, Put, tick}
+use Rattle.sc_meaning.specs.World.{World, Born, Birth, Death, pass, Work, Begin, End as Ends, Declares, OpenBlock, CloseBlock, Put, tick}
 use Rattle.sc_meaning.specs.Outcomes.{Outcome, Done, Over, BirthLimit, world_after}
 use Rattle.sc_meaning.specs.Violations.{reach_rule}
 use Rattle.sc_meaning.specs.Accesses.{tested, set_at, copy_at}
 use Rattle.sc_meaning.specs.Changes.{born}
-use Rattle.sc_meaning.specs.Expressions.{Env, Answer, used, base_of, further_of}
-use Rattle.sc_meaning.specs.Statements.{Way, Normal, Broke, Continued, Returned, born_autos, auto_kind, all_dead, block_autos, set_bytes, id_of, initial_structure, stmt_begun}
+use Rattle.sc_meaning.specs.Expressions.{Env, Answer, used, base_of, further_of, automatic_in}
+use Rattle.sc_meaning.specs.Statements.{Way, Normal, Broke, Continued, Jumped, Returned, place_in, born_autos, auto_kind, all_dead, block_autos, set_bytes, id_of, initial_structure, stmt_begun}
 use Rattle.sc_meaning.specs.Laws.{Leads}
 use Rattle.sc_interp_machine.specs.Machine as expr
-use Rattle.sc_interp_machine.specs.Bodies.{Advanced, GoesOn, Lines, then_goes as then_next, whether, within, ends, execs, turns, opened, enters, optional_next, first_next, return_next, stmt_next, holds_next, turn_next, tests, use_next, piece_next, pieces_next, body_next, landed_next, label_next, labels_next, rest_next, switch_next, goes_round, third_next, first_ids, item_next, way_next, expr_next, advance}
+use Rattle.sc_interp_machine.specs.Bodies.{Advanced, GoesOn, Lines, then_goes as then_next, whether, within, ends, execs, turns, opened, enters, optional_next, first_next, return_next, stmt_next, holds_next, turn_next, tests, use_next, piece_next, pieces_next, body_next, landed_next, label_next, labels_next, resumed_next, jumped_next, rest_next, switch_next, goes_round, third_next, first_ids, item_next, way_next, expr_next, advance}
 use Rattle.sc_interp_machine.specs.declared.body.Use.{Use}
 use Rattle.sc_interp_machine.specs.declared.body.Use.TheVariants.{Discard, Turns, Return, If, While, Repeat, For, Switch, Set, Copy}
 use Rattle.sc_interp_machine.specs.declared.body.Pending.{Pending}
@@ -120,8 +120,8 @@ module _ (O : OwnRoad) where
   whether_go true f g w p q = p
   whether_go false f g w p q = q
 
-  enters_go : (b : ℕ) (qs : List CoreStmt) (ss : List Pending) (env : Env) (w : World) → O.road.Goes w (body_left (enters b qs ss env w))
-  enters_go b qs ss env w = then_go w (born_autos (block_autos env b) [] w) (opened b qs ss env) (autos_go (block_autos env b) [] w) (λ ids u. O.road.quiet (OpenBlock (record { block = b; ids = ids })) u refl)
+  enters_go : (s : CoreStmt) (b : ℕ) (qs : List CoreStmt) (ss : List Pending) (env : Env) (w : World) → O.road.Goes w (body_left (enters s b qs ss env w))
+  enters_go s b qs ss env w = then_go w (born_autos (block_autos env b) [] w) (opened s b qs ss env) (autos_go (block_autos env b) [] w) (λ ids u. O.road.quiet (OpenBlock (record { block = b; ids = ids })) u refl)
 
   optional_go : (s : Option CoreStmt) (ss : List Pending) (env : Env) (w : World) → O.road.Goes w (body_left (optional_next s ss env w))
   optional_go None ss env w = O.road.here w
@@ -136,7 +136,8 @@ module _ (O : OwnRoad) where
   return_go l (Some e) ss env w = O.road.here w
 
   stmt_go : (s : CoreStmt) (x : CoreStmt-F CoreStmt) (ss : List Pending) (env : Env) (w : World) → O.road.Goes w (body_left (stmt_next s x ss env w))
-  stmt_go s (CoreStmt-F.Block l b qs) ss env w = enters_go b qs ss env w
+  stmt_go s (CoreStmt-F.Block l b ls qs) ss env w = enters_go s b qs ss env w
+  stmt_go s (CoreStmt-F.Initialize l b i pieces) ss env w = O.road.quiet (Declares (id_of (automatic_in env.blocks b i))) w refl
   stmt_go s (CoreStmt-F.For l f c x a) ss env w = first_go l f s ss env w
   stmt_go s (CoreStmt-F.Return l e) ss env w = return_go l e ss env w
   stmt_go s _ ss env w = O.road.here w
@@ -178,9 +179,9 @@ module _ (O : OwnRoad) where
   pieces_go p (i ∷ is) ss env w o = piece_go p i is ss env w o
 
   body_go : (s : CoreStmt) (at : ℕ) (x : CoreStmt-F CoreStmt) (ss : List Pending) (env : Env) (w : World) → O.road.Goes w (body_left (body_next s at x ss env w))
-  body_go s at (CoreStmt-F.Block l b qs) ss env w =
+  body_go s at (CoreStmt-F.Block l b ls qs) ss env w =
       let v : World = pass Begin w in
-      O.road.on w v (body_left (enters b (drop at qs) ss env v)) (O.road.quiet Begin w refl) (enters_go b (drop at qs) ss env v)
+      O.road.on w v (body_left (enters s b (drop at qs) ss env v)) (O.road.quiet Begin w refl) (enters_go s b (drop at qs) ss env v)
   body_go s at _ ss env w = O.road.here w
 
   landed_go : (s : CoreStmt) (at : Option ℕ) (ss : List Pending) (env : Env) (w : World) → O.road.Goes w (body_left (landed_next s at ss env w))
@@ -198,23 +199,34 @@ module _ (O : OwnRoad) where
   labels_go [] n default s ss env w = landed_go s default (EndSwitch ∷ ss) env w
   labels_go (l ∷ ls) n default s ss env w = label_go l.value l.at ls n default s ss env w
 
-  rest_go : (way : Way) (qs : List CoreStmt) (ss : List Pending) (env : Env) (w : World) → O.road.Goes w (body_left (rest_next way qs ss env w))
-  rest_go Normal [] ss env w = O.road.here w
-  rest_go Normal (q ∷ qs) ss env w = O.road.here w
-  rest_go Broke qs ss env w = O.road.here w
-  rest_go Continued qs ss env w = O.road.here w
-  rest_go (Returned a) qs ss env w = O.road.here w
+  resumed_go : (s : CoreStmt) (at : ℕ) (x : CoreStmt-F CoreStmt) (ss : List Pending) (env : Env) (w : World) → O.road.Goes w (body_left (resumed_next s at x ss env w))
+  resumed_go s at (CoreStmt-F.Block l b ls qs) ss env w = O.road.here w
+  resumed_go s at _ ss env w = O.road.here w
+
+  jumped_go : (s : CoreStmt) (k : ℕ) (at : Option ℕ) (ss : List Pending) (env : Env) (w : World) → O.road.Goes w (body_left (jumped_next s k at ss env w))
+  jumped_go s k None ss env w = O.road.here w
+  jumped_go s k (Some at) ss env w = resumed_go s at (out-CoreStmt s) ss env w
+
+  rest_go : (way : Way) (s : CoreStmt) (qs : List CoreStmt) (ss : List Pending) (env : Env) (w : World) → O.road.Goes w (body_left (rest_next way s qs ss env w))
+  rest_go Normal s [] ss env w = O.road.here w
+  rest_go Normal s (q ∷ qs) ss env w = O.road.here w
+  rest_go Broke s qs ss env w = O.road.here w
+  rest_go Continued s qs ss env w = O.road.here w
+  rest_go (Jumped k) s qs ss env w = jumped_go s k (place_in k (out-CoreStmt s)) ss env w
+  rest_go (Returned a) s qs ss env w = O.road.here w
 
   switch_go : (way : Way) (ss : List Pending) (env : Env) (w : World) → O.road.Goes w (body_left (switch_next way ss env w))
   switch_go Normal ss env w = O.road.quiet Ends w refl
   switch_go Broke ss env w = O.road.quiet Ends w refl
   switch_go Continued ss env w = O.road.quiet Ends w refl
+  switch_go (Jumped k) ss env w = O.road.quiet Ends w refl
   switch_go (Returned a) ss env w = O.road.quiet Ends w refl
 
   round_go : (way : Way) (again : World → Advanced) (ss : List Pending) (env : Env) (w : World) → O.road.Goes w (body_left (again w)) → O.road.Goes w (body_left (goes_round way again ss env w))
   round_go Normal again ss env w q = q
   round_go Continued again ss env w q = q
   round_go Broke again ss env w q = O.road.quiet Ends w refl
+  round_go (Jumped k) again ss env w q = O.road.quiet Ends w refl
   round_go (Returned a) again ss env w q = O.road.quiet Ends w refl
 
   third_go : (x : Option CoreExpr) (s : CoreStmt) (ss : List Pending) (env : Env) (w : World) → O.road.Goes w (body_left (third_next x s ss env w))
@@ -223,7 +235,7 @@ module _ (O : OwnRoad) where
 
   item_go : (i : Pending) (way : Way) (ss : List Pending) (env : Env) (w : World) → ((id : ℕ) → IsIn id (ids_of env.blocks) → O.Own id) → O.road.Goes w (body_left (item_next i way ss env w))
   item_go End way ss env w o = O.road.quiet Ends w refl
-  item_go (Rest qs) way ss env w o = rest_go way qs ss env w
+  item_go (Rest s qs) way ss env w o = rest_go way s qs ss env w
   item_go (EndBlock k) way ss env w o = block_go (first_ids (drop k env.blocks)) w (λ id p. o id (in_first id k env.blocks p))
   item_go EndSwitch way ss env w o = switch_go way ss env w
   item_go (Again s) way ss env w o = round_go way (turns s ss env) ss env w (O.road.here w)

@@ -4,7 +4,7 @@ use Rattle.sc_base.specs.declared.report.Rule.{Rule}
 use Rattle.sc_types.specs.declared.ctype.CType.{CType}
 use Rattle.sc_core.specs.declared.expression.CoreExpr.{CoreExpr}
 use Rattle.sc_meaning.specs.Values.{Value, Number, FunctionAt, Pointer}
-use Rattle.sc_meaning.specs.World.{World, tick}
+use Rattle.sc_meaning.specs.World.{World, GoesOut, ComesBack, pass, tick}
 use Rattle.sc_meaning.specs.Outcomes.{Outcome, Done, and_then, world_after, unless}
 use Rattle.sc_meaning.specs.Accesses.{tested}
 use Rattle.sc_meaning.specs.Versions.{Text, History, version_at}
@@ -47,10 +47,10 @@ module _ (h : History) (m : ℕ) where
 
   called_leads : (t : Text) (s : CType) (v : Value) (vs : List Value) (w : World) → Leads w (world_after (called h (call m h) t s v vs w))
   called_leads t s v vs w =
-      let x : World = tick w in
+      let x : World = pass GoesOut w in
       let r : Outcome Answer = unless (value_rule (version_at h x.count) t s v) (call_breach v x) (call_value (call m h) v vs) x in
-      then_leads w r (λ a w. finished a (tick w)) (on w x (world_after r) (one_more _ w) (tested_call (value_rule (version_at h x.count) t s v) v vs x))
-      (λ a u. on u (tick u) (tick (tick u)) (one_more _ u) (one_more _ (tick u)))
+      then_leads w r (λ a w. finished a (pass ComesBack w)) (on w x (world_after r) (one_more _ w) (tested_call (value_rule (version_at h x.count) t s v) v vs x))
+      (λ a u. on u (pass ComesBack u) (tick (pass ComesBack u)) (one_more _ u) (one_more _ (pass ComesBack u)))
 
   pub valued_leads : (env : Env) (e : CoreExpr) (w : World) → Leads w (world_after (valued (eval m h) env e w))
   valued_leads env e w = then_leads w (eval m h env e w) used (eval_leads m h env e w) used_leads

@@ -9,7 +9,7 @@ use Rattle.sc_core.specs.declared.expression.CoreExpr.TheOpen.{CoreExpr-F}
 use Rattle.sc_core.specs.Types.{type_of}
 use Rattle.std.proofs.Common.{Option, Some, None}
 use Rattle.sc_meaning.specs.Values.{Value, Number, int_of}
-use Rattle.sc_meaning.specs.World.{World, Work, pass, tick, named_in}
+use Rattle.sc_meaning.specs.World.{World, Work, GoesOut, ComesBack, pass, tick, named_in}
 use Rattle.sc_meaning.specs.Outcomes.{Outcome, Done, Over, and_then, world_after, world_at}
 use Rattle.sc_meaning.specs.Accesses.{stored, copied, computed, difference, compared, tested}
 use Rattle.sc_meaning.specs.Expressions.{Env, Answer, finished, plain, at_place, used, base_of, further_of, static_at, address, conversion, is_void, cast, offset_by, stepped, unary, truth, assigned_structure, compounded, moved_by, begun}
@@ -30,7 +30,7 @@ use Rattle.sc_interp_machine.specs.declared.pending.Mode.TheVariants.{Eval, Give
 use Rattle.sc_interp_laws.specs.Paid.{done, is_conversion, is_single, begin_credit, mode_credit, item_credit, items_credit, ExprPaid, mode_pays}
 use Rattle.sc_interp_laws.proofs.Road.{Happening}
 use Rattle.sc_interp_laws.proofs.Parts.{used_goes, tested_goes, conversion_goes, address_goes, stepped_goes, unary_goes, offset_goes, computed_goes, difference_goes, compared_goes, stored_goes, compounded_goes, moved_goes}
-use Rattle.sc_interp_laws.proofs.Works.{leads_work, tick_work}
+use Rattle.sc_interp_laws.proofs.Works.{leads_work, pass_work, tick_work}
 
 -- a part that is done did a unit of work at least; work is never lost
 abbrev pub Earns : {A : Type 0} → ℕ → Outcome A → Type 0
@@ -96,7 +96,9 @@ single_earns (single.Unary o t) a w z =
     then_earns (done w) (used a w) _ (used_keeps a w) (λ x u. plain_earns u (unary o t x u) (leads_work u (world_after (unary o t x u)) (unary_goes Happening o t x u)))
 single_earns (single.Cast t) a w z = cast_earns (is_void t) t a w
 single_earns (single.Convert from to) a w z = absurd (omega (arith, z))
-single_earns single.Back a w z = earns_less (done w) (done (tick w)) (finished a (tick w)) (leads_work w (tick w) (one_more (Work 1) w)) (ticked (tick w))
+single_earns single.Back a w z =
+    let v : World = pass ComesBack w in
+    earns_less (done w) (done v) (finished a v) (leads_work w v (one_more ComesBack w)) (ticked v)
 
 pair_earns : (p : Pair) (x y : Value) (w : World) → Earns (done w) (pair_of p x y w)
 pair_earns (pair.Index size s t) x y w = place_earns w (offset_by op.Add size s t x y w) (leads_work w (world_after (offset_by op.Add size s t x y w)) (offset_goes Happening op.Add size s t x y w))
@@ -151,7 +153,7 @@ whether_paid k v true f g w p q = p
 whether_paid k v false f g w p q = q
 
 args_paid : (k : ℕ) (t : CType) (v : Value) (es : List CoreExpr) (vs : List Value) (is : List Item) (w : World) → k ≡ 4 + items_credit is → ExprPaid k (done w) (args_next t v es vs is w)
-args_paid k t v [] vs is w same = let more : done (tick w) ≡ done w + 1 = tick_work w in omega (arith, same, more)
+args_paid k t v [] vs is w same = let more : done (pass GoesOut w) ≡ done w + 1 = pass_work GoesOut w in omega (arith, same, more)
 args_paid k t v (e ∷ es) vs is w same = enters k e (Argument t v es vs) is w same refl
 
 item_paid : (k : ℕ) (i : Item) (a : Answer) (is : List Item) (w : World) → k ≡ 4 + items_credit is → item_credit i ≡ 0 → ExprPaid k (done w) (item_next i a is w)

@@ -1,11 +1,11 @@
 -- A step of an expression goes along the ways.
-use Rattle.std.proofs.Common.{Bool, true, false, List, [], ◌∷◌, ◌++◌}
+use Rattle.std.proofs.Common.{Bool, true, false, List, [], ◌∷◌, ◌++◌, refl}
 use Rattle.sc_types.specs.declared.ctype.CType.{CType}
 use Rattle.sc_core.specs.declared.expression.CoreExpr.{CoreExpr, out-CoreExpr}
 use Rattle.sc_core.specs.declared.expression.CoreExpr.TheOpen.{CoreExpr-F}
 use Rattle.sc_program.specs.declared.storage.StaticId.TheVariants as id
 use Rattle.sc_meaning.specs.Values.{Value, Number}
-use Rattle.sc_meaning.specs.World.{World, named_in}
+use Rattle.sc_meaning.specs.World.{World, GoesOut, named_in}
 use Rattle.sc_meaning.specs.Outcomes.{Outcome, Done, Over, world_after}
 use Rattle.sc_meaning.specs.Accesses.{tested}
 use Rattle.sc_meaning.specs.Expressions.{Env, Answer, used, plain, begun, assigned_structure, static_at}
@@ -34,7 +34,7 @@ module _ (S : Road) where
   whether_go false f g w p q = q
 
   args_go : (t : CType) (v : Value) (es : List CoreExpr) (vs : List Value) (is : List Item) (w : World) → S.Goes w (expr_left (args_next t v es vs is w))
-  args_go t v [] vs is w = works S 1 w
+  args_go t v [] vs is w = S.quiet GoesOut w refl
   args_go t v (e ∷ es) vs is w = S.here w
 
   next_goes : (env : Env) (x : CoreExpr-F CoreExpr) (is : List Item) (w : World) → S.Goes w (expr_left (expr_next env x is w))

@@ -6,7 +6,7 @@ use Rattle.sc_base.specs.declared.report.Rule.{Rule}
 use Rattle.sc_rules.specs.Tests as tests
 use Rattle.sc_rules.specs.Orders as orders
 use Rattle.sc_meaning.specs.Values.{Value, Number, FunctionAt, Pointer, Cell, Byte, cells_of}
-use Rattle.sc_meaning.specs.World.{World, Object, Item, Work, Begin, End, Happens, Birth, Death, Put, Copy, TakeFree, TakeNew, Give, Stack, Read, Seed, Push, Pop, OpenBlock, CloseBlock, Name, Unname, object_at, with_object, written, overwritten, cells_at, changes_of, pass, tick, fresh, free_of}
+use Rattle.sc_meaning.specs.World.{World, Object, Item, Work, Begin, End, GoesOut, ComesBack, Declares, Happens, Birth, Death, Put, Copy, TakeFree, TakeNew, Give, Stack, Read, Seed, Push, Pop, OpenBlock, CloseBlock, Name, Unname, object_at, with_object, written, overwritten, cells_at, changes_of, pass, tick, fresh, free_of}
 use Rattle.sc_meaning.specs.Outcomes.{Outcome, Done, Over, BirthLimit, Breach, and_then, world_after, unless, went, access_breach}
 use Rattle.sc_meaning.specs.Violations.{store_rule, write_rule, free_rule, is_null, of_object}
 use Rattle.sc_meaning.specs.Accesses.{copy_at}
@@ -83,6 +83,9 @@ free_heap : (i : Item) (w : World) → changes_of i ≡ [] → IsOfHeap w i
 free_heap (Work n) w e = tt
 free_heap Begin w e = tt
 free_heap End w e = tt
+free_heap GoesOut w e = tt
+free_heap ComesBack w e = tt
+free_heap (Declares id) w e = tt
 free_heap (Happens x) w e = tt
 free_heap (Birth size kind) w e = absurd (cc)
 free_heap (Death id) w e = absurd (cc)

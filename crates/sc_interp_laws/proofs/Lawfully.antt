@@ -3,7 +3,7 @@ use Rattle.std.proofs.Common.{◌≡◌, inl, inr, ℕ, ◌+◌, Bool, true, fal
 use Rattle.sc_rules.specs.Tests as tests
 use Rattle.sc_rules.specs.Orders as orders
 use Rattle.sc_meaning.specs.Values.{Value, Number, FunctionAt, Pointer, Cell, cells_of}
-use Rattle.sc_meaning.specs.World.{World, Object, Item, Work, Begin, End, Happens, Birth, Death, Put, Copy, TakeFree, TakeNew, Give, Stack, Read, Seed, Push, Pop, OpenBlock, CloseBlock, Name, Unname, object_at, changes_of, pass, passed}
+use Rattle.sc_meaning.specs.World.{World, Object, Item, Work, Begin, End, GoesOut, ComesBack, Declares, Happens, Birth, Death, Put, Copy, TakeFree, TakeNew, Give, Stack, Read, Seed, Push, Pop, OpenBlock, CloseBlock, Name, Unname, object_at, changes_of, pass, passed}
 use Rattle.sc_meaning.specs.Violations.{store_rule, write_rule, is_null, is_dead, is_outside, is_misaligned, is_constant, of_object}
 use Rattle.sc_meaning.specs.Accesses.{set_at, copy_at}
 use Rattle.sc_meaning.specs.Expressions.{Env}
@@ -103,6 +103,9 @@ free_write : (i : Item) (w : World) → changes_of i ≡ [] → IsWrite w i
 free_write (Work n) w e = tt
 free_write Begin w e = tt
 free_write End w e = tt
+free_write GoesOut w e = tt
+free_write ComesBack w e = tt
+free_write (Declares id) w e = tt
 free_write (Happens x) w e = tt
 free_write (Birth size kind) w e = absurd (cc)
 free_write (Death id) w e = absurd (cc)
@@ -132,6 +135,9 @@ module _ (own : List ℕ) where
   free_own (Work n) w e = tt
   free_own Begin w e = tt
   free_own End w e = tt
+  free_own GoesOut w e = tt
+  free_own ComesBack w e = tt
+  free_own (Declares id) w e = tt
   free_own (Happens x) w e = tt
   free_own (Birth size kind) w e = absurd (cc)
   free_own (Death id) w e = absurd (cc)

@@ -15,3 +15,4 @@ pub mod Moves
 pub mod Heap
 pub mod LibraryLawful
 pub mod RunLawful
+pub mod Told

@@ -8,7 +8,7 @@ use Rattle.sc_program.specs.declared.storage.StaticId.TheVariants.{Named, Litera
 use Rattle.sc_core.specs.declared.module.Auto.{Auto}
 use Rattle.sc_core.specs.declared.module.Fun.{Fun}
 use Rattle.sc_meaning.specs.Values.{Value, Number, FunctionAt, Pointer, cells_of}
-use Rattle.sc_meaning.specs.World.{World, Item, Event, Work, Begin, End, Happens, Birth, Death, Put, Copy, TakeFree, TakeNew, Give, Stack, Read, Seed, Push, Pop, OpenBlock, CloseBlock, Name, Unname, Born, Enter, Leave, changes_of, work_of, named_in, pass}
+use Rattle.sc_meaning.specs.World.{World, Item, Event, Work, Begin, End, GoesOut, ComesBack, Declares, Happens, Birth, Death, Put, Copy, TakeFree, TakeNew, Give, Stack, Read, Seed, Push, Pop, OpenBlock, CloseBlock, Name, Unname, Born, Enter, Leave, changes_of, work_of, named_in, pass}
 use Rattle.sc_meaning.specs.Outcomes.{Outcome, Done, Over, BirthLimit, world_at, world_after}
 use Rattle.sc_meaning.specs.Accesses.{set_at, copy_at}
 use Rattle.sc_meaning.specs.Versions.{Text, Version, History, Definition, Callee, Missing, InText, InLibrary, callee_of, version_at, object_in, births_of, is_kept}
@@ -63,6 +63,9 @@ quiet_backs : (i : Item) (w : World) → changes_of i ≡ [] → Backed w (pass 
 quiet_backs (Work n) w e = backs (Work n) w (omega arith)
 quiet_backs Begin w e = backs Begin w (omega arith)
 quiet_backs End w e = backs End w (omega arith)
+quiet_backs GoesOut w e = backs GoesOut w (omega arith)
+quiet_backs ComesBack w e = backs ComesBack w (omega arith)
+quiet_backs (Declares id) w e = backs (Declares id) w (omega arith)
 quiet_backs (Happens x) w e = backs (Happens x) w (omega arith)
 quiet_backs (Birth size kind) w e = absurd (cc)
 quiet_backs (Death id) w e = absurd (cc)

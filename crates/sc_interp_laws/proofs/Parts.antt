@@ -1,5 +1,5 @@
 -- The parts of an expression go along the ways.
-use Rattle.std.proofs.Common.{ℕ, Bool, true, false, if◌then◌else◌, Option, Some, None}
+use Rattle.std.proofs.Common.{ℕ, Bool, true, false, if◌then◌else◌, Option, Some, None, refl}
 use Rattle.sc_base.specs.declared.integer.Int.{Int}
 use Rattle.sc_base.specs.declared.integer.Int.TheVariants.{UInt, Int as PlainInt}
 use Rattle.sc_base.specs.declared.key.Key.{Key}
@@ -14,7 +14,7 @@ use Rattle.sc_core.specs.declared.expression.Step.{Step}
 use Rattle.sc_core.specs.declared.expression.UnaryOperator.{UnaryOperator}
 use Rattle.sc_core.specs.declared.expression.UnaryOperator.TheVariants.{Plus, Minus, Complement, Not}
 use Rattle.sc_meaning.specs.Values.{Value, Number, null, is_pointer_type, int_of, scalar_size}
-use Rattle.sc_meaning.specs.World.{World, Work, pass, tick}
+use Rattle.sc_meaning.specs.World.{World, Work, ComesBack, pass, tick}
 use Rattle.sc_meaning.specs.Outcomes.{Outcome, Done, and_then, world_after}
 use Rattle.sc_meaning.specs.Violations.{load_rule, store_rule, reach_rule, write_rule, integer_rule, shift_rule, difference_rule, truth_rule}
 use Rattle.sc_meaning.specs.Accesses.{as_type, converted_value, loaded, stored, computed, shifted, difference, compared, compare_rule, tested, steps_of, copy_at}
@@ -156,7 +156,9 @@ module _ (S : Road) where
   single_goes (Unary o t) a w = then_goes S w (used a w) _ (used_goes a w) (λ x u. then_plain u (unary o t x u) (unary_goes o t x u))
   single_goes (Cast t) a w = cast_goes (is_void t) t a w
   single_goes (Convert from to) a w = conversion_goes from to a w
-  single_goes Back a w = S.on w (tick w) (tick (tick w)) (works S 1 w) (works S 1 (tick w))
+  single_goes Back a w =
+      let v : World = pass ComesBack w in
+      S.on w v (tick v) (S.quiet ComesBack w refl) (works S 1 v)
 
   pub pair_goes : (p : Pair) (x y : Value) (w : World) → S.Goes w (world_after (pair_of p x y w))
   pair_goes (Index size s t) x y w = then_place w (offset_by op.Add size s t x y w) (offset_goes op.Add size s t x y w)

@@ -8,6 +8,7 @@ use Rattle.sc_core.specs.declared.statement.SwitchLabel.{SwitchLabel}
 use Rattle.sc_meaning.specs.World.{World, work}
 use Rattle.sc_meaning.specs.Outcomes.{world_at}
 use Rattle.sc_meaning.specs.Versions.{History}
+use Rattle.sc_meaning.specs.Statements.{Way, Jumped}
 use Rattle.sc_interp_laws.specs.Worlds.{world_of}
 use Rattle.sc_interp_machine.specs.Machine as expr
 use Rattle.sc_interp_machine.specs.Bodies as body
@@ -78,7 +79,7 @@ use_credit _ = 0
 
 abbrev pub pending_credit : Pending → ℕ
 pending_credit End = 0
-pending_credit (Rest qs) = 1
+pending_credit (Rest s qs) = 1
 pending_credit (EndBlock k) = 0
 pending_credit EndSwitch = 0
 pending_credit (Again s) = 2
@@ -101,11 +102,16 @@ abbrev pub default_credit : Bool → ℕ
 default_credit true = 1
 default_credit false = 0
 
+-- a jump has yet to find the block that has its label
+abbrev pub way_credit : Way → ℕ
+way_credit (Jumped k) = 3
+way_credit _ = 2
+
 abbrev pub doing_credit : Doing → ℕ
 doing_credit (Within mode is u) = mode_credit mode + items_credit is + use_credit u
 doing_credit (Exec s) = 0
 doing_credit (Turn s) = 3
-doing_credit (Leave way) = 2
+doing_credit (Leave way) = way_credit way
 doing_credit (Pieces p is) = 3
 doing_credit (Labels ls n default s) = 3 + default_credit (has_default ls)
 

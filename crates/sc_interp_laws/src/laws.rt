@@ -2,7 +2,8 @@
 ghost use Rattle.std.specs.Prelude.{◌≡◌, ◌+◌, ◌*◌, ◌<◌, ◌≤◌, true, List, [], ℕ};
 ghost use Rattle.sc_base.specs.declared.key.Key.{Key};
 ghost use Rattle.sc_meaning.specs.Values.{Value};
-ghost use Rattle.sc_meaning.specs.World.{Event, Happens, World, events, pass};
+ghost use Rattle.sc_meaning.specs.World.{At, Event, Frame, Happens, Item as Happening, World, events, pass};
+ghost use Rattle.sc_meaning.specs.Marks.{declares_in, marked_by};
 ghost use Rattle.sc_meaning.specs.Outcomes.{Outcome, went, world_after};
 ghost use Rattle.sc_meaning.specs.Changes.{happened};
 ghost use Rattle.sc_meaning.specs.Functions.{library_call};
@@ -97,4 +98,11 @@ pub fn calls_of_the_library_change_what_they_may()
 #[tactic(auto, using(crate::proofs::RunLawful::advance_lawful))]
 pub fn runs_change_what_they_may()
     ensures { (h : History) → ((e : Event) (w : World) → happened h e w ≡ went (pass (Happens e) w)) → (s : whole.State) → Lawfully s (world_of (whole.advance h s)) }
+{}
+
+/// At a line, the trail says which object the call that reached it initialises there: the one that the mark just before the
+/// line names, and none where no such mark stands there.
+#[tactic(auto, using(crate::proofs::Told::line_tells))]
+pub fn lines_tell_what_is_initialised()
+    ensures { (w : World) (f : Frame) (i : Happening) (home : List ℕ) (line : ℕ) → declares_in (pass (Happens (At home line f.enter)) (pass i w)) f ≡ marked_by i }
 {}

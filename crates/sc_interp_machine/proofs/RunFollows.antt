@@ -11,7 +11,7 @@ use Rattle.sc_meaning.specs.Changes.{happened, reached}
 use Rattle.sc_meaning.specs.Expressions.{Env, Answer, either, value_rule, call_breach, call_value}
 use Rattle.sc_meaning.specs.Statements.{Way}
 use Rattle.sc_meaning.specs.Functions.{library_call}
-use Rattle.sc_meaning.specs.Calls.{eval, exec, turn, call, call_of, full, entered, parameters, frame_of, body_of, left}
+use Rattle.sc_meaning.specs.Calls.{eval, exec, turn, resume, call, call_of, full, entered, parameters, frame_of, body_of, left}
 use Rattle.sc_interp_machine.specs.Bodies as body
 use Rattle.sc_interp_machine.specs.BodyMeans as rest
 use Rattle.sc_interp_machine.specs.Runs.{Active, Caller, State, Runs, Makes, Answers, Ends, then_goes, answers, body_next, begins, enters, callee_next, value_next, made_unless, advance, ran}
@@ -32,7 +32,7 @@ weaker h n (c ∷ cs) r out p =
 -- an end goes through all callers
 use_over : (h : History) (n : ℕ) (u : Use) (ss : List Pending) (env : Env) (r : Outcome Answer) (e : Ending) (v : Outcome Way) → Over e ≡ r → rest.AfterUse h n u ss env r v → Over e ≡ v
 use_over h n u ss env r e v same p =
-    bodies.over h n ss env e v (subst (λ q. rest.After h n ss env (and_then q (rest.use_of (eval p.0 h) (exec p.0 h) (turn p.0 h) env u)) v) (sym same) p.2)
+    bodies.over h n ss env e v (subst (λ q. rest.After h n ss env (and_then q (rest.use_of (eval p.0 h) (exec p.0 h) (turn p.0 h) (resume p.0 h) env u)) v) (sym same) p.2)
 
 pub over : (h : History) (n : ℕ) (cs : List Caller) (e : Ending) (out : Outcome Answer) → After h n cs (Over e) out → Over e ≡ out
 over h n [] e out p = p

@@ -10,14 +10,14 @@ use Rattle.sc_core.specs.declared.statement.CoreStmt.TheOpen.{CoreStmt-F}
 use Rattle.sc_core.specs.declared.statement.SwitchLabel.{SwitchLabel}
 use Rattle.sc_core.specs.Types.{type_of}
 use Rattle.sc_meaning.specs.Values.{Value, scalar_size}
-use Rattle.sc_meaning.specs.World.{World, Born, pass, Work, Begin, End as Ends, OpenBlock, CloseBlock, tick}
+use Rattle.sc_meaning.specs.World.{World, Born, pass, Work, Begin, End as Ends, Declares, OpenBlock, CloseBlock, tick}
 use Rattle.sc_meaning.specs.Outcomes.{Outcome, Done, Over, Ending}
 use Rattle.sc_meaning.specs.Violations.{bits}
 use Rattle.sc_meaning.specs.Accesses.{tested, set_at}
 use Rattle.sc_meaning.specs.Versions.{History}
 use Rattle.sc_meaning.specs.Changes.{reached}
 use Rattle.sc_meaning.specs.Expressions.{Env, Answer, Plain, Nothing, used, automatic_in}
-use Rattle.sc_meaning.specs.Statements.{Way, Normal, Broke, Continued, Returned, born_autos, all_dead, block_autos, with_block, set_bytes, id_of, initial_structure, stmt_begun}
+use Rattle.sc_meaning.specs.Statements.{Way, Normal, Broke, Continued, Jumped, Returned, place_in, born_autos, all_dead, block_autos, with_block, set_bytes, id_of, initial_structure, stmt_begun}
 use Rattle.sc_interp_machine.specs.Machine as expr
 use Rattle.sc_interp_machine.specs.declared.pending.Item.{Item}
 use Rattle.sc_interp_machine.specs.declared.pending.Mode.TheVariants.{Eval}
@@ -62,13 +62,13 @@ abbrev pub turns : CoreStmt → List Pending → Env → World → Advanced
 turns s ss env w = GoesOn (Turn s) ss env w
 
 -- the objects of a block are born, and it is entered
-abbrev pub opened : ℕ → List CoreStmt → List Pending → Env → List ℕ → World → Advanced
-opened b qs ss env ids w =
+abbrev pub opened : CoreStmt → ℕ → List CoreStmt → List Pending → Env → List ℕ → World → Advanced
+opened s b qs ss env ids w =
     let born : Born = record { block = b; ids = ids } in
-    leaves Normal (Rest qs ∷ EndBlock (length env.blocks) ∷ ss) (with_block env born) (pass (OpenBlock born) w)
+    leaves Normal (Rest s qs ∷ EndBlock (length env.blocks) ∷ ss) (with_block env born) (pass (OpenBlock born) w)
 
-abbrev pub enters : ℕ → List CoreStmt → List Pending → Env → World → Advanced
-enters b qs ss env w = then_goes (born_autos (block_autos env b) [] w) (opened b qs ss env)
+abbrev pub enters : CoreStmt → ℕ → List CoreStmt → List Pending → Env → World → Advanced
+enters s b qs ss env w = then_goes (born_autos (block_autos env b) [] w) (opened s b qs ss env)
 
 abbrev pub optional_next : Option CoreStmt → List Pending → Env → World → Advanced
 optional_next None ss env w = leaves Normal ss env w
@@ -83,9 +83,12 @@ abbrev pub return_next : ℕ → Option CoreExpr → List Pending → Env → Wo
 return_next l None ss env w = Lines l (Leave (Returned Nothing)) (End ∷ ss) env w
 return_next l (Some e) ss env w = Lines l (within e Return) ss env w
 
+abbrev pub declares_next : ℕ → Value → List AutoInit → List Pending → Env → World → Advanced
+declares_next l p pieces ss env w = Lines l (Pieces p pieces) ss env (pass (Declares (id_of p)) w)
+
 abbrev pub stmt_next : CoreStmt → CoreStmt-F CoreStmt → List Pending → Env → World → Advanced
-stmt_next s (CoreStmt-F.Block l b qs) ss env w = enters b qs ss env w
-stmt_next s (CoreStmt-F.Initialize l b i pieces) ss env w = Lines l (Pieces (automatic_in env.blocks b i) pieces) ss env w
+stmt_next s (CoreStmt-F.Block l b ls qs) ss env w = enters s b qs ss env w
+stmt_next s (CoreStmt-F.Initialize l b i pieces) ss env w = declares_next l (automatic_in env.blocks b i) pieces ss env w
 stmt_next s (CoreStmt-F.Empty l) ss env w = Lines l (Leave Normal) (End ∷ ss) env w
 stmt_next s (CoreStmt-F.Expression l e) ss env w = Lines l (within e Discard) ss env w
 stmt_next s (CoreStmt-F.If l e a b) ss env w = Lines l (within e (If (type_of e) a b)) ss env w
@@ -95,6 +98,8 @@ stmt_next s (CoreStmt-F.Do l a m e) ss env w = turns s ss env w
 stmt_next s (CoreStmt-F.For l f c x a) ss env w = first_next l f s ss env w
 stmt_next s (CoreStmt-F.Case l a) ss env w = execs a (End ∷ ss) env w
 stmt_next s (CoreStmt-F.Default l a) ss env w = execs a (End ∷ ss) env w
+stmt_next s (CoreStmt-F.Label l a) ss env w = execs a (End ∷ ss) env w
+stmt_next s (CoreStmt-F.Goto l k) ss env w = Lines l (Leave (Jumped k)) (End ∷ ss) env w
 stmt_next s (CoreStmt-F.Continue l) ss env w = Lines l (Leave Continued) (End ∷ ss) env w
 stmt_next s (CoreStmt-F.Break l) ss env w = Lines l (Leave Broke) (End ∷ ss) env w
 stmt_next s (CoreStmt-F.Return l e) ss env w = return_next l e ss env w
@@ -140,7 +145,7 @@ pieces_next p (i ∷ is) ss env w = piece_next p i is ss env w
 
 -- the labels of a switch, and where it goes on
 abbrev pub body_next : CoreStmt → ℕ → CoreStmt-F CoreStmt → List Pending → Env → World → Advanced
-body_next s at (CoreStmt-F.Block l b qs) ss env w = enters b (drop at qs) ss env (pass Begin w)
+body_next s at (CoreStmt-F.Block l b ls qs) ss env w = enters s b (drop at qs) ss env (pass Begin w)
 body_next s at _ ss env w = execs s ss env w
 
 abbrev pub landed_next : CoreStmt → Option ℕ → List Pending → Env → World → Advanced
@@ -156,18 +161,29 @@ abbrev pub labels_next : List SwitchLabel → ℕ → Option ℕ → CoreStmt �
 labels_next [] n default s ss env w = landed_next s default (EndSwitch ∷ ss) env w
 labels_next (l ∷ ls) n default s ss env w = label_next l.value l.at ls n default s ss env w
 
+-- a jump: the block that is open goes on at the label, where this stands in its list
+abbrev pub resumed_next : CoreStmt → ℕ → CoreStmt-F CoreStmt → List Pending → Env → World → Advanced
+resumed_next s at (CoreStmt-F.Block l b ls qs) ss env w = leaves Normal (Rest s (drop at qs) ∷ ss) env w
+resumed_next s at _ ss env w = leaves Normal ss env w
+
+abbrev pub jumped_next : CoreStmt → ℕ → Option ℕ → List Pending → Env → World → Advanced
+jumped_next s k None ss env w = leaves (Jumped k) ss env w
+jumped_next s k (Some at) ss env w = resumed_next s at (out-CoreStmt s) ss env w
+
 -- what is done with the way in which a statement was left
-abbrev pub rest_next : Way → List CoreStmt → List Pending → Env → World → Advanced
-rest_next Normal [] ss env w = leaves Normal ss env w
-rest_next Normal (q ∷ qs) ss env w = execs q (Rest qs ∷ ss) env w
-rest_next Broke qs ss env w = leaves Broke ss env w
-rest_next Continued qs ss env w = leaves Continued ss env w
-rest_next (Returned a) qs ss env w = leaves (Returned a) ss env w
+abbrev pub rest_next : Way → CoreStmt → List CoreStmt → List Pending → Env → World → Advanced
+rest_next Normal s [] ss env w = leaves Normal ss env w
+rest_next Normal s (q ∷ qs) ss env w = execs q (Rest s qs ∷ ss) env w
+rest_next Broke s qs ss env w = leaves Broke ss env w
+rest_next Continued s qs ss env w = leaves Continued ss env w
+rest_next (Jumped k) s qs ss env w = jumped_next s k (place_in k (out-CoreStmt s)) ss env w
+rest_next (Returned a) s qs ss env w = leaves (Returned a) ss env w
 
 abbrev pub switch_next : Way → List Pending → Env → World → Advanced
 switch_next Normal ss env w = ends Normal ss env w
 switch_next Broke ss env w = ends Normal ss env w
 switch_next Continued ss env w = ends Continued ss env w
+switch_next (Jumped k) ss env w = ends (Jumped k) ss env w
 switch_next (Returned a) ss env w = ends (Returned a) ss env w
 
 -- after a turn
@@ -175,6 +191,7 @@ abbrev pub goes_round : Way → (World → Advanced) → List Pending → Env �
 goes_round Normal again ss env w = again w
 goes_round Continued again ss env w = again w
 goes_round Broke again ss env w = ends Normal ss env w
+goes_round (Jumped k) again ss env w = ends (Jumped k) ss env w
 goes_round (Returned a) again ss env w = ends (Returned a) ss env w
 
 abbrev pub third_next : Option CoreExpr → CoreStmt → List Pending → Env → World → Advanced
@@ -191,7 +208,7 @@ first_ids (b ∷ bs) = b.ids
 
 abbrev pub item_next : Pending → Way → List Pending → Env → World → Advanced
 item_next End way ss env w = ends way ss env w
-item_next (Rest qs) way ss env w = rest_next way qs ss env w
+item_next (Rest s qs) way ss env w = rest_next way s qs ss env w
 item_next (EndBlock k) way ss env w = ends way ss (without_blocks k env) (pass CloseBlock (all_dead (first_ids (drop k env.blocks)) w))
 item_next EndSwitch way ss env w = switch_next way ss env w
 item_next (Again s) way ss env w = goes_round way (turns s ss env) ss env w

@@ -10,8 +10,8 @@ use Rattle.sc_meaning.specs.Accesses.{tested, set_at}
 use Rattle.sc_meaning.specs.Versions.{History}
 use Rattle.sc_meaning.specs.Changes.{reached}
 use Rattle.sc_meaning.specs.Expressions.{Env, Answer, Plain, Eval as Evals, used, either}
-use Rattle.sc_meaning.specs.Statements.{Way, Normal, Returned, Exec as Execs, ended, after_stmt, stmts_of, block_ended, initial_structure, initials, condition_at, optional, label_of, landed, after_switch, after_turn, discarded_if}
-use Rattle.sc_meaning.specs.Calls.{eval, exec, turn, call}
+use Rattle.sc_meaning.specs.Statements.{Way, Normal, Returned, Exec as Execs, Resume, ended, after_list, after_stmt, stmts_of, block_ended, initial_structure, initials, condition_at, optional, label_of, landed, after_switch, after_turn, discarded_if}
+use Rattle.sc_meaning.specs.Calls.{eval, exec, turn, resume, call}
 use Rattle.sc_interp_machine.specs.Means as expr
 use Rattle.sc_interp_machine.specs.Bodies.{Advanced, GoesOn, Lines, CallsOut, Leaves, Breaks, without_blocks, first_ids}
 use Rattle.sc_interp_machine.specs.declared.body.Use.{Use}
@@ -28,32 +28,32 @@ tests_of t a f g w = and_then (used a w) (λ v w. and_then (tested t v w) (λ ye
 abbrev pub pieces_of : Evals → Env → Value → List AutoInit → World → Outcome Way
 pieces_of eval env p is w = and_then (initials eval env p is w) (λ _ w. Done Normal (tick w))
 
-abbrev pub use_of : Evals → Execs → Execs → Env → Use → Answer → World → Outcome Way
-use_of eval exec turn env Discard a w = ended Normal w
-use_of eval exec turn env (Turns s) a w = turn env s w
-use_of eval exec turn env Return a w = and_then (used a w) (λ v w. ended (Returned (Plain v)) w)
-use_of eval exec turn env (If t q r) a w =
+abbrev pub use_of : Evals → Execs → Execs → Resume → Env → Use → Answer → World → Outcome Way
+use_of eval exec turn again env Discard a w = ended Normal w
+use_of eval exec turn again env (Turns s) a w = turn env s w
+use_of eval exec turn again env Return a w = and_then (used a w) (λ v w. ended (Returned (Plain v)) w)
+use_of eval exec turn again env (If t q r) a w =
     and_then (used a w) (λ v w. and_then (tested t v w) (λ yes w. and_then (either yes (exec env q) (optional exec env r) w) ended))
-use_of eval exec turn env (While t s q) a w = tests_of t a (λ w. and_then (exec env q w) (λ way w. after_turn way (turn env s) w)) (ended Normal) w
-use_of eval exec turn env (Repeat t s) a w = tests_of t a (turn env s) (ended Normal) w
-use_of eval exec turn env (For t s x q) a w =
+use_of eval exec turn again env (While t s q) a w = tests_of t a (λ w. and_then (exec env q w) (λ way w. after_turn way (turn env s) w)) (ended Normal) w
+use_of eval exec turn again env (Repeat t s) a w = tests_of t a (turn env s) (ended Normal) w
+use_of eval exec turn again env (For t s x q) a w =
     tests_of t a (λ w. and_then (exec env q w) (λ way w. after_turn way (λ w. and_then (discarded_if eval env x w) (λ _ w. turn env s w)) w)) (ended Normal) w
-use_of eval exec turn env (Switch labels s) a w =
-    and_then (used a w) (λ v w. and_then (label_of labels (bits v) None w) (λ at w. and_then (landed exec env s at w) after_switch))
-use_of eval exec turn env (Set p at t is) a w =
+use_of eval exec turn again env (Switch labels s) a w =
+    and_then (used a w) (λ v w. and_then (label_of labels (bits v) None w) (λ at w. and_then (landed exec again env s at w) after_switch))
+use_of eval exec turn again env (Set p at t is) a w =
     and_then (used a w) (λ v w. pieces_of eval env p is (pass (Work (scalar_size t)) (set_at p at (scalar_size t) v w)))
-use_of eval exec turn env (Copy p size is) a w = and_then (initial_structure p size a w) (λ _ w. pieces_of eval env p is w)
+use_of eval exec turn again env (Copy p size is) a w = and_then (initial_structure p size a w) (λ _ w. pieces_of eval env p is w)
 
 -- what is done with the way in which an inner statement is left
-abbrev pub item_of : History → Evals → Execs → Execs → Env → Pending → Way → World → Outcome Way
-item_of h eval exec turn env End way w = ended way w
-item_of h eval exec turn env (Rest qs) way w = after_stmt way (stmts_of exec env qs) w
-item_of h eval exec turn env (EndBlock k) way w = block_ended (first_ids (drop k env.blocks)) way w
-item_of h eval exec turn env EndSwitch way w = after_switch way w
-item_of h eval exec turn env (Again s) way w = after_turn way (turn env s) w
-item_of h eval exec turn env (Check l e s) way w =
+abbrev pub item_of : History → Evals → Execs → Execs → Resume → Env → Pending → Way → World → Outcome Way
+item_of h eval exec turn again env End way w = ended way w
+item_of h eval exec turn again env (Rest s qs) way w = and_then (after_stmt way (stmts_of exec env qs) w) (after_list again env s)
+item_of h eval exec turn again env (EndBlock k) way w = block_ended (first_ids (drop k env.blocks)) way w
+item_of h eval exec turn again env EndSwitch way w = after_switch way w
+item_of h eval exec turn again env (Again s) way w = after_turn way (turn env s) w
+item_of h eval exec turn again env (Check l e s) way w =
     after_turn way (λ w. and_then (condition_at h eval env l e w) (λ yes w. either yes (turn env s) (ended Normal) w)) w
-item_of h eval exec turn env (Third x s) way w = after_turn way (λ w. and_then (discarded_if eval env x w) (λ _ w. turn env s w)) w
+item_of h eval exec turn again env (Third x s) way w = after_turn way (λ w. and_then (discarded_if eval env x w) (λ _ w. turn env s w)) w
 
 abbrev pub env_after : Pending → Env → Env
 env_after (EndBlock k) env = without_blocks k env
@@ -63,10 +63,10 @@ env_after _ env = env
 abbrev pub After : History → ℕ → List Pending → Env → Outcome Way → Outcome Way → Type 0
 After h n [] env r out = r ≡ out
 After h n (i ∷ ss) env r out =
-    (m : ℕ) × (n ≤ m) × After h n ss (env_after i env) (and_then r (item_of h (eval m h) (exec m h) (turn m h) env i)) out
+    (m : ℕ) × (n ≤ m) × After h n ss (env_after i env) (and_then r (item_of h (eval m h) (exec m h) (turn m h) (resume m h) env i)) out
 
 abbrev pub AfterUse : History → ℕ → Use → List Pending → Env → Outcome Answer → Outcome Way → Type 0
-AfterUse h n u ss env r out = (m : ℕ) × (n ≤ m) × After h n ss env (and_then r (use_of (eval m h) (exec m h) (turn m h) env u)) out
+AfterUse h n u ss env r out = (m : ℕ) × (n ≤ m) × After h n ss env (and_then r (use_of (eval m h) (exec m h) (turn m h) (resume m h) env u)) out
 
 -- out is what the whole body gives from here, where what is still done goes at least n deep
 abbrev pub Means : History → ℕ → Doing → List Pending → Env → World → Outcome Way → Type 0
@@ -76,7 +76,7 @@ Means h n (Turn s) ss env w out = (m : ℕ) × (n ≤ m) × After h n ss env (tu
 Means h n (Leave way) ss env w out = After h n ss env (Done way w) out
 Means h n (Pieces p is) ss env w out = (m : ℕ) × (n ≤ m) × After h n ss env (pieces_of (eval m h) env p is w) out
 Means h n (Labels ls k default s) ss env w out =
-    (m : ℕ) × (n ≤ m) × After h n ss env (and_then (label_of ls k default w) (λ at w. and_then (landed (exec m h) env s at w) after_switch)) out
+    (m : ℕ) × (n ≤ m) × After h n ss env (and_then (label_of ls k default w) (λ at w. and_then (landed (exec m h) (resume m h) env s at w) after_switch)) out
 
 -- what goes on as a line's event and the changes behind it are made, unless the run ends there
 abbrev pub Reached : History → ℕ → Outcome (Unit {0}) → Doing → List Pending → Env → Outcome Way → Type 0

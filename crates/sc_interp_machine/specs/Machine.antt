@@ -11,7 +11,7 @@ use Rattle.sc_core.specs.declared.expression.Step.{Step}
 use Rattle.sc_core.specs.declared.expression.UnaryOperator.{UnaryOperator}
 use Rattle.sc_core.specs.Types.{type_of}
 use Rattle.sc_meaning.specs.Values.{Value, Number, FunctionAt, int_of}
-use Rattle.sc_meaning.specs.World.{World, tick, named_in}
+use Rattle.sc_meaning.specs.World.{World, GoesOut, ComesBack, pass, named_in}
 use Rattle.sc_meaning.specs.Outcomes.{Outcome, Done, Over, Ending, and_then}
 use Rattle.sc_meaning.specs.Accesses.{stored, computed, difference, compared, tested}
 use Rattle.sc_meaning.specs.Expressions.{Env, Answer, Part, finished, plain, at_place, used, base_of, further_of, automatic_in, static_at, literal_of, address, conversion, is_void, cast, offset_by, part_of, stepped, unary, truth, assigned_structure, compounded, moved_by, begun}
@@ -37,7 +37,7 @@ single_of Indirection a w = and_then (used a w) at_place
 single_of (Unary o t) a w = and_then (used a w) (λ x w. and_then (unary o t x w) plain)
 single_of (Cast t) a w = cast (is_void t) t a w
 single_of (Convert from to) a w = conversion from to a w
-single_of Back a w = finished a (tick w)
+single_of Back a w = finished a (pass ComesBack w)
 
 abbrev pub pair_of : Pair → Value → Value → World → Outcome Answer
 pair_of (Index size s t) x y w = and_then (offset_by op.Add size s t x y w) at_place
@@ -78,7 +78,7 @@ whether false f g w = g w
 
 -- the next argument, or the call, which is work as it goes out
 abbrev pub args_next : CType → Value → List CoreExpr → List Value → List Item → World → Advanced
-args_next t v [] vs is w = CallsOut t v vs (Alone Back ∷ is) (tick w)
+args_next t v [] vs is w = CallsOut t v vs (Alone Back ∷ is) (pass GoesOut w)
 args_next t v (e ∷ es) vs is w = evals e (Argument t v es vs ∷ is) w
 
 -- an expression has begun

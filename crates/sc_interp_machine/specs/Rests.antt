@@ -12,7 +12,7 @@ arguments_in (CoreExpr-F.Call l t f es) = es
 arguments_in _ = []
 
 abbrev pub statements_in : CoreStmt-F CoreStmt → List CoreStmt
-statements_in (CoreStmt-F.Block l b ss) = ss
+statements_in (CoreStmt-F.Block l b ls ss) = ss
 statements_in _ = []
 
 abbrev pub pieces_in : CoreStmt-F CoreStmt → List AutoInit

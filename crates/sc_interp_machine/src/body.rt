@@ -35,7 +35,8 @@ pub enum Use {
 #[derive(Drop)]
 pub enum Pending {
     End,
-    Rest(Statements),
+    /// The block, and its statements that are still to be executed.
+    Rest(Shared<CoreStmt>, Statements),
     /// The block's objects die: those behind so many blocks.
     EndBlock(usize),
     EndSwitch,

@@ -88,7 +88,7 @@ impl Statements {
     pub fn next(&mut self) -> Result<Option<Shared<CoreStmt>>, NoMemory>
         ensures { IfOk result (λ next. MatchOption next ((self.old ≡ []) × (self.new ≡ [])) (λ s. self.old ≡ s ∷ self.new)) }
     {
-        let CoreStmt::Block(_, _, all) = self.block.get() else {
+        let CoreStmt::Block(_, _, _, all) = self.block.get() else {
             return Ok(None)
         };
         match all.as_slice().get(self.at) {

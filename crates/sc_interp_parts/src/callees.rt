@@ -4,12 +4,11 @@ ghost use Rattle.sc_types.specs.declared.ctype.CType.{out-CType};
 ghost use Rattle.sc_types.specs.Compatibility as types;
 ghost use Rattle.sc_meaning.specs.Expressions as spec;
 ghost use Rattle.sc_meaning.specs.Versions as versions;
-ghost use Rattle.sc_interp_parts.specs.Found.{callee_found};
+ghost use Rattle.sc_core_held.specs.Found.{callee_found};
 
-use crate::library::takes;
-use crate::text::{Callee, Text, callee_of};
 use sc_base::{Duplicate, Key, NoMemory, Rule, Shared};
 use sc_core::Fun;
+use sc_core_held::{Callee, Text, callee_of, takes};
 use sc_meaning_values::{Shape, Value};
 use sc_types::{CType, Signature, compatible};
 use std::alloc::Global;

@@ -5,23 +5,17 @@
 mod answers;
 mod births;
 mod callees;
-mod library;
-mod module;
 mod names;
 mod operations;
 mod statics;
-mod text;
 
 pub use answers::{address, at_place, cast, conversion, finished, part_of, plain, truth, used};
 pub use births::{
     all_dead, born, born_autos, id_of, initial_structure, parameters, set_bytes, set_zeros,
 };
 pub use callees::value_rule;
-pub use library::{TypeForm, library_fun, takes};
-pub use module::Module;
 pub use names::{automatic_in, call_breach, literal_of, static_place, undefined_name};
 pub use operations::{
     assigned_structure, compounded, difference, moved_by, offset_by, stepped, unary,
 };
 pub use statics::statics_born;
-pub use text::{Callee, Definition, Text, callee_of, object_in};

@@ -6,8 +6,8 @@ ghost use Rattle.sc_meaning.specs.Expressions as spec;
 ghost use Rattle.sc_interp_access.specs.Gives.{Gives};
 
 use crate::answers::at_place;
-use crate::text::Text;
 use sc_base::{Duplicate, Key, NoMemory, Rule, Shared};
+use sc_core_held::Text;
 use sc_interp_access::{Breach, Stop, breach};
 use sc_interp_world::{Born, World};
 use sc_meaning_values::{Answer, Shape, Value};

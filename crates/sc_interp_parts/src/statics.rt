@@ -8,9 +8,9 @@ ghost use Rattle.sc_meaning.specs.World as worlds;
 ghost use Rattle.sc_interp_access.specs.Gives.{Gives};
 
 use crate::births::born;
-use crate::text::{Callee, Definition, Text, callee_of, object_in};
 use sc_base::{Bytes, Duplicate, Items, Key, Kind, NoMemory, Shared};
 use sc_core::Init;
+use sc_core_held::{Callee, Definition, Text, callee_of, object_in};
 use sc_interp_access::{Stop, pieces, sum};
 use sc_interp_world::{Cell, Object, World, object_at, unwritten};
 use sc_meaning_values::Value;

@@ -1,12 +1,15 @@
 -- What happens in the program, as the meaning has it.
 use Rattle.sc_interp_world.specs.declared.event.Change.{Change}
 use Rattle.sc_interp_world.specs.declared.event.Change.TheVariants as change
-use Rattle.sc_meaning.specs.World.{Item, Work, Begin, End, Happens, Birth, Death, Put, Copy, TakeFree, TakeNew, Give, Stack, Read, Seed, Push, Pop, OpenBlock, CloseBlock, Name, Unname}
+use Rattle.sc_meaning.specs.World.{Item, Work, Begin, End, GoesOut, ComesBack, Declares, Happens, Birth, Death, Put, Copy, TakeFree, TakeNew, Give, Stack, Read, Seed, Push, Pop, OpenBlock, CloseBlock, Name, Unname}
 
 abbrev pub item_of : Change → Item
 item_of (change.Work n) = Work n
 item_of change.Begin = Begin
 item_of change.End = End
+item_of change.GoesOut = GoesOut
+item_of change.ComesBack = ComesBack
+item_of (change.Declares id) = Declares id
 item_of (change.Happens e) = Happens e
 item_of (change.Birth size kind) = Birth size kind
 item_of (change.Death id) = Death id

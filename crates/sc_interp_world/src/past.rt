@@ -76,6 +76,8 @@ fn work_of(item: &Item) -> u64
         Change::Work(n) => u64::from(*n),
         Change::Begin => 1,
         Change::End => 1,
+        Change::GoesOut => 1,
+        Change::ComesBack => 1,
         Change::Happens(event) => match &event.showing {
             Showing::Enter(_, _) => 1,
             Showing::Leave => 1,

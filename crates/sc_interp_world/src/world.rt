@@ -330,6 +330,27 @@ impl World {
         self.keep(Change::End)
     }
 
+    /// A call goes out of a text, which is work.
+    pub fn goes_out(&mut self) -> Result<(), NoMemory>
+        ensures { IfOk result (λ _. self.new ≡ spec.pass spec.GoesOut self.old) }
+    {
+        self.keep(Change::GoesOut)
+    }
+
+    /// A call comes back to a text, which is work.
+    pub fn comes_back(&mut self) -> Result<(), NoMemory>
+        ensures { IfOk result (λ _. self.new ≡ spec.pass spec.ComesBack self.old) }
+    {
+        self.keep(Change::ComesBack)
+    }
+
+    /// The line that is reached next is that of this object's declarator, the initialiser of which comes behind it.
+    pub fn declares(&mut self, id: u32) -> Result<(), NoMemory>
+        ensures { IfOk result (λ _. self.new ≡ spec.pass (spec.Declares id) self.old) }
+    {
+        self.keep(Change::Declares(id))
+    }
+
     /// An event passes.
     pub fn happens(&mut self, event: Event) -> Result<(), NoMemory>
         ensures { IfOk result (λ _. self.new ≡ spec.pass (spec.Happens event) self.old) }

@@ -1,4 +1,4 @@
-ghost use Rattle.std.specs.Prelude.{◌≡◌, ◌≤◌, IfOk, codes, false, length};
+ghost use Rattle.std.specs.Prelude.{◌≡◌, ◌≤◌, IfOk, false, length};
 ghost use Rattle.sc_lex.specs.Pieces.{bytes_of};
 ghost use Rattle.sc_lex.specs.Tokens.{tokens, Gives};
 ghost use Rattle.sc_lex.specs.Tokens as spec;
@@ -25,45 +25,19 @@ fn spelling(alloc: Global, marks: &[Mark]) -> Result<Bytes, NoMemory>
     Ok(Bytes::from_vec(text))
 }
 
-fn refusal(kind: X, line: u32, file: Bytes) -> Fault
-    ensures { result ≡ Fault.Refused (record { kind = kind; file = file; line = line }) }
-{
-    Fault::Refused(Refusal { kind, file, line })
+/// What the text of a file is cut into: all its tokens, those that are too long among them, and the line where a comment
+/// begins that nobody closes.
+#[derive(Drop)]
+pub struct Scan {
+    pub tokens: Items<Token>,
+    pub unclosed: Option<u32>,
 }
 
-fn open_comment(alloc: Global, line: u32) -> Fault
-    ensures { Gives (spec.refused X.X1 line) (Err result) }
+// What marks are cut into.
+fn cut_marks(alloc: Global, marks: &[Mark], file: u32) -> Result<Scan, NoMemory>
+    ensures { IfOk result (λ c. c ≡ spec.cut_from file 0 false marks.now) }
 {
-    let file = Bytes::from_vec(Vec::new(alloc));
-    refusal(X::X1, line, file)
-}
-
-fn long_identifier(alloc: Global, line: u32) -> Fault
-    ensures { Gives (spec.refused (X.X10 (codes "identifier")) line) (Err result) }
-{
-    match Bytes::from_slice(alloc, b"identifier") {
-        Ok(word) => {
-            let file = Bytes::from_vec(Vec::new(alloc));
-            refusal(X::X10(word), line, file)
-        }
-        Err(_) => Fault::NoMemory,
-    }
-}
-
-fn is_too_long(kind: TokenKind, len: usize) -> bool
-    ensures { result ≡ spec.is_too_long kind len }
-{
-    match kind {
-        TokenKind::Name => len > MAX_IDENTIFIER,
-        _ => false,
-    }
-}
-
-/// The tokens of marks.
-fn cut(alloc: Global, marks: &[Mark], file: u32) -> Result<Items<Token>, Fault>
-    ensures { Gives (spec.tokens_from file 0 false marks.now) result }
-{
-    let mut out = Items::new(alloc);
+    let mut tokens = Items::new(alloc);
     let mut left = marks;
     let mut space = false;
     let mut unclosed = Unclosed::new(marks);
@@ -74,13 +48,15 @@ fn cut(alloc: Global, marks: &[Mark], file: u32) -> Result<Items<Token>, Fault>
                 space = true;
                 left = rest;
             }
-            Piece::Open => return Err(open_comment(alloc, mark.line)),
+            Piece::Open => {
+                return Ok(Scan {
+                    tokens,
+                    unclosed: Some(mark.line),
+                })
+            }
             Piece::Token(kind, n) => {
-                if is_too_long(kind, n) {
-                    return Err(long_identifier(alloc, mark.line));
-                }
                 let (head, rest) = left.split_at(n);
-                out.push(Token {
+                tokens.push(Token {
                     kind,
                     text: spelling(alloc, head)?,
                     file,
@@ -92,18 +68,78 @@ fn cut(alloc: Global, marks: &[Mark], file: u32) -> Result<Items<Token>, Fault>
             }
         }
     }
-    Ok(out)
+    Ok(Scan {
+        tokens,
+        unclosed: None,
+    })
 }
 
-/// The preprocessing tokens of the text of a file: carriage returns before line feeds are dropped, trigraphs replaced,
-/// lines that end in a backslash joined, and the rest is cut into white space (comments with it) and tokens, each the
-/// longest that the rest begins with (ANSI 2.1.1.2, 3.1). A line feed gives a `Newline`; the last line may have none,
-/// and then gives none. A line is counted where a token begins, from 1. `Refused` is the first in text order of an open
+/// The text of a file, cut: carriage returns before line feeds are dropped, trigraphs replaced, lines that end in a
+/// backslash joined, and the rest is cut into white space (comments with it) and tokens, each the longest that the rest
+/// begins with (ANSI 2.1.1.2, 3.1). A line feed gives a `Newline`; the last line may have none, and then gives none. A line
+/// is counted where a token begins, from 1.
+pub fn cut(alloc: Global, text: &[u8], file: u32) -> Result<Scan, NoMemory>
+    requires { length text.now ≤ 1048576 }
+    ensures { IfOk result (λ c. c ≡ spec.cut file text.now) }
+{
+    let marks = logical(alloc, text)?;
+    cut_marks(alloc, marks.as_slice(), file)
+}
+
+/// Whether a token is an identifier of more than 63 bytes (ANSI 2.2.4.1 asks for 31).
+pub fn is_too_long(token: &Token) -> bool
+    ensures { result ≡ spec.is_too_long token.now }
+{
+    match token.kind {
+        TokenKind::Name => token.text.as_slice().len() > MAX_IDENTIFIER,
+        _ => false,
+    }
+}
+
+// A refusal that leaves the file's name open.
+fn refusal(alloc: Global, kind: X, line: u32) -> Refusal
+    ensures { result ≡ spec.refusal kind line }
+{
+    let file = Bytes::from_vec(Vec::new(alloc));
+    Refusal { kind, file, line }
+}
+
+fn open_comment(alloc: Global, unclosed: Option<u32>) -> Option<Refusal>
+    ensures { result ≡ spec.open_comment unclosed }
+{
+    match unclosed {
+        None => None,
+        Some(line) => Some(refusal(alloc, X::X1, line)),
+    }
+}
+
+/// The first refusal of these tokens, behind which a comment may be open: an identifier of more than 63 bytes (`X10`), or
+/// else the comment (`X1`), with the line where it begins and no file's name.
+pub fn refusal_in(
+    alloc: Global,
+    tokens: &[Token],
+    unclosed: Option<u32>,
+) -> Result<Option<Refusal>, NoMemory>
+    ensures { IfOk result (λ r. r ≡ spec.refusal_in tokens.now unclosed) }
+{
+    for token in tokens {
+        if is_too_long(token) {
+            let word = Bytes::from_slice(alloc, b"identifier")?;
+            return Ok(Some(refusal(alloc, X::X10(word), token.line)));
+        }
+    }
+    Ok(open_comment(alloc, unclosed))
+}
+
+/// The preprocessing tokens of the text of a file, as [`cut`] gives them. `Refused` is the first in text order of an open
 /// comment (`X1`) and an identifier of more than 63 bytes (`X10`), with the line where it begins and no file's name.
 pub fn lex(alloc: Global, text: &[u8], file: u32) -> Result<Items<Token>, Fault>
     requires { length text.now ≤ 1048576 }
     ensures { Gives (tokens file text.now) result }
 {
-    let marks = logical(alloc, text)?;
-    cut(alloc, marks.as_slice(), file)
+    let Scan { tokens, unclosed } = cut(alloc, text, file)?;
+    match refusal_in(alloc, tokens.as_slice(), unclosed)? {
+        None => Ok(tokens),
+        Some(refusal) => Err(Fault::Refused(refusal)),
+    }
 }

@@ -10,5 +10,5 @@ mod token;
 mod unclosed;
 
 pub use automaton::token_kind;
-pub use lexing::lex;
+pub use lexing::{Scan, cut, is_too_long, lex, refusal_in};
 pub use token::{Token, TokenKind};

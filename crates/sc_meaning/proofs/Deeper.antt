@@ -4,22 +4,22 @@ use Rattle.sc_base.specs.declared.key.Key.{Key}
 use Rattle.sc_core.specs.declared.expression.CoreExpr.{CoreExpr, out-CoreExpr}
 use Rattle.sc_core.specs.declared.statement.CoreStmt.{CoreStmt, out-CoreStmt}
 use Rattle.sc_meaning.specs.Values.{Value}
-use Rattle.sc_meaning.specs.World.{World, tick, Work}
+use Rattle.sc_meaning.specs.World.{World, pass, GoesOut, ComesBack}
 use Rattle.sc_meaning.specs.Outcomes.{Outcome, Done, Over, Breach, Ending, Undefined, Exit, StackFull, BirthLimit, OutOfFuel, and_then, world_at, world_after}
 use Rattle.sc_meaning.specs.Versions.{History, version_at, callee_of}
 use Rattle.sc_meaning.specs.Changes.{settled}
 use Rattle.sc_meaning.specs.Expressions.{Env, Answer, expr_of}
 use Rattle.sc_meaning.specs.Statements.{stmt_of}
-use Rattle.sc_meaning.specs.Calls.{eval, exec, turn, call}
+use Rattle.sc_meaning.specs.Calls.{eval, exec, turn, resume, call}
 use Rattle.sc_meaning.specs.Behaviour.{Start, first_world, main_key, main_called, started, ending_of, ending}
 use Rattle.sc_meaning.specs.Laws.{Leads, Extends, EndsAs}
 use Rattle.sc_meaning.proofs.Relation.{Relation, Histories}
 use Rattle.sc_meaning.proofs.Steps.{here, on, passes, after_one}
 use Rattle.sc_meaning.proofs.Changing.{settled_goes}
 use Rattle.sc_meaning.proofs.ExpressionsGo.{expr_goes}
-use Rattle.sc_meaning.proofs.StatementsGo.{stmt_goes, turn_goes}
+use Rattle.sc_meaning.proofs.StatementsGo.{stmt_goes, turn_goes, resume_goes}
 use Rattle.sc_meaning.proofs.CallsGo.{begun_goes, statement_goes, call_goes}
-use Rattle.sc_meaning.proofs.Growing.{own, leads_then, eval_leads, exec_leads, turn_leads, call_leads}
+use Rattle.sc_meaning.proofs.Growing.{own, leads_then, eval_leads, exec_leads, turn_leads, resume_leads, call_leads}
 
 pub same_end : (A : Type 0) (e : Ending) → Extends {A = A} (Over e) (Over e)
 same_end A (Undefined b w) = refl
@@ -69,15 +69,22 @@ module _ (h : History) where
     exec_more (suc n) zero le env s w = absurd (omega arith)
     exec_more (suc n) (suc m) le env s w =
         let l : n ≤ m = omega arith in
-        statement_goes Extending (out-CoreStmt s) w (λ u. stmt_of h (eval n h) (exec n h) (turn n h) env s (out-CoreStmt s) u) (λ u. stmt_of h (eval m h) (exec m h) (turn m h) env s (out-CoreStmt s) u)
-        (λ u. stmt_goes Extending h h H (eval n h) (eval m h) (call n h) (call m h) (eval_more n m l) (calls_more n m l) (exec n h) (exec m h) (turn n h) (turn m h) (exec_more n m l) (turns_more n m l) env s (out-CoreStmt s) u)
+        statement_goes Extending (out-CoreStmt s) w (λ u. stmt_of h (eval n h) (exec n h) (turn n h) (resume n h) env s (out-CoreStmt s) u) (λ u. stmt_of h (eval m h) (exec m h) (turn m h) (resume m h) env s (out-CoreStmt s) u)
+        (λ u. stmt_goes Extending h h H (eval n h) (eval m h) (call n h) (call m h) (eval_more n m l) (calls_more n m l) (exec n h) (exec m h) (turn n h) (turn m h) (exec_more n m l) (turns_more n m l) (resume n h) (resume m h) (resumes_more n m l) env s (out-CoreStmt s) u)
 
     pub turns_more : (n m : ℕ) → n ≤ m → (env : Env) (s : CoreStmt) (w : World) → Extending.Rel w (turn n h env s w) (turn m h env s w)
     turns_more zero m le env s w = ran_out w (turn m h env s w) (turn_leads m h env s w)
     turns_more (suc n) zero le env s w = absurd (omega arith)
     turns_more (suc n) (suc m) le env s w =
         let l : n ≤ m = omega arith in
-        turn_goes Extending h h H (eval n h) (eval m h) (call n h) (call m h) (eval_more n m l) (calls_more n m l) (exec n h) (exec m h) (turn n h) (turn m h) (exec_more n m l) (turns_more n m l) env s (out-CoreStmt s) w
+        turn_goes Extending h h H (eval n h) (eval m h) (call n h) (call m h) (eval_more n m l) (calls_more n m l) (exec n h) (exec m h) (turn n h) (turn m h) (exec_more n m l) (turns_more n m l) (resume n h) (resume m h) (resumes_more n m l) env s (out-CoreStmt s) w
+
+    pub resumes_more : (n m : ℕ) → n ≤ m → (env : Env) (s : CoreStmt) (at : ℕ) (w : World) → Extending.Rel w (resume n h env s at w) (resume m h env s at w)
+    resumes_more zero m le env s at w = ran_out w (resume m h env s at w) (resume_leads m h env s at w)
+    resumes_more (suc n) zero le env s at w = absurd (omega arith)
+    resumes_more (suc n) (suc m) le env s at w =
+        let l : n ≤ m = omega arith in
+        resume_goes Extending h h H (eval n h) (eval m h) (call n h) (call m h) (eval_more n m l) (calls_more n m l) (exec n h) (exec m h) (turn n h) (turn m h) (exec_more n m l) (turns_more n m l) (resume n h) (resume m h) (resumes_more n m l) env s at (out-CoreStmt s) w
 
     pub calls_more : (n m : ℕ) → n ≤ m → (key : Key) (vs : List Value) (w : World) → Extending.Rel w (call n h key vs w) (call m h key vs w)
     calls_more zero m le key vs w = ran_out w (call m h key vs w) (call_leads m h key vs w)
@@ -89,7 +96,8 @@ module _ (h : History) where
 -- a run as a whole
 main_more : (n m : ℕ) → n ≤ m → (h : History) (w : World) → Extending.Rel w (main_called n h w) (main_called m h w)
 main_more n m le h w =
-    Extending.bind w (call n h main_key [] (tick w)) (call m h main_key [] (tick w)) _ _ (after_one Extending (Work 1) w (call n h main_key [] (tick w)) (call m h main_key [] (tick w)) (calls_more h n m le main_key [] (tick w))) (λ a v. passes Extending a (Work 1) v)
+    let v : World = pass GoesOut w in
+    Extending.bind w (call n h main_key [] v) (call m h main_key [] v) _ _ (after_one Extending GoesOut w (call n h main_key [] v) (call m h main_key [] v) (calls_more h n m le main_key [] v)) (λ a u. passes Extending a ComesBack u)
 
 started_more : (n m : ℕ) → n ≤ m → (s : Start) → Extending.Rel (first_world s) (started n s) (started m s)
 started_more n m le s =

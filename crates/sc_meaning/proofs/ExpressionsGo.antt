@@ -15,7 +15,7 @@ use Rattle.sc_core.specs.declared.expression.UnaryOperator.{UnaryOperator}
 use Rattle.sc_core.specs.declared.expression.UnaryOperator.TheVariants.{Plus, Minus, Complement, Not}
 use Rattle.sc_core.specs.Types.{type_of}
 use Rattle.sc_meaning.specs.Values.{Value, Number, FunctionAt, Pointer, null, is_pointer_type, int_of}
-use Rattle.sc_meaning.specs.World.{World, Work, tick}
+use Rattle.sc_meaning.specs.World.{World, Work, GoesOut, ComesBack, pass}
 use Rattle.sc_meaning.specs.Outcomes.{Outcome, and_then, unless}
 use Rattle.sc_meaning.specs.Accesses.{as_type, converted_value, loaded, stored, copied, computed, shifted, tested}
 use Rattle.sc_meaning.specs.Versions.{Text, History}
@@ -137,12 +137,12 @@ module _ (R : Relation) (h k : History) (H : Histories R h k) (ev ew : Eval) (ca
   value_goes (Number n) vs w = same_done R Nothing w
   value_goes (Pointer o i) vs w = same_done R Nothing w
 
-  tested_call : (t : Text) (s : CType) (v : Value) (vs : List Value) (w : World) (texts : List Text) → R.Rel w (unless (value_rule texts t s v) (call_breach v w) (call_value ca v vs) (tick w)) (unless (value_rule texts t s v) (call_breach v w) (call_value cb v vs) (tick w))
-  tested_call t s v vs w texts = after_one R (Work 1) w _ _ (unless_goes R (value_rule texts t s v) (call_breach v w) (call_value ca v vs) (call_value cb v vs) (tick w) (value_goes v vs (tick w)))
+  tested_call : (t : Text) (s : CType) (v : Value) (vs : List Value) (w : World) (texts : List Text) → R.Rel w (unless (value_rule texts t s v) (call_breach v w) (call_value ca v vs) (pass GoesOut w)) (unless (value_rule texts t s v) (call_breach v w) (call_value cb v vs) (pass GoesOut w))
+  tested_call t s v vs w texts = after_one R GoesOut w _ _ (unless_goes R (value_rule texts t s v) (call_breach v w) (call_value ca v vs) (call_value cb v vs) (pass GoesOut w) (value_goes v vs (pass GoesOut w)))
 
   called_goes : (t : Text) (s : CType) (v : Value) (vs : List Value) (w : World) → R.Rel w (called h ca t s v vs w) (called k cb t s v vs w)
   called_goes t s v vs w =
-      R.bind w _ _ _ _ (H.versions w (λ texts. unless (value_rule texts t s v) (call_breach v w) (call_value ca v vs) (tick w)) (λ texts. unless (value_rule texts t s v) (call_breach v w) (call_value cb v vs) (tick w)) (tested_call t s v vs w)) (λ a u. passes_two R a (Work 1) (Work 1) u)
+      R.bind w _ _ _ _ (H.versions w (λ texts. unless (value_rule texts t s v) (call_breach v w) (call_value ca v vs) (pass GoesOut w)) (λ texts. unless (value_rule texts t s v) (call_breach v w) (call_value cb v vs) (pass GoesOut w)) (tested_call t s v vs w)) (λ a u. passes_two R a ComesBack (Work 1) u)
 
   args_go : (env : Env) (es : List CoreExpr) (vs : List Value) (w : World) (f g : List Value → World → Outcome Answer) → ((us : List Value) (u : World) → R.Rel u (f us u) (g us u)) → R.Rel w (args_then ev env es vs w f) (args_then ew env es vs w g)
   args_go env [] vs w f g q = q vs w

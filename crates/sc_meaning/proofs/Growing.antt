@@ -9,13 +9,13 @@ use Rattle.sc_meaning.specs.Outcomes.{Outcome, Done, Over, OutOfFuel, and_then, 
 use Rattle.sc_meaning.specs.Versions.{History, version_at, callee_of}
 use Rattle.sc_meaning.specs.Expressions.{Env, expr_of}
 use Rattle.sc_meaning.specs.Statements.{stmt_of}
-use Rattle.sc_meaning.specs.Calls.{eval, exec, turn, call, call_of}
+use Rattle.sc_meaning.specs.Calls.{eval, exec, turn, resume, call, call_of}
 use Rattle.sc_meaning.specs.Laws.{Leads}
 use Rattle.sc_meaning.proofs.Relation.{Relation, Histories}
 use Rattle.sc_meaning.proofs.Steps.{here, on}
 use Rattle.sc_meaning.proofs.Changing.{happened_goes}
 use Rattle.sc_meaning.proofs.ExpressionsGo.{expr_goes}
-use Rattle.sc_meaning.proofs.StatementsGo.{stmt_goes, turn_goes}
+use Rattle.sc_meaning.proofs.StatementsGo.{stmt_goes, turn_goes, resume_goes}
 use Rattle.sc_meaning.proofs.CallsGo.{begun_goes, statement_goes, call_goes}
 
 -- at one bound, under two histories
@@ -32,13 +32,18 @@ module _ (R : Relation) (h k : History) (H : Histories R h k) where
     pub exec_goes : (n : ℕ) (env : Env) (s : CoreStmt) (w : World) → R.Rel w (exec n h env s w) (exec n k env s w)
     exec_goes zero env s w = R.over (OutOfFuel w) w (here w)
     exec_goes (suc n) env s w =
-        statement_goes R (out-CoreStmt s) w (λ u. stmt_of h (eval n h) (exec n h) (turn n h) env s (out-CoreStmt s) u) (λ u. stmt_of k (eval n k) (exec n k) (turn n k) env s (out-CoreStmt s) u)
-        (λ u. stmt_goes R h k H (eval n h) (eval n k) (call n h) (call n k) (eval_goes n) (calls_go n) (exec n h) (exec n k) (turn n h) (turn n k) (exec_goes n) (turns_go n) env s (out-CoreStmt s) u)
+        statement_goes R (out-CoreStmt s) w (λ u. stmt_of h (eval n h) (exec n h) (turn n h) (resume n h) env s (out-CoreStmt s) u) (λ u. stmt_of k (eval n k) (exec n k) (turn n k) (resume n k) env s (out-CoreStmt s) u)
+        (λ u. stmt_goes R h k H (eval n h) (eval n k) (call n h) (call n k) (eval_goes n) (calls_go n) (exec n h) (exec n k) (turn n h) (turn n k) (exec_goes n) (turns_go n) (resume n h) (resume n k) (resumes_go n) env s (out-CoreStmt s) u)
 
     pub turns_go : (n : ℕ) (env : Env) (s : CoreStmt) (w : World) → R.Rel w (turn n h env s w) (turn n k env s w)
     turns_go zero env s w = R.over (OutOfFuel w) w (here w)
     turns_go (suc n) env s w =
-        turn_goes R h k H (eval n h) (eval n k) (call n h) (call n k) (eval_goes n) (calls_go n) (exec n h) (exec n k) (turn n h) (turn n k) (exec_goes n) (turns_go n) env s (out-CoreStmt s) w
+        turn_goes R h k H (eval n h) (eval n k) (call n h) (call n k) (eval_goes n) (calls_go n) (exec n h) (exec n k) (turn n h) (turn n k) (exec_goes n) (turns_go n) (resume n h) (resume n k) (resumes_go n) env s (out-CoreStmt s) w
+
+    pub resumes_go : (n : ℕ) (env : Env) (s : CoreStmt) (at : ℕ) (w : World) → R.Rel w (resume n h env s at w) (resume n k env s at w)
+    resumes_go zero env s at w = R.over (OutOfFuel w) w (here w)
+    resumes_go (suc n) env s at w =
+        resume_goes R h k H (eval n h) (eval n k) (call n h) (call n k) (eval_goes n) (calls_go n) (exec n h) (exec n k) (turn n h) (turn n k) (exec_goes n) (turns_go n) (resume n h) (resume n k) (resumes_go n) env s at (out-CoreStmt s) w
 
     pub calls_go : (n : ℕ) (key : Key) (vs : List Value) (w : World) → R.Rel w (call n h key vs w) (call n k key vs w)
     calls_go zero key vs w = R.over (OutOfFuel w) w (here w)
@@ -71,6 +76,9 @@ exec_leads n h env s w = exec_goes Going h h (own Going h) n env s w
 
 pub turn_leads : (n : ℕ) (h : History) (env : Env) (s : CoreStmt) (w : World) → Leads w (world_after (turn n h env s w))
 turn_leads n h env s w = turns_go Going h h (own Going h) n env s w
+
+pub resume_leads : (n : ℕ) (h : History) (env : Env) (s : CoreStmt) (at : ℕ) (w : World) → Leads w (world_after (resume n h env s at w))
+resume_leads n h env s at w = resumes_go Going h h (own Going h) n env s at w
 
 pub call_leads : (n : ℕ) (h : History) (key : Key) (vs : List Value) (w : World) → Leads w (world_after (call n h key vs w))
 call_leads n h key vs w = calls_go Going h h (own Going h) n key vs w

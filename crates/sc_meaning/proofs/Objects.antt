@@ -4,7 +4,7 @@ use Rattle.std.specs.Prelude.{slice_get, slice_set}
 use Rattle.std.proofs.lemmas.Option.{slice_get_past}
 use Rattle.sc_base.specs.declared.memory.Kind.{Kind}
 use Rattle.sc_meaning.specs.Values.{Cell}
-use Rattle.sc_meaning.specs.World.{World, Item, Work, Begin, End, Happens, Birth, Death, Put, Copy, TakeFree, TakeNew, Give, Stack, Read, Seed, Push, Pop, OpenBlock, CloseBlock, Name, Unname, Enter, Leave, At, Out, Object, object_at, with_object, fresh, ended, overwritten, written, cells_at, effect, pass, passed}
+use Rattle.sc_meaning.specs.World.{World, Item, Work, Begin, End, GoesOut, ComesBack, Declares, Happens, Birth, Death, Put, Copy, TakeFree, TakeNew, Give, Stack, Read, Seed, Push, Pop, OpenBlock, CloseBlock, Name, Unname, Enter, Leave, At, Out, Object, object_at, with_object, fresh, ended, overwritten, written, cells_at, effect, pass, passed}
 use Rattle.sc_meaning.specs.Laws.{Leads, IsKept, KeepsObjects}
 
 get-front : {X : Type 0} (xs ys : List X) (i : ℕ) (x : X) → slice_get xs i ≡ Some x → slice_get (xs ++ ys) i ≡ Some x
@@ -65,6 +65,9 @@ effect_keeps : (i : Item) (w : World) → KeepsObjects w.objects (effect i w).ob
 effect_keeps (Work n) w = same_objects w.objects
 effect_keeps Begin w = same_objects w.objects
 effect_keeps End w = same_objects w.objects
+effect_keeps GoesOut w = same_objects w.objects
+effect_keeps ComesBack w = same_objects w.objects
+effect_keeps (Declares id) w = same_objects w.objects
 effect_keeps (Happens (Enter key home)) w = same_objects w.objects
 effect_keeps (Happens Leave) w = same_objects w.objects
 effect_keeps (Happens (At home line enter)) w = same_objects w.objects

@@ -2,7 +2,7 @@
 use Rattle.std.proofs.Common.{◌≡◌, ◌⊎◌, inl, inr, ℕ, ◌+◌, ◌<◌, ◌≤◌, ◌==◌, nat_lt, nat_le, Bool, true, false, if◌then◌else◌, List, [], ◌∷◌, length, take, refl, sym, ap, ◌∙◌, subst, arith}
 use Rattle.std.proofs.lemmas.Bool.{cases_lt}
 use Rattle.std.proofs.lemmas.List.{take-append-le}
-use Rattle.sc_meaning.specs.World.{World, Event, Happens, Work, pass, events, tick}
+use Rattle.sc_meaning.specs.World.{World, Event, Happens, GoesOut, ComesBack, pass, events}
 use Rattle.sc_meaning.specs.Outcomes.{Outcome, Done, Over, and_then, world_after, went}
 use Rattle.sc_meaning.specs.Versions.{Text, History, latest, version_at}
 use Rattle.sc_meaning.specs.Changes.{changed_if, settled_from, settled, happened}
@@ -124,8 +124,8 @@ module _ (c : ℕ) (h k : History) (same : upto c h ≡ upto c k) where
 
   main_shares : (n : ℕ) (w : World) → (Sharing c).Rel w (main_called n h w) (main_called n k w)
   main_shares n w =
-      let v : World = tick w in
-      (Sharing c).bind w (call n h main_key [] v) (call n k main_key [] v) _ _ (after_one (Sharing c) (Work 1) w (call n h main_key [] v) (call n k main_key [] v) (calls_go (Sharing c) h k sharing n main_key [] v)) (λ a u. passes (Sharing c) a (Work 1) u)
+      let v : World = pass GoesOut w in
+      (Sharing c).bind w (call n h main_key [] v) (call n k main_key [] v) _ _ (after_one (Sharing c) GoesOut w (call n h main_key [] v) (call n k main_key [] v) (calls_go (Sharing c) h k sharing n main_key [] v)) (λ a u. passes (Sharing c) a ComesBack u)
 
 -- the events of a run up to the first c + 1
 started_shares : (c n : ℕ) (s : Start) (k : History) → upto c s.history ≡ upto c k → (Sharing c).Rel (first_world s) (started n s) (started n (with_history s k))

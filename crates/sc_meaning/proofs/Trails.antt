@@ -1,7 +1,7 @@
 -- The trail tells all that happened, and a run's events are counted.
 use Rattle.std.proofs.Common.{◌≡◌, ◌+◌, List, [], ◌∷◌, ◌++◌, length, refl, sym, ap, ◌∙◌, subst, arith, append_assoc}
 use Rattle.std.proofs.lemmas.List.{append-nil, length-append}
-use Rattle.sc_meaning.specs.World.{World, Item, Work, Begin, End, Happens, Birth, Death, Put, Copy, TakeFree, TakeNew, Give, Stack, Read, Seed, Push, Pop, OpenBlock, CloseBlock, Name, Unname, Enter, Leave, At, Out, effect, pass, passed, events, events_of}
+use Rattle.sc_meaning.specs.World.{World, Item, Work, Begin, End, GoesOut, ComesBack, Declares, Happens, Birth, Death, Put, Copy, TakeFree, TakeNew, Give, Stack, Read, Seed, Push, Pop, OpenBlock, CloseBlock, Name, Unname, Enter, Leave, At, Out, effect, pass, passed, events, events_of}
 use Rattle.sc_meaning.specs.Laws.{Leads}
 
 pub trail-passed : (is : List Item) (w : World) → (passed is w).trail ≡ w.trail ++ is
@@ -20,6 +20,9 @@ effect_counts : (i : Item) (w : World) → (effect i w).count ≡ w.count + leng
 effect_counts (Work n) w = omega arith
 effect_counts Begin w = omega arith
 effect_counts End w = omega arith
+effect_counts GoesOut w = omega arith
+effect_counts ComesBack w = omega arith
+effect_counts (Declares id) w = omega arith
 effect_counts (Happens (Enter key home)) w = refl
 effect_counts (Happens Leave) w = refl
 effect_counts (Happens (At home line enter)) w = refl

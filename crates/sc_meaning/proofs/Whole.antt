@@ -17,7 +17,7 @@ use Rattle.sc_core.specs.declared.expression.UnaryOperator.{UnaryOperator}
 use Rattle.sc_core.specs.declared.expression.UnaryOperator.TheVariants.{Plus, Minus, Complement, Not}
 use Rattle.sc_core.specs.Types.{type_of}
 use Rattle.sc_meaning.specs.Values.{Value, Number, FunctionAt, Pointer, null, is_pointer_type, int_of, scalar_size}
-use Rattle.sc_meaning.specs.World.{World, tick}
+use Rattle.sc_meaning.specs.World.{World, pass, GoesOut, ComesBack}
 use Rattle.sc_meaning.specs.Outcomes.{Outcome, Done, Over, and_then, unless}
 use Rattle.sc_meaning.specs.Violations.{store_rule, difference_rule}
 use Rattle.sc_meaning.specs.Accesses.{compare_rule, as_type, converted_value, loaded, stored, computed, shifted, difference, compared, tested}
@@ -146,15 +146,15 @@ module _ (h : History) (ev : Eval) (ca : Call) (ig : (env : Env) (e : CoreExpr) 
   valued_number : (env : Env) (e : CoreExpr) (w : World) → IsWhole e → Gives IsNumber (valued ev env e w)
   valued_number env e w q = by_ IsInteger IsNumber (ev env e w) used (ig env e w q) (λ a u h. used_number a u h)
 
-  value_call : (t : Text) (s : CType) (v : Value) (vs : List Value) (w : World) → gives_integer s ≡ true → value_rule (version_at h w.count) t s v ≡ None → Gives IsInteger (call_value ca v vs (tick w))
+  value_call : (t : Text) (s : CType) (v : Value) (vs : List Value) (w : World) → gives_integer s ≡ true → value_rule (version_at h w.count) t s v ≡ None → Gives IsInteger (call_value ca v vs (pass GoesOut w))
   value_call t s (Number n) vs w i e = tt
   value_call t s (Pointer o at) vs w i e = tt
-  value_call t s (FunctionAt key) vs w i e = cg key vs (tick w) (rule_callee t (target_in (out-CType s)) (callee_of (version_at h w.count) key) i e)
+  value_call t s (FunctionAt key) vs w i e = cg key vs (pass GoesOut w) (rule_callee t (target_in (out-CType s)) (callee_of (version_at h w.count) key) i e)
 
   called_number : (t : Text) (s : CType) (v : Value) (vs : List Value) (w : World) → gives_integer s ≡ true → Gives IsInteger (called h ca t s v vs w)
   called_number t s v vs w i =
-      let r : Outcome Answer = unless (value_rule (version_at h w.count) t s v) (call_breach v w) (call_value ca v vs) (tick w) in
-      by_ IsInteger IsInteger r (λ a u. finished a (tick u)) (unless_ IsInteger (value_rule (version_at h w.count) t s v) (call_breach v w) (call_value ca v vs) (tick w) (value_call t s v vs w i)) (λ a u q. q)
+      let r : Outcome Answer = unless (value_rule (version_at h w.count) t s v) (call_breach v w) (call_value ca v vs) (pass GoesOut w) in
+      by_ IsInteger IsInteger r (λ a u. finished a (pass ComesBack u)) (unless_ IsInteger (value_rule (version_at h w.count) t s v) (call_breach v w) (call_value ca v vs) (pass GoesOut w) (value_call t s v vs w i)) (λ a u q. q)
 
   args_number : (env : Env) (es : List CoreExpr) (vs : List Value) (w : World) (f : List Value → World → Outcome Answer) → ((us : List Value) (u : World) → Gives IsInteger (f us u)) → Gives IsInteger (args_then ev env es vs w f)
   args_number env [] vs w f q = q vs w

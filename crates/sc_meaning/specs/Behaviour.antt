@@ -1,7 +1,7 @@
 -- What a program does from its start on (ANSI 2.1.2.2, 2.1.2.3).
 use Rattle.std.specs.Prelude.{ℕ, List, [], ◌∷◌, replicate, None}
 use Rattle.sc_base.specs.declared.key.Key.{Key}
-use Rattle.sc_meaning.specs.World.{World, Event, events, tick}
+use Rattle.sc_meaning.specs.World.{World, Event, GoesOut, ComesBack, pass, events}
 use Rattle.sc_meaning.specs.Outcomes.{Outcome, Done, Over, Ending, Exit, and_then, world_at}
 use Rattle.sc_meaning.specs.Violations.{bits}
 use Rattle.sc_meaning.specs.Versions.{History}
@@ -48,7 +48,7 @@ status_of Nothing = 0
 
 -- the call of `main` goes out, and comes back
 abbrev pub main_called : ℕ → History → World → Outcome Answer
-main_called n h w = and_then (call n h main_key [] (tick w)) (λ a w. Done a (tick w))
+main_called n h w = and_then (call n h main_key [] (pass GoesOut w)) (λ a w. Done a (pass ComesBack w))
 
 -- The objects of static storage duration and the literals are born, as the first version comes, and `main` is called.
 abbrev pub started : ℕ → Start → Outcome Answer

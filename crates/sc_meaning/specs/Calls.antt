@@ -1,5 +1,5 @@
 -- Calls of functions, and the meaning of expressions, statements and calls as a whole, each with a bound on how deep it
--- goes (ANSI 3.3.2.2, 3.7.1). A turn of a loop takes one of the bound, as a call does.
+-- goes (ANSI 3.3.2.2, 3.7.1). A turn of a loop takes one of the bound, as a call and a jump inside a block's list do.
 use Rattle.std.specs.Prelude.{ℕ, zero, suc, ◌+◌, ◌-◌, nat_lt, List, [], ◌∷◌, ◌++◌, slice_index_or}
 use Rattle.sc_base.specs.declared.key.Key.{Key}
 use Rattle.sc_core.specs.declared.expression.CoreExpr.{out-CoreExpr}
@@ -13,7 +13,7 @@ use Rattle.sc_meaning.specs.Accesses.{set_at}
 use Rattle.sc_meaning.specs.Versions.{Text, History, Callee, Missing, InText, InLibrary, callee_of, version_at}
 use Rattle.sc_meaning.specs.Changes.{born, happened}
 use Rattle.sc_meaning.specs.Expressions.{Answer, Nothing, Eval, Call, expr_of, begun, undefined_name, either}
-use Rattle.sc_meaning.specs.Statements.{Way, Normal, Broke, Continued, Returned, Exec, stmt_of, turn_of, stmt_begun, all_dead, auto_kind}
+use Rattle.sc_meaning.specs.Statements.{Way, Normal, Broke, Continued, Jumped, Returned, Exec, Resume, stmt_of, turn_of, resume_of, stmt_begun, all_dead, auto_kind}
 use Rattle.sc_meaning.specs.Functions.{library_call}
 
 -- parameters are born and set, in their order
@@ -30,6 +30,7 @@ abbrev pub answer_of : Way → Answer
 answer_of Normal = Nothing
 answer_of Broke = Nothing
 answer_of Continued = Nothing
+answer_of (Jumped k) = Nothing
 answer_of (Returned a) = a
 
 -- a call ends: the parameters die, the last born first, and the frame is left
@@ -63,11 +64,15 @@ unfoldable mutual
 
   pub exec : ℕ → History → Exec
   exec zero h env s w = Over (OutOfFuel w)
-  exec (suc n) h env s w = stmt_of h (eval n h) (exec n h) (turn n h) env s (out-CoreStmt s) (stmt_begun (out-CoreStmt s) w)
+  exec (suc n) h env s w = stmt_of h (eval n h) (exec n h) (turn n h) (resume n h) env s (out-CoreStmt s) (stmt_begun (out-CoreStmt s) w)
 
   pub turn : ℕ → History → Exec
   turn zero h env s w = Over (OutOfFuel w)
   turn (suc n) h env s w = turn_of h (eval n h) (exec n h) (turn n h) env s (out-CoreStmt s) w
+
+  pub resume : ℕ → History → Resume
+  resume zero h env s at w = Over (OutOfFuel w)
+  resume (suc n) h env s at w = resume_of (exec n h) (resume n h) env s at (out-CoreStmt s) w
 
   pub call : ℕ → History → Call
   call zero h key vs w = Over (OutOfFuel w)

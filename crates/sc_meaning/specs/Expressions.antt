@@ -24,7 +24,7 @@ use Rattle.sc_core.specs.declared.expression.UnaryOperator.TheVariants.{Plus, Mi
 use Rattle.sc_core.specs.declared.module.Fun.{Fun}
 use Rattle.sc_core.specs.Types.{type_of}
 use Rattle.sc_meaning.specs.Values.{Value, Number, FunctionAt, Pointer, null, is_pointer_type, int_of}
-use Rattle.sc_meaning.specs.World.{World, Born, pass, Work, tick, named_in}
+use Rattle.sc_meaning.specs.World.{World, Born, pass, Work, GoesOut, ComesBack, tick, named_in}
 use Rattle.sc_meaning.specs.Outcomes.{Outcome, Done, and_then, breach, undefined, unless, Breach}
 use Rattle.sc_meaning.specs.Accesses.{as_type, converted_value, loaded, stored, copied, computed, shifted, member_address, difference, compared, tested}
 use Rattle.sc_meaning.specs.Versions.{Text, History, Callee, Missing, InText, InLibrary, callee_of, version_at}
@@ -267,7 +267,7 @@ call_value call (Pointer o i) vs w = Done Nothing w
 -- comes back
 abbrev pub called : History → Call → Text → CType → Value → List Value → World → Outcome Answer
 called h call t s v vs w =
-    and_then (unless (value_rule (version_at h w.count) t s v) (call_breach v w) (call_value call v vs) (tick w)) (λ a w. finished a (tick w))
+    and_then (unless (value_rule (version_at h w.count) t s v) (call_breach v w) (call_value call v vs) (pass GoesOut w)) (λ a w. finished a (pass ComesBack w))
 
 -- arguments from left to right, and then what is done with them
 abbrev pub args_then : Eval → Env → List CoreExpr → List Value → World → (List Value → World → Outcome Answer) → Outcome Answer

@@ -93,7 +93,7 @@ Optionally W (Some a) = W a
 
 -- a statement in which every value that is returned is whole
 abbrev pub returns_layer : ℕ → (CoreStmt → Type 0) → CoreStmt-F CoreStmt → Type 0
-returns_layer k W (CoreStmt-F.Block l b ss) = Every W ss
+returns_layer k W (CoreStmt-F.Block l b ls ss) = Every W ss
 returns_layer k W (CoreStmt-F.If l e a b) = W a × Optionally W b
 returns_layer k W (CoreStmt-F.Switch l e labels a) = W a
 returns_layer k W (CoreStmt-F.While l e a) = W a
@@ -101,6 +101,7 @@ returns_layer k W (CoreStmt-F.Do l a m e) = W a
 returns_layer k W (CoreStmt-F.For l f c x a) = W a
 returns_layer k W (CoreStmt-F.Case l a) = W a
 returns_layer k W (CoreStmt-F.Default l a) = W a
+returns_layer k W (CoreStmt-F.Label l a) = W a
 returns_layer k W (CoreStmt-F.Return l e) = Optionally (WholeTo k) e
 returns_layer k W _ = Unit {0}
 

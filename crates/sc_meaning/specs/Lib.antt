@@ -16,3 +16,4 @@ pub mod Calls
 pub mod Behaviour
 pub mod Laws
 pub mod Integers
+pub mod Marks

@@ -9,10 +9,11 @@ use Rattle.sc_core.specs.declared.statement.AutoInit.{AutoInit}
 use Rattle.sc_core.specs.declared.statement.AutoInit.TheVariants as item
 use Rattle.sc_core.specs.declared.statement.CoreStmt.{CoreStmt, out-CoreStmt}
 use Rattle.sc_core.specs.declared.statement.CoreStmt.TheOpen.{CoreStmt-F}
+use Rattle.sc_core.specs.declared.statement.LabelAt.{LabelAt}
 use Rattle.sc_core.specs.declared.statement.SwitchLabel.{SwitchLabel}
 use Rattle.sc_core.specs.Types.{type_of}
 use Rattle.sc_meaning.specs.Values.{Value, Pointer, Byte, scalar_size}
-use Rattle.sc_meaning.specs.World.{World, Born, pass, Work, Begin, End, Death, Put, OpenBlock, CloseBlock, tick}
+use Rattle.sc_meaning.specs.World.{World, Born, pass, Work, Begin, End, Declares, Death, Put, OpenBlock, CloseBlock, tick}
 use Rattle.sc_meaning.specs.Outcomes.{Outcome, Done, and_then, Step, went, unless, access_breach}
 use Rattle.sc_meaning.specs.Violations.{bits, reach_rule}
 use Rattle.sc_meaning.specs.Accesses.{tested, set_at, copy_at}
@@ -20,15 +21,20 @@ use Rattle.sc_meaning.specs.Versions.{History}
 use Rattle.sc_meaning.specs.Changes.{born, reached}
 use Rattle.sc_meaning.specs.Expressions.{Env, Answer, Plain, Nothing, Eval, valued, base_of, further_of, automatic_in, either}
 
--- how a statement is left: at its end, by `break`, by `continue`, or by `return` with its value
+-- how a statement is left: at its end, by `break`, by `continue`, for a label by `goto`, or by `return` with its value
 pub data Way : Type 0 where
   Normal : Way
   Broke : Way
   Continued : Way
+  Jumped : ℕ → Way
   Returned : Answer → Way
 
 abbrev pub Exec : Type 0
 Exec = Env → CoreStmt → World → Outcome Way
+
+-- a block that is entered goes on at one of its statements
+abbrev pub Resume : Type 0
+Resume = Env → CoreStmt → ℕ → World → Outcome Way
 
 -- a statement ends
 abbrev pub ended : Way → World → Outcome Way
@@ -58,6 +64,7 @@ abbrev pub after_stmt : Way → (World → Outcome Way) → World → Outcome Wa
 after_stmt Normal rest w = rest w
 after_stmt Broke rest w = Done Broke w
 after_stmt Continued rest w = Done Continued w
+after_stmt (Jumped k) rest w = Done (Jumped k) w
 after_stmt (Returned a) rest w = Done (Returned a) w
 
 -- statements in order
@@ -65,17 +72,47 @@ abbrev pub stmts_of : Exec → Env → List CoreStmt → World → Outcome Way
 stmts_of exec env [] w = Done Normal w
 stmts_of exec env (s ∷ ss) w = and_then (exec env s w) (λ way w. after_stmt way (stmts_of exec env ss) w)
 
+-- the place at which a label stands in a list
+abbrev pub place_of : ℕ → List LabelAt → Option ℕ
+place_of k [] = None
+place_of k (l ∷ ls) = if l.label == k then Some l.at else place_of k ls
+
+-- A block's list is left for a label: where this stands in that same list, the block goes on there (3.6.6.1).
+abbrev pub jumped_to : Resume → Env → CoreStmt → ℕ → Option ℕ → World → Outcome Way
+jumped_to again env s k None w = Done (Jumped k) w
+jumped_to again env s k (Some at) w = again env s at w
+
+abbrev pub place_in : ℕ → CoreStmt-F CoreStmt → Option ℕ
+place_in k (CoreStmt-F.Block l b ls ss) = place_of k ls
+place_in k _ = None
+
+abbrev pub after_list : Resume → Env → CoreStmt → Way → World → Outcome Way
+after_list again env s Normal w = Done Normal w
+after_list again env s Broke w = Done Broke w
+after_list again env s Continued w = Done Continued w
+after_list again env s (Jumped k) w = jumped_to again env s k (place_in k (out-CoreStmt s)) w
+after_list again env s (Returned a) w = Done (Returned a) w
+
+-- the statements of the block s from one of them on, and what jumps inside its list lead to
+abbrev pub list_of : Exec → Resume → Env → CoreStmt → List CoreStmt → World → Outcome Way
+list_of exec again env s ss w = and_then (stmts_of exec env ss w) (after_list again env s)
+
+-- a block that was entered goes on at one of its statements
+abbrev pub resume_of : Exec → Resume → Env → CoreStmt → ℕ → CoreStmt-F CoreStmt → World → Outcome Way
+resume_of exec again env s at (CoreStmt-F.Block l b ls ss) w = list_of exec again env s (drop at ss) w
+resume_of exec again env s at _ w = Done Normal w
+
 abbrev pub block_ended : List ℕ → Way → World → Outcome Way
 block_ended ids way w = ended way (pass CloseBlock (all_dead ids w))
 
-abbrev pub block_with : Exec → Env → ℕ → List CoreStmt → List ℕ → World → Outcome Way
-block_with exec env b ss ids w =
+abbrev pub block_with : Exec → Resume → Env → CoreStmt → ℕ → List CoreStmt → List ℕ → World → Outcome Way
+block_with exec again env s b ss ids w =
     let born : Born = record { block = b; ids = ids } in
-    and_then (stmts_of exec (with_block env born) ss (pass (OpenBlock born) w)) (block_ended ids)
+    and_then (list_of exec again (with_block env born) s ss (pass (OpenBlock born) w)) (block_ended ids)
 
--- a block, from one of its statements on (3.6.2)
-abbrev pub block_of : Exec → Env → ℕ → List CoreStmt → World → Outcome Way
-block_of exec env b ss w = and_then (born_autos (block_autos env b) [] w) (block_with exec env b ss)
+-- the block s, from one of its statements on (3.6.2)
+abbrev pub block_of : Exec → Resume → Env → CoreStmt → ℕ → List CoreStmt → World → Outcome Way
+block_of exec again env s b ss w = and_then (born_autos (block_autos env b) [] w) (block_with exec again env s b ss)
 
 -- bytes are set one by one, each of which is work
 abbrev pub set_bytes : ℕ → ℕ → List ℕ → World → World
@@ -104,6 +141,11 @@ abbrev pub initials : Eval → Env → Value → List AutoInit → Step
 initials eval env p [] w = went w
 initials eval env p (i ∷ is) w = and_then (initial eval env p i w) (λ _ w. initials eval env p is w)
 
+-- an initialised declarator, which has begun
+abbrev pub initialised : History → Eval → Env → ℕ → Value → List AutoInit → World → Outcome Way
+initialised h eval env l p items w =
+    and_then (reached h l (pass (Declares (id_of p)) w)) (λ _ w. and_then (initials eval env p items w) (λ _ w. Done Normal (tick w)))
+
 -- a scalar expression, and whether it is not 0
 abbrev pub condition : Eval → Env → CoreExpr → World → Outcome Bool
 condition eval env e w = and_then (valued eval env e w) (tested (type_of e))
@@ -127,19 +169,20 @@ label_of [] n default w = Done default w
 label_of (l ∷ ls) n default w = label_next l.value l.at n default (label_of ls n) w
 
 -- the body of a `switch` from one of its statements on
-abbrev pub body_from : Exec → Env → CoreStmt → ℕ → CoreStmt-F CoreStmt → World → Outcome Way
-body_from exec env s at (CoreStmt-F.Block l b ss) w = block_of exec env b (drop at ss) (pass Begin w)
-body_from exec env s at _ w = exec env s w
+abbrev pub body_from : Exec → Resume → Env → CoreStmt → ℕ → CoreStmt-F CoreStmt → World → Outcome Way
+body_from exec again env s at (CoreStmt-F.Block l b ls ss) w = block_of exec again env s b (drop at ss) (pass Begin w)
+body_from exec again env s at _ w = exec env s w
 
-abbrev pub landed : Exec → Env → CoreStmt → Option ℕ → World → Outcome Way
-landed exec env s None w = Done Normal w
-landed exec env s (Some at) w = body_from exec env s at (out-CoreStmt s) w
+abbrev pub landed : Exec → Resume → Env → CoreStmt → Option ℕ → World → Outcome Way
+landed exec again env s None w = Done Normal w
+landed exec again env s (Some at) w = body_from exec again env s at (out-CoreStmt s) w
 
 -- `break` leaves a `switch`
 abbrev pub after_switch : Way → World → Outcome Way
 after_switch Normal w = ended Normal w
 after_switch Broke w = ended Normal w
 after_switch Continued w = ended Continued w
+after_switch (Jumped k) w = ended (Jumped k) w
 after_switch (Returned a) w = ended (Returned a) w
 
 -- what follows a turn of a loop: `continue` goes on as the body's end does (3.6.5)
@@ -147,6 +190,7 @@ abbrev pub after_turn : Way → (World → Outcome Way) → World → Outcome Wa
 after_turn Normal again w = again w
 after_turn Continued again w = again w
 after_turn Broke again w = ended Normal w
+after_turn (Jumped k) again w = ended (Jumped k) w
 after_turn (Returned a) again w = ended (Returned a) w
 
 -- an expression whose value is not used
@@ -185,26 +229,27 @@ returned h eval env l (Some e) w =
     and_then (reached h l w) (λ _ w. and_then (valued eval env e w) (λ v w. ended (Returned (Plain v)) w))
 
 -- a statement that has begun; an initialised declarator is work as a statement is
-abbrev pub stmt_of : History → Eval → Exec → Exec → Env → CoreStmt → CoreStmt-F CoreStmt → World → Outcome Way
-stmt_of h eval exec turn env s (CoreStmt-F.Block l b ss) w = block_of exec env b ss w
-stmt_of h eval exec turn env s (CoreStmt-F.Initialize l b i items) w =
-    and_then (reached h l w) (λ _ w. and_then (initials eval env (automatic_in env.blocks b i) items w) (λ _ w. Done Normal (tick w)))
-stmt_of h eval exec turn env s (CoreStmt-F.Empty l) w = and_then (reached h l w) (λ _ w. ended Normal w)
-stmt_of h eval exec turn env s (CoreStmt-F.Expression l e) w =
+abbrev pub stmt_of : History → Eval → Exec → Exec → Resume → Env → CoreStmt → CoreStmt-F CoreStmt → World → Outcome Way
+stmt_of h eval exec turn again env s (CoreStmt-F.Block l b ls ss) w = block_of exec again env s b ss w
+stmt_of h eval exec turn again env s (CoreStmt-F.Initialize l b i items) w = initialised h eval env l (automatic_in env.blocks b i) items w
+stmt_of h eval exec turn again env s (CoreStmt-F.Empty l) w = and_then (reached h l w) (λ _ w. ended Normal w)
+stmt_of h eval exec turn again env s (CoreStmt-F.Expression l e) w =
     and_then (reached h l w) (λ _ w. and_then (discarded eval env e w) (λ _ w. ended Normal w))
-stmt_of h eval exec turn env s (CoreStmt-F.If l e a b) w =
+stmt_of h eval exec turn again env s (CoreStmt-F.If l e a b) w =
     and_then (condition_at h eval env l e w) (λ yes w. and_then (either yes (exec env a) (optional exec env b) w) ended)
-stmt_of h eval exec turn env s (CoreStmt-F.Switch l e labels a) w =
+stmt_of h eval exec turn again env s (CoreStmt-F.Switch l e labels a) w =
     and_then (reached h l w) (λ _ w. and_then (valued eval env e w) (λ v w.
-    and_then (label_of labels (bits v) None w) (λ at w. and_then (landed exec env a at w) after_switch)))
-stmt_of h eval exec turn env s (CoreStmt-F.While l e a) w = turn env s w
-stmt_of h eval exec turn env s (CoreStmt-F.Do l a m e) w = turn env s w
-stmt_of h eval exec turn env s (CoreStmt-F.For l f c x a) w = and_then (first_of h eval env l f w) (λ _ w. turn env s w)
-stmt_of h eval exec turn env s (CoreStmt-F.Case l a) w = and_then (exec env a w) ended
-stmt_of h eval exec turn env s (CoreStmt-F.Default l a) w = and_then (exec env a w) ended
-stmt_of h eval exec turn env s (CoreStmt-F.Continue l) w = and_then (reached h l w) (λ _ w. ended Continued w)
-stmt_of h eval exec turn env s (CoreStmt-F.Break l) w = and_then (reached h l w) (λ _ w. ended Broke w)
-stmt_of h eval exec turn env s (CoreStmt-F.Return l e) w = returned h eval env l e w
+    and_then (label_of labels (bits v) None w) (λ at w. and_then (landed exec again env a at w) after_switch)))
+stmt_of h eval exec turn again env s (CoreStmt-F.While l e a) w = turn env s w
+stmt_of h eval exec turn again env s (CoreStmt-F.Do l a m e) w = turn env s w
+stmt_of h eval exec turn again env s (CoreStmt-F.For l f c x a) w = and_then (first_of h eval env l f w) (λ _ w. turn env s w)
+stmt_of h eval exec turn again env s (CoreStmt-F.Case l a) w = and_then (exec env a w) ended
+stmt_of h eval exec turn again env s (CoreStmt-F.Default l a) w = and_then (exec env a w) ended
+stmt_of h eval exec turn again env s (CoreStmt-F.Label l a) w = and_then (exec env a w) ended
+stmt_of h eval exec turn again env s (CoreStmt-F.Goto l k) w = and_then (reached h l w) (λ _ w. ended (Jumped k) w)
+stmt_of h eval exec turn again env s (CoreStmt-F.Continue l) w = and_then (reached h l w) (λ _ w. ended Continued w)
+stmt_of h eval exec turn again env s (CoreStmt-F.Break l) w = and_then (reached h l w) (λ _ w. ended Broke w)
+stmt_of h eval exec turn again env s (CoreStmt-F.Return l e) w = returned h eval env l e w
 
 -- the beginning of a statement or an initialised declarator
 abbrev pub stmt_begun : CoreStmt-F CoreStmt → World → World

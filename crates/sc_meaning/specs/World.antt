@@ -45,6 +45,11 @@ pub data Item : Type 0 where
   Work : ℕ → Item
   Begin : Item
   End : Item
+  -- a call goes out of a text, and comes back to it, each of which is a unit of work
+  GoesOut : Item
+  ComesBack : Item
+  -- the line that is reached next is that of this object's declarator, the initialiser of which comes behind it
+  Declares : ℕ → Item
   Happens : Event → Item
   -- an object of this size and kind is born, its bytes unwritten; the object with this number dies
   Birth : ℕ → Kind → Item
@@ -166,6 +171,9 @@ abbrev pub effect : Item → World → World
 effect (Work n) w = w
 effect Begin w = record w { begun = w.begun + 1 }
 effect End w = record w { begun = w.begun - 1 }
+effect GoesOut w = w
+effect ComesBack w = w
+effect (Declares id) w = w
 effect (Happens e) w = counted e w
 effect (Birth size kind) w = record w { objects = w.objects ++ fresh size kind ∷ [] }
 effect (Death id) w = record w { objects = ended w.objects id (object_at w.objects id) }
@@ -207,6 +215,8 @@ abbrev pub work_of : Item → ℕ
 work_of (Work n) = n
 work_of Begin = 1
 work_of End = 1
+work_of GoesOut = 1
+work_of ComesBack = 1
 work_of (Happens e) = event_work e
 work_of (Birth size kind) = size
 work_of _ = 0

@@ -11,10 +11,11 @@ pub enum Exit {
     Normal,
     Broke,
     Continued,
+    Jumped(u32),
     Returned(Answer),
 }
 
-/// How a statement is left: at its end, by `break`, by `continue`, or by `return` with its value.
+/// How a statement is left: at its end, by `break`, by `continue`, for a label by `goto`, or by `return` with its value.
 #[derive(Drop)]
 pub struct Way {
     pub exit: Exit,
@@ -50,6 +51,15 @@ impl Way {
     {
         Way {
             exit: Exit::Continued,
+        }
+    }
+
+    /// For a label, by `goto`.
+    pub fn jumped(label: u32) -> Way
+        ensures { result ≡ statement.Jumped label }
+    {
+        Way {
+            exit: Exit::Jumped(label),
         }
     }
 

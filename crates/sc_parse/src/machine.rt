@@ -10,10 +10,10 @@ use sc_base::Stack;
 use sc_parse_grammar::Trouble;
 use sc_parse_names::{Kind, Symbol, TypeNames};
 use sc_parse_parts::{
-    STUCK, ends_at_colon, ends_at_semicolon, expression_due, in_declarator, in_expression,
-    in_specifiers, initial, initial_ends,
+    STUCK, behind_name, behind_type, ends_at, expression_due, in_declarator, in_expression,
+    in_specifiers, initial, initial_ends, target,
 };
-use sc_parse_unit::{Around, Obstacle, Stage};
+use sc_parse_unit::{Around, End, Obstacle, Stage};
 use std::alloc::Global;
 
 /// `(` is due.
@@ -48,12 +48,15 @@ fn place(
         Stage::Expression(frames, state) => {
             in_expression(alloc, names, token, around, frames, state)
         }
+        Stage::Name(line, name) => behind_name(alloc, names, token, around, line, name),
+        Stage::TypeName(line, name) => behind_type(alloc, names, token, around, line, name),
+        Stage::Target(line) => target(alloc, token, line),
         Stage::Initial => initial(alloc, names, token, around),
         Stage::Closed(x) => initial_ends(alloc, token.kind, around, x),
         Stage::LeftParen => left_paren(token.kind),
         Stage::Need => expression_due(alloc, names, token, around),
-        Stage::Colon => ends_at_colon(token.kind, Stage::Due),
-        Stage::Semicolon(last) => ends_at_semicolon(token.kind, Stage::Got(last)),
+        Stage::Colon => ends_at(End::Colon, token.kind, Stage::Due),
+        Stage::Semicolon(last) => ends_at(End::Semicolon, token.kind, Stage::Got(last)),
         Stage::Got(last) => got(alloc, names, token, around, last),
         Stage::Over => Err(STUCK),
     }
@@ -61,7 +64,7 @@ fn place(
 
 /// A token that is left out is named where nothing goes on with it.
 fn marked(kind: Kind, obstacle: Obstacle) -> Obstacle
-    ensures { result ≡ spec.mark_of kind obstacle }
+    ensures { result ≡ spec.mark_on kind obstacle }
 {
     match kind {
         Kind::LeftOut(mark) => match obstacle {

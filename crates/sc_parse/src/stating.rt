@@ -1,14 +1,18 @@
 // Statements.
 ghost use Rattle.std.specs.Prelude.{◌≡◌, List, [], ◌∷◌, ◌++◌, Some, None, Ok, IfOk, MatchOption, false, not, ◌&&◌};
 ghost use Rattle.sc_parse_names.specs.Names.{Names, is_typed as typed_in};
-ghost use Rattle.sc_parse_grammar.specs.Steps.{IsSymbol};
+ghost use Rattle.sc_parse_grammar.specs.Kinds.{begins_specifiers as begins_in};
+ghost use Rattle.sc_parse_grammar.specs.Steps.{IsSymbol, IsNamed};
 ghost use Rattle.sc_parse_unit.specs.Machine as spec;
 ghost use Rattle.sc_parse_unit.specs.Trees as trees;
 ghost use Rattle.sc_parse_unit.specs.Steps.{Goes, ends_on as ends_before};
 
 use sc_base::{NoMemory, Shared, Stack};
+use sc_parse_expr::is_typed;
+use sc_parse_grammar::classes::begins_specifiers;
+use sc_parse_grammar::nodes::name_of;
 use sc_parse_names::{Kind, Symbol, TypeNames};
-use sc_parse_parts::{STUCK, begin, empty_block, kept, specifiers, unit_with};
+use sc_parse_parts::{STUCK, begin, empty_block, has_room, kept, specifiers, unit_with};
 use sc_parse_unit::{Around, Head, Obstacle, Stage, Test};
 use sc_tree::{Block, Declarator, External, Function, Specifiers, Statement};
 use std::alloc::Global;
@@ -120,6 +124,24 @@ fn expression_begins(
     begin(alloc, names, token, around, 1)
 }
 
+/// A name with which a statement begins: that of a type is a label, where no declaration may come.
+fn named(
+    alloc: Global,
+    typed: bool,
+    token: &Symbol,
+    around: &mut Stack<Around>,
+) -> Result<Stage, Obstacle>
+    requires { IsNamed token.now.text }
+    ensures { (names : Names) → Goes (spec.named typed token.now names around.old) result names around.new }
+{
+    let name = name_of(alloc, &token.text)?;
+    if typed {
+        let head = Head::Label(token.line, name);
+        return kept(around, Around::Under(head), Stage::Colon);
+    }
+    Ok(Stage::Name(token.line, name))
+}
+
 /// A statement begins with the token.
 fn statement(
     alloc: Global,
@@ -144,14 +166,33 @@ fn statement(
         Kind::Continue => Ok(Stage::Semicolon(Statement::Continue(line))),
         Kind::Break => Ok(Stage::Semicolon(Statement::Break(line))),
         Kind::Return => kept(around, Around::Return(line), Stage::Need),
+        Kind::Goto => Ok(Stage::Target(line)),
+        Kind::Name => {
+            let typed = is_typed(names, token);
+            named(alloc, typed, token, around)
+        }
         _ => expression_begins(alloc, names, token, around),
     }
 }
 
-/// The most that is open around a statement: the unit, a function's block and 1,499 statements.
-const MAX_AROUND: usize = 1501;
+fn shallow_statement(
+    alloc: Global,
+    names: &mut TypeNames,
+    token: &Symbol,
+    around: &mut Stack<Around>,
+) -> Result<Stage, Obstacle>
+    requires { IsSymbol token.now }
+    ensures { Goes (spec.shallow around.old (spec.statement token.now names.old around.old token.now.kind)) result names.new around.new }
+{
+    if has_room(around) {
+        statement(alloc, names, token, around)
+    } else {
+        Err(Obstacle::Nesting)
+    }
+}
 
 /// A statement is due, or the end of a block.
+#[tactic(auto, using(crate::proofs::Others::statement_due_else))]
 fn statement_due(
     alloc: Global,
     names: &mut TypeNames,
@@ -163,12 +204,7 @@ fn statement_due(
 {
     match token.kind {
         Kind::RightBrace => block_ends(alloc, names, around),
-        _ => {
-            if around.len() > MAX_AROUND {
-                return Err(Obstacle::Nesting);
-            }
-            statement(alloc, names, token, around)
-        }
+        _ => shallow_statement(alloc, names, token, around),
     }
 }
 
@@ -199,35 +235,37 @@ fn is_early(around: &Stack<Around>) -> bool
     }
 }
 
-/// Whether a declaration begins with the token; `typed` says whether a name is that of a type.
-fn begins_declaration(typed: bool, kind: Kind) -> bool
-    ensures { result ≡ spec.begins_declaration typed kind }
-{
-    match kind {
-        Kind::Storage(_) => true,
-        Kind::Name => typed,
-        Kind::Void | Kind::Char | Kind::Short | Kind::Int | Kind::Long => true,
-        Kind::Signed | Kind::Unsigned | Kind::Const | Kind::Struct | Kind::Enum => true,
-        _ => false,
-    }
-}
-
-/// Whether the token is the name of a type.
-fn is_typed(names: &TypeNames, token: &Symbol) -> bool
-    ensures { result ≡ typed_in names.now token.now }
-{
-    match token.kind {
-        Kind::Name => names.is_type(&token.text),
-        _ => false,
-    }
-}
-
 /// Whether the token begins a declaration of a block. One may come only before the statements.
 fn is_declaration(names: &TypeNames, token: &Symbol, around: &Stack<Around>) -> bool
-    ensures { result ≡ spec.is_early around.now && spec.begins_declaration (typed_in names.now token.now) token.now.kind }
+    ensures { result ≡ spec.is_early around.now && begins_in (typed_in names.now token.now) token.now.kind }
 {
     let typed = is_typed(names, token);
-    is_early(around) && begins_declaration(typed, token.kind)
+    is_early(around) && begins_specifiers(typed, token.kind)
+}
+
+fn type_name(alloc: Global, token: &Symbol) -> Result<Stage, Obstacle>
+    requires { IsNamed token.now.text }
+    ensures { (names : Names) → (fs : List Around) → Goes (Ok (names, (fs, Stage.TypeName token.now.line token.now.text))) result names fs }
+{
+    let name = name_of(alloc, &token.text)?;
+    Ok(Stage::TypeName(token.line, name))
+}
+
+/// A declaration begins with the token, or with the name of a type: there a label may stand too.
+#[tactic(auto, using(crate::proofs::Others::early_else))]
+fn early(
+    alloc: Global,
+    names: &mut TypeNames,
+    token: &Symbol,
+    around: &mut Stack<Around>,
+) -> Result<Stage, Obstacle>
+    requires { IsSymbol token.now }
+    ensures { Goes (spec.early token.now names.old around.old token.now.kind) result names.new around.new }
+{
+    match token.kind {
+        Kind::Name => type_name(alloc, token),
+        _ => specifiers(alloc, names, token, around),
+    }
 }
 
 /// A declaration or a statement of a block, or a statement under another, is due.
@@ -241,7 +279,7 @@ fn item_due(
     ensures { Goes (spec.item_due token.now names.old around.old) result names.new around.new }
 {
     if is_declaration(names, token, around) {
-        specifiers(alloc, names, token, around)
+        early(alloc, names, token, around)
     } else {
         statement_due(alloc, names, token, around)
     }
@@ -306,6 +344,7 @@ fn built(alloc: Global, head: Head, last: Statement) -> Result<Statement, NoMemo
         Head::For(line, x, y, z) => Statement::For(line, x, y, z, last),
         Head::Case(line, x) => Statement::Case(line, x, last),
         Head::Default(line) => Statement::Default(line, last),
+        Head::Label(line, name) => Statement::Label(line, name, last),
     })
 }
 

@@ -5,7 +5,7 @@ ghost use Rattle.sc_parse_grammar.specs.Steps.{IsSymbol};
 ghost use Rattle.sc_parse_expr.specs.Brackets as brackets;
 ghost use Rattle.sc_parse_unit.specs.Machine.{start};
 ghost use Rattle.sc_parse_unit.specs.Parse.{Gives};
-ghost use Rattle.sc_parse_unit.specs.Claims.{Parses};
+ghost use Rattle.sc_parse_laws.specs.Causes.{Parses};
 ghost use Rattle.sc_parse_tokens.specs.Symbols.{symbols as symbols_of};
 ghost use Rattle.sc_parse_unit.specs.Parse as spec;
 ghost use Rattle.sc_parse.specs.Turns.{Turns};
@@ -28,8 +28,6 @@ fn word_of(mark: Mark) -> &'static [u8]
     match mark {
         Mark::Float => b"float",
         Mark::Volatile => b"volatile",
-        Mark::Union => b"union",
-        Mark::Goto => b"goto",
         Mark::Variadic => b"variadic",
         Mark::LongLong => b"longlong",
         Mark::Wide => b"wide",

@@ -37,7 +37,7 @@ use Rattle.sc_parse_grammar.specs.Nodes.{offsetof_name, name_level, name_node, c
 use Rattle.sc_parse_grammar.specs.Types.{is_empty, has_words, no_words, with_word, with_const, with_storage, identifier_at, no_direct, named_direct, with_step, pointed, whole, declarator_of, declarator_in, declare_plain, declare_in, type_of, parameter_of, item_of}
 use Rattle.sc_parse_grammar.specs.Grammar.{Keeps, starts_at, text_with, is_named, is_abstract, is_group, is_void, is_right_paren, void_alone, Strings, a_text, more_text, Stars, a_star, more_star, const_star, Tag, no_tag, a_tag, Trailing, no_comma, a_comma, Phrase, name, constant, string, paren, offset_of, index, call, call_none, member, arrow, postfix, unary, size_of, size_of_type, cast, binary, conditional, assign, comma, Arguments, first, more, Specified, none, simple, const, stored, typedef, struct_tag, enum_tag, structure, enumeration, Members, one_member, more_members, MemberTokens, a_member, Declarators, one_declarator, more_declarators, Items, one_item, more_items, ItemTokens, bare_item, valued_item, TypeTokens, plain_type, derived_type, Level, direct, pointer, bare_pointer, DirectTokens, named, group, bare, suffix, Suffix, unsized, sized, unprototyped, no_parameters, prototype, Parameters, one_parameter, more_parameters, ParameterTokens, unnamed, declared}
 use Rattle.sc_parse_grammar.specs.Machine as mc
-use Rattle.sc_parse_grammar.specs.Machine.{Outcome, on_ok, needs, settle, settled, fits, few, have, run, finish, level_ends, item_behind, parameter_behind, under, inner_specified}
+use Rattle.sc_parse_grammar.specs.Machine.{Outcome, on_ok, needs, settle, settled, fits, have, run, finish, level_ends, item_behind, parameter_behind, under, inner_specified}
 use Rattle.sc_parse_sound.proofs.Levels.{level-small, level-positive, operand-tight, power-binary, power-assign, not_between}
 use Rattle.sc_parse_expr.proofs.Runs.{Leads, same, ◌▸◌, after, stepped, steps, counted, counted_end, regrouped, tested, keeps-one, keeps-left, keeps-right}
 use Rattle.sc_parse_expr.proofs.Heads.{Head, head-test, longer, begins_operand, operand_no_type, starts_operand, starts_type, starts, begins, NoCast, no_cast, begin_specified, begin_type, Opening, begin_direct, Beginning, begin_level, more_beginning, opens_level, opens_direct, is_name}
@@ -241,22 +241,22 @@ module _ (w : Bool) where
   word-step c fs v t us u h = same (ap (after t.kind c us) (kinds.words-simple (is_typed c t) t fs v t.kind u h))
 
   -- behind a tag that no braces follow
-  untag : (c : Names) (fs : List Frame) (v : Specifiers TypeWord) (l : ℕ) (tag : List ℕ) (rest : List Symbol) → no_brace rest ≡ true →
-      Leads w (run (c, (fs, s.StructTag v l tag)) rest) (run (c, (fs, s.Words (with_word v (word.StructTag l tag)))) rest)
-  untag c fs v l tag [] h = cc
-  untag c fs v l tag (u ∷ us) h = same (ap (after u.kind c us) (kinds.untagged (is_typed c u) u fs v l tag u.kind (not-true (kinds.is_brace u.kind) h)))
+  untag : (c : Names) (fs : List Frame) (v : Specifiers TypeWord) (l : ℕ) (union : Bool) (tag : List ℕ) (rest : List Symbol) → no_brace rest ≡ true →
+      Leads w (run (c, (fs, s.StructTag v l union tag)) rest) (run (c, (fs, s.Words (with_word v (word.StructTag l union tag)))) rest)
+  untag c fs v l union tag [] h = cc
+  untag c fs v l union tag (u ∷ us) h = same (ap (after u.kind c us) (kinds.untagged (is_typed c u) u fs v l union tag u.kind (not-true (kinds.is_brace u.kind) h)))
 
   untag_enum : (c : Names) (fs : List Frame) (v : Specifiers TypeWord) (l : ℕ) (tag : List ℕ) (rest : List Symbol) → no_brace rest ≡ true →
       Leads w (run (c, (fs, s.EnumTag v l tag)) rest) (run (c, (fs, s.Words (with_word v (word.EnumTag l tag)))) rest)
   untag_enum c fs v l tag [] h = cc
   untag_enum c fs v l tag (u ∷ us) h = same (ap (after u.kind c us) (kinds.untagged_enum (is_typed c u) u fs v l tag u.kind (not-true (kinds.is_brace u.kind) h)))
 
-  tags : {us : List Symbol} {tag : Option (List ℕ)} → Tag us tag → (c : Names) (fs : List Frame) (v : Specifiers TypeWord) (l : ℕ) (left : Symbol) (rest : List Symbol) →
-      left.kind ≡ k.LeftBrace → Leads w (run (c, (fs, s.Struct v l)) (us ++ left ∷ rest)) (run (c, (f.Struct v l tag [] ∷ fs, s.Due)) rest)
-  tags no_tag c fs v l left rest h = steps w (c, (fs, s.Struct v l)) (c, (f.Struct v l None [] ∷ fs, s.Due)) left rest (rw h refl)
-  tags (a_tag t g) c fs v l left rest h =
-      steps w (c, (fs, s.Struct v l)) (c, (fs, s.StructTag v l t.text)) t (left ∷ rest) (rw g refl) ▸
-      steps w (c, (fs, s.StructTag v l t.text)) (c, (f.Struct v l (Some t.text) [] ∷ fs, s.Due)) left rest (rw h refl)
+  tags : {us : List Symbol} {tag : Option (List ℕ)} → Tag us tag → (c : Names) (fs : List Frame) (v : Specifiers TypeWord) (l : ℕ) (union : Bool) (left : Symbol) (rest : List Symbol) →
+      left.kind ≡ k.LeftBrace → Leads w (run (c, (fs, s.Struct v l union)) (us ++ left ∷ rest)) (run (c, (f.Struct v l union tag [] ∷ fs, s.Due)) rest)
+  tags no_tag c fs v l union left rest h = steps w (c, (fs, s.Struct v l union)) (c, (f.Struct v l union None [] ∷ fs, s.Due)) left rest (rw h refl)
+  tags (a_tag t g) c fs v l union left rest h =
+      steps w (c, (fs, s.Struct v l union)) (c, (fs, s.StructTag v l union t.text)) t (left ∷ rest) (rw g refl) ▸
+      steps w (c, (fs, s.StructTag v l union t.text)) (c, (f.Struct v l union (Some t.text) [] ∷ fs, s.Due)) left rest (rw h refl)
 
   tags_enum : {us : List Symbol} {tag : Option (List ℕ)} → Tag us tag → (c : Names) (fs : List Frame) (v : Specifiers TypeWord) (l : ℕ) (left : Symbol) (rest : List Symbol) →
       left.kind ≡ k.LeftBrace → Leads w (run (c, (fs, s.Enum v l)) (us ++ left ∷ rest)) (run (c, (f.Enum v l tag [] ∷ fs, s.Items)) rest)
@@ -274,13 +274,13 @@ module _ (w : Bool) where
   some_items (more_items {xs} {x} t d h e) = kinds.some_more xs x
 
   -- Specifiers are due in a structure.
-  due_member : (b : Names) (fs : List Frame) (v : Specifiers TypeWord) (l : ℕ) (tag : Option (List ℕ)) (ms : List Member) (ts us : List Symbol) → Head (starts false b) ts →
-      Leads w (run (b, (f.Struct v l tag ms ∷ fs, s.Due)) (ts ++ us)) (run (b, (f.Struct v l tag ms ∷ fs, s.Words (no_words (line_of (ts ++ us))))) (ts ++ us))
+  due_member : (b : Names) (fs : List Frame) (v : Specifiers TypeWord) (l : ℕ) (union : Bool) (tag : Option (List ℕ)) (ms : List Member) (ts us : List Symbol) → Head (starts false b) ts →
+      Leads w (run (b, (f.Struct v l union tag ms ∷ fs, s.Due)) (ts ++ us)) (run (b, (f.Struct v l union tag ms ∷ fs, s.Words (no_words (line_of (ts ++ us))))) (ts ++ us))
   unfolding Head
-  due_member b fs v l tag ms ts us h = rw h.2 (same (ap (after h.0.kind b (h.1 ++ us)) (kinds.due-struct (is_typed b h.0) h.0 v l tag ms fs h.0.kind h.3)))
+  due_member b fs v l union tag ms ts us h = rw h.2 (same (ap (after h.0.kind b (h.1 ++ us)) (kinds.due-struct (is_typed b h.0) h.0 v l union tag ms fs h.0.kind h.3)))
 
   -- Specifiers are due where parameters begin or go on.
-  due_parameter : (b : Names) (fs : List Frame) (d : Direct) (ps : List Parameter) (ts us : List Symbol) → Head (starts true b) ts → (is_empty ps ≡ true → void_alone (ts ++ us) ≡ false) → no_brace us ≡ true →
+  pub due_parameter : (b : Names) (fs : List Frame) (d : Direct) (ps : List Parameter) (ts us : List Symbol) → Head (starts true b) ts → (is_empty ps ≡ true → void_alone (ts ++ us) ≡ false) → no_brace us ≡ true →
       Leads w (run (b, (f.Parameters d ps ∷ fs, s.Due)) (ts ++ us)) (run (b, (f.Parameters d ps ∷ fs, s.Words (no_words (line_of (ts ++ us))))) (ts ++ us))
   unfolding Head
   due_parameter b fs d (p ∷ ps) ts us h v n = rw h.2 (same refl)
@@ -319,7 +319,7 @@ module _ (w : Bool) where
       go t us h v n = at t us (is_void t.kind) refl h v n
 
   -- A declarator begins behind the words of a type name or a parameter.
-  begins_inner : (c : Names) (context : Frame) (fs : List Frame) (v : Specifiers TypeWord) (n : Mode) (ts us : List Symbol) → Beginning n ts → has_words v.words ≡ true →
+  pub begins_inner : (c : Names) (context : Frame) (fs : List Frame) (v : Specifiers TypeWord) (n : Mode) (ts us : List Symbol) → Beginning n ts → has_words v.words ≡ true →
       ((t : Symbol) → mc.specified t (context ∷ fs) v ≡ inner_specified t t.kind (context ∷ fs) v n) →
       Leads w (run (c, (context ∷ fs, s.Words v)) (ts ++ us)) (run (c, (f.Specifiers v ∷ context ∷ fs, s.Begin n)) (ts ++ us))
   begins_inner c context fs v n ts us o h g =
@@ -343,11 +343,11 @@ module _ (w : Bool) where
       end-inner true = refl
       end-inner false = refl
 
-  begins_member : (c : Names) (fs : List Frame) (x : Specifiers TypeWord) (l : ℕ) (tag : Option (List ℕ)) (ms : List Member) (v : Specifiers TypeWord) (ts us : List Symbol) → Beginning mode.Named ts → has_words v.words ≡ true →
-      Leads w (run (c, (f.Struct x l tag ms ∷ fs, s.Words v)) (ts ++ us)) (run (c, (f.Member v [] ∷ f.Struct x l tag ms ∷ fs, s.Begin mode.Named)) (ts ++ us))
-  begins_member c fs x l tag ms v ts us o h =
+  begins_member : (c : Names) (fs : List Frame) (x : Specifiers TypeWord) (l : ℕ) (union : Bool) (tag : Option (List ℕ)) (ms : List Member) (v : Specifiers TypeWord) (ts us : List Symbol) → Beginning mode.Named ts → has_words v.words ≡ true →
+      Leads w (run (c, (f.Struct x l union tag ms ∷ fs, s.Words v)) (ts ++ us)) (run (c, (f.Member v [] ∷ f.Struct x l union tag ms ∷ fs, s.Begin mode.Named)) (ts ++ us))
+  begins_member c fs x l union tag ms v ts us o h =
       let a = o.all in
-      rw a (same (ap (after o.t.kind c (o.us ++ us)) (kinds.words-end (is_typed c o.t) o.t (f.Struct x l tag ms ∷ fs) v o.t.kind refl (level-follows o.t.kind o.opens) h)))
+      rw a (same (ap (after o.t.kind c (o.us ++ us)) (kinds.words-end (is_typed c o.t) o.t (f.Struct x l union tag ms ∷ fs) v o.t.kind refl (level-follows o.t.kind o.opens) h)))
 
   reads_stars : {l : ℕ} {ts : List Symbol} {cs : List Bool} → Stars l ts cs → (b : Names) (fs : List Frame) (n : Mode) (us : List Symbol) →
       Leads w (run (b, (fs, s.Begin n)) (ts ++ us)) (run (b, (fs, s.Stars n l cs)) us)
@@ -489,10 +489,10 @@ module _ (w : Bool) where
   begin_declarators (more_declarators {ts} {us} t d h e) = more_beginning ts (t ∷ us) (begin_declarators d)
 
   -- No brace stands where a declarator begins.
-  beginning-no_brace : (n : Mode) (ts us : List Symbol) → Beginning n ts → no_brace (ts ++ us) ≡ true
+  pub beginning-no_brace : (n : Mode) (ts us : List Symbol) → Beginning n ts → no_brace (ts ++ us) ≡ true
   beginning-no_brace n ts us o = let a = o.all in rw a (let q = level-no_brace o.t.kind o.opens in rw q refl)
 
-  head-no_brace : (u : Symbol) (us : List Symbol) (kd : Kind) → u.kind ≡ kd → kinds.is_brace kd ≡ false → no_brace (u ∷ us) ≡ true
+  pub head-no_brace : (u : Symbol) (us : List Symbol) (kd : Kind) → u.kind ≡ kd → kinds.is_brace kd ≡ false → no_brace (u ∷ us) ≡ true
   head-no_brace u us kd h g = rw (h, g) refl
 
   paren-no_brace : (closing : Bool) → kinds.is_brace (end_paren closing) ≡ false
@@ -506,7 +506,7 @@ module _ (w : Bool) where
   parameter-ends c fs d ps v x us true = refl
   parameter-ends c fs d ps v x us false = refl
 
-  some_parameters : {b c : Names} {ts : List Symbol} {ps : List Parameter} → Parameters w b c ts ps → is_empty ps ≡ false
+  pub some_parameters : {b c : Names} {ts : List Symbol} {ps : List Parameter} → Parameters w b c ts ps → is_empty ps ≡ false
   some_parameters (one_parameter d) = refl
   some_parameters (more_parameters {ps} {p} t d h e z) = kinds.some_more ps p
 
@@ -650,11 +650,11 @@ module _ (w : Bool) where
         regrouped w (b, (f.Arguments a [] 0 ∷ fs, s.Need)) _ _ (around xs ys (r ∷ us) t) ▸
         continues v fs a t (ys ++ r ∷ us) (keeps-left w n x.height z) h ▸
         reads y (f.Arguments a args n ∷ fs) r us one e (rw g (omega arith)) ▸
-        tested w d (f.Arguments a args n ∷ fs) x r us (few (length args) o) one (rw g refl) ▸
+        tested w d (f.Arguments a args n ∷ fs) x r us (mc.counted (f.Arguments a args n ∷ fs) o) one (rw g refl) ▸
         counted w r.kind d us (length args) o i
 
     -- the arguments up to a comma
-    continues : {b c : Names} {ts : List Symbol} {args : List Expr} {n : ℕ} → Arguments w b c ts args n → (fs : List Frame) (a : Operand) (t : Symbol) (us : List Symbol) →
+    pub continues : {b c : Names} {ts : List Symbol} {args : List Expr} {n : ℕ} → Arguments w b c ts args n → (fs : List Frame) (a : Operand) (t : Symbol) (us : List Symbol) →
         Keeps w n 200 → t.kind ≡ k.Comma → Leads w (run (b, (f.Arguments a [] 0 ∷ fs, s.Need)) (ts ++ t ∷ us)) (run (c, (f.Arguments a args n ∷ fs, s.Need)) us)
     continues {b} {c} (first {xs} {x} d e) fs a t us z g =
         let one = keeps-right w 0 x.height z in
@@ -666,7 +666,7 @@ module _ (w : Bool) where
         regrouped w (b, (f.Arguments a [] 0 ∷ fs, s.Need)) _ _ (around xs ys (t ∷ us) v) ▸
         continues e fs a v (ys ++ t ∷ us) (keeps-left w n x.height z) h ▸
         reads y (f.Arguments a args n ∷ fs) t us one i (rw g (omega arith)) ▸
-        tested w d (f.Arguments a args n ∷ fs) x t us (few (length args) o) one (rw g refl) ▸
+        tested w d (f.Arguments a args n ∷ fs) x t us (mc.counted (f.Arguments a args n ∷ fs) o) one (rw g refl) ▸
         counted w t.kind d us (length args) o j
 
     -- the words of specifiers
@@ -690,25 +690,25 @@ module _ (w : Bool) where
         regrouped w (b, (fs, s.Words (no_words l))) _ _ (append_assoc ts (t ∷ []) rest) ▸
         reads_words d fs (t ∷ rest) i (rw h refl) ▸
         steps w (c, (fs, s.Words v)) (c, (fs, s.Words (with_word v (word.Typedef t.line t.text)))) t rest (rw (h, g, e) refl)
-    reads_words {b} {c} {l} (struct_tag {ts} {v} t u d h g) fs rest i j =
+    reads_words {b} {c} {l} (struct_tag {ts} {v} {union} t u d h g) fs rest i j =
         regrouped w (b, (fs, s.Words (no_words l))) _ _ (append_assoc ts (t ∷ u ∷ []) rest) ▸
         reads_words d fs (t ∷ u ∷ rest) i (rw h refl) ▸
-        steps w (c, (fs, s.Words v)) (c, (fs, s.Struct v t.line)) t (u ∷ rest) (rw h refl) ▸
-        steps w (c, (fs, s.Struct v t.line)) (c, (fs, s.StructTag v t.line u.text)) u rest (rw g refl) ▸
-        untag c fs v t.line u.text rest j
+        steps w (c, (fs, s.Words v)) (c, (fs, s.Struct v t.line union)) t (u ∷ rest) (rw h refl) ▸
+        steps w (c, (fs, s.Struct v t.line union)) (c, (fs, s.StructTag v t.line union u.text)) u rest (rw g refl) ▸
+        untag c fs v t.line union u.text rest j
     reads_words {b} {c} {l} (enum_tag {ts} {v} t u d h g) fs rest i j =
         regrouped w (b, (fs, s.Words (no_words l))) _ _ (append_assoc ts (t ∷ u ∷ []) rest) ▸
         reads_words d fs (t ∷ u ∷ rest) i (rw h refl) ▸
         steps w (c, (fs, s.Words v)) (c, (fs, s.Enum v t.line)) t (u ∷ rest) (rw h refl) ▸
         steps w (c, (fs, s.Enum v t.line)) (c, (fs, s.EnumTag v t.line u.text)) u rest (rw g refl) ▸
         untag_enum c fs v t.line u.text rest j
-    reads_words {b} {c = d} {l} (structure {c} {ts} {us} {vs} {v} {tag} {members} t left right e h y g x r) fs rest i j =
+    reads_words {b} {c = d} {l} (structure {c} {ts} {us} {vs} {v} {tag} {members} {union} t left right e h y g x r) fs rest i j =
         regrouped w (b, (fs, s.Words (no_words l))) _ _ (braced ts us vs rest t left right) ▸
         reads_words e fs (t ∷ (us ++ left ∷ (vs ++ right ∷ rest))) i (rw h refl) ▸
-        steps w (c, (fs, s.Words v)) (c, (fs, s.Struct v t.line)) t (us ++ left ∷ (vs ++ right ∷ rest)) (rw h refl) ▸
-        tags y c fs v t.line left (vs ++ right ∷ rest) g ▸
-        reads_members x fs v t.line tag (right ∷ rest) ▸
-        same (ap (after right.kind d rest) (ap (mc.due (is_typed d right) right (f.Struct v t.line tag members ∷ fs)) r ∙ kinds.closes-struct (is_typed d right) right v t.line tag members fs (some_members x)))
+        steps w (c, (fs, s.Words v)) (c, (fs, s.Struct v t.line union)) t (us ++ left ∷ (vs ++ right ∷ rest)) (rw h refl) ▸
+        tags y c fs v t.line union left (vs ++ right ∷ rest) g ▸
+        reads_members x fs v t.line union tag (right ∷ rest) ▸
+        same (ap (after right.kind d rest) (ap (mc.due (is_typed d right) right (f.Struct v t.line union tag members ∷ fs)) r ∙ kinds.closes-struct (is_typed d right) right v t.line union tag members fs (some_members x)))
     reads_words {b} {c = d} {l} (enumeration {c} {ts} {us} {vs} {ws} {v} {tag} {items} t left right e h y g x a r) fs rest i j =
         regrouped w (b, (fs, s.Words (no_words l))) _ _ (trailed ts us vs ws rest t left right) ▸
         reads_words e fs (t ∷ (us ++ left ∷ (vs ++ (ws ++ right ∷ rest)))) i (rw h refl) ▸
@@ -756,22 +756,22 @@ module _ (w : Bool) where
         valued-ends true = refl
         valued-ends false = refl
 
-    reads_members : {b c : Names} {ts : List Symbol} {xs : List Member} → Members w b c ts xs → (fs : List Frame) (v : Specifiers TypeWord) (l : ℕ) (tag : Option (List ℕ)) (us : List Symbol) →
-        Leads w (run (b, (f.Struct v l tag [] ∷ fs, s.Due)) (ts ++ us)) (run (c, (f.Struct v l tag xs ∷ fs, s.Due)) us)
-    reads_members (one_member d) fs v l tag us = reads_member d fs v l tag [] us
-    reads_members {b} (more_members {ts} {us = vs} {ms} d e) fs v l tag us =
-        regrouped w (b, (f.Struct v l tag [] ∷ fs, s.Due)) _ _ (append_assoc ts vs us) ▸ reads_members d fs v l tag (vs ++ us) ▸ reads_member e fs v l tag ms us
+    reads_members : {b c : Names} {ts : List Symbol} {xs : List Member} → Members w b c ts xs → (fs : List Frame) (v : Specifiers TypeWord) (l : ℕ) (union : Bool) (tag : Option (List ℕ)) (us : List Symbol) →
+        Leads w (run (b, (f.Struct v l union tag [] ∷ fs, s.Due)) (ts ++ us)) (run (c, (f.Struct v l union tag xs ∷ fs, s.Due)) us)
+    reads_members (one_member d) fs v l union tag us = reads_member d fs v l union tag [] us
+    reads_members {b} (more_members {ts} {us = vs} {ms} d e) fs v l union tag us =
+        regrouped w (b, (f.Struct v l union tag [] ∷ fs, s.Due)) _ _ (append_assoc ts vs us) ▸ reads_members d fs v l union tag (vs ++ us) ▸ reads_member e fs v l union tag ms us
 
-    reads_member : {b c : Names} {ts : List Symbol} {x : Member} → MemberTokens w b c ts x → (fs : List Frame) (v : Specifiers TypeWord) (l : ℕ) (tag : Option (List ℕ)) (xs : List Member) (us : List Symbol) →
-        Leads w (run (b, (f.Struct v l tag xs ∷ fs, s.Due)) (ts ++ us)) (run (c, (f.Struct v l tag (xs ++ x ∷ []) ∷ fs, s.Due)) us)
-    reads_member {b} {c = e} (a_member {c} {l = h} {ts} {us = vs} {v = x} {ds} u d at n y g) fs v l tag xs us =
-        let F : List Frame = f.Struct v l tag xs ∷ fs in
-        regrouped w (b, (f.Struct v l tag xs ∷ fs, s.Due)) _ _ (shape ts vs us u) ▸
-        due_member b fs v l tag xs ts (vs ++ u ∷ us) (begin_specified d at) ▸
-        same (ap (λ (n : ℕ). run (b, (f.Struct v l tag xs ∷ fs, s.Words (no_words n))) (ts ++ (vs ++ u ∷ us))) (line-is h ts (vs ++ u ∷ us) at)) ▸
-        reads_words d (f.Struct v l tag xs ∷ fs) (vs ++ u ∷ us) (λ e. cc) (beginning-no_brace mode.Named vs (u ∷ us) (begin_declarators y)) ▸
-        begins_member c fs v l tag xs x vs (u ∷ us) (begin_declarators y) n ▸
-        reads_declarators y (f.Struct v l tag xs ∷ fs) x u us (rw g refl) ▸
+    reads_member : {b c : Names} {ts : List Symbol} {x : Member} → MemberTokens w b c ts x → (fs : List Frame) (v : Specifiers TypeWord) (l : ℕ) (union : Bool) (tag : Option (List ℕ)) (xs : List Member) (us : List Symbol) →
+        Leads w (run (b, (f.Struct v l union tag xs ∷ fs, s.Due)) (ts ++ us)) (run (c, (f.Struct v l union tag (xs ++ x ∷ []) ∷ fs, s.Due)) us)
+    reads_member {b} {c = e} (a_member {c} {l = h} {ts} {us = vs} {v = x} {ds} u d at n y g) fs v l union tag xs us =
+        let F : List Frame = f.Struct v l union tag xs ∷ fs in
+        regrouped w (b, (f.Struct v l union tag xs ∷ fs, s.Due)) _ _ (shape ts vs us u) ▸
+        due_member b fs v l union tag xs ts (vs ++ u ∷ us) (begin_specified d at) ▸
+        same (ap (λ (n : ℕ). run (b, (f.Struct v l union tag xs ∷ fs, s.Words (no_words n))) (ts ++ (vs ++ u ∷ us))) (line-is h ts (vs ++ u ∷ us) at)) ▸
+        reads_words d (f.Struct v l union tag xs ∷ fs) (vs ++ u ∷ us) (λ e. cc) (beginning-no_brace mode.Named vs (u ∷ us) (begin_declarators y)) ▸
+        begins_member c fs v l union tag xs x vs (u ∷ us) (begin_declarators y) n ▸
+        reads_declarators y (f.Struct v l union tag xs ∷ fs) x u us (rw g refl) ▸
         same (rw g refl)
       where
         shape : (ts vs us : List Symbol) (u : Symbol) → (ts ++ vs ++ u ∷ []) ++ us ≡ ts ++ (vs ++ u ∷ us)
@@ -854,7 +854,7 @@ module _ (w : Bool) where
         reads_parameters y fs d true r us h (void-further ts r us h v)
 
     -- the parameters, and the token behind them
-    reads_parameters : {b c : Names} {ts : List Symbol} {ps : List Parameter} → Parameters w b c ts ps → (fs : List Frame) (d : Direct) (closing : Bool) (u : Symbol) (us : List Symbol) → u.kind ≡ end_paren closing →
+    pub reads_parameters : {b c : Names} {ts : List Symbol} {ps : List Parameter} → Parameters w b c ts ps → (fs : List Frame) (d : Direct) (closing : Bool) (u : Symbol) (us : List Symbol) → u.kind ≡ end_paren closing →
         void_alone (ts ++ u ∷ us) ≡ false → Leads w (run (b, (f.Parameters d [] ∷ fs, s.Due)) (ts ++ u ∷ us)) (on_ok (λ e. run e us) (parameter_behind c fs d ps closing))
     reads_parameters (one_parameter x) fs d closing u us h v = reads_parameter x fs d [] closing u us h (λ e. omega arith) (λ e. v)
     reads_parameters {b} (more_parameters {c} {ts} {us = vs} {ps} t x g y z) fs d closing u us h v =

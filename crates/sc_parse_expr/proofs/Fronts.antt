@@ -21,8 +21,8 @@ use Rattle.sc_parse_grammar.specs.Machine.{Config, on_ok, mark_of, step, run, fi
 use Rattle.sc_parse_grammar.specs.Steps.{Moves}
 use Rattle.sc_parse_expr.specs.declared.driver.Found.{Found}
 use Rattle.sc_parse_expr.specs.declared.driver.Refused.{Refused}
-use Rattle.sc_parse_expr.specs.Brackets.{opens_with}
-use Rattle.sc_parse_expr.specs.Reading.{found, refused, end_symbol, line_for, ended_in, found_or, next, unfinished, read, start, Answers, closes, Follows, AreShallow, Begins, BeginsWithin, Gives, OneTree, IsRefusal, RefusedOnly}
+use Rattle.sc_parse_expr.specs.Brackets.{opens_with, AreShallow}
+use Rattle.sc_parse_expr.specs.Reading.{Outcome, found, refused, end_symbol, line_for, ended_in, found_or, next, unfinished, read, start, Answers, closes, Follows, Begins, BeginsWithin, Gives, OneTree, IsRefusal, RefusedOnly}
 use Rattle.sc_parse_expr.proofs.Runs.{Answer, Leads, same, passed, ◌▸◌, after, tested}
 use Rattle.sc_parse_expr.proofs.Complete.{reads, at_least_one}
 
@@ -92,34 +92,42 @@ goes-on (names, (fs, state)) ts u c h = go (open-state state)
         let R : List Symbol → Type 0 = λ v. run (names, (fs, state)) v ≡ Ok c in
         absurd (over names fs q.0 m.0 m.1 c (subst P q.1 (subst R m.2 h)))
 
-Deep : ℕ → List Symbol → Result Found Refused → Type 0
+Deep : ℕ → List Symbol → Outcome → Type 0
 Deep depth tokens r = (line : ℕ) × (r ≡ Err (refused (no.Limit limit.Height) line)) × (AreShallow depth tokens → ⊥)
 
-pub too-deep : (n : ℕ) (line : ℕ) (r : Result Found Refused) → nat_lt 500 n ≡ true → cond (nat_lt 500 n) (Err (refused (no.Limit limit.Height) line)) r ≡ Err (refused (no.Limit limit.Height) line)
+pub too-deep : (n : ℕ) (line : ℕ) (r : Outcome) → nat_lt 500 n ≡ true → cond (nat_lt 500 n) (Err (refused (no.Limit limit.Height) line)) r ≡ Err (refused (no.Limit limit.Height) line)
 too-deep n line r h = rw h refl
 
 deep-not : (n : ℕ) → nat_lt 500 n ≡ true → n ≤ 500 → ⊥
 deep-not n h q = let g : 500 < n = grind (arith, nat_tests) in omega arith
 
-pub shallow : (n : ℕ) (line : ℕ) (r : Result Found Refused) → nat_lt 500 n ≡ false → cond (nat_lt 500 n) (Err (refused (no.Limit limit.Height) line)) r ≡ r
+pub shallow : (n : ℕ) (line : ℕ) (r : Outcome) → nat_lt 500 n ≡ false → cond (nat_lt 500 n) (Err (refused (no.Limit limit.Height) line)) r ≡ r
 shallow n line r h = rw h refl
 
+-- A token that ends an expression opens no bracket.
+closes-opens : (n : ℕ) (kd : Kind) → closes kd ≡ true → opens_with n kd ≤ n
+closes-opens n k.RightParen h = omega arith
+closes-opens n k.RightBracket h = omega arith
+closes-opens n k.RightBrace h = omega arith
+closes-opens n k.Colon h = omega arith
+closes-opens n k.Semicolon h = omega arith
+closes-opens n k.End h = omega arith
+closes-opens n kd h = cc
+
 -- at the token that ends the expression
-read-last : (depth last taken : ℕ) (c : Config) (us : List Symbol) (n : Names) (x : Operand) → run c (closer us ∷ []) ≡ Ok (n, ([], s.Expression x)) →
-    (read depth last taken c us ≡ Ok (found x.tree taken)) ⊎ Deep depth us (read depth last taken c us)
-unfolding closer Deep
-read-last depth last taken c [] n x h =
+read-last : (depth last taken : ℕ) (c : Config) (us : List Symbol) (n : Names) (x : Operand) → depth ≤ 500 → Follows us → run c (closer us ∷ []) ≡ Ok (n, ([], s.Expression x)) →
+    read depth last taken c us ≡ Ok (found x.tree taken, n)
+unfolding closer
+read-last depth last taken c [] n x w f h =
     let r = taken-step (λ d. run d []) (step end_symbol c) (n, ([], s.Expression x)) h in
     let e : step end_symbol c ≡ Ok (n, ([], s.Expression x)) = r.1 ∙ r.2 in
-    inl (ap (next (unfinished last) last last taken) e)
-read-last depth last taken c (u ∷ us) n x h = go (nat_lt 500 (opens_with depth u.kind)) refl
-  where
-    go : (b : Bool) → nat_lt 500 (opens_with depth u.kind) ≡ b → (read depth last taken c (u ∷ us) ≡ Ok (found x.tree taken)) ⊎ Deep depth (u ∷ us) (read depth last taken c (u ∷ us))
-    go true d = inr (u.line, too-deep (opens_with depth u.kind) u.line (next (λ d. read (opens_with depth u.kind) u.line (taken + 1) d us) last u.line taken (step u c)) d, λ a. deep-not (opens_with depth u.kind) d a.0)
-    go false d =
-        let r = taken-step (λ d. run d []) (step u c) (n, ([], s.Expression x)) h in
-        let e : step u c ≡ Ok (n, ([], s.Expression x)) = r.1 ∙ r.2 in
-        inl (shallow (opens_with depth u.kind) u.line (next (λ d. read (opens_with depth u.kind) u.line (taken + 1) d us) last u.line taken (step u c)) d ∙ ap (next (λ d. read (opens_with depth u.kind) u.line (taken + 1) d us) last u.line taken) e)
+    ap (next (unfinished last) last last taken) e
+read-last depth last taken c (u ∷ us) n x w f h =
+    let r = taken-step (λ d. run d []) (step u c) (n, ([], s.Expression x)) h in
+    let e : step u c ≡ Ok (n, ([], s.Expression x)) = r.1 ∙ r.2 in
+    let i = closes-opens depth u.kind f in
+    let q : nat_lt 500 (opens_with depth u.kind) ≡ false = grind (arith, nat_tests, i) in
+    shallow (opens_with depth u.kind) u.line (next (λ d. read (opens_with depth u.kind) u.line (taken + 1) d us) last u.line taken (step u c)) q ∙ ap (next (λ d. read (opens_with depth u.kind) u.line (taken + 1) d us) last u.line taken) e
 
 -- a token of the expression
 pub read-more : (depth last taken : ℕ) (c d : Config) (t : Symbol) (ts : List Symbol) → step t c ≡ Ok d → ended_in d.1.1 ≡ None → nat_lt 500 (opens_with depth t.kind) ≡ false →
@@ -129,30 +137,30 @@ read-more depth last taken c d t ts h e q =
     ap (next (λ d. read (opens_with depth t.kind) t.line (taken + 1) d ts) last t.line taken) h ∙
     ap (found_or (λ d. read (opens_with depth t.kind) t.line (taken + 1) d ts) taken d) e
 
-more-taken : (taken : ℕ) (ts : List Symbol) (t : Symbol) (x : Operand) → ◌≡◌ {A = Result Found Refused} (Ok (found x.tree (taken + 1 + length ts))) (Ok (found x.tree (taken + length (t ∷ ts))))
-more-taken taken ts t x = let e : taken + 1 + length ts ≡ taken + length (t ∷ ts) = omega arith in ap (λ (n : ℕ). Ok (found x.tree n)) e
+more-taken : (taken : ℕ) (ts : List Symbol) (t : Symbol) (x : Operand) (m : Names) → ◌≡◌ {A = Outcome} (Ok (found x.tree (taken + 1 + length ts), m)) (Ok (found x.tree (taken + length (t ∷ ts)), m))
+more-taken taken ts t x m = let e : taken + 1 + length ts ≡ taken + length (t ∷ ts) = omega arith in ap (λ (n : ℕ). Ok (found x.tree n, m)) e
 
-read-found : (ts : List Symbol) (depth last taken : ℕ) (c : Config) (us : List Symbol) (n : Names) (x : Operand) → run c (ts ++ closer us ∷ []) ≡ Ok (n, ([], s.Expression x)) →
-    (read depth last taken c (ts ++ us) ≡ Ok (found x.tree (taken + length ts))) ⊎ Deep depth (ts ++ us) (read depth last taken c (ts ++ us))
+read-found : (ts : List Symbol) (depth last taken : ℕ) (c : Config) (us : List Symbol) (n : Names) (x : Operand) → depth ≤ 500 → Follows us → run c (ts ++ closer us ∷ []) ≡ Ok (n, ([], s.Expression x)) →
+    (read depth last taken c (ts ++ us) ≡ Ok (found x.tree (taken + length ts), n)) ⊎ Deep depth ts (read depth last taken c (ts ++ us))
 unfolding Deep
-read-found [] depth last taken c us n x h = go (read-last depth last taken c us n x h)
-  where
-    go : (read depth last taken c us ≡ Ok (found x.tree taken)) ⊎ Deep depth us (read depth last taken c us) → (read depth last taken c us ≡ Ok (found x.tree (taken + 0))) ⊎ Deep depth us (read depth last taken c us)
-    go (inl p) = let e : taken ≡ taken + 0 = omega arith in inl (p ∙ ap (λ (n : ℕ). Ok (found x.tree n)) e)
-    go (inr p) = inr p
-read-found (t ∷ ts) depth last taken c us n x h =
+read-found [] depth last taken c us n x w f h = let e : taken ≡ taken + 0 = omega arith in inl (read-last depth last taken c us n x w f h ∙ ap (λ (m : ℕ). Ok (found x.tree m, n)) e)
+read-found (t ∷ ts) depth last taken c us n x w f h =
     let r = taken-step (λ d. run d (ts ++ closer us ∷ [])) (step t c) (n, ([], s.Expression x)) h in
-    go (nat_lt 500 (opens_with depth t.kind)) refl r.0 r.1 (goes-on r.0 ts (closer us) (n, ([], s.Expression x)) r.2) (read-found ts (opens_with depth t.kind) t.line (taken + 1) r.0 us n x r.2)
+    go (nat_lt 500 (opens_with depth t.kind)) refl r.0 r.1 (goes-on r.0 ts (closer us) (n, ([], s.Expression x)) r.2) (λ w. read-found ts (opens_with depth t.kind) t.line (taken + 1) r.0 us n x w f r.2)
   where
     go : (b : Bool) → nat_lt 500 (opens_with depth t.kind) ≡ b → (d : Config) → step t c ≡ Ok d → ended_in d.1.1 ≡ None →
-        (read (opens_with depth t.kind) t.line (taken + 1) d (ts ++ us) ≡ Ok (found x.tree (taken + 1 + length ts))) ⊎ Deep (opens_with depth t.kind) (ts ++ us) (read (opens_with depth t.kind) t.line (taken + 1) d (ts ++ us)) →
-        (read depth last taken c (t ∷ (ts ++ us)) ≡ Ok (found x.tree (taken + length (t ∷ ts)))) ⊎ Deep depth (t ∷ (ts ++ us)) (read depth last taken c (t ∷ (ts ++ us)))
-    go true q d e o p = inr (t.line, too-deep (opens_with depth t.kind) t.line (next (λ d. read (opens_with depth t.kind) t.line (taken + 1) d (ts ++ us)) last t.line taken (step t c)) q, λ a. deep-not (opens_with depth t.kind) q a.0)
-    go false q d e o (inl p) = inl (read-more depth last taken c d t (ts ++ us) e o q ∙ p ∙ more-taken taken ts t x)
-    go false q d e o (inr p) = inr (p.0, read-more depth last taken c d t (ts ++ us) e o q ∙ p.1, λ a. p.2 a.1)
+        (opens_with depth t.kind ≤ 500 → (read (opens_with depth t.kind) t.line (taken + 1) d (ts ++ us) ≡ Ok (found x.tree (taken + 1 + length ts), n)) ⊎ Deep (opens_with depth t.kind) ts (read (opens_with depth t.kind) t.line (taken + 1) d (ts ++ us))) →
+        (read depth last taken c (t ∷ (ts ++ us)) ≡ Ok (found x.tree (taken + length (t ∷ ts)), n)) ⊎ Deep depth (t ∷ ts) (read depth last taken c (t ∷ (ts ++ us)))
+    go true q d e o more = inr (t.line, too-deep (opens_with depth t.kind) t.line (next (λ d. read (opens_with depth t.kind) t.line (taken + 1) d (ts ++ us)) last t.line taken (step t c)) q, λ a. deep-not (opens_with depth t.kind) q a.0)
+    go false q d e o more = at (more (let i : opens_with depth t.kind ≤ 500 = grind (arith, nat_tests) in i))
+      where
+        at : (read (opens_with depth t.kind) t.line (taken + 1) d (ts ++ us) ≡ Ok (found x.tree (taken + 1 + length ts), n)) ⊎ Deep (opens_with depth t.kind) ts (read (opens_with depth t.kind) t.line (taken + 1) d (ts ++ us)) →
+            (read depth last taken c (t ∷ (ts ++ us)) ≡ Ok (found x.tree (taken + length (t ∷ ts)), n)) ⊎ Deep depth (t ∷ ts) (read depth last taken c (t ∷ (ts ++ us)))
+        at (inl p) = inl (read-more depth last taken c d t (ts ++ us) e o q ∙ p ∙ more-taken taken ts t x n)
+        at (inr p) = inr (p.0, read-more depth last taken c d t (ts ++ us) e o q ∙ p.1, λ a. p.2 a.1)
 
 -- a refusal for a limit
-IsLimited : Result Found Refused → Type 0
+IsLimited : Outcome → Type 0
 IsLimited r = (l : Limit) × (line : ℕ) × (r ≡ Err (refused (no.Limit l) line))
 
 limited-step : (go : Config → Answer) (o : Answer) (l : Limit) → on_ok go o ≡ Err (no.Limit l) → (o ≡ Err (no.Limit l)) ⊎ ((d : Config) × (o ≡ Ok d) × (go d ≡ Err (no.Limit l)))
@@ -222,15 +230,15 @@ read-limited (t ∷ ts) depth last taken c us l h =
         let m = more r.0 r.2 in
         (m.0, m.1, read-more depth last taken c r.0 t (ts ++ us) r.1 (goes-on_limit r.0 ts (closer us) l r.2) q ∙ m.2)
 
-ok-same : (x y : Found) → ◌≡◌ {A = Result Found Refused} (Ok x) (Ok y) → x ≡ y
+ok-same : (x y : Found × Names) → ◌≡◌ {A = Outcome} (Ok x) (Ok y) → x ≡ y
 ok-same x y h = cc
 
-refused-same : (x y : Refused) → ◌≡◌ {A = Result Found Refused} (Err x) (Err y) → x ≡ y
+refused-same : (x y : Refused) → ◌≡◌ {A = Outcome} (Err x) (Err y) → x ≡ y
 refused-same x y h = cc
 
 -- An answer that is not the one computed was given for want of memory.
-no-memory : (o : Result Found Refused) (e : Refused) → Answers o (Err e) → (o ≡ Err e → ⊥) → e.trouble ≡ no.NoMemory
-no-memory o e a n = go e.trouble refl
+no-memory : (o : Outcome) (e : Refused) (after : Names) → Answers o (Err e) after → (o ≡ Err e → ⊥) → e.trouble ≡ no.NoMemory
+no-memory o e after a n = go e.trouble refl
   where
     go : (tr : Trouble) → e.trouble ≡ tr → tr ≡ no.NoMemory
     go no.NoMemory h = refl
@@ -238,9 +246,9 @@ no-memory o e a n = go e.trouble refl
     go (no.LeftOut m) h = absurd (n (a (λ q. let p : no.LeftOut m ≡ no.NoMemory = sym h ∙ q in cc)))
     go (no.Limit l) h = absurd (n (a (λ q. let p : no.Limit l ≡ no.NoMemory = sym h ∙ q in cc)))
 
-gives : (o : Result Found Refused) (x : Operand) (taken : ℕ) (result : Result Found Refused) → Answers o result → o ≡ Ok (found x.tree taken) → Gives x taken result
-gives o x taken (Ok r) a h = ok-same r (found x.tree taken) (sym a ∙ h)
-gives o x taken (Err e) a h = no-memory o e a (λ q. let p : ◌≡◌ {A = Result Found Refused} (Ok (found x.tree taken)) (Err e) = sym h ∙ q in cc)
+gives : (o : Outcome) (x : Operand) (taken : ℕ) (n : Names) (result : Result Found Refused) (after : Names) → Answers o result after → o ≡ Ok (found x.tree taken, n) → Gives x taken result
+gives o x taken n (Ok r) after a h = ap (λ (z : Found × Names). z.0) (ok-same (r, after) (found x.tree taken, n) (sym a ∙ h))
+gives o x taken n (Err e) after a h = no-memory o e after a (λ q. let p : ◌≡◌ {A = Outcome} (Ok (found x.tree taken, n)) (Err e) = sym h ∙ q in cc)
 
 is-refusal : (tr : Trouble) → IsRefusal tr → tr ≡ no.NoMemory → ⊥
 is-refusal no.Syntax r h = cc
@@ -252,37 +260,39 @@ no-limit : (l : Limit) (tr : Trouble) → tr ≡ no.Limit l → IsRefusal tr →
 no-limit l tr h r = let P : Trouble → Type 0 = λ v. IsRefusal v in subst P h r
 
 -- what is read, where an expression within the limits stands at the front
-reads-it : (names : Names) (tokens : List Symbol) (x : Operand) (taken : ℕ) → BeginsWithin names tokens x taken → read 0 1 0 (start names) tokens ≡ Ok (found x.tree taken)
+reads-it : (names : Names) (tokens : List Symbol) (x : Operand) (taken : ℕ) (w : BeginsWithin names tokens x taken) → read 0 1 0 (start names) tokens ≡ Ok (found x.tree taken, w.begins.after)
 unfolding Deep
 reads-it names tokens x taken w =
     let b = w.begins in
     go (whole true b.phrase (closer b.us) (closer-closes b.us b.follows) (λ h. w.height))
   where
-    at : (read 0 1 0 (start names) (w.begins.ts ++ w.begins.us) ≡ Ok (found x.tree (0 + length w.begins.ts))) ⊎ Deep 0 (w.begins.ts ++ w.begins.us) (read 0 1 0 (start names) (w.begins.ts ++ w.begins.us)) → read 0 1 0 (start names) tokens ≡ Ok (found x.tree taken)
+    at : (read 0 1 0 (start names) (w.begins.ts ++ w.begins.us) ≡ Ok (found x.tree (0 + length w.begins.ts), w.begins.after)) ⊎ Deep 0 w.begins.ts (read 0 1 0 (start names) (w.begins.ts ++ w.begins.us)) →
+        read 0 1 0 (start names) tokens ≡ Ok (found x.tree taken, w.begins.after)
     at (inl p) =
         let z : 0 + length w.begins.ts ≡ length w.begins.ts = omega arith in
         let q : 0 + length w.begins.ts ≡ taken = z ∙ w.begins.count in
-        ap (read 0 1 0 (start names)) w.begins.all ∙ p ∙ ap (λ (n : ℕ). Ok (found x.tree n)) q
-    at (inr d) = let P : List Symbol → Type 0 = λ v. AreShallow 0 v in absurd (d.2 (subst P w.begins.all w.shallow))
+        ap (read 0 1 0 (start names)) w.begins.all ∙ p ∙ ap (λ (n : ℕ). Ok (found x.tree n, w.begins.after)) q
+    at (inr d) = absurd (d.2 w.shallow)
 
-    go : Leads true (run (start names) (w.begins.ts ++ closer w.begins.us ∷ [])) (Ok (w.begins.after, ([], s.Expression x))) → read 0 1 0 (start names) tokens ≡ Ok (found x.tree taken)
+    go : Leads true (run (start names) (w.begins.ts ++ closer w.begins.us ∷ [])) (Ok (w.begins.after, ([], s.Expression x))) → read 0 1 0 (start names) tokens ≡ Ok (found x.tree taken, w.begins.after)
     go (passed e l) = cc
-    go (same e) = at (read-found w.begins.ts 0 1 0 (start names) w.begins.us w.begins.after x e)
+    go (same e) = at (read-found w.begins.ts 0 1 0 (start names) w.begins.us w.begins.after x (omega arith) w.begins.follows e)
 
 -- An expression within the limits is read.
-pub found_by : (names : Names) (tokens : List Symbol) (result : Result Found Refused) → Answers (read 0 1 0 (start names) tokens) result →
+pub found_by : (names : Names) (tokens : List Symbol) (result : Result Found Refused) (after : Names) → Answers (read 0 1 0 (start names) tokens) result after →
     (x : Operand) (taken : ℕ) → BeginsWithin names tokens x taken → Gives x taken result
-found_by names tokens result a x taken w = gives (read 0 1 0 (start names) tokens) x taken result a (reads-it names tokens x taken w)
+found_by names tokens result after a x taken w = gives (read 0 1 0 (start names) tokens) x taken w.begins.after result after a (reads-it names tokens x taken w)
 
 -- Tokens begin with at most one expression within the limits.
 pub one_tree : (names : Names) (tokens : List Symbol) → OneTree names tokens
 one_tree names tokens x y m n w v =
-    let p = ok-same (found x.tree m) (found y.tree n) (sym (reads-it names tokens x m w) ∙ reads-it names tokens y n v) in
+    let q = ok-same (found x.tree m, w.begins.after) (found y.tree n, v.begins.after) (sym (reads-it names tokens x m w) ∙ reads-it names tokens y n v) in
+    let p : found x.tree m ≡ found y.tree n = ap (λ (z : Found × Names). z.0) q in
     (ap (λ (r : Found). r.tree) p, ap (λ (r : Found). r.taken) p)
 
-refused-at : (names : Names) (tokens : List Symbol) (e : Refused) → Answers (read 0 1 0 (start names) tokens) (Err e) → IsRefusal e.trouble → (x : Operand) (taken : ℕ) → Begins false names tokens x taken → ⊥
+refused-at : (names : Names) (tokens : List Symbol) (e : Refused) (after : Names) → Answers (read 0 1 0 (start names) tokens) (Err e) after → IsRefusal e.trouble → (x : Operand) (taken : ℕ) → Begins false names tokens x taken → ⊥
 unfolding Deep IsLimited
-refused-at names tokens e a r x taken b = go (whole false b.phrase (closer b.us) (closer-closes b.us b.follows) (λ h. cc))
+refused-at names tokens e after a r x taken b = go (whole false b.phrase (closer b.us) (closer-closes b.us b.follows) (λ h. cc))
   where
     is : read 0 1 0 (start names) (b.ts ++ b.us) ≡ Err e
     is = ap (read 0 1 0 (start names)) (sym b.all) ∙ a (is-refusal e.trouble r)
@@ -290,18 +300,18 @@ refused-at names tokens e a r x taken b = go (whole false b.phrase (closer b.us)
     limits : (l : Limit) (line : ℕ) → read 0 1 0 (start names) (b.ts ++ b.us) ≡ Err (refused (no.Limit l) line) → ⊥
     limits l line p = no-limit l e.trouble (ap (λ (v : Refused). v.trouble) (refused-same e (refused (no.Limit l) line) (sym is ∙ p))) r
 
-    at : (read 0 1 0 (start names) (b.ts ++ b.us) ≡ Ok (found x.tree (0 + length b.ts))) ⊎ Deep 0 (b.ts ++ b.us) (read 0 1 0 (start names) (b.ts ++ b.us)) → ⊥
-    at (inl p) = let q : ◌≡◌ {A = Result Found Refused} (Ok (found x.tree (0 + length b.ts))) (Err e) = sym p ∙ is in cc
+    at : (read 0 1 0 (start names) (b.ts ++ b.us) ≡ Ok (found x.tree (0 + length b.ts), b.after)) ⊎ Deep 0 b.ts (read 0 1 0 (start names) (b.ts ++ b.us)) → ⊥
+    at (inl p) = let q : ◌≡◌ {A = Outcome} (Ok (found x.tree (0 + length b.ts), b.after)) (Err e) = sym p ∙ is in cc
     at (inr d) = limits limit.Height d.0 d.1
 
     go : Leads false (run (start names) (b.ts ++ closer b.us ∷ [])) (Ok (b.after, ([], s.Expression x))) → ⊥
     go (passed f l) = let m = read-limited b.ts 0 1 0 (start names) b.us l.0 l.1 in limits m.0 m.1 m.2
-    go (same f) = at (read-found b.ts 0 1 0 (start names) b.us b.after x f)
+    go (same f) = at (read-found b.ts 0 1 0 (start names) b.us b.after x (omega arith) b.follows f)
 
 -- No expression, whatever its height, stands at the front of what is refused.
-pub refused_by : (names : Names) (tokens : List Symbol) (result : Result Found Refused) → Answers (read 0 1 0 (start names) tokens) result → RefusedOnly names tokens result
-refused_by names tokens (Ok r) a = tt
-refused_by names tokens (Err e) a = λ r x taken b. refused-at names tokens e a r x taken b
+pub refused_by : (names : Names) (tokens : List Symbol) (result : Result Found Refused) (after : Names) → Answers (read 0 1 0 (start names) tokens) result after → RefusedOnly names tokens result
+refused_by names tokens (Ok r) after a = tt
+refused_by names tokens (Err e) after a = λ r x taken b. refused-at names tokens e after a r x taken b
 
 -- What a step answers that did not fail for want of memory.
 pub moves_err : (o : Answer) (e : Trouble) (names : Names) (fs : List Frame) → Moves o (Err e) names fs → (e ≡ no.NoMemory → ⊥) → o ≡ Err e

@@ -15,7 +15,7 @@ use Rattle.sc_parse_grammar.specs.declared.trouble.Limit.{Limit}
 use Rattle.sc_parse_grammar.specs.declared.trouble.Limit.TheVariants as limit
 use Rattle.sc_parse_grammar.specs.Nodes.{higher}
 use Rattle.sc_parse_grammar.specs.Grammar.{Keeps}
-use Rattle.sc_parse_grammar.specs.Machine.{Config, Outcome, on_ok, mark_of, marked, effect, step, run, fits, few, have}
+use Rattle.sc_parse_grammar.specs.Machine.{Config, Outcome, on_ok, mark_of, marked, effect, step, run, fits, have}
 
 abbrev pub Answer : Type 0
 Answer = Result Config Trouble
@@ -67,12 +67,12 @@ module _ (w : Bool) where
       go false e = same refl
 
   -- a count that is tested
-  pub counted : (kd : Kind) (names : Names) (ts : List Symbol) (n : ℕ) (o : Outcome) → Keeps w n 30 → Leads w (after kd names ts (few n o)) (after kd names ts o)
-  counted kd names ts n o h = go (nat_lt n 31) refl
+  pub counted : (kd : Kind) (names : Names) (ts : List Symbol) (n : ℕ) (o : Outcome) → Keeps w n 30 → Leads w (after kd names ts (if nat_lt 30 n then Err (no.Limit limit.Arguments) else o)) (after kd names ts o)
+  counted kd names ts n o h = go (nat_lt 30 n) refl
     where
-      go : (b : Bool) → nat_lt n 31 ≡ b → Leads w (after kd names ts (cond b o (Err (no.Limit limit.Arguments)))) (after kd names ts o)
-      go true e = same refl
-      go false e = let g : 30 < n = grind (arith, nat_tests) in passed (not_kept w n 30 h g) (limit.Arguments, after-limit kd names ts limit.Arguments)
+      go : (b : Bool) → nat_lt 30 n ≡ b → Leads w (after kd names ts (cond b (Err (no.Limit limit.Arguments)) o)) (after kd names ts o)
+      go false e = same refl
+      go true e = let g : 30 < n = grind (arith, nat_tests) in passed (not_kept w n 30 h g) (limit.Arguments, after-limit kd names ts limit.Arguments)
 
   -- a count that is tested as a parameter ends
   pub counted_end : (ts : List Symbol) (n : ℕ) (a : Answer) → Keeps w n 30 →

@@ -25,7 +25,7 @@ use Rattle.sc_parse_grammar.specs.Kinds.{unary_of, postfix_of, binary_of, level_
 use Rattle.sc_parse_grammar.specs.Nodes.{postfix_node}
 use Rattle.sc_parse_grammar.specs.Types.{is_empty, has_words, no_words, with_word, no_direct, pointed}
 use Rattle.sc_parse_grammar.specs.Grammar.{is_named, is_void, is_right_paren}
-use Rattle.sc_parse_grammar.specs.Machine.{Outcome, needs, needs_in, level_in, settle, settled, fits, act, have, need, at_operator, at_postfix, at_unary, at_word, words, specified, due, void, tagged_structure, tagged_enumeration, items, is_left_paren, suffixes, direct_ends, stars, level_ends}
+use Rattle.sc_parse_grammar.specs.Machine.{Outcome, needs, needs_in, level_in, settle, settled, fits, counted, act, have, need, at_operator, at_postfix, at_unary, at_word, words, specified, due, void, tagged_structure, tagged_enumeration, items, is_left_paren, suffixes, direct_ends, stars, level_ends}
 use Rattle.sc_parse_sound.proofs.Levels.{level-small, level-positive, operand-tight, power-binary}
 use Rattle.sc_parse_expr.proofs.Heads.{opens_level}
 
@@ -50,14 +50,7 @@ settle_stops p q (frame ∷ fs) x n z a b c =
 act-binary : (kd : Kind) (op : Binary) (fs : List Frame) (x : Operand) → binary_of kd ≡ Some op → act kd fs x ≡ Ok (f.Binary x op ∷ fs, s.Need)
 act-binary (k.Assign o) op fs x is = cc
 act-binary k.Question op fs x is = cc
-act-binary k.Colon op fs x is = cc
-act-binary k.Comma op fs x is = cc
-act-binary k.RightParen op fs x is = cc
-act-binary k.RightBracket op fs x is = cc
-act-binary k.RightBrace op fs x is = cc
-act-binary k.Semicolon op fs x is = cc
-act-binary k.End op fs x is = cc
-act-binary kd op fs x is = ap (λ (o : Option Binary). at_operator o fs x) is
+act-binary kd op fs x is = ap (λ (o : Option Binary). at_operator o kd fs x) is
 
 pub have-binary : (kd : Kind) (op : Binary) (fs : List Frame) (x : Operand) → binary_of kd ≡ Some op → needs fs ≤ level_of op →
     have kd fs x ≡ fits x.height (Ok (f.Binary x op ∷ fs, s.Need))
@@ -83,10 +76,14 @@ have-assign (k.Assign o) op fs x is q w =
     ap (settled (k.Assign o)) (settle_stops 14 2 fs x q (omega arith) (omega arith) (omega arith) (λ _. omega arith)) ∙ rw (no, yes, same) refl
 have-assign kd op fs x is q w = cc
 
+not_counted : (fs : List Frame) (o : Outcome) → needs fs ≤ 1 → counted fs o ≡ o
+not_counted (f.Arguments a args n ∷ fs) o q = absurd (omega arith)
+not_counted _ o q = refl
+
 pub have-comma : (fs : List Frame) (x : Operand) → needs fs ≤ 1 → have k.Comma fs x ≡ fits x.height (Ok (f.Comma x ∷ fs, s.Need))
 have-comma fs x q =
     let yes : nat_le (needs fs) 1 ≡ true = grind (arith, nat_tests) in
-    ap (settled k.Comma) (settle_stops 1 1 fs x q (omega arith) (omega arith) (omega arith) (λ w. absurd (omega arith))) ∙ rw yes refl
+    ap (settled k.Comma) (settle_stops 1 1 fs x q (omega arith) (omega arith) (omega arith) (λ w. absurd (omega arith))) ∙ ap (fits x.height) (rw yes (not_counted fs (Ok (f.Comma x ∷ fs, s.Need)) q))
 
 pub have-postfix : (kd : Kind) (op : Postfix) (fs : List Frame) (x : Operand) → postfix_of kd ≡ Some op → 16 ≤ x.level → have kd fs x ≡ fits x.height (Ok (fs, s.Have (postfix_node x op)))
 have-postfix k.Increment op fs x is w = let near : nat_lt x.level 16 ≡ false = grind (arith, nat_tests) in rw near (ap (λ (o : Option Postfix). fits x.height (at_postfix o fs x)) is)
@@ -117,7 +114,7 @@ need-unary typed t fs kd op other is = cc
 pub words-simple : (typed : Bool) (t : Symbol) (fs : List Frame) (v : Specifiers TypeWord) (kd : Kind) (w : TypeWord) → word_of kd ≡ Some w →
     words typed t fs v kd ≡ Ok (fs, s.Words (with_word v w))
 words-simple typed t fs v k.Const w h = cc
-words-simple typed t fs v k.Struct w h = cc
+words-simple typed t fs v (k.Struct union) w h = cc
 words-simple typed t fs v k.Enum w h = cc
 words-simple typed t fs v k.Name w h = cc
 words-simple typed t fs v (k.Storage c) w h = cc
@@ -154,10 +151,10 @@ abbrev pub is_brace : Kind → Bool
 is_brace k.LeftBrace = true
 is_brace _ = false
 
-pub untagged : (typed : Bool) (t : Symbol) (fs : List Frame) (v : Specifiers TypeWord) (l : ℕ) (tag : List ℕ) (kd : Kind) → is_brace kd ≡ false →
-    tagged_structure typed t fs v l tag kd ≡ words typed t fs (with_word v (word.StructTag l tag)) kd
-untagged typed t fs v l tag k.LeftBrace h = cc
-untagged typed t fs v l tag kd h = refl
+pub untagged : (typed : Bool) (t : Symbol) (fs : List Frame) (v : Specifiers TypeWord) (l : ℕ) (union : Bool) (tag : List ℕ) (kd : Kind) → is_brace kd ≡ false →
+    tagged_structure typed t fs v l union tag kd ≡ words typed t fs (with_word v (word.StructTag l union tag)) kd
+untagged typed t fs v l union tag k.LeftBrace h = cc
+untagged typed t fs v l union tag kd h = refl
 
 pub untagged_enum : (typed : Bool) (t : Symbol) (fs : List Frame) (v : Specifiers TypeWord) (l : ℕ) (tag : List ℕ) (kd : Kind) → is_brace kd ≡ false →
     tagged_enumeration typed t fs v l tag kd ≡ words typed t fs (with_word v (word.EnumTag l tag)) kd
@@ -169,11 +166,11 @@ word-no_brace k.LeftBrace w h = cc
 word-no_brace kd w h = refl
 
 -- Specifiers are due.
-pub due-struct : (typed : Bool) (t : Symbol) (v : Specifiers TypeWord) (l : ℕ) (tag : Option (List ℕ)) (ms : List Member) (fs : List Frame) (kd : Kind) → begins_type typed kd ≡ true →
-    due typed t (f.Struct v l tag ms ∷ fs) kd ≡ words typed t (f.Struct v l tag ms ∷ fs) (no_words t.line) kd
-due-struct typed t v l tag [] fs kd h = refl
-due-struct typed t v l tag (m ∷ ms) fs k.RightBrace h = cc
-due-struct typed t v l tag (m ∷ ms) fs kd h = refl
+pub due-struct : (typed : Bool) (t : Symbol) (v : Specifiers TypeWord) (l : ℕ) (union : Bool) (tag : Option (List ℕ)) (ms : List Member) (fs : List Frame) (kd : Kind) → begins_type typed kd ≡ true →
+    due typed t (f.Struct v l union tag ms ∷ fs) kd ≡ words typed t (f.Struct v l union tag ms ∷ fs) (no_words t.line) kd
+due-struct typed t v l union tag [] fs kd h = refl
+due-struct typed t v l union tag (m ∷ ms) fs k.RightBrace h = cc
+due-struct typed t v l union tag (m ∷ ms) fs kd h = refl
 
 pub due-first : (typed : Bool) (t : Symbol) (d : Direct) (fs : List Frame) (kd : Kind) → begins_specifiers typed kd ≡ true → is_void kd ≡ false →
     due typed t (f.Parameters d [] ∷ fs) kd ≡ words typed t (f.Parameters d [] ∷ fs) (no_words t.line) kd
@@ -189,10 +186,10 @@ pub void-is : (kd : Kind) → is_void kd ≡ true → kd ≡ k.Void
 void-is k.Void h = refl
 void-is kd h = cc
 
-pub closes-struct : (typed : Bool) (t : Symbol) (v : Specifiers TypeWord) (l : ℕ) (tag : Option (List ℕ)) (ms : List Member) (fs : List Frame) → is_empty ms ≡ false →
-    due typed t (f.Struct v l tag ms ∷ fs) k.RightBrace ≡ Ok (fs, s.Words (with_word v (word.Struct l tag ms)))
-closes-struct typed t v l tag [] fs h = cc
-closes-struct typed t v l tag (m ∷ ms) fs h = refl
+pub closes-struct : (typed : Bool) (t : Symbol) (v : Specifiers TypeWord) (l : ℕ) (union : Bool) (tag : Option (List ℕ)) (ms : List Member) (fs : List Frame) → is_empty ms ≡ false →
+    due typed t (f.Struct v l union tag ms ∷ fs) k.RightBrace ≡ Ok (fs, s.Words (with_word v (word.Struct l union tag ms)))
+closes-struct typed t v l union tag [] fs h = cc
+closes-struct typed t v l union tag (m ∷ ms) fs h = refl
 
 pub closes-enum : (t : Symbol) (v : Specifiers TypeWord) (l : ℕ) (tag : Option (List ℕ)) (xs : List (Enumerator Expr)) (fs : List Frame) → is_empty xs ≡ false →
     items t (f.Enum v l tag xs ∷ fs) k.RightBrace ≡ Ok (fs, s.Words (with_word v (word.Enum l tag xs)))
@@ -210,6 +207,10 @@ ends k.Comma = true
 ends k.Semicolon = true
 ends k.LeftBrace = true
 ends (k.Assign None) = true
+ends k.RightBracket = true
+ends k.RightBrace = true
+ends k.Colon = true
+ends k.End = true
 ends _ = false
 
 pub ends-closed : (kd : Kind) → ends kd ≡ true → is_left_paren kd ≡ false
@@ -234,4 +235,12 @@ ends-stars t k.Comma fs l mode.Either c cs h g = refl
 ends-stars t k.Semicolon fs l mode.Either c cs h g = refl
 ends-stars t k.LeftBrace fs l mode.Either c cs h g = refl
 ends-stars t (k.Assign None) fs l mode.Either c cs h g = refl
+ends-stars t k.RightBracket fs l mode.Abstract c cs h g = refl
+ends-stars t k.RightBrace fs l mode.Abstract c cs h g = refl
+ends-stars t k.Colon fs l mode.Abstract c cs h g = refl
+ends-stars t k.End fs l mode.Abstract c cs h g = refl
+ends-stars t k.RightBracket fs l mode.Either c cs h g = refl
+ends-stars t k.RightBrace fs l mode.Either c cs h g = refl
+ends-stars t k.Colon fs l mode.Either c cs h g = refl
+ends-stars t k.End fs l mode.Either c cs h g = refl
 ends-stars t kd fs l m c cs h g = cc

@@ -18,7 +18,7 @@ use Rattle.sc_parse_expr.specs.declared.driver.Refused.{Refused}
 use Rattle.sc_parse_expr.specs.declared.driver.Turn.{Turn}
 use Rattle.sc_parse_expr.specs.declared.driver.Turn.TheVariants as turn
 use Rattle.sc_parse_expr.specs.Brackets.{opens_with}
-use Rattle.sc_parse_expr.specs.Reading.{found, refused, line_for, next, read, Answers, Turned, Turns}
+use Rattle.sc_parse_expr.specs.Reading.{Outcome, found, refused, line_for, next, read, Answers, Turned, Turns}
 use Rattle.sc_parse_expr.proofs.Fronts.{shallow, too-deep, read-more}
 
 pub turn_ok : (depth last taken : ℕ) (c : Config) (t : Symbol) (names : Names) (fs : List Frame) (state : State) (r : Turn) → opens_with depth t.kind ≤ 500 →
@@ -55,7 +55,7 @@ turn_deep depth last taken c t names fs w =
     λ n rest. too-deep (opens_with depth t.kind) t.line (next (λ d. read (opens_with depth t.kind) t.line (taken + 1) d rest) last t.line taken (step t c)) q
 
 -- What is left gives what all gives, behind one token more.
-pub reading_on : (whole : Result Found Refused) (depth last taken : ℕ) (c : Config) (left : List Symbol) (t : Symbol) (rest : List Symbol) (x : Turn) (names : Names) (fs : List Frame) (state : State) →
+pub reading_on : (whole : Outcome) (depth last taken : ℕ) (c : Config) (left : List Symbol) (t : Symbol) (rest : List Symbol) (x : Turn) (names : Names) (fs : List Frame) (state : State) →
     read depth last taken c left ≡ whole → left ≡ t ∷ rest → Turns depth last taken c t (Ok x) names fs → x ≡ turn.Open state →
     read (opens_with depth t.kind) t.line (taken + 1) (names, (fs, state)) rest ≡ whole
 reading_on whole depth last taken c left t rest x names fs state h e q o =
@@ -64,11 +64,11 @@ reading_on whole depth last taken c left t rest x names fs state h e q o =
     sym (go rest) ∙ ap (read depth last taken c) (sym e) ∙ h
 
 -- at the end of the tokens
-pub reading_ends : (whole : Result Found Refused) (depth last taken : ℕ) (c : Config) (left : List Symbol) (r : Result Found Refused) →
-    read depth last taken c left ≡ whole → left ≡ [] → Answers (read depth last taken c []) r → Answers whole r
-reading_ends whole depth last taken c left r h e a =
+pub reading_ends : (whole : Outcome) (depth last taken : ℕ) (c : Config) (left : List Symbol) (r : Result Found Refused) (after : Names) →
+    read depth last taken c left ≡ whole → left ≡ [] → Answers (read depth last taken c []) r after → Answers whole r after
+reading_ends whole depth last taken c left r after h e a =
     let q : read depth last taken c [] ≡ whole = ap (read depth last taken c) (sym e) ∙ h in
-    let P : Result Found Refused → Type 0 = λ v. Answers v r in subst P q a
+    let P : Outcome → Type 0 = λ v. Answers v r after in subst P q a
 
 pub all_rest : (left : List Symbol) (t : Symbol) (rest : List Symbol) → All IsSymbol left → left ≡ t ∷ rest → All IsSymbol rest
 all_rest left t rest h e =

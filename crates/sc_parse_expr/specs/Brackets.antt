@@ -1,5 +1,6 @@
 -- How many parentheses, brackets and braces are open.
-use Rattle.std.specs.Prelude.{ℕ, ◌+◌, ◌-◌}
+use Rattle.std.specs.Prelude.{ℕ, ◌+◌, ◌-◌, ◌≤◌, List, [], ◌∷◌}
+use Rattle.sc_parse_names.specs.declared.kind.Symbol.{Symbol}
 use Rattle.sc_parse_names.specs.declared.kind.Kind.{Kind}
 use Rattle.sc_parse_names.specs.declared.kind.Kind.TheVariants as k
 
@@ -12,3 +13,8 @@ opens_with n k.RightParen = n - 1
 opens_with n k.RightBracket = n - 1
 opens_with n k.RightBrace = n - 1
 opens_with n _ = n
+
+-- At most 500 are open at each place, where `depth` are open before the tokens.
+abbrev pub AreShallow : ℕ → List Symbol → Type 0
+AreShallow depth [] = Unit {0}
+AreShallow depth (t ∷ ts) = (opens_with depth t.kind ≤ 500) × AreShallow (opens_with depth t.kind) ts

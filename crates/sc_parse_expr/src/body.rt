@@ -71,11 +71,12 @@ fn due_member(
     frames: &mut Stack<Frame>,
     v: Specifiers,
     line: u32,
+    union: bool,
     tag: Option<Name>,
     members: Items<Member>,
 ) -> Result<State, Trouble>
     requires { IsSymbol token.now }
-    ensures { Steps (spec.due typed token.now (Frame.Struct v line tag members ∷ frames.old) token.now.kind) result frames.new }
+    ensures { Steps (spec.due typed token.now (Frame.Struct v line union tag members ∷ frames.old) token.now.kind) result frames.new }
 {
     if members.is_empty() {
         return again(
@@ -83,17 +84,17 @@ fn due_member(
             typed,
             token,
             frames,
-            Frame::Struct(v, line, tag, members),
+            Frame::Struct(v, line, union, tag, members),
         );
     }
     match token.kind {
-        Kind::RightBrace => with_body(v, TypeWord::Struct(line, tag, members)),
+        Kind::RightBrace => with_body(v, TypeWord::Struct(line, union, tag, members)),
         _ => again(
             alloc,
             typed,
             token,
             frames,
-            Frame::Struct(v, line, tag, members),
+            Frame::Struct(v, line, union, tag, members),
         ),
     }
 }
@@ -110,8 +111,8 @@ pub fn due(
 {
     match frames.pop() {
         Some(Frame::Parameters(d, ps)) => due_parameter(alloc, typed, token, frames, d, ps),
-        Some(Frame::Struct(v, line, tag, members)) => {
-            due_member(alloc, typed, token, frames, v, line, tag, members)
+        Some(Frame::Struct(v, line, union, tag, members)) => {
+            due_member(alloc, typed, token, frames, v, line, union, tag, members)
         }
         Some(other) => again(alloc, typed, token, frames, other),
         None => first_word(alloc, typed, token, frames),
@@ -138,12 +139,18 @@ pub fn void(
     }
 }
 
-fn structure_tag(alloc: Global, token: &Symbol, v: Specifiers, line: u32) -> Result<State, Trouble>
+fn structure_tag(
+    alloc: Global,
+    token: &Symbol,
+    v: Specifiers,
+    line: u32,
+    union: bool,
+) -> Result<State, Trouble>
     requires { IsNamed token.now.text }
-    ensures { (fs : List Frame) → Steps (Ok (fs, State.StructTag v line token.now.text)) result fs }
+    ensures { (fs : List Frame) → Steps (Ok (fs, State.StructTag v line union token.now.text)) result fs }
 {
     let name = name_of(alloc, &token.text)?;
-    Ok(State::StructTag(v, line, name))
+    Ok(State::StructTag(v, line, union, name))
 }
 
 fn structure_opens(
@@ -151,28 +158,30 @@ fn structure_opens(
     frames: &mut Stack<Frame>,
     v: Specifiers,
     line: u32,
+    union: bool,
     tag: Option<Name>,
 ) -> Result<State, Trouble>
-    ensures { Steps (Ok (Frame.Struct v line tag [] ∷ frames.old, State.Due)) result frames.new }
+    ensures { Steps (Ok (Frame.Struct v line union tag [] ∷ frames.old, State.Due)) result frames.new }
 {
-    frames.push(Frame::Struct(v, line, tag, Items::new(alloc)))?;
+    frames.push(Frame::Struct(v, line, union, tag, Items::new(alloc)))?;
     Ok(State::Due)
 }
 
-/// A token behind `struct`.
+/// A token behind `struct` or, where it is true, `union`.
 pub fn structure(
     alloc: Global,
     token: &Symbol,
     frames: &mut Stack<Frame>,
     v: Specifiers,
     line: u32,
+    union: bool,
 ) -> Result<State, Trouble>
     requires { IsSymbol token.now }
-    ensures { Steps (spec.structure token.now frames.old v line token.now.kind) result frames.new }
+    ensures { Steps (spec.structure token.now frames.old v line union token.now.kind) result frames.new }
 {
     match token.kind {
-        Kind::Name => structure_tag(alloc, token, v, line),
-        Kind::LeftBrace => structure_opens(alloc, frames, v, line, None),
+        Kind::Name => structure_tag(alloc, token, v, line, union),
+        Kind::LeftBrace => structure_opens(alloc, frames, v, line, union, None),
         _ => {
             drop(v);
             Err(Trouble::Syntax)
@@ -180,7 +189,7 @@ pub fn structure(
     }
 }
 
-/// A token behind `struct` and a tag.
+/// A token behind `struct` or `union` and a tag.
 pub fn tagged_structure(
     alloc: Global,
     typed: bool,
@@ -188,15 +197,16 @@ pub fn tagged_structure(
     frames: &mut Stack<Frame>,
     v: Specifiers,
     line: u32,
+    union: bool,
     tag: Name,
 ) -> Result<State, Trouble>
     requires { IsSymbol token.now }
-    ensures { Steps (spec.tagged_structure typed token.now frames.old v line tag token.now.kind) result frames.new }
+    ensures { Steps (spec.tagged_structure typed token.now frames.old v line union tag token.now.kind) result frames.new }
 {
     match token.kind {
-        Kind::LeftBrace => structure_opens(alloc, frames, v, line, Some(tag)),
+        Kind::LeftBrace => structure_opens(alloc, frames, v, line, union, Some(tag)),
         _ => {
-            let all = added(v, TypeWord::StructTag(line, tag))?;
+            let all = added(v, TypeWord::StructTag(line, union, tag))?;
             words(alloc, typed, token, frames, all)
         }
     }

@@ -5,7 +5,7 @@ ghost use Rattle.sc_parse_grammar.specs.Types.{no_direct as nothing, named_direc
 ghost use Rattle.sc_parse_grammar.specs.Steps.{Steps, IsSymbol, IsNamed};
 
 use crate::body::due;
-use crate::words::finish;
+use crate::words::{finish, unended};
 use sc_base::{Items, Name, NoMemory, Stack};
 use sc_parse_grammar::classes::begins_parameters;
 use sc_parse_grammar::expression::need;
@@ -36,13 +36,13 @@ fn member_of_struct(
     ensures { Steps (spec.member Kind.Semicolon frames.old v ds) result frames.new }
 {
     match frames.pop() {
-        Some(Frame::Struct(w, line, tag, members)) => {
+        Some(Frame::Struct(w, line, union, tag, members)) => {
             let member = Member {
                 line: v.line,
                 specifiers: v,
                 declarators: ds,
             };
-            struct_with(frames, w, line, tag, members, member)
+            struct_with(frames, w, line, union, tag, members, member)
         }
         Some(other) => {
             drop(other);
@@ -56,14 +56,15 @@ fn struct_with(
     frames: &mut Stack<Frame>,
     w: Specifiers,
     line: u32,
+    union: bool,
     tag: Option<Name>,
     mut members: Items<Member>,
     member: Member,
 ) -> Result<State, Trouble>
-    ensures { Steps (Ok (Frame.Struct w line tag (members ++ member ∷ []) ∷ frames.old, State.Due)) result frames.new }
+    ensures { Steps (Ok (Frame.Struct w line union tag (members ++ member ∷ []) ∷ frames.old, State.Due)) result frames.new }
 {
     members.push(member)?;
-    frames.push(Frame::Struct(w, line, tag, members))?;
+    frames.push(Frame::Struct(w, line, union, tag, members))?;
     Ok(State::Due)
 }
 
@@ -234,6 +235,23 @@ fn bare(
     }
 }
 
+/// The specifiers of a parameter stand alone, and nothing goes on with them.
+fn bare_specifiers(frames: &mut Stack<Frame>) -> Result<State, Trouble>
+    ensures { Steps (spec.bare_specifiers frames.old) result frames.new }
+{
+    match frames.pop() {
+        Some(Frame::Specifiers(v)) => {
+            drop(v);
+            unended(frames)
+        }
+        Some(other) => {
+            drop(other);
+            Err(Trouble::Syntax)
+        }
+        None => Err(Trouble::Syntax),
+    }
+}
+
 fn bare_stars(
     alloc: Global,
     kind: Kind,
@@ -244,7 +262,7 @@ fn bare_stars(
     ensures { Steps (spec.bare_stars kind frames.old line stars) result frames.new }
 {
     if stars.is_empty() {
-        return Err(Trouble::Syntax);
+        return bare_specifiers(frames);
     }
     under_stars(alloc, kind, frames, line, stars, no_direct(alloc))
 }

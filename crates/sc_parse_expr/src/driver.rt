@@ -85,7 +85,7 @@ fn at_end(
     last: u32,
     taken: usize,
 ) -> Result<Found, Refused>
-    ensures { (depth : ℕ) → spec.Answers (spec.read depth last taken (names.old, (frames, state)) []) result }
+    ensures { (depth : ℕ) → spec.Answers (spec.read depth last taken (names.old, (frames, state)) []) result names.new }
 {
     let mut frames = frames;
     let end = Symbol {
@@ -160,7 +160,7 @@ fn one_token(
 /// The expression that the tokens begin with.
 fn reading(alloc: Global, symbols: &[Symbol], names: &mut TypeNames) -> Result<Found, Refused>
     requires { All IsSymbol symbols.now }
-    ensures { spec.Answers (spec.read 0 1 0 (spec.start names.old) symbols.now) result }
+    ensures { spec.Answers (spec.read 0 1 0 (spec.start names.old) symbols.now) result names.new }
 {
     let mut frames = Stack::new(alloc);
     frames.push(Frame::Only(1))?;
@@ -188,7 +188,8 @@ fn reading(alloc: Global, symbols: &[Symbol], names: &mut TypeNames) -> Result<F
 }
 
 /// Reads the expression (ANSI 3.3) that the tokens begin with, and that ends with them or before `)`, `]`, `}`, `:` or
-/// `;`. `names` are the names of types in scope; the enumeration constants that the expression declares join them. Refused
+/// `;`. `names` are the names of types in scope; the enumeration constants that the expression declares join them, and
+/// what a refusal or want of memory leaves in them is of no use. Refused
 /// are tokens that begin with no such expression (`Syntax`, or `LeftOut` with what is left out there, at the line of the
 /// first token that does not go on), and what is beyond a limit: an expression higher than 200, more than 31 arguments
 /// or parameters, more than 500 open brackets. Each token of the kind `Name` has 1 to 255 bytes.
@@ -199,9 +200,9 @@ pub fn expression(
     names: &mut TypeNames,
 ) -> Result<Found, Refused>
     requires { All IsSymbol symbols.now }
-    ensures exact { spec.Answers (spec.read 0 1 0 (spec.start names.old) symbols.now) result }
+    ensures exact { spec.Answers (spec.read 0 1 0 (spec.start names.old) symbols.now) result names.new }
     ensures found { (x : Operand) (taken : ℕ) → spec.BeginsWithin names.old symbols.now x taken → spec.Gives x taken result }
-    ensures only { spec.FoundOnly names.old symbols.now result }
+    ensures only { spec.FoundOnly names.old symbols.now result names.new }
     ensures refused { spec.RefusedOnly names.old symbols.now result }
     ensures one { spec.OneTree names.old symbols.now }
 {

@@ -9,4 +9,4 @@ mod operand;
 mod words;
 
 pub use driver::{Found, Refused, Turn, expression, opens_with};
-pub use machine::step;
+pub use machine::{is_typed, step};

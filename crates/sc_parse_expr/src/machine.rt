@@ -46,9 +46,9 @@ fn place(
         State::Due => due(alloc, typed, token, frames),
         State::Words(v) => words(alloc, typed, token, frames, v),
         State::Void(line) => void(alloc, typed, token, frames, line),
-        State::Struct(v, line) => structure(alloc, token, frames, v, line),
-        State::StructTag(v, line, tag) => {
-            tagged_structure(alloc, typed, token, frames, v, line, tag)
+        State::Struct(v, line, union) => structure(alloc, token, frames, v, line, union),
+        State::StructTag(v, line, union, tag) => {
+            tagged_structure(alloc, typed, token, frames, v, line, union, tag)
         }
         State::Enum(v, line) => enumeration(alloc, token, frames, v, line),
         State::EnumTag(v, line, tag) => {
@@ -258,7 +258,7 @@ fn effect(
 }
 
 /// Whether the token is the name of a type.
-fn is_typed(names: &TypeNames, token: &Symbol) -> bool
+pub fn is_typed(names: &TypeNames, token: &Symbol) -> bool
     ensures { result ≡ typed_in names.now token.now }
 {
     match token.kind {

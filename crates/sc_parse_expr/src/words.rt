@@ -11,7 +11,7 @@ use sc_parse_grammar::classes::word_of;
 use sc_parse_grammar::close::needs;
 use sc_parse_grammar::nodes::{name_of, size_type_node};
 use sc_parse_grammar::parts::{added, constant, no_words, stored, type_name};
-use sc_parse_grammar::{Direct, Frame, Mode, State, Trouble, Whole};
+use sc_parse_grammar::{Direct, Frame, Limit, Mode, State, Trouble, Whole};
 use sc_parse_names::{Kind, Mark, Symbol};
 use sc_tree::{Declarator, Derivation, Member, Parameter, Specifiers, Storage, TypeName, TypeWord};
 use std::alloc::Global;
@@ -103,6 +103,16 @@ fn finish_comma(
     }
 }
 
+/// The token goes on with no parameter, which may be one too many all the same.
+pub fn unended(frames: &Stack<Frame>) -> Result<State, Trouble>
+    ensures { (fs : List Frame) → Steps (spec.unended frames.now) result fs }
+{
+    match frames.top() {
+        Some(Frame::Parameters(_, ps)) if ps.len() >= 31 => Err(Trouble::Limit(Limit::Arguments)),
+        _ => Err(Trouble::Syntax),
+    }
+}
+
 /// A token behind the specifiers, or the declarator, of a type name or a parameter.
 pub fn finish(
     alloc: Global,
@@ -119,7 +129,7 @@ pub fn finish(
         _ => {
             drop(v);
             drop(x);
-            Err(Trouble::Syntax)
+            unended(frames)
         }
     }
 }
@@ -201,8 +211,8 @@ fn specified(
 {
     match frames.pop() {
         Some(Frame::Outer) => outer_specified(token.kind, v),
-        Some(Frame::Struct(w, line, tag, members)) => {
-            let outside = Frame::Struct(w, line, tag, members);
+        Some(Frame::Struct(w, line, union, tag, members)) => {
+            let outside = Frame::Struct(w, line, union, tag, members);
             member_specified(alloc, token, frames, outside, v)
         }
         Some(Frame::Parameters(d, ps)) => {
@@ -335,12 +345,23 @@ fn storage_word(
     Ok(State::Words(stored(v, class)))
 }
 
+/// A storage class where none may stand.
+fn second_storage(frames: &Stack<Frame>, v: &Specifiers) -> Result<State, Trouble>
+    ensures { (fs : List Frame) → Steps (if has_words v.now.words then spec.unended frames.now else spec.stuck) result fs }
+{
+    if some_words(&v.words) {
+        unended(frames)
+    } else {
+        Err(Trouble::Syntax)
+    }
+}
+
 /// A storage class, which only declarations and parameters have.
 fn at_storage(frames: &mut Stack<Frame>, class: Storage, v: Specifiers) -> Result<State, Trouble>
     ensures { Steps (spec.at_storage class frames.old v v.storage) result frames.new }
 {
     if v.storage.is_some() {
-        return Err(Trouble::Syntax);
+        return second_storage(frames, &v);
     }
     match frames.pop() {
         Some(Frame::Outer) => storage_word(frames, Frame::Outer, class, v),
@@ -395,7 +416,7 @@ pub fn words(
 {
     match token.kind {
         Kind::Const => Ok(State::Words(constant(v))),
-        Kind::Struct => Ok(State::Struct(v, token.line)),
+        Kind::Struct(union) => Ok(State::Struct(v, token.line, union)),
         Kind::Enum => Ok(State::Enum(v, token.line)),
         Kind::Name => at_name(alloc, typed, token, frames, v),
         Kind::Storage(class) => at_storage(frames, class, v),

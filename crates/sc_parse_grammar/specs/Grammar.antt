@@ -162,18 +162,18 @@ mutual
     typedef : {storage : Bool} {b c : Names} {l : ℕ} {ts : List Symbol} {v : Specifiers TypeWord} (t : Symbol) →
         Specified w storage b c l ts v → has_words v.words ≡ false → t.kind ≡ k.Name → is_type c t.text ≡ true →
         Specified w storage b c l (ts ++ t ∷ []) (with_word v (word.Typedef t.line t.text))
-    struct_tag : {storage : Bool} {b c : Names} {l : ℕ} {ts : List Symbol} {v : Specifiers TypeWord} (t u : Symbol) →
-        Specified w storage b c l ts v → t.kind ≡ k.Struct → u.kind ≡ k.Name → Specified w storage b c l (ts ++ t ∷ u ∷ []) (with_word v (word.StructTag t.line u.text))
+    struct_tag : {storage : Bool} {b c : Names} {l : ℕ} {ts : List Symbol} {v : Specifiers TypeWord} {union : Bool} (t u : Symbol) →
+        Specified w storage b c l ts v → t.kind ≡ k.Struct union → u.kind ≡ k.Name → Specified w storage b c l (ts ++ t ∷ u ∷ []) (with_word v (word.StructTag t.line union u.text))
     enum_tag : {storage : Bool} {b c : Names} {l : ℕ} {ts : List Symbol} {v : Specifiers TypeWord} (t u : Symbol) →
         Specified w storage b c l ts v → t.kind ≡ k.Enum → u.kind ≡ k.Name → Specified w storage b c l (ts ++ t ∷ u ∷ []) (with_word v (word.EnumTag t.line u.text))
-    structure : {storage : Bool} {b c d : Names} {l : ℕ} {ts us vs : List Symbol} {v : Specifiers TypeWord} {tag : Option (List ℕ)} {members : List Member} (t left right : Symbol) →
-        Specified w storage b c l ts v → t.kind ≡ k.Struct → Tag us tag → left.kind ≡ k.LeftBrace → Members w c d vs members → right.kind ≡ k.RightBrace →
-        Specified w storage b d l (ts ++ t ∷ us ++ left ∷ vs ++ right ∷ []) (with_word v (word.Struct t.line tag members))
+    structure : {storage : Bool} {b c d : Names} {l : ℕ} {ts us vs : List Symbol} {v : Specifiers TypeWord} {tag : Option (List ℕ)} {members : List Member} {union : Bool} (t left right : Symbol) →
+        Specified w storage b c l ts v → t.kind ≡ k.Struct union → Tag us tag → left.kind ≡ k.LeftBrace → Members w c d vs members → right.kind ≡ k.RightBrace →
+        Specified w storage b d l (ts ++ t ∷ us ++ left ∷ vs ++ right ∷ []) (with_word v (word.Struct t.line union tag members))
     enumeration : {storage : Bool} {b c d : Names} {l : ℕ} {ts us vs ws : List Symbol} {v : Specifiers TypeWord} {tag : Option (List ℕ)} {items : List (Enumerator Expr)} (t left right : Symbol) →
         Specified w storage b c l ts v → t.kind ≡ k.Enum → Tag us tag → left.kind ≡ k.LeftBrace → Items w c d vs items → Trailing ws → right.kind ≡ k.RightBrace →
         Specified w storage b d l (ts ++ t ∷ us ++ left ∷ vs ++ ws ++ right ∷ []) (with_word v (word.Enum t.line tag items))
 
-  -- The tokens are these members of a structure, at least one.
+  -- The tokens are these members of a structure or union, at least one.
   pub data Members (w : Bool) : Names → Names → List Symbol → List Member → Type 0 where
     one_member : {b c : Names} {ts : List Symbol} {m : Member} → MemberTokens w b c ts m → Members w b c ts (m ∷ [])
     more_members : {b c d : Names} {ts us : List Symbol} {ms : List Member} {m : Member} → Members w b c ts ms → MemberTokens w c d us m → Members w b d (ts ++ us) (ms ++ m ∷ [])

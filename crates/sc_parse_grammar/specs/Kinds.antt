@@ -109,7 +109,7 @@ begins_type typed k.Long = true
 begins_type typed k.Signed = true
 begins_type typed k.Unsigned = true
 begins_type typed k.Const = true
-begins_type typed k.Struct = true
+begins_type typed (k.Struct union) = true
 begins_type typed k.Enum = true
 begins_type typed _ = false
 

@@ -108,9 +108,23 @@ settle p (frame ∷ fs) x = if nat_le p (level_in frame) then settle p fs (built
 abbrev pub fits : ℕ → Outcome → Outcome
 fits n outcome = if nat_lt 200 n then Err (no.Limit limit.Height) else outcome
 
--- No list is longer than the limit.
-abbrev pub few : ℕ → Outcome → Outcome
-few n outcome = if nat_lt n 31 then outcome else Err (no.Limit limit.Arguments)
+-- whether an argument ends that is the 32nd, or a further one
+abbrev pub is_full : List Frame → Bool
+is_full (f.Arguments a args n ∷ fs) = nat_lt 30 (length args)
+is_full _ = false
+
+-- An argument ends, which is one of at most 31.
+abbrev pub counted : List Frame → Outcome → Outcome
+counted fs outcome = if is_full fs then Err (no.Limit limit.Arguments) else outcome
+
+-- The token goes on with no operand: what was read may pass a limit all the same.
+abbrev pub wrong : List Frame × Operand → Outcome
+wrong r = fits r.1.height (counted r.0 stuck)
+
+-- The token goes on with no parameter, which may be one too many all the same.
+abbrev pub unended : List Frame → Outcome
+unended (f.Parameters d ps ∷ fs) = if nat_lt (length ps) 31 then stuck else Err (no.Limit limit.Arguments)
+unended _ = stuck
 
 -- A token behind at least one type word, or a declarator, ends the type name or the parameter.
 abbrev pub finish : Kind → List Frame → Specifiers TypeWord → Option Whole → Outcome
@@ -119,12 +133,12 @@ finish k.RightParen (f.SizeType l ∷ fs) v x = Ok (fs, s.Have (size_type_node l
 finish k.Comma (f.OffsetType l ∷ fs) v x = Ok (fs, s.OffsetComma l (type_of v (declarator_in x)))
 finish k.RightParen (f.Parameters d ps ∷ fs) v x = Ok (f.Parameters d ps ∷ fs, s.ParameterEnd v x true)
 finish k.Comma (f.Parameters d ps ∷ fs) v x = Ok (f.Parameters d ps ∷ fs, s.ParameterEnd v x false)
-finish _ _ v x = stuck
+finish _ fs v x = unended fs
 
 -- a token behind a declarator of a member
 abbrev pub member : Kind → List Frame → Specifiers TypeWord → List Declarator → Outcome
 member k.Comma fs v ds = Ok (f.Member v ds ∷ fs, s.Begin mode.Named)
-member k.Semicolon (f.Struct w l tag ms ∷ fs) v ds = Ok (f.Struct w l tag (ms ++ member_of v ds ∷ []) ∷ fs, s.Due)
+member k.Semicolon (f.Struct w l union tag ms ∷ fs) v ds = Ok (f.Struct w l union tag (ms ++ member_of v ds ∷ []) ∷ fs, s.Due)
 member k.Colon fs v ds = Err (no.LeftOut mark.BitField)
 member _ fs v ds = stuck
 
@@ -163,9 +177,14 @@ suffixes k.LeftBracket fs d = Ok (fs, s.Bracket d)
 suffixes k.LeftParen fs d = Ok (f.Parameters d [] ∷ fs, s.Due)
 suffixes kind fs d = direct_ends kind fs d
 
+-- The specifiers of a parameter stand alone, and nothing goes on with them.
+abbrev pub bare_specifiers : List Frame → Outcome
+bare_specifiers (f.Specifiers v ∷ fs) = unended fs
+bare_specifiers _ = stuck
+
 -- Nothing stands behind the stars, of which there is one at least.
 abbrev pub bare_stars : Kind → List Frame → ℕ → List Bool → Outcome
-bare_stars kind fs l [] = stuck
+bare_stars kind fs l [] = bare_specifiers fs
 bare_stars kind fs l (c ∷ cs) = level_ends kind fs l (pointed (c ∷ cs) no_direct)
 
 -- neither a name nor a parenthesis stands behind the stars
@@ -221,7 +240,7 @@ inner_specified t kind fs v m = begin t kind (f.Specifiers v ∷ fs) m
 -- a token behind at least one type word
 abbrev pub specified : Symbol → List Frame → Specifiers TypeWord → Outcome
 specified t (f.Outer ∷ fs) v = outer_specified t.kind fs v
-specified t (f.Struct w l tag ms ∷ fs) v = begin t t.kind (f.Member v [] ∷ f.Struct w l tag ms ∷ fs) mode.Named
+specified t (f.Struct w l union tag ms ∷ fs) v = begin t t.kind (f.Member v [] ∷ f.Struct w l union tag ms ∷ fs) mode.Named
 specified t (f.Parameters d ps ∷ fs) v = inner_specified t t.kind (f.Parameters d ps ∷ fs) v mode.Either
 specified t fs v = inner_specified t t.kind fs v mode.Abstract
 
@@ -262,7 +281,8 @@ at_word None t fs v = worded t fs v
 abbrev pub at_storage : Storage → List Frame → Specifiers TypeWord → Option Storage → Outcome
 at_storage class (f.Outer ∷ fs) v None = Ok (f.Outer ∷ fs, s.Words (with_storage v class))
 at_storage class (f.Parameters d ps ∷ fs) v None = Ok (f.Parameters d ps ∷ fs, s.Words (with_storage v class))
-at_storage class _ v _ = stuck
+at_storage class fs v (Some other) = if has_words v.words then unended fs else stuck
+at_storage class _ v None = stuck
 
 -- a name among specifiers
 abbrev pub at_name : Bool → Symbol → List Frame → Specifiers TypeWord → Outcome
@@ -271,17 +291,17 @@ at_name typed t fs v = if typed && is_empty v.words then Ok (fs, s.Words (with_w
 -- the words of specifiers
 abbrev pub words : Bool → Symbol → List Frame → Specifiers TypeWord → Kind → Outcome
 words typed t fs v k.Const = Ok (fs, s.Words (with_const v))
-words typed t fs v k.Struct = Ok (fs, s.Struct v t.line)
+words typed t fs v (k.Struct union) = Ok (fs, s.Struct v t.line union)
 words typed t fs v k.Enum = Ok (fs, s.Enum v t.line)
 words typed t fs v k.Name = at_name typed t fs v
 words typed t fs v (k.Storage class) = at_storage class fs v v.storage
 words typed t fs v kind = at_word (word_of kind) t fs v
 
--- Specifiers are due: `void` may be the only parameter, `)` ends an empty list, and `}` a structure.
+-- Specifiers are due: `void` may be the only parameter, `)` ends an empty list, and `}` a structure or union.
 abbrev pub due : Bool → Symbol → List Frame → Kind → Outcome
 due typed t (f.Parameters d [] ∷ fs) k.Void = Ok (f.Parameters d [] ∷ fs, s.Void t.line)
 due typed t (f.Parameters d [] ∷ fs) k.RightParen = Ok (f.Parameters d [] ∷ fs, s.ParametersEnd derived_by.Function)
-due typed t (f.Struct v l tag (m ∷ ms) ∷ fs) k.RightBrace = Ok (fs, s.Words (with_word v (word.Struct l tag (m ∷ ms))))
+due typed t (f.Struct v l union tag (m ∷ ms) ∷ fs) k.RightBrace = Ok (fs, s.Words (with_word v (word.Struct l union tag (m ∷ ms))))
 due typed t fs kind = words typed t fs (no_words t.line) kind
 
 -- a token behind `void` where parameters begin
@@ -289,15 +309,15 @@ abbrev pub void : Bool → Symbol → List Frame → ℕ → Kind → Outcome
 void typed t fs l k.RightParen = Ok (fs, s.ParametersEnd (derived_by.Prototype []))
 void typed t fs l kind = words typed t fs (with_word (no_words l) word.Void) kind
 
--- a token behind `struct`
-abbrev pub structure : Symbol → List Frame → Specifiers TypeWord → ℕ → Kind → Outcome
-structure t fs v l k.Name = Ok (fs, s.StructTag v l t.text)
-structure t fs v l k.LeftBrace = Ok (f.Struct v l None [] ∷ fs, s.Due)
-structure t fs v l _ = stuck
+-- a token behind `struct` or `union`
+abbrev pub structure : Symbol → List Frame → Specifiers TypeWord → ℕ → Bool → Kind → Outcome
+structure t fs v l union k.Name = Ok (fs, s.StructTag v l union t.text)
+structure t fs v l union k.LeftBrace = Ok (f.Struct v l union None [] ∷ fs, s.Due)
+structure t fs v l union _ = stuck
 
-abbrev pub tagged_structure : Bool → Symbol → List Frame → Specifiers TypeWord → ℕ → List ℕ → Kind → Outcome
-tagged_structure typed t fs v l tag k.LeftBrace = Ok (f.Struct v l (Some tag) [] ∷ fs, s.Due)
-tagged_structure typed t fs v l tag kind = words typed t fs (with_word v (word.StructTag l tag)) kind
+abbrev pub tagged_structure : Bool → Symbol → List Frame → Specifiers TypeWord → ℕ → Bool → List ℕ → Kind → Outcome
+tagged_structure typed t fs v l union tag k.LeftBrace = Ok (f.Struct v l union (Some tag) [] ∷ fs, s.Due)
+tagged_structure typed t fs v l union tag kind = words typed t fs (with_word v (word.StructTag l union tag)) kind
 
 -- a token behind `enum`
 abbrev pub enumeration : Symbol → List Frame → Specifiers TypeWord → ℕ → Kind → Outcome
@@ -324,7 +344,7 @@ item fs name _ = stuck
 
 abbrev pub close_paren : List Frame → Operand → Outcome
 close_paren (f.Paren l ∷ fs) x = Ok (fs, s.Have (paren_node l x))
-close_paren (f.Arguments a args n ∷ fs) x = few (length args) (Ok (fs, s.Have (call_node a (args ++ x.tree ∷ []) (max n x.height))))
+close_paren (f.Arguments a args n ∷ fs) x = Ok (fs, s.Have (call_node a (args ++ x.tree ∷ []) (max n x.height)))
 close_paren (f.Only n ∷ fs) x = Ok (fs, s.Expression x)
 close_paren _ x = stuck
 
@@ -351,7 +371,7 @@ close_all _ x = stuck
 
 -- a comma where the operator may not stand
 abbrev pub separate : List Frame → Operand → Outcome
-separate (f.Arguments a args n ∷ fs) x = few (length args) (Ok (f.Arguments a (args ++ x.tree ∷ []) (max n x.height) ∷ fs, s.Need))
+separate (f.Arguments a args n ∷ fs) x = Ok (f.Arguments a (args ++ x.tree ∷ []) (max n x.height) ∷ fs, s.Need)
 separate (f.Item name ∷ fs) x = Ok (fs, s.ItemEnd (item_of name (Some x.tree)) false)
 separate (f.Only n ∷ fs) x = Ok (fs, s.Expression x)
 separate _ x = stuck
@@ -360,18 +380,29 @@ abbrev pub at_comma : List Frame → Operand → Outcome
 at_comma fs x = if nat_le (needs fs) 1 then Ok (f.Comma x ∷ fs, s.Need) else separate fs x
 
 abbrev pub at_assign : Option Binary → List Frame → Operand → Outcome
-at_assign op fs x = if nat_lt x.level 15 then stuck else (if nat_le (needs fs) 2 then Ok (f.Assign x op ∷ fs, s.Need) else stuck)
+at_assign op fs x = if nat_lt x.level 15 then wrong (settle 1 fs x) else (if nat_le (needs fs) 2 then Ok (f.Assign x op ∷ fs, s.Need) else wrong (settle 1 fs x))
 
 abbrev pub at_question : List Frame → Operand → Outcome
 at_question fs x = if nat_le (needs fs) 3 then Ok (f.Then x ∷ fs, s.Need) else stuck
 
--- the operators between operands
-abbrev pub at_operator : Option Binary → List Frame → Operand → Outcome
-at_operator None fs x = stuck
-at_operator (Some op) fs x = Ok (f.Binary x op ∷ fs, s.Need)
+-- a token that ends the operand
+abbrev pub operand_ends : Kind → List Frame → Operand → Outcome
+operand_ends k.Colon fs x = close_then fs x
+operand_ends k.Comma fs x = at_comma fs x
+operand_ends k.RightParen fs x = close_paren fs x
+operand_ends k.RightBracket fs x = close_bracket fs x
+operand_ends k.RightBrace fs x = close_brace fs x
+operand_ends k.Semicolon fs x = close_all fs x
+operand_ends k.End fs x = close_all fs x
+operand_ends _ fs x = stuck
+
+-- an operator between operands, or else an end
+abbrev pub at_operator : Option Binary → Kind → List Frame → Operand → Outcome
+at_operator (Some op) kind fs x = Ok (f.Binary x op ∷ fs, s.Need)
+at_operator None kind fs x = counted fs (operand_ends kind fs x)
 
 abbrev pub at_postfix : Option Postfix → List Frame → Operand → Outcome
-at_postfix None fs x = stuck
+at_postfix None fs x = wrong (settle 1 fs x)
 at_postfix (Some op) fs x = Ok (fs, s.Have (postfix_node x op))
 
 -- a token that belongs to the operand
@@ -386,21 +417,14 @@ behind kind fs x = at_postfix (postfix_of kind) fs x
 abbrev pub act : Kind → List Frame → Operand → Outcome
 act (k.Assign op) fs x = at_assign op fs x
 act k.Question fs x = at_question fs x
-act k.Colon fs x = close_then fs x
-act k.Comma fs x = at_comma fs x
-act k.RightParen fs x = close_paren fs x
-act k.RightBracket fs x = close_bracket fs x
-act k.RightBrace fs x = close_brace fs x
-act k.Semicolon fs x = close_all fs x
-act k.End fs x = close_all fs x
-act kind fs x = at_operator (binary_of kind) fs x
+act kind fs x = at_operator (binary_of kind) kind fs x
 
 abbrev pub settled : Kind → List Frame × Operand → Outcome
 settled kind r = fits r.1.height (act kind r.0 r.1)
 
 -- A token belongs to a primary or postfix expression, and to no other operand.
 abbrev pub tight : Kind → List Frame → Operand → Outcome
-tight kind fs x = if nat_lt x.level 16 then stuck else fits x.height (behind kind fs x)
+tight kind fs x = if nat_lt x.level 16 then wrong (settle 1 fs x) else fits x.height (behind kind fs x)
 
 -- an operand was read
 abbrev pub have : Kind → List Frame → Operand → Outcome
@@ -517,8 +541,8 @@ place typed t (fs, s.OffsetName l type text) = offset_name fs l type text t.kind
 place typed t (fs, s.Due) = due typed t fs t.kind
 place typed t (fs, s.Words v) = words typed t fs v t.kind
 place typed t (fs, s.Void l) = void typed t fs l t.kind
-place typed t (fs, s.Struct v l) = structure t fs v l t.kind
-place typed t (fs, s.StructTag v l tag) = tagged_structure typed t fs v l tag t.kind
+place typed t (fs, s.Struct v l union) = structure t fs v l union t.kind
+place typed t (fs, s.StructTag v l union tag) = tagged_structure typed t fs v l union tag t.kind
 place typed t (fs, s.Enum v l) = enumeration t fs v l t.kind
 place typed t (fs, s.EnumTag v l tag) = tagged_enumeration typed t fs v l tag t.kind
 place typed t (fs, s.Items) = items t fs t.kind

@@ -27,8 +27,11 @@ offsetof_name = 95 ∷ 95 ∷ 111 ∷ 102 ∷ 102 ∷ 115 ∷ 101 ∷ 116 ∷ 11
 abbrev pub name_level : List ℕ → ℕ
 name_level text = if bytes_eq text offsetof_name then 18 else 17
 
+abbrev pub named_node : ℕ → List ℕ → Operand
+named_node l text = operand l (name_level text) 1 (e.Name l text)
+
 abbrev pub name_node : Symbol → Operand
-name_node t = operand t.line (name_level t.text) 1 (e.Name t.line t.text)
+name_node t = named_node t.line t.text
 
 abbrev pub constant_node : ℕ → Option Constant → Operand
 constant_node l value = operand l 17 1 (e.Constant l value)

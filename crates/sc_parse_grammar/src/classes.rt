@@ -118,7 +118,7 @@ pub fn begins_type(typed: bool, kind: Kind) -> bool
     match kind {
         Kind::Name => typed,
         Kind::Void | Kind::Char | Kind::Short | Kind::Int | Kind::Long => true,
-        Kind::Signed | Kind::Unsigned | Kind::Const | Kind::Struct | Kind::Enum => true,
+        Kind::Signed | Kind::Unsigned | Kind::Const | Kind::Struct(_) | Kind::Enum => true,
         _ => false,
     }
 }

@@ -87,6 +87,19 @@ pub fn settle(
     Ok(x)
 }
 
+/// The most arguments or parameters of a list before its last.
+const MAX_BEFORE: usize = 30;
+
+/// Whether an argument ends that is the 32nd, or a further one.
+pub fn is_full(frames: &Stack<Frame>) -> bool
+    ensures { result ≡ spec.is_full frames.now }
+{
+    match frames.top() {
+        Some(Frame::Arguments(_, args, _)) => args.len() > MAX_BEFORE,
+        _ => false,
+    }
+}
+
 fn called(
     alloc: Global,
     a: Operand,
@@ -94,11 +107,8 @@ fn called(
     highest: u8,
     x: Operand,
 ) -> Result<State, Trouble>
-    ensures { (fs : List Frame) → Steps (spec.few (length args) (Ok (fs, State.Have (call_in a (args ++ x.tree ∷ []) (max highest x.height))))) result fs }
+    ensures { (fs : List Frame) → Steps (Ok (fs, State.Have (call_in a (args ++ x.tree ∷ []) (max highest x.height)))) result fs }
 {
-    if args.len() >= 31 {
-        return Err(Trouble::Limit(Limit::Arguments));
-    }
     let height = highest.max(x.height);
     args.push(x.tree)?;
     let call = call_node(alloc, a, args, height)?;
@@ -214,9 +224,6 @@ fn argument(
 ) -> Result<State, Trouble>
     ensures { Steps (spec.separate (Frame.Arguments a args highest ∷ frames.old) x) result frames.new }
 {
-    if args.len() >= 31 {
-        return Err(Trouble::Limit(Limit::Arguments));
-    }
     let height = highest.max(x.height);
     args.push(x.tree)?;
     frames.push(Frame::Arguments(a, args, height))?;

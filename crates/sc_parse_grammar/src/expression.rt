@@ -3,12 +3,13 @@ ghost use Rattle.std.specs.Prelude.{◌≡◌, ℕ, ◌<◌, ◌≤◌, List, []
 ghost use Rattle.sc_parse_grammar.specs.Machine as spec;
 ghost use Rattle.sc_parse_grammar.specs.Steps.{Steps, IsSymbol, IsNamed};
 ghost use Rattle.sc_parse_grammar.specs.Grammar.{text_with};
-ghost use Rattle.sc_parse_grammar.specs.Nodes.{name_node as name_in, constant_node as constant_in};
+ghost use Rattle.sc_parse_grammar.specs.Nodes.{name_node as name_in, constant_node as constant_in, text_node as text_in};
 ghost use Rattle.sc_parse_grammar.specs.Kinds.{binary_of as binary_in, postfix_of as postfix_in, unary_of as unary_in};
 
 use crate::classes::{binary_of, postfix_of, power_of, unary_of};
 use crate::close::{
-    at_comma, close_all, close_brace, close_bracket, close_paren, close_then, needs, settle,
+    at_comma, close_all, close_brace, close_bracket, close_paren, close_then, is_full, needs,
+    settle,
 };
 use crate::frame::{Frame, State};
 use crate::nodes::{
@@ -22,14 +23,31 @@ use sc_parse_names::{Kind, Symbol};
 use sc_tree::{Binary, Constant, Expr, TypeName};
 use std::alloc::Global;
 
-fn at_assign(op: Option<Binary>, frames: &mut Stack<Frame>, x: Operand) -> Result<State, Trouble>
+/// The token goes on with no operand: what was read may pass a limit all the same.
+fn wrong(alloc: Global, frames: &mut Stack<Frame>, x: Operand) -> Result<State, Trouble>
+    ensures { Steps (spec.wrong (spec.settle 1 frames.old x)) result frames.new }
+{
+    let x = settle(alloc, 1, frames, x)?;
+    drop(x);
+    if is_full(frames) {
+        return Err(Trouble::Limit(Limit::Arguments));
+    }
+    Err(Trouble::Syntax)
+}
+
+fn at_assign(
+    alloc: Global,
+    op: Option<Binary>,
+    frames: &mut Stack<Frame>,
+    x: Operand,
+) -> Result<State, Trouble>
     ensures { Steps (spec.at_assign op frames.old x) result frames.new }
 {
     if x.level < 15 {
-        return Err(Trouble::Syntax);
+        return wrong(alloc, frames, x);
     }
     if needs(frames) > 2 {
-        return Err(Trouble::Syntax);
+        return wrong(alloc, frames, x);
     }
     frames.push(Frame::Assign(x, op))?;
     Ok(State::Need)
@@ -45,32 +63,59 @@ fn at_question(frames: &mut Stack<Frame>, x: Operand) -> Result<State, Trouble>
     Ok(State::Need)
 }
 
-fn at_operator(kind: Kind, frames: &mut Stack<Frame>, x: Operand) -> Result<State, Trouble>
-    ensures { Steps (spec.at_operator (binary_in kind) frames.old x) result frames.new }
+/// A token with which the operand ends.
+fn operand_ends(
+    alloc: Global,
+    kind: Kind,
+    frames: &mut Stack<Frame>,
+    x: Operand,
+) -> Result<State, Trouble>
+    ensures { Steps (spec.operand_ends kind frames.old x) result frames.new }
 {
-    match binary_of(kind) {
-        Some(op) => {
-            frames.push(Frame::Binary(x, op))?;
-            Ok(State::Need)
-        }
-        None => Err(Trouble::Syntax),
+    match kind {
+        Kind::Colon => close_then(frames, x),
+        Kind::Comma => at_comma(frames, x),
+        Kind::RightParen => close_paren(alloc, frames, x),
+        Kind::RightBracket => close_bracket(alloc, frames, x),
+        Kind::RightBrace => close_brace(frames, x),
+        Kind::Semicolon | Kind::End => close_all(frames, x),
+        _ => Err(Trouble::Syntax),
     }
+}
+
+/// An operator between two operands, or else the end of the operand.
+fn at_operator(
+    alloc: Global,
+    kind: Kind,
+    frames: &mut Stack<Frame>,
+    x: Operand,
+) -> Result<State, Trouble>
+    ensures { Steps (spec.at_operator (binary_in kind) kind frames.old x) result frames.new }
+{
+    if let Some(op) = binary_of(kind) {
+        frames.push(Frame::Binary(x, op))?;
+        return Ok(State::Need);
+    }
+    if is_full(frames) {
+        return Err(Trouble::Limit(Limit::Arguments));
+    }
+    operand_ends(alloc, kind, frames, x)
 }
 
 fn at_postfix(
     alloc: Global,
     kind: Kind,
-    frames: &Stack<Frame>,
+    frames: &mut Stack<Frame>,
     x: Operand,
 ) -> Result<State, Trouble>
-    ensures { Steps (spec.at_postfix (postfix_in kind) frames.now x) result frames.now }
+    ensures { Steps (spec.at_postfix (postfix_in kind) frames.old x) result frames.new }
 {
     match postfix_of(kind) {
         Some(op) => {
             let made = postfix_node(alloc, x, op)?;
             Ok(State::Have(made))
         }
-        None => Err(Trouble::Syntax),
+        None => wrong(alloc, frames, x),
     }
 }
 
@@ -104,15 +149,9 @@ fn act(alloc: Global, kind: Kind, frames: &mut Stack<Frame>, x: Operand) -> Resu
     ensures { Steps (spec.act kind frames.old x) result frames.new }
 {
     match kind {
-        Kind::Assign(op) => at_assign(op, frames, x),
+        Kind::Assign(op) => at_assign(alloc, op, frames, x),
         Kind::Question => at_question(frames, x),
-        Kind::Colon => close_then(frames, x),
-        Kind::Comma => at_comma(frames, x),
-        Kind::RightParen => close_paren(alloc, frames, x),
-        Kind::RightBracket => close_bracket(alloc, frames, x),
-        Kind::RightBrace => close_brace(frames, x),
-        Kind::Semicolon | Kind::End => close_all(frames, x),
-        other => at_operator(other, frames, x),
+        other => at_operator(alloc, other, frames, x),
     }
 }
 
@@ -128,7 +167,7 @@ pub fn have(
     let power = power_of(kind);
     if power > 15 {
         if x.level < 16 {
-            return Err(Trouble::Syntax);
+            return wrong(alloc, frames, x);
         }
         if x.height > 200 {
             return Err(Trouble::Limit(Limit::Height));
@@ -269,7 +308,21 @@ pub fn sized(
     }
 }
 
+fn text_ends(
+    alloc: Global,
+    kind: Kind,
+    frames: &mut Stack<Frame>,
+    line: u32,
+    text: Option<Bytes>,
+) -> Result<State, Trouble>
+    ensures { Steps (spec.have kind frames.old (text_in line text)) result frames.new }
+{
+    let made = text_node(alloc, line, text)?;
+    have(alloc, kind, frames, made)
+}
+
 /// A token behind strings.
+#[tactic(auto, using(crate::proofs::Others::texts_else))]
 pub fn texts(
     alloc: Global,
     token: &Symbol,
@@ -284,10 +337,7 @@ pub fn texts(
             let all = joined(alloc, text, fits, &token.text)?;
             Ok(State::Texts(line, all))
         }
-        other => {
-            let made = text_node(alloc, line, text)?;
-            have(alloc, other, frames, made)
-        }
+        _ => text_ends(alloc, token.kind, frames, line, text),
     }
 }
 

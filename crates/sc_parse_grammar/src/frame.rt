@@ -36,8 +36,9 @@ pub enum Frame {
     OffsetType(u32),
     /// Specifiers whose declarator is read.
     Specifiers(Specifiers),
-    /// The braces of a structure: the specifiers before it, the line of `struct`, the tag and the members.
-    Struct(Specifiers, u32, Option<Name>, Items<Member>),
+    /// The braces of a structure or, where it is true, of a union: the specifiers before it, the line of `struct` or
+    /// `union`, the tag and the members.
+    Struct(Specifiers, u32, bool, Option<Name>, Items<Member>),
     /// The specifiers of a member, and the declarators so far.
     Member(Specifiers, Items<Declarator>),
     /// The braces of an enumeration: the specifiers before it, the line of `enum`, the tag and the items.
@@ -81,10 +82,10 @@ pub enum State {
     Words(Specifiers),
     /// `void` was read where parameters begin.
     Void(u32),
-    /// Specifiers, and `struct` with its line.
-    Struct(Specifiers, u32),
+    /// Specifiers, and `struct` with its line, or `union` where it is true.
+    Struct(Specifiers, u32, bool),
     /// The same, and a tag.
-    StructTag(Specifiers, u32, Name),
+    StructTag(Specifiers, u32, bool, Name),
     /// Specifiers, and `enum` with its line.
     Enum(Specifiers, u32),
     /// The same, and a tag.

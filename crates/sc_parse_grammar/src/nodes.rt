@@ -40,23 +40,29 @@ pub fn name_of(alloc: Global, text: &Bytes) -> Result<Name, NoMemory>
     }
 }
 
-fn name_level(text: &Bytes) -> u8
+fn name_level(text: &[u8]) -> u8
     ensures { result ≡ spec.name_level text.now }
 {
-    if text.as_slice() == b"__offsetof".as_slice() {
+    if text == b"__offsetof".as_slice() {
         18
     } else {
         17
     }
 }
 
+pub fn named_node(alloc: Global, line: u32, name: Name) -> Result<Operand, NoMemory>
+    ensures { IfOk result (λ x. x ≡ spec.named_node line name) }
+{
+    let level = name_level(name.as_slice());
+    made(alloc, line, level, 1, Expr::Name(line, name))
+}
+
 pub fn name_node(alloc: Global, token: &Symbol) -> Result<Operand, NoMemory>
     requires { IsNamed token.now.text }
     ensures { IfOk result (λ x. x ≡ spec.name_node token.now) }
 {
-    let level = name_level(&token.text);
     let name = name_of(alloc, &token.text)?;
-    made(alloc, token.line, level, 1, Expr::Name(token.line, name))
+    named_node(alloc, token.line, name)
 }
 
 pub fn constant_node(alloc: Global, line: u32, value: Option<Constant>) -> Result<Operand, NoMemory>

@@ -8,6 +8,10 @@ use Rattle.sc_parse_names.specs.Names.{Names, is_typed}
 use Rattle.sc_parse_grammar.specs.declared.frame.Frame.TheVariants as f
 use Rattle.sc_parse_grammar.specs.declared.frame.State.TheVariants as e
 use Rattle.sc_parse_grammar.specs.declared.trouble.Trouble.{Trouble}
+use Rattle.sc_parse_grammar.specs.Kinds.{begins_specifiers}
+use Rattle.sc_parse_grammar.specs.Types.{no_words, with_word}
+use Rattle.sc_parse_grammar.specs.Nodes.{named_node}
+use Rattle.sc_tree.specs.declared.expression.TypeWord.TheVariants as word
 use Rattle.sc_parse_grammar.specs.Machine.{Config, step}
 use Rattle.sc_tree.specs.declared.statement.Statement.{Statement}
 use Rattle.sc_tree.specs.declared.declaration.Initializer.{Initializer}
@@ -17,7 +21,7 @@ use Rattle.sc_parse_unit.specs.declared.around.Around.{Around}
 use Rattle.sc_parse_unit.specs.declared.around.Around.TheVariants as a
 use Rattle.sc_parse_unit.specs.declared.around.Stage.TheVariants as at
 use Rattle.sc_parse_unit.specs.Trees.{with_statement}
-use Rattle.sc_parse_unit.specs.Machine.{Point, Move, initial, initial_ends, in_expression, in_declarator, in_specifiers, begins_declaration, statement_due, external_due, is_early, is_outside, due, waits, built, behind, settle, is_else, needs, ends_part, expression_due, place, marked, advance, run, on_ok}
+use Rattle.sc_parse_unit.specs.Machine.{Point, Move, initial, initial_ends, in_expression, in_declarator, in_specifiers, early, behind_name, behind_type, statement_due, external_due, is_early, is_outside, due, waits, built, behind, settle, is_else, needs, ends_part, expression_due, place, marked, advance, run, on_ok}
 use Rattle.sc_parse_unit.proofs.Keeping.{either}
 use Rattle.sc_parse_laws.specs.Marks.{AreKept}
 use Rattle.sc_parse_laws.proofs.Passing.{Stops, step-stops}
@@ -53,7 +57,7 @@ module _ (w : Mark) where
   due-stops : (t : Symbol) (c : Names) (fs : List Around) → t.kind ≡ k.LeftOut w → Halts (due t c fs)
   due-stops t c fs i = either Halts (is_outside fs) _ _
       (λ _. subst (λ kd. Halts (external_due t c fs kd)) (sym i) (begin-stops t c fs i))
-      (λ _. either Halts (is_early fs && begins_declaration (is_typed c t) t.kind) _ _ (λ _. begin-stops t c fs i)
+      (λ _. either Halts (is_early fs && begins_specifiers (is_typed c t) t.kind) _ _ (λ _. subst (λ kd. Halts (early t c fs kd)) (sym i) (begin-stops t c fs i))
       (λ _. subst (λ kd. Halts (statement_due t c fs kd)) (sym i) (statement_due-stops t c fs i)))
 
   behind-stops : (t : Symbol) (c : Names) (fs : List Around) (b : Statement) → t.kind ≡ k.LeftOut w → Halts (statement_due t c fs t.kind)
@@ -88,6 +92,9 @@ module _ (w : Mark) where
   place-stops (c, (fs, at.Specifiers frames state)) t i = specifiers-stops t fs _ (step-stops w (c, (frames, state)) t i)
   place-stops (c, (fs, at.Declarator frames state)) t i = declarator-stops t fs _ (step-stops w (c, (frames, state)) t i)
   place-stops (c, (fs, at.Expression frames state)) t i = expression-stops t fs _ (step-stops w (c, (frames, state)) t i)
+  place-stops (c, (fs, at.Name l text)) t i = subst (λ kd. Halts (behind_name t c fs l text kd)) (sym i) (expression-stops t (a.Expression ∷ fs) _ (step-stops w (c, (f.Only 1 ∷ [], e.Have (named_node l text))) t i))
+  place-stops (c, (fs, at.TypeName l text)) t i = subst (λ kd. Halts (behind_type t c fs l text kd)) (sym i) (specifiers-stops t fs _ (step-stops w (c, (f.Outer ∷ [], e.Words (with_word (no_words l) (word.Typedef l text)))) t i))
+  place-stops (c, (fs, at.Target l)) t i = rw i tt
   place-stops (c, (fs, at.Initial)) t i = subst (λ kd. Halts (initial t c fs kd)) (sym i) (expression-stops t fs _ (step-stops w (c, (f.Only 2 ∷ [], e.Need)) t i))
   place-stops (c, (fs, at.Closed x)) t i = subst (λ kd. Halts (initial_ends c kd fs x)) (sym i) (initial_ends-stops c fs x)
   place-stops (c, (fs, at.LeftParen)) t i = rw i tt

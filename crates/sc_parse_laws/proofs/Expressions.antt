@@ -14,10 +14,9 @@ use Rattle.sc_parse_grammar.specs.declared.trouble.Trouble.TheVariants as no
 use Rattle.sc_parse_grammar.specs.declared.trouble.Limit.{Limit}
 use Rattle.sc_parse_grammar.specs.declared.trouble.Limit.TheVariants as limit
 use Rattle.sc_parse_grammar.specs.Machine.{Config, Place, on_ok, step, run}
-use Rattle.sc_parse_expr.specs.declared.driver.Found.{Found}
 use Rattle.sc_parse_expr.specs.declared.driver.Refused.{Refused}
 use Rattle.sc_parse_expr.specs.Brackets.{opens_with}
-use Rattle.sc_parse_expr.specs.Reading.{refused, end_symbol, line_for, ended_in, found_or, next, unfinished, read, start}
+use Rattle.sc_parse_expr.specs.Reading.{Outcome, refused, end_symbol, line_for, ended_in, found_or, next, unfinished, read, start}
 use Rattle.sc_parse_sound.proofs.Open as w
 use Rattle.sc_parse_sound.proofs.Open.{Valid}
 use Rattle.sc_parse_sound.proofs.Bodies.{Fine}
@@ -49,10 +48,10 @@ pub opened-snoc : (n : ℕ) (ts : List Symbol) (t : Symbol) → opened n (ts ++ 
 opened-snoc n [] t = refl
 opened-snoc n (u ∷ us) t = opened-snoc (opens_with n u.kind) us t
 
-err-same : {u v : Refused} → ◌≡◌ {A = Result Found Refused} (Err u) (Err v) → u ≡ v
+err-same : {u v : Refused} → ◌≡◌ {A = Outcome} (Err u) (Err v) → u ≡ v
 err-same h = cc
 
-err_trouble : {e o : Trouble} {m n : ℕ} → ◌≡◌ {A = Result Found Refused} (Err (refused e m)) (Err (refused o n)) → (e ≡ o) × (m ≡ n)
+err_trouble : {e o : Trouble} {m n : ℕ} → ◌≡◌ {A = Outcome} (Err (refused e m)) (Err (refused o n)) → (e ≡ o) × (m ≡ n)
 err_trouble h = (ap (λ (r : Refused). r.trouble) (err-same h), ap (λ (r : Refused). r.line) (err-same h))
 
 -- the end shows no mark
@@ -84,7 +83,7 @@ module _ (names : Names) where
       go (Some x) q = absurd cc
       go None q = let z = err_trouble q in subst (λ o. Why names pre o l) z.0 tt
 
-  brackets : (pre : List Symbol) (t : Symbol) (ts : List Symbol) (l : ℕ) (e : Trouble) → 500 < opens_with (opened 0 pre) t.kind → ◌≡◌ {A = Result Found Refused} (Err (refused (no.Limit limit.Height) t.line)) (Err (refused e l)) → Why names (pre ++ t ∷ ts) e l
+  brackets : (pre : List Symbol) (t : Symbol) (ts : List Symbol) (l : ℕ) (e : Trouble) → 500 < opens_with (opened 0 pre) t.kind → ◌≡◌ {A = Outcome} (Err (refused (no.Limit limit.Height) t.line)) (Err (refused e l)) → Why names (pre ++ t ∷ ts) e l
   brackets pre t ts l e n q =
       let z = err_trouble q in
       subst (λ o. Why names (pre ++ t ∷ ts) o l) z.0 (in_brackets (record { before = pre; t = t; us = ts; all = refl; line = z.1; many = rw (opened-snoc 0 pre t) n }))

@@ -7,3 +7,6 @@ pub mod Expressions
 pub mod Units
 pub mod Points
 pub mod Whole
+pub mod Crowded
+pub mod Rooms
+pub mod Causes

@@ -1,6 +1,6 @@
 -- What each function of the machine refuses, and with which trouble.
 use Rattle.std.proofs.Common.{◌≡◌, ℕ, Bool, true, false, List, [], ◌∷◌, ◌++◌, Option, Some, None, Ok, Err, refl}
-use Rattle.std.specs.Prelude.{◌&&◌, nat_le}
+use Rattle.std.specs.Prelude.{◌&&◌, nat_le, nat_lt, length}
 use Rattle.sc_tree.specs.declared.expression.Identifier.{Identifier}
 use Rattle.sc_tree.specs.declared.expression.Storage.{Storage}
 use Rattle.sc_tree.specs.declared.expression.TypeWord.{TypeWord}
@@ -18,11 +18,11 @@ use Rattle.sc_parse_grammar.specs.declared.operand.Mode.TheVariants as mode
 use Rattle.sc_parse_grammar.specs.declared.frame.Frame.{Frame}
 use Rattle.sc_parse_grammar.specs.declared.frame.Frame.TheVariants as f
 use Rattle.sc_parse_grammar.specs.declared.trouble.Trouble.TheVariants as no
-use Rattle.sc_parse_grammar.specs.declared.trouble.Limit.{Limit}
+use Rattle.sc_parse_grammar.specs.declared.trouble.Limit.TheVariants as limit
 use Rattle.sc_parse_grammar.specs.Kinds.{word_of, begins_type, begins_parameters}
 use Rattle.sc_parse_grammar.specs.Types.{is_empty, has_words, no_words, with_word, no_direct, pointed, whole}
 use Rattle.sc_parse_grammar.specs.Grammar.{is_abstract}
-use Rattle.sc_parse_grammar.specs.Machine.{Outcome, needs, finish, member, outer, declared, ungroup, level_ends, direct_ends, suffixes, bare_stars, bare, unnamed_member, without_name, direct, begin, stars, outer_specified, inner_specified, specified, goes_on, plain_name, nothing_yet, wordless, worded, at_word, at_storage, at_name, words, due, void, structure, tagged_structure, enumeration, tagged_enumeration, items, item, group_name, in_group, group, opens_parameters}
+use Rattle.sc_parse_grammar.specs.Machine.{Outcome, needs, finish, member, outer, declared, ungroup, level_ends, direct_ends, suffixes, unended, bare_specifiers, bare_stars, bare, unnamed_member, without_name, direct, begin, stars, outer_specified, inner_specified, specified, goes_on, plain_name, nothing_yet, wordless, worded, at_word, at_storage, at_name, words, due, void, structure, tagged_structure, enumeration, tagged_enumeration, items, item, group_name, in_group, group, opens_parameters}
 use Rattle.sc_parse_sound.proofs.Settling.{either}
 use Rattle.sc_parse_laws.specs.Marks.{in_member, no_parameter, follows_specifiers}
 
@@ -30,8 +30,8 @@ some_words : (xs : List TypeWord) (w : TypeWord) → has_words (xs ++ w ∷ []) 
 some_words [] w = refl
 some_words (x ∷ xs) w = refl
 
--- `B`, `O` and `I` hold where the `:` of a member, a list of names and an implicit `int` are named, `L` where a limit is.
-module _ (B O I : Type 0) (L : Limit → Type 0) where
+-- `B`, `O` and `I` hold where the `:` of a member, a list of names and an implicit `int` are named, `H` where an expression is too high.
+module _ (B O I H : Type 0) where
   abbrev pub Told : Outcome → Type 0
   Told (Ok p) = Unit {0}
   Told (Err no.Syntax) = Unit {0}
@@ -39,8 +39,13 @@ module _ (B O I : Type 0) (L : Limit → Type 0) where
   Told (Err (no.LeftOut mark.OldStyle)) = O
   Told (Err (no.LeftOut mark.ImplicitInt)) = I
   Told (Err (no.LeftOut which)) = ⊥
-  Told (Err (no.Limit which)) = L which
+  Told (Err (no.Limit limit.Height)) = H
+  Told (Err (no.Limit limit.Arguments)) = Unit {0}
   Told (Err no.NoMemory) = ⊥
+
+  unended-told : (fs : List Frame) → Told (unended fs)
+  unended-told (f.Parameters d ps ∷ fs) = either Told (nat_lt (length ps) 31) _ _ (λ _. tt) (λ _. tt)
+  unended-told _ = tt
 
   finish-told : (kd : Kind) (fs : List Frame) (v : Specifiers TypeWord) (x : Option Whole) → Told (finish kd fs v x)
   finish-told k.RightParen (f.CastType l ∷ fs) v x = either Told (nat_le (needs fs) 14) _ _ (λ n. tt) (λ n. tt)
@@ -48,11 +53,11 @@ module _ (B O I : Type 0) (L : Limit → Type 0) where
   finish-told k.Comma (f.OffsetType l ∷ fs) v x = tt
   finish-told k.RightParen (f.Parameters d ps ∷ fs) v x = tt
   finish-told k.Comma (f.Parameters d ps ∷ fs) v x = tt
-  finish-told _ _ v x = tt
+  finish-told _ fs v x = unended-told fs
 
   member-told : (kd : Kind) (fs : List Frame) (v : Specifiers TypeWord) (ds : List Declarator) → (kd ≡ k.Colon → B) → Told (member kd fs v ds)
   member-told k.Comma fs v ds b = tt
-  member-told k.Semicolon (f.Struct w l tag ms ∷ fs) v ds b = tt
+  member-told k.Semicolon (f.Struct w l union tag ms ∷ fs) v ds b = tt
   member-told k.Colon fs v ds b = b refl
   member-told _ fs v ds b = tt
 
@@ -86,8 +91,12 @@ module _ (B O I : Type 0) (L : Limit → Type 0) where
   suffixes-told k.LeftParen fs d b = tt
   suffixes-told kd fs d b = direct_ends-told kd fs d b
 
+  bare_specifiers-told : (fs : List Frame) → Told (bare_specifiers fs)
+  bare_specifiers-told (f.Specifiers v ∷ fs) = unended-told fs
+  bare_specifiers-told _ = tt
+
   bare_stars-told : (kd : Kind) (fs : List Frame) (l : ℕ) (cs : List Bool) → (kd ≡ k.Colon → in_member fs ≡ true → B) → Told (bare_stars kd fs l cs)
-  bare_stars-told kd fs l [] b = tt
+  bare_stars-told kd fs l [] b = bare_specifiers-told fs
   bare_stars-told kd fs l (c ∷ cs) b = level_ends-told kd fs l (pointed (c ∷ cs) no_direct) b
 
   bare-told : (kd : Kind) (fs : List Frame) (l : ℕ) (m : Mode) (cs : List Bool) → (kd ≡ k.Colon → in_member fs ≡ true → B) → Told (bare kd fs l m cs)
@@ -131,7 +140,7 @@ module _ (B O I : Type 0) (L : Limit → Type 0) where
 
   specified-told : (t : Symbol) (fs : List Frame) (v : Specifiers TypeWord) → (t.kind ≡ k.Colon → in_member fs ≡ true → B) → Told (specified t fs v)
   specified-told t (f.Outer ∷ fs) v b = outer_specified-told t.kind fs v
-  specified-told t (f.Struct w l tag ms ∷ fs) v b = begin-told t t.kind (f.Member v [] ∷ f.Struct w l tag ms ∷ fs) mode.Named (λ i j. b i refl)
+  specified-told t (f.Struct w l union tag ms ∷ fs) v b = begin-told t t.kind (f.Member v [] ∷ f.Struct w l union tag ms ∷ fs) mode.Named (λ i j. b i refl)
   specified-told t (f.Parameters d ps ∷ fs) v b = inner_specified-told t t.kind (f.Parameters d ps ∷ fs) v mode.Either
   specified-told t fs v b = inner_specified-told t t.kind fs v mode.Abstract
 
@@ -170,7 +179,8 @@ module _ (B O I : Type 0) (L : Limit → Type 0) where
   at_storage-told : (class : Storage) (fs : List Frame) (v : Specifiers TypeWord) (before : Option Storage) → Told (at_storage class fs v before)
   at_storage-told class (f.Outer ∷ fs) v None = tt
   at_storage-told class (f.Parameters d ps ∷ fs) v None = tt
-  at_storage-told class _ v _ = tt
+  at_storage-told class _ v None = tt
+  at_storage-told class fs v (Some other) = either Told (has_words v.words) _ _ (λ _. unended-told fs) (λ _. tt)
 
   at_name-told : (typed : Bool) (t : Symbol) (fs : List Frame) (v : Specifiers TypeWord) → (t.kind ≡ k.Colon → in_member fs ≡ true → B) →
       (has_words v.words ≡ false → t.kind ≡ k.Name → no_parameter fs ≡ true → O) → (has_words v.words ≡ false → follows_specifiers t.kind ≡ true → I) → Told (at_name typed t fs v)
@@ -179,7 +189,7 @@ module _ (B O I : Type 0) (L : Limit → Type 0) where
   pub words-told : (typed : Bool) (t : Symbol) (fs : List Frame) (v : Specifiers TypeWord) (kd : Kind) → (t.kind ≡ k.Colon → in_member fs ≡ true → B) →
       (has_words v.words ≡ false → t.kind ≡ k.Name → no_parameter fs ≡ true → O) → (has_words v.words ≡ false → follows_specifiers t.kind ≡ true → I) → Told (words typed t fs v kd)
   words-told typed t fs v k.Const b o i = tt
-  words-told typed t fs v k.Struct b o i = tt
+  words-told typed t fs v (k.Struct union) b o i = tt
   words-told typed t fs v k.Enum b o i = tt
   words-told typed t fs v k.Name b o i = at_name-told typed t fs v b o i
   words-told typed t fs v (k.Storage class) b o i = at_storage-told class fs v v.storage
@@ -201,7 +211,7 @@ module _ (B O I : Type 0) (L : Limit → Type 0) where
   type-told typed t fs l k.Signed h = tt
   type-told typed t fs l k.Unsigned h = tt
   type-told typed t fs l k.Const h = tt
-  type-told typed t fs l k.Struct h = tt
+  type-told typed t fs l (k.Struct union) h = tt
   type-told typed t fs l k.Enum h = tt
   type-told typed t fs l _ h = absurd cc
 
@@ -219,28 +229,28 @@ module _ (B O I : Type 0) (L : Limit → Type 0) where
   first_parameter-told typed t fs d k.Signed h = tt
   first_parameter-told typed t fs d k.Unsigned h = tt
   first_parameter-told typed t fs d k.Const h = tt
-  first_parameter-told typed t fs d k.Struct h = tt
+  first_parameter-told typed t fs d (k.Struct union) h = tt
   first_parameter-told typed t fs d k.Enum h = tt
   first_parameter-told typed t fs d _ h = absurd cc
 
   pub due-told : (typed : Bool) (t : Symbol) (fs : List Frame) (kd : Kind) → (t.kind ≡ k.Colon → in_member fs ≡ true → B) → (t.kind ≡ k.Name → no_parameter fs ≡ true → O) → (follows_specifiers t.kind ≡ true → I) → Told (due typed t fs kd)
   due-told typed t (f.Parameters d [] ∷ fs) k.Void b o i = tt
   due-told typed t (f.Parameters d [] ∷ fs) k.RightParen b o i = tt
-  due-told typed t (f.Struct v l tag (m ∷ ms) ∷ fs) k.RightBrace b o i = tt
+  due-told typed t (f.Struct v l union tag (m ∷ ms) ∷ fs) k.RightBrace b o i = tt
   due-told typed t fs kd b o i = words-told typed t fs (no_words t.line) kd b (λ n. o) (λ n. i)
 
   pub void-told : (typed : Bool) (t : Symbol) (fs : List Frame) (l : ℕ) (kd : Kind) → (t.kind ≡ k.Colon → in_member fs ≡ true → B) → Told (void typed t fs l kd)
   void-told typed t fs l k.RightParen b = tt
   void-told typed t fs l kd b = more-told typed t fs (with_word (no_words l) word.Void) kd refl b
 
-  pub structure-told : (t : Symbol) (fs : List Frame) (v : Specifiers TypeWord) (l : ℕ) (kd : Kind) → Told (structure t fs v l kd)
-  structure-told t fs v l k.Name = tt
-  structure-told t fs v l k.LeftBrace = tt
-  structure-told t fs v l _ = tt
+  pub structure-told : (t : Symbol) (fs : List Frame) (v : Specifiers TypeWord) (l : ℕ) (union : Bool) (kd : Kind) → Told (structure t fs v l union kd)
+  structure-told t fs v l union k.Name = tt
+  structure-told t fs v l union k.LeftBrace = tt
+  structure-told t fs v l union _ = tt
 
-  pub tagged_structure-told : (typed : Bool) (t : Symbol) (fs : List Frame) (v : Specifiers TypeWord) (l : ℕ) (tag : List ℕ) (kd : Kind) → (t.kind ≡ k.Colon → in_member fs ≡ true → B) → Told (tagged_structure typed t fs v l tag kd)
-  tagged_structure-told typed t fs v l tag k.LeftBrace b = tt
-  tagged_structure-told typed t fs v l tag kd b = more-told typed t fs (with_word v (word.StructTag l tag)) kd (some_words v.words _) b
+  pub tagged_structure-told : (typed : Bool) (t : Symbol) (fs : List Frame) (v : Specifiers TypeWord) (l : ℕ) (union : Bool) (tag : List ℕ) (kd : Kind) → (t.kind ≡ k.Colon → in_member fs ≡ true → B) → Told (tagged_structure typed t fs v l union tag kd)
+  tagged_structure-told typed t fs v l union tag k.LeftBrace b = tt
+  tagged_structure-told typed t fs v l union tag kd b = more-told typed t fs (with_word v (word.StructTag l union tag)) kd (some_words v.words _) b
 
   pub enumeration-told : (t : Symbol) (fs : List Frame) (v : Specifiers TypeWord) (l : ℕ) (kd : Kind) → Told (enumeration t fs v l kd)
   enumeration-told t fs v l k.Name = tt

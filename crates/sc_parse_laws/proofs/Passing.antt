@@ -1,6 +1,6 @@
 -- No token that is left out is taken.
 use Rattle.std.proofs.Common.{◌≡◌, ℕ, Bool, List, [], ◌∷◌, Option, Some, None, Ok, Err, sym, subst}
-use Rattle.std.specs.Prelude.{nat_lt, Result}
+use Rattle.std.specs.Prelude.{nat_lt, length, Result}
 use Rattle.sc_tree.specs.declared.expression.Storage.{Storage}
 use Rattle.sc_tree.specs.declared.expression.TypeWord.{TypeWord}
 use Rattle.sc_tree.specs.declared.expression.TypeWord.TheVariants as word
@@ -20,7 +20,7 @@ use Rattle.sc_parse_grammar.specs.declared.frame.State.{State}
 use Rattle.sc_parse_grammar.specs.declared.frame.State.TheVariants as s
 use Rattle.sc_parse_grammar.specs.Nodes.{text_node}
 use Rattle.sc_parse_grammar.specs.Types.{has_words, no_words, with_word, no_direct, pointed, whole}
-use Rattle.sc_parse_grammar.specs.Machine.{Config, Outcome, settle, finish, declared, level_ends, suffixes, bare, direct, begin, specified, wordless, worded, words, due, void, tagged_structure, tagged_enumeration, items, have, group, place, entered, enters, effect, marked, on_ok, step}
+use Rattle.sc_parse_grammar.specs.Machine.{Config, Outcome, settle, finish, declared, level_ends, suffixes, unended, is_full, bare_specifiers, bare, direct, begin, specified, wordless, worded, words, due, void, tagged_structure, tagged_enumeration, items, have, group, place, entered, enters, effect, marked, on_ok, step}
 use Rattle.sc_parse_sound.proofs.Settling.{either}
 
 abbrev pub Stops : {A E : Type 0} → Result A E → Type 0
@@ -31,9 +31,12 @@ abbrev Halts : Outcome → Type 0
 Halts o = Stops o
 
 module _ (w : Mark) where
+  unended-stops : (fs : List Frame) → Halts (unended fs)
+  unended-stops (f.Parameters d ps ∷ fs) = either Halts (nat_lt (length ps) 31) _ _ (λ _. tt) (λ _. tt)
+  unended-stops _ = tt
+
   finish-stops : (fs : List Frame) (v : Specifiers TypeWord) (x : Option Whole) → Halts (finish (k.LeftOut w) fs v x)
-  finish-stops (f.CastType l ∷ fs) v x = tt
-  finish-stops _ v x = tt
+  finish-stops fs v x = unended-stops fs
 
   declared-stops : (fs : List Frame) (x : Whole) → Halts (declared (k.LeftOut w) fs x)
   declared-stops (f.Outer ∷ fs) x = tt
@@ -49,8 +52,12 @@ module _ (w : Mark) where
   suffixes-stops (f.Level m l cs ∷ fs) d = level_ends-stops fs l (pointed cs d)
   suffixes-stops _ d = tt
 
+  bare_specifiers-stops : (fs : List Frame) → Halts (bare_specifiers fs)
+  bare_specifiers-stops (f.Specifiers v ∷ fs) = unended-stops fs
+  bare_specifiers-stops _ = tt
+
   bare-stops : (fs : List Frame) (l : ℕ) (m : Mode) (cs : List Bool) → Halts (bare (k.LeftOut w) fs l m cs)
-  bare-stops fs l m [] = tt
+  bare-stops fs l m [] = bare_specifiers-stops fs
   bare-stops fs l m (c ∷ cs) = level_ends-stops fs l (pointed (c ∷ cs) no_direct)
 
   direct-stops : (t : Symbol) (fs : List Frame) (l : ℕ) (m : Mode) (cs : List Bool) → Halts (direct t (k.LeftOut w) fs l m cs)
@@ -63,7 +70,7 @@ module _ (w : Mark) where
 
   specified-stops : (t : Symbol) (fs : List Frame) (v : Specifiers TypeWord) → t.kind ≡ k.LeftOut w → Halts (specified t fs v)
   specified-stops t (f.Outer ∷ fs) v i = rw i tt
-  specified-stops t (f.Struct u l tag ms ∷ fs) v i = rw i (begin-stops t (f.Member v [] ∷ f.Struct u l tag ms ∷ fs) mode.Named)
+  specified-stops t (f.Struct u l union tag ms ∷ fs) v i = rw i (begin-stops t (f.Member v [] ∷ f.Struct u l union tag ms ∷ fs) mode.Named)
   specified-stops t (f.Parameters d ps ∷ fs) v i = rw i (begin-stops t (f.Specifiers v ∷ f.Parameters d ps ∷ fs) mode.Either)
   specified-stops t fs v i = rw i (begin-stops t (f.Specifiers v ∷ fs) mode.Abstract)
 
@@ -79,7 +86,7 @@ module _ (w : Mark) where
 
   due-stops : (typed : Bool) (t : Symbol) (fs : List Frame) → t.kind ≡ k.LeftOut w → Halts (due typed t fs (k.LeftOut w))
   due-stops typed t (f.Parameters d [] ∷ fs) i = words-stops typed t (f.Parameters d [] ∷ fs) (no_words t.line) i
-  due-stops typed t (f.Struct v l tag (m ∷ ms) ∷ fs) i = words-stops typed t (f.Struct v l tag (m ∷ ms) ∷ fs) (no_words t.line) i
+  due-stops typed t (f.Struct v l union tag (m ∷ ms) ∷ fs) i = words-stops typed t (f.Struct v l union tag (m ∷ ms) ∷ fs) (no_words t.line) i
   due-stops typed t fs i = words-stops typed t fs (no_words t.line) i
 
   items-stops : (t : Symbol) (fs : List Frame) → Halts (items t fs (k.LeftOut w))
@@ -87,7 +94,7 @@ module _ (w : Mark) where
   items-stops t _ = tt
 
   have-stops : (fs : List Frame) (x : Operand) → Halts (have (k.LeftOut w) fs x)
-  have-stops fs x = let r = settle 1 fs x in either Halts (nat_lt 200 r.1.height) _ _ (λ _. tt) (λ _. tt)
+  have-stops fs x = let r = settle 1 fs x in either Halts (nat_lt 200 r.1.height) _ _ (λ _. tt) (λ _. either Halts (is_full r.0) _ _ (λ _. tt) (λ _. tt))
 
   group-stops : (typed : Bool) (t : Symbol) (fs : List Frame) (m : Mode) (l : ℕ) (cs : List Bool) → t.kind ≡ k.LeftOut w → Halts (group typed t fs m l cs)
   group-stops typed t fs mode.Named l cs i = rw i (begin-stops t (f.Level mode.Named l cs ∷ fs) mode.Named)
@@ -108,8 +115,8 @@ module _ (w : Mark) where
   place-stops typed t fs s.Due i = subst (λ kd. Halts (due typed t fs kd)) (sym i) (due-stops typed t fs i)
   place-stops typed t fs (s.Words v) i = subst (λ kd. Halts (words typed t fs v kd)) (sym i) (words-stops typed t fs v i)
   place-stops typed t fs (s.Void l) i = subst (λ kd. Halts (void typed t fs l kd)) (sym i) (words-stops typed t fs (with_word (no_words l) word.Void) i)
-  place-stops typed t fs (s.Struct v l) i = rw i tt
-  place-stops typed t fs (s.StructTag v l tag) i = subst (λ kd. Halts (tagged_structure typed t fs v l tag kd)) (sym i) (words-stops typed t fs (with_word v (word.StructTag l tag)) i)
+  place-stops typed t fs (s.Struct v l union) i = rw i tt
+  place-stops typed t fs (s.StructTag v l union tag) i = subst (λ kd. Halts (tagged_structure typed t fs v l union tag kd)) (sym i) (words-stops typed t fs (with_word v (word.StructTag l union tag)) i)
   place-stops typed t fs (s.Enum v l) i = rw i tt
   place-stops typed t fs (s.EnumTag v l tag) i = subst (λ kd. Halts (tagged_enumeration typed t fs v l tag kd)) (sym i) (words-stops typed t fs (with_word v (word.EnumTag l tag)) i)
   place-stops typed t fs s.Items i = rw i (items-stops t fs)

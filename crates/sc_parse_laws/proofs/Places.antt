@@ -1,5 +1,5 @@
 -- What a step of the machine of expressions refuses.
-use Rattle.std.proofs.Common.{◌≡◌, ℕ, ◌≤◌, Bool, true, false, not, List, [], ◌∷◌, ◌++◌, length, Option, Ok, Err, refl, ◌∙◌, ap, subst, arith, append_assoc, inl, inr}
+use Rattle.std.proofs.Common.{◌≡◌, ℕ, ◌≤◌, Bool, true, false, not, List, [], ◌∷◌, ◌++◌, length, Option, Ok, Err, refl, sym, ◌∙◌, ap, subst, arith, append_assoc, inl, inr}
 use Rattle.std.specs.Prelude.{nat_lt}
 use Rattle.std.proofs.lemmas.Bool.{ltb-true, ltb-false}
 use Rattle.sc_tree.specs.declared.expression.Expr.{Expr}
@@ -26,6 +26,7 @@ use Rattle.sc_parse_grammar.specs.declared.frame.State.TheVariants as s
 use Rattle.sc_parse_grammar.specs.declared.trouble.Trouble.{Trouble}
 use Rattle.sc_parse_grammar.specs.declared.trouble.Trouble.TheVariants as no
 use Rattle.sc_parse_grammar.specs.declared.trouble.Limit.{Limit}
+use Rattle.sc_parse_grammar.specs.declared.trouble.Limit.TheVariants as limit
 use Rattle.sc_parse_grammar.specs.Kinds.{power_of}
 use Rattle.sc_parse_grammar.specs.Nodes.{text_node}
 use Rattle.sc_parse_grammar.specs.Types.{parameter_of, declarator_in, declare_in}
@@ -35,14 +36,15 @@ use Rattle.sc_parse_grammar.specs.Machine.{Config, Place, Outcome, settle, have,
 use Rattle.sc_parse_sound.proofs.Levels.{level-positive, not_between}
 use Rattle.sc_parse_sound.proofs.Open as w
 use Rattle.sc_parse_sound.proofs.Open.{Open, Valid, Good, Holds, Typed, ParameterRead}
-use Rattle.sc_parse_sound.proofs.Settling.{either, held, closed}
-use Rattle.sc_parse_sound.proofs.Declaring.{cons_append, begin-good, stars-good, suffixes-good}
+use Rattle.sc_parse_sound.proofs.Crowds.{last_parameter}
+use Rattle.sc_parse_sound.proofs.Settling.{either, held, Closed, closed}
+use Rattle.sc_parse_sound.proofs.Declaring.{begin-good, stars-good, suffixes-good}
 use Rattle.sc_parse_sound.proofs.Words.{further_words}
 use Rattle.sc_parse_sound.proofs.Bodies.{due-good, void-good, structure-good, tagged_structure-good, enumeration-good, tagged_enumeration-good, items-good, item-good, group-good}
 use Rattle.sc_parse_sound.proofs.Operands.{needed-good, opened-good, sized-good, sized_opened-good, have-good, texts-good, dotted-good, arrowed-good, offset_comma-good, offset_name-good, bracket-good}
 use Rattle.sc_parse_sound.proofs.Sound.{same_front}
 use Rattle.sc_parse_laws.specs.Marks.{InContext, begins_list}
-use Rattle.sc_parse_laws.specs.Limits.{TooHigh, TooManyArguments, TooManyParameters, Passes}
+use Rattle.sc_parse_sound.specs.Limits.{TooHigh, TooManyParameters, Passes}
 use Rattle.sc_parse_laws.specs.Refusals.{Explains, Explained}
 use Rattle.sc_parse_laws.proofs.Marks.{Told, suffixes-told, begin-told, stars-told, words-told, due-told, void-told, structure-told, tagged_structure-told, enumeration-told, tagged_enumeration-told, items-told, item-told, group-told}
 use Rattle.sc_parse_laws.proofs.Operands.{have-told, needed-told, opened-told, sized-told, sized_opened-told, dotted-told, arrowed-told, offset_comma-told, offset_name-told, bracket-told}
@@ -60,12 +62,9 @@ O t p = InContext mark.OldStyle t.kind p
 abbrev I : Symbol → Place → Type 0
 I t p = InContext mark.ImplicitInt t.kind p
 
-abbrev L : List Symbol → Limit → Type 0
-L d which = Passes which d
-
 -- what the token t is told of in this place, behind the tokens d
 abbrev Tells : Symbol → Place → List Symbol → Outcome → Type 0
-Tells t p d o = Told (B t p) (O t p) (I t p) (L d) o
+Tells t p d o = Told (B t p) (O t p) (I t p) (TooHigh d) o
 
 grouped : (fs : List Frame) (m : Mode) (l : ℕ) (cs : List Bool) → group_name m ≡ true → begins_list (fs, s.Group m l cs) ≡ true
 grouped fs mode.Abstract l cs h = refl
@@ -81,97 +80,54 @@ kept_limit : (kd : Kind) (which : Limit) → mark_of kd (no.Limit which) ≡ no.
 kept_limit (k.LeftOut other) which = refl
 kept_limit _ which = refl
 
-marked-explains : (t : Symbol) (p : Place) (d : List Symbol) (kd : Kind) (e : Trouble) → t.kind ≡ kd → Tells t p d (Err e) → Explains t p d (mark_of kd e)
-marked-explains t p d (k.LeftOut which) no.Syntax i h = inl i
-marked-explains t p d _ no.Syntax i h = tt
-marked-explains t p d kd (no.LeftOut mark.BitField) i h = rw (kept kd mark.BitField) (inr h)
-marked-explains t p d kd (no.LeftOut mark.OldStyle) i h = rw (kept kd mark.OldStyle) (inr h)
-marked-explains t p d kd (no.LeftOut mark.ImplicitInt) i h = rw (kept kd mark.ImplicitInt) (inr h)
-marked-explains t p d _ (no.LeftOut which) i h = absurd h
-marked-explains t p d kd (no.Limit which) i h = rw (kept_limit kd which) h
-marked-explains t p d _ no.NoMemory i h = absurd h
-
-parameter_tokens : {e c : Names} {ts : List Symbol} {v : Specifiers TypeWord} {x : Option Whole} → Typed true mode.Either e c ts v x → ParameterTokens true e (declare_in x c) ts (parameter_of v (declarator_in x))
-parameter_tokens (w.undeclared p q r) = g.unnamed p q r
-parameter_tokens (w.declared p q r y) = g.declared p q r y
-
 module _ (b : Names) (base : Frame) where
   high : {c : Names} {fs : List Frame} {x : Operand} {d : List Symbol} → Holds b base c fs x d → nat_lt 200 x.height ≡ true → TooHigh d
   high h n = record { before = h.ds; ts = h.xs; names = _; after = _; x = _; all = h.all; phrase = h.phrase; high = ltb-true _ _ n }
 
-  many : {c e : Names} {gs : List Frame} {a x : Operand} {args : List Expr} {n : ℕ} {ds xs d : List Symbol} → Open b base e (f.Arguments a args n ∷ gs) ds → Phrase true e c xs x → 2 ≤ x.level → nat_lt (length args) 31 ≡ false → d ≡ ds ++ xs →
-      TooManyArguments d
-  many (w.no_arguments t o q r j) p z m i = absurd cc
-  many {xs} (w.arguments {d = es} {xs = hs} {ys = zs} t u o q r j y i) p z m a =
-      record {
-        before = es ++ (hs ++ t ∷ []);
-        ts = zs;
-        us = xs;
-        sign = u;
-        names = _;
-        between = _;
-        after = _;
-        args = _;
-        high = _;
-        x = _;
-        all = a ∙ shape es hs zs xs t u;
-        arguments = y;
-        comma = i;
-        phrase = p;
-        level = z;
-        full = ltb-false _ _ m;
-      }
-    where
-      shape : (es hs zs xs : List Symbol) (t u : Symbol) → ((es ++ (hs ++ t ∷ zs)) ++ u ∷ []) ++ xs ≡ (es ++ (hs ++ t ∷ [])) ++ (zs ++ u ∷ xs)
-      shape es hs zs xs t u = simp (append_assoc, cons_append)
-
-  of_arguments : {c : Names} {gs : List Frame} {a x : Operand} {args : List Expr} {n : ℕ} {d : List Symbol} → Holds b base c (f.Arguments a args n ∷ gs) x d → nat_lt (length args) 31 ≡ false → TooManyArguments d
-  of_arguments h m = many h.opened h.phrase h.fits m h.all
-
-  arguments : {c : Names} (fs gs : List Frame) (a : Operand) {x : Operand} (args : List Expr) (n : ℕ) (d : List Symbol) → Holds b base c fs x d → fs ≡ f.Arguments a args n ∷ gs → nat_lt (length args) 31 ≡ false → TooManyArguments d
-  arguments {c} fs gs a {x} args n d h e m = of_arguments {gs = gs} {a = a} {args = args} {n = n} (subst (λ fs. Holds b base c fs x d) e h) m
-
-  read : (kd : Kind) (fs : List Frame) (x : Operand) {c : Names} (d : List Symbol) → 15 ≤ x.level → Holds b base c fs x d → nat_lt 15 (power_of kd) ≡ false → Holds b base c (settle (power_of kd) fs x).0 (settle (power_of kd) fs x).1 d
+  read : (kd : Kind) (fs : List Frame) (x : Operand) {c : Names} (d : List Symbol) → 15 ≤ x.level → Holds b base c fs x d → nat_lt 15 (power_of kd) ≡ false → Closed b base c (power_of kd) (settle (power_of kd) fs x) d
   read kd fs x d q h n =
       let low : power_of kd ≤ 14 = not_between kd 14 (ltb-false _ _ n) (omega arith) in
-      let r = closed b base (power_of kd) fs x d (power-some kd) low (omega (arith, low, q)) h in
-      r.holds
+      closed b base (power_of kd) fs x d (power-some kd) low (omega (arith, low, q)) h
+
+  -- what is closed where no token goes on with the operand
+  ended : (fs : List Frame) (x : Operand) {c : Names} (d : List Symbol) → 1 ≤ x.level → Holds b base c fs x d → nat_lt 200 (settle 1 fs x).1.height ≡ true → TooHigh d
+  ended fs x d n h m = let r = closed b base 1 fs x d (omega arith) (omega arith) n h in high r.holds m
 
   have-explained : (kd : Kind) (fs : List Frame) (x : Operand) (t : Symbol) (p : Place) {c : Names} (d : List Symbol) → 15 ≤ x.level → Holds b base c fs x d → Tells t p d (have kd fs x)
   have-explained kd fs x t p d q h =
-      have-told (B t p) (O t p) (I t p) (L d) kd fs x (high h)
-      (λ n m. high (read kd fs x d q h n) m)
-      (λ n a args i gs e m. inl (arguments (settle (power_of kd) fs x).0 gs a args i d (read kd fs x d q h n) e m))
+      have-told (B t p) (O t p) (I t p) (TooHigh d) kd fs x (high h) (ended fs x d (omega (arith, q)) h)
+      (λ n m. let r = read kd fs x d q h n in high r.holds m)
+      (λ n m. let r = read kd fs x d q h n in ended (settle (power_of kd) fs x).0 (settle (power_of kd) fs x).1 d (let y = r.tight in let z = power-some kd in omega (arith, y, z)) r.holds m)
 
   texts-explained : (kd : Kind) (fs : List Frame) (l : ℕ) (text : Option (List ℕ)) (t : Symbol) (p : Place) {c : Names} (d : List Symbol) → w.Quoted b base c fs l text d → Tells t p d (texts t fs l text kd)
   texts-explained (k.Text fits) fs l text t p d v = tt
   texts-explained kd fs l text t p d v = let q = held b base v.opened (g.string v.strings) (omega arith) d v.all in have-explained kd fs (text_node l text) t p d q.0 q.1
 
   place-told : (c : Names) (fs : List Frame) (state : State) (t : Symbol) (d : List Symbol) → Valid b base c (fs, state) d → Tells t (fs, state) d (place (is_typed c t) t (fs, state))
-  place-told c fs s.Need t d v = let p : Place = (fs, s.Need) in needed-told (B t p) (O t p) (I t p) (L d) (is_typed c t) t fs
-  place-told c fs (s.Opened l) t d v = let p : Place = (fs, s.Opened l) in opened-told (B t p) (O t p) (I t p) (L d) (is_typed c t) t fs l
-  place-told c fs (s.Sized l) t d v = let p : Place = (fs, s.Sized l) in sized-told (B t p) (O t p) (I t p) (L d) (is_typed c t) t fs l t.kind
-  place-told c fs (s.SizedOpened l h) t d v = let p : Place = (fs, s.SizedOpened l h) in sized_opened-told (B t p) (O t p) (I t p) (L d) (is_typed c t) t fs l h
+  place-told c fs s.Need t d v = let p : Place = (fs, s.Need) in needed-told (B t p) (O t p) (I t p) (TooHigh d) (is_typed c t) t fs
+  place-told c fs (s.Opened l) t d v = let p : Place = (fs, s.Opened l) in opened-told (B t p) (O t p) (I t p) (TooHigh d) (is_typed c t) t fs l
+  place-told c fs (s.Sized l) t d v = let p : Place = (fs, s.Sized l) in sized-told (B t p) (O t p) (I t p) (TooHigh d) (is_typed c t) t fs l t.kind
+  place-told c fs (s.SizedOpened l h) t d v = let p : Place = (fs, s.SizedOpened l h) in sized_opened-told (B t p) (O t p) (I t p) (TooHigh d) (is_typed c t) t fs l h
   place-told c fs (s.Have x) t d v = have-explained t.kind fs x t (fs, s.Have x) d v.0 v.1
   place-told c fs (s.Texts l text) t d v = texts-explained t.kind fs l text t (fs, s.Texts l text) d v
-  place-told c fs (s.Dot x) t d v = let p : Place = (fs, s.Dot x) in dotted-told (B t p) (O t p) (I t p) (L d) fs x t.text t.kind
-  place-told c fs (s.Arrow x) t d v = let p : Place = (fs, s.Arrow x) in arrowed-told (B t p) (O t p) (I t p) (L d) fs x t.text t.kind
-  place-told c fs (s.OffsetComma l type) t d v = let p : Place = (fs, s.OffsetComma l type) in offset_comma-told (B t p) (O t p) (I t p) (L d) fs l type t.text t.kind
-  place-told c fs (s.OffsetName l type text) t d v = let p : Place = (fs, s.OffsetName l type text) in offset_name-told (B t p) (O t p) (I t p) (L d) fs l type text t.kind
-  place-told c fs s.Due t d v = let p : Place = (fs, s.Due) in due-told (B t p) (O t p) (I t p) (L d) (is_typed c t) t fs t.kind (λ i j. (i, j)) (λ i j. (i, j)) (λ i. (i, refl))
-  place-told c fs (s.Words x) t d v = let p : Place = (fs, s.Words x) in words-told (B t p) (O t p) (I t p) (L d) (is_typed c t) t fs x t.kind (λ i j. (i, j)) (λ n i j. (i, j)) (λ n i. (i, ap not n))
-  place-told c fs (s.Void l) t d v = let p : Place = (fs, s.Void l) in void-told (B t p) (O t p) (I t p) (L d) (is_typed c t) t fs l t.kind (λ i j. (i, j))
-  place-told c fs (s.Struct x h) t d v = let p : Place = (fs, s.Struct x h) in structure-told (B t p) (O t p) (I t p) (L d) t fs x h t.kind
-  place-told c fs (s.StructTag x h tag) t d v = let p : Place = (fs, s.StructTag x h tag) in tagged_structure-told (B t p) (O t p) (I t p) (L d) (is_typed c t) t fs x h tag t.kind (λ i j. (i, j))
-  place-told c fs (s.Enum x h) t d v = let p : Place = (fs, s.Enum x h) in enumeration-told (B t p) (O t p) (I t p) (L d) t fs x h t.kind
-  place-told c fs (s.EnumTag x h tag) t d v = let p : Place = (fs, s.EnumTag x h tag) in tagged_enumeration-told (B t p) (O t p) (I t p) (L d) (is_typed c t) t fs x h tag t.kind (λ i j. (i, j))
-  place-told c fs s.Items t d v = let p : Place = (fs, s.Items) in items-told (B t p) (O t p) (I t p) (L d) t fs t.kind
-  place-told c fs (s.Item name) t d v = let p : Place = (fs, s.Item name) in item-told (B t p) (O t p) (I t p) (L d) fs name t.kind
-  place-told c fs (s.Begin m) t d v = let p : Place = (fs, s.Begin m) in begin-told (B t p) (O t p) (I t p) (L d) t t.kind fs m (λ i j. (i, j))
-  place-told c fs (s.Stars m l cs) t d v = let p : Place = (fs, s.Stars m l cs) in stars-told (B t p) (O t p) (I t p) (L d) t t.kind fs l m cs (λ i j. (i, j))
-  place-told c fs (s.Group m l cs) t d v = let p : Place = (fs, s.Group m l cs) in group-told (B t p) (O t p) (I t p) (L d) (is_typed c t) t fs m l cs (λ i j. (i, j)) (λ i n. (i, grouped fs m l cs n))
-  place-told c fs (s.Direct x) t d v = let p : Place = (fs, s.Direct x) in suffixes-told (B t p) (O t p) (I t p) (L d) t.kind fs x (λ i j. (i, j))
-  place-told c fs (s.Bracket x) t d v = let p : Place = (fs, s.Bracket x) in bracket-told (B t p) (O t p) (I t p) (L d) (is_typed c t) t fs x t.kind
+  place-told c fs (s.Dot x) t d v = let p : Place = (fs, s.Dot x) in dotted-told (B t p) (O t p) (I t p) (TooHigh d) fs x t.text t.kind
+  place-told c fs (s.Arrow x) t d v = let p : Place = (fs, s.Arrow x) in arrowed-told (B t p) (O t p) (I t p) (TooHigh d) fs x t.text t.kind
+  place-told c fs (s.OffsetComma l type) t d v = let p : Place = (fs, s.OffsetComma l type) in offset_comma-told (B t p) (O t p) (I t p) (TooHigh d) fs l type t.text t.kind
+  place-told c fs (s.OffsetName l type text) t d v = let p : Place = (fs, s.OffsetName l type text) in offset_name-told (B t p) (O t p) (I t p) (TooHigh d) fs l type text t.kind
+  place-told c fs s.Due t d v = let p : Place = (fs, s.Due) in due-told (B t p) (O t p) (I t p) (TooHigh d) (is_typed c t) t fs t.kind (λ i j. (i, j)) (λ i j. (i, j)) (λ i. (i, refl))
+  place-told c fs (s.Words x) t d v = let p : Place = (fs, s.Words x) in words-told (B t p) (O t p) (I t p) (TooHigh d) (is_typed c t) t fs x t.kind (λ i j. (i, j)) (λ n i j. (i, j)) (λ n i. (i, ap not n))
+  place-told c fs (s.Void l) t d v = let p : Place = (fs, s.Void l) in void-told (B t p) (O t p) (I t p) (TooHigh d) (is_typed c t) t fs l t.kind (λ i j. (i, j))
+  place-told c fs (s.Struct x h union) t d v = let p : Place = (fs, s.Struct x h union) in structure-told (B t p) (O t p) (I t p) (TooHigh d) t fs x h union t.kind
+  place-told c fs (s.StructTag x h union tag) t d v = let p : Place = (fs, s.StructTag x h union tag) in tagged_structure-told (B t p) (O t p) (I t p) (TooHigh d) (is_typed c t) t fs x h union tag t.kind (λ i j. (i, j))
+  place-told c fs (s.Enum x h) t d v = let p : Place = (fs, s.Enum x h) in enumeration-told (B t p) (O t p) (I t p) (TooHigh d) t fs x h t.kind
+  place-told c fs (s.EnumTag x h tag) t d v = let p : Place = (fs, s.EnumTag x h tag) in tagged_enumeration-told (B t p) (O t p) (I t p) (TooHigh d) (is_typed c t) t fs x h tag t.kind (λ i j. (i, j))
+  place-told c fs s.Items t d v = let p : Place = (fs, s.Items) in items-told (B t p) (O t p) (I t p) (TooHigh d) t fs t.kind
+  place-told c fs (s.Item name) t d v = let p : Place = (fs, s.Item name) in item-told (B t p) (O t p) (I t p) (TooHigh d) fs name t.kind
+  place-told c fs (s.Begin m) t d v = let p : Place = (fs, s.Begin m) in begin-told (B t p) (O t p) (I t p) (TooHigh d) t t.kind fs m (λ i j. (i, j))
+  place-told c fs (s.Stars m l cs) t d v = let p : Place = (fs, s.Stars m l cs) in stars-told (B t p) (O t p) (I t p) (TooHigh d) t t.kind fs l m cs (λ i j. (i, j))
+  place-told c fs (s.Group m l cs) t d v = let p : Place = (fs, s.Group m l cs) in group-told (B t p) (O t p) (I t p) (TooHigh d) (is_typed c t) t fs m l cs (λ i j. (i, j)) (λ i n. (i, grouped fs m l cs n))
+  place-told c fs (s.Direct x) t d v = let p : Place = (fs, s.Direct x) in suffixes-told (B t p) (O t p) (I t p) (TooHigh d) t.kind fs x (λ i j. (i, j))
+  place-told c fs (s.Bracket x) t d v = let p : Place = (fs, s.Bracket x) in bracket-told (B t p) (O t p) (I t p) (TooHigh d) (is_typed c t) t fs x t.kind
   place-told c fs _ t d v = tt
 
   -- the invariant behind the token, before it declares or ends anything
@@ -189,8 +145,8 @@ module _ (b : Names) (base : Frame) where
   place-good c fs s.Due t d v = due-good b base fs t.kind t d v refl
   place-good c fs (s.Words x) t d v = further_words b base fs x t d v
   place-good c (f.Parameters y [] ∷ fs) (s.Void l) t d v = void-good b base t.kind y fs l t d v refl
-  place-good c fs (s.Struct x h) t d v = structure-good b base t.kind fs x h t d v refl
-  place-good c fs (s.StructTag x h tag) t d v = tagged_structure-good b base t.kind fs x h tag t d v refl
+  place-good c fs (s.Struct x h union) t d v = structure-good b base t.kind fs x h union t d v refl
+  place-good c fs (s.StructTag x h union tag) t d v = tagged_structure-good b base t.kind fs x h union tag t d v refl
   place-good c fs (s.Enum x h) t d v = enumeration-good b base t.kind fs x h t d v refl
   place-good c fs (s.EnumTag x h tag) t d v = tagged_enumeration-good b base t.kind fs x h tag t d v refl
   place-good c fs s.Items t d v = items-good b base t.kind fs t d v refl
@@ -209,33 +165,23 @@ module _ (b : Names) (base : Frame) where
   place-good c fs (s.Declared x) t d v = tt
   place-good c _ _ t d v = absurd v
 
-  last_parameter : {c e : Names} {fs : List Frame} {y : Direct} {ps : List Parameter} {v : Specifiers TypeWord} {x : Option Whole} {ds ts d : List Symbol} → Open b base e (f.Parameters y ps ∷ fs) ds → Typed true mode.Either e c ts v x →
-      nat_lt (length ps) 31 ≡ false → d ≡ ds ++ ts → TooManyParameters d
-  last_parameter (w.parameters o bg st w.no_parameters) ty m a = absurd cc
-  last_parameter {ts = qs} (w.parameters {d = zs} {ts} o bg st (w.parameters {ts = us} sign p i h)) ty m a =
-      record {
-        before = zs ++ ts;
-        ts = us;
-        us = qs;
-        sign = sign;
-        names = _;
-        between = _;
-        after = _;
-        ps = _;
-        p = _;
-        all = a ∙ shape zs ts us qs sign;
-        parameters = p;
-        comma = i;
-        parameter = parameter_tokens ty;
-        full = ltb-false _ _ m;
-      }
-    where
-      shape : (zs ts us qs : List Symbol) (u : Symbol) → (zs ++ (ts ++ (us ++ u ∷ []))) ++ qs ≡ (zs ++ ts) ++ (us ++ u ∷ qs)
-      shape zs ts us qs u = simp (append_assoc, cons_append)
-
   parameters : {c : Names} {fs : List Frame} {y : Direct} {ps : List Parameter} {v : Specifiers TypeWord} {x : Option Whole} {kd : Kind} (t : Symbol) (d : List Symbol) → ParameterRead b base c (f.Parameters y ps ∷ fs) v x kd (d ++ t ∷ []) →
       nat_lt (length ps) 31 ≡ false → TooManyParameters d
-  parameters t d q m = let same = same_front d (q.ds ++ q.ts) t q.t q.all in last_parameter q.opened q.tokens m same.0
+  parameters t d q m = let same = same_front d (q.ds ++ q.ts) t q.t q.all in last_parameter b base q.opened q.tokens m same.0
+
+  -- A refusal is explained: what is told of it, and where an argument or a parameter is one too many.
+  marked-explains : (t : Symbol) (p : Place) (d : List Symbol) (c : Names) (kd : Kind) (e : Trouble) → t.kind ≡ kd → Tells t p d (Err e) → Good b base c (Err e) (d ++ t ∷ []) → Explains t p d (mark_of kd e)
+  marked-explains t p d c (k.LeftOut which) no.Syntax i h q = inl i
+  marked-explains t p d c _ no.Syntax i h q = tt
+  marked-explains t p d c kd (no.LeftOut mark.BitField) i h q = rw (kept kd mark.BitField) (inr h)
+  marked-explains t p d c kd (no.LeftOut mark.OldStyle) i h q = rw (kept kd mark.OldStyle) (inr h)
+  marked-explains t p d c kd (no.LeftOut mark.ImplicitInt) i h q = rw (kept kd mark.ImplicitInt) (inr h)
+  marked-explains t p d c _ (no.LeftOut which) i h q = absurd h
+  marked-explains t p d c kd (no.Limit limit.Height) i h q = rw (kept_limit kd limit.Height) h
+  marked-explains t p d c kd (no.Limit limit.Arguments) i h q =
+      let same = same_front d q.front t q.last q.all in
+      rw (kept_limit kd limit.Arguments) (subst (Passes limit.Arguments) (sym same.0) q.many)
+  marked-explains t p d c _ no.NoMemory i h q = absurd h
 
   parameter_behind-told : (t : Symbol) (p : Place) (d : List Symbol) (c : Names) (fs : List Frame) (y : Direct) (ps : List Parameter) (closing : Bool) → Explained t p d (parameter_behind c fs y ps closing)
   parameter_behind-told t p d c fs y ps true = tt
@@ -264,4 +210,4 @@ module _ (b : Names) (base : Frame) where
       go : (o : Outcome) → Tells t (fs, state) d o → Good b base (entered (enters (is_typed c t) t.kind state) c) o (d ++ t ∷ []) →
           Explained t (fs, state) d (on_ok (effect (entered (enters (is_typed c t) t.kind state) c)) (marked t.kind o))
       go (Ok (fs1, state1)) h q = effect-told t (fs, state) d _ fs1 state1 q
-      go (Err e) h q = marked-explains t (fs, state) d t.kind e refl h
+      go (Err e) h q = marked-explains t (fs, state) d (entered (enters (is_typed c t) t.kind state) c) t.kind e refl h q

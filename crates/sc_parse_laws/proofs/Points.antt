@@ -1,5 +1,5 @@
 -- What a step of the machine of units refuses.
-use Rattle.std.proofs.Common.{◌≡◌, ℕ, ◌≤◌, List, [], ◌∷◌, ◌++◌, Ok, Err, refl, sym, ◌∙◌, ap, arith, append_assoc, append-nil, inl, inr}
+use Rattle.std.proofs.Common.{◌≡◌, ℕ, ◌≤◌, List, [], ◌∷◌, ◌++◌, Ok, Err, true, false, refl, sym, ◌∙◌, ap, arith, append_assoc, append-nil, inl, inr}
 use Rattle.std.specs.Prelude.{Result}
 use Rattle.sc_parse_names.specs.declared.kind.Mark.{Mark}
 use Rattle.sc_parse_names.specs.declared.kind.Mark.TheVariants as mark
@@ -14,21 +14,26 @@ use Rattle.sc_parse_grammar.specs.declared.trouble.Trouble.{Trouble}
 use Rattle.sc_parse_grammar.specs.declared.trouble.Trouble.TheVariants as trouble
 use Rattle.sc_parse_grammar.specs.declared.trouble.Limit.{Limit}
 use Rattle.sc_parse_grammar.specs.declared.trouble.Limit.TheVariants as limit
+use Rattle.sc_parse_grammar.specs.Types.{no_words, with_word}
+use Rattle.sc_parse_grammar.specs.Nodes.{named_node}
+use Rattle.sc_tree.specs.declared.expression.TypeWord.TheVariants as word
 use Rattle.sc_parse_grammar.specs.Machine.{Config, Place, step}
 use Rattle.sc_parse_unit.specs.declared.around.Around.{Around}
 use Rattle.sc_parse_unit.specs.declared.around.Around.TheVariants as a
 use Rattle.sc_parse_unit.specs.declared.around.Stage.TheVariants as at
 use Rattle.sc_parse_unit.specs.declared.obstacle.Obstacle.{Obstacle}
 use Rattle.sc_parse_unit.specs.declared.obstacle.Obstacle.TheVariants as no
-use Rattle.sc_parse_unit.specs.Machine.{Point, Move, needs, place, mark_of, marked, advance}
-use Rattle.sc_parse_unit.proofs.Inside.{Valid}
+use Rattle.sc_parse_unit.specs.Machine.{Point, Move, needs, place, mark_on, marked, advance}
+use Rattle.sc_parse_unit.proofs.Inside as n
+use Rattle.sc_parse_unit.proofs.Inside.{Valid, Naming}
+use Rattle.sc_parse_unit.proofs.Closing.{node_valid, word_valid}
 use Rattle.sc_parse_sound.proofs.Open as w
 use Rattle.sc_parse_laws.specs.Marks.{Shows}
-use Rattle.sc_parse_laws.specs.Limits.{TooHigh, TooManyArguments, TooManyParameters, Passes}
+use Rattle.sc_parse_sound.specs.Limits.{TooHigh, TooManyArguments, TooManyParameters, Passes}
 use Rattle.sc_parse_laws.specs.Refusals.{Explains, Explained}
 use Rattle.sc_parse_laws.specs.Claims.{place_in, IsNested}
 use Rattle.sc_parse_laws.proofs.Places.{step-explained}
-use Rattle.sc_parse_laws.proofs.Units.{Answered, Heard, semicolon-heard, colon-heard, initial_ends-heard, in_expression-heard, in_declarator-heard, in_specifiers-heard, due-heard, initial-heard, got-heard, left_paren-heard, expression_due-heard}
+use Rattle.sc_parse_laws.proofs.Units.{Answered, Heard, semicolon-heard, colon-heard, initial_ends-heard, in_expression-heard, in_declarator-heard, in_specifiers-heard, behind_name-heard, behind_type-heard, target-heard, due-heard, initial-heard, got-heard, left_paren-heard, expression_due-heard}
 
 -- Tokens that pass a limit pass it behind others too.
 front : (d0 us before ts : List Symbol) → us ≡ before ++ ts → d0 ++ us ≡ (d0 ++ before) ++ ts
@@ -126,6 +131,20 @@ low_needs _ = omega arith
 abbrev Hears : Symbol → Point → List Symbol → Move → Type 0
 Hears t p d m = Heard (λ o. Explains t (place_in p.1.1) d o) (IsNested t p) m
 
+-- behind a name with which a statement begins, or a declaration
+plain-heard : {c : Names} {fs : List Around} {l : ℕ} {text : List ℕ} {d : List Symbol} (t : Symbol) → Naming false c fs l text d → Hears t (c, (fs, at.Name l text)) d (place t (c, (fs, at.Name l text)))
+plain-heard {c} {fs} t (n.plain {d = ds} u z few uk r) =
+    let q : Place = (f.Only 1 ∷ [], e.Have (named_node u.line u.text)) in
+    behind_name-heard (λ o. Explains t q (ds ++ u ∷ []) o) (IsNested t (c, (fs, at.Name u.line u.text))) t c fs u.line u.text t.kind
+    (answered t q q ds (u ∷ []) (ds ++ u ∷ []) _ refl (λ which h. h) (step-explained c (f.Only 1) (c, q) t (u ∷ []) (node_valid c u uk r)))
+
+type-heard : {c : Names} {fs : List Around} {l : ℕ} {text : List ℕ} {d : List Symbol} (t : Symbol) → Naming true c fs l text d → Hears t (c, (fs, at.TypeName l text)) d (place t (c, (fs, at.TypeName l text)))
+type-heard {c} {fs} t (n.of_type {d = ds} u z early uk r) =
+    let q : Place = (f.Outer ∷ [], e.Words (with_word (no_words u.line) (word.Typedef u.line u.text))) in
+    behind_type-heard (λ o. Explains t q (ds ++ u ∷ []) o) (IsNested t (c, (fs, at.TypeName u.line u.text))) t c fs u.line u.text t.kind
+    (answered t q q ds (u ∷ []) (ds ++ u ∷ []) _ refl (λ which h. h) (step-explained c f.Outer (c, q) t (u ∷ []) (word_valid c u uk r)))
+    (declarator_begins t q (ds ++ u ∷ [])) (λ j. inr j)
+
 place-heard : (p : Point) (t : Symbol) (d : List Symbol) → Valid p d → Hears t p d (place t p)
 place-heard (c, (fs, at.Due)) t d v = let q : Place = (f.Outer ∷ [], e.Due) in let p : Point = (c, (fs, at.Due)) in
     due-heard (λ o. Explains t q d o) (IsNested t p) t c fs (specifiers_begin t d c) (declarator_begins t q d) (need_begins t q d c 1 (omega arith)) (λ i j. inl (i, j)) (λ j. inr j)
@@ -135,6 +154,9 @@ place-heard (c, (fs, at.Declarator frames state)) t d v = let q : Place = (frame
     in_declarator-heard (λ o. Explains t q d o) (IsNested t p) t fs _ (answered t q q v.d0 v.us d _ v.all (λ which h. h) (step-explained v.c0 f.Outer (c, (frames, state)) t v.us v.inner))
 place-heard (c, (fs, at.Expression frames state)) t d v = let q : Place = (frames, state) in let p : Point = (c, (fs, at.Expression frames state)) in
     in_expression-heard (λ o. Explains t q d o) (IsNested t p) t fs _ (answered t q q v.d0 v.us d _ v.all (λ which h. h) (step-explained v.c0 (f.Only v.m) (c, (frames, state)) t v.us v.inner))
+place-heard (c, (fs, at.Name l text)) t d v = plain-heard t v
+place-heard (c, (fs, at.TypeName l text)) t d v = type-heard t v
+place-heard (c, (fs, at.Target l)) t d v = let q : Place = (f.Outer ∷ [], e.Due) in let p : Point = (c, (fs, at.Target l)) in target-heard (λ o. Explains t q d o) (IsNested t p) t c fs l t.kind
 place-heard (c, (fs, at.Initial)) t d v = let q : Place = (f.Outer ∷ [], e.Due) in let p : Point = (c, (fs, at.Initial)) in
     initial-heard (λ o. Explains t q d o) (IsNested t p) t c fs t.kind (need_begins t q d c 2 (omega arith))
 place-heard (c, (fs, at.Closed x)) t d v = let q : Place = (f.Outer ∷ [], e.Due) in let p : Point = (c, (fs, at.Closed x)) in initial_ends-heard (λ o. Explains t q d o) (IsNested t p) c t.kind fs x
@@ -163,13 +185,14 @@ told t p d (no.Inner (trouble.LeftOut which)) h = h
 told t p d (no.Inner (trouble.Limit which)) h = h
 told t p d (no.Inner trouble.NoMemory) h = h
 
-marked-told : (t : Symbol) (p : Point) (d : List Symbol) (kd : Kind) (o : Obstacle) → t.kind ≡ kd → Told t p d o → Told t p d (mark_of kd o)
+marked-told : (t : Symbol) (p : Point) (d : List Symbol) (kd : Kind) (o : Obstacle) → t.kind ≡ kd → Told t p d o → Told t p d (mark_on kd o)
 marked-told t p d (k.LeftOut which) (no.Inner trouble.Syntax) i h = inl i
 marked-told t p d (k.LeftOut other) (no.Inner (trouble.LeftOut which)) i h = h
 marked-told t p d (k.LeftOut other) (no.Inner (trouble.Limit which)) i h = h
 marked-told t p d (k.LeftOut other) (no.Inner trouble.NoMemory) i h = h
 marked-told t p d (k.LeftOut other) no.Nesting i h = h
-marked-told t p d _ o i h = h
+marked-told t p d _ (no.Inner o) i h = h
+marked-told t p d _ no.Nesting i h = h
 
 pub advance-told : (p : Point) (t : Symbol) (d : List Symbol) → Valid p d → Tells t p d (advance t p)
 advance-told p t d v = go (place t p) (place-heard p t d v)

@@ -1,9 +1,10 @@
 -- What each function of the machine of units refuses.
-use Rattle.std.proofs.Common.{◌≡◌, ℕ, ◌≤◌, List, [], ◌∷◌, ◌++◌, length, Option, Some, None, Ok, Err, refl}
+use Rattle.std.proofs.Common.{◌≡◌, ℕ, ◌≤◌, List, [], ◌∷◌, ◌++◌, length, Option, Some, None, Ok, Err, true, false, Bool, refl}
 use Rattle.std.specs.Prelude.{◌&&◌, nat_lt, Result}
 use Rattle.std.proofs.lemmas.Bool.{ltb-false}
 use Rattle.sc_tree.specs.declared.expression.Expr.{Expr}
 use Rattle.sc_tree.specs.declared.expression.TypeWord.{TypeWord}
+use Rattle.sc_tree.specs.declared.expression.TypeWord.TheVariants as word
 use Rattle.sc_tree.specs.declared.expression.Specifiers.{Specifiers}
 use Rattle.sc_tree.specs.declared.expression.Declarator.{Declarator}
 use Rattle.sc_tree.specs.declared.declaration.Initializer.{Initializer}
@@ -23,15 +24,18 @@ use Rattle.sc_parse_grammar.specs.declared.frame.Frame.TheVariants as f
 use Rattle.sc_parse_grammar.specs.declared.frame.State.TheVariants as e
 use Rattle.sc_parse_grammar.specs.declared.trouble.Trouble.{Trouble}
 use Rattle.sc_parse_grammar.specs.declared.trouble.Trouble.TheVariants as trouble
-use Rattle.sc_parse_grammar.specs.Types.{declarator_of}
+use Rattle.sc_parse_grammar.specs.Kinds.{begins_specifiers}
+use Rattle.sc_parse_grammar.specs.Nodes.{named_node}
+use Rattle.sc_parse_grammar.specs.Types.{no_words, with_word, declarator_of}
 use Rattle.sc_parse_grammar.specs.Machine.{Config, step}
+use Rattle.sc_parse_unit.specs.declared.around.End.TheVariants as stop
 use Rattle.sc_parse_unit.specs.declared.around.Head.{Head}
 use Rattle.sc_parse_unit.specs.declared.around.Head.TheVariants as h
 use Rattle.sc_parse_unit.specs.declared.around.Around.{Around}
 use Rattle.sc_parse_unit.specs.declared.around.Around.TheVariants as a
 use Rattle.sc_parse_unit.specs.declared.obstacle.Obstacle.TheVariants as no
 use Rattle.sc_parse_unit.specs.Trees.{declare_as, init_declarator, declaration_of, with_statement}
-use Rattle.sc_parse_unit.specs.Machine.{Move, at_semicolon, at_paren, at_colon, declares, declarator_joins, declarator_ends, initial_joins, initial_ends, part_ends, whole_ends, is_optional, expression_ends, in_expression, list_ends, initial, body, declared_by, declared, in_declarator, specified, in_specifiers, specifiers, begins_declaration, function_ends, block_ends, block_begins, statement, statement_due, external_due, is_early, is_outside, due, other_begins, until, behind, settle, is_else, got, left_paren, needs, ends_part, expression_due}
+use Rattle.sc_parse_unit.specs.Machine.{Move, ends_at, named, early, behind_name, behind_type, target, declares, declarator_joins, declarator_ends, initial_joins, initial_ends, part_ends, whole_ends, is_optional, expression_ends, in_expression, list_ends, initial, body, declared_by, declared, in_declarator, specified, in_specifiers, specifiers, function_ends, block_ends, block_begins, statement, statement_due, external_due, is_early, is_outside, due, other_begins, until, behind, settle, is_else, got, left_paren, needs, ends_part, expression_due}
 use Rattle.sc_parse_unit.proofs.Keeping.{either}
 
 -- what is known of the answer of the machine of expressions
@@ -48,15 +52,15 @@ module _ (W : Trouble → Type 0) (N : Type 0) where
   Heard (Err (no.Inner o)) = W o
   Heard (Err no.Nesting) = N
 
-  pub semicolon-heard : (kd : Kind) (m : Move) → Heard m → Heard (at_semicolon kd m)
+  pub semicolon-heard : (kd : Kind) (m : Move) → Heard m → Heard (ends_at stop.Semicolon kd m)
   semicolon-heard k.Semicolon m q = q
   semicolon-heard _ m q = tt
 
-  paren-heard : (kd : Kind) (m : Move) → Heard m → Heard (at_paren kd m)
+  paren-heard : (kd : Kind) (m : Move) → Heard m → Heard (ends_at stop.Paren kd m)
   paren-heard k.RightParen m q = q
   paren-heard _ m q = tt
 
-  pub colon-heard : (kd : Kind) (m : Move) → Heard m → Heard (at_colon kd m)
+  pub colon-heard : (kd : Kind) (m : Move) → Heard m → Heard (ends_at stop.Colon kd m)
   colon-heard k.Colon m q = q
   colon-heard _ m q = tt
 
@@ -159,6 +163,10 @@ module _ (W : Trouble → Type 0) (N : Type 0) where
   abbrev pub Begins : Symbol → Names → ℕ → Type 0
   Begins t c m = Answered W (step t (c, (f.Only m ∷ [], e.Need)))
 
+  named-heard : (typed : Bool) (t : Symbol) (c : Names) (fs : List Around) → Heard (named typed t c fs)
+  named-heard true t c fs = tt
+  named-heard false t c fs = tt
+
   statement-heard : (t : Symbol) (c : Names) (fs : List Around) (kd : Kind) → Begins t c 1 → (kd ≡ k.LeftBrace → 128 ≤ length c → N) → Heard (statement t c fs kd)
   statement-heard t c fs k.Semicolon q n = tt
   statement-heard t c fs k.LeftBrace q n = block_begins-heard t.line c fs (n refl)
@@ -172,6 +180,8 @@ module _ (W : Trouble → Type 0) (N : Type 0) where
   statement-heard t c fs k.Continue q n = tt
   statement-heard t c fs k.Break q n = tt
   statement-heard t c fs k.Return q n = tt
+  statement-heard t c fs k.Goto q n = tt
+  statement-heard t c fs k.Name q n = named-heard (is_typed c t) t c fs
   statement-heard t c fs kd q n = in_expression-heard t (a.Expression ∷ fs) _ q
 
   statement_due-heard : (t : Symbol) (c : Names) (fs : List Around) (kd : Kind) → Begins t c 1 → (kd ≡ k.LeftBrace → 128 ≤ length c → N) → (1502 ≤ length fs → N) → Heard (statement_due t c fs kd)
@@ -186,10 +196,28 @@ module _ (W : Trouble → Type 0) (N : Type 0) where
   external_due-heard t c fs k.End q s = tt
   external_due-heard t c fs kd q s = specifiers-heard t c fs q s
 
+  early-heard : (t : Symbol) (c : Names) (fs : List Around) (kd : Kind) → Answered W (step t (c, (f.Outer ∷ [], e.Due))) → ((c : Names) → Answered W (step t (c, (f.Outer ∷ [], e.Begin mode.Named)))) → Heard (early t c fs kd)
+  early-heard t c fs k.Name q s = tt
+  early-heard t c fs kd q s = specifiers-heard t c fs q s
+
+  -- behind a name with which a statement or a declaration begins, and behind `goto`
+  pub behind_name-heard : (t : Symbol) (c : Names) (fs : List Around) (l : ℕ) (text : List ℕ) (kd : Kind) → Answered W (step t (c, (f.Only 1 ∷ [], e.Have (named_node l text)))) → Heard (behind_name t c fs l text kd)
+  behind_name-heard t c fs l text k.Colon q = tt
+  behind_name-heard t c fs l text kd q = in_expression-heard t (a.Expression ∷ fs) _ q
+
+  pub behind_type-heard : (t : Symbol) (c : Names) (fs : List Around) (l : ℕ) (text : List ℕ) (kd : Kind) → Answered W (step t (c, (f.Outer ∷ [], e.Words (with_word (no_words l) (word.Typedef l text))))) →
+      ((c : Names) → Answered W (step t (c, (f.Outer ∷ [], e.Begin mode.Named)))) → (1502 ≤ length fs → N) → Heard (behind_type t c fs l text kd)
+  behind_type-heard t c fs l text k.Colon q s m = either Heard (nat_lt (length fs) 1502) _ _ (λ _. tt) (λ z. m (ltb-false _ _ z))
+  behind_type-heard t c fs l text kd q s m = in_specifiers-heard t fs _ q s
+
+  pub target-heard : (t : Symbol) (c : Names) (fs : List Around) (l : ℕ) (kd : Kind) → Heard (target t c fs l kd)
+  target-heard t c fs l k.Name = tt
+  target-heard t c fs l _ = tt
+
   pub due-heard : (t : Symbol) (c : Names) (fs : List Around) → Answered W (step t (c, (f.Outer ∷ [], e.Due))) → ((c : Names) → Answered W (step t (c, (f.Outer ∷ [], e.Begin mode.Named)))) → Begins t c 1 →
       (t.kind ≡ k.LeftBrace → 128 ≤ length c → N) → (1502 ≤ length fs → N) → Heard (due t c fs)
   due-heard t c fs q s r n m = either Heard (is_outside fs) _ _ (λ _. external_due-heard t c fs t.kind q s)
-      (λ _. either Heard (is_early fs && begins_declaration (is_typed c t) t.kind) _ _ (λ _. specifiers-heard t c fs q s) (λ _. statement_due-heard t c fs t.kind r n m))
+      (λ _. either Heard (is_early fs && begins_specifiers (is_typed c t) t.kind) _ _ (λ _. early-heard t c fs t.kind q s) (λ _. statement_due-heard t c fs t.kind r n m))
 
   pub initial-heard : (t : Symbol) (c : Names) (fs : List Around) (kd : Kind) → Begins t c 2 → Heard (initial t c fs kd)
   initial-heard t c fs k.LeftBrace q = tt

@@ -10,7 +10,7 @@ use Rattle.sc_parse_names.specs.declared.kind.Symbol.{Symbol}
 use Rattle.sc_parse_names.specs.Names.{Names}
 use Rattle.sc_parse_grammar.specs.declared.trouble.Trouble.TheVariants as trouble
 use Rattle.sc_parse_grammar.specs.declared.trouble.Limit.TheVariants as limit
-use Rattle.sc_parse_expr.specs.Brackets.{opens_with}
+use Rattle.sc_parse_expr.specs.Brackets.{opens_with, AreShallow}
 use Rattle.sc_parse_unit.specs.declared.around.Around.TheVariants as a
 use Rattle.sc_parse_unit.specs.declared.around.Stage.TheVariants as at
 use Rattle.sc_parse_unit.specs.declared.obstacle.Obstacle.{Obstacle}
@@ -19,7 +19,7 @@ use Rattle.sc_parse_unit.specs.Grammar as g
 use Rattle.sc_parse_unit.specs.Grammar.{IsUnit}
 use Rattle.sc_parse_unit.specs.Machine.{Point, Move, advance, on_ok, run, start}
 use Rattle.sc_parse_unit.specs.Parse.{Answer, refusal, next, end_at, ended, answer}
-use Rattle.sc_parse_unit.specs.Claims.{AreWithin, NoneBegins, Fails, last_line}
+use Rattle.sc_parse_unit.specs.Claims.{NoneBegins, Fails, last_line}
 use Rattle.sc_parse_unit.specs.Claims as failing
 use Rattle.sc_parse_unit.proofs.Runs.{Leads, same, passed, Limited}
 use Rattle.sc_parse_unit.proofs.Units.{reads_all}
@@ -35,7 +35,7 @@ use Rattle.sc_parse_laws.proofs.Clear.{kept_so_far}
 use Rattle.sc_parse_laws.proofs.Points.{Told, Tells, advance-told}
 
 -- why the answer is this refusal
-abbrev Why : List Symbol → X × ℕ → Type 0
+abbrev pub Why : List Symbol → X × ℕ → Type 0
 Why ts (x.X5, l) = Faulty ts l
 Why ts (x.X9 word, l) = UnitMark ts word l
 Why ts (x.X10 word, l) = UnitLimit ts word l
@@ -127,7 +127,7 @@ why (t ∷ ts) pre last p r i v z h = deep
     deep rest true j h = brackets pre t ts r (ltb-true _ _ j) h
     deep rest false j h = go rest (advance t p) refl (advance-fine p t pre v) (advance-told p t pre v) h
 
-whole : (ts : List Symbol) (r : X × ℕ) → answer 0 1 start ts ≡ Err r → Why ts r
+pub whole : (ts : List Symbol) (r : X × ℕ) → answer 0 1 start ts ≡ Err r → Why ts r
 whole ts r h = why ts [] 1 start r refl (n.at_file g.no_external) refl h
 
 pub names_no_mark : (ts : List Symbol) (l : ℕ) → answer 0 1 start ts ≡ Err (x.X5, l) → Faulty ts l
@@ -140,17 +140,17 @@ pub names_unit_limit : (ts : List Symbol) (word : List ℕ) (l : ℕ) → answer
 names_unit_limit ts word l h = whole ts (x.X10 word, l) h
 
 -- At most 500 brackets are open in what is found.
-within : (ts : List Symbol) (m last : ℕ) (p : Point) (items : List External) → answer m last p ts ≡ Ok items → AreWithin m ts
+pub within : (ts : List Symbol) (m last : ℕ) (p : Point) (items : List External) → answer m last p ts ≡ Ok items → AreShallow m ts
 within [] m last p items h = tt
 within (t ∷ ts) m last p items h = deep (λ q w. within ts (opens_with m t.kind) t.line q items w) (nat_lt 500 (opens_with m t.kind)) refl h
   where
-    go : ((q : Point) → answer (opens_with m t.kind) t.line q ts ≡ Ok items → AreWithin (opens_with m t.kind) ts) → (r : Move) →
-        next (λ q. answer (opens_with m t.kind) t.line q ts) last t.line r ≡ Ok items → AreWithin (opens_with m t.kind) ts
+    go : ((q : Point) → answer (opens_with m t.kind) t.line q ts ≡ Ok items → AreShallow (opens_with m t.kind) ts) → (r : Move) →
+        next (λ q. answer (opens_with m t.kind) t.line q ts) last t.line r ≡ Ok items → AreShallow (opens_with m t.kind) ts
     go rest (Ok q) h = rest q h
     go rest (Err o) h = absurd cc
 
-    deep : ((q : Point) → answer (opens_with m t.kind) t.line q ts ≡ Ok items → AreWithin (opens_with m t.kind) ts) → (b : Bool) → nat_lt 500 (opens_with m t.kind) ≡ b →
-        (if b then Err (x.X10 (codes "height"), t.line) else next (λ q. answer (opens_with m t.kind) t.line q ts) last t.line (advance t p)) ≡ Ok items → AreWithin m (t ∷ ts)
+    deep : ((q : Point) → answer (opens_with m t.kind) t.line q ts ≡ Ok items → AreShallow (opens_with m t.kind) ts) → (b : Bool) → nat_lt 500 (opens_with m t.kind) ≡ b →
+        (if b then Err (x.X10 (codes "height"), t.line) else next (λ q. answer (opens_with m t.kind) t.line q ts) last t.line (advance t p)) ≡ Ok items → AreShallow m (t ∷ ts)
     deep rest true j h = absurd cc
     deep rest false j h = (ltb-false _ _ j, go rest (advance t p) h)
 
@@ -161,7 +161,7 @@ no_fault : (l : ℕ) (ts : List Symbol) (all : List External) → IsUnit false t
 no_fault l ts all d (failing.at_token before t us a z none) = none us all (begun ts before us t all a d)
 no_fault l ts all d (failing.at_end z none) = none all d
 
-pub refuses_beyond : (ts : List Symbol) (all : List External) → IsUnit false ts all → ((them : List External) → IsUnit true ts them → AreWithin 0 ts → ⊥) →
+pub refuses_beyond : (ts : List Symbol) (all : List External) → IsUnit false ts all → ((them : List External) → IsUnit true ts them → AreShallow 0 ts → ⊥) →
     (word : List ℕ) × (l : ℕ) × (answer 0 1 start ts ≡ Err (x.X10 word, l))
 refuses_beyond ts all d out = go (answer 0 1 start ts) refl
   where

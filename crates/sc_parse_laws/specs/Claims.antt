@@ -11,9 +11,12 @@ use Rattle.sc_parse_grammar.specs.declared.frame.State.TheVariants as s
 use Rattle.sc_parse_grammar.specs.declared.trouble.Trouble.TheVariants as trouble
 use Rattle.sc_parse_grammar.specs.declared.trouble.Limit.{Limit}
 use Rattle.sc_parse_grammar.specs.declared.trouble.Limit.TheVariants as limit
+use Rattle.sc_tree.specs.declared.expression.TypeWord.TheVariants as word
+use Rattle.sc_parse_grammar.specs.Nodes.{named_node}
+use Rattle.sc_parse_grammar.specs.Types.{no_words, with_word}
 use Rattle.sc_parse_grammar.specs.Machine.{Config, Place}
 use Rattle.sc_parse_grammar.specs.Machine as inner
-use Rattle.sc_parse_expr.specs.Brackets.{opens_with}
+use Rattle.sc_parse_expr.specs.Brackets.{opens_with, AreShallow}
 use Rattle.sc_parse_expr.specs.Reading as reading
 use Rattle.sc_parse_unit.specs.declared.around.Around.{Around}
 use Rattle.sc_parse_unit.specs.declared.around.Stage.{Stage}
@@ -22,9 +25,9 @@ use Rattle.sc_parse_unit.specs.Grammar.{IsUnit}
 use Rattle.sc_parse_unit.specs.Machine.{Point, settle, is_else}
 use Rattle.sc_parse_unit.specs.Machine as outer
 use Rattle.sc_parse_unit.specs.Parse.{answer, end_at, word_of}
-use Rattle.sc_parse_unit.specs.Claims.{AreWithin, NoneBegins, last_line}
+use Rattle.sc_parse_unit.specs.Claims.{NoneBegins, last_line}
 use Rattle.sc_parse_laws.specs.Marks.{AreKept, Shows}
-use Rattle.sc_parse_laws.specs.Limits.{Passes}
+use Rattle.sc_parse_sound.specs.Limits.{Passes}
 
 -- how many brackets are open behind the tokens, where n are before them
 abbrev pub opened : ℕ → List Symbol → ℕ
@@ -70,11 +73,13 @@ NamesMark = (names : Names) (ts : List Symbol) (which : Mark) (l : ℕ) → read
 abbrev pub NamesLimit : Type 0
 NamesLimit = (names : Names) (ts : List Symbol) (which : Limit) (l : ℕ) → reading.read 0 1 0 (reading.start names) ts ≡ Err (reading.refused (trouble.Limit which) l) → LimitIn ts which l
 
--- where the next token stands inside specifiers, a declarator or an expression, or where specifiers begin with it
+-- where the next token stands inside specifiers, a declarator or an expression, or where specifiers begin with it; behind a name with which a statement begins, in what that name may begin
 abbrev pub place_in : Stage → Place
 place_in (at.Specifiers frames state) = (frames, state)
 place_in (at.Declarator frames state) = (frames, state)
 place_in (at.Expression frames state) = (frames, state)
+place_in (at.Name l text) = (f.Only 1 ∷ [], s.Have (named_node l text))
+place_in (at.TypeName l text) = (f.Outer ∷ [], s.Words (with_word (no_words l) (word.Typedef l text)))
 place_in _ = (f.Outer ∷ [], s.Due)
 
 -- what is open around the token, behind the statements that end before it
@@ -156,5 +161,5 @@ NamesUnitLimit = (ts : List Symbol) (word : List ℕ) (l : ℕ) → answer 0 1 o
 
 -- X10 is the answer to each unit of the grammar that is not within the limits.
 abbrev pub RefusesBeyond : Type 0
-RefusesBeyond = (ts : List Symbol) (all : List External) → IsUnit false ts all → ((them : List External) → IsUnit true ts them → AreWithin 0 ts → ⊥) →
+RefusesBeyond = (ts : List Symbol) (all : List External) → IsUnit false ts all → ((them : List External) → IsUnit true ts them → AreShallow 0 ts → ⊥) →
     (word : List ℕ) × (l : ℕ) × (answer 0 1 outer.start ts ≡ Err (x.X10 word, l))

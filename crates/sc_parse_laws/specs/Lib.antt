@@ -1,4 +1,6 @@
 pub mod Marks
-pub mod Limits
 pub mod Refusals
 pub mod Claims
+pub mod Crowds
+pub mod Sizes
+pub mod Causes

@@ -15,7 +15,7 @@ use Rattle.sc_parse_grammar.specs.Machine.{Place}
 
 -- a structure's member is declared: its specifiers, or its declarators, also in parentheses
 abbrev pub in_member : List Frame → Bool
-in_member (f.Struct v l tag ms ∷ fs) = true
+in_member (f.Struct v l union tag ms ∷ fs) = true
 in_member (f.Member v ds ∷ fs) = true
 in_member (f.Level m l cs ∷ fs) = in_member fs
 in_member _ = false

@@ -5,7 +5,7 @@ use Rattle.sc_parse_grammar.specs.declared.trouble.Trouble.{Trouble}
 use Rattle.sc_parse_grammar.specs.declared.trouble.Trouble.TheVariants as no
 use Rattle.sc_parse_grammar.specs.Machine.{Config, Place}
 use Rattle.sc_parse_laws.specs.Marks.{Shows}
-use Rattle.sc_parse_laws.specs.Limits.{Passes}
+use Rattle.sc_parse_sound.specs.Limits.{Passes}
 
 -- The token t stands in this place, behind these tokens.
 abbrev pub Explains : Symbol → Place → List Symbol → Trouble → Type 0

@@ -3,4 +3,4 @@
 
 mod laws;
 
-pub use laws::names_what_refuses;
+pub use laws::{names_what_refuses, reads_little};

@@ -9,8 +9,6 @@ pub enum Mark {
     /// `float` and `double`.
     Float,
     Volatile,
-    Union,
-    Goto,
     /// `...`.
     Variadic,
     /// A second `long`.
@@ -70,7 +68,8 @@ pub enum Kind {
     Long,
     Signed,
     Unsigned,
-    Struct,
+    /// `struct`, or `union` where it is true.
+    Struct(bool),
     Enum,
     Break,
     Case,
@@ -79,6 +78,7 @@ pub enum Kind {
     Do,
     Else,
     For,
+    Goto,
     If,
     Return,
     Switch,

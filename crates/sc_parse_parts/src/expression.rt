@@ -11,100 +11,48 @@ use sc_base::{Items, Shared, Stack};
 use sc_parse_expr::step;
 use sc_parse_grammar::{Frame, Operand, State};
 use sc_parse_names::{Kind, Symbol, TypeNames};
-use sc_parse_unit::{Around, Head, Obstacle, Stage, Test};
+use sc_parse_unit::{Around, End, Head, Obstacle, Stage, Test};
 use sc_tree::{Expr, Initializer, Statement};
 use std::alloc::Global;
 
-fn at_semicolon(
+/// Whether the token is this end.
+fn is_end(end: End, kind: Kind) -> bool
+    ensures { result ≡ spec.is_end end kind }
+{
+    match end {
+        End::Semicolon => kind == Kind::Semicolon,
+        End::Paren => kind == Kind::RightParen,
+        End::Colon => kind == Kind::Colon,
+    }
+}
+
+/// Where only this end goes on, with one thing more open.
+fn opens_at(
+    end: End,
     kind: Kind,
     around: &mut Stack<Around>,
     frame: Around,
     stage: Stage,
 ) -> Result<Stage, Obstacle>
-    ensures { (names : Names) → Goes (spec.at_semicolon kind (Ok (names, (frame ∷ around.old, stage)))) result names around.new }
+    ensures { (names : Names) → Goes (spec.ends_at end kind (Ok (names, (frame ∷ around.old, stage)))) result names around.new }
 {
-    match kind {
-        Kind::Semicolon => kept(around, frame, stage),
-        _ => {
-            drop(frame);
-            drop(stage);
-            Err(STUCK)
-        }
+    if is_end(end, kind) {
+        return kept(around, frame, stage);
     }
+    drop(frame);
+    drop(stage);
+    Err(STUCK)
 }
 
-fn at_paren(
-    kind: Kind,
-    around: &mut Stack<Around>,
-    frame: Around,
-    stage: Stage,
-) -> Result<Stage, Obstacle>
-    ensures { (names : Names) → Goes (spec.at_paren kind (Ok (names, (frame ∷ around.old, stage)))) result names around.new }
+/// Where only this end goes on, and nothing more is open.
+pub fn ends_at(end: End, kind: Kind, stage: Stage) -> Result<Stage, Obstacle>
+    ensures { (names : Names) → (fs : List Around) → Goes (spec.ends_at end kind (Ok (names, (fs, stage)))) result names fs }
 {
-    match kind {
-        Kind::RightParen => kept(around, frame, stage),
-        _ => {
-            drop(frame);
-            drop(stage);
-            Err(STUCK)
-        }
+    if is_end(end, kind) {
+        return Ok(stage);
     }
-}
-
-fn at_colon(
-    kind: Kind,
-    around: &mut Stack<Around>,
-    frame: Around,
-    stage: Stage,
-) -> Result<Stage, Obstacle>
-    ensures { (names : Names) → Goes (spec.at_colon kind (Ok (names, (frame ∷ around.old, stage)))) result names around.new }
-{
-    match kind {
-        Kind::Colon => kept(around, frame, stage),
-        _ => {
-            drop(frame);
-            drop(stage);
-            Err(STUCK)
-        }
-    }
-}
-
-/// Where `;` is due, and nothing more is open.
-pub fn ends_at_semicolon(kind: Kind, stage: Stage) -> Result<Stage, Obstacle>
-    ensures { (names : Names) → (fs : List Around) → Goes (spec.at_semicolon kind (Ok (names, (fs, stage)))) result names fs }
-{
-    match kind {
-        Kind::Semicolon => Ok(stage),
-        _ => {
-            drop(stage);
-            Err(STUCK)
-        }
-    }
-}
-
-fn ends_at_paren(kind: Kind, stage: Stage) -> Result<Stage, Obstacle>
-    ensures { (names : Names) → (fs : List Around) → Goes (spec.at_paren kind (Ok (names, (fs, stage)))) result names fs }
-{
-    match kind {
-        Kind::RightParen => Ok(stage),
-        _ => {
-            drop(stage);
-            Err(STUCK)
-        }
-    }
-}
-
-/// Where `:` is due, and nothing more is open.
-pub fn ends_at_colon(kind: Kind, stage: Stage) -> Result<Stage, Obstacle>
-    ensures { (names : Names) → (fs : List Around) → Goes (spec.at_colon kind (Ok (names, (fs, stage)))) result names fs }
-{
-    match kind {
-        Kind::Colon => Ok(stage),
-        _ => {
-            drop(stage);
-            Err(STUCK)
-        }
-    }
+    drop(stage);
+    Err(STUCK)
 }
 
 /// A token behind an expression that may be left out.
@@ -117,17 +65,24 @@ fn part_ends(
 {
     match around.pop() {
         Some(Around::First(line)) => {
-            at_semicolon(kind, around, Around::Second(line, x), Stage::Need)
+            opens_at(
+                End::Semicolon,
+                kind,
+                around,
+                Around::Second(line, x),
+                Stage::Need,
+            )
         }
         Some(Around::Second(line, first)) => {
-            at_semicolon(kind, around, Around::Third(line, first, x), Stage::Need)
+            let third = Around::Third(line, first, x);
+            opens_at(End::Semicolon, kind, around, third, Stage::Need)
         }
         Some(Around::Third(line, first, second)) => {
             let head = Head::For(line, first, second, x);
-            at_paren(kind, around, Around::Under(head), Stage::Due)
+            opens_at(End::Paren, kind, around, Around::Under(head), Stage::Due)
         }
         Some(Around::Return(line)) => {
-            ends_at_semicolon(kind, Stage::Got(Statement::Return(line, x)))
+            ends_at(End::Semicolon, kind, Stage::Got(Statement::Return(line, x)))
         }
         Some(other) => {
             drop(other);
@@ -158,29 +113,20 @@ fn whole_ends(
 {
     match around.pop() {
         Some(Around::Test(of, line)) => {
-            at_paren(
-                kind,
-                around,
-                Around::Under(tested(of, line, x.tree)),
-                Stage::Due,
-            )
+            let head = tested(of, line, x.tree);
+            opens_at(End::Paren, kind, around, Around::Under(head), Stage::Due)
         }
         Some(Around::Until(line, body, until)) => {
-            ends_at_paren(
-                kind,
-                Stage::Semicolon(Statement::Do(line, body, until, x.tree)),
-            )
+            let last = Statement::Do(line, body, until, x.tree);
+            ends_at(End::Paren, kind, Stage::Semicolon(last))
         }
         Some(Around::Value(line)) => {
-            at_colon(
-                kind,
-                around,
-                Around::Under(Head::Case(line, x.tree)),
-                Stage::Due,
-            )
+            let head = Head::Case(line, x.tree);
+            opens_at(End::Colon, kind, around, Around::Under(head), Stage::Due)
         }
         Some(Around::Expression) => {
-            ends_at_semicolon(kind, Stage::Got(Statement::Expression(x.line, x.tree)))
+            let last = Statement::Expression(x.line, x.tree);
+            ends_at(End::Semicolon, kind, Stage::Got(last))
         }
         Some(Around::List(line, all)) => {
             initial_joins(
@@ -297,33 +243,15 @@ fn needs(around: &Stack<Around>) -> u8
     }
 }
 
-fn is_semicolon(kind: Kind) -> bool
-    ensures { result ≡ spec.is_semicolon kind }
-{
-    match kind {
-        Kind::Semicolon => true,
-        _ => false,
-    }
-}
-
-fn is_paren(kind: Kind) -> bool
-    ensures { result ≡ spec.is_paren kind }
-{
-    match kind {
-        Kind::RightParen => true,
-        _ => false,
-    }
-}
-
 /// Whether the token ends an expression that was left out.
 fn ends_part(kind: Kind, around: &Stack<Around>) -> bool
     ensures { result ≡ spec.ends_part kind around.now }
 {
     match around.top() {
-        Some(Around::First(_)) => is_semicolon(kind),
-        Some(Around::Second(_, _)) => is_semicolon(kind),
-        Some(Around::Third(_, _, _)) => is_paren(kind),
-        Some(Around::Return(_)) => is_semicolon(kind),
+        Some(Around::First(_)) => is_end(End::Semicolon, kind),
+        Some(Around::Second(_, _)) => is_end(End::Semicolon, kind),
+        Some(Around::Third(_, _, _)) => is_end(End::Paren, kind),
+        Some(Around::Return(_)) => is_end(End::Semicolon, kind),
         _ => false,
     }
 }

@@ -4,10 +4,10 @@
 
 mod declaring;
 mod expression;
+mod naming;
 
 pub use declaring::{
     STUCK, empty_block, in_declarator, in_specifiers, initial_ends, kept, specifiers, unit_with,
 };
-pub use expression::{
-    begin, ends_at_colon, ends_at_semicolon, expression_due, in_expression, initial,
-};
+pub use expression::{begin, ends_at, expression_due, in_expression, initial};
+pub use naming::{behind_name, behind_type, has_room, target};

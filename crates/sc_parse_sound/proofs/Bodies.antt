@@ -99,8 +99,8 @@ module _ (b : Names) (base : Frame) where
   body {l} {fs} hs rest u d o sp st fm h a =
       record { e = _; l = _; ds = _; ts = _; opened = o; specified = sp; begins = rw h (first_more l (hs ++ u ∷ []) rest st); firm = rw h (firm_more fs (hs ++ u ∷ []) rest l fm st); all = a }
 
-  structure_ends : {c : Names} {fs : List Frame} {v : Specifiers TypeWord} {l : ℕ} {tag : Option (List ℕ)} {m : Member} {ms : List Member} (t : Symbol) (d : List Symbol) →
-      Open b base c (f.Struct v l tag (m ∷ ms) ∷ fs) d → t.kind ≡ k.RightBrace → Worded b base c fs (with_word v (word.Struct l tag (m ∷ ms))) (d ++ t ∷ [])
+  structure_ends : {c : Names} {fs : List Frame} {v : Specifiers TypeWord} {l : ℕ} {union : Bool} {tag : Option (List ℕ)} {m : Member} {ms : List Member} (t : Symbol) (d : List Symbol) →
+      Open b base c (f.Struct v l union tag (m ∷ ms) ∷ fs) d → t.kind ≡ k.RightBrace → Worded b base c fs (with_word v (word.Struct l union tag (m ∷ ms))) (d ++ t ∷ [])
   structure_ends t d (w.structure {d = zs} {ts = hs} {us = bs} {vs} u left o sp st fm uk tg lk (w.members p)) i =
       body hs (bs ++ left ∷ (vs ++ t ∷ [])) u _ o (g.structure u left t sp uk tg lk p i) st fm (inner hs u bs left vs t) (outside zs (hs ++ u ∷ bs) left vs t)
     where
@@ -114,7 +114,7 @@ module _ (b : Names) (base : Frame) where
   due-good (f.Parameters y [] ∷ fs) k.Void t d o i = record { ds = d; t = t; opened = o; kind_is = i; line_is = refl; all = refl }
   due-good (f.Parameters y [] ∷ fs) k.RightParen t d o i = record { ds = d; us = t ∷ []; opened = o; tokens = w.nothing t i; all = refl }
   due-good (f.Parameters y [] ∷ fs) kd t d o i = first_word b base kd (f.Parameters y [] ∷ fs) t d o (firm_first (f.Parameters y [] ∷ fs) t (ap is_void i)) refl i
-  due-good (f.Struct v l tag (m ∷ ms) ∷ fs) k.RightBrace t d o i = structure_ends t d o i
+  due-good (f.Struct v l union tag (m ∷ ms) ∷ fs) k.RightBrace t d o i = structure_ends t d o i
   due-good fs kd t d o i = first_word b base kd fs t d o tt tt i
 
   pub void-good : (kd : Kind) (y : Direct) (fs : List Frame) {c : Names} (l : ℕ) (t : Symbol) (d : List Symbol) → Behind b base c (f.Parameters y [] ∷ fs) l k.Void d → t.kind ≡ kd →
@@ -152,12 +152,12 @@ module _ (b : Names) (base : Frame) where
     all = tag_shape v.ds v.ts v.us v.t t d v.all v.behind;
   }
 
-  pub structure-good : (kd : Kind) (fs : List Frame) {c : Names} (v : Specifiers TypeWord) (h : ℕ) (t : Symbol) (d : List Symbol) → Tagging b base c fs v h k.Struct is_nothing d → t.kind ≡ kd → Good b base c (structure t fs v h kd) (d ++ t ∷ [])
-  structure-good k.Name fs v h t d q i = tagged t d q i
-  structure-good k.LeftBrace fs {c} v h t d q i =
-      subst (λ n. Open b base c (f.Struct v n None [] ∷ fs) (d ++ t ∷ [])) q.line_is
+  pub structure-good : (kd : Kind) (fs : List Frame) {c : Names} (v : Specifiers TypeWord) (h : ℕ) (union : Bool) (t : Symbol) (d : List Symbol) → Tagging b base c fs v h (k.Struct union) is_nothing d → t.kind ≡ kd → Good b base c (structure t fs v h union kd) (d ++ t ∷ [])
+  structure-good k.Name fs v h union t d q i = tagged t d q i
+  structure-good k.LeftBrace fs {c} v h union t d q i =
+      subst (λ n. Open b base c (f.Struct v n union None [] ∷ fs) (d ++ t ∷ [])) q.line_is
       (rw (brace_shape q.ds q.ts q.us [] q.t t d q.all q.behind) (w.structure q.t t q.opened q.specified q.begins q.firm q.kind_is g.no_tag i w.no_members))
-  structure-good _ fs v h t d q i = tt
+  structure-good _ fs v h union t d q i = tt
 
   pub enumeration-good : (kd : Kind) (fs : List Frame) {c : Names} (v : Specifiers TypeWord) (h : ℕ) (t : Symbol) (d : List Symbol) → Tagging b base c fs v h k.Enum is_nothing d → t.kind ≡ kd → Good b base c (enumeration t fs v h kd) (d ++ t ∷ [])
   enumeration-good k.Name fs v h t d q i = tagged t d q i
@@ -192,16 +192,16 @@ module _ (b : Names) (base : Frame) where
         all = a ∙ ap (λ us. ds ++ (ts ++ s ∷ us)) n;
       }
 
-  pub tagged_structure-good : (kd : Kind) (fs : List Frame) {c : Names} (v : Specifiers TypeWord) (h : ℕ) (tag : List ℕ) (t : Symbol) (d : List Symbol) → Tagging b base c fs v h k.Struct (is_name tag) d → t.kind ≡ kd →
-      Good b base c (tagged_structure (is_typed c t) t fs v h tag kd) (d ++ t ∷ [])
-  tagged_structure-good k.LeftBrace fs {c} v h tag t d q i =
-      subst (λ n. Open b base c (f.Struct v n (Some tag) [] ∷ fs) (d ++ t ∷ [])) q.line_is
-      (subst (λ n. Open b base c (f.Struct v q.t.line (Some n) [] ∷ fs) (d ++ t ∷ [])) q.behind.3
+  pub tagged_structure-good : (kd : Kind) (fs : List Frame) {c : Names} (v : Specifiers TypeWord) (h : ℕ) (union : Bool) (tag : List ℕ) (t : Symbol) (d : List Symbol) → Tagging b base c fs v h (k.Struct union) (is_name tag) d → t.kind ≡ kd →
+      Good b base c (tagged_structure (is_typed c t) t fs v h union tag kd) (d ++ t ∷ [])
+  tagged_structure-good k.LeftBrace fs {c} v h union tag t d q i =
+      subst (λ n. Open b base c (f.Struct v n union (Some tag) [] ∷ fs) (d ++ t ∷ [])) q.line_is
+      (subst (λ n. Open b base c (f.Struct v q.t.line union (Some n) [] ∷ fs) (d ++ t ∷ [])) q.behind.3
       (rw (brace_shape q.ds q.ts q.us (q.behind.0 ∷ []) q.t t d q.all q.behind.1) (w.structure q.t t q.opened q.specified q.begins q.firm q.kind_is (g.a_tag q.behind.0 q.behind.2) i w.no_members)))
-  tagged_structure-good kd fs {c} v h tag t d q i =
-      words-good b base kd fs (with_word v (word.StructTag h tag)) t d
-      (tag_words t d q (subst (λ n. Specified true (stores fs) q.e c q.l (q.ts ++ q.t ∷ q.behind.0 ∷ []) (with_word v (word.StructTag n tag))) q.line_is
-      (subst (λ n. Specified true (stores fs) q.e c q.l (q.ts ++ q.t ∷ q.behind.0 ∷ []) (with_word v (word.StructTag q.t.line n))) q.behind.3
+  tagged_structure-good kd fs {c} v h union tag t d q i =
+      words-good b base kd fs (with_word v (word.StructTag h union tag)) t d
+      (tag_words t d q (subst (λ n. Specified true (stores fs) q.e c q.l (q.ts ++ q.t ∷ q.behind.0 ∷ []) (with_word v (word.StructTag n union tag))) q.line_is
+      (subst (λ n. Specified true (stores fs) q.e c q.l (q.ts ++ q.t ∷ q.behind.0 ∷ []) (with_word v (word.StructTag q.t.line union n))) q.behind.3
       (g.struct_tag q.t q.behind.0 q.specified q.kind_is q.behind.2)))) i
 
   pub tagged_enumeration-good : (kd : Kind) (fs : List Frame) {c : Names} (v : Specifiers TypeWord) (h : ℕ) (tag : List ℕ) (t : Symbol) (d : List Symbol) → Tagging b base c fs v h k.Enum (is_name tag) d → t.kind ≡ kd →

@@ -1,5 +1,5 @@
 -- Declarators that are read.
-use Rattle.std.proofs.Common.{◌≡◌, ℕ, ◌≤◌, Bool, true, false, List, [], ◌∷◌, ◌++◌, Option, None, refl, sym, ◌∙◌, ap, arith, append_assoc, append-nil}
+use Rattle.std.proofs.Common.{◌≡◌, ℕ, ◌≤◌, Bool, true, false, List, [], ◌∷◌, ◌++◌, Option, None, refl, sym, ◌∙◌, ap, subst, arith, append_assoc, append-nil}
 use Rattle.std.specs.Prelude.{nat_le}
 use Rattle.std.proofs.lemmas.Bool.{leb-true}
 use Rattle.sc_tree.specs.declared.expression.TypeWord.{TypeWord}
@@ -21,10 +21,10 @@ use Rattle.sc_parse_grammar.specs.declared.frame.Frame.TheVariants as f
 use Rattle.sc_parse_grammar.specs.Types.{no_direct, with_step, pointed, whole, declarator_of, declarator_in, type_of, member_of}
 use Rattle.sc_parse_grammar.specs.Grammar as g
 use Rattle.sc_parse_grammar.specs.Grammar.{Members, MemberTokens, Declarators, TypeTokens, Level, DirectTokens, Suffix, Stars, starts_at, is_named, is_abstract, is_group, is_right_paren, void_alone}
-use Rattle.sc_parse_grammar.specs.Machine.{Outcome, needs, finish, member, outer, declared, ungroup, level_ends, direct_ends, suffixes, bare_stars, bare, unnamed_member, without_name, direct, begin, stars, entered, is_left_paren}
+use Rattle.sc_parse_grammar.specs.Machine.{Outcome, needs, finish, member, outer, declared, ungroup, level_ends, direct_ends, suffixes, bare_specifiers, bare_stars, bare, unnamed_member, without_name, direct, begin, stars, entered, is_left_paren}
 use Rattle.sc_parse_sound.proofs.Open as w
 use Rattle.sc_parse_sound.proofs.Open.{Open, Good, Typed, Starts, extend, Proper, Grouping, Reading, Before, Begun, SomeMembers, SomeDeclarators, SomeParameters, Ready, Mild, Declaring, Named, stores, mode_in, stars_read, direct_read}
-use Rattle.sc_parse_sound.proofs.Settling.{either, held}
+use Rattle.sc_parse_sound.proofs.Settling.{either, held, unended_good}
 
 -- a list with a first element, and another behind it
 pub cons_append : {X : Type 0} (x : X) (xs ys : List X) → (x ∷ xs) ++ ys ≡ x ∷ (xs ++ ys)
@@ -135,7 +135,7 @@ module _ (b : Names) (base : Frame) where
       }
   finish-good k.RightParen (f.Parameters y ps ∷ fs) t d o ty r i a = record { e = _; ds = _; ts = _; t = t; opened = o; tokens = ty; kind_is = i; ready = r; all = ap (λ q. q ++ t ∷ []) a }
   finish-good k.Comma (f.Parameters y ps ∷ fs) t d o ty r i a = record { e = _; ds = _; ts = _; t = t; opened = o; tokens = ty; kind_is = i; ready = r; all = ap (λ q. q ++ t ∷ []) a }
-  finish-good _ _ t d o ty r i a = tt
+  finish-good _ fs t d o ty r i a = unended_good b base fs t d o ty a
 
   member-good : (kd : Kind) (fs : List Frame) {c e : Names} {v : Specifiers TypeWord} {ps : List Declarator} {h : ℕ} {x : Direct} {es us : List Symbol} (t : Symbol) (d : List Symbol) →
       Open b base e (f.Member v ps ∷ fs) es → Level true mode.Named e c h us x → t.kind ≡ kd → d ≡ es ++ us → Good b base c (member kd fs v (ps ++ declarator_of h x ∷ [])) (d ++ t ∷ [])
@@ -144,7 +144,7 @@ module _ (b : Names) (base : Frame) where
     where
       shape : (zs ts qs us : List Symbol) (t : Symbol) → ((zs ++ (ts ++ qs)) ++ us) ++ t ∷ [] ≡ zs ++ (ts ++ ((qs ++ us) ++ t ∷ []))
       shape zs ts qs us t = simp append_assoc
-  member-good k.Semicolon (f.Struct v l tag ms ∷ fs) {us} t d (w.member {ts} {us = qs} (w.structure {d = zs} {ts = hs} {us = bs} {vs} u left o sp st fm uk tg lk sm) sp' st' hw sd) y i a =
+  member-good k.Semicolon (f.Struct v l union tag ms ∷ fs) {us} t d (w.member {ts} {us = qs} (w.structure {d = zs} {ts = hs} {us = bs} {vs} u left o sp st fm uk tg lk sm) sp' st' hw sd) y i a =
       rw (ap (λ q. q ++ t ∷ []) a ∙ shape zs (hs ++ u ∷ bs) vs ts qs us left t)
       (w.structure u left o sp st fm uk tg lk (w.members (some_members sm (g.a_member t sp' st' hw (some_declarators sd y) i))))
     where
@@ -208,9 +208,19 @@ module _ (b : Names) (base : Frame) where
   unnamed-good k.Colon (f.Member v ps ∷ fs) c [] d = tt
   unnamed-good _ _ c cs d = tt
 
+  bare_specifiers-good : (fs : List Frame) {c : Names} (t : Symbol) (d : List Symbol) → Open b base c fs d → Good b base c (bare_specifiers fs) (d ++ t ∷ [])
+  bare_specifiers-good (f.Specifiers v ∷ fs) t d (w.specifiers o sp st hw mi) = unended_good b base fs {x = None} t _ o (w.undeclared sp st hw) refl
+  bare_specifiers-good _ t d o = tt
+
+  star_read : {l : ℕ} {ts : List Symbol} {cs : List Bool} → Stars l ts cs → cs ≡ [] → ⊥
+  star_read (g.a_star t i) h = cc
+  star_read (g.more_star t s i) h = cc
+  star_read (g.const_star t s i) h = cc
+
   bare_stars-good : (kd : Kind) (fs : List Frame) {c : Names} {m : Mode} {l : ℕ} (cs : List Bool) {ds ts : List Symbol} (t : Symbol) (d : List Symbol) →
       Open b base c fs ds → is_named m ≡ false → Sofar fs c m t l cs ts → t.kind ≡ kd → d ≡ ds ++ ts → Good b base c (bare_stars kd fs l cs) (d ++ t ∷ [])
-  bare_stars-good kd fs [] t d o n q i a = tt
+  bare_stars-good kd fs {c} [] {ds} t d o n (no_stars p) i a = subst (λ z. Good b base c (bare_specifiers fs) (z ++ t ∷ [])) (sym (a ∙ append-nil ds)) (bare_specifiers-good fs t ds o)
+  bare_stars-good kd fs [] t d o n (some_stars st q) i a = absurd (star_read st refl)
   bare_stars-good kd fs (e ∷ cs) t d o n (some_stars st q) i a = level_ends-good kd fs t d o (g.bare_pointer n st) q i a
 
   bare-good : (kd : Kind) (fs : List Frame) {c : Names} (m : Mode) {l : ℕ} (cs : List Bool) {ds ts : List Symbol} (t : Symbol) (d : List Symbol) →

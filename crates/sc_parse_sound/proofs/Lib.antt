@@ -1,5 +1,6 @@
 pub mod Levels
 pub mod Open
+pub mod Crowds
 pub mod Settling
 pub mod Declaring
 pub mod Words

@@ -1,5 +1,5 @@
 -- What the tokens that were read say of the frames that are open and of the state.
-use Rattle.std.proofs.Common.{◌≡◌, ℕ, ◌≤◌, Bool, true, false, List, [], ◌∷◌, ◌++◌, Option, Some, None, Ok, Err}
+use Rattle.std.proofs.Common.{◌≡◌, ℕ, ◌≤◌, Bool, true, false, List, [], ◌∷◌, ◌++◌, Option, Some, None, Ok, Err, refl}
 use Rattle.std.specs.Str.{bytes_eq}
 use Rattle.sc_tree.specs.declared.operator.Unary.{Unary}
 use Rattle.sc_tree.specs.declared.operator.Binary.{Binary}
@@ -31,7 +31,10 @@ use Rattle.sc_parse_grammar.specs.Nodes.{offsetof_name}
 use Rattle.sc_parse_grammar.specs.Types.{has_words, no_direct, identifier_at, whole}
 use Rattle.sc_parse_grammar.specs.Grammar.{Phrase, Arguments, Specified, Members, Declarators, Items, ItemTokens, TypeTokens, Level, DirectTokens, Parameters, Strings, Stars, Tag, starts_at, is_named, is_group, is_right_paren, void_alone}
 use Rattle.sc_parse_grammar.specs.Machine.{Place, Outcome, needs}
+use Rattle.sc_parse_grammar.specs.declared.trouble.Trouble.TheVariants as no
+use Rattle.sc_parse_grammar.specs.declared.trouble.Limit.TheVariants as limit
 use Rattle.sc_parse_sound.specs.Claims.{closes}
+use Rattle.sc_parse_sound.specs.Limits.{Passes}
 
 -- whether a storage class may stand among the specifiers right inside these frames
 abbrev pub stores : List Frame → Bool
@@ -110,6 +113,16 @@ abbrev pub Mild : List Frame → List Symbol → Type 0
 Mild (f.Parameters d [] ∷ fs) ts = (u : Symbol) → is_right_paren u.kind ≡ false → void_alone (ts ++ u ∷ []) ≡ false
 Mild _ ts = Unit {0}
 
+-- Before the last token an argument or a parameter ends that is one too many.
+pub record Crowded (tokens : List Symbol) : Type 0 where
+  pub front : List Symbol
+  pub last : Symbol
+  pub all : tokens ≡ front ++ last ∷ []
+  pub many : Passes limit.Arguments front
+
+pub crowded : {d : List Symbol} (t : Symbol) → Passes limit.Arguments d → Crowded (d ++ t ∷ [])
+crowded {d} t h = record { front = d; last = t; all = refl; many = h }
+
 -- The tokens open these frames; the names in scope were b before them, and are the first list behind them.
 pub data Open (b : Names) (base : Frame) : Names → List Frame → List Symbol → Type 0 where
   only : {n : ℕ} → n ≤ 3 → base ≡ f.Only n → Open b base b (f.Only n ∷ []) []
@@ -143,9 +156,9 @@ pub data Open (b : Names) (base : Frame) : Names → List Frame → List Symbol 
       left.kind ≡ k.LeftParen → Open b base c (f.OffsetType t.line ∷ fs) (d ++ t ∷ left ∷ [])
   specifiers : {c e : Names} {fs : List Frame} {d ts : List Symbol} {l : ℕ} {v : Specifiers TypeWord} →
       Open b base c fs d → Specified true (stores fs) c e l ts v → starts_at l ts → has_words v.words ≡ true → Mild fs ts → Open b base e (f.Specifiers v ∷ fs) (d ++ ts)
-  structure : {c e g : Names} {fs : List Frame} {d ts us vs : List Symbol} {l : ℕ} {v : Specifiers TypeWord} {tag : Option (List ℕ)} {ms : List Member} (t left : Symbol) →
-      Open b base c fs d → Specified true (stores fs) c e l ts v → starts_at l (ts ++ t ∷ []) → Firm fs (ts ++ t ∷ []) → t.kind ≡ k.Struct → Tag us tag → left.kind ≡ k.LeftBrace →
-      SomeMembers e g vs ms → Open b base g (f.Struct v t.line tag ms ∷ fs) (d ++ ((ts ++ t ∷ us) ++ left ∷ vs))
+  structure : {c e g : Names} {fs : List Frame} {d ts us vs : List Symbol} {l : ℕ} {v : Specifiers TypeWord} {union : Bool} {tag : Option (List ℕ)} {ms : List Member} (t left : Symbol) →
+      Open b base c fs d → Specified true (stores fs) c e l ts v → starts_at l (ts ++ t ∷ []) → Firm fs (ts ++ t ∷ []) → t.kind ≡ k.Struct union → Tag us tag → left.kind ≡ k.LeftBrace →
+      SomeMembers e g vs ms → Open b base g (f.Struct v t.line union tag ms ∷ fs) (d ++ ((ts ++ t ∷ us) ++ left ∷ vs))
   member : {c e g : Names} {fs : List Frame} {d ts us : List Symbol} {l : ℕ} {v : Specifiers TypeWord} {ds : List Declarator} →
       Open b base c fs d → Specified true false c e l ts v → starts_at l ts → has_words v.words ≡ true → SomeDeclarators e g us ds → Open b base g (f.Member v ds ∷ fs) (d ++ (ts ++ us))
   enumeration : {c e g : Names} {fs : List Frame} {d ts us vs : List Symbol} {l : ℕ} {v : Specifiers TypeWord} {tag : Option (List ℕ)} {xs : List (Enumerator Expr)} (t left : Symbol) →
@@ -381,8 +394,8 @@ module _ (b : Names) (base : Frame) where
   Valid c (fs, s.Due) d = Open b base c fs d
   Valid c (fs, s.Words v) d = Worded c fs v d
   Valid c (f.Parameters x [] ∷ fs, s.Void l) d = Behind c (f.Parameters x [] ∷ fs) l k.Void d
-  Valid c (fs, s.Struct v h) d = Tagging c fs v h k.Struct is_nothing d
-  Valid c (fs, s.StructTag v h tag) d = Tagging c fs v h k.Struct (is_name tag) d
+  Valid c (fs, s.Struct v h union) d = Tagging c fs v h (k.Struct union) is_nothing d
+  Valid c (fs, s.StructTag v h union tag) d = Tagging c fs v h (k.Struct union) (is_name tag) d
   Valid c (fs, s.Enum v h) d = Tagging c fs v h k.Enum is_nothing d
   Valid c (fs, s.EnumTag v h tag) d = Tagging c fs v h k.Enum (is_name tag) d
   Valid c (fs, s.Items) d = Open b base c fs d
@@ -401,7 +414,8 @@ module _ (b : Names) (base : Frame) where
   Valid c (fs, s.Declared x) d = Named c x d
   Valid c _ d = ⊥
 
-  -- the same, where the step is taken
+  -- the same, where the step is taken; where it is not since an argument or a parameter is one too many, that is so before the token
   abbrev pub Good : Names → Outcome → List Symbol → Type 0
   Good c (Ok p) d = Valid c p d
+  Good c (Err (no.Limit limit.Arguments)) d = Crowded d
   Good c (Err e) d = Unit {0}

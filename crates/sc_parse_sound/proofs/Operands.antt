@@ -24,12 +24,12 @@ use Rattle.sc_parse_grammar.specs.Nodes.{offsetof_name, name_node, text_node, pa
 use Rattle.sc_parse_grammar.specs.Types.{with_step, item_of}
 use Rattle.sc_parse_grammar.specs.Grammar as g
 use Rattle.sc_parse_grammar.specs.Grammar.{Phrase, Arguments, text_with}
-use Rattle.sc_parse_grammar.specs.Machine.{stuck, needs, settle, act, at_assign, at_question, close_then, at_comma, separate, close_paren, close_bracket, close_brace, close_all, at_operator, tight, have, behind, at_postfix, empty_call, at_unary, need, offset_type, needed, opened, sized, sized_opened, texts, dotted, arrowed, offset_comma, offset_name, bracket}
+use Rattle.sc_parse_grammar.specs.Machine.{needs, settle, is_full, wrong, act, operand_ends, at_assign, at_question, close_then, at_comma, separate, close_paren, close_bracket, close_brace, close_all, at_operator, tight, have, behind, at_postfix, empty_call, at_unary, need, offset_type, needed, opened, sized, sized_opened, texts, dotted, arrowed, offset_comma, offset_name, bracket}
 use Rattle.sc_parse_sound.proofs.Levels.{level-small, level-positive, power-binary, not_between}
 use Rattle.sc_parse_sound.proofs.Open as w
 use Rattle.sc_parse_sound.proofs.Open.{Open, Valid, Good, Holds, Quoted, Behind, Twice, Dotted, Offset, Declaring, ItemRead, Ended, is_nothing, is_name, direct_read, bracket_read, extend}
 use Rattle.sc_parse_sound.specs.Claims.{closes}
-use Rattle.sc_parse_sound.proofs.Settling.{either, held, Closed, closed, fits_good, few_good}
+use Rattle.sc_parse_sound.proofs.Settling.{either, held, Closed, closed, fits_good, counted_good, wrong_good}
 use Rattle.sc_parse_sound.proofs.Declaring.{add_step}
 use Rattle.sc_parse_sound.proofs.Words.{first_word}
 
@@ -112,7 +112,7 @@ module _ (b : Names) (base : Frame) where
       (rw (v.all ∙ sym (append_assoc v.ds (v.t ∷ []) (v.left ∷ []))) (w.paren v.left (w.size_of v.t v.opened v.kind_is) v.left_is)))) refl)
 
   at_postfix-good : (op : Option Postfix) (fs : List Frame) {c : Names} (x : Operand) (t : Symbol) (d : List Symbol) → Holds b base c fs x d → 16 ≤ x.level → postfix_of t.kind ≡ op → Good b base c (at_postfix op fs x) (d ++ t ∷ [])
-  at_postfix-good None fs x t d h n i = tt
+  at_postfix-good None fs x t d h n i = wrong_good b base fs x t d (omega (arith, n)) h
   at_postfix-good (Some op) fs x t d h n i = held b base h.opened (g.postfix t h.phrase n i) (omega arith) _ (ap (λ q. q ++ t ∷ []) h.all ∙ append_assoc h.ds h.xs (t ∷ []))
 
   behind-good : (kd : Kind) (fs : List Frame) {c : Names} (x : Operand) (t : Symbol) (d : List Symbol) → Holds b base c fs x d → 16 ≤ x.level → t.kind ≡ kd → Good b base c (behind kd fs x) (d ++ t ∷ [])
@@ -122,14 +122,14 @@ module _ (b : Names) (base : Frame) where
   behind-good k.Arrow fs x t d h n i = record { e = h.e; ds = h.ds; xs = h.xs; t = t; opened = h.opened; phrase = h.phrase; level = n; kind_is = i; all = ap (λ q. q ++ t ∷ []) h.all }
   behind-good kd fs x t d h n i = at_postfix-good (postfix_of kd) fs x t d h n (ap postfix_of i)
 
-  tight-good : (kd : Kind) (fs : List Frame) {c : Names} (x : Operand) (t : Symbol) (d : List Symbol) → Holds b base c fs x d → t.kind ≡ kd → Good b base c (tight kd fs x) (d ++ t ∷ [])
-  tight-good kd fs {c} x t d h i = either (λ q. Good b base c q (d ++ t ∷ [])) (nat_lt x.level 16) _ _ (λ n. tt)
+  tight-good : (kd : Kind) (fs : List Frame) {c : Names} (x : Operand) (t : Symbol) (d : List Symbol) → 15 ≤ x.level → Holds b base c fs x d → t.kind ≡ kd → Good b base c (tight kd fs x) (d ++ t ∷ [])
+  tight-good kd fs {c} x t d q h i = either (λ r. Good b base c r (d ++ t ∷ [])) (nat_lt x.level 16) _ _ (λ n. wrong_good b base fs x t d (omega (arith, q)) h)
       (λ n. fits_good b base c (d ++ t ∷ []) x.height (behind kd fs x) (λ m. behind-good kd fs x t d h (ltb-false _ _ n) i))
 
-  at_assign-good : (op : Option Binary) (fs : List Frame) {c : Names} (x : Operand) (t : Symbol) (d : List Symbol) → Holds b base c fs x d → assign_of t.kind ≡ Some op → Good b base c (at_assign op fs x) (d ++ t ∷ [])
-  at_assign-good op fs {c} x t d h i = either (λ q. Good b base c q (d ++ t ∷ [])) (nat_lt x.level 15) stuck (if nat_le (needs fs) 2 then Ok (f.Assign x op ∷ fs, s.Need) else stuck) (λ n. tt)
-      (λ n. either (λ q. Good b base c q (d ++ t ∷ [])) (nat_le (needs fs) 2) (Ok (f.Assign x op ∷ fs, s.Need)) stuck
-      (λ m. rw (ap (λ q. q ++ t ∷ []) h.all) (w.assign t h.opened h.phrase (ltb-false _ _ n) i (leb-true _ _ m))) (λ m. tt))
+  at_assign-good : (op : Option Binary) (fs : List Frame) {c : Names} (x : Operand) (t : Symbol) (d : List Symbol) → Holds b base c fs x d → 1 ≤ x.level → assign_of t.kind ≡ Some op → Good b base c (at_assign op fs x) (d ++ t ∷ [])
+  at_assign-good op fs {c} x t d h low i = either (λ q. Good b base c q (d ++ t ∷ [])) (nat_lt x.level 15) (wrong (settle 1 fs x)) (if nat_le (needs fs) 2 then Ok (f.Assign x op ∷ fs, s.Need) else wrong (settle 1 fs x)) (λ n. wrong_good b base fs x t d low h)
+      (λ n. either (λ q. Good b base c q (d ++ t ∷ [])) (nat_le (needs fs) 2) (Ok (f.Assign x op ∷ fs, s.Need)) (wrong (settle 1 fs x))
+      (λ m. rw (ap (λ q. q ++ t ∷ []) h.all) (w.assign t h.opened h.phrase (ltb-false _ _ n) i (leb-true _ _ m))) (λ m. wrong_good b base fs x t d low h))
 
   at_question-good : (fs : List Frame) {c : Names} (x : Operand) (t : Symbol) (d : List Symbol) → Holds b base c fs x d → 4 ≤ x.level → t.kind ≡ k.Question → Good b base c (at_question fs x) (d ++ t ∷ [])
   at_question-good fs {c} x t d h n i = either (λ q. Good b base c q (d ++ t ∷ [])) (nat_le (needs fs) 3) _ _
@@ -171,11 +171,11 @@ module _ (b : Names) (base : Frame) where
       shape : (es ys zs xs : List Symbol) (u v t : Symbol) → (((es ++ (ys ++ u ∷ zs)) ++ v ∷ []) ++ xs) ++ t ∷ [] ≡ es ++ (ys ++ u ∷ (zs ++ v ∷ xs) ++ t ∷ [])
       shape es ys zs xs u v t = simp append_assoc
 
-  close_paren-good : (fs : List Frame) {c : Names} (x : Operand) (t : Symbol) (d : List Symbol) → Holds b base c fs x d → t.kind ≡ k.RightParen → x.height ≤ 200 → Good b base c (close_paren fs x) (d ++ t ∷ [])
-  close_paren-good (f.Paren l ∷ fs) x t d h i n = paren_closes t d h.opened h.phrase i h.all
-  close_paren-good (f.Arguments a args m ∷ fs) x t d h i n = few_good b base _ (d ++ t ∷ []) (length args) _ (λ q. call_closes t d h.opened h.phrase h.fits q i h.all)
-  close_paren-good (f.Only m ∷ fs) x t d h i n = ended t d h (λ _. ap closes i) n
-  close_paren-good _ x t d h i n = tt
+  close_paren-good : (fs : List Frame) {c : Names} (x : Operand) (t : Symbol) (d : List Symbol) → Holds b base c fs x d → t.kind ≡ k.RightParen → x.height ≤ 200 → is_full fs ≡ false → Good b base c (close_paren fs x) (d ++ t ∷ [])
+  close_paren-good (f.Paren l ∷ fs) x t d h i n q = paren_closes t d h.opened h.phrase i h.all
+  close_paren-good (f.Arguments a args m ∷ fs) x t d h i n q = call_closes t d h.opened h.phrase h.fits (ltb-false _ _ q) i h.all
+  close_paren-good (f.Only m ∷ fs) x t d h i n q = ended t d h (λ _. ap closes i) n
+  close_paren-good _ x t d h i n q = tt
 
   index_closes : {fs : List Frame} {c e : Names} {a : Operand} {x : Operand} {ds xs : List Symbol} (t : Symbol) (d : List Symbol) → Open b base e (f.Index a ∷ fs) ds → Phrase true e c xs x → t.kind ≡ k.RightBracket → d ≡ ds ++ xs →
       (15 ≤ (index_node a x).level) × Holds b base c fs (index_node a x) (d ++ t ∷ [])
@@ -234,19 +234,29 @@ module _ (b : Names) (base : Frame) where
       shape : (es ys zs xs : List Symbol) (u v t : Symbol) → (((es ++ (ys ++ u ∷ zs)) ++ v ∷ []) ++ xs) ++ t ∷ [] ≡ (es ++ (ys ++ u ∷ (zs ++ v ∷ xs))) ++ t ∷ []
       shape es ys zs xs u v t = simp append_assoc
 
-  separate-good : (fs : List Frame) {c : Names} (x : Operand) (t : Symbol) (d : List Symbol) → Holds b base c fs x d → t.kind ≡ k.Comma → x.height ≤ 200 → nat_le (needs fs) 1 ≡ false → Good b base c (separate fs x) (d ++ t ∷ [])
-  separate-good (f.Arguments a args m ∷ fs) x t d h i n q = few_good b base _ (d ++ t ∷ []) (length args) _ (λ r. argument_read t d h.opened h.phrase h.fits r i h.all)
-  separate-good (f.Item name ∷ fs) x t d h i n q = item_read k.Comma t d h.opened h.phrase h.fits n i h.all
-  separate-good (f.Only m ∷ fs) x t d h i n q = ended t d h (λ r. absurd (let z = leb-false m 1 q in omega (arith, r, z))) n
-  separate-good _ x t d h i n q = tt
+  separate-good : (fs : List Frame) {c : Names} (x : Operand) (t : Symbol) (d : List Symbol) → Holds b base c fs x d → t.kind ≡ k.Comma → x.height ≤ 200 → nat_le (needs fs) 1 ≡ false → is_full fs ≡ false → Good b base c (separate fs x) (d ++ t ∷ [])
+  separate-good (f.Arguments a args m ∷ fs) x t d h i n q r = argument_read t d h.opened h.phrase h.fits (ltb-false _ _ r) i h.all
+  separate-good (f.Item name ∷ fs) x t d h i n q few = item_read k.Comma t d h.opened h.phrase h.fits n i h.all
+  separate-good (f.Only m ∷ fs) x t d h i n q few = ended t d h (λ r. absurd (let z = leb-false m 1 q in omega (arith, r, z))) n
+  separate-good _ x t d h i n q few = tt
 
-  at_comma-good : (fs : List Frame) {c : Names} (x : Operand) (t : Symbol) (d : List Symbol) → Holds b base c fs x d → t.kind ≡ k.Comma → x.height ≤ 200 → Good b base c (at_comma fs x) (d ++ t ∷ [])
-  at_comma-good fs {c} x t d h i n = either (λ q. Good b base c q (d ++ t ∷ [])) (nat_le (needs fs) 1) _ _
-      (λ m. rw (ap (λ q. q ++ t ∷ []) h.all) (w.comma t h.opened h.phrase i (leb-true _ _ m))) (λ m. separate-good fs x t d h i n m)
+  at_comma-good : (fs : List Frame) {c : Names} (x : Operand) (t : Symbol) (d : List Symbol) → Holds b base c fs x d → t.kind ≡ k.Comma → x.height ≤ 200 → is_full fs ≡ false → Good b base c (at_comma fs x) (d ++ t ∷ [])
+  at_comma-good fs {c} x t d h i n few = either (λ q. Good b base c q (d ++ t ∷ [])) (nat_le (needs fs) 1) _ _
+      (λ m. rw (ap (λ q. q ++ t ∷ []) h.all) (w.comma t h.opened h.phrase i (leb-true _ _ m))) (λ m. separate-good fs x t d h i n m few)
 
-  at_operator-good : (op : Option Binary) (kd : Kind) (fs : List Frame) {c : Names} (x : Operand) (t : Symbol) (d : List Symbol) → Closed b base c (power_of kd) (fs, x) d → t.kind ≡ kd → binary_of kd ≡ op → Good b base c (at_operator op fs x) (d ++ t ∷ [])
-  at_operator-good None kd fs x t d h i j = tt
-  at_operator-good (Some op) kd fs x t d h i j =
+  operand_ends-good : (kd : Kind) (fs : List Frame) {c : Names} (x : Operand) (t : Symbol) (d : List Symbol) → Holds b base c fs x d → t.kind ≡ kd → x.height ≤ 200 → is_full fs ≡ false → Good b base c (operand_ends kd fs x) (d ++ t ∷ [])
+  operand_ends-good k.Colon fs x t d h i n few = close_then-good fs x t d h i n
+  operand_ends-good k.Comma fs x t d h i n few = at_comma-good fs x t d h i n few
+  operand_ends-good k.RightParen fs x t d h i n few = close_paren-good fs x t d h i n few
+  operand_ends-good k.RightBracket fs x t d h i n few = close_bracket-good fs x t d h i n
+  operand_ends-good k.RightBrace fs x t d h i n few = close_brace-good fs x t d h i n
+  operand_ends-good k.Semicolon fs x t d h i n few = close_all-good fs x t d h (ap closes i) n
+  operand_ends-good k.End fs x t d h i n few = close_all-good fs x t d h (ap closes i) n
+  operand_ends-good _ fs x t d h i n few = tt
+
+  at_operator-good : (op : Option Binary) (kd : Kind) (fs : List Frame) {c : Names} (x : Operand) (t : Symbol) (d : List Symbol) → Closed b base c (power_of kd) (fs, x) d → t.kind ≡ kd → x.height ≤ 200 → binary_of kd ≡ op → Good b base c (at_operator op kd fs x) (d ++ t ∷ [])
+  at_operator-good None kd fs x t d h i n j = counted_good b base fs t d (operand_ends kd fs x) h.holds (λ few. operand_ends-good kd fs x t d h.holds i n few)
+  at_operator-good (Some op) kd fs x t d h i n j =
       let q : power_of kd ≡ level_of op = power-binary kd op j in
       let m = h.tight in
       let r = level-positive op in
@@ -254,19 +264,12 @@ module _ (b : Names) (base : Frame) where
       rw (ap (λ q. q ++ t ∷ []) h.holds.all) (w.binary {op = op} t h.holds.opened h.holds.phrase (omega (arith, q, m)) (ap binary_of i ∙ j) (omega (arith, q, z)))
 
   act-good : (kd : Kind) (fs : List Frame) {c : Names} (x : Operand) (t : Symbol) (d : List Symbol) → Closed b base c (power_of kd) (fs, x) d → t.kind ≡ kd → x.height ≤ 200 → Good b base c (act kd fs x) (d ++ t ∷ [])
-  act-good (k.Assign op) fs x t d h i n = at_assign-good op fs x t d h.holds (ap assign_of i)
+  act-good (k.Assign op) fs x t d h i n = at_assign-good op fs x t d h.holds (let z = h.tight in omega (arith, z)) (ap assign_of i)
   act-good k.Question fs x t d h i n = at_question-good fs x t d h.holds h.tight i
-  act-good k.Colon fs x t d h i n = close_then-good fs x t d h.holds i n
-  act-good k.Comma fs x t d h i n = at_comma-good fs x t d h.holds i n
-  act-good k.RightParen fs x t d h i n = close_paren-good fs x t d h.holds i n
-  act-good k.RightBracket fs x t d h i n = close_bracket-good fs x t d h.holds i n
-  act-good k.RightBrace fs x t d h i n = close_brace-good fs x t d h.holds i n
-  act-good k.Semicolon fs x t d h i n = close_all-good fs x t d h.holds (ap closes i) n
-  act-good k.End fs x t d h i n = close_all-good fs x t d h.holds (ap closes i) n
-  act-good kd fs x t d h i n = at_operator-good (binary_of kd) kd fs x t d h i refl
+  act-good kd fs x t d h i n = at_operator-good (binary_of kd) kd fs x t d h i n refl
 
   pub have-good : (kd : Kind) (fs : List Frame) {c : Names} (x : Operand) (t : Symbol) (d : List Symbol) → 15 ≤ x.level → Holds b base c fs x d → t.kind ≡ kd → Good b base c (have kd fs x) (d ++ t ∷ [])
-  have-good kd fs {c} x t d q h i = either (λ z. Good b base c z (d ++ t ∷ [])) (nat_lt 15 (power_of kd)) _ _ (λ n. tight-good kd fs x t d h i)
+  have-good kd fs {c} x t d q h i = either (λ z. Good b base c z (d ++ t ∷ [])) (nat_lt 15 (power_of kd)) _ _ (λ n. tight-good kd fs x t d q h i)
       (λ n. let low : power_of kd ≤ 14 = not_between kd 14 (ltb-false _ _ n) (omega arith) in
       let r = settle (power_of kd) fs x in
       fits_good b base c (d ++ t ∷ []) r.1.height (act kd r.0 r.1) (λ m. act-good kd r.0 r.1 t d (closed b base (power_of kd) fs x d (power-some kd) low (omega (arith, low, q)) h) i m))

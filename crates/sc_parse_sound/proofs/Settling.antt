@@ -1,23 +1,27 @@
 -- Operators that are closed.
-use Rattle.std.proofs.Common.{◌≡◌, ℕ, suc, ◌≤◌, ◌<◌, Bool, true, false, List, [], ◌∷◌, ◌++◌, Option, refl, ◌∙◌, arith, append_assoc}
+use Rattle.std.proofs.Common.{◌≡◌, ℕ, suc, ◌≤◌, ◌<◌, Bool, true, false, List, [], ◌∷◌, ◌++◌, length, Option, refl, ◌∙◌, arith, append_assoc, inl, inr}
 use Rattle.std.specs.Prelude.{nat_lt, nat_le, if◌then◌else◌}
-use Rattle.std.proofs.lemmas.Bool.{leb-true, leb-false, ltb-true, ltb-false}
+use Rattle.std.proofs.lemmas.Bool.{leb-true, leb-false, ltb-false}
 use Rattle.sc_tree.specs.declared.operator.Unary.{Unary}
 use Rattle.sc_tree.specs.declared.operator.Binary.{Binary}
 use Rattle.sc_tree.specs.declared.expression.TypeName.{TypeName}
+use Rattle.sc_tree.specs.declared.expression.TypeWord.{TypeWord}
+use Rattle.sc_tree.specs.declared.expression.Specifiers.{Specifiers}
 use Rattle.sc_parse_names.specs.declared.kind.Symbol.{Symbol}
 use Rattle.sc_parse_names.specs.Names.{Names}
 use Rattle.sc_parse_grammar.specs.declared.operand.Operand.{Operand}
+use Rattle.sc_parse_grammar.specs.declared.operand.Whole.{Whole}
 use Rattle.sc_parse_grammar.specs.declared.frame.Frame.{Frame}
 use Rattle.sc_parse_grammar.specs.declared.frame.Frame.TheVariants as f
 use Rattle.sc_parse_grammar.specs.Kinds.{level_of, operand_of}
 use Rattle.sc_parse_grammar.specs.Nodes.{unary_node, size_node, cast_node, binary_node, conditional_node, assign_node, comma_node}
 use Rattle.sc_parse_grammar.specs.Grammar as g
 use Rattle.sc_parse_grammar.specs.Grammar.{Phrase}
-use Rattle.sc_parse_grammar.specs.Machine.{Outcome, needs, needs_in, level_in, built, settle, fits, few}
+use Rattle.sc_parse_grammar.specs.Machine.{Outcome, stuck, needs, needs_in, level_in, built, settle, fits, is_full, counted, wrong, unended}
 use Rattle.sc_parse_sound.proofs.Levels.{level-small, operand-loose}
 use Rattle.sc_parse_sound.proofs.Open as w
-use Rattle.sc_parse_sound.proofs.Open.{Open, Holds, Good}
+use Rattle.sc_parse_sound.proofs.Open.{Open, Holds, Good, Typed, crowded, stores, mode_in}
+use Rattle.sc_parse_sound.proofs.Crowds.{many_arguments, last_parameter}
 
 -- a choice by a test that is known
 pub either : {T : Type 0} (P : T → Type 0) (b : Bool) (x y : T) → (b ≡ true → P x) → (b ≡ false → P y) → P (if b then x else y)
@@ -116,5 +120,17 @@ module _ (b : Names) (base : Frame) where
   pub fits_good : (c : Names) (d : List Symbol) (n : ℕ) (o : Outcome) → (n ≤ 200 → Good b base c o d) → Good b base c (fits n o) d
   fits_good c d n o h = either (λ r. Good b base c r d) (nat_lt 200 n) _ _ (λ t. tt) (λ t. h (ltb-false _ _ t))
 
-  pub few_good : (c : Names) (d : List Symbol) (n : ℕ) (o : Outcome) → (n ≤ 30 → Good b base c o d) → Good b base c (few n o) d
-  few_good c d n o h = either (λ r. Good b base c r d) (nat_lt n 31) _ _ (λ t. h (let q = ltb-true _ _ t in omega (arith, q))) (λ t. tt)
+  pub counted_good : {c : Names} (fs : List Frame) {x : Operand} (t : Symbol) (d : List Symbol) (o : Outcome) → Holds b base c fs x d → (is_full fs ≡ false → Good b base c o (d ++ t ∷ [])) → Good b base c (counted fs o) (d ++ t ∷ [])
+  counted_good {c} fs t d o h go = either (λ r. Good b base c r (d ++ t ∷ [])) (is_full fs) _ _ (λ m. crowded t (inl (many_arguments b base fs h m))) go
+
+  -- No token goes on with the operand.
+  pub wrong_good : {c : Names} (fs : List Frame) (x : Operand) (t : Symbol) (d : List Symbol) → 1 ≤ x.level → Holds b base c fs x d → Good b base c (wrong (settle 1 fs x)) (d ++ t ∷ [])
+  wrong_good {c} fs x t d n h =
+      let r = settle 1 fs x in
+      let q = closed 1 fs x d (omega arith) (omega arith) n h in
+      fits_good c (d ++ t ∷ []) r.1.height (counted r.0 stuck) (λ _. counted_good r.0 t d stuck q.holds (λ _. tt))
+
+  pub unended_good : {c e : Names} (fs : List Frame) {ds ts : List Symbol} {v : Specifiers TypeWord} {x : Option Whole} (t : Symbol) (d : List Symbol) → Open b base e fs ds → Typed (stores fs) (mode_in fs) e c ts v x → d ≡ ds ++ ts →
+      Good b base c (unended fs) (d ++ t ∷ [])
+  unended_good {c} (f.Parameters y ps ∷ fs) t d o ty a = either (λ r. Good b base c r (d ++ t ∷ [])) (nat_lt (length ps) 31) _ _ (λ _. tt) (λ m. crowded t (inr (last_parameter b base o ty m a)))
+  unended_good _ t d o ty a = tt

@@ -52,8 +52,8 @@ module _ (b : Names) (base : Frame) where
   place-good c fs s.Due t d v = due-good b base fs t.kind t d v refl
   place-good c fs (s.Words x) t d v = further_words b base fs x t d v
   place-good c (f.Parameters y [] ∷ fs) (s.Void l) t d v = void-good b base t.kind y fs l t d v refl
-  place-good c fs (s.Struct x h) t d v = structure-good b base t.kind fs x h t d v refl
-  place-good c fs (s.StructTag x h tag) t d v = tagged_structure-good b base t.kind fs x h tag t d v refl
+  place-good c fs (s.Struct x h union) t d v = structure-good b base t.kind fs x h union t d v refl
+  place-good c fs (s.StructTag x h union tag) t d v = tagged_structure-good b base t.kind fs x h union tag t d v refl
   place-good c fs (s.Enum x h) t d v = enumeration-good b base t.kind fs x h t d v refl
   place-good c fs (s.EnumTag x h tag) t d v = tagged_enumeration-good b base t.kind fs x h tag t d v refl
   place-good c fs s.Items t d v = items-good b base t.kind fs t d v refl

@@ -19,7 +19,7 @@ use Rattle.sc_parse_grammar.specs.Grammar.{Specified, Members, Items, Trailing, 
 use Rattle.sc_parse_grammar.specs.Machine.{outer_specified, inner_specified, specified, goes_on, plain_name, nothing_yet, wordless, worded, at_word, at_storage, at_name, words}
 use Rattle.sc_parse_sound.proofs.Open as w
 use Rattle.sc_parse_sound.proofs.Open.{Open, Good, Typed, Proper, Firm, Ready, Mild, Worded, Headed, Tagging, Behind, Declaring, SomeItems, stores, mode_in, is_nothing, is_name, group_read, Grouping, Starts}
-use Rattle.sc_parse_sound.proofs.Settling.{either}
+use Rattle.sc_parse_sound.proofs.Settling.{either, unended_good}
 use Rattle.sc_parse_sound.proofs.Declaring.{finish-good, begin-good}
 
 no_empty : (xs : List TypeWord) → is_empty xs ≡ true → has_words xs ≡ false
@@ -120,9 +120,9 @@ module _ (b : Names) (base : Frame) where
 
   specified-good : (fs : List Frame) {c : Names} (v : Specifiers TypeWord) (t : Symbol) (d : List Symbol) → Whole c fs v t d → Good b base c (specified t fs v) (d ++ t ∷ [])
   specified-good (f.Outer ∷ fs) v t d h = outer_specified-good _ t.kind fs v _ (headed t d h)
-  specified-good (f.Struct u l tag ms ∷ fs) v t d h =
+  specified-good (f.Struct u l union tag ms ∷ fs) v t d h =
       rw (ap (λ q. q ++ t ∷ []) (h.all ∙ ap (λ q. h.ds ++ q) (sym (append-nil _))))
-      (begin-good b base t.kind (f.Member v [] ∷ f.Struct u l tag ms ∷ fs) mode.Named t (h.ds ++ (h.ts ++ [])) (w.member h.opened h.specified h.begins h.some w.no_declarators) refl refl)
+      (begin-good b base t.kind (f.Member v [] ∷ f.Struct u l union tag ms ∷ fs) mode.Named t (h.ds ++ (h.ts ++ [])) (w.member h.opened h.specified h.begins h.some w.no_declarators) refl refl)
   specified-good (f.Parameters y ps ∷ fs) v t d h = inner-good t.kind (f.Parameters y ps ∷ fs) v t d h refl
   specified-good fs v t d h = inner-good t.kind fs v t d h refl
 
@@ -197,7 +197,8 @@ module _ (b : Names) (base : Frame) where
       Good b base c (at_storage class fs v st) (d ++ t ∷ [])
   at_storage-good class (f.Outer ∷ fs) v None t d h n i = more t d h (g.stored t h.specified refl n i)
   at_storage-good class (f.Parameters y ps ∷ fs) v None t d h n i = more t d h (g.stored t h.specified refl n i)
-  at_storage-good class _ v _ t d h n i = tt
+  at_storage-good class _ v None t d h n i = tt
+  at_storage-good class fs {c} v (Some other) t d h n i = either (λ q. Good b base c q (d ++ t ∷ [])) (has_words v.words) _ _ (λ some. unended_good b base fs {x = None} t d h.opened (w.undeclared h.specified (worded_first (t ∷ []) h.specified some h.begins) some) h.all) (λ _. tt)
 
   at_name-good : (fs : List Frame) {c : Names} (v : Specifiers TypeWord) (t : Symbol) (d : List Symbol) → Sofar c fs v t d → t.kind ≡ k.Name → Good b base c (at_name (is_typed c t) t fs v) (d ++ t ∷ [])
   at_name-good fs {c} v t d h i = either (λ q. Good b base c q (d ++ t ∷ [])) (is_typed c t && is_empty v.words) _ _
@@ -206,7 +207,7 @@ module _ (b : Names) (base : Frame) where
 
   pub words-good : (kd : Kind) (fs : List Frame) {c : Names} (v : Specifiers TypeWord) (t : Symbol) (d : List Symbol) → Sofar c fs v t d → t.kind ≡ kd → Good b base c (words (is_typed c t) t fs v kd) (d ++ t ∷ [])
   words-good k.Const fs v t d h i = more t d h (g.const t h.specified i)
-  words-good k.Struct fs v t d h i = tagging k.Struct t d h i
+  words-good (k.Struct union) fs v t d h i = tagging (k.Struct union) t d h i
   words-good k.Enum fs v t d h i = tagging k.Enum t d h i
   words-good k.Name fs v t d h i = at_name-good fs v t d h i
   words-good (k.Storage class) fs v t d h i = at_storage-good class fs v v.storage t d h refl i

@@ -13,9 +13,7 @@ abbrev pub left_out_word : List ℕ → Kind
 left_out_word t =
     if bytes_eq t (codes "float") then k.LeftOut mark.Float else
     if bytes_eq t (codes "double") then k.LeftOut mark.Float else
-    if bytes_eq t (codes "volatile") then k.LeftOut mark.Volatile else
-    if bytes_eq t (codes "union") then k.LeftOut mark.Union else
-    if bytes_eq t (codes "goto") then k.LeftOut mark.Goto else k.Name
+    if bytes_eq t (codes "volatile") then k.LeftOut mark.Volatile else k.Name
 
 -- the keywords of jumps and labels
 abbrev pub jump_word : List ℕ → Kind
@@ -24,6 +22,7 @@ jump_word t =
     if bytes_eq t (codes "case") then k.Case else
     if bytes_eq t (codes "continue") then k.Continue else
     if bytes_eq t (codes "default") then k.Default else
+    if bytes_eq t (codes "goto") then k.Goto else
     if bytes_eq t (codes "return") then k.Return else
     if bytes_eq t (codes "sizeof") then k.Sizeof else left_out_word t
 
@@ -54,7 +53,8 @@ type_word t =
     if bytes_eq t (codes "short") then k.Short else
     if bytes_eq t (codes "signed") then k.Signed else
     if bytes_eq t (codes "unsigned") then k.Unsigned else
-    if bytes_eq t (codes "struct") then k.Struct else
+    if bytes_eq t (codes "struct") then k.Struct false else
+    if bytes_eq t (codes "union") then k.Struct true else
     if bytes_eq t (codes "enum") then k.Enum else storage_word t
 
 -- what an identifier is

@@ -15,10 +15,6 @@ fn left_out_word(text: &[u8]) -> Kind
         Kind::LeftOut(Mark::Float)
     } else if text == b"volatile".as_slice() {
         Kind::LeftOut(Mark::Volatile)
-    } else if text == b"union".as_slice() {
-        Kind::LeftOut(Mark::Union)
-    } else if text == b"goto".as_slice() {
-        Kind::LeftOut(Mark::Goto)
     } else {
         Kind::Name
     }
@@ -36,6 +32,8 @@ fn jump_word(text: &[u8]) -> Kind
         Kind::Continue
     } else if text == b"default".as_slice() {
         Kind::Default
+    } else if text == b"goto".as_slice() {
+        Kind::Goto
     } else if text == b"return".as_slice() {
         Kind::Return
     } else if text == b"sizeof".as_slice() {
@@ -100,7 +98,9 @@ fn type_word(text: &[u8]) -> Kind
     } else if text == b"unsigned".as_slice() {
         Kind::Unsigned
     } else if text == b"struct".as_slice() {
-        Kind::Struct
+        Kind::Struct(false)
+    } else if text == b"union".as_slice() {
+        Kind::Struct(true)
     } else if text == b"enum".as_slice() {
         Kind::Enum
     } else {

@@ -17,12 +17,11 @@ use Rattle.sc_parse_unit.specs.declared.around.Around.TheVariants as a
 use Rattle.sc_parse_unit.specs.declared.around.Stage.TheVariants as at
 use Rattle.sc_parse_unit.specs.declared.obstacle.Obstacle.{Obstacle}
 use Rattle.sc_parse_unit.specs.declared.obstacle.Obstacle.TheVariants as no
-use Rattle.sc_parse_expr.specs.Brackets.{opens_with}
+use Rattle.sc_parse_expr.specs.Brackets.{opens_with, AreShallow}
 use Rattle.sc_parse_unit.specs.Grammar.{IsUnit}
 use Rattle.sc_parse_unit.specs.Machine.{Point, Move, advance, run, start, on_ok}
 use Rattle.sc_parse_unit.specs.Parse.{Answer, next, end_at, ended, answer, refusal, Gives}
-use Rattle.sc_parse_unit.proofs.Taken.{found_only}
-use Rattle.sc_parse_unit.specs.Claims.{AreWithin, Finds, last_line, NoneBegins, Fails, at_token, at_end, FailsRightly, Parses}
+use Rattle.sc_parse_unit.specs.Claims.{Finds, last_line, NoneBegins, Fails, at_token, at_end}
 use Rattle.sc_parse_unit.proofs.Runs.{Leads, same, passed, Limited}
 use Rattle.sc_parse_unit.proofs.Units.{reads_all}
 
@@ -31,7 +30,7 @@ abbrev pub Ends : Point → List External → Type 0
 Ends q items = (names : Names) × (fs : List Around) × (q ≡ (names, (a.Unit items ∷ fs, at.Over)))
 
 -- Within the limit of brackets, a unit that the machine reads is the answer.
-answers : (ts : List Symbol) (n before : ℕ) (p : Point) (names : Names) (fs : List Around) (items : List External) → AreWithin n ts →
+answers : (ts : List Symbol) (n before : ℕ) (p : Point) (names : Names) (fs : List Around) (items : List External) → AreShallow n ts →
     run p (ts ++ end_at (last_line before ts) ∷ []) ≡ Ok (names, (a.Unit items ∷ fs, at.Over)) → answer n before p ts ≡ Ok items
 answers [] n before p names fs items w h = go (advance (end_at before) p) h
   where
@@ -52,7 +51,7 @@ given_limits : {A : Type 0} → true ≡ false → A
 given_limits h = cc
 
 -- The unit of these tokens is found.
-pub found : (ts : List Symbol) (all : List External) → IsUnit true ts all → AreWithin 0 ts → answer 0 1 start ts ≡ Ok all
+pub found : (ts : List Symbol) (all : List External) → IsUnit true ts all → AreShallow 0 ts → answer 0 1 start ts ≡ Ok all
 found ts all d w = go (reads_all d (end_at (last_line 1 ts) ∷ []))
   where
     go : (c : Names) × Leads true (run start (ts ++ end_at (last_line 1 ts) ∷ [])) (run (c, (a.Unit all ∷ [], at.Due)) (end_at (last_line 1 ts) ∷ [])) → answer 0 1 start ts ≡ Ok all
@@ -62,7 +61,7 @@ found ts all d w = go (reads_all d (end_at (last_line 1 ts) ∷ []))
 finds-ok : (all : List External) (unit : Tree) → ◌≡◌ {A = Answer} (Ok unit.items) (Ok all) → unit.items ≡ all
 finds-ok all unit h = cc
 
-pub finds : {ts : List Symbol} {all : List External} (result : Result Tree Fault) → Gives (answer 0 1 start ts) result → IsUnit true ts all → AreWithin 0 ts → Finds all result
+pub finds : {ts : List Symbol} {all : List External} (result : Result Tree Fault) → Gives (answer 0 1 start ts) result → IsUnit true ts all → AreShallow 0 ts → Finds all result
 finds {ts} {all} (Ok unit) h d w = let p : answer 0 1 start ts ≡ Ok unit.items = h in let q = sym p ∙ found ts all d w in cc
 finds (Err fault.NoMemory) h d w = tt
 finds {ts} {all} (Err (fault.Refused r)) h d w = let q = sym (found ts all d w) ∙ h.0 in cc
@@ -220,11 +219,3 @@ fails ts l h = go (syntax ts 0 1 l start h)
     go : Refuses start ts l ⊎ EndsEarly start ts 1 l → Fails l ts
     go (inl r) = at_token r.before r.t r.us r.all r.line (none_begins (r.before ++ r.t ∷ []) r.refused)
     go (inr e) = at_end e.line (λ all d. no_unit e all (reads_all d (end_at (last_line 1 ts) ∷ [])))
-
-pub fails_rightly : (ts : List Symbol) (result : Result Tree Fault) → Gives (answer 0 1 start ts) result → FailsRightly ts result
-fails_rightly ts (Ok unit) h = tt
-fails_rightly ts (Err fault.NoMemory) h = tt
-fails_rightly ts (Err (fault.Refused r)) h = λ k. fails ts r.line (h.0 ∙ ap (λ (kind : X). Err (kind, r.line)) k)
-
-pub parses : (ts : List Symbol) (result : Result Tree Fault) → Gives (answer 0 1 start ts) result → Parses ts result
-parses ts result h = record { answers = h; finds = λ all d w. finds result h d w; only = found_only ts result h; fails = fails_rightly ts result h }

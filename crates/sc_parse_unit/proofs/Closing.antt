@@ -3,6 +3,7 @@ use Rattle.std.proofs.Common.{◌≡◌, ℕ, suc, ◌≤◌, Bool, true, false,
 use Rattle.std.specs.Prelude.{◌&&◌, nat_lt, if◌then◌else◌}
 use Rattle.std.proofs.lemmas.Bool.{and_parts, ltb-true}
 use Rattle.sc_tree.specs.declared.expression.TypeWord.{TypeWord}
+use Rattle.sc_tree.specs.declared.expression.TypeWord.TheVariants as word
 use Rattle.sc_tree.specs.declared.expression.Specifiers.{Specifiers}
 use Rattle.sc_tree.specs.declared.expression.Declarator.{Declarator}
 use Rattle.sc_tree.specs.declared.statement.Statement.{Statement}
@@ -14,6 +15,14 @@ use Rattle.sc_parse_names.specs.declared.kind.Symbol.{Symbol}
 use Rattle.sc_parse_names.specs.declared.kind.Kind.{Kind}
 use Rattle.sc_parse_names.specs.declared.kind.Kind.TheVariants as k
 use Rattle.sc_parse_names.specs.Names.{Names, is_typed, leave}
+use Rattle.sc_parse_grammar.specs.declared.frame.Frame.{Frame}
+use Rattle.sc_parse_grammar.specs.declared.frame.Frame.TheVariants as f
+use Rattle.sc_parse_grammar.specs.declared.frame.State.{State}
+use Rattle.sc_parse_grammar.specs.declared.frame.State.TheVariants as e
+use Rattle.sc_parse_grammar.specs.Kinds.{begins_specifiers}
+use Rattle.sc_parse_grammar.specs.Machine.{Config, step}
+use Rattle.sc_parse_grammar.specs.Nodes.{named_node}
+use Rattle.sc_parse_grammar.specs.Types.{no_words, with_word}
 use Rattle.sc_parse_unit.specs.declared.around.Head.{Head}
 use Rattle.sc_parse_unit.specs.declared.around.Head.TheVariants as h
 use Rattle.sc_parse_unit.specs.declared.around.Around.{Around}
@@ -23,11 +32,14 @@ use Rattle.sc_parse_unit.specs.declared.around.Test.TheVariants as of_kind
 use Rattle.sc_parse_unit.specs.Trees.{block_of, with_statement, function_of}
 use Rattle.sc_parse_unit.specs.Grammar as g
 use Rattle.sc_parse_unit.specs.Grammar.{IsStatement, Nested, Statements, Braces, UnitTokens}
-use Rattle.sc_parse_unit.specs.Machine.{Point, Move, begins_declaration, function_ends, block_ends, statement, statement_due, external_due, is_early, item_due, is_outside, due, waits, built, settle, other_begins, until, behind, is_else, got, left_paren, needs, ends_part, expression_due, place, marked, advance}
+use Rattle.sc_parse_unit.specs.Machine.{Point, Move, named, shallow, early, behind_name, behind_type, target, function_ends, block_ends, statement, statement_due, external_due, is_early, item_due, is_outside, due, waits, built, settle, other_begins, until, behind, is_else, got, left_paren, needs, ends_part, expression_due, place, marked, advance}
 use Rattle.sc_parse_sound.proofs.Declaring.{cons_append}
+use Rattle.sc_parse_sound.proofs.Bodies as lower
 use Rattle.sc_parse_sound.proofs.Sound.{step-good}
+use Rattle.sc_parse_sound.proofs.Open as w
+use Rattle.sc_parse_unit.proofs.Labels.{node-read, word-read}
 use Rattle.sc_parse_unit.proofs.Inside as n
-use Rattle.sc_parse_unit.proofs.Inside.{outside, HeadTokens, Inside, Place, Due, Paren, Waiting, Context, Colon, Open, Got, Valid, Fine}
+use Rattle.sc_parse_unit.proofs.Inside.{outside, HeadTokens, Inside, Place, Due, Paren, Waiting, Context, Colon, Naming, Going, Open, Got, Valid, Fine}
 use Rattle.sc_parse_unit.proofs.Keeping.{either, snoc, begin-fine, specifiers-fine, semicolon-fine, colon-fine, part_ends-fine, in_specifiers-fine, in_declarator-fine, in_expression-fine, initial-fine, initial_ends-fine}
 
 -- What is open is as long as the statements around, the function's block and the unit.
@@ -55,6 +67,7 @@ builds {closed} {us} other (h.For l x y z) w (n.for {xs} {ys} {zs} t left one tw
 builds {closed} {us} other (h.Case l x) w (n.case {xs} t colon tk y ck) z =
     record { shut = closed; tokens = rw (append_assoc (t ∷ xs) (colon ∷ []) us) (g.case t colon tk y ck z); ends = λ _ q. q }
 builds {closed} other (h.Default l) w (n.default t colon tk ck) z = record { shut = closed; tokens = g.default t colon tk ck z; ends = λ _ q. q }
+builds {closed} other (h.Label l text) w (n.label t colon tk ck) z = record { shut = closed; tokens = g.label t colon tk ck z; ends = λ _ q. q }
 
 settled : {c0 c : Names} {m : ℕ} {closed : Bool} (other : Bool) (fs : List Around) (x : Statement) {d0 us : List Symbol} (d : List Symbol) → Inside m c0 fs d0 → m ≤ 1499 → IsStatement true m c0 c closed us x → (other ≡ true → closed ≡ true) → d ≡ d0 ++ us →
     Got other c (settle other fs x).0 (settle other fs x).1 d
@@ -98,6 +111,10 @@ block_ends-fine (a.Body v x b ∷ fs) t d z q = go d z
     go {fs} {v} {x} {b} d (n.body left u hd lv lk ll dl ss) = function_ends-fine fs t d v x b (n.body left u hd lv lk ll dl ss) q
 block_ends-fine _ t d z q = tt
 
+named-fine : {m : ℕ} {c : Names} (typed : Bool) (fs : List Around) (t : Symbol) (d : List Symbol) → Inside m c fs d → m ≤ 1499 → t.kind ≡ k.Name → is_typed c t ≡ typed → Fine (named typed t c fs) (d ++ t ∷ [])
+named-fine true fs t d z few q r = n.label t z few q
+named-fine false fs t d z few q r = n.plain t z few q r
+
 statement-fine : {m : ℕ} {c : Names} (kd : Kind) (fs : List Around) (t : Symbol) (d : List Symbol) → Inside m c fs d → m ≤ 1499 → t.kind ≡ kd → Fine (statement t c fs kd) (d ++ t ∷ [])
 statement-fine k.Semicolon fs t d z few q = record { n = _; c0 = _; closed = true; d0 = d; us = t ∷ []; place = z; few = few; tokens = g.empty t q; shut = λ _. refl; all = refl }
 statement-fine {c} k.LeftBrace fs t d z few q = either (λ r. Fine r (d ++ t ∷ [])) (nat_lt (length c) 128) _ _
@@ -112,6 +129,8 @@ statement-fine k.Default fs t d z few q = n.colon t z few q
 statement-fine k.Continue fs t d z few q = record { n = _; c0 = _; d0 = d; us = t ∷ []; place = z; few = few; tokens = λ u uk. g.continue t u q uk; all = refl }
 statement-fine k.Break fs t d z few q = record { n = _; c0 = _; d0 = d; us = t ∷ []; place = z; few = few; tokens = λ u uk. g.break t u q uk; all = refl }
 statement-fine k.Return fs t d z few q = n.return t z few q
+statement-fine k.Goto fs t d z few q = n.going t z few q
+statement-fine {c} k.Name fs t d z few q = named-fine (is_typed c t) fs t d z few q refl
 statement-fine kd fs t d z few q = begin-fine 1 (a.Expression ∷ fs) t d (n.at_need (n.expression z few)) (omega arith)
 
 statement_due-fine : {m : ℕ} {c : Names} (kd : Kind) (fs : List Around) (t : Symbol) (d : List Symbol) → Inside m c fs d → t.kind ≡ kd → Fine (statement_due t c fs kd) (d ++ t ∷ [])
@@ -119,9 +138,13 @@ statement_due-fine k.RightBrace fs t d z q = block_ends-fine fs t d z q
 statement_due-fine {m} {c} kd fs t d z q = either (λ r. Fine r (d ++ t ∷ [])) (nat_lt (length fs) 1502) (statement t c fs kd) _
     (λ r. statement-fine kd fs t d z (let i = ltb-true _ _ r in let j = deep z in omega (arith, i, j)) q) (λ r. tt)
 
+early-fine : {m : ℕ} {c : Names} (kd : Kind) (fs : List Around) (t : Symbol) (d : List Symbol) → Inside m c fs d → is_early fs ≡ true → t.kind ≡ kd → begins_specifiers (is_typed c t) kd ≡ true → Fine (early t c fs kd) (d ++ t ∷ [])
+early-fine k.Name fs t d z e q r = n.of_type t z e q r
+early-fine kd fs t d z e q r = specifiers-fine fs t d (n.early z e)
+
 item_due-fine : {m : ℕ} {c : Names} (fs : List Around) (t : Symbol) (d : List Symbol) → Inside m c fs d → Fine (item_due t c fs) (d ++ t ∷ [])
-item_due-fine {c} fs t d z = either (λ r. Fine r (d ++ t ∷ [])) (is_early fs && begins_declaration (is_typed c t) t.kind) _ _
-    (λ r. let q = and_parts _ _ r in specifiers-fine fs t d (n.early z q.0)) (λ r. statement_due-fine t.kind fs t d z refl)
+item_due-fine {c} fs t d z = either (λ r. Fine r (d ++ t ∷ [])) (is_early fs && begins_specifiers (is_typed c t) t.kind) _ _
+    (λ r. let q = and_parts _ _ r in early-fine t.kind fs t d z q.0 refl q.1) (λ r. statement_due-fine t.kind fs t d z refl)
 
 external_due-fine : {c : Names} {items : List External} (kd : Kind) (t : Symbol) (d : List Symbol) → UnitTokens true outside c d items → Fine (external_due t c (a.Unit items ∷ []) kd) (d ++ t ∷ [])
 external_due-fine k.End t d u = n.over t u
@@ -226,12 +249,39 @@ expression_due-fine {c} fs t d v = either (λ r. Fine r (d ++ t ∷ [])) (ends_p
 
 colon_read : {c : Names} (fs : List Around) (t : Symbol) (d : List Symbol) → Colon c fs d → t.kind ≡ k.Colon → Due c fs (d ++ t ∷ [])
 colon_read fs t d (n.colon {d = ds} u z few uk) q = rw (append_assoc ds (u ∷ []) (t ∷ [])) (n.at_statement (n.under z few (n.default u t uk q)))
+colon_read fs t d (n.label {d = ds} u z few uk) q = rw (append_assoc ds (u ∷ []) (t ∷ [])) (n.at_statement (n.under z few (n.label u t uk q)))
+
+-- Behind a plain name the machine of expressions has its node, and behind the name of a type that type word.
+pub node_valid : (c : Names) (t : Symbol) → t.kind ≡ k.Name → is_typed c t ≡ false → w.Valid c (f.Only 1) c (f.Only 1 ∷ [], e.Have (named_node t.line t.text)) (t ∷ [])
+node_valid c t q r = subst (λ o. lower.Fine c (f.Only 1) o (t ∷ [])) (node-read c t q r) (step-good c (f.Only 1) (c, (f.Only 1 ∷ [], e.Need)) t [] (w.only (omega arith) refl))
+
+pub word_valid : (c : Names) (t : Symbol) → t.kind ≡ k.Name → is_typed c t ≡ true → w.Valid c f.Outer c (f.Outer ∷ [], e.Words (with_word (no_words t.line) (word.Typedef t.line t.text))) (t ∷ [])
+word_valid c t q r = subst (λ o. lower.Fine c f.Outer o (t ∷ [])) (word-read c t q r) (step-good c f.Outer (c, (f.Outer ∷ [], e.Due)) t [] (w.outer refl))
+
+behind_name-fine : {c : Names} (kd : Kind) (fs : List Around) (l : ℕ) (text : List ℕ) (t : Symbol) (d : List Symbol) → Naming false c fs l text d → t.kind ≡ kd → Fine (behind_name t c fs l text kd) (d ++ t ∷ [])
+behind_name-fine k.Colon fs l text t d (n.plain {d = ds} u z few uk r) q = rw (append_assoc ds (u ∷ []) (t ∷ [])) (n.at_statement (n.under z few (n.label u t uk q)))
+behind_name-fine {c} kd fs l text t d (n.plain {d = ds} u z few uk r) q =
+    in_expression-fine (a.Expression ∷ fs) _ (u ∷ []) t d (n.at_need (n.expression z few)) (step-good c (f.Only 1) (c, (f.Only 1 ∷ [], e.Have (named_node u.line u.text))) t (u ∷ []) (node_valid c u uk r)) refl
+
+behind_type-fine : {c : Names} (kd : Kind) (fs : List Around) (l : ℕ) (text : List ℕ) (t : Symbol) (d : List Symbol) → Naming true c fs l text d → t.kind ≡ kd → Fine (behind_type t c fs l text kd) (d ++ t ∷ [])
+behind_type-fine k.Colon fs l text t d (n.of_type {d = ds} u z early uk r) q = either (λ r. Fine r (d ++ t ∷ [])) (nat_lt (length fs) 1502) _ _
+    (λ few. rw (append_assoc ds (u ∷ []) (t ∷ [])) (n.at_statement (n.under z (let i = ltb-true _ _ few in let j = deep z in omega (arith, i, j)) (n.label u t uk q)))) (λ r. tt)
+behind_type-fine {c} kd fs l text t d (n.of_type {d = ds} u z early uk r) q =
+    in_specifiers-fine fs _ (u ∷ []) t d (n.early z early) (step-good c f.Outer (c, (f.Outer ∷ [], e.Words (with_word (no_words u.line) (word.Typedef u.line u.text)))) t (u ∷ []) (word_valid c u uk r)) refl
+
+target-fine : {c : Names} (kd : Kind) (fs : List Around) (l : ℕ) (t : Symbol) (d : List Symbol) → Going c fs l d → t.kind ≡ kd → Fine (target t c fs l kd) (d ++ t ∷ [])
+target-fine k.Name fs l t d (n.going {d = ds} u z few uk) q =
+    record { n = _; c0 = _; d0 = ds; us = u ∷ t ∷ []; place = z; few = few; tokens = λ v vk. g.goto u t v uk q vk; all = append_assoc ds (u ∷ []) (t ∷ []) }
+target-fine _ fs l t d v q = tt
 
 place-fine : (q : Point) (t : Symbol) (d : List Symbol) → Valid q d → Fine (place t q) (d ++ t ∷ [])
 place-fine (c, (fs, at.Due)) t d v = due-fine fs t d v
 place-fine (c, (fs, at.Specifiers frames state)) t d v = in_specifiers-fine fs _ v.us t d v.place (step-good v.c0 _ (c, (frames, state)) t v.us v.inner) v.all
 place-fine (c, (fs, at.Declarator frames state)) t d v = in_declarator-fine fs _ v.us t d v.place (step-good v.c0 _ (c, (frames, state)) t v.us v.inner) v.all
 place-fine (c, (fs, at.Expression frames state)) t d v = in_expression-fine fs _ v.us t d v.place (step-good v.c0 _ (c, (frames, state)) t v.us v.inner) v.all
+place-fine (c, (fs, at.Name l text)) t d v = behind_name-fine t.kind fs l text t d v refl
+place-fine (c, (fs, at.TypeName l text)) t d v = behind_type-fine t.kind fs l text t d v refl
+place-fine (c, (fs, at.Target l)) t d v = target-fine t.kind fs l t d v refl
 place-fine (c, (fs, at.Initial)) t d v = initial-fine t.kind fs t d v refl
 place-fine (c, (fs, at.Closed x)) t d v = initial_ends-fine t.kind fs x t d v.place v.tokens refl v.all
 place-fine (c, (fs, at.LeftParen)) t d v = left_paren-fine t.kind fs t d v refl

@@ -202,11 +202,11 @@ begin_init : {w : Bool} {class : Option Storage} {b c : Names} {ts : List Symbol
 begin_init (bare d) = begin_level d
 begin_init (initialized {ts} {us} t d h i) = longer _ ts (t ∷ us) (begin_level d)
 
-begin_names : {w : Bool} {class : Option Storage} {b c : Names} {ts : List Symbol} {all : List InitDeclarator} → InitList w class b c ts all → Head opens_name ts
+pub begin_names : {w : Bool} {class : Option Storage} {b c : Names} {ts : List Symbol} {all : List InitDeclarator} → InitList w class b c ts all → Head opens_name ts
 begin_names (one_declarator d) = begin_init d
 begin_names (more_declarators {ts} {us} t d h q) = longer _ ts (t ∷ us) (begin_names d)
 
-name-ends : (kd : Kind) → begins_name kd ≡ true → ends_heading kd ≡ true
+pub name-ends : (kd : Kind) → begins_name kd ≡ true → ends_heading kd ≡ true
 name-ends k.Star h = refl
 name-ends k.LeftParen h = refl
 name-ends k.Name h = refl

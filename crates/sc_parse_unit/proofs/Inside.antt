@@ -1,5 +1,5 @@
 -- What the tokens that were read say of what is open around a place, and of what was read last.
-use Rattle.std.proofs.Common.{◌≡◌, ℕ, suc, ◌≤◌, Bool, true, List, [], ◌∷◌, ◌++◌, length, Option, None, Ok, Err}
+use Rattle.std.proofs.Common.{◌≡◌, ℕ, suc, ◌≤◌, Bool, true, false, List, [], ◌∷◌, ◌++◌, length, Option, None, Ok, Err}
 use Rattle.sc_tree.specs.declared.expression.Expr.{Expr}
 use Rattle.sc_tree.specs.declared.expression.Storage.{Storage}
 use Rattle.sc_tree.specs.declared.expression.TypeWord.{TypeWord}
@@ -12,7 +12,7 @@ use Rattle.sc_tree.specs.declared.statement.External.{External}
 use Rattle.sc_parse_names.specs.declared.kind.Symbol.{Symbol}
 use Rattle.sc_parse_names.specs.declared.kind.Kind.{Kind}
 use Rattle.sc_parse_names.specs.declared.kind.Kind.TheVariants as k
-use Rattle.sc_parse_names.specs.Names.{Names, enter}
+use Rattle.sc_parse_names.specs.Names.{Names, is_typed, enter}
 use Rattle.sc_parse_grammar.specs.declared.operand.Direct.{Direct}
 use Rattle.sc_parse_grammar.specs.declared.operand.Mode.TheVariants as mode
 use Rattle.sc_parse_grammar.specs.declared.frame.Frame.{Frame}
@@ -53,6 +53,7 @@ pub data HeadTokens (n : ℕ) : Names → Names → List Symbol → Head → Typ
       HeadTokens n b e (t ∷ left ∷ xs ++ one ∷ ys ++ two ∷ zs ++ right ∷ []) (h.For t.line x y z)
   case : {b c : Names} {xs : List Symbol} {x : _} (t colon : Symbol) → t.kind ≡ k.Case → WholeExpression true 3 b c xs x → colon.kind ≡ k.Colon → HeadTokens n b c (t ∷ xs ++ colon ∷ []) (h.Case t.line x.tree)
   default : {b : Names} (t colon : Symbol) → t.kind ≡ k.Default → colon.kind ≡ k.Colon → HeadTokens n b b (t ∷ colon ∷ []) (h.Default t.line)
+  label : {b : Names} (t colon : Symbol) → t.kind ≡ k.Name → colon.kind ≡ k.Colon → HeadTokens n b b (t ∷ colon ∷ []) (h.Label t.line t.text)
 
 -- A statement is due behind the tokens, inside n others.
 pub data Inside : ℕ → Names → List Around → List Symbol → Type 0 where
@@ -126,6 +127,16 @@ pub data Context : ℕ → Names → List Around → List Symbol → Type 0 wher
 
 pub data Colon : Names → List Around → List Symbol → Type 0 where
   colon : {n : ℕ} {c : Names} {fs : List Around} {d : List Symbol} (t : Symbol) → Inside n c fs d → n ≤ 1499 → t.kind ≡ k.Default → Colon c (a.Under (h.Default t.line) ∷ fs) (d ++ t ∷ [])
+  label : {n : ℕ} {c : Names} {fs : List Around} {d : List Symbol} (t : Symbol) → Inside n c fs d → n ≤ 1499 → t.kind ≡ k.Name → Colon c (a.Under (h.Label t.line t.text) ∷ fs) (d ++ t ∷ [])
+
+-- A name was read where a statement begins, or a declaration; `typed` says whether it is that of a type.
+pub data Naming : Bool → Names → List Around → ℕ → List ℕ → List Symbol → Type 0 where
+  plain : {n : ℕ} {c : Names} {fs : List Around} {d : List Symbol} (t : Symbol) → Inside n c fs d → n ≤ 1499 → t.kind ≡ k.Name → is_typed c t ≡ false → Naming false c fs t.line t.text (d ++ t ∷ [])
+  of_type : {n : ℕ} {c : Names} {fs : List Around} {d : List Symbol} (t : Symbol) → Inside n c fs d → is_early fs ≡ true → t.kind ≡ k.Name → is_typed c t ≡ true → Naming true c fs t.line t.text (d ++ t ∷ [])
+
+-- `goto` was read.
+pub data Going : Names → List Around → ℕ → List Symbol → Type 0 where
+  going : {n : ℕ} {c : Names} {fs : List Around} {d : List Symbol} (t : Symbol) → Inside n c fs d → n ≤ 1499 → t.kind ≡ k.Goto → Going c fs t.line (d ++ t ∷ [])
 
 pub record InSpecifiers (c : Names) (fs : List Around) (frames : List Frame) (state : State) (d : List Symbol) : Type 0 where
   pub c0 : Names
@@ -193,6 +204,9 @@ Valid (c, (fs, at.Due)) d = Due c fs d
 Valid (c, (fs, at.Specifiers frames state)) d = InSpecifiers c fs frames state d
 Valid (c, (fs, at.Declarator frames state)) d = InDeclarator c fs frames state d
 Valid (c, (fs, at.Expression frames state)) d = InExpression c fs frames state d
+Valid (c, (fs, at.Name l text)) d = Naming false c fs l text d
+Valid (c, (fs, at.TypeName l text)) d = Naming true c fs l text d
+Valid (c, (fs, at.Target l)) d = Going c fs l d
 Valid (c, (fs, at.Initial)) d = Initializing c fs d
 Valid (c, (fs, at.Closed x)) d = Closed c fs x d
 Valid (c, (fs, at.LeftParen)) d = Paren c fs d

@@ -26,13 +26,14 @@ use Rattle.sc_parse_grammar.specs.Grammar as p
 use Rattle.sc_parse_grammar.specs.Grammar.{Level}
 use Rattle.sc_parse_grammar.specs.Machine.{Config, step}
 use Rattle.sc_parse_unit.specs.declared.around.Test.{Test}
+use Rattle.sc_parse_unit.specs.declared.around.End.TheVariants as stop
 use Rattle.sc_parse_unit.specs.declared.around.Test.TheVariants as of_kind
 use Rattle.sc_parse_unit.specs.declared.around.Around.{Around}
 use Rattle.sc_parse_unit.specs.declared.around.Around.TheVariants as a
 use Rattle.sc_parse_unit.specs.Trees.{declare_as, init_declarator, declaration_of}
 use Rattle.sc_parse_unit.specs.Grammar as g
 use Rattle.sc_parse_unit.specs.Grammar.{WholeExpression, Optional, Condition, InitialTokens, Initials, InitTokens, InitList, Heading, DeclarationTokens, Declarations, IsStatement, Nested, Statements, Braces, UnitTokens}
-use Rattle.sc_parse_unit.specs.Machine.{Move, at_semicolon, at_paren, at_colon, declares, declarator_joins, declarator_ends, initial_joins, initial_ends, tested, part_ends, whole_ends, is_optional, expression_ends, in_expression, begin, list_ends, initial, body, declared_by, declared, in_declarator, specified, in_specifiers, specifiers}
+use Rattle.sc_parse_unit.specs.Machine.{Move, ends_at, declares, declarator_joins, declarator_ends, initial_joins, initial_ends, tested, part_ends, whole_ends, is_optional, expression_ends, in_expression, begin, list_ends, initial, body, declared_by, declared, in_declarator, specified, in_specifiers, specifiers}
 use Rattle.sc_parse_sound.proofs.Declaring.{cons_append}
 use Rattle.sc_parse_sound.proofs.Open as w
 use Rattle.sc_parse_sound.proofs.Bodies as inner
@@ -150,15 +151,15 @@ initial_ends-fine {c1} kd (a.Initialized l y ∷ fs) x t d z it q r = declarator
 initial_ends-fine kd _ x t d z it q r = tt
 
 -- `)`, `;` or `:` and nothing else
-paren-fine : (kd : Kind) (t : Symbol) (move : Move) (d : List Symbol) → t.kind ≡ kd → (t.kind ≡ k.RightParen → Fine move d) → Fine (at_paren kd move) d
+paren-fine : (kd : Kind) (t : Symbol) (move : Move) (d : List Symbol) → t.kind ≡ kd → (t.kind ≡ k.RightParen → Fine move d) → Fine (ends_at stop.Paren kd move) d
 paren-fine k.RightParen t move d q go = go q
 paren-fine _ t move d q go = tt
 
-pub semicolon-fine : (kd : Kind) (t : Symbol) (move : Move) (d : List Symbol) → t.kind ≡ kd → (t.kind ≡ k.Semicolon → Fine move d) → Fine (at_semicolon kd move) d
+pub semicolon-fine : (kd : Kind) (t : Symbol) (move : Move) (d : List Symbol) → t.kind ≡ kd → (t.kind ≡ k.Semicolon → Fine move d) → Fine (ends_at stop.Semicolon kd move) d
 semicolon-fine k.Semicolon t move d q go = go q
 semicolon-fine _ t move d q go = tt
 
-pub colon-fine : (kd : Kind) (t : Symbol) (move : Move) (d : List Symbol) → t.kind ≡ kd → (t.kind ≡ k.Colon → Fine move d) → Fine (at_colon kd move) d
+pub colon-fine : (kd : Kind) (t : Symbol) (move : Move) (d : List Symbol) → t.kind ≡ kd → (t.kind ≡ k.Colon → Fine move d) → Fine (ends_at stop.Colon kd move) d
 colon-fine k.Colon t move d q go = go q
 colon-fine _ t move d q go = tt
 

@@ -1,6 +1,7 @@
 pub mod Runs
 pub mod Phrases
 pub mod Declares
+pub mod Labels
 pub mod Statements
 pub mod Units
 pub mod Answers

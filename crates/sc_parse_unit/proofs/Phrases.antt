@@ -53,13 +53,17 @@ have-closes m k.Semicolon x h = refl
 have-closes m k.Comma x h = let no : nat_le m 1 ≡ false = grind (arith, nat_tests) in rw no refl
 have-closes m _ x h = cc
 
+-- what the machine of expressions does over a whole expression and a token that ends it
+pub whole_inner : {w : Bool} {m : ℕ} {b c : Names} {xs : List Symbol} {x : Operand} → WholeExpression w m b c xs x → 1 ≤ m → (u : Symbol) → closes m u.kind ≡ true →
+    inner.Leads w (lower.run (b, (f.Only m ∷ [], e.Need)) (xs ++ u ∷ [])) (Ok (c, ([], e.Expression x)))
+whole_inner {w} {m} {b} {c} {xs} {x} (whole d n h) one u i =
+    let p = closes-power m u.kind i in
+    inner.◌▸◌ (phrases.reads w d (f.Only m ∷ []) u [] h n (omega (arith, p)))
+    (inner.tested w c (f.Only m ∷ []) x u [] (Ok ([], e.Expression x)) h (have-closes m u.kind x i))
+
 pub reads_whole : {w : Bool} {m : ℕ} {b c : Names} {xs : List Symbol} {x : Operand} → WholeExpression w m b c xs x → 1 ≤ m → (fs : List Around) (u : Symbol) (us : List Symbol) → closes m u.kind ≡ true →
     Leads w (run (b, (fs, at.Expression (f.Only m ∷ []) e.Need)) (xs ++ u ∷ us)) (after u us (expression_ends c u.kind fs x))
-reads_whole {w} {m} {b} {c} {xs} {x} (whole d n h) one fs u us i =
-    let p = closes-power m u.kind i in
-    follows_expression xs u us fs b (f.Only m ∷ []) e.Need (c, ([], e.Expression x))
-    (inner.◌▸◌ (phrases.reads w d (f.Only m ∷ []) u [] h n (omega (arith, p)))
-    (inner.tested w c (f.Only m ∷ []) x u [] (Ok ([], e.Expression x)) h (have-closes m u.kind x i)))
+reads_whole {m} {b} {c} {xs} {x} d one fs u us i = follows_expression xs u us fs b (f.Only m ∷ []) e.Need (c, ([], e.Expression x)) (whole_inner d one u i)
 
 -- a token behind the specifiers of a declaration
 abbrev pub ends_heading : Kind → Bool
@@ -98,12 +102,16 @@ reads_specified {w} {b} {c} {l} {ts = t ∷ ts} {v} d at u n =
     inner.◌▸◌ (inner.same (words_due b t (ts ++ u ∷ []) ∙ ap (λ (n : ℕ). lower.run (b, (f.Outer ∷ [], e.Words (no_words n))) (t ∷ (ts ++ u ∷ []))) at))
     (phrases.reads_words w d (f.Outer ∷ []) (u ∷ []) (λ i class v. refl) brace)
 
+-- what the machine of expressions does over the specifiers of a declaration and the token behind them
+pub heading_inner : {w : Bool} {b c : Names} {ts : List Symbol} {v : Specifiers TypeWord} → Heading w b c ts v → (u : Symbol) → ends_heading u.kind ≡ true →
+    inner.Leads w (lower.run (b, (f.Outer ∷ [], e.Due)) (ts ++ u ∷ [])) (Ok (c, ([], e.Specified v)))
+heading_inner {c} {v} (heading d at h) u i =
+    inner.◌▸◌ (reads_specified d at u (heading-no_brace u.kind i))
+    (inner.same (ap (inner.after u.kind c []) (kinds.words-end (is_typed c u) u (f.Outer ∷ []) v u.kind refl (heading-follows u.kind i) h ∙ heading-ends u.kind v i)))
+
 pub reads_heading : {w : Bool} {b c : Names} {ts : List Symbol} {v : Specifiers TypeWord} → Heading w b c ts v → (fs : List Around) (u : Symbol) (us : List Symbol) → ends_heading u.kind ≡ true →
     Leads w (run (b, (fs, at.Specifiers (f.Outer ∷ []) e.Due)) (ts ++ u ∷ us)) (after u us (specified u c fs v u.kind))
-reads_heading {w} {b} {c} {ts} {v} (heading {l} d at h) fs u us i =
-    follows_specifiers ts u us fs b (f.Outer ∷ []) e.Due (c, ([], e.Specified v))
-    (inner.◌▸◌ (reads_specified d at u (heading-no_brace u.kind i))
-    (inner.same (ap (inner.after u.kind c []) (kinds.words-end (is_typed c u) u (f.Outer ∷ []) v u.kind refl (heading-follows u.kind i) h ∙ heading-ends u.kind v i))))
+reads_heading {b} {c} {ts} {v} d fs u us i = follows_specifiers ts u us fs b (f.Outer ∷ []) e.Due (c, ([], e.Specified v)) (heading_inner d u i)
 
 -- a token behind a declarator of a declaration
 abbrev pub ends_declarator : Kind → Bool

@@ -19,7 +19,8 @@ use Rattle.sc_parse_unit.specs.declared.around.Stage.{Stage}
 use Rattle.sc_parse_unit.specs.declared.around.Stage.TheVariants as at
 use Rattle.sc_parse_unit.specs.declared.obstacle.Obstacle.{Obstacle}
 use Rattle.sc_parse_unit.specs.declared.obstacle.Obstacle.TheVariants as no
-use Rattle.sc_parse_unit.specs.Machine.{Point, Move, place, run, on_ok, marked, mark_of, in_expression, in_specifiers, in_declarator}
+use Rattle.sc_parse_unit.specs.Parts.{Part, in_expressions, in_heads, in_declarators, stage_of}
+use Rattle.sc_parse_unit.specs.Machine.{Point, Move, place, run, on_ok, marked, mark_on, in_expression, in_specifiers, in_declarator}
 
 -- a limit is passed
 abbrev pub Limited : Move → Type 0
@@ -44,16 +45,12 @@ pub ◌▸◌ : {w : Bool} {a b c : Move} → Leads w a b → Leads w b c → Le
 abbrev pub after : Symbol → List Symbol → Move → Move
 after t ts move = on_ok (λ q. run q ts) (marked t.kind move)
 
-mark-nesting : (kd : Kind) → mark_of kd no.Nesting ≡ no.Nesting
-mark-nesting (k.LeftOut m) = refl
-mark-nesting _ = refl
-
-mark-limit : (kd : Kind) (l : Limit) → mark_of kd (no.Inner (trouble.Limit l)) ≡ no.Inner (trouble.Limit l)
+mark-limit : (kd : Kind) (l : Limit) → mark_on kd (no.Inner (trouble.Limit l)) ≡ no.Inner (trouble.Limit l)
 mark-limit (k.LeftOut m) l = refl
 mark-limit _ l = refl
 
 pub after-nesting : (t : Symbol) (ts : List Symbol) → after t ts (Err no.Nesting) ≡ Err no.Nesting
-after-nesting t ts = ap (λ (o : Obstacle). Err o) (mark-nesting t.kind)
+after-nesting t ts = refl
 
 pub after-limit : (t : Symbol) (ts : List Symbol) (l : Limit) → after t ts (Err (no.Inner (trouble.Limit l))) ≡ Err (no.Inner (trouble.Limit l))
 after-limit t ts l = ap (λ (o : Obstacle). Err o) (mark-limit t.kind l)
@@ -84,6 +81,11 @@ Firm (Err trouble.Syntax) = ⊥
 Firm (Err (trouble.LeftOut which)) = ⊥
 Firm (Err trouble.NoMemory) = ⊥
 
+-- What ends well, or with a limit, refuses no token.
+pub firm_leads : {w : Bool} {a : Answer} {d : Config} → inner.Leads w a (Ok d) → Firm a
+firm_leads (inner.same p) = subst Firm (sym p) tt
+firm_leads (inner.passed i l) = subst Firm (sym l.1) tt
+
 mark-firm : (kd : Kind) → Firm (Err (lower.mark_of kd trouble.Syntax)) → ⊥
 mark-firm (k.LeftOut m) h = h
 mark-firm _ h = h
@@ -94,7 +96,7 @@ end-firm t names gs (e.Specified v) ts i h = mark-firm t.kind h
 end-firm t names gs (e.Declared x) ts i h = mark-firm t.kind h
 end-firm t names gs _ ts i h = cc
 
-end-firm_behind : (xs : List Symbol) (u : Symbol) (names : Names) (gs : List Frame) (st : State) → is_end st ≡ true → Firm (lower.run (names, (gs, st)) (xs ++ u ∷ [])) → ⊥
+pub end-firm_behind : (xs : List Symbol) (u : Symbol) (names : Names) (gs : List Frame) (st : State) → is_end st ≡ true → Firm (lower.run (names, (gs, st)) (xs ++ u ∷ [])) → ⊥
 end-firm_behind [] u names gs st i h = end-firm u names gs st [] i h
 end-firm_behind (t ∷ xs) u names gs st i h = end-firm t names gs st (xs ++ u ∷ []) i h
 
@@ -131,6 +133,12 @@ module _ (stage : List Frame → State → Stage) (answers : Symbol → List Aro
   follow (t ∷ xs) u us fs names gs st h =
       ap (after t (xs ++ u ∷ us)) (place-is t names fs gs st) ∙ follow-step t u xs us fs (step t (names, (gs, st))) (λ n g s. follow xs u us fs n g s) h
 
+  -- a limit that is passed below
+  pub limit_follows : (xs : List Symbol) (u : Symbol) (us : List Symbol) (fs : List Around) (names : Names) (gs : List Frame) (st : State) (l : Limit) →
+      lower.run (names, (gs, st)) (xs ++ u ∷ []) ≡ Err (trouble.Limit l) → run (names, (fs, stage gs st)) (xs ++ u ∷ us) ≡ Err (no.Inner (trouble.Limit l))
+  limit_follows xs u us fs names gs st l h =
+      follow xs u us fs names gs st (subst Firm (sym h) tt) ∙ ap (λ (a : Answer). after u us (answers u fs a)) h ∙ limit-is u us fs l
+
   pub follows : {w : Bool} (xs : List Symbol) (u : Symbol) (us : List Symbol) (fs : List Around) (names : Names) (gs : List Frame) (st : State) (d : Config) →
       inner.Leads w (lower.run (names, (gs, st)) (xs ++ u ∷ [])) (Ok d) → Leads w (run (names, (fs, stage gs st)) (xs ++ u ∷ us)) (after u us (answers u fs (Ok d)))
   follows xs u us fs names gs st d (inner.same p) =
@@ -161,3 +169,10 @@ follows_specifiers = follows (λ gs st. at.Specifiers gs st) in_specifiers (λ t
 pub follows_declarator : {w : Bool} (xs : List Symbol) (u : Symbol) (us : List Symbol) (fs : List Around) (names : Names) (gs : List Frame) (st : State) (d : Config) →
     inner.Leads w (lower.run (names, (gs, st)) (xs ++ u ∷ [])) (Ok d) → Leads w (run (names, (fs, at.Declarator gs st)) (xs ++ u ∷ us)) (after u us (in_declarator u fs (Ok d)))
 follows_declarator = follows (λ gs st. at.Declarator gs st) in_declarator (λ t n fs gs st. refl) declarator-goes (λ t fs o. refl)
+
+-- A limit that is passed inside one of the three kinds of place is passed outside.
+pub part_limited : (part : Part) (xs : List Symbol) (u : Symbol) (us : List Symbol) (fs : List Around) (names : Names) (gs : List Frame) (st : State) (l : Limit) →
+    lower.run (names, (gs, st)) (xs ++ u ∷ []) ≡ Err (trouble.Limit l) → run (names, (fs, stage_of part gs st)) (xs ++ u ∷ us) ≡ Err (no.Inner (trouble.Limit l))
+part_limited in_expressions = limit_follows (λ gs st. at.Expression gs st) in_expression (λ t n fs gs st. refl) expression-goes (λ t fs o. refl)
+part_limited in_heads = limit_follows (λ gs st. at.Specifiers gs st) in_specifiers (λ t n fs gs st. refl) specifiers-goes (λ t fs o. refl)
+part_limited in_declarators = limit_follows (λ gs st. at.Declarator gs st) in_declarator (λ t n fs gs st. refl) declarator-goes (λ t fs o. refl)

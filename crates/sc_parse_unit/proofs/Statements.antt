@@ -1,5 +1,5 @@
 -- The machine reads each statement of the grammar.
-use Rattle.std.proofs.Common.{◌≡◌, ℕ, suc, ◌≤◌, ◌<◌, Bool, true, false, not, List, [], ◌∷◌, ◌++◌, length, Option, Ok, Err, refl, sym, ◌∙◌, ap, arith, append_assoc, inl}
+use Rattle.std.proofs.Common.{◌≡◌, ℕ, suc, ◌≤◌, ◌<◌, Bool, true, false, not, List, [], ◌∷◌, ◌++◌, length, Option, Ok, Err, refl, sym, ◌∙◌, ap, subst, arith, append_assoc, inl}
 use Rattle.std.specs.Prelude.{nat_lt, cond, if◌then◌else◌, ◌&&◌}
 use Rattle.std.proofs.lemmas.Bool.Decides.{nat_tests}
 use Rattle.sc_tree.specs.declared.expression.Expr.{Expr}
@@ -22,6 +22,7 @@ use Rattle.sc_parse_grammar.specs.Types.{is_empty}
 use Rattle.sc_parse_grammar.specs.Grammar.{Keeps}
 use Rattle.sc_parse_expr.proofs.Runs.{not_kept}
 use Rattle.sc_parse_expr.proofs.Heads.{Head, one, longer, begins, begins_operand, operand_no_type, starts_operand, starts}
+use Rattle.sc_parse_unit.specs.declared.around.End.TheVariants as stop
 use Rattle.sc_parse_unit.specs.declared.around.Test.TheVariants as test
 use Rattle.sc_parse_unit.specs.declared.around.Head as heads
 use Rattle.sc_parse_unit.specs.declared.around.Head.TheVariants as under
@@ -34,10 +35,11 @@ use Rattle.sc_parse_unit.specs.Trees.{block_of, with_declaration, with_statement
 use Rattle.sc_parse_unit.specs.Grammar as g
 use Rattle.sc_parse_unit.specs.Grammar.{WholeExpression, whole, Optional, left_out, written, Condition, in_parens, Declarations, no_declaration, next_declaration, IsStatement, Nested, nested, Statements, no_statement, next_statement, Braces, braces}
 use Rattle.sc_parse_unit.specs.Machine as m
-use Rattle.sc_parse_unit.specs.Machine.{Move, Point, run, statement, statement_due, is_early, is_outside, is_optional, is_else, is_semicolon, is_paren, ends_part, needs, part_ends, expression_ends, expression_due, begin, specifiers, begins_declaration, declares, behind, got, settle}
+use Rattle.sc_parse_unit.specs.Machine.{Move, Point, run, statement, statement_due, is_early, is_outside, is_optional, is_else, is_end, ends_part, needs, part_ends, expression_ends, expression_due, begin, named, specifiers, declares, behind, got, settle}
 use Rattle.sc_parse_unit.proofs.Runs.{Leads, same, passed, ◌▸◌, after, after-nesting, steps, regrouped}
 use Rattle.sc_parse_unit.proofs.Phrases.{closes, reads_whole}
 use Rattle.sc_parse_unit.proofs.Declares.{reads_declaration, begin_declaration}
+use Rattle.sc_parse_unit.proofs.Labels.{is_name, unlabelled, node-read, whole_unlabelled, declaration_unlabelled, name-goes, declaration_goes}
 
 -- The tokens come where a statement is due.
 abbrev pub stating : Names → List Around → List Symbol → Move
@@ -46,7 +48,7 @@ stating b fs (t ∷ ts) = after t ts (statement_due t b fs t.kind)
 
 -- a token with which no declaration begins and no `else`
 abbrev pub is_plain : Names → Symbol → Bool
-is_plain b t = not (begins_declaration (is_typed b t) t.kind) && not (is_else t.kind)
+is_plain b t = not (begins_specifiers (is_typed b t) t.kind) && not (is_else t.kind)
 
 both_true : {x y : Bool} → x ≡ true → y ≡ true → (x && y) ≡ true
 both_true {x} {y} p q = rw (p, q) refl
@@ -64,10 +66,10 @@ not-true true h = cc
 not-true false h = refl
 
 plain-no_else : (b : Names) (t : Symbol) → is_plain b t ≡ true → is_else t.kind ≡ false
-plain-no_else b t h = not-true (is_else t.kind) (both-right (not (begins_declaration (is_typed b t) t.kind)) (not (is_else t.kind)) h)
+plain-no_else b t h = not-true (is_else t.kind) (both-right (not (begins_specifiers (is_typed b t) t.kind)) (not (is_else t.kind)) h)
 
-plain-no_specifiers : (b : Names) (t : Symbol) → is_plain b t ≡ true → begins_declaration (is_typed b t) t.kind ≡ false
-plain-no_specifiers b t h = not-true (begins_declaration (is_typed b t) t.kind) (both-left (not (begins_declaration (is_typed b t) t.kind)) (not (is_else t.kind)) h)
+plain-no_specifiers : (b : Names) (t : Symbol) → is_plain b t ≡ true → begins_specifiers (is_typed b t) t.kind ≡ false
+plain-no_specifiers b t h = not-true (begins_specifiers (is_typed b t) t.kind) (both-left (not (begins_specifiers (is_typed b t) t.kind)) (not (is_else t.kind)) h)
 
 -- Under a statement what is due is a statement.
 due-is : (b : Names) (fs : List Around) (t : Symbol) (ts : List Symbol) → is_outside fs ≡ false → is_early fs ≡ false → run (b, (fs, at.Due)) (t ∷ ts) ≡ stating b fs (t ∷ ts)
@@ -77,14 +79,14 @@ due-is b fs t ts p q = ap (after t ts) (rw (p, q) refl)
 plain-is : (b : Names) (fs : List Around) (t : Symbol) (ts : List Symbol) → is_outside fs ≡ false → is_plain b t ≡ true → run (b, (fs, at.Due)) (t ∷ ts) ≡ stating b fs (t ∷ ts)
 plain-is b fs t ts p q = ap (after t ts) (rw p (go (is_early fs)))
   where
-    go : (early : Bool) → (if early && begins_declaration (is_typed b t) t.kind then specifiers t b fs else statement_due t b fs t.kind) ≡ statement_due t b fs t.kind
+    go : (early : Bool) → (if early && begins_specifiers (is_typed b t) t.kind then m.early t b fs t.kind else statement_due t b fs t.kind) ≡ statement_due t b fs t.kind
     go true = rw (plain-no_specifiers b t q) refl
     go false = refl
 
 plain-of : {x y : Bool} → x ≡ false → y ≡ false → (not x && not y) ≡ true
 plain-of {x} {y} p q = rw (p, q) refl
 
-operand_no_declaration : (typed : Bool) (kd : Kind) → begins_operand typed kd ≡ true → begins_declaration typed kd ≡ false
+operand_no_declaration : (typed : Bool) (kd : Kind) → begins_operand typed kd ≡ true → begins_specifiers typed kd ≡ false
 operand_no_declaration typed (k.Storage class) h = cc
 operand_no_declaration typed kd h = operand_no_type typed kd h
 
@@ -92,7 +94,7 @@ operand_no_else : (typed : Bool) (kd : Kind) → begins_operand typed kd ≡ tru
 operand_no_else typed k.Else h = cc
 operand_no_else typed kd h = refl
 
-operand_plain : (typed : Bool) (kd : Kind) → begins_operand typed kd ≡ true → (not (begins_declaration typed kd) && not (is_else kd)) ≡ true
+operand_plain : (typed : Bool) (kd : Kind) → begins_operand typed kd ≡ true → (not (begins_specifiers typed kd) && not (is_else kd)) ≡ true
 operand_plain typed kd h = plain-of (operand_no_declaration typed kd h) (operand_no_else typed kd h)
 
 -- the tokens of statements that begin a statement of their own kind, and braces
@@ -107,12 +109,13 @@ is_word k.Do = true
 is_word k.For = true
 is_word k.Case = true
 is_word k.Default = true
+is_word k.Goto = true
 is_word k.Continue = true
 is_word k.Break = true
 is_word k.Return = true
 is_word _ = false
 
-word_plain : (typed : Bool) (kd : Kind) → is_word kd ≡ true → (not (begins_declaration typed kd) && not (is_else kd)) ≡ true
+word_plain : (typed : Bool) (kd : Kind) → is_word kd ≡ true → (not (begins_specifiers typed kd) && not (is_else kd)) ≡ true
 word_plain typed k.Semicolon h = refl
 word_plain typed k.LeftBrace h = refl
 word_plain typed k.RightBrace h = refl
@@ -123,6 +126,7 @@ word_plain typed k.Do h = refl
 word_plain typed k.For h = refl
 word_plain typed k.Case h = refl
 word_plain typed k.Default h = refl
+word_plain typed k.Goto h = refl
 word_plain typed k.Continue h = refl
 word_plain typed k.Break h = refl
 word_plain typed k.Return h = refl
@@ -138,39 +142,58 @@ whole_plain : {w : Bool} {n : ℕ} {b c : Names} {xs : List Symbol} {x : Operand
 unfolding Head
 whole_plain {b} d = let p = begin_whole d in (p.0, p.1, p.2, operand_plain (is_typed b p.0) p.0.kind p.3)
 
--- A statement begins with a plain token.
-begin_statement : {w : Bool} {n : ℕ} {b c : Names} {closed : Bool} {ts : List Symbol} {x : Statement} → IsStatement w n b c closed ts x → Head (is_plain b) ts
-begin_statement {b} (g.empty t h) = worded b t [] (rw h refl)
-begin_statement {b} (g.expression {xs} t d h) = longer (is_plain b) xs (t ∷ []) (whole_plain d)
-begin_statement {b} (g.if_only t h d p) = worded b t _ (rw h refl)
-begin_statement {b} (g.if_else t u h d p i q) = worded b t _ (rw h refl)
-begin_statement {b} (g.switch t h d p) = worded b t _ (rw h refl)
-begin_statement {b} (g.while t h d p) = worded b t _ (rw h refl)
-begin_statement {b} (g.do_while t u v h p i d j) = worded b t _ (rw h refl)
-begin_statement {b} (g.for t l u v r h i x j y n z o p) = worded b t _ (rw h refl)
-begin_statement {b} (g.case t u h d i p) = worded b t _ (rw h refl)
-begin_statement {b} (g.default t u h i p) = worded b t _ (rw h refl)
-begin_statement {b} (g.continue t u h i) = worded b t _ (rw h refl)
-begin_statement {b} (g.break t u h i) = worded b t _ (rw h refl)
-begin_statement {b} (g.return t u h d i) = worded b t _ (rw h refl)
-begin_statement {b} (g.block q (braces l r h ds d i)) = worded b l _ (rw h refl)
+-- Tokens that begin where a statement of a block is due: with a plain token, or with a label, which may have the name of a type.
+data Starting (w : Bool) (n : ℕ) (b : Names) : List Symbol → Type 0 where
+  plainly : (t : Symbol) (ts : List Symbol) → is_plain b t ≡ true → Starting w n b (t ∷ ts)
+  labelled_so : (t colon : Symbol) (ts : List Symbol) → Keeps w n 1499 → t.kind ≡ k.Name → colon.kind ≡ k.Colon → Starting w n b (t ∷ colon ∷ ts)
 
-begin_nested : {w : Bool} {n : ℕ} {b c : Names} {closed : Bool} {ts : List Symbol} {x : Statement} → Nested w n b c closed ts x → Head (is_plain b) ts
-begin_nested (nested q d) = begin_statement d
+plain_start : {w : Bool} {n : ℕ} {b : Names} {ts : List Symbol} → Head (is_plain b) ts → Starting w n b ts
+unfolding Head
+plain_start {w} {n} {b} h = rw h.2 (plainly h.0 h.1 h.3)
+
+longer_start : {w : Bool} {n : ℕ} {b : Names} {ts : List Symbol} (us : List Symbol) → Starting w n b ts → Starting w n b (ts ++ us)
+longer_start us (plainly t ts h) = plainly t (ts ++ us) h
+longer_start us (labelled_so t o ts q h i) = labelled_so t o (ts ++ us) q h i
+
+-- It is no `else`.
+start_head : {w : Bool} {n : ℕ} {b : Names} {ts : List Symbol} → Starting w n b ts → Head (λ t. not (is_else t.kind)) ts
+start_head {b} (plainly t ts h) = one (λ t. not (is_else t.kind)) t ts (rw (plain-no_else b t h) refl)
+start_head (labelled_so t o ts q h i) = one (λ t. not (is_else t.kind)) t (o ∷ ts) (rw h refl)
+
+begin_statement : {w : Bool} {n : ℕ} {b c : Names} {closed : Bool} {ts : List Symbol} {x : Statement} → IsStatement w n b c closed ts x → Keeps w n 1499 → Starting w n b ts
+begin_statement {b} (g.empty t h) q = plain_start (worded b t [] (rw h refl))
+begin_statement {b} (g.expression {xs} t d h) q = plain_start (longer (is_plain b) xs (t ∷ []) (whole_plain d))
+begin_statement {b} (g.if_only t h d p) q = plain_start (worded b t _ (rw h refl))
+begin_statement {b} (g.if_else t u h d p i r) q = plain_start (worded b t _ (rw h refl))
+begin_statement {b} (g.switch t h d p) q = plain_start (worded b t _ (rw h refl))
+begin_statement {b} (g.while t h d p) q = plain_start (worded b t _ (rw h refl))
+begin_statement {b} (g.do_while t u v h p i d j) q = plain_start (worded b t _ (rw h refl))
+begin_statement {b} (g.for t l u v r h i x j y n z o p) q = plain_start (worded b t _ (rw h refl))
+begin_statement {b} (g.case t u h d i p) q = plain_start (worded b t _ (rw h refl))
+begin_statement {b} (g.default t u h i p) q = plain_start (worded b t _ (rw h refl))
+begin_statement {b} (g.label {ys} t u h i p) q = labelled_so t u ys q h i
+begin_statement {b} (g.goto t u v h i j) q = plain_start (worded b t _ (rw h refl))
+begin_statement {b} (g.continue t u h i) q = plain_start (worded b t _ (rw h refl))
+begin_statement {b} (g.break t u h i) q = plain_start (worded b t _ (rw h refl))
+begin_statement {b} (g.return t u h d i) q = plain_start (worded b t _ (rw h refl))
+begin_statement {b} (g.block r (braces l u h ds d i)) q = plain_start (worded b l _ (rw h refl))
+
+begin_nested : {w : Bool} {n : ℕ} {b c : Names} {closed : Bool} {ts : List Symbol} {x : Statement} → Nested w n b c closed ts x → Starting w n b ts
+begin_nested (nested q d) = begin_statement d q
 
 -- An expression begins where one is due.
 part_begins : (t : Symbol) (typed : Bool) (b : Names) (fs : List Around) → begins_operand typed t.kind ≡ true → ends_part t.kind fs ≡ false
-part_begins t typed b fs h = go (is_semicolon t.kind) (is_paren t.kind) (semicolon-no t.kind h) (paren-no t.kind h) fs
+part_begins t typed b fs h = go (is_end stop.Semicolon t.kind) (is_end stop.Paren t.kind) (semicolon-no t.kind h) (paren-no t.kind h) fs
   where
-    semicolon-no : (kd : Kind) → begins_operand typed kd ≡ true → is_semicolon kd ≡ false
+    semicolon-no : (kd : Kind) → begins_operand typed kd ≡ true → is_end stop.Semicolon kd ≡ false
     semicolon-no k.Semicolon h = cc
     semicolon-no kd h = refl
 
-    paren-no : (kd : Kind) → begins_operand typed kd ≡ true → is_paren kd ≡ false
+    paren-no : (kd : Kind) → begins_operand typed kd ≡ true → is_end stop.Paren kd ≡ false
     paren-no k.RightParen h = cc
     paren-no kd h = refl
 
-    go : (x y : Bool) → is_semicolon t.kind ≡ false → is_paren t.kind ≡ false → (fs : List Around) → ends_part t.kind fs ≡ false
+    go : (x y : Bool) → is_end stop.Semicolon t.kind ≡ false → is_end stop.Paren t.kind ≡ false → (fs : List Around) → ends_part t.kind fs ≡ false
     go x y p q (a.First l ∷ fs) = p
     go x y p q (a.Second l v ∷ fs) = p
     go x y p q (a.Third l v z ∷ fs) = q
@@ -255,7 +278,7 @@ got-head c head fs x u us stops = ap (after u us) (ap (behind u c) (rw stops ref
 due_nested : {w : Bool} {n : ℕ} {b c : Names} {closed : Bool} {ts : List Symbol} {x : Statement} → Nested w n b c closed ts x → (fs : List Around) → is_outside fs ≡ false → is_early fs ≡ false → (us : List Symbol) →
     Leads w (run (b, (fs, at.Due)) (ts ++ us)) (stating b fs (ts ++ us))
 unfolding Head
-due_nested {b} d fs p q us = let f = begin_nested d in rw f.2 (same (due-is b fs f.0 (f.1 ++ us) p q))
+due_nested {b} d fs p q us = let f = start_head (begin_nested d) in rw f.2 (same (due-is b fs f.0 (f.1 ++ us) p q))
 
 -- a place in a block, or in the block of a function
 pub record InBlock (mk : Block → Around) : Type 0 where
@@ -270,50 +293,109 @@ in_block = record { outside = λ b fs. refl; early = λ b fs. refl; joins = λ n
 pub in_body : (v : Specifiers TypeWord) (x : Declarator) → InBlock (λ b. a.Body v x b)
 in_body v x = record { outside = λ b fs. refl; early = λ b fs. refl; joins = λ n b fs d. refl; goes_on = λ t n b fs x. refl }
 
-declaration_begins : (typed : Bool) (kd : Kind) → begins_specifiers typed kd ≡ true → begins_declaration typed kd ≡ true
-declaration_begins typed (k.Storage class) h = refl
-declaration_begins typed kd h = h
-
-due_declaration : {w : Bool} (b : Names) (fs : List Around) (ts us : List Symbol) → Head (starts true b) ts → is_outside fs ≡ false → is_early fs ≡ true →
-    Leads w (run (b, (fs, at.Due)) (ts ++ us)) (run (b, (fs, at.Specifiers (f.Outer ∷ []) e.Due)) (ts ++ us))
-unfolding Head
-due_declaration b fs ts us i p q = rw i.2 (same (ap (after i.0 (i.1 ++ us)) (let yes = declaration_begins (is_typed b i.0) i.0.kind i.3 in rw (p, q, yes) refl)))
-
 reads_declarations : {w : Bool} {b c : Names} {ts : List Symbol} {ds : List Declaration} → Declarations w b c ts ds → (mk : Block → Around) → InBlock mk → (l : ℕ) (fs : List Around) (us : List Symbol) →
     Leads w (run (b, (mk (block_of l [] []) ∷ fs, at.Due)) (ts ++ us)) (run (c, (mk (block_of l ds []) ∷ fs, at.Due)) us)
 reads_declarations no_declaration mk i l fs us = same refl
 reads_declarations {w} {b} (next_declaration {c} {ts} {us = vs} {all} {x} ds d) mk i l fs us =
     regrouped (b, (mk (block_of l [] []) ∷ fs, at.Due)) _ _ (append_assoc ts vs us) ▸
     reads_declarations ds mk i l fs (vs ++ us) ▸
-    due_declaration c (mk (block_of l all []) ∷ fs) vs us (begin_declaration d) (i.outside (block_of l all []) fs) (i.early (block_of l all []) fs) ▸
+    same (declaration_goes c (mk (block_of l all []) ∷ fs) (vs ++ us) (longer (starts true c) vs us (begin_declaration d)) (declaration_unlabelled d us) (i.outside (block_of l all []) fs) (i.early (block_of l all []) fs)) ▸
     reads_declaration d (mk (block_of l all []) ∷ fs) (mk (block_of l (all ++ x ∷ []) []) ∷ fs) (λ names. i.joins names (block_of l all []) fs x) us
 
--- a statement that is an expression
-statement_begins : (typed : Bool) (t : Symbol) (b : Names) (fs : List Around) (kd : Kind) → begins_operand typed kd ≡ true → statement t b fs kd ≡ begin 1 t b (a.Expression ∷ fs)
-statement_begins typed t b fs k.Semicolon h = cc
-statement_begins typed t b fs k.LeftBrace h = cc
-statement_begins typed t b fs k.If h = cc
-statement_begins typed t b fs k.Switch h = cc
-statement_begins typed t b fs k.While h = cc
-statement_begins typed t b fs k.Do h = cc
-statement_begins typed t b fs k.For h = cc
-statement_begins typed t b fs k.Case h = cc
-statement_begins typed t b fs k.Default h = cc
-statement_begins typed t b fs k.Continue h = cc
-statement_begins typed t b fs k.Break h = cc
-statement_begins typed t b fs k.Return h = cc
-statement_begins typed t b fs kd h = refl
+-- a statement that begins with a name
+named-is : (b : Names) (fs : List Around) (t : Symbol) (typed : Bool) → t.kind ≡ k.Name → is_typed b t ≡ typed → statement t b fs t.kind ≡ named typed t b fs
+named-is b fs t typed i r = ap (λ (kd : Kind). statement t b fs kd) i ∙ ap (λ (x : Bool). named x t b fs) r
+
+named-due : (b : Names) (fs : List Around) (t : Symbol) (typed : Bool) → nat_lt (length fs) 1502 ≡ true → t.kind ≡ k.Name → is_typed b t ≡ typed → statement_due t b fs t.kind ≡ named typed t b fs
+named-due b fs t typed r i z =
+    ap (λ (kd : Kind). statement_due t b fs kd) i ∙
+    ap (λ (x : Bool). cond x (named (is_typed b t) t b fs) (Err no.Nesting)) r ∙
+    ap (λ (x : Bool). named x t b fs) z
+
+begins-is : (b : Names) (t : Symbol) (typed : Bool) → t.kind ≡ k.Name → is_typed b t ≡ typed → begins_specifiers (is_typed b t) t.kind ≡ typed
+begins-is b t typed i z = ap (λ (x : Bool). begins_specifiers x t.kind) z ∙ ap (λ (kd : Kind). begins_specifiers typed kd) i
+
+outside-no : (b : Names) (fs : List Around) (t : Symbol) → is_outside fs ≡ false → m.due t b fs ≡ m.item_due t b fs
+outside-no b fs t p = ap (λ (x : Bool). if x then m.external_due t b fs t.kind else m.item_due t b fs) p
+
+-- a label where a declaration may come
+start_label : {w : Bool} {n : ℕ} (b : Names) (fs : List Around) (t o : Symbol) (ts : List Symbol) → Keeps w n 1499 → length fs ≡ suc (suc n) → is_outside fs ≡ false → t.kind ≡ k.Name → o.kind ≡ k.Colon →
+    Leads w (run (b, (fs, at.Due)) (t ∷ o ∷ ts)) (stating b fs (t ∷ o ∷ ts))
+start_label {w} {n} b fs t o ts h q p i j = same (ap (after t (o ∷ ts)) (outside-no b fs t p)) ▸ go (is_early fs) (is_typed b t) refl
+  where
+    F : List Around
+    F = a.Under (under.Label t.line t.text) ∷ fs
+
+    stated : nat_lt (length fs) 1502 ≡ true → is_typed b t ≡ true → stating b fs (t ∷ o ∷ ts) ≡ run (b, (F, at.Due)) ts
+    stated r z = ap (after t (o ∷ ts)) (named-due b fs t true r i z) ∙ ap (λ (kd : Kind). after o ts (m.ends_at stop.Colon kd (Ok (b, (F, at.Due))))) j
+
+    limited : (x : Bool) → nat_lt (length fs) 1502 ≡ x → is_typed b t ≡ true → Leads w (after o ts (cond x (Ok (b, (F, at.Due))) (Err no.Nesting))) (stating b fs (t ∷ o ∷ ts))
+    limited true r z = same (sym (stated r z))
+    limited false r z = let y : 1499 < n = grind (arith, nat_tests, q) in passed (not_kept w n 1499 h y) (inl (after-nesting o ts))
+
+    go : (early typed : Bool) → is_typed b t ≡ typed →
+        Leads w (after t (o ∷ ts) (if early && begins_specifiers (is_typed b t) t.kind then m.early t b fs t.kind else statement_due t b fs t.kind)) (stating b fs (t ∷ o ∷ ts))
+    go false typed z = same refl
+    go true false z = same (ap (λ (x : Bool). after t (o ∷ ts) (if x then m.early t b fs t.kind else statement_due t b fs t.kind)) (begins-is b t false i z))
+    go true true z =
+        same (ap (λ (x : Bool). after t (o ∷ ts) (if x then m.early t b fs t.kind else statement_due t b fs t.kind)) (begins-is b t true i z)) ▸
+        same (ap (λ (kd : Kind). after t (o ∷ ts) (m.early t b fs kd)) i) ▸
+        same (ap (λ (kd : Kind). after o ts (m.behind_type o b fs t.line t.text kd)) j) ▸
+        limited (nat_lt (length fs) 1502) refl z
+
+-- In a block what begins so is read as a statement.
+start_goes : {w : Bool} {n : ℕ} {b : Names} {ts : List Symbol} → Starting w n b ts → (fs : List Around) → length fs ≡ suc (suc n) → is_outside fs ≡ false → Leads w (run (b, (fs, at.Due)) ts) (stating b fs ts)
+start_goes {b} (plainly t ts h) fs q p = same (plain-is b fs t ts p h)
+start_goes {b} (labelled_so t o ts k' h i) fs q p = start_label b fs t o ts k' q p h i
+
+-- a statement that is an expression, and begins with no name
+statement_begins : (typed : Bool) (t : Symbol) (b : Names) (fs : List Around) (kd : Kind) → begins_operand typed kd ≡ true → is_name kd ≡ false → statement t b fs kd ≡ begin 1 t b (a.Expression ∷ fs)
+statement_begins typed t b fs k.Semicolon h n = cc
+statement_begins typed t b fs k.LeftBrace h n = cc
+statement_begins typed t b fs k.If h n = cc
+statement_begins typed t b fs k.Switch h n = cc
+statement_begins typed t b fs k.While h n = cc
+statement_begins typed t b fs k.Do h n = cc
+statement_begins typed t b fs k.For h n = cc
+statement_begins typed t b fs k.Case h n = cc
+statement_begins typed t b fs k.Default h n = cc
+statement_begins typed t b fs k.Continue h n = cc
+statement_begins typed t b fs k.Break h n = cc
+statement_begins typed t b fs k.Return h n = cc
+statement_begins typed t b fs k.Goto h n = cc
+statement_begins typed t b fs k.Name h n = cc
+statement_begins typed t b fs kd h n = refl
 
 operand_no_brace : (typed : Bool) (kd : Kind) → begins_operand typed kd ≡ true → is_right_brace kd ≡ false
 operand_no_brace typed k.RightBrace h = cc
 operand_no_brace typed kd h = refl
 
-states_expression : {w : Bool} (n : ℕ) (b : Names) (fs : List Around) (ts us : List Symbol) → Keeps w n 1499 → length fs ≡ suc (suc n) → Head (starts_operand b) ts →
-    Leads w (stating b fs (ts ++ us)) (run (b, (a.Expression ∷ fs, at.Expression (f.Only 1 ∷ []) e.Need)) (ts ++ us))
+plain_name : (typed : Bool) → begins_operand typed k.Name ≡ true → typed ≡ false
+plain_name true h = cc
+plain_name false h = refl
+
+name-is : (kd : Kind) → is_name kd ≡ true → kd ≡ k.Name
+name-is k.Name h = refl
+name-is _ h = cc
+
+states_expression : {w : Bool} (n : ℕ) (b : Names) (fs : List Around) (ts : List Symbol) → Keeps w n 1499 → length fs ≡ suc (suc n) → Head (starts_operand b) ts → unlabelled ts ≡ true →
+    Leads w (stating b fs ts) (run (b, (a.Expression ∷ fs, at.Expression (f.Only 1 ∷ []) e.Need)) ts)
 unfolding Head
-states_expression n b fs ts us h q i = rw i.2 (
-    within n b fs i.0 (i.1 ++ us) h q (operand_no_brace (is_typed b i.0) i.0.kind i.3) ▸
-    same (ap (after i.0 (i.1 ++ us)) (statement_begins (is_typed b i.0) i.0 b fs i.0.kind i.3)))
+states_expression {w} n b fs ts h q i z = rw i.2 (
+    within n b fs i.0 i.1 h q (operand_no_brace (is_typed b i.0) i.0.kind i.3) ▸
+    go i.0 i.1 i.3 (subst (λ (us : List Symbol). unlabelled us ≡ true) i.2 z))
+  where
+    go : (t : Symbol) (us : List Symbol) → begins_operand (is_typed b t) t.kind ≡ true → unlabelled (t ∷ us) ≡ true →
+        Leads w (after t us (statement t b fs t.kind)) (run (b, (a.Expression ∷ fs, at.Expression (f.Only 1 ∷ []) e.Need)) (t ∷ us))
+    go t [] s z = absurd cc
+    go t (u ∷ us) s z = by_name (is_name t.kind) refl
+      where
+        by_name : (x : Bool) → is_name t.kind ≡ x → Leads w (after t (u ∷ us) (statement t b fs t.kind)) (run (b, (a.Expression ∷ fs, at.Expression (f.Only 1 ∷ []) e.Need)) (t ∷ u ∷ us))
+        by_name true j =
+            let y = name-is t.kind j in
+            let typed : is_typed b t ≡ false = plain_name (is_typed b t) (subst (λ kd. begins_operand (is_typed b t) kd ≡ true) y s) in
+            same (ap (after t (u ∷ us)) (named-is b fs t false y typed) ∙ name-goes b fs t u us y typed z)
+        by_name false j = same (ap (after t (u ∷ us)) (statement_begins (is_typed b t) t b fs t.kind s j))
 
 pair : (xs ys vs : List Symbol) (t : Symbol) → (t ∷ xs ++ ys) ++ vs ≡ t ∷ (xs ++ (ys ++ vs))
 pair xs ys vs t = simp append_assoc
@@ -342,6 +424,16 @@ block_opens {w} l b fs t ts h = go (nat_lt (length b) 128) refl
     go true i = same refl
     go false i = let z : 127 < length b = grind (arith, nat_tests) in passed (not_kept w (length b) 127 h z) (inl (after-nesting t ts))
 
+-- A label where a statement is due.
+states_label : {w : Bool} {n : ℕ} (b : Names) (fs : List Around) (t o : Symbol) (ts : List Symbol) → Keeps w n 1499 → length fs ≡ suc (suc n) → t.kind ≡ k.Name → o.kind ≡ k.Colon → (typed : Bool) → is_typed b t ≡ typed →
+    Leads w (stating b fs (t ∷ o ∷ ts)) (run (b, (a.Under (under.Label t.line t.text) ∷ fs, at.Due)) ts)
+states_label {n} b fs t o ts h q i j true r =
+    begins_with n b fs t (o ∷ ts) (b, (a.Under (under.Label t.line t.text) ∷ fs, at.Colon)) h q (rw i refl) (named-is b fs t true i r) ▸
+    steps (b, (a.Under (under.Label t.line t.text) ∷ fs, at.Colon)) (b, (a.Under (under.Label t.line t.text) ∷ fs, at.Due)) o ts (rw j refl)
+states_label {n} b fs t o ts h q i j false r =
+    begins_with n b fs t (o ∷ ts) (b, (fs, at.Name t.line t.text)) h q (rw i refl) (named-is b fs t false i r) ▸
+    steps (b, (fs, at.Name t.line t.text)) (b, (a.Under (under.Label t.line t.text) ∷ fs, at.Due)) o ts (rw j refl)
+
 -- The statement under a head, which ends with it. `reads` is what the machine does over the tokens of the statement.
 under_head : {w : Bool} {n : ℕ} {b c : Names} {closed : Bool} {ts : List Symbol} {x : Statement} → Nested w (suc n) b c closed ts x →
     ((fs : List Around) → length fs ≡ suc (suc (suc n)) → (u : Symbol) (us : List Symbol) → (closed ≡ false → is_else u.kind ≡ false) → Leads w (stating b fs (ts ++ u ∷ us)) (run (c, (fs, at.Got x)) (u ∷ us))) →
@@ -354,11 +446,11 @@ under_head {c} {x} d reads head fs q u us z i =
 
 -- Declarations, statements and the brace behind them. `reads` is what the machine does over the tokens of the statements.
 contents : {w : Bool} {n : ℕ} {b c : Names} (d : Names) {ts : List Symbol} (us : List Symbol) {ds : List Declaration} (all : List Statement) → Declarations w b c ts ds → (mk : Block → Around) → InBlock mk → (l : ℕ) (fs : List Around) → length fs ≡ suc n → (r : Symbol) (vs : List Symbol) → r.kind ≡ k.RightBrace →
-    (is_plain d r ≡ true → Leads w (run (c, (mk (block_of l ds []) ∷ fs, at.Due)) (us ++ r ∷ vs)) (stating d (mk (block_of l ds all) ∷ fs) (r ∷ vs))) →
+    (Starting w n d (r ∷ vs) → Leads w (run (c, (mk (block_of l ds []) ∷ fs, at.Due)) (us ++ r ∷ vs)) (stating d (mk (block_of l ds all) ∷ fs) (r ∷ vs))) →
     Leads w (run (b, (mk (block_of l [] []) ∷ fs, at.Due)) (ts ++ (us ++ r ∷ vs))) (after r vs (m.block_ends d (mk (block_of l ds all) ∷ fs)))
 contents {w} {n} {b} {c} d {ts} us {ds} all xs mk i l fs q r vs h reads =
     reads_declarations xs mk i l fs (us ++ r ∷ vs) ▸
-    reads (word_plain (is_typed d r) r.kind (rw h refl)) ▸
+    reads (plainly r vs (word_plain (is_typed d r) r.kind (rw h refl))) ▸
     same (ap (after r vs) (rw h refl))
 
 mutual
@@ -369,7 +461,7 @@ mutual
   reads_statement {w} {n} {b} (g.empty t i) h fs q u us z = begins_with n b fs t (u ∷ us) (b, (fs, at.Got (s.Empty t.line))) h q (rw i refl) (rw i refl)
   reads_statement {w} {n} {b} {c} (g.expression {xs} {x} t d i) h fs q u us z =
       same (ap (stating b fs) (append_assoc xs (t ∷ []) (u ∷ us))) ▸
-      states_expression n b fs xs (t ∷ u ∷ us) h q (begin_whole d) ▸
+      states_expression n b fs (xs ++ t ∷ u ∷ us) h q (longer (starts_operand b) xs (t ∷ u ∷ us) (begin_whole d)) (whole_unlabelled d t (u ∷ us) i) ▸
       reads_whole d (omega arith) (a.Expression ∷ fs) t (u ∷ us) (rw i refl) ▸
       same (rw i refl)
   reads_statement {w} {n} {b} {c} (g.if_only {xs} {ys} {x} t i d p) h fs q u us z =
@@ -425,6 +517,13 @@ mutual
       begins_with n b fs t (o ∷ (ys ++ u ∷ us)) (b, (a.Under (under.Default t.line) ∷ fs, at.Colon)) h q (rw i refl) (rw i refl) ▸
       steps (b, (a.Under (under.Default t.line) ∷ fs, at.Colon)) (b, (a.Under (under.Default t.line) ∷ fs, at.Due)) o (ys ++ u ∷ us) (rw j refl) ▸
       under_head p (λ gs q' v ws z'. reads_nested p gs q' v ws z') (under.Default t.line) fs q u us z refl
+  reads_statement {w} {n} {b} {c} (g.label {ys} t o i j p) h fs q u us z =
+      states_label b fs t o (ys ++ u ∷ us) h q i j (is_typed b t) refl ▸
+      under_head p (λ gs q' v ws z'. reads_nested p gs q' v ws z') (under.Label t.line t.text) fs q u us z refl
+  reads_statement {w} {n} {b} (g.goto t v o i j r) h fs q u us z =
+      begins_with n b fs t (v ∷ o ∷ u ∷ us) (b, (fs, at.Target t.line)) h q (rw i refl) (rw i refl) ▸
+      steps (b, (fs, at.Target t.line)) (b, (fs, at.Semicolon (s.Goto t.line v.text))) v (o ∷ u ∷ us) (rw j refl) ▸
+      steps (b, (fs, at.Semicolon (s.Goto t.line v.text))) (b, (fs, at.Got (s.Goto t.line v.text))) o (u ∷ us) (rw r refl)
   reads_statement {w} {n} {b} (g.continue t o i j) h fs q u us z =
       begins_with n b fs t (o ∷ u ∷ us) (b, (fs, at.Semicolon (s.Continue t.line))) h q (rw i refl) (rw i refl) ▸
       steps (b, (fs, at.Semicolon (s.Continue t.line))) (b, (fs, at.Got (s.Continue t.line))) o (u ∷ us) (rw j refl)
@@ -441,23 +540,24 @@ mutual
       within n b fs l (ts ++ (vs ++ r ∷ u ∷ us)) h q (rw i refl) ▸
       same (rw i refl) ▸
       block_opens l.line b fs l (ts ++ (vs ++ r ∷ u ∷ us)) z' ▸
-      contents c vs all ds' (λ b. a.Block b) in_block l.line fs q r (u ∷ us) j (λ o. reads_statements ss (λ b. a.Block b) in_block l.line ds fs q r (u ∷ us) o)
+      contents c vs all ds' (λ b. a.Block b) in_block l.line fs q r (u ∷ us) j (λ o. reads_statements ss (λ b. a.Block b) in_block l.line ds fs q (r ∷ u ∷ us) o)
 
   reads_nested : {w : Bool} {n : ℕ} {b c : Names} {closed : Bool} {ts : List Symbol} {x : Statement} → Nested w n b c closed ts x → (fs : List Around) → length fs ≡ suc (suc n) → (u : Symbol) (us : List Symbol) →
       (closed ≡ false → is_else u.kind ≡ false) → Leads w (stating b fs (ts ++ u ∷ us)) (run (c, (fs, at.Got x)) (u ∷ us))
   reads_nested (nested h d) fs q u us z = reads_statement d h fs q u us z
 
-  reads_statements : {w : Bool} {n : ℕ} {b c : Names} {ts : List Symbol} {all : List Statement} → Statements w n b c ts all → (mk : Block → Around) → InBlock mk → (l : ℕ) (ds : List Declaration) (fs : List Around) → length fs ≡ suc n → (v : Symbol) (vs : List Symbol) → is_plain c v ≡ true →
-      Leads w (run (b, (mk (block_of l ds []) ∷ fs, at.Due)) (ts ++ v ∷ vs)) (stating c (mk (block_of l ds all) ∷ fs) (v ∷ vs))
-  reads_statements {b} no_statement mk i l ds fs q v vs h = same (plain-is b (mk (block_of l ds []) ∷ fs) v vs (i.outside (block_of l ds []) fs) h)
-  reads_statements {w} {n} {b} {c = d} (next_statement {c} {ts} {us} {all} {a = x} ss p) mk i l ds fs q v vs h =
-      let f = begin_nested p in
-      regrouped (b, (mk (block_of l ds []) ∷ fs, at.Due)) _ _ (append_assoc ts us (v ∷ vs) ∙ ap (λ (xs : List Symbol). ts ++ (xs ++ v ∷ vs)) f.2) ▸
-      reads_statements ss mk i l ds fs q f.0 (f.1 ++ v ∷ vs) f.3 ▸
-      same (ap (λ (xs : List Symbol). stating c (mk (block_of l ds all) ∷ fs) (xs ++ v ∷ vs)) (sym f.2)) ▸
-      reads_nested p (mk (block_of l ds all) ∷ fs) (ap (λ (k : ℕ). suc k) q) v vs (λ _. plain-no_else d v h) ▸
-      same (ap (after v vs) (i.goes_on v d (block_of l ds all) fs x))
+  reads_statements : {w : Bool} {n : ℕ} {b c : Names} {ts : List Symbol} {all : List Statement} → Statements w n b c ts all → (mk : Block → Around) → InBlock mk → (l : ℕ) (ds : List Declaration) (fs : List Around) → length fs ≡ suc n → (vs : List Symbol) → Starting w n c vs →
+      Leads w (run (b, (mk (block_of l ds []) ∷ fs, at.Due)) (ts ++ vs)) (stating c (mk (block_of l ds all) ∷ fs) vs)
+  reads_statements no_statement mk i l ds fs q vs h = start_goes h (mk (block_of l ds []) ∷ fs) (ap (λ (k : ℕ). suc k) q) (i.outside (block_of l ds []) fs)
+  reads_statements {w} {n} {b} {c = d} (next_statement {c} {ts} {us} {all} {a = x} ss p) mk i l ds fs q vs h =
+      let f = start_head h in
+      regrouped (b, (mk (block_of l ds []) ∷ fs, at.Due)) _ _ (append_assoc ts us vs) ▸
+      reads_statements ss mk i l ds fs q (us ++ vs) (longer_start vs (begin_nested p)) ▸
+      same (ap (λ (xs : List Symbol). stating c (mk (block_of l ds all) ∷ fs) (us ++ xs)) f.2) ▸
+      reads_nested p (mk (block_of l ds all) ∷ fs) (ap (λ (k : ℕ). suc k) q) f.0 f.1 (λ _. not-true (is_else f.0.kind) f.3) ▸
+      same (ap (after f.0 f.1) (i.goes_on f.0 d (block_of l ds all) fs x)) ▸
+      same (ap (stating d (mk (with_statement (block_of l ds all) x) ∷ fs)) (sym f.2))
 
 pub reads_contents : {w : Bool} {n : ℕ} {b c d : Names} {ts us : List Symbol} {ds : List Declaration} {all : List Statement} → Declarations w b c ts ds → Statements w n c d us all → (mk : Block → Around) → InBlock mk → (l : ℕ) (fs : List Around) → length fs ≡ suc n → (r : Symbol) (vs : List Symbol) → r.kind ≡ k.RightBrace →
     Leads w (run (b, (mk (block_of l [] []) ∷ fs, at.Due)) (ts ++ (us ++ r ∷ vs))) (after r vs (m.block_ends d (mk (block_of l ds all) ∷ fs)))
-reads_contents {d} {us} {ds} {all} xs ss mk i l fs q r vs h = contents d us all xs mk i l fs q r vs h (λ o. reads_statements ss mk i l ds fs q r vs o)
+reads_contents {d} {us} {ds} {all} xs ss mk i l fs q r vs h = contents d us all xs mk i l fs q r vs h (λ o. reads_statements ss mk i l ds fs q (r ∷ vs) o)

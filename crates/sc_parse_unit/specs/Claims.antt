@@ -6,15 +6,10 @@ use Rattle.sc_base.specs.declared.refusal.X.TheVariants as x
 use Rattle.sc_tree.specs.declared.statement.External.{External}
 use Rattle.sc_tree.specs.declared.statement.Unit.{Unit as Tree}
 use Rattle.sc_parse_names.specs.declared.kind.Symbol.{Symbol}
-use Rattle.sc_parse_expr.specs.Brackets.{opens_with}
+use Rattle.sc_parse_expr.specs.Brackets.{AreShallow}
 use Rattle.sc_parse_unit.specs.Grammar.{IsUnit}
 use Rattle.sc_parse_unit.specs.Machine.{start}
 use Rattle.sc_parse_unit.specs.Parse.{answer, Gives}
-
--- At most 500 brackets are open at each place, where n are open before the tokens.
-abbrev pub AreWithin : ℕ → List Symbol → Type 0
-AreWithin n [] = Unit {0}
-AreWithin n (t ∷ ts) = (opens_with n t.kind ≤ 500) × AreWithin (opens_with n t.kind) ts
 
 -- The answer is the unit with these functions and declarations, unless memory runs out.
 abbrev pub Finds : List External → Result Tree Fault → Type 0
@@ -38,7 +33,7 @@ pub data Fails (l : ℕ) (ts : List Symbol) : Type 0 where
 
 -- Each unit within the limits is the answer to its tokens.
 abbrev pub FindsEachUnit : Type 0
-FindsEachUnit = (ts : List Symbol) (all : List External) → IsUnit true ts all → AreWithin 0 ts → answer 0 1 start ts ≡ Ok all
+FindsEachUnit = (ts : List Symbol) (all : List External) → IsUnit true ts all → AreShallow 0 ts → answer 0 1 start ts ≡ Ok all
 
 -- X5 is the answer only where the tokens are no unit.
 abbrev pub RefusesNoUnit : Type 0
@@ -53,16 +48,3 @@ abbrev pub FoundOnly : List Symbol → Result Tree Fault → Type 0
 FoundOnly ts (Ok unit) = IsUnit true ts unit.items
 FoundOnly ts (Err fault.NoMemory) = Unit {0}
 FoundOnly ts (Err (fault.Refused r)) = Unit {0}
-
--- A refusal as no unit comes only where that holds.
-abbrev pub FailsRightly : List Symbol → Result Tree Fault → Type 0
-FailsRightly ts (Ok unit) = Unit {0}
-FailsRightly ts (Err fault.NoMemory) = Unit {0}
-FailsRightly ts (Err (fault.Refused r)) = r.kind ≡ x.X5 → Fails r.line ts
-
--- The answer to the tokens is that of the machine. A unit within the limits is found, and found to be no other; what is found is a unit within the limits; a refusal as no unit comes only where the tokens are none.
-pub record Parses (ts : List Symbol) (result : Result Tree Fault) : Type 0 where
-  pub answers : Gives (answer 0 1 start ts) result
-  pub finds : (all : List External) → IsUnit true ts all → AreWithin 0 ts → Finds all result
-  pub only : FoundOnly ts result
-  pub fails : FailsRightly ts result

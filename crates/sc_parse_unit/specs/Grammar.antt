@@ -111,6 +111,11 @@ mutual
         IsStatement w n b d closed (t ∷ xs ++ colon ∷ ys) (s.Case t.line x.tree a)
     default : {n : ℕ} {b c : Names} {closed : Bool} {ys : List Symbol} {a : Statement} (t colon : Symbol) →
         t.kind ≡ k.Default → colon.kind ≡ k.Colon → Nested w (suc n) b c closed ys a → IsStatement w n b c closed (t ∷ colon ∷ ys) (s.Default t.line a)
+    -- a label, which may have the name of a type
+    label : {n : ℕ} {b c : Names} {closed : Bool} {ys : List Symbol} {a : Statement} (t colon : Symbol) →
+        t.kind ≡ k.Name → colon.kind ≡ k.Colon → Nested w (suc n) b c closed ys a → IsStatement w n b c closed (t ∷ colon ∷ ys) (s.Label t.line t.text a)
+    goto : {n : ℕ} {b : Names} (t name semicolon : Symbol) → t.kind ≡ k.Goto → name.kind ≡ k.Name → semicolon.kind ≡ k.Semicolon →
+        IsStatement w n b b true (t ∷ name ∷ semicolon ∷ []) (s.Goto t.line name.text)
     continue : {n : ℕ} {b : Names} (t semicolon : Symbol) → t.kind ≡ k.Continue → semicolon.kind ≡ k.Semicolon → IsStatement w n b b true (t ∷ semicolon ∷ []) (s.Continue t.line)
     break : {n : ℕ} {b : Names} (t semicolon : Symbol) → t.kind ≡ k.Break → semicolon.kind ≡ k.Semicolon → IsStatement w n b b true (t ∷ semicolon ∷ []) (s.Break t.line)
     return : {n : ℕ} {b c : Names} {xs : List Symbol} {x : Option Expr} (t semicolon : Symbol) →

@@ -4,3 +4,4 @@ pub mod Machine
 pub mod Steps
 pub mod Parse
 pub mod Claims
+pub mod Parts

@@ -2,6 +2,7 @@
 use Rattle.std.specs.Prelude.{ℕ, Bool, true, false, if◌then◌else◌, ◌&&◌, nat_lt, List, [], ◌∷◌, ◌++◌, length, Option, Some, None, Result, Ok, Err}
 use Rattle.sc_tree.specs.declared.expression.Expr.{Expr}
 use Rattle.sc_tree.specs.declared.expression.TypeWord.{TypeWord}
+use Rattle.sc_tree.specs.declared.expression.TypeWord.TheVariants as word
 use Rattle.sc_tree.specs.declared.expression.Specifiers.{Specifiers}
 use Rattle.sc_tree.specs.declared.expression.Declarator.{Declarator}
 use Rattle.sc_tree.specs.declared.declaration.Initializer.{Initializer}
@@ -23,9 +24,12 @@ use Rattle.sc_parse_grammar.specs.declared.frame.Frame.TheVariants as f
 use Rattle.sc_parse_grammar.specs.declared.frame.State.TheVariants as e
 use Rattle.sc_parse_grammar.specs.declared.trouble.Trouble.{Trouble}
 use Rattle.sc_parse_grammar.specs.declared.trouble.Trouble.TheVariants as trouble
-use Rattle.sc_parse_grammar.specs.Kinds.{begins_type}
-use Rattle.sc_parse_grammar.specs.Types.{is_empty, declarator_of}
-use Rattle.sc_parse_grammar.specs.Machine.{Config, step}
+use Rattle.sc_parse_grammar.specs.Kinds.{begins_specifiers}
+use Rattle.sc_parse_grammar.specs.Nodes.{named_node}
+use Rattle.sc_parse_grammar.specs.Types.{is_empty, no_words, with_word, declarator_of}
+use Rattle.sc_parse_grammar.specs.Machine.{Config, step, mark_of}
+use Rattle.sc_parse_unit.specs.declared.around.End.{End}
+use Rattle.sc_parse_unit.specs.declared.around.End.TheVariants as stop
 use Rattle.sc_parse_unit.specs.declared.around.Test.{Test}
 use Rattle.sc_parse_unit.specs.declared.around.Test.TheVariants as test
 use Rattle.sc_parse_unit.specs.declared.around.Head.{Head}
@@ -49,18 +53,16 @@ Move = Result Point Obstacle
 abbrev pub stuck : Move
 stuck = Err (no.Inner trouble.Syntax)
 
--- Only these tokens go on.
-abbrev pub at_semicolon : Kind → Move → Move
-at_semicolon k.Semicolon move = move
-at_semicolon _ move = stuck
+-- whether the token is this end
+abbrev pub is_end : End → Kind → Bool
+is_end stop.Semicolon k.Semicolon = true
+is_end stop.Paren k.RightParen = true
+is_end stop.Colon k.Colon = true
+is_end _ _ = false
 
-abbrev pub at_paren : Kind → Move → Move
-at_paren k.RightParen move = move
-at_paren _ move = stuck
-
-abbrev pub at_colon : Kind → Move → Move
-at_colon k.Colon move = move
-at_colon _ move = stuck
+-- Only this end goes on.
+abbrev pub ends_at : End → Kind → Move → Move
+ends_at end kind move = if is_end end kind then move else stuck
 
 -- A declaration joins what stands around it.
 abbrev pub declares : Names → List Around → Declaration → Move
@@ -98,18 +100,18 @@ tested test.While l x = h.While l x
 
 -- a token behind an expression that may be left out
 abbrev pub part_ends : Names → Kind → List Around → Option Expr → Move
-part_ends names kind (a.First l ∷ fs) x = at_semicolon kind (Ok (names, (a.Second l x ∷ fs, at.Need)))
-part_ends names kind (a.Second l x ∷ fs) y = at_semicolon kind (Ok (names, (a.Third l x y ∷ fs, at.Need)))
-part_ends names kind (a.Third l x y ∷ fs) z = at_paren kind (Ok (names, (a.Under (h.For l x y z) ∷ fs, at.Due)))
-part_ends names kind (a.Return l ∷ fs) x = at_semicolon kind (Ok (names, (fs, at.Got (s.Return l x))))
+part_ends names kind (a.First l ∷ fs) x = ends_at stop.Semicolon kind (Ok (names, (a.Second l x ∷ fs, at.Need)))
+part_ends names kind (a.Second l x ∷ fs) y = ends_at stop.Semicolon kind (Ok (names, (a.Third l x y ∷ fs, at.Need)))
+part_ends names kind (a.Third l x y ∷ fs) z = ends_at stop.Paren kind (Ok (names, (a.Under (h.For l x y z) ∷ fs, at.Due)))
+part_ends names kind (a.Return l ∷ fs) x = ends_at stop.Semicolon kind (Ok (names, (fs, at.Got (s.Return l x))))
 part_ends names kind _ x = stuck
 
 -- a token behind an expression that may not be left out
 abbrev pub whole_ends : Names → Kind → List Around → Operand → Move
-whole_ends names kind (a.Test of l ∷ fs) x = at_paren kind (Ok (names, (a.Under (tested of l x.tree) ∷ fs, at.Due)))
-whole_ends names kind (a.Until l b m ∷ fs) x = at_paren kind (Ok (names, (fs, at.Semicolon (s.Do l b m x.tree))))
-whole_ends names kind (a.Value l ∷ fs) x = at_colon kind (Ok (names, (a.Under (h.Case l x.tree) ∷ fs, at.Due)))
-whole_ends names kind (a.Expression ∷ fs) x = at_semicolon kind (Ok (names, (fs, at.Got (s.Expression x.line x.tree))))
+whole_ends names kind (a.Test of l ∷ fs) x = ends_at stop.Paren kind (Ok (names, (a.Under (tested of l x.tree) ∷ fs, at.Due)))
+whole_ends names kind (a.Until l b m ∷ fs) x = ends_at stop.Paren kind (Ok (names, (fs, at.Semicolon (s.Do l b m x.tree))))
+whole_ends names kind (a.Value l ∷ fs) x = ends_at stop.Colon kind (Ok (names, (a.Under (h.Case l x.tree) ∷ fs, at.Due)))
+whole_ends names kind (a.Expression ∷ fs) x = ends_at stop.Semicolon kind (Ok (names, (fs, at.Got (s.Expression x.line x.tree))))
 whole_ends names kind (a.List l all ∷ fs) x = initial_joins names kind fs l all (i.Expression x.line x.tree)
 whole_ends names kind (a.Initialized l d ∷ fs) x = declarator_ends names kind fs (init_declarator l d (Some (i.Expression x.line x.tree)))
 whole_ends names kind _ x = stuck
@@ -183,11 +185,6 @@ in_specifiers t fs (Err o) = Err (no.Inner o)
 abbrev pub specifiers : Symbol → Names → List Around → Move
 specifiers t names fs = in_specifiers t fs (step t (names, (f.Outer ∷ [], e.Due)))
 
--- a token with which a declaration begins; `typed` says whether a name is that of a type
-abbrev pub begins_declaration : Bool → Kind → Bool
-begins_declaration typed (k.Storage class) = true
-begins_declaration typed kind = begins_type typed kind
-
 -- The block of a function ends, which stands at file scope.
 abbrev pub function_ends : Names → List Around → Specifiers TypeWord → Declarator → Block → Move
 function_ends names (a.Unit items ∷ fs) v x b = Ok (leave names, (a.Unit (items ++ external.Function (function_of v x b) ∷ []) ∷ fs, at.Due))
@@ -203,6 +200,11 @@ block_ends names _ = stuck
 abbrev pub block_begins : ℕ → Names → List Around → Move
 block_begins l names fs = if nat_lt (length names) 128 then Ok (enter names, (a.Block (block_of l [] []) ∷ fs, at.Due)) else Err no.Nesting
 
+-- A name of a type that no declaration begins with is a label.
+abbrev pub named : Bool → Symbol → Names → List Around → Move
+named true t names fs = Ok (names, (a.Under (h.Label t.line t.text) ∷ fs, at.Colon))
+named false t names fs = Ok (names, (fs, at.Name t.line t.text))
+
 -- A statement begins with the token.
 abbrev pub statement : Symbol → Names → List Around → Kind → Move
 statement t names fs k.Semicolon = Ok (names, (fs, at.Got (s.Empty t.line)))
@@ -217,12 +219,28 @@ statement t names fs k.Default = Ok (names, (a.Under (h.Default t.line) ∷ fs, 
 statement t names fs k.Continue = Ok (names, (fs, at.Semicolon (s.Continue t.line)))
 statement t names fs k.Break = Ok (names, (fs, at.Semicolon (s.Break t.line)))
 statement t names fs k.Return = Ok (names, (a.Return t.line ∷ fs, at.Need))
+statement t names fs k.Goto = Ok (names, (fs, at.Target t.line))
+statement t names fs k.Name = named (is_typed names t) t names fs
 statement t names fs kind = begin 1 t names (a.Expression ∷ fs)
 
--- A statement is due, or the end of a block. The unit, a function's block and 1,499 statements at most stand around it.
+-- a token behind a plain name with which a statement begins
+abbrev pub behind_name : Symbol → Names → List Around → ℕ → List ℕ → Kind → Move
+behind_name t names fs l text k.Colon = Ok (names, (a.Under (h.Label l text) ∷ fs, at.Due))
+behind_name t names fs l text kind = in_expression t (a.Expression ∷ fs) (step t (names, (f.Only 1 ∷ [], e.Have (named_node l text))))
+
+-- a token behind `goto`
+abbrev pub target : Symbol → Names → List Around → ℕ → Kind → Move
+target t names fs l k.Name = Ok (names, (fs, at.Semicolon (s.Goto l t.text)))
+target t names fs l _ = stuck
+
+-- The unit, a function's block and 1,499 statements at most stand around a statement.
+abbrev pub shallow : List Around → Move → Move
+shallow fs move = if nat_lt (length fs) 1502 then move else Err no.Nesting
+
+-- A statement is due, or the end of a block.
 abbrev pub statement_due : Symbol → Names → List Around → Kind → Move
 statement_due t names fs k.RightBrace = block_ends names fs
-statement_due t names fs kind = if nat_lt (length fs) 1502 then statement t names fs kind else Err no.Nesting
+statement_due t names fs kind = shallow fs (statement t names fs kind)
 
 -- A function or a declaration is due, or the end.
 abbrev pub external_due : Symbol → Names → List Around → Kind → Move
@@ -235,10 +253,20 @@ is_early (a.Body v x b ∷ fs) = is_empty b.statements
 is_early (a.Block b ∷ fs) = is_empty b.statements
 is_early _ = false
 
+-- A declaration begins with the token, or with the name of a type: there a label may stand too.
+abbrev pub early : Symbol → Names → List Around → Kind → Move
+early t names fs k.Name = Ok (names, (fs, at.TypeName t.line t.text))
+early t names fs kind = specifiers t names fs
+
+-- a token behind the name of a type with which a declaration or a statement begins
+abbrev pub behind_type : Symbol → Names → List Around → ℕ → List ℕ → Kind → Move
+behind_type t names fs l text k.Colon = shallow fs (Ok (names, (a.Under (h.Label l text) ∷ fs, at.Due)))
+behind_type t names fs l text kind = in_specifiers t fs (step t (names, (f.Outer ∷ [], e.Words (with_word (no_words l) (word.Typedef l text)))))
+
 -- In a block a declaration may come before the statements.
 abbrev pub item_due : Symbol → Names → List Around → Move
 item_due t names fs =
-    if is_early fs && begins_declaration (is_typed names t) t.kind then specifiers t names fs else statement_due t names fs t.kind
+    if is_early fs && begins_specifiers (is_typed names t) t.kind then early t names fs t.kind else statement_due t names fs t.kind
 
 abbrev pub is_outside : List Around → Bool
 is_outside (a.Unit items ∷ fs) = true
@@ -261,6 +289,7 @@ built (h.While l x) b = s.While l x b
 built (h.For l x y z) b = s.For l x y z b
 built (h.Case l x) b = s.Case l x b
 built (h.Default l) b = s.Default l b
+built (h.Label l text) b = s.Label l text b
 
 -- All that ends with the statement, where `other` says whether `else` follows.
 abbrev pub settle : Bool → List Around → Statement → List Around × Statement
@@ -302,20 +331,12 @@ abbrev pub needs : List Around → ℕ
 needs (a.Value l ∷ fs) = 3
 needs _ = 1
 
-abbrev pub is_semicolon : Kind → Bool
-is_semicolon k.Semicolon = true
-is_semicolon _ = false
-
-abbrev pub is_paren : Kind → Bool
-is_paren k.RightParen = true
-is_paren _ = false
-
 -- whether the token ends an expression that was left out
 abbrev pub ends_part : Kind → List Around → Bool
-ends_part kind (a.First l ∷ fs) = is_semicolon kind
-ends_part kind (a.Second l x ∷ fs) = is_semicolon kind
-ends_part kind (a.Third l x y ∷ fs) = is_paren kind
-ends_part kind (a.Return l ∷ fs) = is_semicolon kind
+ends_part kind (a.First l ∷ fs) = is_end stop.Semicolon kind
+ends_part kind (a.Second l x ∷ fs) = is_end stop.Semicolon kind
+ends_part kind (a.Third l x y ∷ fs) = is_end stop.Paren kind
+ends_part kind (a.Return l ∷ fs) = is_end stop.Semicolon kind
 ends_part kind _ = false
 
 -- an expression is due, or the token behind it
@@ -328,23 +349,26 @@ place t (names, (fs, at.Due)) = due t names fs
 place t (names, (fs, at.Specifiers frames state)) = in_specifiers t fs (step t (names, (frames, state)))
 place t (names, (fs, at.Declarator frames state)) = in_declarator t fs (step t (names, (frames, state)))
 place t (names, (fs, at.Expression frames state)) = in_expression t fs (step t (names, (frames, state)))
+place t (names, (fs, at.Name l text)) = behind_name t names fs l text t.kind
+place t (names, (fs, at.TypeName l text)) = behind_type t names fs l text t.kind
+place t (names, (fs, at.Target l)) = target t names fs l t.kind
 place t (names, (fs, at.Initial)) = initial t names fs t.kind
 place t (names, (fs, at.Closed x)) = initial_ends names t.kind fs x
 place t (names, (fs, at.LeftParen)) = left_paren names fs t.kind
 place t (names, (fs, at.Need)) = expression_due t names fs
-place t (names, (fs, at.Colon)) = at_colon t.kind (Ok (names, (fs, at.Due)))
-place t (names, (fs, at.Semicolon b)) = at_semicolon t.kind (Ok (names, (fs, at.Got b)))
+place t (names, (fs, at.Colon)) = ends_at stop.Colon t.kind (Ok (names, (fs, at.Due)))
+place t (names, (fs, at.Semicolon b)) = ends_at stop.Semicolon t.kind (Ok (names, (fs, at.Got b)))
 place t (names, (fs, at.Got b)) = got t names fs b
 place t (names, (fs, at.Over)) = stuck
 
 -- A token that is left out is named where nothing goes on with it.
-abbrev pub mark_of : Kind → Obstacle → Obstacle
-mark_of (k.LeftOut which) (no.Inner trouble.Syntax) = no.Inner (trouble.LeftOut which)
-mark_of kind obstacle = obstacle
+abbrev pub mark_on : Kind → Obstacle → Obstacle
+mark_on kind (no.Inner which) = no.Inner (mark_of kind which)
+mark_on kind no.Nesting = no.Nesting
 
 abbrev pub marked : Kind → Move → Move
 marked kind (Ok p) = Ok p
-marked kind (Err obstacle) = Err (mark_of kind obstacle)
+marked kind (Err obstacle) = Err (mark_on kind obstacle)
 
 -- One token.
 abbrev pub advance : Symbol → Point → Move

@@ -27,8 +27,6 @@ Answer = Result (List External) (X × ℕ)
 abbrev pub word_of : Mark → List ℕ
 word_of mark.Float = codes "float"
 word_of mark.Volatile = codes "volatile"
-word_of mark.Union = codes "union"
-word_of mark.Goto = codes "goto"
 word_of mark.Variadic = codes "variadic"
 word_of mark.LongLong = codes "longlong"
 word_of mark.Wide = codes "wide"

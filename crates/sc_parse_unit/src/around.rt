@@ -1,10 +1,18 @@
 // What is open around the place that is read, and what was read last.
 
-use sc_base::{Items, Shared, Stack};
+use sc_base::{Items, Name, Shared, Stack};
 use sc_parse_grammar::{Frame, State};
 use sc_tree::{
     Block, Declarator, Expr, External, InitDeclarator, Initializer, Specifiers, Statement,
 };
+
+/// A token with which a part of a statement ends.
+#[derive(Clone, Copy, Debug, PartialEq, Eq)]
+pub enum End {
+    Semicolon,
+    Paren,
+    Colon,
+}
 
 /// A statement that begins with a controlling expression in parentheses (ANSI 3.6.4, 3.6.5.1).
 #[derive(Clone, Copy, Debug, PartialEq, Eq)]
@@ -26,6 +34,8 @@ pub enum Head {
     For(u32, Option<Shared<Expr>>, Option<Shared<Expr>>, Option<Shared<Expr>>),
     Case(u32, Shared<Expr>),
     Default(u32),
+    /// A label's line and name.
+    Label(u32, Name),
 }
 
 /// A construct that is open, with the line of its first token and the parts that were read. Each statement that is open
@@ -77,6 +87,12 @@ pub enum Stage {
     Declarator(Stack<Frame>, State),
     /// A part of an expression.
     Expression(Stack<Frame>, State),
+    /// A plain name with which a statement begins: a label, if `:` follows.
+    Name(u32, Name),
+    /// The name of a type with which a declaration begins, or a statement, if `:` follows.
+    TypeName(u32, Name),
+    /// `goto` was read.
+    Target(u32),
     /// An initialiser is due.
     Initial,
     /// An initialiser in braces.

@@ -5,6 +5,6 @@ mod around;
 mod laws;
 mod obstacle;
 
-pub use around::{Around, Head, Stage, Test};
+pub use around::{Around, End, Head, Stage, Test};
 pub use laws::reads_units;
 pub use obstacle::Obstacle;

@@ -1,8 +1,10 @@
 -- The lines of a file: directives, and the text between two of them (ANSI 3.8).
-use Rattle.std.specs.Prelude.{ℕ, ◌+◌, ◌-◌, nat_lt, Bool, false, if◌then◌else◌, List, [], ◌∷◌, ◌++◌, codes}
+use Rattle.std.specs.Prelude.{ℕ, ◌+◌, ◌-◌, nat_lt, Bool, false, if◌then◌else◌, List, [], ◌∷◌, ◌++◌, Option, Some, None, codes}
 use Rattle.std.specs.Str.{bytes_eq}
 use Rattle.sc_base.specs.declared.refusal.Refusal.{Refusal}
+use Rattle.sc_lex.specs.declared.lexing.Scan.{Scan}
 use Rattle.sc_lex.specs.declared.token.Token.{Token}
+use Rattle.sc_lex.specs.Tokens.{is_too_long, refusal_in}
 use Rattle.sc_macro.specs.Tokens.{is_name, is_newline, is_mark}
 use Rattle.sc_pp.specs.declared.line.Word.{Word}
 use Rattle.sc_pp.specs.declared.line.Word.TheVariants as word
@@ -59,11 +61,32 @@ directive (t ∷ u ∷ ts) = if is_name u then placed (word_of u.text) t.line ts
 abbrev pub text : List Token → Line
 text ts = line.Plain (entry word.Text 0 ts)
 
--- A line ends: a directive ends the text before it, and all other lines are text. The lines so far stand there with the last first.
-abbrev pub ended : Splitter → Splitter
-ended s =
+-- the tokens before the first identifier that is too long
+abbrev pub front : List Token → List Token
+front [] = []
+front (t ∷ ts) = if is_too_long t then [] else t ∷ front ts
+
+abbrev pub ended_whole : Splitter → Splitter
+ended_whole s =
     if begins_directive s.line then record { lines = directive s.line ∷ text s.run ∷ s.lines; run = []; line = [] }
     else record { lines = s.lines; run = s.run ++ s.line; line = [] }
+
+-- The lexer refuses what stands on this line: text is read up to there, and a directive is not carried out. It stays among
+-- the lines, since it may open or close a conditional.
+abbrev pub ended_broken : Refusal → Splitter → Splitter
+ended_broken r s =
+    if begins_directive s.line then record { lines = directive s.line ∷ line.Broken r ∷ text s.run ∷ s.lines; run = []; line = [] }
+    else record { lines = line.Broken r ∷ text (s.run ++ front s.line) ∷ s.lines; run = []; line = [] }
+
+-- A line ends: a directive ends the text before it, and all other lines are text. The lines so far stand there with the
+-- last first.
+abbrev pub ended : Option Refusal → Splitter → Splitter
+ended None s = ended_whole s
+ended (Some r) s = ended_broken r s
+
+-- a line ends behind which a comment may be open
+abbrev pub end_line : Option ℕ → Splitter → Splitter
+end_line unclosed s = ended (refusal_in s.line unclosed) s
 
 abbrev pub with_token : Splitter → Token → Splitter
 with_token s t = record { lines = s.lines; run = s.run; line = s.line ++ t ∷ [] }
@@ -72,7 +95,7 @@ abbrev pub broken_off : Splitter → Token → Splitter
 broken_off s t = record { lines = s.lines; run = s.run ++ t ∷ []; line = s.line }
 
 abbrev pub taken : Splitter → Token → Splitter
-taken s t = if is_newline t then broken_off (ended s) t else with_token s t
+taken s t = if is_newline t then broken_off (end_line None s) t else with_token s t
 
 abbrev pub split : Splitter → List Token → Splitter
 split s [] = s
@@ -84,13 +107,9 @@ start = record { lines = []; run = []; line = [] }
 abbrev pub finished : Splitter → List Line
 finished s = text s.run ∷ s.lines
 
--- the lines of a file, the last first
-abbrev pub lines_of : List Token → List Line
-lines_of ts = finished (ended (split start ts))
-
--- The same where the lexer refuses what stands behind these tokens: the text that goes on there is not read any more.
-abbrev pub lines_before : List Token → Refusal → List Line
-lines_before ts r = line.Broken r ∷ (split start ts).lines
+-- The lines of a file, the last first. What the lexer refuses stands at its place among them, and nothing behind it is read.
+abbrev pub lines_of : Scan → List Line
+lines_of c = finished (end_line c.unclosed (split start c.tokens))
 
 -- how many `#endif` close nothing yet, with one line more before them
 abbrev pub unmatched : ℕ → Line → ℕ

@@ -1,11 +1,11 @@
 // Tokens are split into lines.
-ghost use Rattle.std.specs.Prelude.{◌≡◌, [], OnOk, IfOk};
+ghost use Rattle.std.specs.Prelude.{◌≡◌, ◌++◌, [], OnOk, IfOk};
 ghost use Rattle.sc_pp.specs.Lines as spec;
 
 use crate::line::{Line, begins_directive, directive_line, text};
 use crate::token::is_newline;
-use sc_base::{Items, NoMemory, Refusal, Stack};
-use sc_lex::Token;
+use sc_base::{Duplicate, Items, NoMemory, Refusal, Stack};
+use sc_lex::{Scan, Token, is_too_long, refusal_in};
 use std::alloc::Global;
 use std::mem;
 
@@ -17,9 +17,9 @@ pub struct Splitter {
     pub line: Items<Token>,
 }
 
-/// Ends the line that is read.
-fn end_line(alloc: Global, splitter: &mut Splitter) -> Result<(), NoMemory>
-    ensures { OnOk result (splitter.new ≡ spec.ended splitter.old) }
+/// Ends a line that the lexer takes.
+fn end_whole(alloc: Global, splitter: &mut Splitter) -> Result<(), NoMemory>
+    ensures { OnOk result (splitter.new ≡ spec.ended_whole splitter.old) }
 {
     let line = mem::replace(&mut splitter.line, Items::new(alloc));
     if begins_directive(line.as_slice()) {
@@ -35,11 +35,55 @@ fn end_line(alloc: Global, splitter: &mut Splitter) -> Result<(), NoMemory>
     }
 }
 
+/// Puts the tokens before the first identifier that is too long behind others.
+fn append_front(alloc: Global, run: &mut Items<Token>, line: &[Token]) -> Result<(), NoMemory>
+    ensures { OnOk result (run.new ≡ run.old ++ spec.front line.now) }
+{
+    for token in line {
+        if is_too_long(token) {
+            return Ok(());
+        }
+        run.push(token.copy(alloc)?)?;
+    }
+    Ok(())
+}
+
+/// Ends a line that the lexer refuses at some place.
+fn end_broken(alloc: Global, splitter: &mut Splitter, refusal: Refusal) -> Result<(), NoMemory>
+    ensures { OnOk result (splitter.new ≡ spec.ended_broken refusal splitter.old) }
+{
+    let line = mem::replace(&mut splitter.line, Items::new(alloc));
+    let mut run = mem::replace(&mut splitter.run, Items::new(alloc));
+    if begins_directive(line.as_slice()) {
+        splitter.lines.push(text(run))?;
+        splitter.lines.push(Line::Broken(refusal))?;
+        splitter
+            .lines
+            .push(directive_line(alloc, line.as_slice())?)?;
+        Ok(())
+    } else {
+        append_front(alloc, &mut run, line.as_slice())?;
+        splitter.lines.push(text(run))?;
+        splitter.lines.push(Line::Broken(refusal))?;
+        Ok(())
+    }
+}
+
+/// Ends the line that is read, behind which a comment may be open that begins on some line.
+fn end_line(alloc: Global, splitter: &mut Splitter, unclosed: Option<u32>) -> Result<(), NoMemory>
+    ensures { OnOk result (splitter.new ≡ spec.end_line unclosed splitter.old) }
+{
+    match refusal_in(alloc, splitter.line.as_slice(), unclosed)? {
+        None => end_whole(alloc, splitter),
+        Some(refusal) => end_broken(alloc, splitter, refusal),
+    }
+}
+
 fn take(alloc: Global, splitter: &mut Splitter, token: Token) -> Result<(), NoMemory>
     ensures { OnOk result (splitter.new ≡ spec.taken splitter.old token) }
 {
     if is_newline(&token) {
-        end_line(alloc, splitter)?;
+        end_line(alloc, splitter, None)?;
         splitter.run.push(token)?;
         Ok(())
     } else {
@@ -64,27 +108,14 @@ fn split(alloc: Global, tokens: Items<Token>) -> Result<Splitter, NoMemory>
     Ok(splitter)
 }
 
-/// The lines of a file with these tokens, the last on top.
-pub fn lines_of(alloc: Global, tokens: Items<Token>) -> Result<Stack<Line>, NoMemory>
-    ensures { IfOk result (λ lines. lines ≡ spec.lines_of tokens) }
+/// The lines of a file that was cut so, the last on top. What the lexer refuses stands at its place among them.
+pub fn lines_of(alloc: Global, whole: Scan) -> Result<Stack<Line>, NoMemory>
+    ensures { IfOk result (λ lines. lines ≡ spec.lines_of whole) }
 {
+    let Scan { tokens, unclosed } = whole;
     let mut splitter = split(alloc, tokens)?;
-    end_line(alloc, &mut splitter)?;
+    end_line(alloc, &mut splitter, unclosed)?;
     let Splitter { mut lines, run, .. } = splitter;
     lines.push(text(run))?;
-    Ok(lines)
-}
-
-/// The same where the lexer refuses what stands behind the tokens: the text that goes on there is not read.
-pub fn lines_before(
-    alloc: Global,
-    tokens: Items<Token>,
-    refusal: Refusal,
-) -> Result<Stack<Line>, NoMemory>
-    ensures { IfOk result (λ lines. lines ≡ spec.lines_before tokens refusal) }
-{
-    let splitter = split(alloc, tokens)?;
-    let Splitter { mut lines, .. } = splitter;
-    lines.push(Line::Broken(refusal))?;
     Ok(lines)
 }

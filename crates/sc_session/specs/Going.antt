@@ -9,8 +9,8 @@ use Rattle.sc_outside.specs.Stored.{FileMap, FindsTold}
 use Rattle.sc_outside.specs.declared.files.FileGot.{FileGot}
 use Rattle.sc_outside.specs.declared.files.FileGot.TheVariants as got
 use Rattle.sc_interp.specs.Ends.{start_of}
-use Rattle.sc_interp.specs.declared.running.Ended.{Ended}
-use Rattle.sc_interp.specs.declared.running.Ended.TheVariants as ended
+use Rattle.sc_interp_access.specs.declared.ended.Ended.{Ended}
+use Rattle.sc_interp_access.specs.declared.ended.Ended.TheVariants as ended
 use Rattle.sc_interp_world.specs.Outputs.{output}
 use Rattle.sc_session_texts.specs.Ends.{stop_text, on_new_line}
 use Rattle.sc_session_texts.specs.Words.{key_text}

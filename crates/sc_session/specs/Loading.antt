@@ -10,7 +10,7 @@ use Rattle.sc_meaning.specs.Versions.{Text}
 use Rattle.sc_session_conflicts.specs.Clashes.{Named, doubled, clashing, is_other}
 use Rattle.sc_session_conflicts.specs.Spaces.{over_limit, modules_with, statics_with}
 use Rattle.sc_core_names.specs.declared.table.ModuleScopes.{ModuleScopes}
-use Rattle.sc_session_show.specs.Numbers.{mentioned}
+use Rattle.sc_core_held.specs.Numbers.{mentioned}
 use Rattle.sc_words.specs.declared.denied.Area.{Area}
 use Rattle.sc_words.specs.declared.denied.Denied.{Denied}
 use Rattle.sc_words.specs.declared.denied.Denied.TheVariants as denied

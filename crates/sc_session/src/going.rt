@@ -11,8 +11,8 @@ ghost use Rattle.sc_world.specs.declared.post.Unsent.TheVariants as unsent;
 
 use crate::state::State;
 use sc_base::{Bytes, Key, Name, NoMemory};
-use sc_interp::Ended;
-use sc_interp_parts::{Callee, Text, callee_of};
+use sc_core_held::{Callee, Text, callee_of};
+use sc_interp_access::Ended;
 use sc_interp_world::{Frame, World};
 use sc_outside::Sink;
 use sc_session_texts::{put, put_decimal, put_key, stop_text};

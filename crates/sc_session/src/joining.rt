@@ -5,9 +5,8 @@ ghost use Rattle.sc_session.specs.Loading as spec;
 
 use sc_base::{Duplicate, Form, Name, NoMemory};
 use sc_core::Core;
-use sc_interp_parts::{Module, Text};
+use sc_core_held::{Module, Numbers, Text};
 use sc_session_conflicts::{Named, clashing, doubled, is_other, over_limit, statics_with};
-use sc_session_show::Numbers;
 use sc_words::Denied;
 use std::alloc::Global;
 

@@ -5,7 +5,7 @@ ghost use Rattle.sc_session.specs.States as spec;
 use crate::state::State;
 use crate::stops::{Stop, has_stop};
 use sc_base::Name;
-use sc_interp_parts::Text;
+use sc_core_held::Text;
 use sc_session_conflicts::is_present;
 use sc_words::{Denied, StopAt};
 

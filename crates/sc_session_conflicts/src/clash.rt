@@ -9,7 +9,7 @@ use crate::names::external_names;
 use indexmap::IndexSet;
 use sc_base::{Name, NoMemory};
 use sc_core::{Core, Declared};
-use sc_interp_parts::Text;
+use sc_core_held::Text;
 use sc_types::compatible;
 use std::alloc::Global;
 use std::cmp::Ordering;

@@ -5,7 +5,7 @@ ghost use Rattle.sc_session_conflicts.specs.Spaces as spec;
 use crate::clash::is_other;
 use sc_base::{Bytes, NoMemory};
 use sc_core::{Core, StaticObj};
-use sc_interp_parts::Text;
+use sc_core_held::Text;
 use sc_types::{CType, Structs, is_object, size_of};
 use sc_words::Area;
 

@@ -6,7 +6,7 @@ use Rattle.sc_types.specs.declared.ctype.CType.TheVariants as t
 use Rattle.sc_types.specs.declared.ctype.CType.TheOpen.{CType-F}
 use Rattle.sc_types.specs.declared.ctype.Signature.{Signature}
 use Rattle.sc_types.specs.declared.ctype.StructDef.{StructDef}
-use Rattle.sc_types.specs.Layouts.{members_in, beginning}
+use Rattle.sc_types.specs.Layouts.{is_union_in, members_in, beginning}
 use Rattle.sc_meaning.specs.Values.{Value}
 use Rattle.sc_meaning.specs.World.{World}
 use Rattle.sc_meaning.specs.Outcomes.{Outcome, Undefined, Exit, StackFull, BirthLimit}
@@ -68,7 +68,7 @@ array_shown w o structs inside u e g n at is same =
     ∙ array_rolled w o structs inside e n at
     ∙ ap (λ (a : CType). braced (array_parts (shown_by w o structs inside a) (extent structs a).size n at)) (sym same)
 
--- a structure inside which others may be
+-- a structure or a union inside which others may be
 pub structure_shown : (w : World) (o : ℕ) (structs : List StructDef) (n id at : ℕ) → 0 < n
-    → structure_text w o structs n id at ≡ braced (member_parts (shown_by w o structs (structure_text w o structs (n - 1))) structs (members_in structs id) beginning at)
+    → structure_text w o structs n id at ≡ braced (member_parts (shown_by w o structs (structure_text w o structs (n - 1))) structs (is_union_in structs id) (members_in structs id) beginning at)
 structure_shown w o structs n id at h = let e : n ≡ suc (n - 1) = omega (arith, h) in ap (λ (m : ℕ). structure_text w o structs m id at) e

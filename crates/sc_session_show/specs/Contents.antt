@@ -1,6 +1,6 @@
--- What an object holds, as it is shown: a scalar by its type, or why it cannot be read; an array or a structure as the list
--- of its parts, of an array the first 16 elements (ANSI 3.1.2.5).
-use Rattle.std.specs.Prelude.{ℕ, zero, suc, ◌+◌, ◌-◌, ◌++◌, ◌==◌, min, if◌then◌else◌, List, [], ◌∷◌, length, Option, Some, None, unwrap_or, codes, decimal}
+-- What an object holds, as it is shown: a scalar by its type, or why it cannot be read; an array, a structure or a union as the
+-- list of its parts, of an array the first 16 elements (ANSI 3.1.2.5).
+use Rattle.std.specs.Prelude.{ℕ, zero, suc, ◌+◌, ◌-◌, ◌++◌, ◌==◌, min, if◌then◌else◌, Bool, true, false, List, [], ◌∷◌, length, Option, Some, None, unwrap_or, codes, decimal}
 use Rattle.sc_base.specs.declared.report.Rule.{Rule}
 use Rattle.sc_base.specs.declared.report.Rule.TheVariants as rule
 use Rattle.sc_types.specs.declared.ctype.CType.{CType, fold-CType, out-CType}
@@ -9,7 +9,7 @@ use Rattle.sc_types.specs.declared.ctype.Signature.{Signature}
 use Rattle.sc_types.specs.declared.ctype.Member.{Member}
 use Rattle.sc_types.specs.declared.ctype.StructDef.{StructDef}
 use Rattle.sc_types.specs.declared.layout.Layout.{Layout}
-use Rattle.sc_types.specs.Layouts.{layout_in, members_in, beginning, joined, rounded}
+use Rattle.sc_types.specs.Layouts.{layout_in, is_union_in, members_in, beginning, joined, rounded}
 use Rattle.sc_types.specs.Tables.{within}
 use Rattle.sc_meaning.specs.Values.{Value, Pointer, is_pointer_type, int_of}
 use Rattle.sc_meaning.specs.World.{World, Object}
@@ -77,11 +77,16 @@ more n = if n == 0 then [] else (codes "more " ++ decimal n) ∷ []
 abbrev pub array_parts : (ℕ → List ℕ) → ℕ → ℕ → ℕ → List (List ℕ)
 array_parts show size n at = elements show size (min n 16) at (more (n - 16))
 
--- members behind those that end at `end.size`
-abbrev pub member_parts : Shows → List StructDef → List Member → Layout → ℕ → List (List ℕ)
-member_parts show structs [] end at = []
-member_parts show structs (m ∷ members) end at =
-    show m.of (at + rounded end.size (extent structs m.of).align) ∷ member_parts show structs members (joined end (extent structs m.of)) at
+-- what the next member of a structure stands behind; each member of a union begins where the first does
+abbrev pub behind_member : Bool → Layout → Layout → Layout
+behind_member false end own = joined false end own
+behind_member true end own = end
+
+-- members behind those that end at `end.size`; the truth value says whether they are those of a union
+abbrev pub member_parts : Shows → List StructDef → Bool → List Member → Layout → ℕ → List (List ℕ)
+member_parts show structs is_union [] end at = []
+member_parts show structs is_union (m ∷ members) end at =
+    show m.of (at + rounded end.size (extent structs m.of).align) ∷ member_parts show structs is_union members (behind_member is_union end (extent structs m.of)) at
 
 -- one level of a type, with what its parts show in their places; `inside` shows structures
 abbrev pub level : World → ℕ → List StructDef → (ℕ → ℕ → List ℕ) → CType-F Shows (Unit {0}) → CType-F CType Signature → Shows
@@ -94,10 +99,11 @@ level w o structs inside _ u t at = codes "?"
 abbrev pub shown_by : World → ℕ → List StructDef → (ℕ → ℕ → List ℕ) → Shows
 shown_by w o structs inside t at = fold-CType Shows (Unit {0}) (λ f u. level w o structs inside f (out-CType u) u) (λ _. tt) t t at
 
--- a structure, where at most n are inside one another
+-- a structure or a union, where at most n are inside one another
 abbrev pub structure_text : World → ℕ → List StructDef → ℕ → ℕ → ℕ → List ℕ
 structure_text w o structs zero id at = codes "{}"
-structure_text w o structs (suc n) id at = braced (member_parts (shown_by w o structs (structure_text w o structs n)) structs (members_in structs id) beginning at)
+structure_text w o structs (suc n) id at =
+    braced (member_parts (shown_by w o structs (structure_text w o structs n)) structs (is_union_in structs id) (members_in structs id) beginning at)
 
 -- An object of type t: no structure is inside itself, so no more are inside one another than there are.
 abbrev pub object_text : World → ℕ → List StructDef → CType → List ℕ

@@ -4,5 +4,4 @@ pub mod Contents
 pub mod Tasks
 pub mod Places
 pub mod Visible
-pub mod Numbers
 pub mod Listings

@@ -9,7 +9,7 @@ use Rattle.sc_core.specs.declared.module.Fun.{Fun}
 use Rattle.sc_meaning.specs.Versions.{Text}
 use Rattle.sc_session_texts.specs.Words.{key_text}
 use Rattle.sc_session_show.specs.Lines.{answer_line}
-use Rattle.sc_session_show.specs.Numbers.{key_eq}
+use Rattle.sc_core_held.specs.Numbers.{key_eq}
 
 abbrev pub form_text : Form → List ℕ
 form_text form.Source = codes "source"

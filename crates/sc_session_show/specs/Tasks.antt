@@ -12,7 +12,7 @@ shows s n = shown_by s.world.now s.object s.structs.now (structure_text s.world.
 abbrev pub said : Scene → Task → List ℕ
 said s (task.Part t at n) = shows s n t.now at
 said s (task.Elements t run n) = behind (elements (shows s n t.now) run.size run.left run.at (more run.more))
-said s (task.Members ms end at n) = behind (member_parts (shows s n) s.structs.now ms.now end at)
+said s (task.Members is_union ms end at n) = behind (member_parts (shows s n) s.structs.now is_union ms.now end at)
 
 abbrev pub said_all : Scene → List Task → List ℕ
 said_all s [] = []

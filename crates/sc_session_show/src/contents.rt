@@ -1,10 +1,10 @@
 // What an object holds.
 ghost use Rattle.std.specs.Prelude.{◌≡◌, ◌+◌, ◌++◌, Some, IfOk, OnOk};
-ghost use Rattle.sc_types.specs.Layouts.{beginning, joined as joined_layout, rounded as multiple_from};
+ghost use Rattle.sc_types.specs.Layouts.{beginning, is_union_in, rounded as multiple_from};
 ghost use Rattle.sc_session_show.specs.Contents as spec;
 ghost use Rattle.sc_session_show.specs.Tasks.{said, said_all, shows};
 
-use crate::layouts::{BEGINNING, extent, joined, rounded, sum};
+use crate::layouts::{BEGINNING, behind_member, extent, rounded, sum};
 use crate::tasks::{Run, Scene, Task};
 use sc_base::{NoMemory, Rule, Stack};
 use sc_interp_access::{Stop, int_of, is_pointer_type, loaded};
@@ -137,6 +137,7 @@ fn put_array<'a>(
 // A member, and those behind it.
 fn push_member<'a>(
     s: &Scene<'a>,
+    is_union: bool,
     m: &'a Member,
     rest: &'a [Member],
     end: Layout,
@@ -144,12 +145,12 @@ fn push_member<'a>(
     n: usize,
     tasks: &mut Stack<Task<'a>>,
 ) -> Result<(), NoMemory>
-    ensures { OnOk result (said_all s.now tasks.new ≡ shows s.now n m.now.of (at + multiple_from end.size (spec.extent s.now.structs.now m.now.of).align) ++ (spec.behind (spec.member_parts (shows s.now n) s.now.structs.now rest.now (joined_layout end (spec.extent s.now.structs.now m.now.of)) at) ++ said_all s.now tasks.old)) }
+    ensures { OnOk result (said_all s.now tasks.new ≡ shows s.now n m.now.of (at + multiple_from end.size (spec.extent s.now.structs.now m.now.of).align) ++ (spec.behind (spec.member_parts (shows s.now n) s.now.structs.now is_union rest.now (spec.behind_member is_union end (spec.extent s.now.structs.now m.now.of)) at) ++ said_all s.now tasks.old)) }
 {
     let own = extent(&m.of, s.structs);
     let place = sum(at, rounded(end.size, own.align)?)?;
-    let end = joined(end, own)?;
-    tasks.push(Task::Members(rest, end, at, n))?;
+    let end = behind_member(is_union, end, own)?;
+    tasks.push(Task::Members(is_union, rest, end, at, n))?;
     tasks.push(Task::Part(&m.of, place, n))?;
     Ok(())
 }
@@ -158,6 +159,7 @@ fn push_member<'a>(
 #[tactic(auto, using(crate::proofs::ContentLemmas::two))]
 fn put_members<'a>(
     s: &Scene<'a>,
+    is_union: bool,
     members: &'a [Member],
     end: Layout,
     at: u32,
@@ -165,13 +167,13 @@ fn put_members<'a>(
     text: &mut Vec<u8>,
     tasks: &mut Stack<Task<'a>>,
 ) -> Result<(), NoMemory>
-    ensures { OnOk result (text.new.items ++ said_all s.now tasks.new ≡ text.old.items ++ spec.behind (spec.member_parts (shows s.now n) s.now.structs.now members.now end at) ++ said_all s.now tasks.old) }
+    ensures { OnOk result (text.new.items ++ said_all s.now tasks.new ≡ text.old.items ++ spec.behind (spec.member_parts (shows s.now n) s.now.structs.now is_union members.now end at) ++ said_all s.now tasks.old) }
 {
     match members {
         [] => put(text, b"}"),
         [m, rest @ ..] => {
             put(text, b", ")?;
-            push_member(s, m, rest, end, at, n, tasks)
+            push_member(s, is_union, m, rest, end, at, n, tasks)
         }
     }
 }
@@ -180,19 +182,20 @@ fn put_members<'a>(
 #[tactic(auto, using(crate::proofs::ContentLemmas::two))]
 fn put_first<'a>(
     s: &Scene<'a>,
+    is_union: bool,
     members: &'a [Member],
     at: u32,
     n: usize,
     text: &mut Vec<u8>,
     tasks: &mut Stack<Task<'a>>,
 ) -> Result<(), NoMemory>
-    ensures { OnOk result (text.new.items ++ said_all s.now tasks.new ≡ text.old.items ++ spec.braced (spec.member_parts (shows s.now n) s.now.structs.now members.now beginning at) ++ said_all s.now tasks.old) }
+    ensures { OnOk result (text.new.items ++ said_all s.now tasks.new ≡ text.old.items ++ spec.braced (spec.member_parts (shows s.now n) s.now.structs.now is_union members.now beginning at) ++ said_all s.now tasks.old) }
 {
     match members {
         [] => put(text, b"{}"),
         [m, rest @ ..] => {
             put(text, b"{")?;
-            push_member(s, m, rest, BEGINNING, at, n, tasks)
+            push_member(s, is_union, m, rest, BEGINNING, at, n, tasks)
         }
     }
 }
@@ -210,8 +213,9 @@ fn put_structure<'a>(
     if n == 0 {
         return put(text, b"{}");
     }
+    let is_union = s.structs.is_union(id);
     let members = s.structs.members(id);
-    put_first(s, members, at, n - 1, text, tasks)
+    put_first(s, is_union, members, at, n - 1, text, tasks)
 }
 
 fn put_scalar(
@@ -260,7 +264,9 @@ fn put_task<'a>(
     match task {
         Task::Part(t, at, n) => put_part(s, t, at, n, alloc, text, tasks),
         Task::Elements(t, run, n) => put_elements(s, t, run, n, alloc, text, tasks),
-        Task::Members(members, end, at, n) => put_members(s, members, end, at, n, text, tasks),
+        Task::Members(is_union, members, end, at, n) => {
+            put_members(s, is_union, members, end, at, n, text, tasks)
+        }
     }
 }
 

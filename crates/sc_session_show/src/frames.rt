@@ -5,7 +5,7 @@ ghost use Rattle.sc_session_show.specs.Lines.{answer_line};
 
 use sc_base::{Bytes, NoMemory};
 use sc_core::Fun;
-use sc_interp_parts::Text;
+use sc_core_held::Text;
 use sc_interp_world::{Frame, World};
 use sc_session_texts::{put, put_decimal, put_key};
 use std::alloc::Global;

@@ -1,12 +1,12 @@
 // Where the parts of an object stand (ANSI 3.5.2.1).
-ghost use Rattle.std.specs.Prelude.{◌≡◌, ◌+◌, ◌*◌, IfOk};
+ghost use Rattle.std.specs.Prelude.{◌≡◌, ◌+◌, ◌*◌, false, IfOk};
 ghost use Rattle.sc_types.specs.Layouts.{rounded as multiple_from, joined as joined_layout};
 ghost use Rattle.sc_session_show.specs.Contents as spec;
 
 use sc_base::NoMemory;
 use sc_types::{CType, Layout, Structs, align_of, is_object, size_of};
 
-/// The layout before the first member of a structure.
+/// The layout before the first member of a structure or a union.
 pub(crate) const BEGINNING: Layout = Layout { size: 0, align: 1 };
 
 /// The layout of a type's objects; a type that has none takes no room.
@@ -53,13 +53,23 @@ pub(crate) fn rounded(place: u32, align: u32) -> Result<u32, NoMemory>
     product(end / align, align)
 }
 
-/// One more member behind those with a layout.
-pub(crate) fn joined(before: Layout, own: Layout) -> Result<Layout, NoMemory>
-    ensures { IfOk result (λ l. l ≡ joined_layout before own) }
+/// One more member of a structure, behind those with a layout.
+fn joined(before: Layout, own: Layout) -> Result<Layout, NoMemory>
+    ensures { IfOk result (λ l. l ≡ joined_layout false before own) }
 {
     let at = rounded(before.size, own.align)?;
     Ok(Layout {
         size: sum(at, own.size)?,
         align: before.align.max(own.align),
     })
+}
+
+/// What the next member of a structure stands behind; each member of a union begins where the first does.
+pub(crate) fn behind_member(is_union: bool, end: Layout, own: Layout) -> Result<Layout, NoMemory>
+    ensures { IfOk result (λ l. l ≡ spec.behind_member is_union end own) }
+{
+    if is_union {
+        return Ok(end);
+    }
+    joined(end, own)
 }

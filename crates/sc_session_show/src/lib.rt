@@ -6,11 +6,9 @@ mod frames;
 mod layouts;
 mod listing;
 mod names;
-mod numbers;
 mod places;
 mod tasks;
 
 pub use frames::where_lines;
 pub use listing::{fun_lines, module_lines};
 pub use names::{Seen, print_line, visible};
-pub use numbers::Numbers;

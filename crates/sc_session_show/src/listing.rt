@@ -3,11 +3,10 @@ ghost use Rattle.std.specs.Prelude.{◌≡◌, ◌+◌, ◌++◌, ◌∷◌, [],
 ghost use Rattle.sc_session_show.specs.Listings as spec;
 
 use crate::frames::put_line;
-use crate::numbers::{Numbers, insert};
 use indexmap::IndexSet;
 use sc_base::{Bytes, Duplicate, Form, Key, Name, NoMemory, Shared};
 use sc_core::Fun;
-use sc_interp_parts::Text;
+use sc_core_held::{Numbers, Text, insert_key};
 use sc_session_texts::{put, put_decimal, put_key};
 use std::alloc::Global;
 
@@ -68,7 +67,7 @@ fn add_function(
     ensures { OnOk result (keys.new.keys ≡ spec.with_functions home.now keys.old.keys (f.now ∷ [])) }
 {
     let key = defined_key(alloc, home, f)?;
-    insert(keys, key)
+    insert_key(keys, key)
 }
 
 fn add_functions(

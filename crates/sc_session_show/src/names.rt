@@ -11,11 +11,11 @@ use crate::places::{Place, autos_in, place_in};
 use crate::tasks::Scene;
 use sc_base::{Bytes, Duplicate, Items, Key, Name, NoMemory};
 use sc_core::{Auto, Core, Declared, Fun, StaticObj};
+use sc_core_held::{Definition, Text, object_in};
 use sc_core_names::{
     DeclaredName, Entity, FunctionScopes, ModuleScopes, Scopes, entity_in, function_named,
     scopes_of_module, statics_named,
 };
-use sc_interp_parts::{Definition, Text, object_in};
 use sc_interp_world::{Born, Frame, World, same_id};
 use sc_program::StaticId;
 use sc_session_texts::{put, put_decimal};

@@ -27,6 +27,6 @@ pub enum Task<'a> {
     Part(&'a CType, u32, usize),
     /// The elements behind the first one.
     Elements(&'a CType, Run, usize),
-    /// The members behind those that have this layout, and where the structure stands.
-    Members(&'a [Member], Layout, u32, usize),
+    /// Whether they are those of a union, the members behind those that have this layout, and where the whole stands.
+    Members(bool, &'a [Member], Layout, u32, usize),
 }

@@ -4,8 +4,8 @@ use Rattle.std.specs.Fmt.{signed_decimal}
 use Rattle.sc_base.specs.declared.integer.Int.TheVariants.{Int as PlainInt}
 use Rattle.sc_ops.specs.Numbers.{number_of}
 use Rattle.sc_meaning.specs.World.{World}
-use Rattle.sc_interp.specs.declared.running.Ended.{Ended}
-use Rattle.sc_interp.specs.declared.running.Ended.TheVariants as ended
+use Rattle.sc_interp_access.specs.declared.ended.Ended.{Ended}
+use Rattle.sc_interp_access.specs.declared.ended.Ended.TheVariants as ended
 use Rattle.sc_session_texts.specs.Words.{key_text}
 use Rattle.sc_session_texts.specs.Breaches.{breach_text}
 

@@ -9,8 +9,7 @@ ghost use Rattle.sc_session_texts.specs.Ends as spec;
 use crate::breach::breach_text;
 use crate::word::{put, put_key, put_signed};
 use sc_base::{Int, Key, NoMemory};
-use sc_interp::Ended;
-use sc_interp_access::number_of;
+use sc_interp_access::{Ended, number_of};
 use sc_interp_world::World;
 use std::alloc::Global;
 

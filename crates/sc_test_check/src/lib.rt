@@ -11,6 +11,8 @@ mod declarations;
 #[cfg(test)]
 mod initials;
 #[cfg(test)]
+mod jumps;
+#[cfg(test)]
 mod limits;
 #[cfg(test)]
 mod modules;
@@ -26,3 +28,5 @@ mod sizes;
 mod statements;
 #[cfg(test)]
 mod tests;
+#[cfg(test)]
+mod unions;

@@ -118,7 +118,17 @@ static int i; => declared m:i defined at 1
 extern int i; => declared i at 1
 int@i; => declared i defined at 2
 void f(void) {@extern int@i; } => declared i at 3
-struct s { int m, n; }; int *p = &((struct s *)0)->m; => object p 00000000";
+struct s { int m, n; }; int *p = &((struct s *)0)->m; => object p 00000000
+int i = sizeof(union { char c[5]; int i; }); => object i 08000000
+union u { char c; int i; }; int i = 1 + __offsetof(union u, i); => object i 01000000
+union { char c[5]; int i; } x; => object x 0000000000000000
+union u { char c[2]; int i; } x = { { 1 } }; => object x 01000000
+union { char c; short h; } a[2] = { 1, 2 }; => object a 01000200
+struct s { union { char c; int i; } u; char n; } x = { { 1 }, 2 }; => object x 0100000002000000
+struct { char c; union { char a[3]; short h; } u; } x = { 1, { { 2 } } }; => object x 010002000000
+struct s { int m; union { char c; int i; } u; } x; int *p = &x.u.i; => object p <x+4>
+union { int *p; char c; } x = { 0 }; int **q = &x.p; => object q <x+0>
+union u { int i; char c[5]; }; void f(void) { union u x; } => function f 32 | | 0+8";
 
 fn holds(all: &[Bytes], wanted: &[u8]) -> bool {
     for line in all {

@@ -3,11 +3,13 @@ use crate::answers::{checked, is_answer, with_lines};
 use crate::constants::CONSTANTS;
 use crate::declarations::DECLARATIONS;
 use crate::initials::INITIALS;
+use crate::jumps::JUMPS;
 use crate::names::NAMES;
 use crate::operands::OPERANDS;
 use crate::operators::OPERATORS;
 use crate::sizes::SIZES;
 use crate::statements::STATEMENTS;
+use crate::unions::UNIONS;
 use sc_base::NoMemory;
 use std::alloc::Global;
 use std::test::Fail;
@@ -108,6 +110,24 @@ fn names(rt: HostRuntime) -> Result<(), Fail> {
 fn statements(rt: HostRuntime) -> Result<(), Fail> {
     let alloc = rt.alloc();
     for line in STATEMENTS.lines() {
+        assert!(rt; is_right_unit(alloc, line), "{line}");
+    }
+    Ok(())
+}
+
+#[test]
+fn jumps(rt: HostRuntime) -> Result<(), Fail> {
+    let alloc = rt.alloc();
+    for line in JUMPS.lines() {
+        assert!(rt; is_right_unit(alloc, line), "{line}");
+    }
+    Ok(())
+}
+
+#[test]
+fn unions(rt: HostRuntime) -> Result<(), Fail> {
+    let alloc = rt.alloc();
+    for line in UNIONS.lines() {
         assert!(rt; is_right_unit(alloc, line), "{line}");
     }
     Ok(())

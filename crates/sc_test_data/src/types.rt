@@ -117,7 +117,11 @@ fn declare(alloc: Global, rt: &impl Abort, s: &mut Structs, text: &str) -> Resul
     let Some((name, list)) = text.split_once(':') else {
         return Err("a structure")?;
     };
-    s.declare(tag(alloc, name)?)?;
+    let (name, is_union) = match name.split_once('+') {
+        Some((_, name)) => (name, true),
+        None => (name, false),
+    };
+    s.declare(tag(alloc, name)?, is_union)?;
     if !list.is_empty() {
         complete(rt, s, id, members(alloc, list)?);
     }
@@ -163,6 +167,20 @@ fn a_structure(rt: HostRuntime) -> Result<(), Fail> {
     assert_eq!(rt; align_of(&t, &s), 4);
     for (member, place) in [(0, 0), (1, 4), (2, 8)] {
         assert_eq!(rt; offset(&rt, &s, member), place, "member {member}");
+    }
+    Ok(())
+}
+
+// In a union each member begins at 0, and the size is the greatest member's, rounded up.
+#[test]
+fn a_union(rt: HostRuntime) -> Result<(), Fail> {
+    let s = unit(rt.alloc(), &rt, "+:c=c5,i=i,s=h")?;
+    let t = CType::Struct(0, false);
+    assert!(rt; s.is_union(0) && is_object(&t, &s));
+    assert_eq!(rt; size_of(&t, &s), 8);
+    assert_eq!(rt; align_of(&t, &s), 4);
+    for member in [0, 1, 2] {
+        assert_eq!(rt; offset(&rt, &s, member), 0, "member {member}");
     }
     Ok(())
 }

@@ -229,8 +229,8 @@ fn completed(
 // One structure with a member, and one that is incomplete.
 fn unit(alloc: Global, rt: &impl Abort) -> Result<Structs, Fail> {
     let mut s = Structs::new(alloc);
-    s.declare(None)?;
-    s.declare(None)?;
+    s.declare(None, false)?;
+    s.declare(None, false)?;
     assert_eq!(rt; completed(alloc, &mut s)?, ("taken", "X7", "taken"));
     Ok(s)
 }
@@ -344,12 +344,16 @@ fn numbers(rt: HostRuntime) {
 
 #[test]
 fn tags_and_places(rt: HostRuntime) {
-    assert_eq!(rt; structure_tag(None), StructureTag::New);
-    assert_eq!(rt;
-        structure_tag(Some(Tag::Structure(3))),
-        StructureTag::Known(3)
-    );
-    assert_eq!(rt; structure_tag(Some(Tag::Enumeration)), StructureTag::Other);
+    assert_eq!(rt; structure_tag(false, None), StructureTag::New);
+    for (asked, there, answer) in [
+        (false, Tag::Structure(3, false), StructureTag::Known(3)),
+        (true, Tag::Structure(3, true), StructureTag::Known(3)),
+        (false, Tag::Structure(3, true), StructureTag::Other),
+        (true, Tag::Structure(3, false), StructureTag::Other),
+        (true, Tag::Enumeration, StructureTag::Other),
+    ] {
+        assert_eq!(rt; structure_tag(asked, Some(there)), answer, "{there:?}");
+    }
     assert_eq!(rt; taken(enumeration_tag(1, Some(Tag::Enumeration))), "taken");
     assert_eq!(rt; taken(enumeration_tag(1, None)), "X7");
     assert!(rt; may_stand(Place::Block, Some(Storage::Auto)));

@@ -8,7 +8,7 @@ use std::process::Abort;
 use std::test::Fail;
 
 // A type (`i` int, `c` char, what is made of it: a digit an array of so many, 0 of unknown size; `x` a structure of char and int,
-// `y` one of x, char [4] and int, `z` one of int [3] and int), the items of its list (`e` an expression, `s` a string), and
+// `y` one of x, char [4] and int, `z` one of int [3] and int, `u` a union of char [2] and int, `w` a structure of it and int), the items of its list (`e` an expression, `s` a string), and
 // what they do: the offset of a place, `z`, an offset and a count for bytes that are zero, `=` and how many places of the list have items;
 // or why the list is refused.
 const LISTS: &str = "\
@@ -28,13 +28,25 @@ y {{e}s} 0 z1.7 =1 8 z12.4 =2
 y {eeeeeee} 0 4 8 9 10 11 12 =3
 y {eeeeeeee} 0 4 8 9 10 11 12 X7
 c40 {ss} 0 4 =2
-c4 {eees} 0 1 2 3 =4";
+c4 {eees} 0 1 2 3 =4
+u {e} 0 z1.1 =1
+u {ee} 0 1 =1
+u {eee} 0 1 X7
+u {{ee}} 0 1 =2 =1
+u {{e}e} 0 z1.1 =1 X7
+u {} z0.4 =0
+u2 {e} 0 z1.1 z4.4 =1
+u2 {eee} 0 1 4 z5.1 =2
+w {s} 0 z4.4 =1
+w {{s}e} 0 =1 4 =2";
 
 fn derived(alloc: Global, of: CType, letter: u8) -> Result<CType, NoMemory> {
     match letter {
         b'i' => Ok(CType::Int(Int::Int, false)),
         b'c' => Ok(CType::Int(Int::Char, false)),
         b'x'..=b'z' => Ok(CType::Struct(u32::from(letter - b'x'), false)),
+        b'u' => Ok(CType::Struct(3, false)),
+        b'w' => Ok(CType::Struct(4, false)),
         _ => Ok(CType::Array(
             Shared::new(alloc, of)?,
             u32::from(letter.saturating_sub(b'0')),
@@ -76,8 +88,14 @@ fn complete(rt: &impl Abort, s: &mut Structs, id: u32, members: Items<Member>) {
 
 fn unit(alloc: Global, rt: &impl Abort) -> Result<Structs, Fail> {
     let mut s = Structs::new(alloc);
-    for (id, text) in [(0, "c i"), (1, "x c4 i"), (2, "i3 i")] {
-        s.declare(None)?;
+    for (id, text) in [
+        (0, "c i"),
+        (1, "x c4 i"),
+        (2, "i3 i"),
+        (3, "c2 i"),
+        (4, "u i"),
+    ] {
+        s.declare(None, id == 3)?;
         complete(rt, &mut s, id, members(alloc, text)?);
     }
     Ok(s)

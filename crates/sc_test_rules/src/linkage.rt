@@ -196,7 +196,7 @@ fn all(alloc: Global, unit: &mut Unit, text: &str) -> Result<CType, Failure> {
 
 fn empty(alloc: Global) -> Result<Unit, NoMemory> {
     let mut structs = Structs::new(alloc);
-    structs.declare(None)?;
+    structs.declare(None, false)?;
     Ok(Unit {
         structs,
         links: Links::new(alloc),

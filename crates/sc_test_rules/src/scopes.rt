@@ -16,8 +16,8 @@ fn named(alloc: Global, text: &[u8]) -> Result<Name, CheckFault> {
 fn tags(alloc: Global) -> Result<(usize, bool), CheckFault> {
     let mut st = State::new(alloc);
     let s = named(alloc, b"s")?;
-    structure_named(alloc, &mut st, 1, &s)?;
-    structure_named(alloc, &mut st, 2, &s)?;
+    structure_named(alloc, &mut st, 1, false, &s)?;
+    structure_named(alloc, &mut st, 2, false, &s)?;
     let wrong = enumeration_named(&st, 3, &s).is_err();
     Ok((st.structs.as_slice().len(), wrong))
 }

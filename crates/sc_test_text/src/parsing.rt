@@ -94,6 +94,12 @@ const NESTS: &[(u32, &str, [&str; 5])] = &[
         "height",
         ["void f(void) {", "while (x) ", "{}", "", "}"],
     ),
+    (1499, "height", ["void f(void) {", "a: ", ";", "", "}"]),
+    (
+        1499,
+        "height",
+        ["void f(void) { typedef int T; ", "T: ", ";", "", "}"],
+    ),
     (127, "height", ["void f(void) ", "{", "", "}", ""]),
     (500, "height", ["int x = ", "(", "1", ")", ";"]),
     (499, "height", ["int x[] = {", "{", "1", "}", "};"]),
@@ -138,6 +144,36 @@ fn limits(rt: HostRuntime) -> Result<(), Fail> {
             is_nest_read_as(alloc, beyond, parts, word),
             "{most} {word}"
         );
+    }
+    Ok(())
+}
+
+/// Lists of 31 elements and a wrong token behind them; with one element more the limit is named and not the token.
+const CROWDS: &[[&str; 5]] = &[
+    ["int x = g(", "1, ", "1", "", "];"],
+    ["int x = g(", "1, ", "1", "", ";"],
+    ["int x = g(", "1, ", "1", "", ": 2);"],
+    ["int x = g(", "1, ", "1", "", ""],
+    ["int x = g(", "1, ", "1", "", " y);"],
+    ["int x = g(", "1, ", "a + b", "", " = c);"],
+    ["int x = g(", "1, ", "sizeof (int)", "", "[1]);"],
+    ["int x = g(", "1, ", "a", "", " \"b\");"],
+    ["int x[g(", "1, ", "1", "", "];"],
+    ["int g(", "int a, ", "int b", "", "];"],
+    ["int g(", "int, ", "int", "", ";"],
+    ["int g(", "int, ", "int *", "", "}"],
+    ["int g(", "int, ", "int (*)(void)", "", ":"],
+    ["int g(", "int, ", "register int", "", " static);"],
+    ["int g(", "int, ", "struct s", "", ""],
+];
+
+#[test]
+fn crowds(rt: HostRuntime) -> Result<(), Fail> {
+    let alloc = rt.alloc();
+    for parts in CROWDS {
+        let text = parts[4];
+        assert!(rt; is_nest_read_as(alloc, 30, parts, "5"), "{text}");
+        assert!(rt; is_nest_read_as(alloc, 31, parts, "arguments"), "{text}");
     }
     Ok(())
 }

@@ -154,7 +154,8 @@ const UNITS: &[(&str, &str)] = &[
     ("a\n/*\n#error", "X1 m.c:2"),
     ("#if 0\n/*", "X2 m.c:1"),
     ("#if 0\n#endif\n/*", "X1 m.c:3"),
-    ("#define f(x) x\nf(1 /*", "X1 m.c:2"),
+    ("#define f(x) x\nf(1 /*", "X3 m.c:2"),
+    ("#define f(x) x\nf(1) /*", "X1 m.c:2"),
 ];
 
 fn files(alloc: Global, unit: &str) -> Result<MemFiles, AllocError> {

@@ -1,5 +1,5 @@
 -- What has a layout keeps it as more structures become complete.
-use Rattle.std.proofs.Common.{◌≡◌, ℕ, zero, suc, ◌≤◌, List, [], ◌∷◌, Option, Some, None, refl, sym, ◌∙◌, ap, subst, arith}
+use Rattle.std.proofs.Common.{◌≡◌, Bool, ℕ, zero, suc, ◌≤◌, List, [], ◌∷◌, Option, Some, None, refl, sym, ◌∙◌, ap, subst, arith}
 use Rattle.std.specs.Prelude.{slice_get, option_map, option_and_then}
 use Rattle.sc_types.specs.declared.ctype.CType.{CType, fold-roll-CType, ind-CType, map-CType}
 use Rattle.sc_types.specs.declared.ctype.Signature.{Signature, fold-Signature}
@@ -46,10 +46,10 @@ module _ (f g : ℕ → Option Layout) (fg : Extends ℕ f g) where
       fold-roll-CType (Option Layout) (Unit {0}) (layer g) (λ _. tt) x ∙ all l (sym (fold-roll-CType (Option Layout) (Unit {0}) (layer f) (λ _. tt) x) ∙ h))
       (λ x y is. tt)
 
-members_from-kept : (f g : CType → Option Layout) → Extends CType f g → (ms : List Member) (b : Layout) → Kept (members_from f ms b) (members_from g ms b)
-members_from-kept f g fg [] b l h = h
-members_from-kept f g fg (m ∷ ms) b l h = elim (f m.of) as (λ (o : Option Layout). f m.of ≡ o → option_and_then (λ own. members_from f ms (joined b own)) o ≡ Some l → members_from g (m ∷ ms) b ≡ Some l)
-    [ None ↦ (λ e w. cc) | (Some own) ↦ (λ e w. rw (fg m.of own e) (members_from-kept f g fg ms (joined b own) l w)) ] refl h
+members_from-kept : (u : Bool) (f g : CType → Option Layout) → Extends CType f g → (ms : List Member) (b : Layout) → Kept (members_from u f ms b) (members_from u g ms b)
+members_from-kept u f g fg [] b l h = h
+members_from-kept u f g fg (m ∷ ms) b l h = elim (f m.of) as (λ (o : Option Layout). f m.of ≡ o → option_and_then (λ own. members_from u f ms (joined u b own)) o ≡ Some l → members_from u g (m ∷ ms) b ≡ Some l)
+    [ None ↦ (λ e w. cc) | (Some own) ↦ (λ e w. rw (fg m.of own e) (members_from-kept u f g fg ms (joined u b own) l w)) ] refl h
 
 pub bound : {A B : Type 0} (k : A → Option B) (o : Option A) (b : B) → option_and_then k o ≡ Some b → (a : A) × ((o ≡ Some a) × (k a ≡ Some b))
 bound k None b h = cc
@@ -64,23 +64,24 @@ pub record Laid (f : CType → Option Layout) (d : StructDef) (l : Layout) : Typ
   pub members : List Member
   pub is : d.members ≡ Some members
   pub end : Layout
-  pub ends : members_from f members beginning ≡ Some end
+  pub ends : members_from d.is_union f members beginning ≡ Some end
   pub whole : padded end ≡ l
 
 pub structure-laid : (f : CType → Option Layout) (d : StructDef) (l : Layout) → structure f d ≡ Some l → Laid f d l
 structure-laid f d l h =
-    let r = bound (λ (ms : List Member). option_map padded (members_from f ms beginning)) d.members l h in
-    let q = mapped padded (members_from f r.0 beginning) l r.1.1 in
+    let r = bound (λ (ms : List Member). option_map padded (members_from d.is_union f ms beginning)) d.members l h in
+    let q = mapped padded (members_from d.is_union f r.0 beginning) l r.1.1 in
     record { members = r.0; is = r.1.0; end = q.0; ends = q.1.0; whole = q.1.1 }
 
-pub structure-kept : (f g : CType → Option Layout) → Extends CType f g → (d e : StructDef) (l : Layout) → ((ms : List Member) → d.members ≡ Some ms → e.members ≡ Some ms) → structure f d ≡ Some l → structure g e ≡ Some l
-structure-kept f g fg d e l same h =
+pub structure-kept : (f g : CType → Option Layout) → Extends CType f g → (d e : StructDef) (l : Layout) → e.is_union ≡ d.is_union → ((ms : List Member) → d.members ≡ Some ms → e.members ≡ Some ms)
+    → structure f d ≡ Some l → structure g e ≡ Some l
+structure-kept f g fg d e l kind same h =
     let r = structure-laid f d l h in
-    rw (same r.members r.is) (rw (members_from-kept f g fg r.members beginning r.end r.ends) (ap Some r.whole))
+    rw (same r.members r.is) (rw kind (rw (members_from-kept d.is_union f g fg r.members beginning r.end r.ends) (ap Some r.whole)))
 
--- a structure that is complete in the first table has the same members in the second
+-- what is complete in the first table has the same members in the second, and is a union there too or in neither
 abbrev pub Grows : List StructDef → List StructDef → Type 0
-Grows s t = (id : ℕ) (d : StructDef) (ms : List Member) → slice_get s id ≡ Some d → d.members ≡ Some ms → (e : StructDef) × ((slice_get t id ≡ Some e) × (e.members ≡ Some ms))
+Grows s t = (id : ℕ) (d : StructDef) (ms : List Member) → slice_get s id ≡ Some d → d.members ≡ Some ms → (e : StructDef) × ((slice_get t id ≡ Some e) × ((e.members ≡ Some ms) × (e.is_union ≡ d.is_union)))
 
 pub structure_layout-kept : (s t : List StructDef) → Grows s t → (n m : ℕ) → n ≤ m → Extends ℕ (structure_layout n s) (structure_layout m t)
 structure_layout-kept s t st zero m le id l h = cc
@@ -91,4 +92,4 @@ structure_layout-kept s t st (suc n) (suc m) le id l h =
     let q = structure-laid (layout_by (structure_layout n s)) r.0 l r.1.1 in
     let e = st id r.0 q.members r.1.0 q.is in
     rw e.1.0 (structure-kept (layout_by (structure_layout n s)) (layout_by (structure_layout m t)) (layout_by-kept (structure_layout n s) (structure_layout m t) below) r.0 e.0 l
-    (λ ms w. let same : Some q.members ≡ Some ms = sym q.is ∙ w in e.1.1 ∙ same) r.1.1)
+    e.1.1.1 (λ ms w. let same : Some q.members ≡ Some ms = sym q.is ∙ w in e.1.1.0 ∙ same) r.1.1)

@@ -24,7 +24,7 @@ no_members structs (suc n) id none = elim (slice_get structs id) as (λ (o : Opt
 -- at each bound from the number of complete structures on, the layouts are those that the table keeps
 pub entry-is : (structs : List StructDef) (layouts : List (Option Layout)) → IsTable structs layouts → (n : ℕ) → complete_count structs ≤ n → (id : ℕ) → entry layouts id ≡ structure_layout n structs id
 entry-is structs layouts table n le id = elim (entry layouts id) as (λ (o : Option Layout). entry layouts id ≡ o → o ≡ structure_layout n structs id) [
-  | (Some l) ↦ (λ e. sym (structure_layout-kept structs structs (λ i d ms p q. (d, (p, q))) (complete_count structs) n le id l (table.found id l e)))
+  | (Some l) ↦ (λ e. sym (structure_layout-kept structs structs (λ i d ms p q. (d, (p, (q, refl)))) (complete_count structs) n le id l (table.found id l e)))
   | None ↦ (λ e. sym (no_members structs n id (λ d p. elim d.members as (λ o. d.members ≡ o → o ≡ None) [
     | None ↦ (λ q. refl)
     | (Some ms) ↦ (λ q. let w : is_some (entry layouts id) ≡ true = table.whole id d p (ap is_some q) in
@@ -72,7 +72,7 @@ table_room structs layouts table = record {
 pub table_declare : (structs : List StructDef) (layouts : List (Option Layout)) (d : StructDef) → d.members ≡ None → IsTable structs layouts → IsTable (structs ++ d ∷ []) (layouts ++ None ∷ [])
 table_declare structs layouts d none table = record {
   room = omega (arith, table.room, length-append layouts (None ∷ []), length-append structs (d ∷ []));
-  found = λ id l e. structure_layout-kept structs (structs ++ d ∷ []) (λ i s ms p q. (s, (get-push_left structs d s i p, q))) (complete_count structs) (complete_count (structs ++ d ∷ []))
+  found = λ id l e. structure_layout-kept structs (structs ++ d ∷ []) (λ i s ms p q. (s, (get-push_left structs d s i p, (q, refl)))) (complete_count structs) (complete_count (structs ++ d ∷ []))
       (omega (arith, sum_by_push (λ (s : StructDef). cond (has_members s) 1 0) structs d)) id l (table.found id l (sym (entry-push layouts id) ∙ e));
   whole = λ id s p m. ⊎_elim (λ q. ap is_some (entry-push layouts id) ∙ table.whole id s q m)
       (λ (q : d ≡ s). let w : false ≡ true = sym (ap is_some none) ∙ ap has_members q ∙ m in cc) (get-push structs d s id p);
@@ -110,7 +110,7 @@ module _ (structs : List StructDef) (layouts : List (Option Layout)) (table : Is
 
   grows-after : Grows structs after
   grows-after j s ss p q = ⊎_elim (λ (w : j ≡ id). let same : Some s ≡ Some d = sym p ∙ ap (slice_get structs) w ∙ there in let bad : Some ss ≡ None = sym q ∙ let es : s ≡ d = cc in ap (λ (x : StructDef). x.members) es ∙ none in cc)
-      (λ (w : j ≢ id). (s, (get-set_other structs id j filled w ∙ p, q))) (same_or_not j id)
+      (λ (w : j ≢ id). (s, (get-set_other structs id j filled w ∙ p, (q, refl)))) (same_or_not j id)
 
   count-suc : complete_count after ≡ suc (complete_count structs)
   count-suc = count-after ∙ add-one (complete_count structs)
@@ -119,14 +119,14 @@ module _ (structs : List StructDef) (layouts : List (Option Layout)) (table : Is
   extends-after j l h = structure_layout-kept structs after grows-after (complete_count structs) (complete_count structs) (omega arith) j l
       (table.found j l (entry-length structs layouts table j ∙ h))
 
-  filled-layout : (l : Layout) → structure (layout_in structs) (record { tag = None; members = Some ms }) ≡ Some l → structure_layout (complete_count after) after id ≡ Some l
+  filled-layout : (l : Layout) → structure (layout_in structs) (record { tag = None; members = Some ms; is_union = d.is_union }) ≡ Some l → structure_layout (complete_count after) after id ≡ Some l
   filled-layout l h =
       let g = structure-kept (layout_in structs) (layout_by (structure_layout (complete_count structs) after)) (layout_by-kept (structure_layout (length structs) structs) (structure_layout (complete_count structs) after) extends-after)
-      (record { tag = None; members = Some ms }) filled l (λ ss w. w) h in
+      (record { tag = None; members = Some ms; is_union = d.is_union }) filled l refl (λ ss w. w) h in
       let w : structure_layout (suc (complete_count structs)) after id ≡ Some l = rw (get-set_same structs id d filled there) g in
       subst (λ (n : ℕ). structure_layout n after id ≡ Some l) (sym count-suc) w
 
-  module _ (l : Layout) (small : IsSmall l) (h : structure (layout_in structs) (record { tag = None; members = Some ms }) ≡ Some l) where
+  module _ (l : Layout) (small : IsSmall l) (h : structure (layout_in structs) (record { tag = None; members = Some ms; is_union = d.is_union }) ≡ Some l) where
     entry-same : entry (set layouts id (Some l)) id ≡ Some l
     entry-same = get_or-set_same layouts id (Some l) None (let g = slice_get_within structs id d there in omega (arith, table.room, g))
 

@@ -74,8 +74,12 @@ same_tag None None = true
 same_tag (Some a) (Some b) = bytes_eq a b
 same_tag _ _ = false
 
+-- two structures or two unions
+abbrev pub same_kind : StructDef → StructDef → Bool
+same_kind d e = same_bool d.is_union e.is_union
+
 abbrev pub tags_of : Option StructDef → Option StructDef → Bool
-tags_of (Some d) (Some e) = same_tag d.tag e.tag
+tags_of (Some d) (Some e) = same_kind d e && same_tag d.tag e.tag
 tags_of _ _ = false
 
 -- across tables, behind a pointer
@@ -96,7 +100,7 @@ contents test (Some ms) (Some ns) = same_members test ms ns
 contents test _ _ = true
 
 abbrev pub definitions : (CType → CType → Bool) → Option StructDef → Option StructDef → Bool
-definitions test (Some d) (Some e) = same_tag d.tag e.tag && contents test d.members e.members
+definitions test (Some d) (Some e) = same_kind d e && same_tag d.tag e.tag && contents test d.members e.members
 definitions test _ _ = false
 
 -- across tables, by value, where at most n structures are inside one another
@@ -115,7 +119,7 @@ abbrev pub sides : Bool → List StructDef → List StructDef → Pairs
 sides true s t = by_number
 sides false s t = by_tag s t
 
--- Inside one module a structure goes with itself alone. Across modules, a and b are of the tables s and t; no
+-- Inside one module a structure or a union goes with itself alone. Across modules, a and b are of the tables s and t; no
 -- structure is inside itself, so no more are inside one another than there are.
 abbrev pub compatible : CType → List StructDef → CType → List StructDef → Bool → Bool
 compatible a s b t true = alike (sides true s t) (sides true s t) true a b

@@ -37,9 +37,9 @@ pub record IsTable (structs : List StructDef) (layouts : List (Option Layout)) :
   pub whole : (id : ℕ) (d : StructDef) → slice_get structs id ≡ Some d → has_members d ≡ true → is_some (entry layouts id) ≡ true
   pub small : (id : ℕ) (l : Layout) → entry layouts id ≡ Some l → IsSmall l
 
--- The layout of a structure with these members, where it is not too large.
-abbrev pub layout_of_members : List StructDef → List Member → Option Layout
-layout_of_members structs ms = within (structure (layout_in structs) (record { tag = None; members = Some ms }))
+-- The layout of a structure or a union with these members, where it is not too large.
+abbrev pub layout_of_members : Bool → List StructDef → List Member → Option Layout
+layout_of_members is_union structs ms = within (structure (layout_in structs) (record { tag = None; members = Some ms; is_union = is_union }))
 
 -- a structure that is there, and still without members
 abbrev pub IsIncomplete : Option StructDef → Type 0

@@ -47,7 +47,7 @@ fn same_tag(a: &Option<Name>, b: &Option<Name>) -> bool
     }
 }
 
-/// Whether two structures go together behind a pointer.
+/// Whether two structures or unions go together behind a pointer.
 fn behind(s: &Structs, i: u32, t: &Structs, j: u32, one_module: bool) -> bool
     ensures { result ≡ spec.sides one_module s.now t.now i j }
 {
@@ -56,7 +56,7 @@ fn behind(s: &Structs, i: u32, t: &Structs, j: u32, one_module: bool) -> bool
     }
     match s.as_slice().get(i as usize) {
         Some(d) => match t.as_slice().get(j as usize) {
-            Some(e) => same_tag(&d.tag, &e.tag),
+            Some(e) => d.is_union == e.is_union && same_tag(&d.tag, &e.tag),
             None => false,
         },
         None => false,
@@ -220,7 +220,7 @@ fn step(s: &Structs, i: u32, t: &Structs, j: u32, left: usize) -> Outcome
 fn definitions(d: &StructDef, s: &Structs, e: &StructDef, t: &Structs, left: usize) -> Outcome
     ensures { Reaches result left s.now t.now (spec.definitions (spec.by_value left s.now t.now) (Some d.now) (Some e.now)) }
 {
-    if !same_tag(&d.tag, &e.tag) {
+    if d.is_union != e.is_union || !same_tag(&d.tag, &e.tag) {
         return Outcome::Answer(false);
     }
     match &d.members {
@@ -287,8 +287,9 @@ fn member(m: &Member, s: &Structs, n: &Member, t: &Structs, left: usize) -> bool
 }
 
 /// Whether two types are compatible, `a` of the table `s` and `b` of the table `t` (ANSI 3.1.2.6). Inside one module a
-/// structure is compatible with itself alone; across modules it is with one of the same tag and the same members, and
-/// the tag alone decides behind a pointer, in a function's type, and where one of the two is incomplete.
+/// structure or a union is compatible with itself alone; across modules it is with one of the same kind, the same tag
+/// and the same members, and the members do not count behind a pointer, in a function's type, and where one of the two
+/// is incomplete.
 pub fn compatible(a: &CType, s: &Structs, b: &CType, t: &Structs, one_module: bool) -> bool
     ensures { result ≡ spec.compatible a.now s.now b.now t.now one_module }
 {

@@ -1,11 +1,11 @@
-// The types of C (ANSI 3.1.2.5) and the structures of a translation unit.
+// The types of C (ANSI 3.1.2.5) and the structures and unions of a translation unit.
 ghost use Rattle.std.specs.Prelude.{◌≡◌, IfOk};
 
 use sc_base::{Duplicate, Int, Items, Name, NoMemory, Shared};
 use std::alloc::Global;
 
 /// A type. The truth value says whether it is `const`; the length 0 of an array says that its size is unknown; the
-/// number of a structure is its place in the unit's `Structs`.
+/// number of a structure or a union is its place in the unit's `Structs`.
 #[cycle(types)]
 #[derive(Drop)]
 pub enum CType {
@@ -26,18 +26,19 @@ pub struct Signature {
     pub variadic: bool,
 }
 
-/// A member of a structure.
+/// A member of a structure or a union.
 #[derive(Drop)]
 pub struct Member {
     pub name: Name,
     pub of: CType,
 }
 
-/// A structure: its tag, where it has one, and its members, where it is complete (ANSI 3.5.2.1).
+/// A structure or a union: its tag, where it has one, and its members, where it is complete (ANSI 3.5.2.1).
 #[derive(Drop)]
 pub struct StructDef {
     pub tag: Option<Name>,
     pub members: Option<Items<Member>>,
+    pub is_union: bool,
 }
 
 impl Duplicate for CType {
@@ -83,6 +84,11 @@ impl Duplicate for StructDef {
             Some(members) => Some(members.copy(alloc)?),
             None => None,
         };
-        Ok(StructDef { tag, members })
+        let is_union = self.is_union;
+        Ok(StructDef {
+            tag,
+            members,
+            is_union,
+        })
     }
 }

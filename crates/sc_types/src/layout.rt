@@ -137,22 +137,35 @@ pub fn is_complete(t: &CType, s: &Structs) -> bool
     }
 }
 
-/// One more member behind those that end at `before.size`.
-fn joined(before: Layout, own: Layout) -> Layout
+/// The bytes of some members and one more: behind them in a structure, from 0 on in a union.
+fn size_with(is_union: bool, size: u32, own: Layout) -> u32
+    requires size { size ≤ table.largest }
+    requires own { table.IsSmall own }
+    ensures { result ≡ spec.size_with is_union size own }
+{
+    if is_union {
+        size.max(own.size)
+    } else {
+        rounded(size, own.align) + own.size
+    }
+}
+
+/// One more member beside those that have the layout `before`.
+fn joined(is_union: bool, before: Layout, own: Layout) -> Layout
     requires before { table.IsSmall before }
     requires own { table.IsSmall own }
-    ensures { result ≡ spec.joined before own }
+    ensures { result ≡ spec.joined is_union before own }
 {
     Layout {
-        size: rounded(before.size, own.align) + own.size,
+        size: size_with(is_union, before.size, own),
         align: before.align.max(own.align),
     }
 }
 
-/// Where these members end, if they are the first of a structure, and their greatest alignment; `None` where one of
-/// them is no object, or above `MAX_OBJECT` bytes.
-fn end_of(members: &[Member], s: &Structs) -> Option<Layout>
-    ensures same { result ≡ table.within (spec.members_from (spec.layout_in s.now) members.now spec.beginning) }
+/// Where these members end, if they are the first of a structure or a union, and their greatest alignment; `None` where
+/// one of them is no object, or above `MAX_OBJECT` bytes.
+fn end_of(is_union: bool, members: &[Member], s: &Structs) -> Option<Layout>
+    ensures same { result ≡ table.within (spec.members_from is_union (spec.layout_in s.now) members.now spec.beginning) }
     ensures small { IfSome result (λ l. table.IsSmall l) }
 {
     let mut end = Layout { size: 0, align: 1 };
@@ -161,7 +174,7 @@ fn end_of(members: &[Member], s: &Structs) -> Option<Layout>
             Some(own) => own,
             None => return None,
         };
-        end = joined(end, own);
+        end = joined(is_union, end, own);
         if end.size > MAX_OBJECT {
             return None;
         }
@@ -169,12 +182,12 @@ fn end_of(members: &[Member], s: &Structs) -> Option<Layout>
     Some(end)
 }
 
-/// The layout of a structure with these members, where they are objects and it is not too large.
-pub(crate) fn ended(members: &[Member], s: &Structs) -> Option<Layout>
-    ensures same { result ≡ table.layout_of_members s.now members.now }
+/// The layout of a structure or a union with these members, where they are objects and it is not too large.
+pub(crate) fn ended(is_union: bool, members: &[Member], s: &Structs) -> Option<Layout>
+    ensures same { result ≡ table.layout_of_members is_union s.now members.now }
     ensures small { IfSome result (λ l. table.IsSmall l) }
 {
-    match end_of(members, s) {
+    match end_of(is_union, members, s) {
         Some(end) => within(Layout {
             size: rounded(end.size, end.align),
             align: end.align,
@@ -183,15 +196,18 @@ pub(crate) fn ended(members: &[Member], s: &Structs) -> Option<Layout>
     }
 }
 
-/// The bytes of a structure that stand before a member, counted from 0 (ANSI 3.5.2.1).
+/// The bytes of a structure that stand before a member, counted from 0; none in a union (ANSI 3.5.2.1).
 pub fn offset_of(s: &Structs, id: u32, member: u32) -> u32
     requires object { IsTrue (table.is_object s.now (CType.Struct id false)) }
     requires there { member < length (spec.members_in s.now id) }
     ensures { result ≡ spec.offset_in s.now id member }
 {
+    if s.is_union(id) {
+        return 0;
+    }
     let members = s.members(id);
     let own = layout_of(&members[member as usize].of, s);
-    match end_of(&members[..member as usize], s) {
+    match end_of(false, &members[..member as usize], s) {
         Some(end) => rounded(end.size, own.align),
         None => unreachable!(),
     }

@@ -1,8 +1,8 @@
-// The structures of a translation unit, with their layouts.
+// The structures and unions of a translation unit, with their layouts.
 ghost use Rattle.std.specs.Prelude.{◌≡◌, ◌++◌, ◌∷◌, [], None, List, length, slice_get, slice_index_or, slice_set, is_some, Some, OnOk, OnErr, IfSome, IfOk};
 ghost use Rattle.std.specs.Bool.{OnTrue, OnFalse};
 ghost use Rattle.sc_types.specs.declared.ctype.StructDef.{StructDef};
-ghost use Rattle.sc_types.specs.Layouts.{structure_layout, members_in};
+ghost use Rattle.sc_types.specs.Layouts.{structure_layout, members_in, is_union_in};
 ghost use Rattle.sc_types.specs.Tables as spec;
 
 use crate::layout::ended;
@@ -11,7 +11,7 @@ use sc_base::{Duplicate, Items, Name, NoMemory};
 use std::alloc::Global;
 use std::marker::Model;
 
-/// The structures of a translation unit, seen as the list of them; the place of each is its number.
+/// The structures and unions of a translation unit, seen as the list of them; the place of each is its number.
 #[derive(Drop)]
 pub struct Structs {
     defs: Vec<StructDef>,
@@ -62,13 +62,17 @@ impl Structs {
         self.defs.as_slice()
     }
 
-    /// Adds a structure that is still incomplete (ANSI 3.5.2.3); its number is the length before.
-    pub fn declare(&mut self, tag: Option<Name>) -> Result<(), NoMemory>
-        ensures ok { OnOk result (self.new ≡ self.old ++ record { tag = tag; members = None } ∷ []) }
+    /// Adds a structure or a union that is still incomplete (ANSI 3.5.2.3); its number is the length before.
+    pub fn declare(&mut self, tag: Option<Name>, is_union: bool) -> Result<(), NoMemory>
+        ensures ok { OnOk result (self.new ≡ self.old ++ record { tag = tag; members = None; is_union = is_union } ∷ []) }
         ensures err { OnErr result (self.new ≡ self.old) }
     {
         self.layouts.push(None)?;
-        self.defs.push(StructDef { tag, members: None })?;
+        self.defs.push(StructDef {
+            tag,
+            members: None,
+            is_union,
+        })?;
         Ok(())
     }
 }
@@ -95,15 +99,25 @@ impl Structs {
         }
     }
 
-    /// Gives an incomplete structure its members (ANSI 3.5.2.1). Where one of them has no complete object type, or the
-    /// structure would be larger than `MAX_OBJECT` bytes, the answer is false and the table stays.
+    /// Whether number `id` is a union; false where there is no such number.
+    pub fn is_union(&self, id: u32) -> bool
+        ensures { result ≡ is_union_in self.now id }
+    {
+        match self.defs.get(id as usize) {
+            Some(def) => def.is_union,
+            None => false,
+        }
+    }
+
+    /// Gives an incomplete structure or union its members (ANSI 3.5.2.1). Where one of them has no complete object type,
+    /// or the whole would be larger than `MAX_OBJECT` bytes, the answer is false and the table stays.
     pub fn complete(&mut self, id: u32, members: Items<Member>) -> bool
         requires { spec.IsIncomplete (slice_get self.old id) }
-        ensures fits { result ≡ is_some (spec.layout_of_members self.old members) }
+        ensures fits { result ≡ is_some (spec.layout_of_members (is_union_in self.old id) self.old members) }
         ensures done { OnTrue result ((d : StructDef) → slice_get self.old id ≡ Some d → self.new ≡ slice_set self.old id (record d { members = Some members })) }
         ensures kept { OnFalse result (self.new ≡ self.old) }
     {
-        let Some(layout) = ended(members.as_slice(), self) else {
+        let Some(layout) = ended(self.is_union(id), members.as_slice(), self) else {
             return false;
         };
         self.layouts[id as usize] = Some(layout);

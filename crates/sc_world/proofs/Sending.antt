@@ -2,7 +2,7 @@
 use Rattle.std.proofs.Common.{◌≡◌, ◌≤◌, ◌<◌, ◌+◌, ℕ, zero, suc, List, [], ◌∷◌, ◌++◌, length, refl, ap, sym, subst, ◌∙◌, arith, append_assoc, Option, Some, None, Result, Ok, Err}
 use Rattle.std.proofs.lemmas.List.{append-nil}
 use Rattle.std.specs.Prelude.{IfOk, MatchResult}
-use Rattle.sc_meaning.specs.World.{World, Item, Work}
+use Rattle.sc_meaning.specs.World.{World, Item, ComesBack}
 use Rattle.sc_meaning.specs.Outcomes.{Ending, world_at}
 use Rattle.sc_meaning.specs.Versions.{Text}
 use Rattle.sc_meaning.specs.Laws.{Leads}
@@ -16,7 +16,7 @@ use Rattle.sc_interp.specs.Steady.{alone, advance}
 use Rattle.sc_interp.specs.declared.going.Going.{Going}
 use Rattle.sc_interp.specs.declared.stepped.Shown.{Shown}
 use Rattle.sc_interp.specs.declared.stepped.Shown.TheVariants.{Nothing}
-use Rattle.sc_interp.specs.declared.running.Ended.{Ended}
+use Rattle.sc_interp_access.specs.declared.ended.Ended.{Ended}
 use Rattle.sc_interp.specs.Ends.{end_of}
 use Rattle.sc_interp.proofs.Unchanged.{quiet, present, same_step}
 use Rattle.sc_interp_access.specs.declared.stop.Stop.{Stop}
@@ -69,7 +69,7 @@ step_leads texts s =
 status_output : (s : State) → output (world_of (with_status s)).trail ≡ output (world_of s).trail
 status_output (Runs doing ss env a cs w) = refl
 status_output (Makes t v vs c cs w) = refl
-status_output (Answers a [] w) = output-append w.trail (Work 1 ∷ []) ∙ append-nil (output w.trail)
+status_output (Answers a [] w) = output-append w.trail (ComesBack ∷ []) ∙ append-nil (output w.trail)
 status_output (Answers a (c ∷ cs) w) = refl
 status_output (Ends e) = refl
 

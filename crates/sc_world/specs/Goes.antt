@@ -1,6 +1,6 @@
 -- A go: the steps up to the first place that halts it, or where the turns were taken.
 use Rattle.std.specs.Prelude.{◌≡◌, ℕ, zero, suc, ◌+◌, List, [], ◌∷◌, Option, Some, None}
-use Rattle.sc_meaning.specs.World.{World, tick}
+use Rattle.sc_meaning.specs.World.{World, GoesOut, ComesBack, pass}
 use Rattle.sc_meaning.specs.Outcomes.{Exit}
 use Rattle.sc_meaning.specs.Versions.{Text, callee_of}
 use Rattle.sc_meaning.specs.Changes.{statics_born}
@@ -47,7 +47,7 @@ gone (suc k) want texts m = here_or (rests want m) m (gone k want texts (stepped
 abbrev pub with_status : State → State
 with_status (Runs doing ss env a cs w) = Runs doing ss env a cs w
 with_status (Makes t v vs c cs w) = Makes t v vs c cs w
-with_status (Answers a [] w) = Ends (Exit (status_of a) (tick w))
+with_status (Answers a [] w) = Ends (Exit (status_of a) (pass ComesBack w))
 with_status (Answers a (c ∷ cs) w) = Answers a (c ∷ cs) w
 with_status (Ends e) = Ends e
 
@@ -69,7 +69,7 @@ Goes texts stops walk turns (Some m) halt new = Leaves (gone turns (want_of stop
 
 -- the state behind the births, where the call of `main` went out
 abbrev pub main_next : List Text → List Caller → World → State
-main_next texts cs born = callee_next (alone texts) main_key [] (callee_of texts main_key) cs (tick born)
+main_next texts cs born = callee_next (alone texts) main_key [] (callee_of texts main_key) cs (pass GoesOut born)
 
 abbrev pub first_from : List Text → List Caller → World → State
 first_from texts cs w = then_goes (statics_born texts w) (λ _ born. main_next texts cs born)

@@ -7,7 +7,7 @@ use Rattle.sc_interp.specs.declared.going.Going.{Going}
 use Rattle.sc_interp.specs.declared.going.Going.TheVariants as going
 use Rattle.sc_interp.specs.declared.stepped.Shown.{Shown}
 use Rattle.sc_interp.specs.declared.stepped.Shown.TheVariants.{Nothing}
-use Rattle.sc_interp.specs.declared.running.Ended.{Ended}
+use Rattle.sc_interp_access.specs.declared.ended.Ended.{Ended}
 use Rattle.sc_interp.specs.Ends.{end_of}
 use Rattle.sc_world.specs.declared.count.Count.{Count}
 use Rattle.sc_world.specs.declared.course.Course.{Course}

@@ -8,9 +8,10 @@ ghost use Rattle.sc_world.specs.Standing.{standing};
 
 use crate::course::Course;
 use sc_base::{NoMemory, Stack};
-use sc_interp::{Caller, Ended, Going, call_main, entry};
-use sc_interp_access::Stop;
-use sc_interp_parts::{Text, statics_born};
+use sc_core_held::Text;
+use sc_interp::{Caller, Going, call_main, entry};
+use sc_interp_access::{Ended, Stop};
+use sc_interp_parts::statics_born;
 use sc_interp_world::World;
 
 /// From the births on, to where the call of `main` went out.

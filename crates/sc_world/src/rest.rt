@@ -25,9 +25,9 @@ use crate::look::Want;
 use crate::post::Unsent;
 use crate::turn::{Turned, turns_taken};
 use sc_base::Stack;
-use sc_interp::{Caller, Ended, Going, Shown, status_of};
-use sc_interp_access::Stop;
-use sc_interp_parts::Text;
+use sc_core_held::Text;
+use sc_interp::{Caller, Going, Shown, status_of};
+use sc_interp_access::{Ended, Stop};
 use sc_interp_world::World;
 use sc_meaning_values::Answer;
 use sc_outside::Sink;
@@ -67,7 +67,7 @@ fn stays(halt: Halt, going: Going) -> Rested
 fn came_back(halt: Halt, a: &Answer, world: &mut World) -> Rested
     ensures { (c : counts.Count) (out : goes.Gone) → out ≡ (halt, standing_at (runs.Answers a.now [] world.old) Nothing c) → goes.Leaves out result.halt (standing.standing result.course [] world.new c) }
 {
-    match world.tick() {
+    match world.comes_back() {
         Ok(()) => Rested {
             halt,
             course: Course::Over(Ended::Exit(status_of(a))),

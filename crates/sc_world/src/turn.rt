@@ -23,9 +23,9 @@ use crate::halt::Halt;
 use crate::look::{Want, halt_if, wanted};
 use crate::post::{Unsent, post};
 use sc_base::Stack;
+use sc_core_held::Text;
 use sc_interp::{Caller, Going, Shown, step_run};
 use sc_interp_access::Stop;
-use sc_interp_parts::Text;
 use sc_interp_world::World;
 use sc_outside::Sink;
 

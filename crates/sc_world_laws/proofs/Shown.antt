@@ -1,6 +1,6 @@
 -- The events of a run are the first of those that its program's meaning gives.
 use Rattle.std.proofs.Common.{◌≡◌, ℕ, ◌<◌, Bool, true, false, List, [], ◌∷◌, ◌++◌, append_assoc, refl, sym, ap, ◌∙◌, subst, arith, Option, Some, None}
-use Rattle.sc_meaning.specs.World.{World, Item, events, tick}
+use Rattle.sc_meaning.specs.World.{World, Item, GoesOut, ComesBack, pass, events}
 use Rattle.sc_meaning.specs.Outcomes.{Outcome, Done, Over, Ending, and_then, went, world_at, world_after}
 use Rattle.sc_meaning.specs.Versions.{Text, History, callee_of, version_at}
 use Rattle.sc_meaning.specs.Changes.{settled, statics_born}
@@ -46,16 +46,16 @@ starts texts s n born is p =
     ap (λ h. and_then (settled h (first_world s)) (λ _ w. main_called n h w)) is
     ∙ ap (λ r. and_then r (λ _ w. main_called n (alone texts) w)) (settled_once (statics_born texts (first_world s)) ∙ p)
 
-main_leads : (n : ℕ) (texts : List Text) (w born : World) → Leads w (world_after (call n (alone texts) main_key [] (tick born))) → Leads w (world_after (main_called n (alone texts) born))
-main_leads n texts w born l = then_leads w (call n (alone texts) main_key [] (tick born)) (λ a w. Done a (tick w)) l (λ a v. one_more _ v)
+main_leads : (n : ℕ) (texts : List Text) (w born : World) → Leads w (world_after (call n (alone texts) main_key [] (pass GoesOut born))) → Leads w (world_after (main_called n (alone texts) born))
+main_leads n texts w born l = then_leads w (call n (alone texts) main_key [] (pass GoesOut born)) (λ a w. Done a (pass ComesBack w)) l (λ a v. one_more _ v)
 
 module _ (s : Start) (texts : List Text) (is : s.history ≡ alone texts) where
   -- from a place that the call of `main` reached
   reached : (k n : ℕ) (st : State) → k < n → IsReached s texts k st → Leads (course.world_of st) (world_at (ending n s))
   reached k n st lt p =
       let born : World = p.0 in
-      let end : World = world_after (call n (alone texts) main_key [] (tick born)) in
-      let l : Leads (course.world_of st) end = subst (λ t. Leads (course.world_of t) end) (steps_there k texts (tick born) ∙ p.2) (reached_leads (alone texts) k n main_key [] (tick born) lt) in
+      let end : World = world_after (call n (alone texts) main_key [] (pass GoesOut born)) in
+      let l : Leads (course.world_of st) end = subst (λ t. Leads (course.world_of t) end) (steps_there k texts (pass GoesOut born) ∙ p.2) (reached_leads (alone texts) k n main_key [] (pass GoesOut born) lt) in
       subst (Leads (course.world_of st)) (sym (ending_world (started n s) ∙ ap (λ r. world_after r) (starts texts s n born is p.1))) (main_leads n texts (course.world_of st) born l)
 
   stands_lead : (k n : ℕ) (st : State) → k < n → Stands s texts k st → Leads (world_of st) (world_at (ending n s))

@@ -57,7 +57,7 @@ pub const ONE_MODULE: [(&str, &str, bool); 42] = [
 
 // Types of two units, and whether they are compatible (ANSI 3.1.2.6: the same members' names in the same order, of
 // compatible types). Here tags count too, and they alone behind a pointer.
-pub const TWO_MODULES: [(&str, &str, &str, &str, bool); 33] = [
+pub const TWO_MODULES: [(&str, &str, &str, &str, bool); 38] = [
     ("P:a=i,b=c", "x", "P:a=i,b=c", "x", true),
     ("P:a=i,b=c", "x", "P:a=i,d=c", "x", false),
     ("P:a=i,b=c", "x", "P:a=l,b=c", "x", false),
@@ -118,4 +118,10 @@ pub const TWO_MODULES: [(&str, &str, &str, &str, bool); 33] = [
     ("P:", "x", "P:a=i", "x", true),
     ("P:", "x", "Q:a=i", "x", false),
     ("P: Q:p=x*", "y", "P:a=i Q:p=x*", "y", true),
+    // A structure and a union never, behind a pointer too.
+    ("+P:a=i", "x", "+P:a=i", "x", true),
+    ("+P:a=i", "x", "+P:a=c", "x", false),
+    ("P:a=i", "x", "+P:a=i", "x", false),
+    ("P:a=i", "x*", "+P:a=i", "x*", false),
+    ("P:", "x*f", "+P:", "x*f", false),
 ];

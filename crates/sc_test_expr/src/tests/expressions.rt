@@ -107,6 +107,8 @@ const TREES: &str = "1 => a => a
 9 => (int (*)()) a => cast int * () : a
 10 => (int (*)(void)) a => cast int * parameters 0 : a
 5 => (struct s) a => cast struct s : a
+5 => (union u) a => cast union u : a
+9 => (union { int m; }) a => cast union{} 1 : a
 13 => (struct s { int m, n; } *) a => cast struct{} 1 * : a
 9 => (struct { T a; }) b => cast struct{} 1 : b
 5 => (enum e) a => cast enum e : a

@@ -148,8 +148,10 @@ fn plain_word(word: &TypeWord) -> &'static [u8] {
         TypeWord::Long => b"long",
         TypeWord::Signed => b"signed",
         TypeWord::Unsigned => b"unsigned",
-        TypeWord::StructTag(_, _) => b"struct",
-        TypeWord::Struct(_, _, _) => b"struct{}",
+        TypeWord::StructTag(_, false, _) => b"struct",
+        TypeWord::StructTag(_, true, _) => b"union",
+        TypeWord::Struct(_, false, _, _) => b"struct{}",
+        TypeWord::Struct(_, true, _, _) => b"union{}",
         TypeWord::EnumTag(_, _) => b"enum",
         TypeWord::Enum(_, _, _) => b"enum{}",
         TypeWord::Typedef(_, _) => b"typedef",
@@ -160,10 +162,10 @@ fn plain_word(word: &TypeWord) -> &'static [u8] {
 fn after_type_word<'a>(text: &'a str, word: &TypeWord) -> Option<&'a str> {
     let rest = after(text, plain_word(word))?;
     match word {
-        TypeWord::StructTag(_, name) => after(rest, name.as_slice()),
+        TypeWord::StructTag(_, _, name) => after(rest, name.as_slice()),
         TypeWord::EnumTag(_, name) => after(rest, name.as_slice()),
         TypeWord::Typedef(_, name) => after(rest, name.as_slice()),
-        TypeWord::Struct(_, _, members) => after_number(rest, members.len()),
+        TypeWord::Struct(_, _, _, members) => after_number(rest, members.len()),
         TypeWord::Enum(_, _, items) => after_number(rest, items.len()),
         _ => Some(rest),
     }

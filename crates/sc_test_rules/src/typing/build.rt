@@ -125,9 +125,9 @@ fn members_of_z(alloc: Global) -> Result<Items<Member>, NoMemory> {
 impl Types {
     pub fn new(alloc: Global, rt: &impl Abort) -> Result<Types, NoMemory> {
         let mut structs = Structs::new(alloc);
-        structs.declare(None)?;
-        structs.declare(None)?;
-        structs.declare(None)?;
+        structs.declare(None, false)?;
+        structs.declare(None, false)?;
+        structs.declare(None, false)?;
         complete(rt, &mut structs, 0, members_of_x(alloc)?);
         complete(rt, &mut structs, 2, members_of_z(alloc)?);
         let mut known = Vec::new(alloc);

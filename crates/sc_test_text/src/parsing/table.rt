@@ -30,6 +30,18 @@ pub const CASES: &str = "0|\n\
 1|struct s;\n\
 1|struct s x, *y;\n\
 1|struct { int a; } x;\n\
+1|union u { int a; char b[3]; } x, *y;\n\
+1|union u;\n\
+1|union u x, *y;\n\
+1|union { int a; } x;\n\
+1|union u { struct { int a; } b; union v { int c; } d, *e; } x = {{1}};\n\
+1|struct s { union { int a; char b; } c; int kind; } x;\n\
+1|{ union u { int a; } x; x.a = 1; (union u *) p; sizeof (union u); }\n\
+5|union;\n\
+5|union u { };\n\
+5|union u { int; };\n\
+5|union struct u x;\n\
+bitfield|union u { int a : 3; };\n\
 1|struct s { struct t { int a; } b; struct t *c; } x;\n\
 5|struct;\n\
 5|struct s { };\n\
@@ -139,7 +151,48 @@ implicitint|f\n\
 5|{ return int; }\n\
 5|{ x }\n\
 5|{ x y; }\n\
-5|{ a: ; }\n\
+1|{ a: ; }\n\
+5|{ a: }\n\
+5|{ a: int x; }\n\
+5|{ : ; }\n\
+5|{ (a): ; }\n\
+5|{ a + b: ; }\n\
+5|{ 1: ; }\n\
+5|{ int: ; }\n\
+5|a: ;\n\
+1|{ a: b: c: ; d: { e: x; } }\n\
+1|{ int x; a: x = 1; goto a; b: return; }\n\
+1|{ a: a: ; }\n\
+1|{ if (x) a: ; else b: ; }\n\
+1|{ if (x) a: if (y) ; else b: ; }\n\
+1|{ switch (x) a: case 1: b: default: c: ; }\n\
+1|{ while (x) a: do b: ; while (y); }\n\
+1|{ a ? b : c; a, b; a = b; a(b); a; }\n\
+5|{ a ? b: ; }\n\
+1|{ x ? a : b; b: ; }\n\
+1|{ goto a; goto b; a: b: ; }\n\
+5|{ goto; }\n\
+5|{ goto a }\n\
+5|{ goto a, b; }\n\
+5|{ goto 1; }\n\
+5|{ goto *a; }\n\
+5|{ goto (a); }\n\
+5|{ goto int; }\n\
+5|goto a;\n\
+5|{ int goto; }\n\
+2|typedef int T; void f(void) { T: ; }\n\
+2|typedef int T; void f(void) { T x; T: x = 1; }\n\
+2|typedef int T; void f(void) { x: ; T: ; }\n\
+2|typedef int T; void f(void) { T: T: ; goto T; }\n\
+2|typedef int T; void f(void) { if (x) T: ; }\n\
+2|typedef int T; void f(void) { { T x; x = 1; } T: ; }\n\
+5|typedef int T; void f(void) { T: T x; }\n\
+5|typedef int T; void f(void) { const T: ; }\n\
+5|typedef int T; void f(void) { ; T x; }\n\
+5|typedef int T; void f(void) { x: T y; }\n\
+5|typedef int T; T: ;\n\
+2|typedef int T; void f(void) { T: ; (T) x; }\n\
+2|typedef int T; void f(void) { T: { T x; x = 1; } }\n\
 5|{ ) }\n\
 1|{ int x; char y; x = 1; }\n\
 5|{ x = 1; int x; }\n\
@@ -224,8 +277,6 @@ implicitint|typedef int T; int f(int T, T);\n\
 float|float x;\n\
 float|int x; double y;\n\
 volatile|volatile int x;\n\
-union|union u { int a; };\n\
-goto|{ goto a; }\n\
 variadic|int f(int, ...);\n\
 longlong|long long x;\n\
 1|long int long x;\n\

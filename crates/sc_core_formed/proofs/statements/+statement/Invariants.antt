@@ -6,4 +6,4 @@ use Rattle.sc_core_formed.proofs.statements.+statement.Given as goal
 -- what is to come decides
 abbrev pub invariant-statements-loop-s : goal.invariant-statements-loop-s
 invariant-statements-loop-s l =
-    all_of l.m.core.now l.f (drop l.s-index l.items) (numbers l.around) l.body l.at ≡ all_of l.m.core.now l.f l.items (numbers l.around) l.body l.next
+    all_of l.m.core.now l.f l.targets (drop l.s-index l.items) (numbers l.around) l.body l.at ≡ all_of l.m.core.now l.f l.targets l.items (numbers l.around) l.body l.next

@@ -12,13 +12,13 @@ returns-in_err-a c = λ s is begins.
     (call_finishes c.args.texts.now s c.args.steps c.args.world.now c.statics_born.new.world c.main_called.new.world c.in_err-a.field-0.0 is begins c.in_ok-statics_born.ensures
     (c.in_err-a.ensures (alone c.args.texts.now) (quiet c.args.texts.now)))
 
-pub returns-in_ok-tick-in-Answer : goal.returns-in_ok-tick-in-Answer
-returns-in_ok-tick-in-Answer c = λ s is begins.
-    answer_finishes c.args.texts.now s c.args.steps c.args.world.now c.statics_born.new.world c.main_called.new.world c.tick.new.self c.in-Answer.a c.status_of.result is begins
+pub returns-in_ok-comes_back-in-Answer : goal.returns-in_ok-comes_back-in-Answer
+returns-in_ok-comes_back-in-Answer c = λ s is begins.
+    answer_finishes c.args.texts.now s c.args.steps c.args.world.now c.statics_born.new.world c.main_called.new.world c.comes_back.new.self c.in-Answer.a c.status_of.result is begins
     c.in_ok-statics_born.ensures
     (subst (λ r. Brings (steady.ran c.args.steps (alone c.args.texts.now) c.args.texts.now (first_of c.args.texts.now c.statics_born.new.world)) (Ok r) c.main_called.new.world) c.in-Answer.is
     (c.in_ok-a.ensures (alone c.args.texts.now) (quiet c.args.texts.now)))
-    c.status_of.ensures c.in_ok-tick-in-Answer.ensures
+    c.status_of.ensures c.in_ok-comes_back-in-Answer.ensures
 
 pub returns-in-Nowhere : goal.returns-in-Nowhere
 returns-in-Nowhere c = λ s is begins.

@@ -3,8 +3,8 @@ use Rattle.std.proofs.Common.{◌≡◌, List, Err, subst, rules}
 use Rattle.sc_base.specs.declared.refusal.Fault.TheVariants as fault
 use Rattle.sc_parse_names.specs.declared.kind.Symbol.{Symbol}
 use Rattle.sc_parse_tokens.specs.Symbols.{symbols}
-use Rattle.sc_parse_unit.specs.Claims.{Parses}
-use Rattle.sc_parse_unit.proofs.Answers.{parses}
+use Rattle.sc_parse_laws.specs.Causes.{Parses}
+use Rattle.sc_parse_laws.proofs.Causes.{parses}
 use Rattle.sc_parse.proofs.whole.parse.Goals as goal
 
 pub returns-in-Ok : goal.returns-in-Ok

@@ -1,5 +1,5 @@
 -- What the machine's answer is worth.
-use Rattle.sc_parse_unit.proofs.Answers.{parses}
+use Rattle.sc_parse_laws.proofs.Causes.{parses}
 use Rattle.sc_parse.proofs.whole.unit.Goals as goal
 
 pub returns : goal.returns

@@ -20,4 +20,4 @@ pub returns : goal.returns
 returns c =
     let left : c.reading.left.now ≡ [] = none_left c.reading.left.now c.in_default.ensures.cases in
     reading_ends (spec.read 0 1 0 (spec.start c.args.names.now) c.args.symbols.now) c.reading.depth c.reading.last c.reading.taken (c.reading.names, (c.reading.frames, c.reading.state))
-    c.reading.left.now c.at_end.result c.reading.invariant.rest left (c.at_end.ensures c.reading.depth)
+    c.reading.left.now c.at_end.result c.at_end.new.names c.reading.invariant.rest left (c.at_end.ensures c.reading.depth)

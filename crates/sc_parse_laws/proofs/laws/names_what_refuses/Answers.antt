@@ -1,6 +1,7 @@
 -- The laws are lemmas on lists.
 use Rattle.sc_parse_laws.proofs.Expressions.{names_mark, names_limit}
 use Rattle.sc_parse_laws.proofs.Whole.{names_no_mark, names_unit_mark, names_unit_limit, refuses_beyond}
+use Rattle.sc_parse_laws.proofs.Crowded.{crowded_call, crowded_list}
 use Rattle.sc_parse_laws.proofs.laws.names_what_refuses.Goals as goal
 
 pub returns-clause-marks : goal.returns-clause-marks
@@ -20,3 +21,9 @@ returns-clause-beyond c = λ ts all d out. refuses_beyond ts all d out
 
 pub returns-clause-faults : goal.returns-clause-faults
 returns-clause-faults c = λ ts l h. names_no_mark ts l h
+
+pub returns-clause-calls : goal.returns-clause-calls
+returns-clause-calls c = λ ts v. crowded_call ts v
+
+pub returns-clause-lists : goal.returns-clause-lists
+returns-clause-lists c = λ ts v. crowded_list ts v

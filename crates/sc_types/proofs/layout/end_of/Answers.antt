@@ -14,7 +14,7 @@ returns-in-None-clause-same c =
     let i = c.loop-member.member-index in
     let m = c.member-item.result in
     let e : drop i ms ≡ m ∷ drop (i + 1) ms = at_item ms i m c.loop-member-test.true c.member-item.is in
-    stops_at structs ms i m c.loop-member.end (members_from (layout_in structs) ms beginning) e c.in-None.ensures.same c.loop-member.invariant.0
+    stops_at c.args.is_union structs ms i m c.loop-member.end (members_from c.args.is_union (layout_in structs) ms beginning) e c.in-None.ensures.same c.loop-member.invariant.0
 
 -- a front of the members is already too large
 pub returns-then-end-gt-MAX_OBJECT-clause-same : goal.returns-then-end-gt-MAX_OBJECT-clause-same
@@ -25,11 +25,11 @@ returns-then-end-gt-MAX_OBJECT-clause-same c =
     let m = c.member-item.result in
     let own = c.in-Some.own in
     let e : drop i ms ≡ m ∷ drop (i + 1) ms = at_item ms i m c.loop-member-test.true c.member-item.is in
-    let all = members_from (layout_in structs) ms beginning in
+    let all = members_from c.args.is_union (layout_in structs) ms beginning in
     let is : layout_in structs m.of ≡ Some own = within-some (layout_in structs m.of) own (sym c.in-Some.ensures.same) in
-    let step = one_more structs ms i m c.loop-member.end own all e is c.loop-member.invariant.0 in
-    let late : largest < (joined c.loop-member.end own).size = subst (λ (l : Layout). largest < l.size) c.joined-end.ensures c.if-end-gt-MAX_OBJECT.true in
-    ends_too_late structs (drop (i + 1) ms) (joined c.loop-member.end own) all late (omega (arith, c.in-Some.ensures.small.some_align)) step
+    let step = one_more c.args.is_union structs ms i m c.loop-member.end own all e is c.loop-member.invariant.0 in
+    let late : largest < (joined c.args.is_union c.loop-member.end own).size = subst (λ (l : Layout). largest < l.size) c.joined-end.ensures c.if-end-gt-MAX_OBJECT.true in
+    ends_too_late c.args.is_union structs (drop (i + 1) ms) (joined c.args.is_union c.loop-member.end own) all late (omega (arith, c.in-Some.ensures.small.some_align)) step
 
 pub loop-member-preserved : goal.loop-member-preserved
 loop-member-preserved c =
@@ -39,9 +39,9 @@ loop-member-preserved c =
     let m = c.member-item.result in
     let own = c.in-Some.own in
     let e : drop i ms ≡ m ∷ drop (i + 1) ms = at_item ms i m c.loop-member-test.true c.member-item.is in
-    let all = members_from (layout_in structs) ms beginning in
+    let all = members_from c.args.is_union (layout_in structs) ms beginning in
     let is : layout_in structs m.of ≡ Some own = within-some (layout_in structs m.of) own (sym c.in-Some.ensures.same) in
-    let step = one_more structs ms i m c.loop-member.end own all e is c.loop-member.invariant.0 in (
-      subst (λ (l : Layout). members_from (layout_in structs) (drop (i + 1) ms) l ≡ all) (sym c.joined-end.ensures) step,
-      small_joined c.loop-member.end own c.joined-end.result c.loop-member.invariant.1 c.in-Some.ensures.small c.joined-end.ensures c.if-end-gt-MAX_OBJECT.false,
+    let step = one_more c.args.is_union structs ms i m c.loop-member.end own all e is c.loop-member.invariant.0 in (
+      subst (λ (l : Layout). members_from c.args.is_union (layout_in structs) (drop (i + 1) ms) l ≡ all) (sym c.joined-end.ensures) step,
+      small_joined c.args.is_union c.loop-member.end own c.joined-end.result c.loop-member.invariant.1 c.in-Some.ensures.small c.joined-end.ensures c.if-end-gt-MAX_OBJECT.false,
     )

@@ -6,5 +6,5 @@ use Rattle.sc_types.proofs.layout.end_of.Given as goal
 -- the members from here on end where all end
 abbrev pub invariant-loop-member : goal.invariant-loop-member
 invariant-loop-member l =
-    (members_from (layout_in l.s) (drop l.member-index l.members) l.end ≡ members_from (layout_in l.s) l.members beginning)
+    (members_from l.is_union (layout_in l.s) (drop l.member-index l.members) l.end ≡ members_from l.is_union (layout_in l.s) l.members beginning)
     × IsSmall l.end

@@ -1,7 +1,7 @@
 use Rattle.std.proofs.Common.{◌∙◌, ap, refl, Err}
 use Rattle.sc_meaning.specs.Outcomes.{Undefined, Exit, StackFull, BirthLimit}
 use Rattle.sc_interp_access.specs.declared.stop.Stop.TheVariants as stop
-use Rattle.sc_interp.specs.declared.running.Ended.TheVariants as ended
+use Rattle.sc_interp_access.specs.declared.ended.Ended.TheVariants as ended
 use Rattle.sc_world.proofs.Places.{over_first}
 use Rattle.sc_world.proofs.begin.course_of.Goals as goal
 

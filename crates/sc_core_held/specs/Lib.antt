@@ -1,0 +1,4 @@
+pub mod Finding
+pub mod Forms
+pub mod Found
+pub mod Numbers

@@ -1,0 +1,7 @@
+-- No label.
+use Rattle.sc_parse_parts.proofs.Others.{name_else}
+use Rattle.sc_parse_parts.proofs.naming.behind_name.Goals as goal
+
+pub returns-in_default : goal.returns-in_default
+returns-in_default c =
+    name_else c.args.token.now c.args.token.now.kind c.args.names.now c.args.around.now c.args.line c.args.name c.name_goes_on.result c.name_goes_on.new.names c.name_goes_on.new.around c.in_default.not-Colon c.name_goes_on.ensures

@@ -1,0 +1,3 @@
+struct pair { int a, b; };
+
+void copy(struct pair *to, struct pair *from) { *to = *from; }

@@ -1,0 +1,6 @@
+int main(void)
+{
+    int a[4] = {1};
+
+    return a[3];
+}

@@ -1,0 +1,5 @@
+int main(void)
+{
+    *(char *)"a" = 66;
+    return 0;
+}

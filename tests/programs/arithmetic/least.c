@@ -1,0 +1,7 @@
+int main(void)
+{
+    int x;
+
+    x = -2147483647 - 1;
+    return x / -1;
+}

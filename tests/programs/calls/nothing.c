@@ -1,0 +1,3 @@
+int g(void);
+
+int main(void) { return g(); }

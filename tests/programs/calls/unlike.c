@@ -1,0 +1,3 @@
+int puts(void);
+
+int main(void) { return puts(); }

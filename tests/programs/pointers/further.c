@@ -1,0 +1,6 @@
+int main(void)
+{
+    int a[10];
+
+    return &a[11] == a;
+}

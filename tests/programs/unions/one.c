@@ -1,0 +1,8 @@
+union t {
+    int n;
+};
+
+void f(union t *p)
+{
+    p->n = 1;
+}
