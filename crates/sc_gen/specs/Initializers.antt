@@ -1,5 +1,5 @@
 -- The code of an automatic object's initialiser (ANSI 3.5.7), piece by piece in the order of offsets.
-use Rattle.std.specs.Prelude.{ℕ, ◌+◌, ◌*◌, ◌%◌, ◌^◌, ◌==◌, if◌then◌else◌, List, [], ◌∷◌, ◌++◌, pos, negsuc}
+use Rattle.std.specs.Prelude.{ℕ, ◌+◌, ◌*◌, ◌%◌, ◌^◌, ◌==◌, if◌then◌else◌, List, [], ◌∷◌, ◌++◌, flat_map, pos, negsuc}
 use Rattle.sc_isa.specs.declared.instruction.Instr.TheVariants.{Branch, Store}
 use Rattle.sc_isa.specs.declared.instruction.BranchOp.TheVariants.{Bne}
 use Rattle.sc_isa.specs.declared.instruction.StoreOp.TheVariants.{Sb}
@@ -45,5 +45,4 @@ piece_code slots temp at (piece.Zero n count) = zero_bytes (place_behind at n) c
 piece_code slots temp at (piece.Structure size e) = structure_piece slots temp at size e
 
 abbrev pub pieces_code : List (List Auto) → ℕ → ℕ → List AutoInit → Code
-pieces_code slots temp at [] = []
-pieces_code slots temp at (p ∷ ps) = piece_code slots temp at p ++ pieces_code slots temp at ps
+pieces_code slots temp at ps = flat_map (piece_code slots temp at) ps

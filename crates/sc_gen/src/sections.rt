@@ -1,5 +1,5 @@
 // What the sections of an object hold.
-ghost use Rattle.std.specs.Prelude.{◌≡◌, ◌+◌, [], ◌∷◌, ◌++◌, flat_map, sum_by, min, OnOk, IfOk, codes, decimal};
+ghost use Rattle.std.specs.Prelude.{◌≡◌, ◌+◌, [], ◌∷◌, ◌++◌, flat_map, replicate, sum_by, min, OnOk, IfOk, codes, decimal};
 ghost use Rattle.std.specs.List.{list_all};
 ghost use Rattle.sc_object.specs.Words.{word};
 ghost use Rattle.sc_gen.specs.Sections as spec;
@@ -116,8 +116,10 @@ pub fn size_of(pieces: &[Init]) -> u32
     size
 }
 
-fn put_zeros(bytes: &mut Vec<u8>, n: u32) -> Result<(), NoMemory> {
-    for _ in 0..n {
+fn put_zeros(bytes: &mut Vec<u8>, n: u32) -> Result<(), NoMemory>
+    ensures { OnOk result (bytes.new.items ≡ bytes.old.items ++ replicate n 0) }
+{
+    for _i in 0..n {
         bytes.push(0)?;
     }
     Ok(())
