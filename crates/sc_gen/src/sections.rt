@@ -119,7 +119,7 @@ pub fn size_of(pieces: &[Init]) -> u32
 fn put_zeros(bytes: &mut Vec<u8>, n: u32) -> Result<(), NoMemory>
     ensures { OnOk result (bytes.new.items ≡ bytes.old.items ++ replicate n 0) }
 {
-    for _i in 0..n {
+    for _ in 0..n {
         bytes.push(0)?;
     }
     Ok(())
