@@ -7,3 +7,4 @@ pub mod Sections
 pub mod Objects
 pub mod Nodes
 pub mod Turns
+pub mod Limits

@@ -1,6 +1,9 @@
 // The object of a module (ELF gABI, RISC-V psABI).
-ghost use Rattle.std.specs.Prelude.{◌≡◌, IfOk};
+ghost use Rattle.std.specs.Prelude.{◌≡◌, ◌<◌, ◌≤◌, ℕ, List, None, Some, IfErr, IfOk, OnOk, length};
+ghost use Rattle.sc_gen.specs.Functions.{function_code};
+ghost use Rattle.sc_gen.specs.Limits.{first_long};
 ghost use Rattle.sc_gen.specs.Objects as spec;
+ghost use Rattle.sc_gen.specs.declared.module.GenFault.TheVariants as fault;
 
 use crate::blocks::frame_table;
 use crate::functions::function;
@@ -9,7 +12,7 @@ use crate::tables::Tables;
 use sc_base::{Bytes, Duplicate, Items, Key, Name, NoMemory};
 use sc_check_operand::is_function;
 use sc_core::{Core, Fun, Init, StaticObj};
-use sc_gen_expr::{Emit, Target, Targets, fitted, write};
+use sc_gen_expr::{Emit, Symbolic, Target, Targets, fitted, write};
 use sc_object::{FrameTable, Object, Reloc, Section, SectionKind, Symbol};
 use sc_program::StaticId;
 use std::alloc::Global;
@@ -26,6 +29,10 @@ pub enum GenFault {
 }
 
 impl From<NoMemory> for GenFault {
+    ghost use Rattle.sc_gen.specs.declared.module.GenFault.TheVariants as fault;
+
+    ghost from_gives = { λ _ e. e ≡ fault.NoMemory };
+
     fn from(_: NoMemory) -> GenFault {
         GenFault::NoMemory
     }
@@ -63,17 +70,42 @@ fn begin(making: &mut Making, target: Target) -> Result<(), NoMemory> {
     making.owners.push(own)
 }
 
-fn add_function(alloc: Global, core: &Core, f: &Fun, making: &mut Making) -> Result<(), GenFault> {
+/// The code of a function, where it is not too long.
+fn text_of(alloc: Global, f: &Fun) -> Result<Items<Symbolic>, GenFault>
+    ensures ok { IfOk result (λ code. (code ≡ function_code f.now) × (length code ≤ 131072)) }
+    ensures text { IfErr result (λ x. (n : List ℕ) → x ≡ fault.Text n → (n ≡ f.now.name) × (131072 < length (function_code f.now))) }
+    ensures object { IfErr result (λ x. x ≡ fault.Object → ⊥) }
+{
     let code = function(alloc, f)?;
-    if MAX_WORDS < code.len() {
-        return Err(GenFault::Text(f.name.copy(alloc)?));
+    if code.len() <= MAX_WORDS {
+        return Ok(code);
     }
+    let name = f.name.copy(alloc)?;
+    drop(code);
+    Err(GenFault::Text(name))
+}
+
+fn add_text(
+    alloc: Global,
+    core: &Core,
+    f: &Fun,
+    code: &[Symbolic],
+    making: &mut Making,
+) -> Result<(), NoMemory> {
     begin(making, Target::Named(key_of(alloc, core, f)?))?;
-    write(alloc, code.as_slice(), &mut making.emit)?;
+    write(alloc, code, &mut making.emit)?;
     let bytes = bytes_of(alloc, making.emit.words.as_slice())?;
     let name = Bytes::from_slice(alloc, f.name.as_slice())?;
     let size = fitted(code.len().saturating_mul(4));
-    making.sections.push(Section { name, kind: SectionKind::Text, bytes, size })?;
+    making.sections.push(Section { name, kind: SectionKind::Text, bytes, size })
+}
+
+fn add_function(alloc: Global, core: &Core, f: &Fun, making: &mut Making) -> Result<(), GenFault>
+    ensures ok { OnOk result (length (function_code f.now) ≤ 131072) }
+    ensures text { IfErr result (λ x. (n : List ℕ) → x ≡ fault.Text n → (n ≡ f.now.name) × (131072 < length (function_code f.now))) }
+{
+    let code = text_of(alloc, f)?;
+    add_text(alloc, core, f, code.as_slice(), making)?;
     Ok(())
 }
 
@@ -281,9 +313,11 @@ fn finished(alloc: Global, core: &Core, making: Making) -> Result<Object, NoMemo
     Ok(Object { sections, symbols, relocs, frames })
 }
 
-/// The object of a checked module: `Text` names the first function whose text has more than 524,288 bytes, and `Object`
-/// says that its file would have more than 8,388,608.
-pub fn generate(alloc: Global, core: &Core) -> Result<Object, GenFault> {
+/// All sections of a module, and what they name.
+fn made(alloc: Global, core: &Core) -> Result<Making, GenFault>
+    ensures ok { OnOk result (first_long core.now.funs ≡ None) }
+    ensures text { IfErr result (λ x. (n : List ℕ) → x ≡ fault.Text n → first_long core.now.funs ≡ Some n) }
+{
     let tables = Tables::new(alloc, core)?;
     let mut making = nothing(alloc);
     for f in core.funs.as_slice() {
@@ -293,5 +327,15 @@ pub fn generate(alloc: Global, core: &Core) -> Result<Object, GenFault> {
         add_birth(alloc, core, &tables, id, &mut making)?;
     }
     mention_declared(alloc, core, &mut making.emit.targets)?;
+    Ok(making)
+}
+
+/// The object of a checked module: `Text` names the first function whose text has more than 524,288 bytes, and `Object`
+/// says that its file would have more than 8,388,608.
+pub fn generate(alloc: Global, core: &Core) -> Result<Object, GenFault>
+    ensures ok { OnOk result (first_long core.now.funs ≡ None) }
+    ensures text { IfErr result (λ x. (n : List ℕ) → x ≡ fault.Text n → first_long core.now.funs ≡ Some n) }
+{
+    let making = made(alloc, core)?;
     Ok(finished(alloc, core, making)?)
 }
