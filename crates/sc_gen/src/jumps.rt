@@ -9,21 +9,21 @@ use sc_gen_expr::{A0, Symbolic, T1, X0, block_service, li, over, put, put_one};
 use sc_isa::{BranchOp, Instr};
 
 /// A place of a function's text to which jumps go: its words from the text's beginning, and how many blocks are open there.
-#[derive(Clone, Copy, Debug, PartialEq, Eq)]
+#[derive(Clone, Copy)]
 pub struct Place {
     pub word: usize,
     pub depth: usize,
 }
 
 /// The place of a label.
-#[derive(Clone, Copy, Debug, PartialEq, Eq)]
+#[derive(Clone, Copy)]
 pub struct LabelPlace {
     pub label: u32,
     pub place: Place,
 }
 
 /// Where `break` and `continue` go.
-#[derive(Clone, Copy, Debug, PartialEq, Eq)]
+#[derive(Clone, Copy)]
 pub struct Exits {
     pub on_break: Place,
     pub on_continue: Place,

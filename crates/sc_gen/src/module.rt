@@ -21,7 +21,7 @@ use std::alloc::Global;
 pub const MAX_WORDS: usize = 131_072;
 
 /// Why there is no object: the text of this function is too long, the file would be, or no memory was left.
-#[derive(Debug, Drop)]
+#[derive(Drop)]
 pub enum GenFault {
     Text(Name),
     Object,

@@ -12,7 +12,7 @@ use sc_isa::{Instr, LoadOp, RegOp, StoreOp};
 use std::alloc::Global;
 
 /// Where the first temporary of a call stands: a register and what is added to it.
-#[derive(Clone, Copy, Debug, PartialEq, Eq)]
+#[derive(Clone, Copy)]
 pub struct Base {
     pub register: u8,
     pub low: u32,

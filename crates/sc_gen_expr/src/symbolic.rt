@@ -5,14 +5,14 @@ use sc_isa::{Instr, LoadOp, StoreOp};
 
 /// What an address is taken of: an object or function by its key, or a string literal by its place among the module's
 /// literals.
-#[derive(Debug, Drop, PartialEq, Eq, Hash)]
+#[derive(Drop, PartialEq, Eq, Hash)]
 pub enum Target {
     Named(Key),
     Literal(u32),
 }
 
 /// One word of a text before it is placed.
-#[derive(Debug, Drop)]
+#[derive(Drop)]
 pub enum Symbolic {
     /// An instruction that waits for no address.
     Plain(Instr),
@@ -25,7 +25,7 @@ pub enum Symbolic {
 }
 
 /// What is done at a place of the frame: a register is loaded or stored, or gets the place's address.
-#[derive(Clone, Copy, Debug, PartialEq, Eq)]
+#[derive(Clone, Copy)]
 pub enum Access {
     Load(LoadOp, u8),
     Store(StoreOp, u8),
