@@ -236,12 +236,12 @@ PLAIN = {
 class Machine:
     """Runs blocks of straight instructions, each of which is made a function of this language once."""
 
-    def __init__(self, program, steps):
+    def __init__(self, program, steps, given=b""):
         self.program, self.memory, self.left = program, Memory(program.static), steps
         self.x = [0] * 32
         self.x[2] = STACK_TOP
         self.blocks, self.frames, self.calls, self.out = {}, [], [], bytearray()
-        self.heap, self.free, self.seed = HEAP, {}, 1
+        self.heap, self.free, self.seed, self.given = HEAP, {}, 1, iter(given)
 
     def line(self, pc, w):
         """One instruction as a statement, or what ends its block."""
@@ -391,7 +391,7 @@ class Machine:
             self.out += text
             result = len(text)
         elif name == "getchar":
-            result = -1
+            result = next(self.given, -1)
         elif name in ("malloc", "calloc", "realloc", "free"):
             result = self.allocate(name, a, b)
         elif name in ("memcpy", "memmove"):
@@ -579,7 +579,8 @@ def answer(tool, case, steps):
         program = Program(objects)
     except Unsettled as said:
         return "refused", str(said)
-    machine = Machine(program, steps)
+    given = [c.split()[1] for c in commands if c.startswith("run ")]
+    machine = Machine(program, steps, b"".join((case / name).read_bytes() for name in given))
     try:
         try:
             status = signed(machine.run(program.stubs[program.stub("main")]))
