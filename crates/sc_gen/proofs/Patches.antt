@@ -100,7 +100,7 @@ loop_is c0 c1 c2 c3 c4 c5 c6 c7 c8 c9 c10 body after test body_first x y e1 e2 e
     let from : length c8 ≡ length c0 + 3 + length part + length after + length test = omega arith in
     let start : length c1 ≡ length (c0 ++ w ∷ []) = omega (arith, length-append c0 (w ∷ [])) in
     let size : length behind ≡ 1 + length part + length after + length test + 1 =
-        omega (arith, length-append ((inner ++ after) ++ test) (j ∷ []), length-append (inner ++ after) test, length-append inner after) in
+    omega (arith, length-append ((inner ++ after) ++ test) (j ∷ []), length-append (inner ++ after) test, length-append inner after) in
     let N = 1 + length part + length after + length test + 1 in
     let flat : (c0 ++ w ∷ []) ++ over N ∷ behind ≡ c0 ++ w ∷ over N ∷ over (length part) ∷ part ++ (after ++ (test ++ j ∷ [])) = simp append_assoc in
     e10
@@ -124,11 +124,11 @@ switch_is c0 value c1 c2 c3 c4 c5 c6 c7 c8 c9 body labels x y z e1 e2 e3 e4 e5 e
     let part = body (length c3) in
     let l4 = ap length e4 ∙ length-append c3 part in
     let five : c5 ≡ c1 ++ x ∷ (y ∷ part ++ z ∷ []) =
-        e5 ∙ ap (λ (l : Code). l ++ z ∷ []) (e4 ∙ ap (λ (l : Code). l ++ part) (e3 ∙ ap (λ (l : Code). l ++ y ∷ []) e2)) ∙ simp append_assoc in
+    e5 ∙ ap (λ (l : Code). l ++ z ∷ []) (e4 ∙ ap (λ (l : Code). l ++ part) (e3 ∙ ap (λ (l : Code). l ++ y ∷ []) e2)) ∙ simp append_assoc in
     let size5 : length (y ∷ part ++ z ∷ []) ≡ 1 + length part + 1 = omega (arith, length-append part (z ∷ [])) in
     let u = over (1 + length part + 1) in
     let six : c6 ≡ c1 ++ u ∷ (y ∷ part ++ z ∷ []) =
-        e6 ∙ closed_at c1 (y ∷ part ++ z ∷ []) c5 x (length c1) five refl ∙ ap (λ (k : ℕ). c1 ++ over k ∷ (y ∷ part ++ z ∷ [])) size5 in
+    e6 ∙ closed_at c1 (y ∷ part ++ z ∷ []) c5 x (length c1) five refl ∙ ap (λ (k : ℕ). c1 ++ over k ∷ (y ∷ part ++ z ∷ [])) size5 in
     let l6 = ap length six ∙ length-append c1 (u ∷ (y ∷ part ++ z ∷ [])) in
     let there : length c6 ≡ length c0 + length value + 2 + length part + 1 = omega arith in
     let rest = labels (length c6) in

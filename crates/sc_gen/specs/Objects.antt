@@ -29,21 +29,24 @@ made_function core f = record {
   defines = target.Named (key_of core f);
   section = text_section f;
   named = targets (function_code f);
-  relocs = λ known n. relocs known n 0 (function_code f) }
+  relocs = λ known n. relocs known n 0 (function_code f);
+}
 
 abbrev pub made_object : Core → StaticObj → Made
 made_object core x = record {
   defines = target.Named x.key;
   section = object_section x;
   named = flat_map (init_target core) x.init;
-  relocs = λ known n. init_relocs core known n 0 x.init }
+  relocs = λ known n. init_relocs core known n 0 x.init;
+}
 
 abbrev pub made_literal : Core → List ℕ → Made
 made_literal core bytes = record {
   defines = target.Literal (fitted (literal_number core bytes));
   section = literal_section (fitted (literal_number core bytes)) bytes;
   named = [];
-  relocs = λ known n. [] }
+  relocs = λ known n. [];
+}
 
 abbrev pub made_named : Core → Option StaticObj → List Made
 made_named core None = []
@@ -108,4 +111,5 @@ object_of core = record {
   sections = map (λ m. m.section) (made core);
   symbols = map (symbol_of (made core)) (all_targets core);
   relocs = relocs_from (all_targets core) 0 (made core);
-  frames = map (frame_of core (all_targets core)) core.funs }
+  frames = map (frame_of core (all_targets core)) core.funs;
+}

@@ -79,7 +79,11 @@ fn line_of(lines: &[u32], n: usize) -> u32
     }
 }
 
-fn block_tables(alloc: Global, lines: &[u32], blocks: &[Items<Auto>]) -> Result<Items<BlockTable>, NoMemory>
+fn block_tables(
+    alloc: Global,
+    lines: &[u32],
+    blocks: &[Items<Auto>],
+) -> Result<Items<BlockTable>, NoMemory>
     ensures { IfOk result (λ tables. tables ≡ spec.block_tables lines.now 0 blocks.now) }
 {
     let mut all = Items::new(alloc);
@@ -95,5 +99,9 @@ pub fn frame_table(alloc: Global, symbol: u32, f: &Fun) -> Result<FrameTable, No
 {
     let lines = block_lines(alloc, f)?;
     let blocks = block_tables(alloc, lines.as_slice(), f.blocks.as_slice())?;
-    Ok(FrameTable { symbol, cost: f.cost, blocks })
+    Ok(FrameTable {
+        symbol,
+        cost: f.cost,
+        blocks,
+    })
 }

@@ -46,11 +46,25 @@ pub fn function(alloc: Global, f: &Fun) -> Result<Items<Symbolic>, NoMemory>
     };
     prologue(&mut text.code, f.cost)?;
     let nowhere = Place { word: 0, depth: 0 };
-    let exits = Exits { on_break: nowhere, on_continue: nowhere };
+    let exits = Exits {
+        on_break: nowhere,
+        on_continue: nowhere,
+    };
     let body = f.body.get();
-    statement(alloc, f, outgoing_bytes(most_arguments(body)), body, exits, &mut text)?;
+    statement(
+        alloc,
+        f,
+        outgoing_bytes(most_arguments(body)),
+        body,
+        exits,
+        &mut text,
+    )?;
     service(&mut text.code, 6)?;
     epilogue(&mut text.code, f.cost)?;
-    let Text { code, open: _, labels: _ } = text;
+    let Text {
+        code,
+        open: _,
+        labels: _,
+    } = text;
     Ok(code)
 }

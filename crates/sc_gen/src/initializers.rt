@@ -4,7 +4,10 @@ ghost use Rattle.sc_gen.specs.Initializers as spec;
 
 use sc_base::{Items, NoMemory, Shared};
 use sc_core::{Auto, AutoInit, CoreExpr};
-use sc_gen_expr::{A0, A1, Access, Symbolic, T1, T2, X0, addi, copied, expression, li, machine_type, near, put, put_one, store_of};
+use sc_gen_expr::{
+    A0, A1, Access, Symbolic, T1, T2, X0, addi, copied, expression, li, machine_type, near, put,
+    put_one, store_of,
+};
 use sc_isa::{BranchOp, Instr, StoreOp};
 use sc_types::CType;
 use std::alloc::Global;
@@ -89,7 +92,15 @@ fn piece(
 {
     match p {
         AutoInit::Value(n, of, e) => {
-            value_piece(alloc, slots, temporaries, place_behind(at, *n), of, e.get(), code)
+            value_piece(
+                alloc,
+                slots,
+                temporaries,
+                place_behind(at, *n),
+                of,
+                e.get(),
+                code,
+            )
         }
         AutoInit::Text(n, bytes) => text_bytes(code, place_behind(at, *n), bytes.as_slice()),
         AutoInit::Zero(n, count) => zero_bytes(code, place_behind(at, *n), *count),

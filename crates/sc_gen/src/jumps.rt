@@ -91,7 +91,11 @@ fn entry_words(block: Option<u32>) -> usize
 {
     match block {
         Some(number) => {
-            if number < 2048 || 4_294_965_248 <= number { 3 } else { 4 }
+            if number < 2048 || 4_294_965_248 <= number {
+                3
+            } else {
+                4
+            }
         }
         None => 0,
     }

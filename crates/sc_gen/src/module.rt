@@ -7,7 +7,9 @@ ghost use Rattle.sc_gen.specs.declared.module.GenFault.TheVariants as fault;
 
 use crate::blocks::frame_table;
 use crate::functions::function;
-use crate::sections::{bytes_of, is_global, kind_of, literal_name, put_piece, size_of, target_name};
+use crate::sections::{
+    bytes_of, is_global, kind_of, literal_name, put_piece, size_of, target_name,
+};
 use crate::tables::Tables;
 use sc_base::{Bytes, Duplicate, Items, Key, Name, NoMemory};
 use sc_check_operand::is_function;
@@ -54,12 +56,23 @@ fn nothing(alloc: Global) -> Making {
         section: 0,
         temporaries: 0,
     };
-    Making { sections: Items::new(alloc), owners: Items::new(alloc), emit }
+    Making {
+        sections: Items::new(alloc),
+        owners: Items::new(alloc),
+        emit,
+    }
 }
 
 fn key_of(alloc: Global, core: &Core, f: &Fun) -> Result<Key, NoMemory> {
-    let module = if f.external { None } else { Some(core.name.copy(alloc)?) };
-    Ok(Key { module, name: f.name.copy(alloc)? })
+    let module = if f.external {
+        None
+    } else {
+        Some(core.name.copy(alloc)?)
+    };
+    Ok(Key {
+        module,
+        name: f.name.copy(alloc)?,
+    })
 }
 
 /// One section more, which defines a target.
@@ -97,7 +110,12 @@ fn add_text(
     let bytes = bytes_of(alloc, making.emit.words.as_slice())?;
     let name = Bytes::from_slice(alloc, f.name.as_slice())?;
     let size = fitted(code.len().saturating_mul(4));
-    making.sections.push(Section { name, kind: SectionKind::Text, bytes, size })
+    making.sections.push(Section {
+        name,
+        kind: SectionKind::Text,
+        bytes,
+        size,
+    })
 }
 
 fn add_function(alloc: Global, core: &Core, f: &Fun, making: &mut Making) -> Result<(), GenFault>
@@ -161,7 +179,12 @@ fn add_object(
         contents(alloc, core, tables, pieces, &mut making.emit)?
     };
     let name = Bytes::from_slice(alloc, x.key.name.as_slice())?;
-    making.sections.push(Section { name, kind, bytes, size: size_of(pieces) })
+    making.sections.push(Section {
+        name,
+        kind,
+        bytes,
+        size: size_of(pieces),
+    })
 }
 
 fn add_literal(alloc: Global, n: u32, bytes: &Bytes, making: &mut Making) -> Result<(), NoMemory> {
@@ -182,7 +205,12 @@ fn add_birth(
     making: &mut Making,
 ) -> Result<(), NoMemory> {
     match id {
-        StaticId::Literal(_, bytes) => add_literal(alloc, tables.literal(core, bytes), bytes, making),
+        StaticId::Literal(_, bytes) => add_literal(
+            alloc,
+            tables.literal(core, bytes),
+            bytes,
+            making,
+        ),
         StaticId::Named(key) => match tables.object(core, key) {
             Some(x) => add_object(alloc, core, tables, x, making),
             None => Ok(()),
@@ -200,7 +228,11 @@ fn mention_declared(alloc: Global, core: &Core, targets: &mut Targets) -> Result
 }
 
 /// The section that defines each target, by the targets' numbers.
-fn definitions(alloc: Global, count: usize, owners: &[usize]) -> Result<Items<Option<usize>>, NoMemory> {
+fn definitions(
+    alloc: Global,
+    count: usize,
+    owners: &[usize],
+) -> Result<Items<Option<usize>>, NoMemory> {
     let mut all = Items::new(alloc);
     for _ in 0..count {
         all.push(None)?;
@@ -233,11 +265,29 @@ fn symbol(
     let name = target_name(alloc, target)?;
     let global = is_global(target);
     let Some(n) = section else {
-        return Ok(Symbol { name, section: None, global, kind: 0, size: 0 });
+        return Ok(Symbol {
+            name,
+            section: None,
+            global,
+            kind: 0,
+            size: 0,
+        });
     };
     match sections.get(n) {
-        Some(s) => Ok(Symbol { name, section: Some(fitted(n)), global, kind: symbol_kind(s.kind), size: s.size }),
-        None => Ok(Symbol { name, section: None, global, kind: 0, size: 0 }),
+        Some(s) => Ok(Symbol {
+            name,
+            section: Some(fitted(n)),
+            global,
+            kind: symbol_kind(s.kind),
+            size: s.size,
+        }),
+        None => Ok(Symbol {
+            name,
+            section: None,
+            global,
+            kind: 0,
+            size: 0,
+        }),
     }
 }
 
@@ -288,7 +338,12 @@ fn renumbered(alloc: Global, relocs: &[Reloc], numbers: &[u32]) -> Result<Items<
     Ok(all)
 }
 
-fn frames(alloc: Global, core: &Core, owners: &[usize], numbers: &[u32]) -> Result<Items<FrameTable>, NoMemory> {
+fn frames(
+    alloc: Global,
+    core: &Core,
+    owners: &[usize],
+    numbers: &[u32],
+) -> Result<Items<FrameTable>, NoMemory> {
     let mut all = Items::new(alloc);
     for (f, owner) in core.funs.as_slice().iter().zip(owners) {
         all.push(frame_table(alloc, new_number(numbers, fitted(*owner)), f.get())?)?;
@@ -297,8 +352,18 @@ fn frames(alloc: Global, core: &Core, owners: &[usize], numbers: &[u32]) -> Resu
 }
 
 fn finished(alloc: Global, core: &Core, making: Making) -> Result<Object, NoMemory> {
-    let Making { sections, owners, emit } = making;
-    let Emit { words: _, relocs, targets, section: _, temporaries: _ } = emit;
+    let Making {
+        sections,
+        owners,
+        emit,
+    } = making;
+    let Emit {
+        words: _,
+        relocs,
+        targets,
+        section: _,
+        temporaries: _,
+    } = emit;
     let defined = definitions(alloc, targets.len(), owners.as_slice())?;
     let mut symbols = Items::new(alloc);
     let mut numbers = Items::new(alloc);
@@ -306,11 +371,32 @@ fn finished(alloc: Global, core: &Core, making: Making) -> Result<Object, NoMemo
         numbers.push(0)?;
     }
     let held = sections.as_slice();
-    put_symbols(alloc, &targets, defined.as_slice(), held, false, &mut symbols, &mut numbers)?;
-    put_symbols(alloc, &targets, defined.as_slice(), held, true, &mut symbols, &mut numbers)?;
+    put_symbols(
+        alloc,
+        &targets,
+        defined.as_slice(),
+        held,
+        false,
+        &mut symbols,
+        &mut numbers,
+    )?;
+    put_symbols(
+        alloc,
+        &targets,
+        defined.as_slice(),
+        held,
+        true,
+        &mut symbols,
+        &mut numbers,
+    )?;
     let relocs = renumbered(alloc, relocs.as_slice(), numbers.as_slice())?;
     let frames = frames(alloc, core, owners.as_slice(), numbers.as_slice())?;
-    Ok(Object { sections, symbols, relocs, frames })
+    Ok(Object {
+        sections,
+        symbols,
+        relocs,
+        frames,
+    })
 }
 
 /// All sections of a module, and what they name.

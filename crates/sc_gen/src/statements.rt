@@ -4,12 +4,14 @@ ghost use Rattle.sc_gen.specs.Jumps as jumps;
 ghost use Rattle.sc_gen.specs.Statements as spec;
 
 use crate::initializers::pieces;
-use crate::jumps::{Exits, LabelPlace, Place, Text, entering, go, go_in, jump, labelled, start_of, unless_equal};
+use crate::jumps::{
+    Exits, LabelPlace, Place, Text, entering, go, go_in, jump, labelled, start_of, unless_equal,
+};
 use sc_base::{Items, NoMemory, Shared};
 use sc_core::{CoreExpr, CoreStmt, Fun, LabelAt, SwitchLabel};
 use sc_gen_expr::{
-    Access, RA, SP, Symbolic, T0, T1, X0, addi, block_service, close, expression, li, near, over, put, put_one, service,
-    skip_if, skip_unless, slot_of,
+    Access, RA, SP, Symbolic, T0, T1, X0, addi, block_service, close, expression, li, near, over,
+    put, put_one, service, skip_if, skip_unless, slot_of,
 };
 use sc_isa::{Instr, LoadOp, RegOp};
 use std::alloc::Global;
@@ -23,7 +25,10 @@ pub fn epilogue(code: &mut Items<Symbolic>, cost: u32) -> Result<(), NoMemory>
         return put(code, &[addi(SP, SP, cost as i32), Instr::Jalr(X0, RA, 0)]);
     }
     li(code, T0, cost)?;
-    put(code, &[Instr::Reg(RegOp::Add, SP, SP, T0), Instr::Jalr(X0, RA, 0)])
+    put(
+        code,
+        &[Instr::Reg(RegOp::Add, SP, SP, T0), Instr::Jalr(X0, RA, 0)],
+    )
 }
 
 fn value_or_none(
@@ -135,34 +140,101 @@ pub fn statement(
     match s {
         CoreStmt::Block(_, number, labels, items) => {
             entering(&mut text.code, Some(*number))?;
-            block(alloc, f, temporaries, *number, labels.as_slice(), items.as_slice(), exits, text)?;
+            block(
+                alloc,
+                f,
+                temporaries,
+                *number,
+                labels.as_slice(),
+                items.as_slice(),
+                exits,
+                text,
+            )?;
             Ok(())
         }
         CoreStmt::Initialize(_, block, n, all) => {
             let slots = f.blocks.as_slice();
             let at = slot_of(slots, *block, *n);
-            pieces(alloc, slots, temporaries, at, all.as_slice(), &mut text.code)
+            pieces(
+                alloc,
+                slots,
+                temporaries,
+                at,
+                all.as_slice(),
+                &mut text.code,
+            )
         }
         CoreStmt::Empty(_) => Ok(()),
         CoreStmt::Expression(_, e) => {
-            expression(alloc, f.blocks.as_slice(), e.get(), temporaries, &mut text.code)
+            expression(
+                alloc,
+                f.blocks.as_slice(),
+                e.get(),
+                temporaries,
+                &mut text.code,
+            )
         }
         CoreStmt::If(_, e, first, other) => match other {
             None => branch(alloc, f, temporaries, e.get(), first.get(), exits, text),
-            Some(other) => choice(alloc, f, temporaries, e.get(), first.get(), other.get(), exits, text),
+            Some(other) => choice(
+                alloc,
+                f,
+                temporaries,
+                e.get(),
+                first.get(),
+                other.get(),
+                exits,
+                text,
+            ),
         },
         CoreStmt::Switch(_, e, labels, body) => {
-            switch(alloc, f, temporaries, e.get(), labels.as_slice(), body.get(), exits, text)
+            switch(
+                alloc,
+                f,
+                temporaries,
+                e.get(),
+                labels.as_slice(),
+                body.get(),
+                exits,
+                text,
+            )
         }
         CoreStmt::While(_, e, body) => {
-            turns(alloc, f, temporaries, false, Some(e.get()), None, body.get(), text)
+            turns(
+                alloc,
+                f,
+                temporaries,
+                false,
+                Some(e.get()),
+                None,
+                body.get(),
+                text,
+            )
         }
         CoreStmt::Do(_, body, _, e) => {
-            turns(alloc, f, temporaries, true, Some(e.get()), None, body.get(), text)
+            turns(
+                alloc,
+                f,
+                temporaries,
+                true,
+                Some(e.get()),
+                None,
+                body.get(),
+                text,
+            )
         }
         CoreStmt::For(_, before, e, after, body) => {
             value_or_none(alloc, f, temporaries, optional(before), &mut text.code)?;
-            turns(alloc, f, temporaries, false, optional(e), optional(after), body.get(), text)
+            turns(
+                alloc,
+                f,
+                temporaries,
+                false,
+                optional(e),
+                optional(after),
+                body.get(),
+                text,
+            )
         }
         CoreStmt::Case(_, s) => statement(alloc, f, temporaries, s.get(), exits, text),
         CoreStmt::Default(_, s) => statement(alloc, f, temporaries, s.get(), exits, text),
@@ -205,7 +277,10 @@ fn open_labels(labels: &[LabelAt], text: &mut Text) -> Result<(), NoMemory>
     put_one(&mut text.code, over(labels.len()))?;
     for l in labels {
         let word = text.code.len();
-        text.labels.push(LabelPlace { label: l.label, place: Place { word, depth } })?;
+        text.labels.push(LabelPlace {
+            label: l.label,
+            place: Place { word, depth },
+        })?;
         put_one(&mut text.code, over(0))?;
     }
     Ok(())
@@ -322,8 +397,14 @@ fn turns(
     put_one(&mut text.code, over(0))?;
     let top = text.code.len();
     let own = Exits {
-        on_break: Place { word: on_break, depth },
-        on_continue: Place { word: on_continue, depth },
+        on_break: Place {
+            word: on_break,
+            depth,
+        },
+        on_continue: Place {
+            word: on_continue,
+            depth,
+        },
     };
     statement(alloc, f, temporaries, body, own, text)?;
     close(&mut text.code, on_continue);
@@ -352,7 +433,16 @@ fn inner(
 {
     match s {
         CoreStmt::Block(_, number, labels, items) => {
-            block(alloc, f, temporaries, *number, labels.as_slice(), items.as_slice(), exits, text)
+            block(
+                alloc,
+                f,
+                temporaries,
+                *number,
+                labels.as_slice(),
+                items.as_slice(),
+                exits,
+                text,
+            )
         }
         _ => {
             statement(alloc, f, temporaries, s, exits, text)?;
@@ -382,7 +472,10 @@ fn switch(
     let on_break = text.code.len();
     put_one(&mut text.code, over(0))?;
     let own = Exits {
-        on_break: Place { word: on_break, depth },
+        on_break: Place {
+            word: on_break,
+            depth,
+        },
         on_continue: exits.on_continue,
     };
     let top = text.code.len();
@@ -390,7 +483,13 @@ fn switch(
     let to_end = text.code.len();
     put_one(&mut text.code, over(0))?;
     close(&mut text.code, to_labels);
-    cases(&mut text.code, block_of(body), top, starts.as_slice(), labels)?;
+    cases(
+        &mut text.code,
+        block_of(body),
+        top,
+        starts.as_slice(),
+        labels,
+    )?;
     close(&mut text.code, to_end);
     close(&mut text.code, on_break);
     Ok(())

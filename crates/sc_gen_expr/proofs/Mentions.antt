@@ -18,7 +18,7 @@ pub place-more : (p : Target → Bool) (xs ys : List Target) → list_any p xs �
 place-more p [] ys h = cc
 place-more p (x ∷ xs) ys h =
     elim (p x) as (λ b. p x ≡ b → position_or_len p ((x ∷ xs) ++ ys) ≡ position_or_len p (x ∷ xs)) [
-      true ↦ λ e. rw e refl
+      | true ↦ λ e. rw e refl
       | false ↦ λ e. rw e (ap (λ (n : ℕ). suc n) (place-more p xs ys (sym (ap (λ (b : Bool). b || list_any p xs) e) ∙ h)))
     ] refl
 
@@ -26,7 +26,7 @@ place-more p (x ∷ xs) ys h =
 pub mention-appends : (known : List Target) (t : Target) → (more : List Target) × (mention known t ≡ known ++ more)
 mention-appends known t =
     elim (list_any (target_eq t) known) as (λ b. (more : List Target) × ((if b then known else known ++ t ∷ []) ≡ known ++ more)) [
-      true ↦ ([], sym (append-nil known))
+      | true ↦ ([], sym (append-nil known))
       | false ↦ (t ∷ [], refl)
     ]
 

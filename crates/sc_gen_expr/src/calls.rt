@@ -52,9 +52,15 @@ pub fn base_of(n: u32, t: u32) -> Base
     ensures near { result.low + 4 * n < 2048 }
 {
     if is_near(n, t) {
-        Base { register: SP, low: t }
+        Base {
+            register: SP,
+            low: t,
+        }
     } else {
-        Base { register: T0, low: 0 }
+        Base {
+            register: T0,
+            low: 0,
+        }
     }
 }
 
@@ -111,20 +117,32 @@ fn incoming(code: &mut Items<Symbolic>, base: Base, n: u32) -> Result<(), NoMemo
 fn last_waits(code: &mut Items<Symbolic>, n: u32) -> Result<(), NoMemory>
     ensures { OnOk result (code.new ≡ code.old ++ spec.last_waits n) }
 {
-    if 0 < n { put_one(code, addi(T1, A0, 0)) } else { Ok(()) }
+    if 0 < n {
+        put_one(code, addi(T1, A0, 0))
+    } else {
+        Ok(())
+    }
 }
 
 fn last_out(code: &mut Items<Symbolic>, n: u32) -> Result<(), NoMemory>
     requires { n ≤ 31 }
     ensures { OnOk result (code.new ≡ code.old ++ spec.last_out n) }
 {
-    if 8 < n { put_one(code, store_argument(T1, n - 1)) } else { Ok(()) }
+    if 8 < n {
+        put_one(code, store_argument(T1, n - 1))
+    } else {
+        Ok(())
+    }
 }
 
 fn last_in(code: &mut Items<Symbolic>, n: u32) -> Result<(), NoMemory>
     ensures { OnOk result (code.new ≡ code.old ++ spec.last_in n) }
 {
-    if 0 < n && n < 9 { put_one(code, addi(9 + n as u8, T1, 0)) } else { Ok(()) }
+    if 0 < n && n < 9 {
+        put_one(code, addi(9 + n as u8, T1, 0))
+    } else {
+        Ok(())
+    }
 }
 
 /// Each of `n` arguments goes where the callee expects it; the last one is in `a0`, the others wait in temporaries.
@@ -150,11 +168,20 @@ fn is_printf(key: &Key) -> bool
 fn counted(code: &mut Items<Symbolic>, key: &Key, n: u32) -> Result<(), NoMemory>
     ensures { OnOk result (code.new ≡ code.old ++ spec.counted key.now n) }
 {
-    if is_printf(key) { li(code, T2, n) } else { Ok(()) }
+    if is_printf(key) {
+        li(code, T2, n)
+    } else {
+        Ok(())
+    }
 }
 
 /// A call by name.
-pub fn call_direct(alloc: Global, code: &mut Items<Symbolic>, key: &Key, n: u32) -> Result<(), NoMemory>
+pub fn call_direct(
+    alloc: Global,
+    code: &mut Items<Symbolic>,
+    key: &Key,
+    n: u32,
+) -> Result<(), NoMemory>
     ensures { OnOk result (code.new ≡ code.old ++ spec.call_direct key.now n) }
 {
     counted(code, key, n)?;

@@ -34,7 +34,9 @@ impl Targets {
     pub fn new(alloc: Global) -> Targets
         ensures { result ≡ [] }
     {
-        Targets { all: IndexSet::new(alloc) }
+        Targets {
+            all: IndexSet::new(alloc),
+        }
     }
 
     /// The number of a target, which is new where it was not named before.
@@ -115,7 +117,12 @@ pub fn write(alloc: Global, code: &[Symbolic], at: &mut Emit) -> Result<(), NoMe
 }
 
 /// The code of an expression of a function whose objects stand in these slots.
-pub fn gen_expr(alloc: Global, slots: &[Items<Auto>], e: &CoreExpr, at: &mut Emit) -> Result<(), NoMemory>
+pub fn gen_expr(
+    alloc: Global,
+    slots: &[Items<Auto>],
+    e: &CoreExpr,
+    at: &mut Emit,
+) -> Result<(), NoMemory>
     ensures { OnOk result (emitted.Appends (expression_code slots.now e.now at.old.temporaries) at.old at.new) }
 {
     let mut code = Items::new(alloc);

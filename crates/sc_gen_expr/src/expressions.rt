@@ -6,11 +6,12 @@ ghost use Rattle.sc_gen_expr.specs.declared.symbolic.Symbolic.TheVariants.{Plain
 
 use crate::calls::{base_of, call_direct, call_through, count_of, direct, marshalled};
 use crate::code::{
-    A0, A1, X0, addi, address, close, copied, li, near, over, pop, push, put, put_one, skip_if, skip_unless, tagged,
+    A0, A1, X0, addi, address, close, copied, li, near, over, pop, push, put, put_one, skip_if,
+    skip_unless, tagged,
 };
 use crate::operators::{
-    changed, convert, difference, further, is_pointer, is_scalar, is_unsigned, load, machine_type, moved, moved_by,
-    operate, reconvert, stepped, store, unary,
+    changed, convert, difference, further, is_pointer, is_scalar, is_unsigned, load, machine_type,
+    moved, moved_by, operate, reconvert, stepped, store, unary,
 };
 use crate::symbolic::{Access, Symbolic, Target};
 use sc_base::{Duplicate, Items, Key, NoMemory, Op, Shared};
@@ -110,7 +111,13 @@ pub fn expression(
         }
         CoreExpr::Binary(_, _, op, a, b) => {
             both(alloc, slots, a.get(), b.get(), t, code)?;
-            operate(code, *op, is_unsigned(machine_type(type_of(a.get()))), A1, A0)
+            operate(
+                code,
+                *op,
+                is_unsigned(machine_type(type_of(a.get()))),
+                A1,
+                A0,
+            )
         }
         CoreExpr::Offset(_, _, op, size, a, b) => {
             both(alloc, slots, a.get(), b.get(), t, code)?;
@@ -124,9 +131,7 @@ pub fn expression(
             both(alloc, slots, a.get(), b.get(), t, code)?;
             operate(code, *op, true, A1, A0)
         }
-        CoreExpr::And(_, _, a, b) => {
-            logical(alloc, slots, skip_if(), a.get(), b.get(), t, code)
-        }
+        CoreExpr::And(_, _, a, b) => { logical(alloc, slots, skip_if(), a.get(), b.get(), t, code) }
         CoreExpr::Or(_, _, a, b) => {
             logical(alloc, slots, skip_unless(), a.get(), b.get(), t, code)
         }

@@ -10,8 +10,8 @@ mod symbolic;
 mod words;
 
 pub use code::{
-    A0, A1, A2, RA, SP, T0, T1, T2, X0, addi, block_service, close, copied, li, near, over, put, put_one, service,
-    skip_if, skip_unless,
+    A0, A1, A2, RA, SP, T0, T1, T2, X0, addi, block_service, close, copied, li, near, over, put,
+    put_one, service, skip_if, skip_unless,
 };
 pub use emit::{Emit, Targets, fitted, gen_expr, write};
 pub use expressions::{expression, slot_of};

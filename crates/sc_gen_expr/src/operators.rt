@@ -112,13 +112,31 @@ fn narrowed(code: &mut Items<Symbolic>, k: Int, r: u8) -> Result<(), NoMemory>
         Int::Char => put_one(code, Instr::Imm(ImmOp::Andi, r, r, 255)),
         Int::UChar => put_one(code, Instr::Imm(ImmOp::Andi, r, r, 255)),
         Int::SChar => {
-            put(code, &[Instr::Imm(ImmOp::Slli, r, r, 24), Instr::Imm(ImmOp::Srai, r, r, 24)])
+            put(
+                code,
+                &[
+                    Instr::Imm(ImmOp::Slli, r, r, 24),
+                    Instr::Imm(ImmOp::Srai, r, r, 24),
+                ],
+            )
         }
         Int::Short => {
-            put(code, &[Instr::Imm(ImmOp::Slli, r, r, 16), Instr::Imm(ImmOp::Srai, r, r, 16)])
+            put(
+                code,
+                &[
+                    Instr::Imm(ImmOp::Slli, r, r, 16),
+                    Instr::Imm(ImmOp::Srai, r, r, 16),
+                ],
+            )
         }
         Int::UShort => {
-            put(code, &[Instr::Imm(ImmOp::Slli, r, r, 16), Instr::Imm(ImmOp::Srli, r, r, 16)])
+            put(
+                code,
+                &[
+                    Instr::Imm(ImmOp::Slli, r, r, 16),
+                    Instr::Imm(ImmOp::Srli, r, r, 16),
+                ],
+            )
         }
         Int::Int => Ok(()),
         Int::UInt => Ok(()),
@@ -186,26 +204,62 @@ fn put_inverted(code: &mut Items<Symbolic>, first: Instr) -> Result<(), NoMemory
 }
 
 /// `x op y`, where both stand in registers (ANSI 3.3.5 to 3.3.12).
-pub fn operate(code: &mut Items<Symbolic>, op: Op, unsigned: bool, x: u8, y: u8) -> Result<(), NoMemory>
+pub fn operate(
+    code: &mut Items<Symbolic>,
+    op: Op,
+    unsigned: bool,
+    x: u8,
+    y: u8,
+) -> Result<(), NoMemory>
     ensures { OnOk result (code.new ≡ code.old ++ spec.operate op unsigned x y) }
 {
     match op {
         Op::Add => put_one(code, apply(RegOp::Add, A0, x, y)),
         Op::Sub => put_one(code, apply(RegOp::Sub, A0, x, y)),
         Op::Mul => put_one(code, apply(RegOp::Mul, A0, x, y)),
-        Op::Div => put_one(code, apply(by_sign(unsigned, RegOp::Divu, RegOp::Div), A0, x, y)),
-        Op::Rem => put_one(code, apply(by_sign(unsigned, RegOp::Remu, RegOp::Rem), A0, x, y)),
+        Op::Div => put_one(
+            code,
+            apply(by_sign(unsigned, RegOp::Divu, RegOp::Div), A0, x, y),
+        ),
+        Op::Rem => put_one(
+            code,
+            apply(by_sign(unsigned, RegOp::Remu, RegOp::Rem), A0, x, y),
+        ),
         Op::Shl => put_one(code, apply(RegOp::Sll, A0, x, y)),
-        Op::Shr => put_one(code, apply(by_sign(unsigned, RegOp::Srl, RegOp::Sra), A0, x, y)),
+        Op::Shr => put_one(
+            code,
+            apply(by_sign(unsigned, RegOp::Srl, RegOp::Sra), A0, x, y),
+        ),
         Op::And => put_one(code, apply(RegOp::And, A0, x, y)),
         Op::Or => put_one(code, apply(RegOp::Or, A0, x, y)),
         Op::Xor => put_one(code, apply(RegOp::Xor, A0, x, y)),
-        Op::Lt => put_one(code, apply(by_sign(unsigned, RegOp::Sltu, RegOp::Slt), A0, x, y)),
-        Op::Gt => put_one(code, apply(by_sign(unsigned, RegOp::Sltu, RegOp::Slt), A0, y, x)),
-        Op::Le => put_inverted(code, apply(by_sign(unsigned, RegOp::Sltu, RegOp::Slt), A0, y, x)),
-        Op::Ge => put_inverted(code, apply(by_sign(unsigned, RegOp::Sltu, RegOp::Slt), A0, x, y)),
-        Op::Eq => put(code, &[apply(RegOp::Xor, A0, x, y), Instr::Imm(ImmOp::Sltiu, A0, A0, 1)]),
-        Op::Ne => put(code, &[apply(RegOp::Xor, A0, x, y), apply(RegOp::Sltu, A0, X0, A0)]),
+        Op::Lt => put_one(
+            code,
+            apply(by_sign(unsigned, RegOp::Sltu, RegOp::Slt), A0, x, y),
+        ),
+        Op::Gt => put_one(
+            code,
+            apply(by_sign(unsigned, RegOp::Sltu, RegOp::Slt), A0, y, x),
+        ),
+        Op::Le => put_inverted(
+            code,
+            apply(by_sign(unsigned, RegOp::Sltu, RegOp::Slt), A0, y, x),
+        ),
+        Op::Ge => put_inverted(
+            code,
+            apply(by_sign(unsigned, RegOp::Sltu, RegOp::Slt), A0, x, y),
+        ),
+        Op::Eq => put(
+            code,
+            &[
+                apply(RegOp::Xor, A0, x, y),
+                Instr::Imm(ImmOp::Sltiu, A0, A0, 1),
+            ],
+        ),
+        Op::Ne => put(
+            code,
+            &[apply(RegOp::Xor, A0, x, y), apply(RegOp::Sltu, A0, X0, A0)],
+        ),
         Op::Neg => Ok(()),
         Op::Not => Ok(()),
         Op::Truth => Ok(()),
@@ -229,11 +283,20 @@ pub fn unary(code: &mut Items<Symbolic>, op: UnaryOperator) -> Result<(), NoMemo
 fn add_or_sub(op: Op) -> RegOp
     ensures { result ≡ spec.add_or_sub op }
 {
-    if op == Op::Sub { RegOp::Sub } else { RegOp::Add }
+    if op == Op::Sub {
+        RegOp::Sub
+    } else {
+        RegOp::Add
+    }
 }
 
 /// `+` and `-` of a pointer and an integer, the left one in `a1` and the right one in `a0` (ANSI 3.3.6).
-pub fn moved(code: &mut Items<Symbolic>, op: Op, pointer_first: bool, size: u32) -> Result<(), NoMemory>
+pub fn moved(
+    code: &mut Items<Symbolic>,
+    op: Op,
+    pointer_first: bool,
+    size: u32,
+) -> Result<(), NoMemory>
     ensures { OnOk result (code.new ≡ code.old ++ spec.moved op pointer_first size) }
 {
     if pointer_first {
@@ -285,7 +348,11 @@ fn is_increment(step: Step) -> bool
 fn addend(step: Step, n: u32) -> u32
     ensures { result ≡ spec.addend step n }
 {
-    if is_increment(step) { n } else { 0u32.wrapping_sub(n) }
+    if is_increment(step) {
+        n
+    } else {
+        0u32.wrapping_sub(n)
+    }
 }
 
 fn one(step: Step) -> i32

@@ -48,7 +48,9 @@ pub fn is_sound(i: Instr) -> bool
     match i {
         Instr::Lui(rd, upper) => rd < 32 && upper < 1048576,
         Instr::Auipc(rd, upper) => rd < 32 && upper < 1048576,
-        Instr::Jal(rd, offset) => rd < 32 && is_even(offset) && is_between(-1048576, 1048574, offset),
+        Instr::Jal(rd, offset) => rd < 32
+            && is_even(offset)
+            && is_between(-1048576, 1048574, offset),
         Instr::Jalr(rd, rs, offset) => rd < 32 && rs < 32 && is_short(offset),
         Instr::Branch(_, rs, rt, offset) => {
             rs < 32 && rt < 32 && is_even(offset) && is_between(-4096, 4094, offset)

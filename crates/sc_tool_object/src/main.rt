@@ -40,7 +40,12 @@ fn put(text: &mut Vec<u8>, bytes: &[u8]) -> Result<(), NoMemory> {
     Ok(())
 }
 
-fn put_file(rt: &HostRuntime, alloc: Global, name: &str, text: &mut Vec<u8>) -> Result<(), NoMemory> {
+fn put_file(
+    rt: &HostRuntime,
+    alloc: Global,
+    name: &str,
+    text: &mut Vec<u8>,
+) -> Result<(), NoMemory> {
     let folder = String::from_str(alloc, ".")?;
     let mut files = Folder::new(alloc, rt, folder);
     match preprocess(alloc, name, &mut files) {
@@ -71,7 +76,12 @@ fn checked(alloc: Global, name: &str, unit: &Unit) -> Result<Core, Fault> {
     }
 }
 
-fn put_core(alloc: Global, text: &mut Vec<u8>, name: &str, core: Result<Core, Fault>) -> Result<(), NoMemory> {
+fn put_core(
+    alloc: Global,
+    text: &mut Vec<u8>,
+    name: &str,
+    core: Result<Core, Fault>,
+) -> Result<(), NoMemory> {
     match core {
         Ok(core) => match generate(alloc, &core) {
             Ok(o) => {
@@ -138,7 +148,10 @@ fn put_symbol(alloc: Global, text: &mut Vec<u8>, s: &Symbol) -> Result<(), NoMem
 }
 
 fn put_reloc(alloc: Global, text: &mut Vec<u8>, r: Reloc) -> Result<(), NoMemory> {
-    let line = format!(in alloc; "reloc {} {} {} {} {}\n", r.section, r.at, r.kind, r.symbol, r.addend)?;
+    let line = format!(in alloc;
+        "reloc {} {} {} {} {}\n",
+        r.section, r.at, r.kind, r.symbol, r.addend
+    )?;
     put(text, line.as_bytes())
 }
 
@@ -156,9 +169,12 @@ fn put_frame(alloc: Global, text: &mut Vec<u8>, f: &FrameTable) -> Result<(), No
     put(text, b"\n")
 }
 
-fn digit(value: u8) -> u8
-{
-    if value < 10 { b'0' + value } else { b'a' + (value % 16 - 10) }
+fn digit(value: u8) -> u8 {
+    if value < 10 {
+        b'0' + value
+    } else {
+        b'a' + (value % 16 - 10)
+    }
 }
 
 fn put_bytes(text: &mut Vec<u8>, bytes: &[u8]) -> Result<(), NoMemory> {

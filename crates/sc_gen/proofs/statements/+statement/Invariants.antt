@@ -8,10 +8,10 @@ invariant-items_from-loop-s l =
     let ps = map (body_of (frame l.f l.temporaries)) in
     let out = around l.initial.text l.exits in
     record {
-  words : l.text.code ++ items_code (ps (drop l.s-index l.items)) (drop l.s-index l.items) (length l.text.code) out
-      ≡ l.initial.text.code ++ items_code (ps l.items) l.items (length l.initial.text.code) out;
-  places : l.starts ++ starts (ps (drop l.s-index l.items)) (drop l.s-index l.items) (length l.text.code) out
-      ≡ starts (ps l.items) l.items (length l.initial.text.code) out;
-  same_blocks : l.text.open ≡ l.initial.text.open;
-  same_labels : l.text.labels ≡ l.initial.text.labels
-}
+      words : l.text.code ++ items_code (ps (drop l.s-index l.items)) (drop l.s-index l.items) (length l.text.code) out
+          ≡ l.initial.text.code ++ items_code (ps l.items) l.items (length l.initial.text.code) out;
+      places : l.starts ++ starts (ps (drop l.s-index l.items)) (drop l.s-index l.items) (length l.text.code) out
+          ≡ starts (ps l.items) l.items (length l.initial.text.code) out;
+      same_blocks : l.text.open ≡ l.initial.text.open;
+      same_labels : l.text.labels ≡ l.initial.text.labels;
+    }
