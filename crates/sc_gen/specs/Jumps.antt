@@ -13,7 +13,7 @@ use Rattle.sc_gen.specs.declared.jumps.LabelPlace.{LabelPlace}
 -- What is known around a statement: the blocks that are open there, outermost first, where `break` and `continue` go, and the labels
 -- of the open blocks.
 pub record Around : Type 0 where
-  pub open : List ℕ
+  pub blocks : List ℕ
   pub on_break : Place
   pub on_continue : Place
   pub labels : List LabelPlace
@@ -21,7 +21,7 @@ pub record Around : Type 0 where
 -- outside of every loop, `switch` and block
 abbrev pub nowhere : Around
 nowhere = record {
-  open = [];
+  blocks = [];
   on_break = record { word = 0; depth = 0 };
   on_continue = record { word = 0; depth = 0 };
   labels = [] }
@@ -42,9 +42,9 @@ leaving (Some b) = block_service 3 b
 
 -- Out of the blocks that are not open there to a place.
 abbrev pub go : List ℕ → ℕ → Place → Code
-go open at place =
-    leaving (slice_get open place.depth)
-    ++ jump (at + length (leaving (slice_get open place.depth))) place.word ∷ []
+go blocks at place =
+    leaving (slice_get blocks place.depth)
+    ++ jump (at + length (leaving (slice_get blocks place.depth))) place.word ∷ []
 
 -- into a block, where there is one, and to a place in it
 abbrev pub go_in : Option ℕ → ℕ → ℕ → Code
@@ -95,15 +95,15 @@ with_jumps code at start (l ∷ ls) = with_jumps (slice_set code (at + 1) (jump 
 -- around the statements of a block, whose labels' jumps begin at a place
 abbrev pub inside : Around → ℕ → List LabelAt → ℕ → Around
 inside around b ls at = record around {
-  open = around.open ++ b ∷ [];
-  labels = around.labels ++ label_places (at + 1) (length around.open + 1) ls }
+  blocks = around.blocks ++ b ∷ [];
+  labels = around.labels ++ label_places (at + 1) (length around.blocks + 1) ls }
 
 -- around the body of a loop, whose words for `break` and `continue` stand one behind the other
 abbrev pub in_loop : Around → ℕ → Around
 in_loop around at = record around {
-  on_break = record { word = at; depth = length around.open };
-  on_continue = record { word = at + 1; depth = length around.open } }
+  on_break = record { word = at; depth = length around.blocks };
+  on_continue = record { word = at + 1; depth = length around.blocks } }
 
 -- around the body of a `switch`
 abbrev pub in_switch : Around → ℕ → Around
-in_switch around at = record around { on_break = record { word = at; depth = length around.open } }
+in_switch around at = record around { on_break = record { word = at; depth = length around.blocks } }

@@ -146,8 +146,8 @@ returned f (Some e) = expression_code f.slots e f.temporaries ++ (block_service 
 
 -- goto label;
 abbrev pub go_to : List ℕ → ℕ → Option Place → Code
-go_to open at None = []
-go_to open at (Some place) = go open at place
+go_to blocks at None = []
+go_to blocks at (Some place) = go blocks at place
 
 -- if (e) s
 abbrev pub branch_code : Frame → Body → CoreExpr → CoreStmt → ℕ → Around → Code
@@ -196,9 +196,9 @@ statement_layer f (CoreStmt-F.For _ _ _ _ p) (CoreStmt-F.For l first e after s) 
 statement_layer f (CoreStmt-F.Case _ p) (CoreStmt-F.Case l s) at around = alone (whole p s at around)
 statement_layer f (CoreStmt-F.Default _ p) (CoreStmt-F.Default l s) at around = alone (whole p s at around)
 statement_layer f (CoreStmt-F.Label _ p) (CoreStmt-F.Label l s) at around = alone (whole p s at around)
-statement_layer f _ (CoreStmt-F.Goto l k) at around = alone (go_to around.open at (labelled k around.labels))
-statement_layer f _ (CoreStmt-F.Continue l) at around = alone (go around.open at around.on_continue)
-statement_layer f _ (CoreStmt-F.Break l) at around = alone (go around.open at around.on_break)
+statement_layer f _ (CoreStmt-F.Goto l k) at around = alone (go_to around.blocks at (labelled k around.labels))
+statement_layer f _ (CoreStmt-F.Continue l) at around = alone (go around.blocks at around.on_continue)
+statement_layer f _ (CoreStmt-F.Break l) at around = alone (go around.blocks at around.on_break)
 statement_layer f _ (CoreStmt-F.Return l e) at around = alone (returned f e)
 statement_layer f _ _ at around = alone []
 
@@ -211,16 +211,16 @@ statement_code f s at around = whole (body_of f s) s at around
 
 -- what is known at the end of a text so far
 abbrev pub around : Text → Exits → Around
-around text exits = record { open = text.open; on_break = exits.on_break; on_continue = exits.on_continue; labels = text.labels }
+around text exits = record { blocks = text.blocks; on_break = exits.on_break; on_continue = exits.on_continue; labels = text.labels }
 
 -- the same for a loop, which has exits of its own
 abbrev pub loop_around : Text → Around
-loop_around text = record nowhere { open = text.open; labels = text.labels }
+loop_around text = record nowhere { blocks = text.blocks; labels = text.labels }
 
 -- a text with more code, at whose end the same blocks are open
 pub record Adds (code : Code) (old new : Text) : Type 0 where
   pub appended : new.code ≡ old.code ++ code
-  pub same_blocks : new.open ≡ old.open
+  pub same_blocks : new.blocks ≡ old.blocks
   pub same_labels : new.labels ≡ old.labels
 
 -- the same with the places at which statements begin
@@ -234,5 +234,5 @@ Enters inner old new found = Lists inner.code inner.starts old new found
 -- a text with the words of a block's labels, whose places are known
 pub record Opens (labels : List LabelAt) (old new : Text) : Type 0 where
   pub appended : new.code ≡ old.code ++ label_holes labels
-  pub same_blocks : new.open ≡ old.open
-  pub more_labels : new.labels ≡ old.labels ++ label_places (length old.code + 1) (length old.open) labels
+  pub same_blocks : new.blocks ≡ old.blocks
+  pub more_labels : new.labels ≡ old.labels ++ label_places (length old.code + 1) (length old.blocks) labels

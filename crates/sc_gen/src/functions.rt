@@ -41,7 +41,7 @@ pub fn function(alloc: Global, f: &Fun) -> Result<Items<Symbolic>, NoMemory>
 {
     let mut text = Text {
         code: Items::new(alloc),
-        open: Items::new(alloc),
+        blocks: Items::new(alloc),
         labels: Items::new(alloc),
     };
     prologue(&mut text.code, f.cost)?;
@@ -63,7 +63,7 @@ pub fn function(alloc: Global, f: &Fun) -> Result<Items<Symbolic>, NoMemory>
     epilogue(&mut text.code, f.cost)?;
     let Text {
         code,
-        open: _,
+        blocks: _,
         labels: _,
     } = text;
     Ok(code)

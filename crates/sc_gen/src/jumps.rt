@@ -33,7 +33,7 @@ pub struct Exits {
 #[derive(Drop)]
 pub struct Text {
     pub code: Items<Symbolic>,
-    pub open: Items<u32>,
+    pub blocks: Items<u32>,
     pub labels: Items<LabelPlace>,
 }
 
@@ -68,10 +68,10 @@ fn leaving(code: &mut Items<Symbolic>, block: Option<u32>) -> Result<(), NoMemor
 }
 
 /// Out of the blocks that are not open there to a place.
-pub fn go(code: &mut Items<Symbolic>, open: &[u32], place: Place) -> Result<(), NoMemory>
-    ensures { OnOk result (code.new ≡ code.old ++ spec.go open.now (length code.old) place) }
+pub fn go(code: &mut Items<Symbolic>, blocks: &[u32], place: Place) -> Result<(), NoMemory>
+    ensures { OnOk result (code.new ≡ code.old ++ spec.go blocks.now (length code.old) place) }
 {
-    leaving(code, open.get(place.depth).copied())?;
+    leaving(code, blocks.get(place.depth).copied())?;
     let here = code.len();
     put_one(code, jump(here, place.word))
 }

@@ -84,10 +84,10 @@ fn returned(
 }
 
 fn goes_to(text: &mut Text, label: u32) -> Result<(), NoMemory>
-    ensures { OnOk result (spec.Adds (spec.go_to text.old.open (length text.old.code) (jumps.labelled label text.old.labels)) text.old text.new) }
+    ensures { OnOk result (spec.Adds (spec.go_to text.old.blocks (length text.old.code) (jumps.labelled label text.old.labels)) text.old text.new) }
 {
     match labelled(text.labels.as_slice(), label) {
-        Some(place) => go(&mut text.code, text.open.as_slice(), place),
+        Some(place) => go(&mut text.code, text.blocks.as_slice(), place),
         None => Ok(()),
     }
 }
@@ -240,8 +240,8 @@ pub fn statement(
         CoreStmt::Default(_, s) => statement(alloc, f, temporaries, s.get(), exits, text),
         CoreStmt::Label(_, s) => statement(alloc, f, temporaries, s.get(), exits, text),
         CoreStmt::Goto(_, label) => goes_to(text, *label),
-        CoreStmt::Continue(_) => go(&mut text.code, text.open.as_slice(), exits.on_continue),
-        CoreStmt::Break(_) => go(&mut text.code, text.open.as_slice(), exits.on_break),
+        CoreStmt::Continue(_) => go(&mut text.code, text.blocks.as_slice(), exits.on_continue),
+        CoreStmt::Break(_) => go(&mut text.code, text.blocks.as_slice(), exits.on_break),
         CoreStmt::Return(_, e) => returned(alloc, f, temporaries, e, &mut text.code),
     }
 }
@@ -273,7 +273,7 @@ fn open_labels(labels: &[LabelAt], text: &mut Text) -> Result<(), NoMemory>
     if labels.is_empty() {
         return Ok(());
     }
-    let depth = text.open.len();
+    let depth = text.blocks.len();
     put_one(&mut text.code, over(labels.len()))?;
     for l in labels {
         let word = text.code.len();
@@ -315,11 +315,11 @@ fn block(
 {
     let first = text.code.len();
     let outer = text.labels.len();
-    text.open.push(number)?;
+    text.blocks.push(number)?;
     open_labels(labels, text)?;
     let starts = items_from(alloc, f, temporaries, items, exits, text)?;
     set_labels(&mut text.code, first, labels, starts.as_slice());
-    let _ = text.open.pop();
+    let _ = text.blocks.pop();
     text.labels.truncate(outer);
     block_service(&mut text.code, 3, number)?;
     Ok(starts)
@@ -388,7 +388,7 @@ fn turns(
 ) -> Result<(), NoMemory>
     ensures { OnOk result (spec.Adds (spec.turns_code (spec.frame f.now temporaries) (spec.body_of (spec.frame f.now temporaries) body.now) body_first (option_map (λ e. e.now) e.entry) (option_map (λ e. e.now) after.entry) body.now (length text.old.code) (spec.loop_around text.old)) text.old text.new) }
 {
-    let depth = text.open.len();
+    let depth = text.blocks.len();
     let start = text.code.len();
     put_one(&mut text.code, over(2))?;
     let on_break = text.code.len();
@@ -466,7 +466,7 @@ fn switch(
     ensures { OnOk result (spec.Adds (spec.switch_of (spec.frame f.now temporaries) (spec.body_of (spec.frame f.now temporaries) body.now) e.now labels.now body.now (length text.old.code) (spec.around text.old exits)) text.old text.new) }
 {
     expression(alloc, f.blocks.as_slice(), e, temporaries, &mut text.code)?;
-    let depth = text.open.len();
+    let depth = text.blocks.len();
     let to_labels = text.code.len();
     put_one(&mut text.code, over(0))?;
     let on_break = text.code.len();

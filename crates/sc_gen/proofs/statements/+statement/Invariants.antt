@@ -12,6 +12,6 @@ invariant-items_from-loop-s l =
           ≡ l.initial.text.code ++ items_code (ps l.items) l.items (length l.initial.text.code) out;
       places : l.starts ++ starts (ps (drop l.s-index l.items)) (drop l.s-index l.items) (length l.text.code) out
           ≡ starts (ps l.items) l.items (length l.initial.text.code) out;
-      same_blocks : l.text.open ≡ l.initial.text.open;
+      same_blocks : l.text.blocks ≡ l.initial.text.blocks;
       same_labels : l.text.labels ≡ l.initial.text.labels;
     }

@@ -9,5 +9,5 @@ invariant-loop-l l = record {
   words : l.text.code ++ replicate (length l.labels - l.l-index) (over 0) ≡ l.initial.text.code ++ replicate (length l.labels) (over 0);
   places : l.text.labels ++ label_places (length l.text.code) l.depth (drop l.l-index l.labels)
       ≡ l.initial.text.labels ++ label_places (length l.initial.text.code) l.depth l.labels;
-  same : l.text.open ≡ l.initial.text.open;
+  same : l.text.blocks ≡ l.initial.text.blocks;
 }
