@@ -1,5 +1,5 @@
 -- The text of a function: its frame is taken, the parameters are born, and the body is run; behind its end the function returns without a value.
-use Rattle.std.specs.Prelude.{ℕ, ◌-◌, ◌*◌, min, if◌then◌else◌, nat_le, List, [], ◌∷◌, ◌++◌, length, pos, neg_ℤ}
+use Rattle.std.specs.Prelude.{ℕ, ◌-◌, ◌*◌, min, if◌then◌else◌, nat_le, [], ◌∷◌, ◌++◌, length, pos, neg_ℤ}
 use Rattle.sc_isa.specs.declared.instruction.StoreOp.TheVariants.{Sw}
 use Rattle.sc_isa.specs.declared.instruction.RegOp.TheVariants as reg
 use Rattle.sc_core.specs.declared.module.Fun.{Fun}

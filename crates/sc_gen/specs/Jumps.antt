@@ -1,5 +1,5 @@
 -- Jumps to places of a function's text, which are counted in words from its beginning, and the blocks that are left on the way.
-use Rattle.std.specs.Prelude.{ℕ, ◌+◌, ◌*◌, ◌==◌, ◌&&◌, if◌then◌else◌, nat_lt, List, [], ◌∷◌, ◌++◌, length, slice_get, slice_set, slice_index_or, replicate, Option, Some, None, ℤ, pos, ◌-ℤ◌}
+use Rattle.std.specs.Prelude.{ℕ, ◌+◌, ◌*◌, ◌==◌, ◌&&◌, if◌then◌else◌, nat_lt, List, [], ◌∷◌, ◌++◌, length, slice_get, slice_set, slice_index_or, replicate, Option, Some, None, pos, ◌-ℤ◌}
 use Rattle.std.specs.Option.{option_or}
 use Rattle.sc_isa.specs.declared.instruction.Instr.TheVariants.{Jal, Branch}
 use Rattle.sc_isa.specs.declared.instruction.BranchOp.TheVariants.{Bne}

@@ -1,6 +1,6 @@
 -- The nodes of a typed tree: expressions but conversions, statements, and one for each function, automatic object, static object, item of
 -- an initialiser, literal and declared name. A string that initialises an array has as many as it has bytes.
-use Rattle.std.specs.Prelude.{ℕ, ◌+◌, ◌*◌, ◌≤◌, List, [], ◌∷◌, length, map, sum, sum_by, Option, Some, None}
+use Rattle.std.specs.Prelude.{ℕ, ◌+◌, ◌*◌, ◌≤◌, List, [], ◌∷◌, length, sum, sum_by, Option, Some, None}
 use Rattle.sc_core.specs.declared.expression.CoreExpr.{CoreExpr, fold-CoreExpr}
 use Rattle.sc_core.specs.declared.expression.CoreExpr.TheOpen.{CoreExpr-F}
 use Rattle.sc_core.specs.declared.statement.AutoInit.{AutoInit}

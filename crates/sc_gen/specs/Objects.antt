@@ -1,7 +1,6 @@
 -- The object of a module: its sections, the symbols that it names, its relocations, and the frames of its functions (ELF gABI, RISC-V psABI).
-use Rattle.std.specs.Prelude.{ℕ, ◌+◌, not, List, [], ◌∷◌, ◌++◌, length, map, filter, flat_map, position, slice_get, if◌then◌else◌, Option, Some, None, option_and_then}
+use Rattle.std.specs.Prelude.{ℕ, ◌+◌, not, List, [], ◌∷◌, ◌++◌, map, filter, flat_map, position, slice_get, if◌then◌else◌, Option, Some, None, option_and_then}
 use Rattle.std.specs.Option.{option_map}
-use Rattle.sc_base.specs.declared.key.Key.{Key}
 use Rattle.sc_program.specs.declared.storage.StaticId.{StaticId}
 use Rattle.sc_program.specs.declared.storage.StaticId.TheVariants as id
 use Rattle.sc_check_operand.specs.Types.{is_function}
@@ -21,7 +20,7 @@ use Rattle.sc_gen_expr.specs.declared.symbolic.Target.TheVariants as target
 use Rattle.sc_gen_expr.specs.Words.{targets, target_eq, mention_all, number_of, relocs, fitted}
 use Rattle.sc_gen.specs.Functions.{function_code}
 use Rattle.sc_gen.specs.Blocks.{frame_table}
-use Rattle.sc_gen.specs.Sections.{Made, key_of, target_of, target_name, is_global, text_section, object_section, literal_section, literal_number, object_as, init_target, init_relocs}
+use Rattle.sc_gen.specs.Sections.{Made, key_of, target_name, is_global, text_section, object_section, literal_section, literal_number, object_as, init_target, init_relocs}
 
 -- the text of a function
 abbrev pub made_function : Core → Fun → Made

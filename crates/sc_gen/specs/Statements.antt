@@ -1,6 +1,6 @@
 -- The code of a statement (ANSI 3.6) whose first word stands at a place of its function's text. A jump stays inside its own construct, or goes
 -- back to a word of an enclosing one.
-use Rattle.std.specs.Prelude.{◌≡◌, ℕ, ◌+◌, ◌-◌, Bool, true, false, if◌then◌else◌, nat_le, nat_lt, List, [], ◌∷◌, ◌++◌, length, Option, Some, None, ℤ, pos, neg_ℤ}
+use Rattle.std.specs.Prelude.{◌≡◌, ℕ, ◌+◌, ◌-◌, Bool, true, false, if◌then◌else◌, nat_lt, List, [], ◌∷◌, ◌++◌, length, Option, Some, None, pos}
 use Rattle.sc_isa.specs.declared.instruction.Instr.TheVariants.{Jalr}
 use Rattle.sc_isa.specs.declared.instruction.LoadOp.TheVariants.{Lw}
 use Rattle.sc_isa.specs.declared.instruction.RegOp.TheVariants as reg

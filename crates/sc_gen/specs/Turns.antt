@@ -1,11 +1,11 @@
 -- How many turns of the machine stand between two units of the meaning's work, over the code of the templates. A turn is an instruction,
 -- and one more for a service. A unit is the beginning and the end of an expression that is no conversion, of a statement and of an
 -- initialised declarator, and each label of a `switch` that is compared.
-use Rattle.std.specs.Prelude.{ℕ, ◌+◌, ◌≤◌, max, min, true, List, [], ◌∷◌, ◌++◌, length, sum_by, Option, Some, None}
+use Rattle.std.specs.Prelude.{ℕ, ◌+◌, ◌≤◌, max, true, List, [], ◌∷◌, ◌++◌, sum_by, Option, Some, None}
 use Rattle.sc_base.specs.declared.key.Key.{Key}
 use Rattle.sc_base.specs.declared.operator.Op.TheVariants as op
 use Rattle.sc_isa.specs.declared.instruction.Instr.{Instr}
-use Rattle.sc_isa.specs.declared.instruction.Instr.TheVariants.{Lui, Auipc, Jal, Jalr, Branch, Load, Store, Imm, Reg, Ecall, Fence}
+use Rattle.sc_isa.specs.declared.instruction.Instr.TheVariants.{Ecall}
 use Rattle.sc_core.specs.declared.expression.CoreExpr.{CoreExpr, out-CoreExpr, fold-CoreExpr}
 use Rattle.sc_core.specs.declared.expression.CoreExpr.TheOpen.{CoreExpr-F}
 use Rattle.sc_core.specs.declared.module.Auto.{Auto}
