@@ -18,8 +18,8 @@ pub place-more : (p : Target → Bool) (xs ys : List Target) → list_any p xs �
 place-more p [] ys h = cc
 place-more p (x ∷ xs) ys h =
     elim (p x) as (λ b. p x ≡ b → position_or_len p ((x ∷ xs) ++ ys) ≡ position_or_len p (x ∷ xs)) [
-      | true ↦ λ e. rw e refl
-      | false ↦ λ e. rw e (ap (λ (n : ℕ). suc n) (place-more p xs ys (sym (ap (λ (b : Bool). b || list_any p xs) e) ∙ h)))
+      true ↦ λ e. rw e refl
+      | false ↦ λ e. rw e (ap (λ (n : ℕ). 1 + n) (place-more p xs ys (sym (ap (λ (b : Bool). b || list_any p xs) e) ∙ h)))
     ] refl
 
 -- naming one more only appends
