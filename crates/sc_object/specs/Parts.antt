@@ -1,6 +1,7 @@
 -- The sections of an object's file, in the order of the file, but for the last one.
-use Rattle.std.specs.Prelude.{ℕ, ◌+◌, ◌*◌, ◌%◌, ◌==◌, Bool, not, if◌then◌else◌, List, [], ◌∷◌, ◌++◌, length, fold, filter, flat_map, map, replicate, codes, Option, None, Some}
+use Rattle.std.specs.Prelude.{ℕ, ◌+◌, ◌*◌, ◌%◌, ◌==◌, Bool, not, if◌then◌else◌, List, [], ◌∷◌, ◌++◌, length, take, drop, fold, filter, flat_map, map, replicate, codes, Option, None, Some}
 use Rattle.std.specs.Int.{w32, cast_unsigned}
+use Rattle.std.specs.List.{prefix_len}
 use Rattle.sc_program.specs.declared.frame.Slot.{Slot}
 use Rattle.sc_object.specs.declared.object.SectionKind.{SectionKind}
 use Rattle.sc_object.specs.declared.object.SectionKind.TheVariants.{Text, Data, Rodata, Bss}
@@ -56,24 +57,27 @@ section_part s = plain_part (prefix s.kind ++ s.name) (type_of s.kind) (flags_of
 abbrev pub entry_of : Reloc → List ℕ
 entry_of r = word r.at ++ word ((r.symbol + 1) * 256 + r.kind) ++ word (cast_unsigned w32 r.addend)
 
--- the entry of a relocation where it is one of the section with this number
-abbrev pub entry_in : ℕ → Reloc → List ℕ
-entry_in n r = if r.section == n then entry_of r else []
+abbrev pub entries : List Reloc → List ℕ
+entries rs = flat_map entry_of rs
 
-abbrev pub entries : ℕ → List Reloc → List ℕ
-entries n rs = flat_map (entry_in n) rs
+abbrev pub is_of : ℕ → Reloc → Bool
+is_of n r = r.section == n
 
-abbrev pub rela_of : Section → ℕ → List ℕ → Rela
-rela_of s number bytes = record { name = codes ".rela" ++ prefix s.kind ++ s.name; number = number; bytes = bytes }
+-- how many relocations from the front on are of section n
+abbrev pub group_len : ℕ → List Reloc → ℕ
+group_len n rs = prefix_len (is_of n) rs
 
-abbrev pub with_entries : List Rela → Section → ℕ → List ℕ → List Rela
-with_entries all s n [] = all
-with_entries all s n (b ∷ bs) = all ++ rela_of s (n + 1) (b ∷ bs) ∷ []
+abbrev pub rela_of : Section → ℕ → List Reloc → Rela
+rela_of s number group = record { name = codes ".rela" ++ prefix s.kind ++ s.name; number = number; bytes = entries group }
+
+-- a section with no relocation has no part of them
+abbrev pub with_group : List Rela → Section → ℕ → List Reloc → List Rela
+with_group all s n group = if length group == 0 then all else all ++ rela_of s (n + 1) group ∷ []
 
 -- the relocations of the sections from number n on, behind those before
 abbrev pub relas : List Reloc → List Rela → ℕ → List Section → List Rela
 relas rs all n [] = all
-relas rs all n (s ∷ ss) = relas rs (with_entries all s n (entries n rs)) (n + 1) ss
+relas rs all n (s ∷ ss) = relas (drop (group_len n rs) rs) (with_group all s n (take (group_len n rs) rs)) (n + 1) ss
 
 abbrev pub rela_part : ℕ → Rela → Part
 rela_part symbols r = record {
