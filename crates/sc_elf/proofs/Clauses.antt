@@ -19,10 +19,10 @@ found_is version bytes r known e o file = e ∙ parsed_back version bytes o know
 
 pub found_other : (version : ℕ) (bytes : List ℕ) (p : Object) (b : Bool) → (version ≡ 1) ⊎ (version ≡ 2) → Some p ≡ parsed version bytes
     → (b ≡ true) ↔ IsFileOf version p bytes → b ≡ false → (o : Object) → IsFileOf version o bytes → let none : Option Object = None in none ≡ Some o
-found_other version bytes p b known e decides no o file =
+found_other version bytes p b known e decides differs o file =
     let same : p ≡ o = ap (λ z. unwrap_or z p) (found_is version bytes (Some p) known e o file) in
     let own : IsFileOf version p bytes = subst (λ z. IsFileOf version z bytes) (sym same) file in
-    absurd (both_ways b no (decides.1 own))
+    absurd (both_ways b differs (decides.1 own))
 
 -- a refusal for the header
 header_fails : (bytes : List ℕ) (fault : ElfFault) → Some fault ≡ wrong_header bytes → (o : Object) → IsFileOf 2 o bytes → ⊥

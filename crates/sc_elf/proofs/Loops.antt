@@ -82,9 +82,8 @@ sections_some ps i all more m e p k s whole inv below p-is k-is e-is s-is more-i
     (λ t. sections_in (more-is t) (drop (i + 1) ps) (e-is t))
     ∙ ap (λ z. sections_in (all ++ z ∷ []) (drop (i + 1) ps) (behind_text (named k m))) s-is
     ∙ ap (λ o. elim o as (λ _. List Section) [
-      | None ↦ sections_in all (drop (i + 1) ps) m
-      | Some kind ↦ sections_in (all ++ section_in kind p (text (named kind m)) ∷ []) (drop (i + 1) ps) (behind_text (named kind m))
-    ]) k-is
+        None ↦ sections_in all (drop (i + 1) ps) m
+      | Some kind ↦ sections_in (all ++ section_in kind p (text (named kind m)) ∷ []) (drop (i + 1) ps) (behind_text (named kind m)) ]) k-is
     ∙ ap (λ z. sections_in all z m) (sym here)
     ∙ inv
 
@@ -94,8 +93,7 @@ pub sections_none : (ps : List Piece) (i : ℕ) (all : List Section) (m : List �
 sections_none ps i all m p whole inv below p-is k-is =
     let here : drop i ps ≡ p ∷ drop (i + 1) ps = drop_more ps i p below ∙ ap (λ q. q ∷ drop (i + 1) ps) (sym p-is) in
     ap (λ o. elim o as (λ _. List Section) [
-      | None ↦ sections_in all (drop (i + 1) ps) m
-      | Some kind ↦ sections_in (all ++ section_in kind p (text (named kind m)) ∷ []) (drop (i + 1) ps) (behind_text (named kind m))
-    ]) k-is
+        None ↦ sections_in all (drop (i + 1) ps) m
+      | Some kind ↦ sections_in (all ++ section_in kind p (text (named kind m)) ∷ []) (drop (i + 1) ps) (behind_text (named kind m)) ]) k-is
     ∙ ap (λ z. sections_in all z m) (sym here)
     ∙ inv

@@ -1,6 +1,6 @@
 // The tables of frames as bytes.
-ghost use Rattle.std.specs.Prelude.{◌≡◌, ◌++◌, IfOk, OnOk};
-ghost use Rattle.sc_object.specs.Parts.{slot_words, line_words, block_words, frame_words, saber_words};
+ghost use Rattle.std.specs.Prelude.{◌≡◌, ◌++◌, IfOk, OnOk, flat_map};
+ghost use Rattle.sc_object.specs.Parts.{slot_words, line_words, block_words, frame_head, frame_words, saber_words};
 
 use crate::word::put_word;
 use sc_base::NoMemory;
@@ -36,14 +36,35 @@ fn put_block(bytes: &mut Vec<u8>, version: usize, b: &BlockTable) -> Result<(), 
     Ok(())
 }
 
-fn put_frame(bytes: &mut Vec<u8>, version: usize, f: &FrameTable) -> Result<(), NoMemory>
-    ensures { OnOk result (bytes.new.items ≡ bytes.old.items ++ frame_words version f.now) }
+fn put_blocks(bytes: &mut Vec<u8>, version: usize, blocks: &[BlockTable]) -> Result<(), NoMemory>
+    ensures { OnOk result (bytes.new.items ≡ bytes.old.items ++ flat_map (block_words version) blocks.now) }
+{
+    for block in blocks {
+        put_block(bytes, version, block)?;
+    }
+    Ok(())
+}
+
+fn put_frame_head(bytes: &mut Vec<u8>, f: &FrameTable) -> Result<(), NoMemory>
+    ensures { OnOk result (bytes.new.items ≡ bytes.old.items ++ frame_head f.now) }
 {
     put_word(bytes, f.symbol as usize + 1)?;
     put_word(bytes, f.cost as usize)?;
-    put_word(bytes, f.blocks.len())?;
-    for block in f.blocks.as_slice() {
-        put_block(bytes, version, block)?;
+    put_word(bytes, f.blocks.len())
+}
+
+fn put_frame(bytes: &mut Vec<u8>, version: usize, f: &FrameTable) -> Result<(), NoMemory>
+    ensures { OnOk result (bytes.new.items ≡ bytes.old.items ++ frame_words version f.now) }
+{
+    put_frame_head(bytes, f)?;
+    put_blocks(bytes, version, f.blocks.as_slice())
+}
+
+fn put_frames(bytes: &mut Vec<u8>, version: usize, frames: &[FrameTable]) -> Result<(), NoMemory>
+    ensures { OnOk result (bytes.new.items ≡ bytes.old.items ++ flat_map (frame_words version) frames.now) }
+{
+    for frame in frames {
+        put_frame(bytes, version, frame)?;
     }
     Ok(())
 }
@@ -55,8 +76,6 @@ pub fn saber(alloc: Global, version: usize, frames: &[FrameTable]) -> Result<Vec
     let mut bytes = Vec::new(alloc);
     put_word(&mut bytes, version)?;
     put_word(&mut bytes, frames.len())?;
-    for frame in frames {
-        put_frame(&mut bytes, version, frame)?;
-    }
+    put_frames(&mut bytes, version, frames)?;
     Ok(bytes)
 }

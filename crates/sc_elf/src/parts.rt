@@ -1,13 +1,13 @@
 // The sections of a file, in its order, but for the last one.
-ghost use Rattle.std.specs.Prelude.{◌≡◌, ◌<◌, ◌^◌, ◌+◌, ◌++◌, IfOk, length, map};
-ghost use Rattle.sc_object.specs.Parts.{plain_part, symbols_part, rela_part, tables, parts};
+ghost use Rattle.std.specs.Prelude.{◌≡◌, ◌<◌, ◌^◌, ◌+◌, ◌++◌, IfOk, length, filter, map, codes};
+ghost use Rattle.sc_object.specs.Parts.{plain_part, saber_words, saber_part, is_local, symbols_part, strings_part, symbol_parts, rela_part, tables, parts};
 
 use crate::frames::saber;
 use crate::relocations::{rela_part, relas};
 use crate::sections::section_parts;
 use crate::symbols::{local_count, symbol_table};
 use sc_base::{Bytes, Items, NoMemory};
-use sc_object::{Object, Part, Rela, SymbolTable};
+use sc_object::{FrameTable, Object, Part, Rela, Symbol, SymbolTable};
 use std::alloc::Global;
 
 /// A part that points to no other.
@@ -66,6 +66,48 @@ fn with_relas(
     Ok(all)
 }
 
+fn saber_part(alloc: Global, version: usize, frames: &[FrameTable]) -> Result<Part, NoMemory>
+    ensures { IfOk result (λ p. p ≡ saber_part (saber_words version frames.now)) }
+{
+    let bytes = Bytes::from_vec(saber(alloc, version, frames)?);
+    let name = Bytes::from_slice(alloc, b".saber")?;
+    Ok(plain_part(name, 1, bytes, 4))
+}
+
+fn symtab_part(
+    alloc: Global,
+    strings: usize,
+    symbols: &[Symbol],
+    entries: Bytes,
+) -> Result<Part, NoMemory>
+    ensures { IfOk result (λ p. p ≡ symbols_part strings (length (filter is_local symbols.now)) entries) }
+{
+    let locals = local_count(symbols);
+    symbols_part(alloc, strings, locals, entries)
+}
+
+fn strtab_part(alloc: Global, names: Bytes) -> Result<Part, NoMemory>
+    ensures { IfOk result (λ p. p ≡ strings_part (codes ".strtab") names) }
+{
+    let name = Bytes::from_slice(alloc, b".strtab")?;
+    Ok(plain_part(name, 3, names, 1))
+}
+
+fn with_symbols(
+    alloc: Global,
+    all: Items<Part>,
+    strings: usize,
+    symbols: &[Symbol],
+) -> Result<Items<Part>, NoMemory>
+    ensures { IfOk result (λ ps. ps ≡ all ++ symbol_parts strings symbols.now) }
+{
+    let mut all = all;
+    let SymbolTable { entries, names } = symbol_table(alloc, symbols)?;
+    all.push(symtab_part(alloc, strings, symbols, entries)?)?;
+    all.push(strtab_part(alloc, names)?)?;
+    Ok(all)
+}
+
 fn with_tables(
     alloc: Global,
     all: Items<Part>,
@@ -77,22 +119,8 @@ fn with_tables(
     ensures { IfOk result (λ ps. ps ≡ all ++ tables version symbols o.now) }
 {
     let mut all = all;
-    let frames = saber(alloc, version, o.frames.as_slice())?;
-    all.push(plain_part(
-        Bytes::from_slice(alloc, b".saber")?,
-        1,
-        Bytes::from_vec(frames),
-        4,
-    ))?;
-    let SymbolTable { entries, names } = symbol_table(alloc, o.symbols.as_slice())?;
-    all.push(symbols_part(
-        alloc,
-        symbols + 1,
-        local_count(o.symbols.as_slice()),
-        entries,
-    )?)?;
-    all.push(plain_part(Bytes::from_slice(alloc, b".strtab")?, 3, names, 1))?;
-    Ok(all)
+    all.push(saber_part(alloc, version, o.frames.as_slice())?)?;
+    with_symbols(alloc, all, symbols + 1, o.symbols.as_slice())
 }
 
 /// The parts of an object's file but for the last, with frame tables of a version.

@@ -2,7 +2,7 @@
 ghost use Rattle.std.specs.Prelude.{◌≡◌, ◌≤◌, ◌<◌, ◌^◌, ◌+◌, ◌++◌, IfOk, OnOk, length, take, drop};
 ghost use Rattle.std.specs.Int.{w32, cast_unsigned};
 ghost use Rattle.sc_object.specs.Words.{word};
-ghost use Rattle.sc_object.specs.Parts.{entry_of, entries, is_of, group_len, rela_of, with_group, relas, all_relas, rela_part};
+ghost use Rattle.sc_object.specs.Parts.{reloc_info, entry_of, entries, is_of, group_len, rela_of, with_group, relas, all_relas, rela_part};
 
 use crate::sections::{joined, prefix};
 use crate::word::put_word;
@@ -17,12 +17,20 @@ fn put_addend(bytes: &mut Vec<u8>, addend: i32) -> Result<(), NoMemory>
     put_word(bytes, unsigned as usize)
 }
 
+// The symbol's number in the file, and the type.
+fn info_of(r: &Reloc) -> usize
+    ensures { result ≡ reloc_info r.now }
+{
+    (r.symbol as usize + 1) * 256 + usize::from(r.kind)
+}
+
 fn put_entry(bytes: &mut Vec<u8>, r: &Reloc) -> Result<(), NoMemory>
     ensures { OnOk result (bytes.new.items ≡ bytes.old.items ++ entry_of r.now) }
 {
     put_word(bytes, r.at as usize)?;
-    put_word(bytes, (r.symbol as usize + 1) * 256 + usize::from(r.kind))?;
-    put_addend(bytes, r.addend)
+    put_word(bytes, info_of(r))?;
+    put_addend(bytes, r.addend)?;
+    Ok(())
 }
 
 fn entries(alloc: Global, relocs: &[Reloc]) -> Result<Vec<u8>, NoMemory>

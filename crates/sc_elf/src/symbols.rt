@@ -1,5 +1,5 @@
 // The table of symbols as bytes (gABI, "Symbol Table").
-ghost use Rattle.std.specs.Prelude.{◌≡◌, ◌++◌, IfOk, OnOk, length, filter};
+ghost use Rattle.std.specs.Prelude.{◌≡◌, ◌<◌, ◌^◌, ◌++◌, IfOk, OnOk, length, filter};
 ghost use Rattle.sc_object.specs.Parts.{info_of, number_of, symbol_entry, with_symbol, symbol_table, is_local};
 
 use crate::word::{put_half, put_word};
@@ -66,9 +66,18 @@ pub fn symbol_table(alloc: Global, symbols: &[Symbol]) -> Result<SymbolTable, No
     Ok(table)
 }
 
-/// How many symbols are of local binding.
-pub fn local_count(symbols: &[Symbol]) -> usize
+fn count_locals(symbols: &[Symbol]) -> usize
     ensures { result ≡ length (filter is_local symbols.now) }
 {
     symbols.iter().filter(|s| !s.global).count()
+}
+
+/// How many symbols are of local binding; no more than there are.
+pub fn local_count(symbols: &[Symbol]) -> usize
+    ensures count { result ≡ length (filter is_local symbols.now) }
+    ensures bound { result < 2 ^ 63 }
+{
+    let all = symbols.len();
+    let locals = count_locals(symbols);
+    if locals < all { locals } else { all }
 }

@@ -53,9 +53,13 @@ plain_part name kind flags bytes size align = record {
 abbrev pub section_part : Section → Part
 section_part s = plain_part (prefix s.kind ++ s.name) (type_of s.kind) (flags_of s.kind) s.bytes s.size 4
 
--- an entry of relocations: the place, the symbol in the file's numbers with the kind, the addend
+-- the symbol in the file's numbers, and the type
+abbrev pub reloc_info : Reloc → ℕ
+reloc_info r = (r.symbol + 1) * 256 + r.kind
+
+-- an entry of relocations: the place, that, the addend
 abbrev pub entry_of : Reloc → List ℕ
-entry_of r = word r.at ++ word ((r.symbol + 1) * 256 + r.kind) ++ word (cast_unsigned w32 r.addend)
+entry_of r = word r.at ++ word (reloc_info r) ++ word (cast_unsigned w32 r.addend)
 
 abbrev pub entries : List Reloc → List ℕ
 entries rs = flat_map entry_of rs
@@ -102,8 +106,11 @@ line_words version line = if version == 1 then [] else word line
 abbrev pub block_words : ℕ → BlockTable → List ℕ
 block_words version b = line_words version b.line ++ word (length b.slots) ++ flat_map slot_words b.slots
 
+abbrev pub frame_head : FrameTable → List ℕ
+frame_head f = word (f.symbol + 1) ++ word f.cost ++ word (length f.blocks)
+
 abbrev pub frame_words : ℕ → FrameTable → List ℕ
-frame_words version f = word (f.symbol + 1) ++ word f.cost ++ word (length f.blocks) ++ flat_map (block_words version) f.blocks
+frame_words version f = frame_head f ++ flat_map (block_words version) f.blocks
 
 abbrev pub saber_words : ℕ → List FrameTable → List ℕ
 saber_words version fs = word version ++ word (length fs) ++ flat_map (frame_words version) fs
@@ -148,11 +155,16 @@ symbols_part strings locals bytes = record {
 abbrev pub strings_part : List ℕ → List ℕ → Part
 strings_part name bytes = plain_part name 3 0 bytes (length bytes) 1
 
+-- the table of symbols, which points to the names with this number, and the names
+abbrev pub symbol_parts : ℕ → List Symbol → List Part
+symbol_parts strings ss =
+  symbols_part strings (length (filter is_local ss)) (symbol_table ss).entries
+  ∷ strings_part (codes ".strtab") (symbol_table ss).names
+  ∷ []
+
 -- the three parts behind the sections and their relocations; the table of symbols has this number
 abbrev pub tables : ℕ → ℕ → Object → List Part
-tables version symbols o =
-    saber_part (saber_words version o.frames) ∷ symbols_part (symbols + 1) (length (filter is_local o.symbols)) (symbol_table o.symbols).entries
-    ∷ strings_part (codes ".strtab") (symbol_table o.symbols).names ∷ []
+tables version symbols o = saber_part (saber_words version o.frames) ∷ symbol_parts (symbols + 1) o.symbols
 
 abbrev pub all_relas : Object → List Rela
 all_relas o = relas o.relocs [] 0 o.sections

@@ -26,9 +26,15 @@ header shoff shnum = (((ident ++ before_shoff) ++ word shoff) ++ behind_shoff) +
 abbrev pub padded : List ℕ → List ℕ
 padded bytes = bytes ++ replicate ((4 - length bytes % 4) % 4) 0
 
+-- the first and the last five words of a section's header
+abbrev pub header_front : Part → ℕ → ℕ → List ℕ
+header_front p name place = word name ++ word p.kind ++ word p.flags ++ word 0 ++ word place
+
+abbrev pub header_back : Part → List ℕ
+header_back p = word p.size ++ word p.link ++ word p.info ++ word p.align ++ word p.entry
+
 abbrev pub section_header : Part → ℕ → ℕ → List ℕ
-section_header p name place =
-    word name ++ word p.kind ++ word p.flags ++ word 0 ++ word place ++ word p.size ++ word p.link ++ word p.info ++ word p.align ++ word p.entry
+section_header p name place = header_front p name place ++ header_back p
 
 -- the contents stand behind the header's 52 bytes
 abbrev pub with_part : Laid → Part → Laid
