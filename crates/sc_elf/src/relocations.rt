@@ -10,10 +10,10 @@ use sc_base::{Bytes, Duplicate, Items, NoMemory};
 use sc_object::{Object, Part, Rela, Reloc, Section};
 use std::alloc::Global;
 
-fn put_addend(bytes: &mut Vec<u8>, addend: i32) -> Result<(), NoMemory>
-    ensures { OnOk result (bytes.new.items ≡ bytes.old.items ++ word (cast_unsigned w32 addend)) }
+fn put_addend(bytes: &mut Vec<u8>, r: &Reloc) -> Result<(), NoMemory>
+    ensures { OnOk result (bytes.new.items ≡ bytes.old.items ++ word (cast_unsigned w32 r.now.addend)) }
 {
-    let unsigned = addend.cast_unsigned();
+    let unsigned = r.addend.cast_unsigned();
     put_word(bytes, unsigned as usize)
 }
 
@@ -29,7 +29,7 @@ fn put_entry(bytes: &mut Vec<u8>, r: &Reloc) -> Result<(), NoMemory>
 {
     put_word(bytes, r.at as usize)?;
     put_word(bytes, info_of(r))?;
-    put_addend(bytes, r.addend)?;
+    put_addend(bytes, r)?;
     Ok(())
 }
 
