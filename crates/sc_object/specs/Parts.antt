@@ -158,9 +158,9 @@ strings_part name bytes = plain_part name 3 0 bytes (length bytes) 1
 -- the table of symbols, which points to the names with this number, and the names
 abbrev pub symbol_parts : ℕ → List Symbol → List Part
 symbol_parts strings ss =
-  symbols_part strings (length (filter is_local ss)) (symbol_table ss).entries
-  ∷ strings_part (codes ".strtab") (symbol_table ss).names
-  ∷ []
+    symbols_part strings (length (filter is_local ss)) (symbol_table ss).entries
+    ∷ strings_part (codes ".strtab") (symbol_table ss).names
+    ∷ []
 
 -- the three parts behind the sections and their relocations; the table of symbols has this number
 abbrev pub tables : ℕ → ℕ → Object → List Part
