@@ -1,3 +1,4 @@
+-- Yardstick: to be compared with what it restates (docs/TRUST.md).
 -- What it is for a module to be translated, and for its text to be refused (ANSI 2.1.1.2).
 use Rattle.std.specs.Prelude.{◌≡◌, ℕ, true, List, Contains, Option, Some, None, Result, Ok, Err, ⊤}
 use Rattle.sc_base.specs.declared.refusal.Refusal.{Refusal}

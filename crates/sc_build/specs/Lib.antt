@@ -1,1 +1,2 @@
+-- Inside: plumbing, a representation, an invariant or a promise beside the claim (docs/TRUST.md).
 pub mod Builds

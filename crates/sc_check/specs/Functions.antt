@@ -1,3 +1,4 @@
+-- Yardstick: to be compared with what it restates (docs/TRUST.md).
 -- Definitions of functions (ANSI 3.7.1).
 use Rattle.std.specs.Prelude.{ℕ, Bool, false, if◌then◌else◌, List, [], ◌∷◌, ◌++◌, map, drop, slice_get, Option, Some, None, is_some, is_none, option_map, Ok}
 use Rattle.sc_tree.specs.declared.expression.Expr.{Expr}

@@ -1,3 +1,4 @@
+-- Yardstick: to be compared with what it restates (docs/TRUST.md).
 -- The refusal of translation that a finding stands for.
 use Rattle.std.specs.Prelude.{ℕ, ◌≡◌, [], Result, Ok, Err, codes}
 use Rattle.sc_base.specs.declared.NoMemory.{NoMemory}

@@ -1,3 +1,4 @@
+-- Inside: plumbing, a representation, an invariant or a promise beside the claim (docs/TRUST.md).
 -- Steps of a unit that change the names with linkage alone.
 use Rattle.std.specs.Prelude.{List, Ok}
 use Rattle.sc_check_declare.specs.Outcomes.{Outcome}

@@ -1,3 +1,4 @@
+-- Yardstick: to be compared with what it restates (docs/TRUST.md).
 -- Assignments (ANSI 3.3.16).
 use Rattle.std.specs.Prelude.{ℕ, Bool, if◌then◌else◌, List, Option, Some, None, Ok}
 use Rattle.sc_base.specs.declared.operator.Op.{Op}

@@ -1,3 +1,4 @@
+-- Yardstick: to be compared with what it restates (docs/TRUST.md).
 -- Operators between two operands, and the comma (ANSI 3.3.5 to 3.3.14, 3.3.17).
 use Rattle.std.specs.Prelude.{ℕ, Bool, true, false, ◌&&◌, ◌||◌, if◌then◌else◌, List, Ok}
 use Rattle.sc_base.specs.declared.integer.Int.{Int}

@@ -1,3 +1,4 @@
+-- Inside: plumbing, a representation, an invariant or a promise beside the claim (docs/TRUST.md).
 -- What holds of every tree that the productions make, one level at a time.
 use Rattle.std.specs.Prelude.{◌≡◌, ℕ, zero, suc, Bool, true, List, [], ◌∷◌, Option, Ok, Err}
 use Rattle.sc_base.specs.declared.key.Key.{Key}

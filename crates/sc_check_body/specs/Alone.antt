@@ -1,3 +1,4 @@
+-- Yardstick: to be compared with what it restates (docs/TRUST.md).
 -- Declarations without declarators, and the type of each declarator (ANSI 3.5).
 use Rattle.std.specs.Prelude.{ℕ, Bool, true, false, ◌&&◌, if◌then◌else◌, List, [], ◌∷◌, Option, Some, None, is_some, Ok}
 use Rattle.sc_tree.specs.declared.declaration.Declaration.{Declaration}

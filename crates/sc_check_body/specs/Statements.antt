@@ -1,3 +1,4 @@
+-- Yardstick: to be compared with what it restates (docs/TRUST.md).
 -- The expressions of statements (ANSI 3.6).
 use Rattle.std.specs.Prelude.{ℕ, false, if◌then◌else◌, List, Option, Some, None, Ok}
 use Rattle.sc_base.specs.declared.integer.Int.{Int}

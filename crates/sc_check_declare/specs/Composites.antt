@@ -1,3 +1,4 @@
+-- Yardstick: to be compared with what it restates (docs/TRUST.md).
 -- The composite of two compatible types (ANSI 3.1.2.6).
 use Rattle.std.specs.Prelude.{max, List, [], ◌∷◌, map}
 use Rattle.sc_types.specs.declared.ctype.CType.{CType, fold-CType, out-CType}

@@ -1,3 +1,4 @@
+-- Inside: plumbing, a representation, an invariant or a promise beside the claim (docs/TRUST.md).
 -- Outcomes: a value, or a refusal.
 use Rattle.std.specs.Prelude.{ℕ, ◌≡◌, ⊤, [], Result, Ok, Err, codes}
 use Rattle.sc_base.specs.declared.refusal.X.{X}

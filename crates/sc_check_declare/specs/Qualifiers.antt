@@ -1,3 +1,4 @@
+-- Yardstick: to be compared with what it restates (docs/TRUST.md).
 -- The qualifier of a type (ANSI 3.5.3).
 use Rattle.std.specs.Prelude.{Bool, true, false, if◌then◌else◌}
 use Rattle.sc_types.specs.declared.ctype.CType.{CType, fold-CType, out-CType}

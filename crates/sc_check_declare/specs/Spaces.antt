@@ -1,3 +1,4 @@
+-- Yardstick: to be compared with what it restates (docs/TRUST.md).
 -- Name spaces and scopes (ANSI 3.1.2.1, 3.1.2.3).
 use Rattle.std.specs.Prelude.{ℕ, ◌-◌, if◌then◌else◌, List, [], ◌∷◌, length, take, Option, Some, None, is_some, Ok}
 use Rattle.std.specs.Str.{bytes_eq}

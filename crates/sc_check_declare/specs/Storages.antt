@@ -1,3 +1,4 @@
+-- Yardstick: to be compared with what it restates (docs/TRUST.md).
 -- Which storage class may stand where (ANSI 3.5.1, 3.5.4.3, 3.7.1).
 use Rattle.std.specs.Prelude.{Bool, true, false, Option, Some, None}
 use Rattle.sc_tree.specs.declared.expression.Storage.{Storage}

@@ -1,3 +1,4 @@
+-- Yardstick: to be compared with what it restates (docs/TRUST.md).
 -- The types that lists of type words stand for (ANSI 3.5.2).
 use Rattle.std.specs.Prelude.{ℕ, Bool, false, ◌&&◌, map, Ok, ◌==◌, if◌then◌else◌, List, [], ◌∷◌, count_by, Option, Some, None}
 use Rattle.sc_base.specs.declared.integer.Int.TheVariants as i

@@ -1,3 +1,4 @@
+-- Yardstick: to be compared with what it restates (docs/TRUST.md).
 -- What expressions and type names are, or the first refusal in the order in which constructs end (ANSI 3.3, 3.4, 3.5.2, 3.5.4, 3.5.5).
 use Rattle.std.specs.Prelude.{ℕ, Bool, true, false, List, [], ◌∷◌, ◌++◌, length, map, Option, Some, None, option_map, Ok}
 use Rattle.sc_base.specs.declared.integer.Int.{Int}

@@ -1,3 +1,4 @@
+-- Yardstick: to be compared with what it restates (docs/TRUST.md).
 -- The contents of an object of static storage duration (ANSI 3.5.7): its bytes in order.
 use Rattle.std.specs.Prelude.{ℕ, zero, suc, ◌+◌, ◌-◌, min, List, [], ◌∷◌, ◌++◌, length, map, take, Option, Some, None, slice_get, Ok}
 use Rattle.std.specs.Int.{w32, to_le_bytes}

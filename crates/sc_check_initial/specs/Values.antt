@@ -1,3 +1,4 @@
+-- Yardstick: to be compared with what it restates (docs/TRUST.md).
 -- What one expression gives its place (ANSI 3.5.7).
 use Rattle.std.specs.Prelude.{◌≡◌, ℕ, Result, ◌-◌, nat_lt, Bool, true, false, ◌&&◌, if◌then◌else◌, List, [], ◌∷◌, ◌++◌, Option, Some, None, is_some, Ok, Err}
 use Rattle.sc_types.specs.declared.ctype.CType.{CType, out-CType}

@@ -1,3 +1,4 @@
+-- Yardstick: to be compared with what it restates (docs/TRUST.md).
 -- The initialiser of a whole object (ANSI 3.5.7).
 use Rattle.std.specs.Prelude.{ℕ, ◌==◌, Bool, true, if◌then◌else◌, List, [], Option, Some, None, Ok}
 use Rattle.sc_types.specs.declared.ctype.CType.{CType, out-CType}

@@ -1,3 +1,4 @@
+-- Yardstick: to be compared with what it restates (docs/TRUST.md).
 -- Labels to which `goto` goes (ANSI 3.6.1, 3.6.6.1). They have a name space of their own for each function.
 use Rattle.std.specs.Prelude.{ℕ, nat_eq, if◌then◌else◌, List, [], ◌∷◌, ◌++◌, map, Option, Some, None, is_some, reverse, Ok}
 use Rattle.std.specs.List.{list_any, position_or_len}

@@ -1,3 +1,4 @@
+-- Yardstick: to be compared with what it restates (docs/TRUST.md).
 -- The labels of a `switch` (ANSI 3.6.1, 3.6.4.2).
 use Rattle.std.specs.Prelude.{ℕ, nat_eq, nat_lt, true, false, if◌then◌else◌, List, [], ◌∷◌, ◌++◌, length, Option, Some, None, Ok}
 use Rattle.std.specs.List.{list_any}

@@ -1,3 +1,4 @@
+-- Yardstick: to be compared with what it restates (docs/TRUST.md).
 -- The names of the library's functions (ANSI 4), and one name that an assertion calls.
 use Rattle.std.specs.Prelude.{ℕ, Bool, List, [], ◌∷◌, codes}
 use Rattle.std.specs.List.{list_any}

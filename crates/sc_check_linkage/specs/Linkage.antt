@@ -1,3 +1,4 @@
+-- Yardstick: to be compared with what it restates (docs/TRUST.md).
 -- Declarations of names with linkage in a unit (ANSI 3.1.2.2, 3.5, 3.7).
 use Rattle.std.specs.Prelude.{ℕ, ◌==◌, Bool, true, false, not, ◌&&◌, if◌then◌else◌, List, [], ◌∷◌, ◌++◌, length, position, slice_get, slice_set, Option, Some, None, is_some, Ok, codes}
 use Rattle.std.specs.List.{list_any}

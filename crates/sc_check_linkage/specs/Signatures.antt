@@ -1,3 +1,4 @@
+-- Yardstick: to be compared with what it restates (docs/TRUST.md).
 -- The types that `main` and `printf` have (ANSI 2.1.2.2, 4.9.6.3).
 use Rattle.std.specs.Prelude.{Bool, true, false, not, ◌&&◌, List, [], ◌∷◌}
 use Rattle.sc_base.specs.declared.integer.Int.{Int}

@@ -1,3 +1,4 @@
+-- Yardstick: to be compared with what it restates (docs/TRUST.md).
 -- What an assignment takes (ANSI 3.3.16.1, 3.2.2.3), and which pointers go together (3.3.9, 3.3.15).
 use Rattle.std.specs.Prelude.{ℕ, ◌==◌, Bool, true, false, not, ◌&&◌, ◌||◌, if◌then◌else◌, List, Ok}
 use Rattle.sc_types.specs.declared.ctype.CType.{CType, out-CType}

@@ -1,3 +1,4 @@
+-- Inside: plumbing, a representation, an invariant or a promise beside the claim (docs/TRUST.md).
 -- The kinds of refusals.
 use Rattle.std.specs.Prelude.{codes}
 use Rattle.sc_base.specs.declared.refusal.X.{X}

@@ -1,3 +1,4 @@
+-- Yardstick: to be compared with what it restates (docs/TRUST.md).
 -- The composite type of two compatible types (ANSI 3.1.2.6).
 use Rattle.std.specs.Prelude.{ℕ, ◌==◌, if◌then◌else◌, List, [], ◌∷◌, map}
 use Rattle.sc_types.specs.declared.ctype.CType.{CType, out-CType, fold-CType}

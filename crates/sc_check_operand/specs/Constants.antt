@@ -1,3 +1,4 @@
+-- Yardstick: to be compared with what it restates (docs/TRUST.md).
 -- Integer constant expressions (ANSI 3.4) and null pointer constants (3.2.2.3), on typed trees.
 use Rattle.std.specs.Prelude.{ℕ, ◌==◌, Bool, true, false, ◌&&◌, ◌||◌, Result, Ok, Err}
 use Rattle.sc_base.specs.declared.integer.Int.{Int}

@@ -1,3 +1,4 @@
+-- Yardstick: to be compared with what it restates (docs/TRUST.md).
 -- What an operand gives: its value, or the place itself (ANSI 3.2.2.1, 3.2.1.5).
 use Rattle.std.specs.Prelude.{ℕ, Bool, true, false, not, if◌then◌else◌, Option, Some, None}
 use Rattle.sc_base.specs.declared.integer.Int.{Int}

@@ -1,3 +1,4 @@
+-- Yardstick: to be compared with what it restates (docs/TRUST.md).
 -- What a type is good for (ANSI 3.1.2.5, 3.5.3).
 use Rattle.std.specs.Prelude.{ℕ, Bool, true, false, ◌||◌, if◌then◌else◌, List, slice_index_or, Option, Some, None}
 use Rattle.std.specs.List.{list_any}

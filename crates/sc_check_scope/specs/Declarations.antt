@@ -1,3 +1,4 @@
+-- Yardstick: to be compared with what it restates (docs/TRUST.md).
 -- What declarators, parameters, members and enumeration constants make of parts that are typed (ANSI 3.5.2, 3.5.4).
 use Rattle.std.specs.Prelude.{ℕ, Bool, true, false, List, length, Option, Some, None, Ok}
 use Rattle.sc_base.specs.declared.integer.Int.{Int}

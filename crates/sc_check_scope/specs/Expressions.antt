@@ -1,3 +1,4 @@
+-- Yardstick: to be compared with what it restates (docs/TRUST.md).
 -- The productions of expressions over what is in scope (ANSI 3.3).
 use Rattle.std.specs.Prelude.{ℕ, Bool, false, if◌then◌else◌, List, length, Option, Some, None, Ok}
 use Rattle.sc_base.specs.declared.integer.Int.TheVariants as i

@@ -1,3 +1,4 @@
+-- Yardstick: to be compared with what it restates (docs/TRUST.md).
 -- Scopes (ANSI 3.1.2.1), and what a unit's text has given so far.
 use Rattle.std.specs.Prelude.{ℕ, ◌-◌, true, List, [], ◌∷◌, ◌++◌, length, drop, position, Option, Ok}
 use Rattle.std.specs.Str.{bytes_eq}

@@ -1,3 +1,4 @@
+-- Inside: plumbing, a representation, an invariant or a promise beside the claim (docs/TRUST.md).
 -- Answers that may be refusals, and those that change what is in scope.
 use Rattle.std.specs.Prelude.{◌≡◌, List, [], ◌∷◌, Result, Ok, Err}
 use Rattle.sc_check_operand.specs.declared.fault.Diagnostic.{Diagnostic}

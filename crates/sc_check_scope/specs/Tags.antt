@@ -1,3 +1,4 @@
+-- Yardstick: to be compared with what it restates (docs/TRUST.md).
 -- Structures, unions and enumerations in scope (ANSI 3.5.2.1 to 3.5.2.3).
 use Rattle.std.specs.Prelude.{ℕ, nat_lt, Bool, true, false, if◌then◌else◌, List, [], ◌∷◌, ◌++◌, length, slice_set, Option, Some, None, is_some, Ok}
 use Rattle.sc_base.specs.declared.integer.Int.TheVariants as i

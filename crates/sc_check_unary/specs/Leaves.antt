@@ -1,3 +1,4 @@
+-- Yardstick: to be compared with what it restates (docs/TRUST.md).
 -- Names, constants, strings, `sizeof` and `__offsetof` (ANSI 3.1.3, 3.1.4, 3.3.1, 3.3.3.4).
 use Rattle.std.specs.Prelude.{ℕ, ◌+◌, ◌^◌, nat_lt, nat_le, Bool, false, not, ◌&&◌, if◌then◌else◌, List, length, position, slice_get, Option, Some, None, is_none, option_map, option_and_then, Ok, codes}
 use Rattle.std.specs.Str.{bytes_eq}

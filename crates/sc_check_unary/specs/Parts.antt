@@ -1,3 +1,4 @@
+-- Yardstick: to be compared with what it restates (docs/TRUST.md).
 -- Elements, members and steps of objects (ANSI 3.3.2.1, 3.3.2.3, 3.3.2.4, 3.3.3.1).
 use Rattle.std.specs.Prelude.{ℕ, Bool, not, ◌&&◌, if◌then◌else◌, List, Option, Some, None, Ok}
 use Rattle.sc_types.specs.declared.ctype.CType.{CType, out-CType}

@@ -1,3 +1,4 @@
+-- Yardstick: to be compared with what it restates (docs/TRUST.md).
 -- Operators before one operand, and casts (ANSI 3.3.3, 3.3.4).
 use Rattle.std.specs.Prelude.{ℕ, Bool, true, false, not, ◌&&◌, ◌||◌, if◌then◌else◌, List, Option, Some, None, Ok}
 use Rattle.sc_base.specs.declared.integer.Int.{Int}

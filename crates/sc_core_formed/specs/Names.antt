@@ -1,3 +1,4 @@
+-- Inside: plumbing, a representation, an invariant or a promise beside the claim (docs/TRUST.md).
 -- What a module says of names and literals.
 use Rattle.std.specs.Prelude.{◌≡◌, ℕ, nat_eq, ◌++◌, Bool, true, false, not, ◌&&◌, List, [], ◌∷◌, position, slice_get, Option, Some, None, option_and_then}
 use Rattle.std.specs.Option.{option_eq}

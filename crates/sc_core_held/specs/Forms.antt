@@ -1,3 +1,4 @@
+-- Inside: plumbing, a representation, an invariant or a promise beside the claim (docs/TRUST.md).
 -- The form of a type of the library, as the meaning has it.
 use Rattle.sc_core_held.specs.declared.library.TypeForm.{TypeForm}
 use Rattle.sc_core_held.specs.declared.library.TypeForm.TheVariants as form

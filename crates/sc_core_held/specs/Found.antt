@@ -1,3 +1,4 @@
+-- Inside: plumbing, a representation, an invariant or a promise beside the claim (docs/TRUST.md).
 -- What the program found, as the meaning has it.
 use Rattle.sc_core_held.specs.declared.text.Callee.{Callee as Found}
 use Rattle.sc_core_held.specs.declared.text.Callee.TheVariants as found

@@ -1,3 +1,4 @@
+-- Yardstick: to be compared with what it restates (docs/TRUST.md).
 -- The numbers of functions: behind those of the library, each key in the order in which modules first declared it.
 use Rattle.std.specs.Prelude.{◌&&◌, Bool, true, false, not, is_some, if◌then◌else◌, List, [], ◌∷◌}
 use Rattle.std.specs.Option.{option_eq}

@@ -1,3 +1,4 @@
+-- Yardstick: to be compared with what it restates (docs/TRUST.md).
 -- The labels of a function, each with the block in whose list it stands (ANSI 3.6.1).
 use Rattle.std.specs.Prelude.{◌≡◌, ℕ, nat_eq, ◌++◌, Bool, true, false, ◌&&◌, List, [], ◌∷◌, map, Option, Some, None, is_none}
 use Rattle.std.specs.Map.{lookup}

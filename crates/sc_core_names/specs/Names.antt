@@ -1,3 +1,4 @@
+-- Yardstick: to be compared with what it restates (docs/TRUST.md).
 -- The names that declarations put into a scope, in order (ANSI 3.1.2.1): of a declaration first the enumeration constants of its
 -- specifiers, then the names of its declarators.
 use Rattle.std.specs.Prelude.{ℕ, ◌++◌, List, [], ◌∷◌, map, Option, Some, None}

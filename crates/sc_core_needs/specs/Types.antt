@@ -1,3 +1,4 @@
+-- Inside: plumbing, a representation, an invariant or a promise beside the claim (docs/TRUST.md).
 -- Which types go together in a typed tree (ANSI 3.1.2.6, 3.2.2.3, 3.3.16.1).
 use Rattle.std.specs.Prelude.{ℕ, ◌==◌, Bool, true, false, not, ◌&&◌, ◌||◌, if◌then◌else◌, List}
 use Rattle.sc_base.specs.declared.integer.Int.{Int}

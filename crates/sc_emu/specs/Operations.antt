@@ -1,3 +1,4 @@
+-- Yardstick: to be compared with what it restates (docs/TRUST.md).
 -- What the operations on registers give, and which tags they keep (RISC-V unprivileged manual, RV32I and M).
 -- A tag says what a number points to: 0 for nothing, else the number of an object or the mark of functions.
 use Rattle.std.specs.Prelude.{ℕ, ◌+◌, ◌-◌, ◌*◌, ◌/◌, ◌%◌, ◌^◌, ◌==◌, Bool, true, false, not, if◌then◌else◌, nat_lt, nat_le, bit_and, bit_or, bit_xor, ℤ, pos, ◌*ℤ◌, int_div, int_rem, int_lt}

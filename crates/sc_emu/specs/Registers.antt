@@ -1,3 +1,4 @@
+-- Yardstick: to be compared with what it restates (docs/TRUST.md).
 -- The registers and the address of the next instruction.
 use Rattle.std.specs.Prelude.{◌≡◌, ℕ, ◌==◌, if◌then◌else◌, List, length, slice_get, slice_index_or, slice_set, Some}
 use Rattle.sc_base.specs.declared.memory.Word.{Word}

@@ -1,3 +1,4 @@
+-- Yardstick: to be compared with what it restates (docs/TRUST.md).
 -- The classes of characters (ANSI 4.3) in the "C" locale, over ASCII. A byte above 127 is in none.
 use Rattle.std.specs.Prelude.{ℕ, ◌+◌, Bool, not, ◌&&◌, ◌||◌, nat_le, ◌==◌, if◌then◌else◌}
 use Rattle.sc_fmt.specs.Format.{is_digit}

@@ -1,3 +1,4 @@
+-- Yardstick: to be compared with what it restates (docs/TRUST.md).
 -- The pieces of a format (ANSI 4.9.6.1): text, or a conversion `%[flags][width][.precision][h|l]kind`.
 use Rattle.std.specs.Prelude.{ℕ, ◌+◌, ◌-◌, ◌^◌, min, Bool, not, ◌||◌, ◌&&◌, nat_le, ◌==◌, if◌then◌else◌, Option, Some, None, unwrap_or, List, [], ◌∷◌, length, drop, take_while, slice_index}
 use Rattle.std.specs.List.{prefix_len, list_any}

@@ -1,3 +1,4 @@
+-- Yardstick: to be compared with what it restates (docs/TRUST.md).
 -- What a step of a run shows to one who watches it: that a line is reached, or that a function of a text is entered.
 use Rattle.std.specs.Prelude.{◌≡◌, List, [], ◌∷◌, Some, Result, Ok, Err}
 use Rattle.sc_meaning.specs.World.{World}

@@ -1,3 +1,4 @@
+-- Inside: plumbing, a representation, an invariant or a promise beside the claim (docs/TRUST.md).
 -- How a step of the program on a run stands to the machine's step.
 use Rattle.std.specs.Prelude.{◌≡◌, List, [], ◌∷◌, Some, Result, Ok, Err, Bool, true, false}
 use Rattle.sc_meaning.specs.World.{World}

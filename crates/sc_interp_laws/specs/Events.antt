@@ -1,3 +1,4 @@
+-- Inside: plumbing, a representation, an invariant or a promise beside the claim (docs/TRUST.md).
 -- What comes in an order.
 use Rattle.std.specs.Prelude.{◌≡◌, List, ◌++◌}
 

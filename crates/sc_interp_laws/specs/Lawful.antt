@@ -1,3 +1,4 @@
+-- Inside: plumbing, a representation, an invariant or a promise beside the claim (docs/TRUST.md).
 -- What a step may change: living objects that may be written; and a body, the objects of its own blocks.
 use Rattle.std.specs.Prelude.{◌<◌, length, ◌≡◌, ◌⊎◌, ℕ, Bool, true, false, List, [], ◌∷◌, ◌++◌, Some}
 use Rattle.sc_base.specs.declared.memory.Kind.{Kind}

@@ -1,3 +1,4 @@
+-- Inside: plumbing, a representation, an invariant or a promise beside the claim (docs/TRUST.md).
 -- The bytes that births and copies of structures move are work.
 use Rattle.std.specs.Prelude.{◌+◌, ◌≤◌}
 use Rattle.sc_meaning.specs.World.{World}

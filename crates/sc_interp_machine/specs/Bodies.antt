@@ -1,3 +1,4 @@
+-- Machine: the program once more; a theorem ties it to a yardstick (docs/TRUST.md).
 -- One small step of the checking interpreter on a function's body, with the statements that are pending innermost first
 -- (ANSI 3.6). A line is answered, and its event is made outside: an event is the last thing of a step.
 use Rattle.std.specs.Prelude.{ℕ, zero, suc, ◌==◌, Bool, true, false, List, [], ◌∷◌, length, take, drop, replicate, Option, Some, None}

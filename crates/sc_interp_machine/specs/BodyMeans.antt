@@ -1,3 +1,4 @@
+-- Inside: plumbing, a representation, an invariant or a promise beside the claim (docs/TRUST.md).
 -- What is left of a body's execution, as the meaning of what is pending.
 use Rattle.std.specs.Prelude.{◌≡◌, ℕ, ◌≤◌, List, [], ◌∷◌, drop, None}
 use Rattle.sc_types.specs.declared.ctype.CType.{CType}

@@ -1,3 +1,4 @@
+-- Machine: the program once more; a theorem ties it to a yardstick (docs/TRUST.md).
 -- One small step of the checking interpreter on an expression, with what is pending in it innermost first (ANSI 3.3).
 use Rattle.std.specs.Prelude.{ℕ, zero, suc, Bool, true, false, List, [], ◌∷◌, ◌++◌, slice_get}
 use Rattle.sc_base.specs.declared.integer.Int.{Int}

@@ -1,3 +1,4 @@
+-- Inside: plumbing, a representation, an invariant or a promise beside the claim (docs/TRUST.md).
 -- The lists that a node of the tree has: a call's arguments, a block's statements, a declarator's pieces, a switch's labels.
 use Rattle.std.specs.Prelude.{List, []}
 use Rattle.sc_core.specs.declared.expression.CoreExpr.{CoreExpr}

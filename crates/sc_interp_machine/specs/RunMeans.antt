@@ -1,3 +1,4 @@
+-- Inside: plumbing, a representation, an invariant or a promise beside the claim (docs/TRUST.md).
 -- What is left of a run, as the meaning of the innermost body and of the callers that wait.
 use Rattle.std.specs.Prelude.{◌≡◌, ℕ, ◌≤◌, List, [], ◌∷◌}
 use Rattle.sc_meaning.specs.Outcomes.{Outcome, Done, Over, and_then}

@@ -1,3 +1,4 @@
+-- Machine: the program once more; a theorem ties it to a yardstick (docs/TRUST.md).
 -- One small step of a run: the innermost body, and the callers that wait, innermost first (ANSI 3.3.2.2). What bodies leave to
 -- the outside is done here: lines become events, calls are tested and entered, and left.
 use Rattle.std.specs.Prelude.{ℕ, zero, suc, ◌+◌, nat_lt, Bool, true, false, List, [], ◌∷◌, slice_index_or, Option, Some, None}

@@ -1,3 +1,4 @@
+-- Inside: plumbing, a representation, an invariant or a promise beside the claim (docs/TRUST.md).
 -- A byte of an object of the program, as the meaning has it.
 use Rattle.sc_interp_world.specs.declared.object.Content.{Content}
 use Rattle.sc_interp_world.specs.declared.object.Content.TheVariants as content

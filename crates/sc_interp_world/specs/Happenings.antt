@@ -1,3 +1,4 @@
+-- Inside: plumbing, a representation, an invariant or a promise beside the claim (docs/TRUST.md).
 -- What happens in the program, as the meaning has it.
 use Rattle.sc_interp_world.specs.declared.event.Change.{Change}
 use Rattle.sc_interp_world.specs.declared.event.Change.TheVariants as change

@@ -1,3 +1,4 @@
+-- Yardstick: to be compared with what it restates (docs/TRUST.md).
 -- The bytes that a run wrote (ANSI 2.1.2.3), of all that happened in it.
 use Rattle.std.specs.Prelude.{ℕ, ◌+◌, List, [], ◌∷◌, ◌++◌}
 use Rattle.sc_meaning.specs.World.{Item, Event, Happens, Out, Birth, Copy}

@@ -1,3 +1,4 @@
+-- Inside: plumbing, a representation, an invariant or a promise beside the claim (docs/TRUST.md).
 -- An event of the program, as the meaning has it.
 use Rattle.sc_interp_world.specs.declared.event.Showing.{Showing}
 use Rattle.sc_interp_world.specs.declared.event.Showing.TheVariants as showing

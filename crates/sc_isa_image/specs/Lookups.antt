@@ -1,3 +1,4 @@
+-- Yardstick: to be compared with what it restates (docs/TRUST.md).
 -- The look-ups of an image.
 use Rattle.std.specs.Prelude.{◌≡◌, ℕ, ◌+◌, ◌≤◌, ◌&&◌, Bool, nat_lt, if◌then◌else◌, List, [], Option, None, Some}
 use Rattle.std.specs.Option.{option_eq}

@@ -1,3 +1,4 @@
+-- Inside: plumbing, a representation, an invariant or a promise beside the claim (docs/TRUST.md).
 -- Placed texts in the order of their addresses.
 use Rattle.std.specs.Prelude.{◌≡◌, ℕ, ◌+◌, ◌-◌, ◌*◌, ◌/◌, ◌%◌, ◌==◌, ◌&&◌, ◌<◌, ◌≤◌, Bool, false, nat_lt, nat_le, if◌then◌else◌, List, length, slice_get, slice_set, find, Option, None, Some}
 use Rattle.std.specs.Option.{option_map}

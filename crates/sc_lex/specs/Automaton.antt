@@ -1,3 +1,4 @@
+-- Yardstick: to be compared with what it restates (docs/TRUST.md).
 -- The preprocessing tokens, by an automaton over their bytes (ANSI 3.1, 3.1.2, 3.1.8, 3.1.3.4, 3.1.4, 3.1.6).
 use Rattle.std.specs.Prelude.{ℕ, ◌==◌, nat_le, Bool, true, false, ◌&&◌, ◌||◌, if◌then◌else◌, List, [], ◌∷◌, Option, Some, None}
 use Rattle.sc_lex.specs.declared.token.TokenKind.{TokenKind}

@@ -1,3 +1,4 @@
+-- Yardstick: to be compared with what it restates (docs/TRUST.md).
 -- A text after its first two phases is cut into tokens and white space (ANSI 2.1.1.2, 3.1, 3.1.9).
 use Rattle.std.specs.Prelude.{ℕ, zero, suc, ◌+◌, ◌==◌, ◌≤◌, Bool, false, ◌&&◌, ◌||◌, if◌then◌else◌, List, [], ◌∷◌, map, length, take, drop, Option, Some, None, option_map}
 use Rattle.sc_lex.specs.declared.mark.Mark.{Mark}

@@ -1,3 +1,4 @@
+-- Yardstick: to be compared with what it restates (docs/TRUST.md).
 -- The tokens of a text: the first three phases of translation (ANSI 2.1.1.2).
 use Rattle.std.specs.Prelude.{ℕ, zero, suc, ◌-◌, ◌≡◌, nat_lt, Bool, true, false, ◌&&◌, if◌then◌else◌, List, [], ◌∷◌, ◌++◌, take, length, codes, Option, Some, None, Result, Ok, Err}
 use Rattle.sc_base.specs.declared.refusal.X.TheVariants as x

@@ -1,3 +1,4 @@
+-- Inside: plumbing, a representation, an invariant or a promise beside the claim (docs/TRUST.md).
 -- Quotes of which it is known that no literal begins with them.
 use Rattle.std.specs.Prelude.{ℕ, ◌+◌, ◌<◌, ◌≡◌, List, length, drop, slice_index, None}
 use Rattle.sc_lex.specs.declared.mark.Mark.{Mark}

@@ -1,3 +1,4 @@
+-- Inside: plumbing, a representation, an invariant or a promise beside the claim (docs/TRUST.md).
 -- The functions on characters (ANSI 4.3), as functions of numbers.
 use Rattle.std.specs.Prelude.{ℕ}
 use Rattle.sc_fmt.specs.Format.{is_digit}

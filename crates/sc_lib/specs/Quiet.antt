@@ -1,3 +1,4 @@
+-- Inside: plumbing, a representation, an invariant or a promise beside the claim (docs/TRUST.md).
 -- Histories in which nothing changes behind an event, as one version alone.
 use Rattle.std.specs.Prelude.{◌≡◌}
 use Rattle.sc_meaning.specs.World.{World, Event, Happens, pass}

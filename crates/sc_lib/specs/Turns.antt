@@ -1,3 +1,4 @@
+-- Inside: plumbing, a representation, an invariant or a promise beside the claim (docs/TRUST.md).
 -- One piece of a format, and what follows it (ANSI 4.9.6.1).
 use Rattle.std.specs.Prelude.{ℕ, List, [], take, drop, Option, Some, None}
 use Rattle.sc_fmt.specs.declared.conversion.Piece.{Piece}

@@ -1,3 +1,4 @@
+-- Inside: plumbing, a representation, an invariant or a promise beside the claim (docs/TRUST.md).
 -- Bytes that were read already, and those that are read behind them.
 use Rattle.std.specs.Prelude.{ℕ, List, ◌++◌}
 use Rattle.sc_meaning.specs.World.{World}

@@ -1,3 +1,4 @@
+-- Inside: plumbing, a representation, an invariant or a promise beside the claim (docs/TRUST.md).
 -- What is inside its area.
 use Rattle.std.specs.Prelude.{◌≡◌, ℕ, ◌+◌, ◌*◌, ◌&&◌, ◌||◌, ◌<◌, ◌≤◌, Bool, true, false, nat_le, List, length, IsTrue, Option, Some, None}
 use Rattle.sc_base.specs.declared.key.Key.{Key}

@@ -1,3 +1,4 @@
+-- Yardstick: to be compared with what it restates (docs/TRUST.md).
 -- Sets of macros' numbers, as lists. A macro's number is its place in the table.
 use Rattle.std.specs.Prelude.{ℕ, ◌==◌, Bool, not, List, ◌++◌}
 use Rattle.std.specs.List.{filter, list_any}

@@ -1,3 +1,4 @@
+-- Inside: plumbing, a representation, an invariant or a promise beside the claim (docs/TRUST.md).
 -- Which arguments a call gives away to their expansion: those that its replacement list has nowhere as they are written.
 use Rattle.std.specs.Prelude.{Bool, false, if◌then◌else◌, List, [], ◌∷◌, ◌++◌, length, get_or, slice_set}
 use Rattle.sc_macro.specs.declared.marked.Marked.{Marked}

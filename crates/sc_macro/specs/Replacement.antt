@@ -1,3 +1,4 @@
+-- Yardstick: to be compared with what it restates (docs/TRUST.md).
 -- A replacement list as chains of the parts that `##` joins (ANSI 3.8.3.2, 3.8.3.3).
 use Rattle.std.specs.Prelude.{ℕ, ◌+◌, ◌==◌, ◌&&◌, ◌||◌, Bool, true, false, if◌then◌else◌, List, [], ◌∷◌, ◌++◌, Option, Some, None, is_some, slice_set, ◌≡◌}
 use Rattle.std.specs.List.{position, list_any}

@@ -1,3 +1,4 @@
+-- Yardstick: to be compared with what it restates (docs/TRUST.md).
 -- A replacement list filled with arguments (ANSI 3.8.3.1 to 3.8.3.3).
 use Rattle.std.specs.Prelude.{ℕ, ◌&&◌, nat_lt, Bool, if◌then◌else◌, List, [], ◌∷◌, ◌++◌, length, get_or, Option, Some, None, Ok, decimal}
 use Rattle.sc_lex.specs.Automaton.{token_kind}

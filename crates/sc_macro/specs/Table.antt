@@ -1,3 +1,4 @@
+-- Yardstick: to be compared with what it restates (docs/TRUST.md).
 -- The table of macros, and the names of the files.
 use Rattle.std.specs.Prelude.{ℕ, ◌||◌, Bool, false, nat_eq, if◌then◌else◌, List, [], ◌∷◌, Option, Some, None, slice_get, map, codes}
 use Rattle.std.specs.List.{position}

@@ -1,3 +1,4 @@
+-- Yardstick: to be compared with what it restates (docs/TRUST.md).
 -- Loads, stores, copies, and operators: what each gives, or the rule that it breaks (ANSI 3.2.2.1, 3.3).
 use Rattle.std.specs.Prelude.{ℕ, ◌+◌, ◌==◌, Bool, true, false, not, nat_lt, nat_le, if◌then◌else◌, Option, ℤ, pos, neg_ℤ, ◌-ℤ◌, int_div}
 use Rattle.sc_base.specs.declared.integer.Int.{Int}

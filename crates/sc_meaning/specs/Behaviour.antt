@@ -1,3 +1,4 @@
+-- Yardstick: to be compared with what it restates (docs/TRUST.md).
 -- What a program does from its start on (ANSI 2.1.2.2, 2.1.2.3).
 use Rattle.std.specs.Prelude.{ℕ, List, [], ◌∷◌, replicate, None}
 use Rattle.sc_base.specs.declared.key.Key.{Key}

@@ -1,3 +1,4 @@
+-- Yardstick: to be compared with what it restates (docs/TRUST.md).
 -- Calls of functions, and the meaning of expressions, statements and calls as a whole, each with a bound on how deep it
 -- goes (ANSI 3.3.2.2, 3.7.1). A turn of a loop takes one of the bound, as a call and a jump inside a block's list do.
 use Rattle.std.specs.Prelude.{ℕ, zero, suc, ◌+◌, ◌-◌, nat_lt, List, [], ◌∷◌, ◌++◌, slice_index_or}

@@ -1,3 +1,4 @@
+-- Yardstick: to be compared with what it restates (docs/TRUST.md).
 -- Expressions, each by the meaning of its parts (ANSI 3.3). Operands go from left to right. An assignment finds the
 -- place of its left side first; a compound assignment then evaluates its right side, and only then reads the left
 -- side's value.

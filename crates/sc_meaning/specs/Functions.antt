@@ -1,3 +1,4 @@
+-- Yardstick: to be compared with what it restates (docs/TRUST.md).
 -- The library, one case for each function (ANSI 4.2, 4.3, 4.9 to 4.11).
 use Rattle.std.specs.Prelude.{ℕ, zero, suc, ◌+◌, ◌-◌, ◌*◌, ◌/◌, ◌%◌, ◌^◌, ◌==◌, ◌&&◌, ◌||◌, Bool, true, false, not, min, nat_le, nat_lt, if◌then◌else◌, List, [], ◌∷◌, ◌++◌, length, replicate, Option, Some, None, ℤ, pos, neg_ℤ, nat_abs, int_lt, decimal}
 use Rattle.sc_base.specs.declared.integer.Int.TheVariants.{Int as PlainInt}

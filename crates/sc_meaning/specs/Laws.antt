@@ -1,3 +1,4 @@
+-- Inside: plumbing, a representation, an invariant or a promise beside the claim (docs/TRUST.md).
 -- What holds of every run.
 use Rattle.std.specs.Prelude.{◌≡◌, ℕ, nat_le, false, if◌then◌else◌, List, [], ◌∷◌, Some}
 use Rattle.sc_meaning.specs.World.{World, Item, Object, object_at, passed}

@@ -1,3 +1,4 @@
+-- Yardstick: to be compared with what it restates (docs/TRUST.md).
 -- What the marks in a trail tell: the work of a text without that of its calls, and whose initialiser comes at a line.
 use Rattle.std.specs.Prelude.{ℕ, zero, suc, ◌+◌, ◌-◌, ◌==◌, if◌then◌else◌, List, [], ◌∷◌, Option, Some, None}
 use Rattle.sc_meaning.specs.World.{World, Frame, Item, GoesOut, ComesBack, Declares, Happens, At, work_of}

@@ -1,3 +1,4 @@
+-- Yardstick: to be compared with what it restates (docs/TRUST.md).
 -- The types of the library's functions (ANSI 4.2, 4.3, 4.9 to 4.11), and whether a call's type is compatible with one.
 use Rattle.std.specs.Prelude.{Bool, true, false, ◌&&◌, List, [], ◌∷◌}
 use Rattle.sc_base.specs.declared.integer.Int.{Int}

@@ -1,3 +1,4 @@
+-- Yardstick: to be compared with what it restates (docs/TRUST.md).
 -- Statements, each by the meaning of its parts (ANSI 3.6). The objects of a block are born as it is entered, and die,
 -- the last born first, on every way out of it.
 use Rattle.std.specs.Prelude.{ℕ, ◌+◌, ◌==◌, Bool, true, if◌then◌else◌, List, [], ◌∷◌, ◌++◌, drop, replicate, slice_index_or, Option, Some, None}

@@ -1,3 +1,4 @@
+-- Yardstick: to be compared with what it restates (docs/TRUST.md).
 -- Values, and what a byte of an object holds (ANSI 3.1.2.5).
 use Rattle.std.specs.Prelude.{ℕ, ◌+◌, ◌*◌, ◌/◌, ◌%◌, ◌==◌, ◌&&◌, Bool, true, false, if◌then◌else◌, List, [], ◌∷◌, take, map, Option, Some, None, ℤ, pos, negsuc}
 use Rattle.std.specs.Str.{bytes_eq}

@@ -1,3 +1,4 @@
+-- Yardstick: to be compared with what it restates (docs/TRUST.md).
 -- The tests of undefined steps over objects by number: each is the one test of its rule, on what the pointer's object and
 -- offset find. All objects stand at multiples of 4, so
 -- the offset alone tells whether an access is aligned.

@@ -1,3 +1,4 @@
+-- Inside: plumbing, a representation, an invariant or a promise beside the claim (docs/TRUST.md).
 -- An answer of the program, as the meaning has it.
 use Rattle.sc_meaning_values.specs.declared.answer.Held.{Held}
 use Rattle.sc_meaning_values.specs.declared.answer.Held.TheVariants as held

@@ -1,3 +1,4 @@
+-- Inside: plumbing, a representation, an invariant or a promise beside the claim (docs/TRUST.md).
 -- A value of the program, as the meaning has it.
 use Rattle.sc_meaning_values.specs.declared.value.Shape.{Shape}
 use Rattle.sc_meaning_values.specs.declared.value.Shape.TheVariants as shape

@@ -1,3 +1,4 @@
+-- Inside: plumbing, a representation, an invariant or a promise beside the claim (docs/TRUST.md).
 -- How a statement is left, as the meaning has it.
 use Rattle.sc_meaning_values.specs.declared.way.Exit.{Exit}
 use Rattle.sc_meaning_values.specs.declared.way.Exit.TheVariants as exit

@@ -1,3 +1,4 @@
+-- Machine: the program once more; a theorem ties it to a yardstick (docs/TRUST.md).
 -- The tests of undefined steps that look at pointers and access nothing: comparison, difference, freeing and overlap.
 use Rattle.std.specs.Prelude.{ℕ, ◌==◌, ◌&&◌, ◌||◌, Bool, true, false, not, List, Option, ℤ, pos, ◌-ℤ◌, int_div}
 use Rattle.std.specs.Ordering.{nat_cmp}

@@ -1,3 +1,4 @@
+-- Inside: plumbing, a representation, an invariant or a promise beside the claim (docs/TRUST.md).
 -- How a checked write ends that writes nothing.
 use Rattle.std.specs.Prelude.{◌≡◌, Option, None, Some}
 use Rattle.sc_base.specs.declared.report.Rule.{Rule}

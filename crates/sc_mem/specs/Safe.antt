@@ -1,3 +1,4 @@
+-- Inside: plumbing, a representation, an invariant or a promise beside the claim (docs/TRUST.md).
 -- What holds of memory at every moment.
 use Rattle.std.specs.Prelude.{◌≡◌, ◌⊎◌, ℕ, ◌+◌, ◌-◌, ◌%◌, true, ◌<◌, ◌≤◌, List, length, IsSome, Option, Some, option_map}
 use Rattle.sc_base.specs.declared.memory.Cell.{Cell}

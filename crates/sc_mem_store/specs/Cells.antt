@@ -1,3 +1,4 @@
+-- Inside: plumbing, a representation, an invariant or a promise beside the claim (docs/TRUST.md).
 -- A byte of an object of the program, as the meaning has it.
 use Rattle.sc_mem_store.specs.declared.cell.Content.{Content}
 use Rattle.sc_mem_store.specs.declared.cell.Content.TheVariants as content

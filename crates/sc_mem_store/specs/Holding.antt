@@ -1,3 +1,4 @@
+-- Inside: plumbing, a representation, an invariant or a promise beside the claim (docs/TRUST.md).
 -- What it is that a memory holds the objects of a run: the same objects number by number, and for each one that lives the
 -- bytes at its addresses.
 use Rattle.std.specs.Prelude.{◌≡◌, ⊤, ℕ, ◌+◌, ◌-◌, ◌/◌, ◌%◌, ◌<◌, min, ◌==◌, nat_le, true, if◌then◌else◌, List, length, slice_get, Option, Some, None, option_map}

@@ -1,3 +1,4 @@
+-- Yardstick: to be compared with what it restates (docs/TRUST.md).
 -- The sections of an object's file, in the order of the file, but for the last one.
 use Rattle.std.specs.Prelude.{ℕ, ◌+◌, ◌*◌, ◌%◌, ◌==◌, Bool, not, if◌then◌else◌, List, [], ◌∷◌, ◌++◌, length, take, drop, fold, filter, flat_map, map, replicate, codes, Option, None, Some}
 use Rattle.std.specs.Int.{w32, cast_unsigned}

@@ -1,3 +1,4 @@
+-- Yardstick: to be compared with what it restates (docs/TRUST.md).
 -- The bytes of an object's file (ELF gABI; RISC-V psABI).
 use Rattle.std.specs.Prelude.{ℕ, ◌+◌, ◌-◌, ◌%◌, List, [], ◌∷◌, ◌++◌, length, fold, replicate, codes}
 use Rattle.sc_object.specs.declared.object.Object.{Object}

@@ -1,3 +1,4 @@
+-- Inside: plumbing, a representation, an invariant or a promise beside the claim (docs/TRUST.md).
 -- What the heap's fields keep: its blocks are tiled, and each class has room for its taken blocks among the free ones.
 use Rattle.std.specs.Prelude.{◌≡◌, ◌⊎◌, ℕ, ◌+◌, ◌<◌, ◌≤◌, ◌==◌, List, [], ◌∷◌, ◌++◌, length, Result, Ok, Err, None, map, slice_get, Option, Some, if◌then◌else◌, vec_capacity}
 use Rattle.std.specs.List.{sum_by}

@@ -1,3 +1,4 @@
+-- Yardstick: to be compared with what it restates (docs/TRUST.md).
 -- Integer types and the numbers that bits stand for (ANSI 3.1.2.5, 3.2.1).
 use Rattle.std.specs.Prelude.{ℕ, ◌-◌, ◌%◌, ◌^◌, Bool, true, false, ◌&&◌, nat_lt, nat_le, if◌then◌else◌, ℤ, pos, negsuc}
 use Rattle.sc_base.specs.declared.integer.Int.{Int}

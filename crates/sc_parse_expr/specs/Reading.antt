@@ -1,3 +1,4 @@
+-- Machine: the program once more; a theorem ties it to a yardstick (docs/TRUST.md).
 -- An expression at the front of tokens, as the machine reads it, and why it is refused.
 use Rattle.std.specs.Prelude.{◌≡◌, ℕ, ◌+◌, ◌≤◌, nat_lt, if◌then◌else◌, Bool, true, false, List, [], ◌∷◌, ◌++◌, length, Option, Some, None, Result, Ok, Err}
 use Rattle.sc_tree.specs.declared.expression.Expr.{Expr}

@@ -1,3 +1,4 @@
+-- Yardstick: to be compared with what it restates (docs/TRUST.md).
 -- The operand that each production makes: its line, its level, its height and its tree.
 use Rattle.std.specs.Prelude.{ℕ, ◌+◌, max, nat_lt, if◌then◌else◌, List, [], ◌∷◌, Option}
 use Rattle.std.specs.Str.{bytes_eq}

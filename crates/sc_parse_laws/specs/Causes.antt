@@ -1,3 +1,4 @@
+-- Yardstick: to be compared with what it restates (docs/TRUST.md).
 -- What `parse` claims of its answer: what is found, and why tokens are refused.
 use Rattle.std.specs.Prelude.{◌≡◌, ℕ, true, false, List, Result, Ok, Err}
 use Rattle.sc_base.specs.declared.refusal.Fault.{Fault}

@@ -1,3 +1,4 @@
+-- Yardstick: to be compared with what it restates (docs/TRUST.md).
 -- What is claimed of the refusals of tokens: where a mark stands, and what passes a limit.
 use Rattle.std.specs.Prelude.{◌≡◌, ℕ, ◌<◌, ◌≤◌, true, false, List, [], ◌∷◌, ◌++◌, length, Ok, Err, ◌⊎◌, codes}
 use Rattle.sc_base.specs.declared.refusal.X.TheVariants as x

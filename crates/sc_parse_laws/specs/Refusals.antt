@@ -1,3 +1,4 @@
+-- Yardstick: to be compared with what it restates (docs/TRUST.md).
 -- What a refusal of the machine of expressions tells of the token and of those before it.
 use Rattle.std.specs.Prelude.{List, Result, Ok, Err}
 use Rattle.sc_parse_names.specs.declared.kind.Symbol.{Symbol}

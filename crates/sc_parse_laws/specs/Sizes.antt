@@ -1,3 +1,4 @@
+-- Inside: plumbing, a representation, an invariant or a promise beside the claim (docs/TRUST.md).
 -- What is claimed of the sizes of an expression that is read.
 use Rattle.std.specs.Prelude.{◌≤◌, List}
 use Rattle.sc_tree.specs.Room.{room_of}

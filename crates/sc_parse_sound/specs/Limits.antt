@@ -1,3 +1,4 @@
+-- Yardstick: to be compared with what it restates (docs/TRUST.md).
 -- Where a limit of expressions is passed.
 use Rattle.std.specs.Prelude.{◌≡◌, ℕ, ◌<◌, ◌≤◌, true, List, ◌∷◌, ◌++◌, length, ◌⊎◌}
 use Rattle.sc_tree.specs.declared.expression.Expr.{Expr}

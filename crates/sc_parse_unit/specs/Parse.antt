@@ -1,3 +1,4 @@
+-- Machine: the program once more; a theorem ties it to a yardstick (docs/TRUST.md).
 -- What the tokens of a unit give.
 use Rattle.std.specs.Prelude.{◌≡◌, ℕ, if◌then◌else◌, nat_lt, List, [], ◌∷◌, Result, Ok, Err, codes}
 use Rattle.sc_base.specs.declared.refusal.X.{X}

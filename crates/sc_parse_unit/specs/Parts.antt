@@ -1,3 +1,4 @@
+-- Inside: plumbing, a representation, an invariant or a promise beside the claim (docs/TRUST.md).
 -- The places where the machine of expressions goes on.
 use Rattle.std.specs.Prelude.{List}
 use Rattle.sc_parse_grammar.specs.declared.frame.Frame.{Frame}

@@ -1,3 +1,4 @@
+-- Inside: plumbing, a representation, an invariant or a promise beside the claim (docs/TRUST.md).
 -- What a step of the code does, against a step of the machine.
 use Rattle.std.specs.Prelude.{◌≡◌, Bool, false, not, List, ◌∷◌, Result, Ok, Err}
 use Rattle.sc_parse_names.specs.Names.{Names}

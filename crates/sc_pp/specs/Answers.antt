@@ -1,3 +1,4 @@
+-- Inside: plumbing, a representation, an invariant or a promise beside the claim (docs/TRUST.md).
 -- What the code answers, against what is defined.
 use Rattle.std.specs.Prelude.{ℕ, ◌≡◌, List, Option, Some, Result, Ok, Err, ⊤}
 use Rattle.sc_base.specs.declared.refusal.Refusal.{Refusal}

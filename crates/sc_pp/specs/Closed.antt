@@ -1,3 +1,4 @@
+-- Inside: plumbing, a representation, an invariant or a promise beside the claim (docs/TRUST.md).
 -- Lines whose conditionals know whether they are closed.
 use Rattle.std.specs.Prelude.{⊤, true, false, List, [], ◌∷◌}
 use Rattle.sc_pp.specs.declared.line.Line.{Line}

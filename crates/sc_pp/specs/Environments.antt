@@ -1,3 +1,4 @@
+-- Yardstick: to be compared with what it restates (docs/TRUST.md).
 -- What names stand for in a unit: the table of macros, and the names of its files by their numbers.
 use Rattle.std.specs.Prelude.{◌≡◌, ℕ, suc, List, [], ◌∷◌, ◌++◌, Bool, is_some, get_or, Result}
 use Rattle.indexmap.specs.Layout.{hash_map}

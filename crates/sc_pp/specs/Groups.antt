@@ -1,3 +1,4 @@
+-- Yardstick: to be compared with what it restates (docs/TRUST.md).
 -- Conditionals as nested groups (ANSI 3.8.1), and what they make of a state.
 use Rattle.std.specs.Prelude.{ℕ, Bool, true, false, ◌&&◌, ◌||◌, if◌then◌else◌, List, [], ◌∷◌, Ok, Err}
 use Rattle.sc_base.specs.declared.refusal.Refusal.{Refusal}

@@ -1,3 +1,4 @@
+-- Yardstick: to be compared with what it restates (docs/TRUST.md).
 -- The built-in headers (ANSI 4.1.2).
 use Rattle.std.specs.Prelude.{ℕ, Bool, true, false, ◌||◌, not, if◌then◌else◌, List, ◌++◌, Option, Some, None, codes}
 use Rattle.std.specs.List.{list_any}

@@ -1,3 +1,4 @@
+-- Machine: the program once more; a theorem ties it to a yardstick (docs/TRUST.md).
 -- One line after the other, with a stack of the conditionals that are open.
 use Rattle.std.specs.Prelude.{ℕ, Bool, true, false, ◌&&◌, ◌||◌, if◌then◌else◌, List, [], ◌∷◌, Option, Some, None, Result, Ok, Err, ◌≡◌}
 use Rattle.sc_pp.specs.declared.line.Directive.{Directive}

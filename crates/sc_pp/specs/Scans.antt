@@ -1,3 +1,4 @@
+-- Machine: the program once more; a theorem ties it to a yardstick (docs/TRUST.md).
 -- The lines of a text.
 use Rattle.std.specs.Prelude.{ℕ, List, []}
 use Rattle.sc_lex.specs.Tokens.{cut}

@@ -1,3 +1,4 @@
+-- Yardstick: to be compared with what it restates (docs/TRUST.md).
 -- The grammar of `#if` (ANSI 3.4, 3.8.1): which terms are an expression, and what it comes to. The levels: conditional 3,
 -- binary 4 to 13, unary 15, primary 17.
 use Rattle.std.specs.Prelude.{◌≡◌, ℕ, suc, ◌≤◌, true, List, [], ◌∷◌, ◌++◌}

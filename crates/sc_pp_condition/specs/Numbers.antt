@@ -1,3 +1,4 @@
+-- Yardstick: to be compared with what it restates (docs/TRUST.md).
 -- Numbers of 32 bits, in two's complement where they are signed; what does not fit wraps (ANSI 3.3.3.3, 3.3.5 to 3.3.8).
 use Rattle.std.specs.Prelude.{ℕ, ◌+◌, ◌-◌, ◌*◌, ◌/◌, ◌%◌, ◌^◌, ◌==◌, nat_lt, nat_le, Bool, not, ◌||◌, if◌then◌else◌}
 

@@ -1,3 +1,4 @@
+-- Yardstick: to be compared with what it restates (docs/TRUST.md).
 -- What the operators of `#if` make of numbers, and when that divides by zero (ANSI 3.8.1, 3.2.1.5, 3.3.13 to 3.3.15).
 use Rattle.std.specs.Prelude.{ℕ, ◌+◌, ◌-◌, ◌==◌, nat_lt, Bool, true, false, not, ◌&&◌, ◌||◌, if◌then◌else◌, bit_and, bit_or, bit_xor}
 use Rattle.sc_pp_condition.specs.declared.number.Value.{Value}

@@ -1,3 +1,4 @@
+-- Yardstick: to be compared with what it restates (docs/TRUST.md).
 -- The operators of `#if` (ANSI 3.3, 3.4, 3.8.1).
 use Rattle.std.specs.Prelude.{ℕ, Bool, true, false}
 use Rattle.sc_pp_condition.specs.declared.operator.Operator.{Operator}

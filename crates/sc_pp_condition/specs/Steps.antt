@@ -1,3 +1,4 @@
+-- Inside: plumbing, a representation, an invariant or a promise beside the claim (docs/TRUST.md).
 -- What a step of the code does, against a step of the machine.
 use Rattle.std.specs.Prelude.{◌≡◌, List, Option, Some, None, Result, Ok, Err}
 use Rattle.sc_pp_condition.specs.declared.machine.Frame.{Frame}

@@ -1,3 +1,4 @@
+-- Yardstick: to be compared with what it restates (docs/TRUST.md).
 -- The terms of `#if` that tokens are, once their macros are replaced (ANSI 3.8.1).
 use Rattle.std.specs.Prelude.{ℕ, ◌==◌, ◌&&◌, if◌then◌else◌, false, List, [], ◌∷◌, map, Option, Some, None}
 use Rattle.sc_lex.specs.declared.token.Token.{Token}

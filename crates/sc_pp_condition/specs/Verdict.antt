@@ -1,3 +1,4 @@
+-- Yardstick: to be compared with what it restates (docs/TRUST.md).
 -- What `#if` decides, as one function of its tokens (ANSI 3.8.1).
 use Rattle.std.specs.Prelude.{◌≡◌, Bool, List, [], ◌∷◌, ◌++◌, Option, Some, None, Result, Err}
 use Rattle.sc_lex.specs.declared.token.Token.{Token}

@@ -1,3 +1,4 @@
+-- Yardstick: to be compared with what it restates (docs/TRUST.md).
 -- The tests of undefined steps, one for each rule, on what a pointer and its object are: numbers, marks and kinds
 -- (ANSI 3.2.2.1, 3.3.2, 3.3.6, 3.3.8, 3.5.3, 3.5.7, 4.10.3, 4.11.2). Memory finds these by tag and address, the meaning of C by object
 -- and offset. Both cite the tests that stand here.

@@ -1,3 +1,4 @@
+-- Yardstick: to be compared with what it restates (docs/TRUST.md).
 -- What `load`, `edit` and `unload` do to the modules.
 use Rattle.std.specs.Prelude.{◌≡◌, ℕ, not, if◌then◌else◌, List, [], ◌∷◌, ◌++◌, length, take, slice_get, slice_set, ◌<◌, Option, Some, None, codes}
 use Rattle.std.specs.List.{filter}

@@ -1,3 +1,4 @@
+-- Yardstick: to be compared with what it restates (docs/TRUST.md).
 -- What a session has room for: modules, numbers of functions, and bytes of static storage.
 use Rattle.std.specs.Prelude.{ℕ, ◌+◌, ◌*◌, ◌/◌, nat_lt, if◌then◌else◌, List, [], ◌∷◌, length, Option, Some, None}
 use Rattle.sc_types.specs.declared.ctype.CType.{CType}

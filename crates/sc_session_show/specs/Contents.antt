@@ -1,3 +1,4 @@
+-- Yardstick: to be compared with what it restates (docs/TRUST.md).
 -- What an object holds, as it is shown: a scalar by its type, or why it cannot be read; an array, a structure or a union as the
 -- list of its parts, of an array the first 16 elements (ANSI 3.1.2.5).
 use Rattle.std.specs.Prelude.{ℕ, zero, suc, ◌+◌, ◌-◌, ◌++◌, ◌==◌, min, if◌then◌else◌, Bool, true, false, List, [], ◌∷◌, length, Option, Some, None, unwrap_or, codes, decimal}

@@ -1,3 +1,4 @@
+-- Yardstick: to be compared with what it restates (docs/TRUST.md).
 -- A line of an answer.
 use Rattle.std.specs.Prelude.{ℕ, List, ◌++◌, codes}
 

@@ -1,3 +1,4 @@
+-- Yardstick: to be compared with what it restates (docs/TRUST.md).
 -- Where a name is declared that is in scope in a call: in an open block, of which the innermost hides the others, the parameters
 -- last; else at file scope (ANSI 3.1.2.1).
 use Rattle.std.specs.Prelude.{ℕ, ◌==◌, if◌then◌else◌, List, [], ◌∷◌, slice_index_or, Option, Some, None}

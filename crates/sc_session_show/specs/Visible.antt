@@ -1,3 +1,4 @@
+-- Yardstick: to be compared with what it restates (docs/TRUST.md).
 -- What a name stands for in a call: a parameter or an automatic object of an open block, or an object of static storage duration, by
 -- the innermost declaration that is in scope (ANSI 3.1.2.1, 3.1.2.2).
 use Rattle.std.specs.Prelude.{ℕ, ◌++◌, ◌==◌, Bool, true, false, if◌then◌else◌, List, [], ◌∷◌, take, Option, Some, None, codes, decimal}

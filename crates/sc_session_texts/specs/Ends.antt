@@ -1,3 +1,4 @@
+-- Yardstick: to be compared with what it restates (docs/TRUST.md).
 -- What is said of the end of a run, and how an answer stands behind the bytes that the program wrote.
 use Rattle.std.specs.Prelude.{ℕ, ◌++◌, ◌==◌, ◌-◌, if◌then◌else◌, List, [], ◌∷◌, length, slice_get, Option, Some, None, codes, decimal}
 use Rattle.std.specs.Fmt.{signed_decimal}

@@ -1,3 +1,4 @@
+-- Inside: plumbing, a representation, an invariant or a promise beside the claim (docs/TRUST.md).
 -- How many nodes a tree has: one for each expression, statement, declarator, list of specifiers and initialiser.
 use Rattle.std.specs.Prelude.{ℕ, ◌+◌, Option, Some, None, sum, sum_by, length}
 use Rattle.sc_tree.specs.declared.expression.Expr.{Expr, fold-Expr, out-Expr}

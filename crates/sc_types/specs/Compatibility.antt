@@ -1,3 +1,4 @@
+-- Yardstick: to be compared with what it restates (docs/TRUST.md).
 -- Which types are compatible (ANSI 3.1.2.6, 3.5.2.1, 3.5.3, 3.5.4.2, 3.5.4.3).
 use Rattle.std.specs.Prelude.{ℕ, zero, suc, ◌==◌, Bool, true, false, not, ◌&&◌, ◌||◌, List, [], ◌∷◌, length, map, slice_get, Option, Some, None}
 use Rattle.std.specs.Str.{bytes_eq}

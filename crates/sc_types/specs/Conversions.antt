@@ -1,3 +1,4 @@
+-- Yardstick: to be compared with what it restates (docs/TRUST.md).
 -- The types of converted values (ANSI 3.2.1.1, 3.2.1.5).
 use Rattle.std.specs.Prelude.{Bool, true, false, ◌||◌, ◌&&◌, if◌then◌else◌}
 use Rattle.sc_base.specs.declared.integer.Int.{Int}

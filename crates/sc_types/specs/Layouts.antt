@@ -1,3 +1,4 @@
+-- Yardstick: to be compared with what it restates (docs/TRUST.md).
 -- The size and alignment of objects, and where members stand (ANSI 3.1.2.5, 3.3.3.4, 3.5.2.1; ILP32).
 use Rattle.std.specs.Prelude.{ℕ, zero, suc, ◌+◌, ◌-◌, ◌*◌, ◌/◌, ◌==◌, max, if◌then◌else◌, Bool, true, false, List, [], ◌∷◌, length, take, slice_get, Option, Some, None, option_map, option_and_then, unwrap_or}
 use Rattle.sc_base.specs.declared.integer.Int.{Int}

@@ -1,3 +1,4 @@
+-- Inside: plumbing, a representation, an invariant or a promise beside the claim (docs/TRUST.md).
 -- What a table of structures keeps: the layout of each structure that is complete.
 use Rattle.std.specs.Prelude.{◌≡◌, ℕ, ◌≤◌, nat_le, Bool, true, if◌then◌else◌, List, length, slice_get, slice_index_or, count_by, Option, Some, None, is_some, option_and_then}
 use Rattle.sc_types.specs.declared.ctype.CType.{CType}

@@ -1,3 +1,4 @@
+-- Inside: plumbing, a representation, an invariant or a promise beside the claim (docs/TRUST.md).
 -- The options as `clap` has them.
 use Rattle.std.specs.Prelude.{ℕ, Bool, List, true, Some, codes}
 use Rattle.clap.specs.Words.{App, Row, Rule, Text, matches_of, new_app, new_rule, takes, with_rule}

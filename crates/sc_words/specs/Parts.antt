@@ -1,3 +1,4 @@
+-- Yardstick: to be compared with what it restates (docs/TRUST.md).
 -- What the words of a command may be: names, files and numbers.
 use Rattle.std.specs.Prelude.{ℕ, Bool, false, ◌&&◌, ◌||◌, ◌+◌, List, [], ◌∷◌, length, take, drop, Option, option_map, ◌==◌, nat_le, position}
 use Rattle.std.specs.List.{list_all}

@@ -1,3 +1,4 @@
+-- Yardstick: to be compared with what it restates (docs/TRUST.md).
 -- What a step costs in turns: one, and one more for each byte that it touches.
 use Rattle.std.specs.Prelude.{ℕ, ◌+◌, ◌-◌, ◌&&◌, Bool, true, false}
 use Rattle.sc_meaning.specs.World.{World, work}

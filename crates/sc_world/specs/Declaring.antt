@@ -1,3 +1,4 @@
+-- Yardstick: to be compared with what it restates (docs/TRUST.md).
 -- Which object a run initialises where it stands.
 use Rattle.std.specs.Prelude.{ℕ, Option, Some, None}
 use Rattle.sc_meaning.specs.Statements.{id_of}

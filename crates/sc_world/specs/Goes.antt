@@ -1,3 +1,4 @@
+-- Yardstick: to be compared with what it restates (docs/TRUST.md).
 -- A go: the steps up to the first place that halts it, or where the turns were taken.
 use Rattle.std.specs.Prelude.{◌≡◌, ℕ, zero, suc, ◌+◌, List, [], ◌∷◌, Option, Some, None}
 use Rattle.sc_meaning.specs.World.{World, GoesOut, ComesBack, pass}

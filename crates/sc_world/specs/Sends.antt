@@ -1,3 +1,4 @@
+-- Yardstick: to be compared with what it restates (docs/TRUST.md).
 -- What a go sends while it goes on.
 use Rattle.std.specs.Prelude.{◌≢◌, ◌<◌, ◌+◌, ℕ, List, [], length, Option, Some, None}
 use Rattle.std.specs.Io.KnownBytes.{Appends}

@@ -1,3 +1,4 @@
+-- Yardstick: to be compared with what it restates (docs/TRUST.md).
 -- What a go halts at.
 use Rattle.std.specs.Prelude.{ℕ, ◌-◌, Bool, true, false, ◌||◌, nat_le, if◌then◌else◌, List, [], ◌∷◌, Option, Some, None}
 use Rattle.sc_meaning.specs.World.{Frame}

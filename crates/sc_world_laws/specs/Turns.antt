@@ -1,3 +1,4 @@
+-- Inside: plumbing, a representation, an invariant or a promise beside the claim (docs/TRUST.md).
 -- Steps one after another, wherever a go would halt.
 use Rattle.std.specs.Prelude.{ℕ, zero, suc, List}
 use Rattle.sc_meaning.specs.Versions.{Text}
