@@ -8,22 +8,7 @@ use Rattle.sc_parse_names.specs.declared.kind.Kind.TheVariants as k
 use Rattle.sc_parse_tokens.specs.declared.literal.Place.{Place}
 use Rattle.sc_parse_tokens.specs.declared.literal.Place.TheVariants as at
 use Rattle.sc_parse_tokens.specs.declared.literal.Literal.{Literal}
-use Rattle.sc_parse_tokens.specs.Numbers.{digit_of, capped}
-
--- a simple escape
-abbrev pub simple : ℕ → Option ℕ
-simple e =
-    if e == 39 then Some 39 else
-    if e == 34 then Some 34 else
-    if e == 63 then Some 63 else
-    if e == 92 then Some 92 else
-    if e == 97 then Some 7 else
-    if e == 98 then Some 8 else
-    if e == 102 then Some 12 else
-    if e == 110 then Some 10 else
-    if e == 114 then Some 13 else
-    if e == 116 then Some 9 else
-    if e == 118 then Some 11 else None
+use Rattle.sc_lex_literals.specs.Constants.{digit_of, capped, simple}
 
 abbrev pub literal : List ℕ → ℕ → Bool → Place → Literal
 literal bytes count fits place = record { bytes = bytes; count = count; fits = fits; place = place }

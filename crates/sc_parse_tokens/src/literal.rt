@@ -2,8 +2,8 @@
 ghost use Rattle.std.specs.Prelude.{◌≡◌, ◌≤◌, IfOk, []};
 ghost use Rattle.sc_parse_tokens.specs.Literals as spec;
 
-use crate::number::{capped, digit_of};
 use sc_base::{Int, Items, NoMemory};
+use sc_lex_literals::{capped, digit_of, simple_escape};
 use sc_parse_names::{Kind, Mark};
 use sc_tree::Constant;
 use std::alloc::Global;
@@ -35,25 +35,6 @@ pub struct Literal {
     pub count: u8,
     pub fits: bool,
     pub place: Place,
-}
-
-fn simple(e: u8) -> Option<u8>
-    ensures { result ≡ spec.simple e }
-{
-    match e {
-        b'\'' => Some(39),
-        b'"' => Some(34),
-        b'?' => Some(63),
-        b'\\' => Some(92),
-        b'a' => Some(7),
-        b'b' => Some(8),
-        b'f' => Some(12),
-        b'n' => Some(10),
-        b'r' => Some(13),
-        b't' => Some(9),
-        b'v' => Some(11),
-        _ => None,
-    }
 }
 
 fn start(alloc: Global) -> Literal
@@ -130,7 +111,7 @@ fn slash(r: Literal, b: u8) -> Result<Literal, NoMemory>
     } else if digit < 8 {
         Ok(moves(r, Place::Octal(1, digit)))
     } else {
-        match simple(b) {
+        match simple_escape(b) {
             Some(value) => gains(r, value as u64, Place::Plain),
             None => Ok(moves(r, Place::Bad)),
         }

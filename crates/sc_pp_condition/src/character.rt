@@ -1,9 +1,10 @@
 // The character constants of `#if` (ANSI 3.1.3.4).
 ghost use Rattle.std.specs.Prelude.{◌≡◌, ◌≤◌, None, if◌then◌else◌};
+ghost use Rattle.sc_lex_literals.specs.Constants as lit;
 ghost use Rattle.sc_pp_condition.specs.Constants as spec;
 
-use crate::constant::{digit_of, digits};
 use crate::number::Value;
+use sc_lex_literals::{digit_of, digits, simple_escape};
 
 fn is_quote(text: &[u8]) -> bool
     ensures { result ≡ spec.is_quote text.now }
@@ -14,28 +15,9 @@ fn is_quote(text: &[u8]) -> bool
     }
 }
 
-fn simple(e: u8) -> Option<u8>
-    ensures { result ≡ spec.simple e }
-{
-    match e {
-        b'\'' => Some(39),
-        b'"' => Some(34),
-        b'?' => Some(63),
-        b'\\' => Some(92),
-        b'a' => Some(7),
-        b'b' => Some(8),
-        b'f' => Some(12),
-        b'n' => Some(10),
-        b'r' => Some(13),
-        b't' => Some(9),
-        b'v' => Some(11),
-        _ => None,
-    }
-}
-
 fn numbered(base: u64, text: &[u8]) -> Option<u8>
     requires { base ≤ 16 }
-    ensures { result ≡ spec.numbered (spec.digits base 0 text.now) }
+    ensures { result ≡ spec.numbered (lit.digits base 0 text.now) }
 {
     let (value, rest) = digits(base, text);
     if is_quote(rest) && value <= 255 {
@@ -55,7 +37,7 @@ fn begins_digit(text: &[u8]) -> bool
 }
 
 fn hexadecimal(text: &[u8]) -> Option<u8>
-    ensures { result ≡ (if spec.begins_digit text.now then spec.numbered (spec.digits 16 0 text.now) else None) }
+    ensures { result ≡ (if spec.begins_digit text.now then spec.numbered (lit.digits 16 0 text.now) else None) }
 {
     if begins_digit(text) {
         numbered(16, text)
@@ -79,7 +61,7 @@ fn escaped(text: &[u8]) -> Option<u8>
                     None
                 }
             } else if is_quote(rest) {
-                simple(*e)
+                simple_escape(*e)
             } else {
                 None
             }

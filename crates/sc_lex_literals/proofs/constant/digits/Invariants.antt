@@ -1,6 +1,7 @@
+-- What is left gives what the whole gives.
 use Rattle.std.proofs.Common.{◌≡◌, ◌≤◌, length}
-use Rattle.sc_pp_condition.specs.Constants as spec
-use Rattle.sc_pp_condition.proofs.constant.digits.Given as goal
+use Rattle.sc_lex_literals.specs.Constants as spec
+use Rattle.sc_lex_literals.proofs.constant.digits.Given as goal
 
 abbrev pub invariant-digits : goal.invariant-digits
 invariant-digits l = record {
