@@ -6,7 +6,8 @@ use Rattle.sc_base.specs.declared.report.Rule.{Rule}
 use Rattle.sc_rules.specs.Tests as tests
 use Rattle.sc_rules.specs.Orders as orders
 use Rattle.sc_meaning.specs.Values.{Value, Number, FunctionAt, Pointer, Cell, Byte, cells_of}
-use Rattle.sc_meaning.specs.World.{World, Object, Item, Work, Begin, End, GoesOut, ComesBack, Declares, Happens, Birth, Death, Put, Copy, TakeFree, TakeNew, Give, Stack, Read, Seed, Push, Pop, OpenBlock, CloseBlock, Name, Unname, object_at, with_object, written, overwritten, cells_at, changes_of, pass, tick, fresh, free_of}
+use Rattle.sc_meaning.specs.World.{World, Object, Item, Work, Begin, End, GoesOut, ComesBack, Declares, Happens, Birth, Death, Put, Copy, TakeFree, TakeNew, Give, Stack, Read, Seed, Push, Pop, OpenBlock, CloseBlock, Name, Unname, object_at, with_object, written, overwritten, cells_at, pass, tick, fresh, free_of, Enter, Leave, At, Out}
+use Rattle.sc_interp_laws.specs.Events.{stirs}
 use Rattle.sc_meaning.specs.Outcomes.{Outcome, Done, Over, BirthLimit, Breach, and_then, world_after, unless, went, access_breach}
 use Rattle.sc_meaning.specs.Violations.{store_rule, write_rule, free_rule, is_null, of_object}
 use Rattle.sc_meaning.specs.Accesses.{copy_at}
@@ -79,14 +80,17 @@ copy_stays : (w : World) (to at from off n : ℕ) → Stays w.objects (pass (Cop
 copy_stays w to at from off n = written_stays w.objects to at (cells_at w.objects from off n) (object_at w.objects to) refl
 
 -- ways
-free_heap : (i : Item) (w : World) → changes_of i ≡ [] → IsOfHeap w i
+free_heap : (i : Item) (w : World) → stirs i ≡ [] → IsOfHeap w i
 free_heap (Work n) w e = tt
 free_heap Begin w e = tt
 free_heap End w e = tt
 free_heap GoesOut w e = tt
 free_heap ComesBack w e = tt
 free_heap (Declares id) w e = tt
-free_heap (Happens x) w e = tt
+free_heap (Happens (Enter key home)) w e = absurd (cc)
+free_heap (Happens Leave) w e = refl
+free_heap (Happens (At home line enter)) w e = absurd (cc)
+free_heap (Happens (Out byte)) w e = refl
 free_heap (Birth size kind) w e = absurd (cc)
 free_heap (Death id) w e = absurd (cc)
 free_heap (Put id at new) w e = absurd (cc)
@@ -97,8 +101,8 @@ free_heap (Give k) w e = tt
 free_heap (Stack n) w e = tt
 free_heap Read w e = tt
 free_heap (Seed n) w e = tt
-free_heap (Push f) w e = tt
-free_heap Pop w e = tt
+free_heap (Push f) w e = absurd (cc)
+free_heap Pop w e = absurd (cc)
 free_heap (OpenBlock b) w e = tt
 free_heap CloseBlock w e = tt
 free_heap (Name id o) w e = tt
@@ -116,10 +120,10 @@ here w = along_here IsOfHeap w
 pub on : (w v u : World) → G w v → G v u → G w u
 on w v u p q = along_on IsOfHeap w v u p q
 
-pub quiet : (i : Item) (w : World) → changes_of i ≡ [] → G w (pass i w)
+pub quiet : (i : Item) (w : World) → stirs i ≡ [] → G w (pass i w)
 quiet i w e = along_one IsOfHeap i w (free_heap i w e)
 
-pub quiet_two : (i j : Item) (w : World) → changes_of i ≡ [] → changes_of j ≡ [] → G w (pass j (pass i w))
+pub quiet_two : (i j : Item) (w : World) → stirs i ≡ [] → stirs j ≡ [] → G w (pass j (pass i w))
 quiet_two i j w e f = along_two IsOfHeap i j w (free_heap i w e) (free_heap j (pass i w) f)
 
 pub then_go : {A B : Type 0} (w : World) (r : Outcome A) (f : A → World → Outcome B) → G w (world_after r) → ((a : A) (v : World) → G v (world_after (f a v))) → G w (world_after (and_then r f))

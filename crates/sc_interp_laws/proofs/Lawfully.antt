@@ -3,7 +3,8 @@ use Rattle.std.proofs.Common.{◌≡◌, inl, inr, ℕ, ◌+◌, Bool, true, fal
 use Rattle.sc_rules.specs.Tests as tests
 use Rattle.sc_rules.specs.Orders as orders
 use Rattle.sc_meaning.specs.Values.{Value, Number, FunctionAt, Pointer, Cell, cells_of}
-use Rattle.sc_meaning.specs.World.{World, Object, Item, Work, Begin, End, GoesOut, ComesBack, Declares, Happens, Birth, Death, Put, Copy, TakeFree, TakeNew, Give, Stack, Read, Seed, Push, Pop, OpenBlock, CloseBlock, Name, Unname, object_at, changes_of, pass, passed}
+use Rattle.sc_meaning.specs.World.{World, Object, Item, Work, Begin, End, GoesOut, ComesBack, Declares, Happens, Birth, Death, Put, Copy, TakeFree, TakeNew, Give, Stack, Read, Seed, Push, Pop, OpenBlock, CloseBlock, Name, Unname, object_at, pass, passed}
+use Rattle.sc_interp_laws.specs.Events.{stirs}
 use Rattle.sc_meaning.specs.Violations.{store_rule, write_rule, is_null, is_dead, is_outside, is_misaligned, is_constant, of_object}
 use Rattle.sc_meaning.specs.Accesses.{set_at, copy_at}
 use Rattle.sc_meaning.specs.Expressions.{Env}
@@ -74,7 +75,7 @@ write_writable objects o i further n h =
     writable objects o (object_at objects o) (λ x. tests.ends_outside x.size (i + further) n) refl f.0 f.1 f.2
 
 -- along laws that ask nothing of what changes no object
-module _ (L : World → Item → Type 0) (free : (i : Item) (w : World) → changes_of i ≡ [] → L w i) (puts : (id at : ℕ) (new : List Cell) (w : World) → IsWritable w.objects id → L w (Put id at new)) (copies : (to at from off n : ℕ) (w : World) → IsWritable w.objects to → L w (Copy to at from off n)) where
+module _ (L : World → Item → Type 0) (free : (i : Item) (w : World) → stirs i ≡ [] → L w i) (puts : (id at : ℕ) (new : List Cell) (w : World) → IsWritable w.objects id → L w (Put id at new)) (copies : (to at from off n : ℕ) (w : World) → IsWritable w.objects to → L w (Copy to at from off n)) where
   pub along_stores : (p : Value) (further n : ℕ) (v : Value) (w : World) → store_rule w.objects p further n ≡ None → Along L w (set_at p further n v w)
   along_stores (Number m) further n v w e = along_here L w
   along_stores (FunctionAt k) further n v w e = along_here L w
@@ -99,7 +100,7 @@ module _ (L : World → Item → Type 0) (free : (i : Item) (w : World) → chan
     copies = along_copies;
   }
 
-free_write : (i : Item) (w : World) → changes_of i ≡ [] → IsWrite w i
+free_write : (i : Item) (w : World) → stirs i ≡ [] → IsWrite w i
 free_write (Work n) w e = tt
 free_write Begin w e = tt
 free_write End w e = tt
@@ -131,7 +132,7 @@ pub expr_writes : (env : Env) (mode : Mode) (is : List PendingItem) (w : World) 
 expr_writes env mode is w = exprs.advance_goes Writing env mode is w
 
 module _ (own : List ℕ) where
-  pub free_own : (i : Item) (w : World) → changes_of i ≡ [] → IsOwn own w i
+  pub free_own : (i : Item) (w : World) → stirs i ≡ [] → IsOwn own w i
   free_own (Work n) w e = tt
   free_own Begin w e = tt
   free_own End w e = tt

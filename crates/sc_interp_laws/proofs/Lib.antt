@@ -16,3 +16,4 @@ pub mod Heap
 pub mod LibraryLawful
 pub mod RunLawful
 pub mod Told
+pub mod Inside

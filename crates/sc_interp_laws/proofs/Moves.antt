@@ -25,7 +25,7 @@ use Rattle.sc_interp_world.specs.Outputs.{moves_of, bytes_moved}
 use Rattle.sc_interp_laws.specs.Paid.{done}
 use Rattle.sc_interp_laws.specs.Worlds.{body_left, world_of}
 use Rattle.sc_interp_laws.specs.Moved.{Backed, UnlessBack, StepBacked}
-use Rattle.sc_interp_laws.proofs.Road.{Road, OwnRoad, then_goes}
+use Rattle.sc_interp_laws.proofs.Road.{Road, OwnRoad, then_goes, no_change}
 use Rattle.sc_interp_laws.proofs.Works.{pass_work}
 use Rattle.sc_interp_laws.proofs.BodySteps as bodies
 
@@ -101,7 +101,7 @@ Backing = record {
   Goes = Backed;
   here = here;
   on = on;
-  quiet = quiet_backs;
+  quiet = λ i w e. quiet_backs i w (no_change i e);
   stores = λ p further n v w e. set_backs p further n v w;
   copies = λ to further from beyond n w e. copied_backs to further from beyond n w;
 }

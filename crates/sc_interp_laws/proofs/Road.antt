@@ -2,12 +2,13 @@
 use Rattle.std.proofs.Common.{◌≡◌, ℕ, Bool, List, [], Option, Some, None, refl}
 use Rattle.sc_base.specs.declared.report.Rule.{Rule}
 use Rattle.sc_meaning.specs.Values.{Value, Cell}
-use Rattle.sc_meaning.specs.World.{World, Item, Work, Birth, Death, Put, Copy, changes_of, pass}
+use Rattle.sc_meaning.specs.World.{World, Item, Work, Begin, End, GoesOut, ComesBack, Declares, Happens, Birth, Death, Put, Copy, TakeFree, TakeNew, Give, Stack, Read, Seed, Push, Pop, OpenBlock, CloseBlock, Name, Unname, changes_of, pass}
 use Rattle.sc_meaning.specs.Outcomes.{Outcome, Done, Over, Breach, and_then, world_after, unless}
 use Rattle.sc_meaning.specs.Violations.{store_rule, write_rule}
 use Rattle.sc_meaning.specs.Accesses.{set_at, copy_at}
 use Rattle.sc_meaning.specs.Statements.{auto_kind}
 use Rattle.sc_meaning.specs.Laws.{Leads}
+use Rattle.sc_interp_laws.specs.Events.{stirs}
 use Rattle.sc_meaning.proofs.Steps.{here, on, one_more, and_more}
 use Rattle.sc_meaning.proofs.Leaves.{set_leads, copy_leads}
 
@@ -16,7 +17,7 @@ pub record Road : Type 1 where
   pub Goes : World → World → Type 0
   pub here : (w : World) → Goes w w
   pub on : (w v u : World) → Goes w v → Goes v u → Goes w u
-  pub quiet : (i : Item) (w : World) → changes_of i ≡ [] → Goes w (pass i w)
+  pub quiet : (i : Item) (w : World) → stirs i ≡ [] → Goes w (pass i w)
   pub stores : (p : Value) (further n : ℕ) (v : Value) (w : World) → store_rule w.objects p further n ≡ None → Goes w (set_at p further n v w)
   pub copies : (to : Value) (further : ℕ) (from : Value) (beyond n : ℕ) (w : World) → write_rule w.objects to further n ≡ None → Goes w (pass (Work n) (copy_at to further from beyond n w))
 
@@ -66,3 +67,29 @@ module _ (S : Road) where
   pub unless_then : {A B : Type 0} (rule : Option Rule) (told : Rule → Breach) (f : World → Outcome A) (g : A → World → Outcome B) (w : World) → (rule ≡ None → S.Goes w (world_after (and_then (f w) g))) → S.Goes w (world_after (and_then (unless rule told f w) g))
   unless_then None told f g w q = q refl
   unless_then (Some r) told f g w q = S.here w
+
+-- what stirs nothing changes no object
+pub no_change : (i : Item) → stirs i ≡ [] → changes_of i ≡ []
+no_change (Work n) e = refl
+no_change Begin e = refl
+no_change End e = refl
+no_change GoesOut e = refl
+no_change ComesBack e = refl
+no_change (Declares id) e = refl
+no_change (Happens x) e = refl
+no_change (Birth size kind) e = absurd (cc)
+no_change (Death id) e = absurd (cc)
+no_change (Put id at new) e = absurd (cc)
+no_change (Copy to at from off n) e = absurd (cc)
+no_change (TakeFree k) e = refl
+no_change (TakeNew size) e = refl
+no_change (Give k) e = refl
+no_change (Stack n) e = refl
+no_change Read e = refl
+no_change (Seed n) e = refl
+no_change (Push f) e = refl
+no_change Pop e = refl
+no_change (OpenBlock b) e = refl
+no_change CloseBlock e = refl
+no_change (Name id o) e = refl
+no_change (Unname id) e = refl

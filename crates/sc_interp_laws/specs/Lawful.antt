@@ -4,7 +4,8 @@ use Rattle.std.specs.Prelude.{◌<◌, length, ◌≡◌, ◌⊎◌, ℕ, Bool, 
 use Rattle.sc_base.specs.declared.memory.Kind.{Kind}
 use Rattle.sc_base.specs.declared.memory.Kind.TheVariants.{Heap}
 use Rattle.sc_rules.specs.Tests.{is_constant, is_heap}
-use Rattle.sc_meaning.specs.World.{World, Object, Born, Item, Birth, Death, Put, Copy, object_at, pass, passed}
+use Rattle.sc_meaning.specs.World.{World, Object, Born, Item, Birth, Death, Put, Copy, Push, Pop, Happens, Event, Enter, Leave, At, Out, object_at, pass, passed}
+use Rattle.sc_interp_laws.specs.Events.{told}
 use Rattle.sc_meaning.specs.Expressions.{Env}
 use Rattle.sc_meaning.specs.Statements.{auto_kind, id_of}
 use Rattle.sc_meaning.specs.Outcomes.{world_at}
@@ -49,7 +50,8 @@ IsOwn own w (Put id at new) = IsWritable w.objects id ⊎ IsIn id own
 IsOwn own w (Copy to at from off n) = IsWritable w.objects to ⊎ IsIn to own
 IsOwn own w _ = Unit {0}
 
--- In a call of the library blocks of the heap are born, and those alone die.
+-- In a call of the library blocks of the heap are born, and those alone die; no call is entered or left there, and no line
+-- is reached.
 abbrev pub IsBlock : List Object → ℕ → Type 0
 IsBlock objects id = (o : Object) × (object_at objects id ≡ Some o) × (o.live ≡ true) × (is_heap o.kind ≡ true)
 
@@ -58,6 +60,9 @@ IsOfHeap w (Birth size kind) = kind ≡ Heap
 IsOfHeap w (Death id) = IsBlock w.objects id
 IsOfHeap w (Put id at new) = IsWritable w.objects id
 IsOfHeap w (Copy to at from off n) = IsWritable w.objects to
+IsOfHeap w (Happens e) = told e ≡ []
+IsOfHeap w (Push f) = ⊥
+IsOfHeap w Pop = ⊥
 IsOfHeap w _ = Unit {0}
 
 -- the objects of some blocks

@@ -4,3 +4,4 @@ pub mod Events
 pub mod Paid
 pub mod Lawful
 pub mod Moved
+pub mod Inside

@@ -25,6 +25,7 @@ ghost use Rattle.sc_interp_machine.specs.declared.pending.Item.{Item};
 ghost use Rattle.sc_interp_machine.specs.declared.pending.Mode.{Mode};
 ghost use Rattle.sc_interp_laws.specs.Worlds.{body_left, expr_left, world_of};
 ghost use Rattle.sc_interp_laws.specs.Events.{IsPrefix};
+ghost use Rattle.sc_interp_laws.specs.Inside.{Inside};
 ghost use Rattle.sc_interp_laws.specs.Lawful.{Along, IsOfHeap, IsOwn, IsWrite, Lawfully, own_of};
 ghost use Rattle.sc_interp_laws.specs.Moved.{StepBacked};
 ghost use Rattle.sc_interp_laws.specs.Paid.{AllPay, BodyPaid, ExprPaid, credit, doing_credit, doing_pays, done, items_credit, mode_credit, mode_pays, pays, pendings_credit};
@@ -105,4 +106,12 @@ pub fn runs_change_what_they_may()
 #[tactic(auto, using(crate::proofs::Told::line_tells))]
 pub fn lines_tell_what_is_initialised()
     ensures { (w : World) (f : Frame) (i : Happening) (home : List ℕ) (line : ℕ) → declares_in (pass (Happens (At home line f.enter)) (pass i w)) f ≡ marked_by i }
+{}
+
+/// What happens in a step of an expression or of a body stays inside of the innermost call, and tells nothing: no function is
+/// entered or left, and no line is reached.
+#[tactic(auto, using(crate::proofs::Inside::expr_inside, crate::proofs::Inside::body_inside))]
+pub fn steps_stay_inside()
+    ensures expressions { (env : Env) (mode : Mode) (is : List Item) (w : World) → Inside w (expr_left (expr.advance env mode is w)) }
+    ensures bodies { (mode : Doing) (ss : List Pending) (env : Env) (w : World) → Inside w (body_left (body.advance mode ss env w)) }
 {}
