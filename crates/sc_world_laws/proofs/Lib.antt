@@ -1,2 +1,5 @@
 pub mod Shown
 pub mod Turns
+pub mod Halts
+pub mod Tells
+pub mod Halting

@@ -1,7 +1,11 @@
-//! What a run that is kept between goes shows: the first of the events that the meaning of its program gives;
-//! and its turns are paid by work.
+//! What a run that is kept between goes shows: the first of the events that the meaning of its program gives; each go halts at
+//! the first of them that is selected; and its turns are paid by work.
 #![tactic(auto)]
 
 mod laws;
 
-pub use laws::{runs_show_the_first_of_their_events, turns_are_paid_by_work};
+pub use laws::{
+    goes_halt_at_the_first_selected_event, runs_show_the_first_of_their_events,
+    runs_stand_among_their_events, steps_tell_what_is_shown, turns_are_paid_by_work,
+    turns_bound_the_meaning,
+};
