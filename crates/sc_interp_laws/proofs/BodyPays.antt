@@ -160,7 +160,7 @@ turn_paid s (CoreStmt-F.For l f c x a) ss env w = holds_paid l c x s a ss env w
 turn_paid s _ ss env w = ends_paid _ Normal ss env w (omega arith)
 
 -- pieces
-bytes_more : (id at b : ℕ) (bs : List ℕ) (w : World) → done w + 1 ≤ done (set_bytes id at (b ∷ bs) w)
+pub bytes_more : (id at b : ℕ) (bs : List ℕ) (w : World) → done w + 1 ≤ done (set_bytes id at (b ∷ bs) w)
 bytes_more id at b bs w =
     let v : World = pass (Put id at (Byte b ∷ [])) w in
     let one : done v ≡ done w + 0 = pass_work (Put id at (Byte b ∷ [])) w in
@@ -278,7 +278,7 @@ expr_paid k v (expr.Gives a w) u ss env h =
     paid_more (4 + use_credit u + pendings_credit ss) (k + use_credit u + pendings_credit ss) v (done w) (use_next u a ss env w) (omega (arith, h)) (use_paid u a ss env w)
 expr_paid k v (expr.Breaks e) u ss env h = omega (arith, h)
 
-begun_more : (x : CoreStmt-F CoreStmt) (w : World) → done (stmt_begun x w) ≡ done w + 1
+pub begun_more : (x : CoreStmt-F CoreStmt) (w : World) → done (stmt_begun x w) ≡ done w + 1
 begun_more (CoreStmt-F.Initialize l b i pieces) w = tick_work w
 begun_more _ w = pass_work Begin w
 

@@ -41,7 +41,7 @@ Earns v (Over e) = v ≤ done (world_at e)
 abbrev pub Keeps : {A : Type 0} → ℕ → Outcome A → Type 0
 Keeps v r = v ≤ done (world_after r)
 
-earns_less : {A : Type 0} (u v : ℕ) (r : Outcome A) → u ≤ v → Earns v r → Earns u r
+pub earns_less : {A : Type 0} (u v : ℕ) (r : Outcome A) → u ≤ v → Earns v r → Earns u r
 earns_less u v (Done a w) le h = omega (arith, le, h)
 earns_less u v (Over e) le h = omega (arith, le, h)
 
@@ -49,13 +49,13 @@ pub then_earns : {A B : Type 0} (v : ℕ) (r : Outcome A) (f : A → World → O
 then_earns v (Done a w) f h q = earns_less v (done w) (f a w) h (q a w)
 then_earns v (Over e) f h q = h
 
-ticked : (w : World) → done w + 1 ≤ done (tick w)
+pub ticked : (w : World) → done w + 1 ≤ done (tick w)
 ticked w = let e : done (tick w) ≡ done w + 1 = tick_work w in omega (arith, e)
 
-used_keeps : (a : Answer) (w : World) → Keeps (done w) (used a w)
+pub used_keeps : (a : Answer) (w : World) → Keeps (done w) (used a w)
 used_keeps a w = leads_work w (world_after (used a w)) (used_goes Happening a w)
 
-tested_keeps : (t : CType) (v : Value) (w : World) → Keeps (done w) (tested t v w)
+pub tested_keeps : (t : CType) (v : Value) (w : World) → Keeps (done w) (tested t v w)
 tested_keeps t v w = leads_work w (world_after (tested t v w)) (tested_goes Happening t v w)
 
 -- a value, and then the end of the expression
@@ -65,7 +65,7 @@ plain_earns w r h = then_earns (done w) r plain h (λ v u. ticked u)
 place_earns : (w : World) (r : Outcome Value) → Keeps (done w) r → Earns (done w) (and_then r at_place)
 place_earns w r h = then_earns (done w) r at_place h (λ v u. ticked u)
 
-static_earns : (key : Key) (o : Option ℕ) (w : World) → Earns (done w) (static_at key o w)
+pub static_earns : (key : Key) (o : Option ℕ) (w : World) → Earns (done w) (static_at key o w)
 static_earns key None w = omega arith
 static_earns key (Some o) w = ticked w
 
@@ -76,7 +76,7 @@ cast_earns false t a w = then_earns (done w) (used a w) _ (used_keeps a w) (λ v
 truth_earns : (t : CType) (v : Value) (w : World) → Earns (done w) (truth t v w)
 truth_earns t v w = then_earns (done w) (tested t v w) _ (tested_keeps t v w) (λ yes u. ticked u)
 
-structure_earns : (size : ℕ) (a b : Answer) (w : World) → Earns (done w) (assigned_structure size a b w)
+pub structure_earns : (size : ℕ) (a b : Answer) (w : World) → Earns (done w) (assigned_structure size a b w)
 structure_earns size a b w =
     let r : Outcome (Unit {0}) = copied (base_of a) (further_of a) (base_of b) (further_of b) size w in
     then_earns (done w) r _ (leads_work w (world_after r) (copied_goes Going (base_of a) (further_of a) (base_of b) (further_of b) size w)) (λ x u.
@@ -84,7 +84,7 @@ structure_earns size a b w =
     earns_less (done u) (done v) (finished a v) (leads_work u v (one_more (Work size) u)) (ticked v))
 
 -- every item but a conversion ends an expression
-single_earns : (s : Single) (a : Answer) (w : World) → item_credit (Alone s) ≡ 0 → Earns (done w) (single_of s a w)
+pub single_earns : (s : Single) (a : Answer) (w : World) → item_credit (Alone s) ≡ 0 → Earns (done w) (single_of s a w)
 single_earns single.Whole a w z = ticked w
 single_earns (single.Truth t) a w z = then_earns (done w) (used a w) (truth t) (used_keeps a w) (truth_earns t)
 single_earns (single.Member n) a w z = ticked w
@@ -100,14 +100,14 @@ single_earns single.Back a w z =
     let v : World = pass ComesBack w in
     earns_less (done w) (done v) (finished a v) (leads_work w v (one_more ComesBack w)) (ticked v)
 
-pair_earns : (p : Pair) (x y : Value) (w : World) → Earns (done w) (pair_of p x y w)
+pub pair_earns : (p : Pair) (x y : Value) (w : World) → Earns (done w) (pair_of p x y w)
 pair_earns (pair.Index size s t) x y w = place_earns w (offset_by op.Add size s t x y w) (leads_work w (world_after (offset_by op.Add size s t x y w)) (offset_goes Happening op.Add size s t x y w))
 pair_earns (pair.Binary o s t) x y w = plain_earns w (computed o (int_of s) x (int_of t) y w) (leads_work w (world_after (computed o (int_of s) x (int_of t) y w)) (computed_goes Happening o (int_of s) x (int_of t) y w))
 pair_earns (pair.Offset o size s t) x y w = plain_earns w (offset_by o size s t x y w) (leads_work w (world_after (offset_by o size s t x y w)) (offset_goes Happening o size s t x y w))
 pair_earns (pair.Difference size) x y w = plain_earns w (difference x y size w) (leads_work w (world_after (difference x y size w)) (difference_goes Happening x y size w))
 pair_earns (pair.Compare o) x y w = plain_earns w (compared o x y w) (leads_work w (world_after (compared o x y w)) (compared_goes Happening o x y w))
 
-store_earns : (s : Store) (p : Answer) (v : Value) (w : World) → Earns (done w) (store_of s p v w)
+pub store_earns : (s : Store) (p : Answer) (v : Value) (w : World) → Earns (done w) (store_of s p v w)
 store_earns (store.Assign t) p v w = plain_earns w (stored t (base_of p) (further_of p) v w) (leads_work w (world_after (stored t (base_of p) (further_of p) v w)) (stored_goes Happening t (base_of p) (further_of p) v w))
 store_earns (store.Compound o i t s) p v w = plain_earns w (compounded o i t s p v w) (leads_work w (world_after (compounded o i t s p v w)) (compounded_goes Happening o i t s p v w))
 store_earns (store.Move o size t s) p v w = plain_earns w (moved_by o size t s p v w) (leads_work w (world_after (moved_by o size t s p v w)) (moved_goes Happening o size t s p v w))

@@ -17,3 +17,6 @@ pub mod LibraryLawful
 pub mod RunLawful
 pub mod Told
 pub mod Inside
+pub mod ExprNears
+pub mod BodyNears
+pub mod RunNears

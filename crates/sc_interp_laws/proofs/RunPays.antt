@@ -32,7 +32,7 @@ paid_more : (k m u v : ℕ) (s : State) → k + 4 * u ≤ m + 4 * v → RunPaid 
 paid_more k m u v s le h = omega (arith, le, h)
 
 -- a call is left with an event, which is work
-left_earns : (h : History) (ids : List ℕ) (cost : ℕ) (way : Way) (w : World) → Earns (done w) (left h ids cost way w)
+pub left_earns : (h : History) (ids : List ℕ) (cost : ℕ) (way : Way) (w : World) → Earns (done w) (left h ids cost way w)
 left_earns h ids cost way w =
     let v : World = pass Pop (all_dead ids w) in
     let u : World = pass (Stack (w.used - cost)) v in

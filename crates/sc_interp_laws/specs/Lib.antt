@@ -5,3 +5,5 @@ pub mod Paid
 pub mod Lawful
 pub mod Moved
 pub mod Inside
+pub mod Lean
+pub mod Near

@@ -27,7 +27,9 @@ ghost use Rattle.sc_interp_laws.specs.Worlds.{body_left, expr_left, world_of};
 ghost use Rattle.sc_interp_laws.specs.Events.{IsPrefix};
 ghost use Rattle.sc_interp_laws.specs.Inside.{Inside};
 ghost use Rattle.sc_interp_laws.specs.Lawful.{Along, IsOfHeap, IsOwn, IsWrite, Lawfully, own_of};
+ghost use Rattle.sc_interp_laws.specs.Lean.{AreLean, IsLean};
 ghost use Rattle.sc_interp_laws.specs.Moved.{StepBacked};
+ghost use Rattle.sc_interp_laws.specs.Near.{RunNears, goes_on, near};
 ghost use Rattle.sc_interp_laws.specs.Paid.{AllPay, BodyPaid, ExprPaid, credit, doing_credit, doing_pays, done, items_credit, mode_credit, mode_pays, pays, pendings_credit};
 
 /// Each step of an expression, a body or a run adds some things that happen to what happened before, and nothing else
@@ -114,4 +116,13 @@ pub fn lines_tell_what_is_initialised()
 pub fn steps_stay_inside()
     ensures expressions { (env : Env) (mode : Mode) (is : List Item) (w : World) → Inside w (expr_left (expr.advance env mode is w)) }
     ensures bodies { (mode : Doing) (ss : List Pending) (env : Env) (w : World) → Inside w (body_left (body.advance mode ss env w)) }
+{}
+
+/// In a run whose program is lean, each step without work comes nearer to the next work, which is seven steps away at most; eight
+/// steps are paid by a unit of work. What the step leaves is lean again, and no step is made for nothing.
+#[tactic(auto, using(crate::proofs::RunNears::advance_nears, crate::proofs::RunNears::near_most, crate::proofs::RunNears::lean_pays))]
+pub fn lean_runs_come_nearer_to_work()
+    ensures nearer { (h : History) → AreLean h → (s : whole.State) → IsLean s → goes_on s ≡ true → RunNears (near s) (done (world_of s)) (whole.advance h s) }
+    ensures most { (s : whole.State) → IsLean s → near s ≤ 7 }
+    ensures none { (s : whole.State) → IsLean s → goes_on s ≡ true → pays s ≡ true }
 {}

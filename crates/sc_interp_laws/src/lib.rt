@@ -7,7 +7,8 @@ mod laws;
 
 pub use laws::{
     calls_of_the_library_change_what_they_may, events_so_far_begin_those_of_the_call,
-    lines_tell_what_is_initialised, moved_bytes_are_work, runs_are_paid_by_work,
-    runs_change_what_they_may, states_lead_to_what_they_mean, steps_add_to_what_happened,
-    steps_are_paid_by_work, steps_change_what_they_may, steps_stay_inside,
+    lean_runs_come_nearer_to_work, lines_tell_what_is_initialised, moved_bytes_are_work,
+    runs_are_paid_by_work, runs_change_what_they_may, states_lead_to_what_they_mean,
+    steps_add_to_what_happened, steps_are_paid_by_work, steps_change_what_they_may,
+    steps_stay_inside,
 };

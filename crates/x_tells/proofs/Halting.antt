@@ -1,0 +1,389 @@
+-- A go halts at the first selected event behind the place where it began.
+use Rattle.std.proofs.Common.{◌≡◌, ◌⊎◌, inl, inr, ℕ, zero, suc, ◌+◌, ◌-◌, ◌*◌, ◌<◌, ◌≤◌, nat_le, Bool, true, false, ◌||◌, if◌then◌else◌, List, [], ◌∷◌, ◌++◌, length, drop, take, append_assoc, refl, sym, ap, ◌∙◌, subst, arith, Option, Some, None}
+use Rattle.std.proofs.lemmas.List.{append-nil}
+use Rattle.sc_core.specs.declared.module.Init.{Init}
+use Rattle.sc_program.specs.declared.storage.StaticId.{StaticId}
+use Rattle.sc_program.specs.declared.storage.StaticId.TheVariants.{Named, Literal}
+use Rattle.sc_base.specs.declared.memory.Kind.{Kind}
+use Rattle.sc_meaning.specs.World.{World, Frame, Item, Event, Enter, Leave, At, Out, Happens, Birth, Put, Name, GoesOut, ComesBack, pass, events, named_in}
+use Rattle.sc_meaning.specs.Outcomes.{Outcome, Done, Over, BirthLimit, Ending, Exit, and_then, world_after, world_at, went}
+use Rattle.sc_meaning.specs.Versions.{Text, Definition, callee_of, object_in, births_of}
+use Rattle.sc_meaning.specs.Changes.{born, born_as, born_static, born_unless, born_all, unnamed, filled, filled_all, born_and_filled, statics_born, static_contents, contents_size, kind_of}
+use Rattle.sc_meaning.specs.Behaviour.{Start, first_world, main_key, ending, events_upto}
+use Rattle.sc_meaning.proofs.Trails.{events-append}
+use Rattle.sc_interp_machine.specs.Runs.{Caller, State, Runs, Makes, Answers, Ends, then_goes}
+use Rattle.sc_interp_laws.specs.Worlds as course
+use Rattle.sc_interp_laws.specs.Events.{IsPrefix}
+use Rattle.sc_interp_laws.specs.Inside.{IsInside, Inside, AreHidden, all_told}
+use Rattle.sc_interp_laws.proofs.Lawfully.{along_here, along_one, along_on}
+use Rattle.sc_interp_laws.proofs.Inside.{inside_calls, inside_hidden, hidden_on}
+use Rattle.x_tells.specs.Shown.{Shown}
+use Rattle.x_tells.specs.Shown as shown
+use Rattle.x_tells.specs.Steady.{alone, callee_next, advance}
+use Rattle.x_tells.specs.Shows.{shown as shown_by, entry_shown}
+use Rattle.x_tells.specs.Steps.{is_over}
+use Rattle.x_tells.specs.Ends.{start_of}
+use Rattle.x_tells.proofs.Unchanged.{quiet}
+use Rattle.x_tells.specs.Stop.{StopAt}
+use Rattle.x_tells.specs.StopEvent as word
+use Rattle.x_tells.specs.Walk.{Walk}
+use Rattle.x_tells.specs.Walk.{Cont, Step, Next}
+use Rattle.x_tells.specs.Stop.{is_matched}
+use Rattle.x_tells.specs.Halt.{Halt}
+use Rattle.x_tells.specs.Halt as halt
+use Rattle.x_tells.specs.Standing.{Standing, world_of, has_ended}
+use Rattle.x_tells.specs.Wants.{Want, walks, halt_if, line_wanted, entry_wanted, wanted, else_over, halts, taken, halt_or, else_paused, rests}
+use Rattle.x_tells.specs.Costs.{bytes_touched}
+use Rattle.x_tells.specs.Goes.{moved_on, stepped, seen, here_or, gone, with_status, closed, Leaves, want_of, Goes, main_next, first_from, first_standing, started}
+use Rattle.x_tells.specs.Meant.{IsRunOf}
+use Rattle.x_tells.specs.Halts.{first_of, Free, GoesFree}
+use Rattle.x_tells.specs.Told.{walks_to, selects, event_of, happening, Tells, IsFramed, now, IsAt, is_entry, IsFirst, HaltsAt}
+use Rattle.x_tells.proofs.Halts.{free_on, goes_here, goes_on, halts_first, halts_free, bound}
+use Rattle.x_tells.proofs.Shown.{events_begin, all_events}
+use Rattle.x_tells.proofs.Tells.{step_tells, step_framed, callee_tells, callee_framed, framed_on}
+
+-- ---- one step more
+
+same_world : (s : State) → world_of s ≡ course.world_of s
+same_world (Runs doing ss env a cs w) = refl
+same_world (Makes t v vs c cs w) = refl
+same_world (Answers a cs w) = refl
+same_world (Ends e) = refl
+
+told_here : (now : State → List Event) (s t : State) → Tells (now t) (course.world_of s) (course.world_of t) → Tells (now t) (world_of s) (world_of t)
+told_here now s t p = (p.0, ap (λ w. w.trail) (same_world t) ∙ p.1 ∙ ap (λ w. w.trail ++ (p.0 ++ happening (now t))) (sym (same_world s)), p.2)
+
+pub step_told : (texts : List Text) (s : State) → IsFramed s → Tells (event_of (shown_by (alone texts) texts s) (world_of (advance (alone texts) texts s)).frames) (world_of s) (world_of (advance (alone texts) texts s))
+step_told texts s f =
+    let t : State = advance (alone texts) texts s in
+    let p = step_tells (alone texts) (quiet texts) texts s f in
+    let frames : (course.world_of t).frames ≡ (world_of t).frames = ap (λ w. w.frames) (sym (same_world t)) in
+    told_here (λ u. event_of (shown_by (alone texts) texts s) (world_of t).frames) s t
+    (subst (λ fs. Tells (event_of (shown_by (alone texts) texts s) fs) (course.world_of s) (course.world_of t)) frames p)
+
+pub step_is_framed : (texts : List Text) (s : State) → IsFramed s → IsFramed (advance (alone texts) texts s)
+step_is_framed texts s f = step_framed (alone texts) (quiet texts) texts s f
+
+events_happening : (es : List Event) → events (happening es) ≡ es
+events_happening [] = refl
+events_happening (e ∷ es) = ap (λ fs. e ∷ fs) (events_happening es)
+
+-- the events behind a step that tells one
+told_events : (w v : World) (es : List Event) (p : Tells es w v) → events v.trail ≡ (events w.trail ++ events p.0) ++ es
+told_events w v es p =
+    ap events p.1 ∙ events-append w.trail (p.0 ++ happening es) ∙ ap (λ fs. events w.trail ++ fs) (events-append p.0 (happening es) ∙ ap (λ fs. events p.0 ++ fs) (events_happening es))
+    ∙ sym (append_assoc (events w.trail) (events p.0) es)
+
+told_last : (w v : World) (es : List Event) → Tells es w v → (front : List Item) × (v.trail ≡ front ++ happening es)
+told_last w v es p = (w.trail ++ p.0, p.1 ∙ sym (append_assoc w.trail p.0 (happening es)))
+
+one_more_step : (k t b : ℕ) → k ≤ t → k + 1 ≤ t + (1 + b)
+one_more_step k t b p = omega (arith, p)
+
+-- where the run stands behind a step
+abbrev behind : (texts : List Text) (m : Standing) (old : List Event) → IsAt m old → List Event
+behind texts m old p = (old ++ now m) ++ events (step_told texts m.state p.framed).0
+
+step_at : (texts : List Text) (m : Standing) (old : List Event) (p : IsAt m old) → IsAt (stepped texts m) (behind texts m old p)
+step_at texts m old p =
+    let t : State = advance (alone texts) texts m.state in
+    let told = step_told texts m.state p.framed in
+    let es : List Event = event_of (shown_by (alone texts) texts m.state) (world_of t).frames in
+    record {
+      framed = step_framed (alone texts) (quiet texts) texts m.state p.framed;
+      passed = told_events (world_of m.state) (world_of t) es told ∙ ap (λ fs. (fs ++ events told.0) ++ es) p.passed;
+      last = told_last (world_of m.state) (world_of t) es told;
+      counted = one_more_step m.steps m.turns (bytes_touched m.state t) p.counted;
+    }
+
+-- ---- what is wanted is what is selected
+
+module _ (stops : List StopAt) (walk : Walk) (since : ℕ) where
+  hidden_free : (es : List Event) → AreHidden es → Free (selects stops walk since) es
+  hidden_free [] p = refl
+  hidden_free (Enter key home ∷ es) p = absurd (cc)
+  hidden_free (Leave ∷ es) p = rw (hidden_free es p) refl
+  hidden_free (At home line enter ∷ es) p = absurd (cc)
+  hidden_free (Out byte ∷ es) p = rw (hidden_free es p) refl
+
+same_walk : (walk : Walk) (since : ℕ) (f : Frame) → walks walk since f ≡ walks_to walk since f.enter
+same_walk Cont since f = refl
+same_walk Step since f = refl
+same_walk Next since f = refl
+
+not_here : (b : Bool) (h : Halt) → halt_if b h ≡ None → b ≡ false
+not_here true h p = absurd (cc)
+not_here false h p = refl
+
+is_here : (b : Bool) (h g : Halt) → halt_if b h ≡ Some g → (b ≡ true) × (g ≡ h)
+is_here true h g p = (refl, cc)
+is_here false h g p = absurd (cc)
+
+free_one : (sel : Event → Bool) (e : Event) → sel e ≡ false → Free sel (e ∷ [])
+free_one sel e p = rw p refl
+
+-- an event at which a go halts
+abbrev pub Chosen : (Event → Bool) → Halt → List Event → Type 0
+Chosen sel h es = (e : Event) × (es ≡ e ∷ []) × (sel e ≡ true) × (((h ≡ halt.Entered) × (is_entry e ≡ true)) ⊎ ((h ≡ halt.AtLine) × (is_entry e ≡ false)))
+
+module _ (want : Want) where
+  abbrev pub sel : Event → Bool
+  sel = selects want.stops want.walk want.since
+
+  line_same : (line : ℕ) (f : Frame) → (is_matched want.stops (word.At f.home line) || walks want.walk want.since f) ≡ sel (At f.home line f.enter)
+  line_same line f = ap (λ b. is_matched want.stops (word.At f.home line) || b) (same_walk want.walk want.since f)
+
+  unwanted_free : (s : Shown) (fs : List Frame) → wanted want s fs ≡ None → Free sel (event_of s fs)
+  unwanted_free shown.Nothing fs p = refl
+  unwanted_free (shown.Line line) [] p = refl
+  unwanted_free (shown.Line line) (f ∷ fs) p =
+      free_one sel (At f.home line f.enter) (sym (line_same line f) ∙ not_here (is_matched want.stops (word.At f.home line) || walks want.walk want.since f) halt.AtLine p)
+  unwanted_free shown.Entered [] p = refl
+  unwanted_free shown.Entered (f ∷ fs) p = free_one sel (Enter f.key f.home) (not_here (is_matched want.stops (word.Enter f.key f.home)) halt.Entered p)
+
+  wanted_chosen : (s : Shown) (fs : List Frame) (h : Halt) → wanted want s fs ≡ Some h → Chosen sel h (event_of s fs)
+  wanted_chosen shown.Nothing fs h p = absurd (cc)
+  wanted_chosen (shown.Line line) [] h p = absurd (cc)
+  wanted_chosen (shown.Line line) (f ∷ fs) h p =
+      let q = is_here (is_matched want.stops (word.At f.home line) || walks want.walk want.since f) halt.AtLine h p in
+      (At f.home line f.enter, refl, sym (line_same line f) ∙ q.0, inr (q.1, refl))
+  wanted_chosen shown.Entered [] h p = absurd (cc)
+  wanted_chosen shown.Entered (f ∷ fs) h p =
+      let q = is_here (is_matched want.stops (word.Enter f.key f.home)) halt.Entered h p in
+      (Enter f.key f.home, refl, q.0, inl (q.1, refl))
+
+  -- ---- a go
+
+  -- why a go ends at a place: what halts it there, or that nothing does and its turns were taken
+  abbrev pub Why : Halt → Standing → Type 0
+  Why h m = (halts want m ≡ Some h) ⊎ ((halts want m ≡ None) × (h ≡ halt.Paused (taken want m)))
+
+  why_last : (o : Option Halt) (m : Standing) → halts want m ≡ o → Why (halt_or o (halt.Paused (taken want m))) m
+  why_last (Some h) m e = inl e
+  why_last None m e = inr (e, refl)
+
+  why_paused : (b : Bool) (m : Standing) (h : Halt) → halts want m ≡ None → halt_if b (halt.Paused (taken want m)) ≡ Some h → Why h m
+  why_paused true m h e p = inr (e, cc)
+  why_paused false m h e p = absurd (cc)
+
+  why_rests : (o : Option Halt) (m : Standing) (h : Halt) → halts want m ≡ o → else_paused o want.turns (taken want m) ≡ Some h → Why h m
+  why_rests (Some g) m h e p = inl (e ∙ p)
+  why_rests None m h e p = why_paused (nat_le want.turns (taken want m)) m h e p
+
+  over_none : (o : Option Halt) (b : Bool) → else_over o b ≡ None → o ≡ None
+  over_none (Some h) b p = absurd (cc)
+  over_none None b p = refl
+
+  paused_none : (o : Option Halt) (turns took : ℕ) → else_paused o turns took ≡ None → o ≡ None
+  paused_none (Some h) turns took p = absurd (cc)
+  paused_none None turns took p = refl
+
+  rests_free : (m : Standing) → rests want m ≡ None → Free sel (now m)
+  rests_free m p =
+      unwanted_free m.shown (world_of m.state).frames
+      (over_none (wanted want m.shown (world_of m.state).frames) (is_over m.state) (paused_none (halts want m) want.turns (taken want m) p))
+
+  -- the last place of a go, and the events that were looked at before it
+  abbrev pub IsLast : List Text → List Event → Halt × Standing → Type 0
+  IsLast texts old out = (last : Standing) × (past : List Event) × (out.1 ≡ seen last) × IsAt last past × GoesFree sel old past × Why out.0 last
+
+  module _ (texts : List Text) where
+    step_free : (m : Standing) (old : List Event) (p : IsAt m old) → Free sel (now m) → GoesFree sel old (behind texts m old p)
+    step_free m old p f =
+        let told = step_told texts m.state p.framed in
+        (now m ++ events told.0, append_assoc old (now m) (events told.0), free_on Event sel (now m) (events told.0) f (hidden_free want.stops want.walk want.since (events told.0) told.2))
+
+    picked : (o : Option Halt) (m : Standing) (old : List Event) (p : IsAt m old) (out : Halt × Standing) → rests want m ≡ o → IsLast texts (behind texts m old p) out → IsLast texts old (here_or o m out)
+    picked (Some h) m old p out e l = (m, old, refl, p, goes_here Event sel old, why_rests (halts want m) m h refl e)
+    picked None m old p out e l = (l.0, l.1, l.2, l.3, goes_on Event sel old (behind texts m old p) l.1 (step_free m old p (rests_free m e)) l.4, l.5)
+
+    pub gone_last : (k : ℕ) (m : Standing) (old : List Event) → IsAt m old → IsLast texts old (gone k want texts m)
+    gone_last zero m old p = (m, old, refl, p, goes_here Event sel old, why_last (halts want m) m refl)
+    gone_last (suc k) m old p =
+        picked (rests want m) m old p (gone k want texts (stepped texts m)) refl (gone_last k (stepped texts m) (behind texts m old p) (step_at texts m old p))
+
+-- ---- behind a go
+
+-- where `main` came back a mark is put behind the trail, and no event
+status_events : (s : State) → events (world_of (with_status s)).trail ≡ events (world_of s).trail
+status_events (Runs doing ss env a cs w) = refl
+status_events (Makes t v vs c cs w) = refl
+status_events (Answers a [] w) = events-append w.trail (ComesBack ∷ []) ∙ append-nil (events w.trail)
+status_events (Answers a (c ∷ cs) w) = refl
+status_events (Ends e) = refl
+
+status_framed : (s : State) → IsFramed s → IsFramed (with_status s)
+status_framed (Runs doing ss env a cs w) p = p
+status_framed (Makes t v vs c cs w) p = p
+status_framed (Answers a [] w) p = tt
+status_framed (Answers a (c ∷ cs) w) p = p
+status_framed (Ends e) p = tt
+
+status_ended : (s : State) → is_over s ≡ true → has_ended (with_status s) ≡ true
+status_ended (Runs doing ss env a cs w) p = absurd (cc)
+status_ended (Makes t v vs c cs w) p = absurd (cc)
+status_ended (Answers a [] w) p = refl
+status_ended (Answers a (c ∷ cs) w) p = absurd (cc)
+status_ended (Ends e) p = refl
+
+closed_events : (m : Standing) → events (world_of (closed (seen m)).state).trail ≡ events (world_of m.state).trail
+closed_events m = status_events m.state
+
+closed_at : (m : Standing) (old : List Event) → IsAt m old → IsAt (closed (seen m)) (events (world_of (closed (seen m)).state).trail)
+closed_at m old p =
+    let n : Standing = closed (seen m) in
+    let t : List Item = (world_of n.state).trail in
+    record {
+      framed = status_framed m.state p.framed;
+      passed = sym (append-nil (events t));
+      last = (t, sym (append-nil t));
+      counted = p.counted;
+    }
+
+over_ended : (o : Option Halt) (b : Bool) (h : Halt) → else_over o b ≡ Some h → (o ≡ Some h) ⊎ ((o ≡ None) × (b ≡ true) × (h ≡ halt.Ended))
+over_ended (Some g) b h p = inl p
+over_ended None true h p = inr (refl, refl, cc)
+over_ended None false h p = absurd (cc)
+
+module _ (want : Want) (old past : List Event) (last : Standing) (n : Standing) (all : List Event)
+    (here : IsAt last past) (free : GoesFree (sel want) old past) (is : events (world_of n.state).trail ≡ past ++ now last) (prefix : IsPrefix (events (world_of n.state).trail) all) where
+  abbrev new : List Event
+  new = events (world_of n.state).trail
+
+  split_new : new ≡ old ++ (free.0 ++ now last)
+  split_new = is ∙ ap (λ es. es ++ now last) free.1 ∙ append_assoc old free.0 (now last)
+
+  first_there : (entry : Bool) (e : Event) → now last ≡ e ∷ [] → sel want e ≡ true → is_entry e ≡ entry → IsFirst (sel want) entry old all new
+  first_there entry e one chosen kind =
+      let split : new ≡ old ++ (free.0 ++ e ∷ []) = split_new ∙ ap (λ es. old ++ (free.0 ++ es)) one in
+      let q = halts_first Event (sel want) old free.0 e new all prefix.0 split prefix.1 free.2 chosen in
+      (suc (length free.0), q.0, q.1, (old ++ free.0, e, split ∙ sym (append_assoc old free.0 (e ∷ [])), kind))
+
+  chosen_there : (h : Halt) → Chosen (sel want) h (now last) → HaltsAt (sel want) h old all new
+  chosen_there h (e, one, chosen, inl (kind, entry)) = subst (λ g. HaltsAt (sel want) g old all new) (sym kind) (first_there true e one chosen entry)
+  chosen_there h (e, one, chosen, inr (kind, line)) = subst (λ g. HaltsAt (sel want) g old all new) (sym kind) (first_there false e one chosen line)
+
+  free_there : Free (sel want) (now last) → Free (sel want) (drop (length old) new)
+  free_there f = halts_free Event (sel want) old (free.0 ++ now last) new split_new (free_on Event (sel want) free.0 (now last) free.2 f)
+
+  ended_there : (h : Halt) → h ≡ halt.Ended → Free (sel want) (now last) → new ≡ all → HaltsAt (sel want) h old all new
+  ended_there h e f whole = subst (λ g. HaltsAt (sel want) g old all new) (sym e) (whole, subst (λ es. Free (sel want) (drop (length old) es)) whole (free_there f))
+
+  paused_there : (h : Halt) (t : ℕ) → h ≡ halt.Paused t → Free (sel want) (now last) → HaltsAt (sel want) h old all new
+  paused_there h t e f = subst (λ g. HaltsAt (sel want) g old all new) (sym e) (prefix, free_there f)
+
+  halted_there : (h : Halt) → (wanted want last.shown (world_of last.state).frames ≡ Some h) ⊎ ((wanted want last.shown (world_of last.state).frames ≡ None) × (is_over last.state ≡ true) × (h ≡ halt.Ended)) → (is_over last.state ≡ true → new ≡ all) → HaltsAt (sel want) h old all new
+  halted_there h (inl w) over = chosen_there h (wanted_chosen want last.shown (world_of last.state).frames h w)
+  halted_there h (inr (w, b, e)) over = ended_there h e (unwanted_free want last.shown (world_of last.state).frames w) (over b)
+
+  why_there : (h : Halt) → Why want h last → (is_over last.state ≡ true → new ≡ all) → HaltsAt (sel want) h old all new
+  why_there h (inl w) over = halted_there h (over_ended (wanted want last.shown (world_of last.state).frames) (is_over last.state) h w) over
+  why_there h (inr (none, e)) over =
+      paused_there h (taken want last) e (unwanted_free want last.shown (world_of last.state).frames (over_none want (wanted want last.shown (world_of last.state).frames) (is_over last.state) none))
+
+-- the state behind the last place of a go
+left_state : (last n : Standing) (out : Halt × Standing) → out.1 ≡ seen last → closed out.1 ≡ n → closed (seen last) ≡ n
+left_state last n out e c = ap closed (sym e) ∙ c
+
+pub goes_at : (texts : List Text) (stops : List StopAt) (walk : Walk) (turns : ℕ) (m : Standing) (old : List Event) (h : Halt) (n : Standing) → IsAt m old → Goes texts stops walk turns (Some m) h (Some n) → IsAt n (events (world_of n.state).trail)
+goes_at texts stops walk turns m old h n p g =
+    let want : Want = want_of stops walk turns m in
+    let l = gone_last want texts turns m old p in
+    subst (λ k. IsAt k (events (world_of k.state).trail)) (left_state l.0 n (gone turns want texts m) l.2 g.1) (closed_at l.0 l.1 l.3)
+
+pub goes_halt : (s : Start) (texts : List Text) (stops : List StopAt) (walk : Walk) (turns : ℕ) (m : Standing) (old : List Event) (h : Halt) (n : Standing) (b : ℕ) → IsAt m old → Goes texts stops walk turns (Some m) h (Some n) → IsRunOf s texts (Some n) → n.steps < b →
+    HaltsAt (selects stops walk (world_of m.state).enters) h old (events_upto b s) (events (world_of n.state).trail)
+goes_halt s texts stops walk turns m old h n b p g r lt =
+    let want : Want = want_of stops walk turns m in
+    let l = gone_last want texts turns m old p in
+    let same : closed (seen l.0) ≡ n = left_state l.0 n (gone turns want texts m) l.2 g.1 in
+    let passed : events (world_of n.state).trail ≡ l.1 ++ now l.0 = ap (λ k. events (world_of k.state).trail) (sym same) ∙ closed_events l.0 ∙ l.3.passed in
+    let over : is_over l.0.state ≡ true → events (world_of n.state).trail ≡ events_upto b s = λ o. all_events s texts n b r lt (ap (λ k. has_ended k.state) (sym same) ∙ status_ended l.0.state o) in
+    why_there want old l.1 l.0 n (events_upto b s) l.3 l.4 passed (events_begin s texts n b r lt) h (subst (λ k. Why want k l.0) g.0 l.5) over
+
+pub turns_bound : (m : Standing) (old : List Event) (nodes : ℕ) → IsAt m old → m.steps < 8 * (m.turns + 1) * (nodes + 1)
+turns_bound m old nodes p = omega (arith, p.counted, bound m.turns nodes)
+
+-- ---- the start
+
+born_inside : (size : ℕ) (kind : Kind) (w : World) → Inside w (world_after (born size kind w))
+born_inside size kind w = go (nat_le 4000000000 (length w.objects))
+  where
+    go : (b : Bool) → Inside w (world_after (if b then Over (BirthLimit w) else Done (length w.objects + 1) (pass (Birth size kind) w)))
+    go true = along_here IsInside w
+    go false = along_one IsInside (Birth size kind) w refl
+
+as_inside : (d : Option Definition) (w : World) → Inside w (world_after (born_as d w))
+as_inside None w = born_inside _ _ w
+as_inside (Some d) w = born_inside (contents_size d.object.init) (kind_of d.object.constant) w
+
+static_inside : (texts : List Text) (id : StaticId) (w : World) → Inside w (world_after (born_static texts id w))
+static_inside texts (Named key) w = as_inside (object_in texts key) w
+static_inside texts (Literal home bytes) w = born_inside _ _ w
+
+then_inside : {A B : Type 0} (w : World) (r : Outcome A) (f : A → World → Outcome B) → Inside w (world_after r) → ((a : A) (v : World) → Inside v (world_after (f a v))) → Inside w (world_after (and_then r f))
+then_inside w (Done a v) f l q = along_on IsInside w v (world_after (f a v)) l (q a v)
+then_inside w (Over e) f l q = l
+
+unless_inside : (texts : List Text) (id : StaticId) (o : Option ℕ) (w : World) → Inside w (world_after (born_unless texts id o w))
+unless_inside texts id (Some o) w = along_here IsInside w
+unless_inside texts id None w = then_inside w (born_static texts id w) (λ o v. went (pass (Name id o) v)) (static_inside texts id w) (λ o v. along_one IsInside (Name id o) v refl)
+
+all_inside : (texts : List Text) (ids : List StaticId) (w : World) → Inside w (world_after (born_all texts ids w))
+all_inside texts [] w = along_here IsInside w
+all_inside texts (id ∷ ids) w = then_inside w (born_unless texts id (named_in w.names id) w) (λ x v. born_all texts ids v) (unless_inside texts id (named_in w.names id) w) (λ x v. all_inside texts ids v)
+
+filled_inside : (texts : List Text) (id : StaticId) (o : Option ℕ) (w : World) → Inside w (filled texts id o w)
+filled_inside texts id None w = along_here IsInside w
+filled_inside texts id (Some o) w = along_one IsInside (Put o 0 (static_contents texts w id)) w refl
+
+fills_inside : (texts : List Text) (ids : List StaticId) (w : World) → Inside w (filled_all texts ids w)
+fills_inside texts [] w = along_here IsInside w
+fills_inside texts (id ∷ ids) w =
+    let v : World = filled texts id (named_in w.names id) w in
+    along_on IsInside w v (filled_all texts ids v) (filled_inside texts id (named_in w.names id) w) (fills_inside texts ids v)
+
+statics_inside : (texts : List Text) (w : World) → Inside w (world_after (statics_born texts w))
+statics_inside texts w =
+    let ids : List StaticId = unnamed w.names (births_of texts) in
+    then_inside w (born_all texts ids w) (λ x v. went (filled_all texts ids v)) (all_inside texts ids w) (λ x v. fills_inside texts ids v)
+
+-- where a run stands at its start: nothing was looked at, and nothing was told but that `main` is entered
+abbrev pub StartsAt : State → Type 0
+StartsAt s = (old : List Event) × IsAt (first_standing s) old × AreHidden old
+
+hidden_start : (w born : World) (p : Inside w born) → events w.trail ≡ [] → AreHidden (events (pass GoesOut born).trail)
+hidden_start w born p e =
+    let whole : events (pass GoesOut born).trail ≡ events p.0 =
+        events-append born.trail (GoesOut ∷ []) ∙ append-nil (events born.trail) ∙ (inside_hidden w born p).0 ∙ ap (λ es. es ++ events p.0) e in
+    subst AreHidden (sym whole) (inside_hidden w born p).1
+
+main_starts : (texts : List Text) (w born : World) → Inside w born → events w.trail ≡ [] → length w.frames ≡ 0 → StartsAt (main_next texts [] born)
+main_starts texts w born p e none =
+    let v : World = pass GoesOut born in
+    let s : State = main_next texts [] born in
+    let es : List Event = event_of (entry_shown s) (world_of s).frames in
+    let frames : (course.world_of s).frames ≡ (world_of s).frames = ap (λ u. u.frames) (sym (same_world s)) in
+    let there : Tells es v (course.world_of s) = subst (λ fs. Tells (event_of (entry_shown s) fs) v (course.world_of s)) frames (callee_tells (alone texts) (quiet texts) texts main_key [] (callee_of texts main_key) [] v) in
+    let told : Tells es v (world_of s) = subst (λ u. Tells es v u) (sym (same_world s)) there in
+    (events v.trail ++ events told.0, record {
+      framed = callee_framed (alone texts) (quiet texts) texts main_key [] (callee_of texts main_key) [] v (framed_on 0 w born p none);
+      passed = told_events v (world_of s) es told;
+      last = told_last v (world_of s) es told;
+      counted = omega arith;
+    }, hidden_on (events v.trail) (events told.0) (hidden_start w born p e) told.2)
+
+over_starts : (w : World) (end : Ending) → Inside w (world_at end) → events w.trail ≡ [] → StartsAt (Ends end)
+over_starts w end p e =
+    let t : List Item = (world_at end).trail in
+    (events t, record { framed = tt; passed = sym (append-nil (events t)); last = (t, sym (append-nil t)); counted = omega arith; },
+     subst AreHidden (sym ((inside_hidden w (world_at end) p).0 ∙ ap (λ es. es ++ events p.0) e)) (inside_hidden w (world_at end) p).1)
+
+from_starts : (texts : List Text) (w : World) (r : Outcome (Unit {0})) → Inside w (world_after r) → events w.trail ≡ [] → length w.frames ≡ 0 → StartsAt (then_goes r (λ _ born. main_next texts [] born))
+from_starts texts w (Done _ born) p e none = main_starts texts w born p e none
+from_starts texts w (Over end) p e none = over_starts w end p e
+
+pub run_starts : (texts : List Text) (stack heap : ℕ) (input : List ℕ) → (old : List Event) × IsAt (started texts stack heap input) old × AreHidden old
+run_starts texts stack heap input =
+    let w : World = first_world (start_of texts stack heap input) in
+    from_starts texts w (statics_born texts w) (statics_inside texts w) refl refl

@@ -1,0 +1,5 @@
+pub mod Unchanged
+pub mod Shown
+pub mod Halts
+pub mod Tells
+pub mod Halting

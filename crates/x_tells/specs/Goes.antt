@@ -1,0 +1,83 @@
+-- Yardstick: to be compared with what it restates (docs/TRUST.md).
+-- A go: the steps up to the first place that halts it, or where the turns were taken.
+use Rattle.std.specs.Prelude.{◌≡◌, ℕ, zero, suc, ◌+◌, List, [], ◌∷◌, Option, Some, None}
+use Rattle.sc_meaning.specs.World.{World, GoesOut, ComesBack, pass}
+use Rattle.sc_meaning.specs.Outcomes.{Exit}
+use Rattle.sc_meaning.specs.Versions.{Text, callee_of}
+use Rattle.sc_meaning.specs.Changes.{statics_born}
+use Rattle.sc_meaning.specs.Behaviour.{first_world, main_key, status_of}
+use Rattle.sc_interp_machine.specs.Runs.{Caller, State, Runs, Makes, Answers, Ends, then_goes}
+use Rattle.x_tells.specs.Shown.{Shown}
+use Rattle.x_tells.specs.Shown.{Nothing}
+use Rattle.x_tells.specs.Steady.{alone, callee_next, advance}
+use Rattle.x_tells.specs.Shows.{shown, entry_shown}
+use Rattle.x_tells.specs.Ends.{start_of}
+use Rattle.x_tells.specs.Stop.{StopAt}
+use Rattle.x_tells.specs.Walk.{Walk}
+use Rattle.x_tells.specs.Halt.{Halt}
+use Rattle.x_tells.specs.Halt.{Ended, Paused}
+use Rattle.x_tells.specs.Standing.{Standing, world_of}
+use Rattle.x_tells.specs.Wants.{Want, halt_or, halts, taken, rests}
+use Rattle.x_tells.specs.Costs.{cost}
+
+-- one step, with its cost
+abbrev pub moved_on : Standing → State → Shown → Standing
+moved_on m next now = record { state = next; shown = now; steps = m.steps + 1; turns = m.turns + cost m.state next }
+
+abbrev pub stepped : List Text → Standing → Standing
+stepped texts m = moved_on m (advance (alone texts) texts m.state) (shown (alone texts) texts m.state)
+
+-- what was shown is looked at once
+abbrev pub seen : Standing → Standing
+seen m = record m { shown = Nothing }
+
+abbrev pub here_or : Option Halt → Standing → Halt × Standing → Halt × Standing
+here_or None m later = later
+here_or (Some halt) m later = (halt, seen m)
+
+-- what comes of a go: why it ends, and where the run stands then
+abbrev pub Gone : Type 0
+Gone = Halt × Standing
+
+-- A go of so many steps at most. A step takes one turn at least, so there are no more steps than turns: behind the last one they were taken.
+abbrev pub gone : ℕ → Want → List Text → Standing → Halt × Standing
+gone zero want texts m = (halt_or (halts want m) (Paused (taken want m)), seen m)
+gone (suc k) want texts m = here_or (rests want m) m (gone k want texts (stepped texts m))
+
+-- where `main` came back, the run ends with its status
+abbrev pub with_status : State → State
+with_status (Runs doing ss env a cs w) = Runs doing ss env a cs w
+with_status (Makes t v vs c cs w) = Makes t v vs c cs w
+with_status (Answers a [] w) = Ends (Exit (status_of a) (pass ComesBack w))
+with_status (Answers a (c ∷ cs) w) = Answers a (c ∷ cs) w
+with_status (Ends e) = Ends e
+
+abbrev pub closed : Standing → Standing
+closed m = record m { state = with_status m.state }
+
+-- a go leaves this; where no room is left for the run, it is over, and nothing else is said
+abbrev pub Leaves : Halt × Standing → Halt → Option Standing → Type 0
+Leaves out halt None = halt ≡ Ended
+Leaves out halt (Some m) = (out.0 ≡ halt) × (closed out.1 ≡ m)
+
+abbrev pub want_of : List StopAt → Walk → ℕ → Standing → Want
+want_of stops walk turns m = record { stops = stops; walk = walk; since = (world_of m.state).enters; turns = turns; before = m.turns }
+
+-- a go of so many turns, from one place to another
+abbrev pub Goes : List Text → List StopAt → Walk → ℕ → Option Standing → Halt → Option Standing → Type 0
+Goes texts stops walk turns None halt new = (halt ≡ Ended) × (new ≡ None)
+Goes texts stops walk turns (Some m) halt new = Leaves (gone turns (want_of stops walk turns m) texts m) halt new
+
+-- the state behind the births, where the call of `main` went out
+abbrev pub main_next : List Text → List Caller → World → State
+main_next texts cs born = callee_next (alone texts) main_key [] (callee_of texts main_key) cs (pass GoesOut born)
+
+abbrev pub first_from : List Text → List Caller → World → State
+first_from texts cs w = then_goes (statics_born texts w) (λ _ born. main_next texts cs born)
+
+abbrev pub first_standing : State → Standing
+first_standing s = record { state = s; shown = entry_shown s; steps = 0; turns = 0 }
+
+-- a run of these texts from its start on
+abbrev pub started : List Text → ℕ → ℕ → List ℕ → Standing
+started texts stack heap input = first_standing (first_from texts [] (first_world (start_of texts stack heap input)))

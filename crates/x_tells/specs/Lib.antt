@@ -1,0 +1,17 @@
+pub mod Shown
+pub mod Halt
+pub mod Walk
+pub mod StopEvent
+pub mod Stop
+pub mod Quiet
+pub mod Steady
+pub mod Shows
+pub mod Steps
+pub mod Ends
+pub mod Standing
+pub mod Wants
+pub mod Costs
+pub mod Goes
+pub mod Meant
+pub mod Halts
+pub mod Told
