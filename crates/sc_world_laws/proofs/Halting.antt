@@ -141,7 +141,7 @@ module _ (want : Want) where
   unwanted_free shown.Entered [] p = refl
   unwanted_free shown.Entered (f ∷ fs) p = free_one sel (Enter f.key f.home) (not_here (is_matched want.stops (word.Enter f.key f.home)) halt.Entered p)
 
-  wanted_chosen : (s : Shown) (fs : List Frame) (h : Halt) → wanted want s fs ≡ Some h → Chosen sel h (event_of s fs)
+  pub wanted_chosen : (s : Shown) (fs : List Frame) (h : Halt) → wanted want s fs ≡ Some h → Chosen sel h (event_of s fs)
   wanted_chosen shown.Nothing fs h p = absurd (cc)
   wanted_chosen (shown.Line line) [] h p = absurd (cc)
   wanted_chosen (shown.Line line) (f ∷ fs) h p =
@@ -158,7 +158,7 @@ module _ (want : Want) where
   abbrev pub Why : Halt → Standing → Type 0
   Why h m = (halts want m ≡ Some h) ⊎ ((halts want m ≡ None) × (h ≡ halt.Paused (taken want m)))
 
-  why_last : (o : Option Halt) (m : Standing) → halts want m ≡ o → Why (halt_or o (halt.Paused (taken want m))) m
+  pub why_last : (o : Option Halt) (m : Standing) → halts want m ≡ o → Why (halt_or o (halt.Paused (taken want m))) m
   why_last (Some h) m e = inl e
   why_last None m e = inr (e, refl)
 
@@ -166,15 +166,15 @@ module _ (want : Want) where
   why_paused true m h e p = inr (e, cc)
   why_paused false m h e p = absurd (cc)
 
-  why_rests : (o : Option Halt) (m : Standing) (h : Halt) → halts want m ≡ o → else_paused o want.turns (taken want m) ≡ Some h → Why h m
+  pub why_rests : (o : Option Halt) (m : Standing) (h : Halt) → halts want m ≡ o → else_paused o want.turns (taken want m) ≡ Some h → Why h m
   why_rests (Some g) m h e p = inl (e ∙ p)
   why_rests None m h e p = why_paused (nat_le want.turns (taken want m)) m h e p
 
-  over_none : (o : Option Halt) (b : Bool) → else_over o b ≡ None → o ≡ None
+  pub over_none : (o : Option Halt) (b : Bool) → else_over o b ≡ None → o ≡ None
   over_none (Some h) b p = absurd (cc)
   over_none None b p = refl
 
-  paused_none : (o : Option Halt) (turns took : ℕ) → else_paused o turns took ≡ None → o ≡ None
+  pub paused_none : (o : Option Halt) (turns took : ℕ) → else_paused o turns took ≡ None → o ≡ None
   paused_none (Some h) turns took p = absurd (cc)
   paused_none None turns took p = refl
 
@@ -240,7 +240,7 @@ closed_at m old p =
       counted = p.counted;
     }
 
-over_ended : (o : Option Halt) (b : Bool) (h : Halt) → else_over o b ≡ Some h → (o ≡ Some h) ⊎ ((o ≡ None) × (b ≡ true) × (h ≡ halt.Ended))
+pub over_ended : (o : Option Halt) (b : Bool) (h : Halt) → else_over o b ≡ Some h → (o ≡ Some h) ⊎ ((o ≡ None) × (b ≡ true) × (h ≡ halt.Ended))
 over_ended (Some g) b h p = inl p
 over_ended None true h p = inr (refl, refl, cc)
 over_ended None false h p = absurd (cc)
@@ -282,7 +282,7 @@ module _ (want : Want) (old past : List Event) (last : Standing) (n : Standing) 
       paused_there h (taken want last) e (unwanted_free want last.shown (world_of last.state).frames (over_none want (wanted want last.shown (world_of last.state).frames) (is_over last.state) none))
 
 -- the state behind the last place of a go
-left_state : (last n : Standing) (out : Halt × Standing) → out.1 ≡ seen last → closed out.1 ≡ n → closed (seen last) ≡ n
+pub left_state : (last n : Standing) (out : Halt × Standing) → out.1 ≡ seen last → closed out.1 ≡ n → closed (seen last) ≡ n
 left_state last n out e c = ap closed (sym e) ∙ c
 
 pub goes_at : (texts : List Text) (stops : List StopAt) (walk : Walk) (turns : ℕ) (m : Standing) (old : List Event) (h : Halt) (n : Standing) → IsAt m old → Goes texts stops walk turns (Some m) h (Some n) → IsAt n (events (world_of n.state).trail)

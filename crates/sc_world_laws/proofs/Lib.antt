@@ -3,3 +3,4 @@ pub mod Turns
 pub mod Halts
 pub mod Tells
 pub mod Halting
+pub mod Pausing

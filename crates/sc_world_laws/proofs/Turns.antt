@@ -19,7 +19,7 @@ use Rattle.sc_world.specs.Standing.{Standing, world_of}
 use Rattle.sc_world.specs.Goes.{stepped}
 use Rattle.sc_world_laws.specs.Turns.{after}
 
-same_world : (s : State) → done (world_of s) ≡ done (course.world_of s)
+pub same_world : (s : State) → done (world_of s) ≡ done (course.world_of s)
 same_world (Runs mode ss env a cs w) = refl
 same_world (Makes t v vs c cs w) = refl
 same_world (Answers a cs w) = refl
@@ -52,13 +52,13 @@ touched_less (Ends f) (Ends e) p q = moved_less (bytes_moved (course.world_of (E
 
 -- a step of a machine whose program does not change
 module _ (texts : List Text) where
-  there : (s : State) → runs.advance (alone texts) s ≡ advance (alone texts) texts s
+  pub there : (s : State) → runs.advance (alone texts) s ≡ advance (alone texts) texts s
   there s = same_step (alone texts) texts (quiet texts) (present texts) s
 
   paid_there : (s : State) → pays s ≡ true → RunPaid (credit s) (done (course.world_of s)) (advance (alone texts) texts s)
   paid_there s p = subst (λ t. RunPaid (credit s) (done (course.world_of s)) t) (there s) (advance_paid (alone texts) s p)
 
-  touched_there : (s : State) → bytes_touched s (advance (alone texts) texts s) + done (course.world_of s) ≤ done (course.world_of (advance (alone texts) texts s))
+  pub touched_there : (s : State) → bytes_touched s (advance (alone texts) texts s) + done (course.world_of s) ≤ done (course.world_of (advance (alone texts) texts s))
   touched_there s =
       subst (λ t. bytes_touched s t + done (course.world_of s) ≤ done (course.world_of t)) (there s)
       (touched_less s (runs.advance (alone texts) s) (advance_backs (alone texts) s) (leads_work (course.world_of s) (course.world_of (runs.advance (alone texts) s)) (advance_leads (alone texts) s)))

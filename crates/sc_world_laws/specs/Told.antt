@@ -92,3 +92,11 @@ HaltsAt sel halt.Entered old all new = IsFirst sel true old all new
 HaltsAt sel halt.AtLine old all new = IsFirst sel false old all new
 HaltsAt sel halt.Ended old all new = (new ≡ all) × Free sel (drop (length old) all)
 HaltsAt sel (halt.Paused t) old all new = IsPrefix new all × Free sel (drop (length old) new)
+
+-- ---- turns and work
+
+-- Each event before which a go's work is below a 64th of its turns was passed: of all that happens, these items had happened as
+-- the go began, and these as it paused.
+abbrev pub PassedEach : ℕ → List Item → List Item → List Item → Type 0
+PassedEach t old new all =
+    (before later : List Item) → all ≡ before ++ later → work before < work old + t / 64 → length before < length new

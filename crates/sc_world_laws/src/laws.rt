@@ -1,8 +1,8 @@
 // What holds of every run that is kept between goes. Each function here does nothing: its contract is the law.
-ghost use Rattle.std.specs.Prelude.{◌≡◌, ◌+◌, ◌*◌, ◌<◌, ◌≤◌, List, Some, true, ℕ};
+ghost use Rattle.std.specs.Prelude.{◌≡◌, ◌+◌, ◌*◌, ◌<◌, ◌≤◌, ◌-◌, ◌/◌, List, Some, true, ℕ};
 ghost use Rattle.sc_words.specs.declared.stop.StopAt.{StopAt};
 ghost use Rattle.sc_words.specs.declared.stop.Walk.{Walk};
-ghost use Rattle.sc_meaning.specs.World.{Event, events};
+ghost use Rattle.sc_meaning.specs.World.{Event, events, work};
 ghost use Rattle.sc_meaning.specs.Outcomes.{world_at};
 ghost use Rattle.sc_meaning.specs.Versions.{Text};
 ghost use Rattle.sc_meaning.specs.Behaviour.{Start, ending, events_upto};
@@ -16,8 +16,10 @@ ghost use Rattle.sc_interp.specs.Shows.{shown};
 ghost use Rattle.sc_interp_laws.specs.Worlds as course;
 ghost use Rattle.sc_interp_machine.specs.Runs.{State};
 ghost use Rattle.sc_world_laws.specs.Turns.{after};
-ghost use Rattle.sc_world_laws.specs.Told.{HaltsAt, IsAt, IsFramed, Tells, event_of, selects};
+ghost use Rattle.sc_world_laws.specs.Told.{HaltsAt, IsAt, IsFramed, PassedEach, Tells, event_of, selects};
 ghost use Rattle.sc_world.specs.declared.halt.Halt.{Halt};
+ghost use Rattle.sc_world.specs.declared.halt.Halt.TheVariants.{Paused};
+ghost use Rattle.sc_interp_laws.specs.Lean.{AreLean, IsLean};
 ghost use Rattle.sc_world.specs.Goes.{Goes, started, stepped};
 ghost use Rattle.sc_world.specs.Meant.{IsRunOf};
 ghost use Rattle.sc_world.specs.Standing.{Standing, has_ended, world_of};
@@ -68,4 +70,14 @@ pub fn goes_halt_at_the_first_selected_event()
 #[tactic(auto, using(crate::proofs::Halting::turns_bound))]
 pub fn turns_bound_the_meaning()
     ensures { (m : Standing) (old : List Event) (nodes : ℕ) → IsAt m old → m.steps < 8 * (m.turns + 1) * (nodes + 1) }
+{}
+
+/// In a run whose program is lean a go that pauses has passed each event before which its work is below a 64th of its turns. The
+/// start of such a run is lean, and so is each place that a go leads to.
+#[tactic(auto)]
+pub fn pauses_come_late()
+    ensures work { (texts : List Text) (stops : List StopAt) (walk : Walk) (turns : ℕ) (m : Standing) (t : ℕ) (n : Standing) → AreLean (alone texts) → IsLean m.state → Goes texts stops walk turns (Some m) (Paused t) (Some n) → t / 64 ≤ work (world_of n.state).trail - work (world_of m.state).trail }
+    ensures passed { (s : Start) (texts : List Text) (stops : List StopAt) (walk : Walk) (turns : ℕ) (m : Standing) (t : ℕ) (n : Standing) (b : ℕ) → AreLean (alone texts) → IsLean m.state → Goes texts stops walk turns (Some m) (Paused t) (Some n) → IsRunOf s texts (Some n) → n.steps < b → PassedEach t (world_of m.state).trail (world_of n.state).trail (world_at (ending b s)).trail }
+    ensures starts { (texts : List Text) (stack : ℕ) (heap : ℕ) (input : List ℕ) → AreLean (alone texts) → IsLean (started texts stack heap input).state }
+    ensures keeps { (texts : List Text) (stops : List StopAt) (walk : Walk) (turns : ℕ) (m : Standing) (halt : Halt) (n : Standing) → AreLean (alone texts) → IsLean m.state → Goes texts stops walk turns (Some m) halt (Some n) → IsLean n.state }
 {}
