@@ -4,3 +4,4 @@ pub mod Halts
 pub mod Tells
 pub mod Halting
 pub mod Pausing
+pub mod LeanFormed

@@ -15,6 +15,7 @@ ghost use Rattle.sc_interp.specs.Steady.{alone, advance};
 ghost use Rattle.sc_interp.specs.Shows.{shown};
 ghost use Rattle.sc_interp_laws.specs.Worlds as course;
 ghost use Rattle.sc_interp_machine.specs.Runs.{State};
+ghost use Rattle.sc_world_laws.specs.Formed.{AreFormed};
 ghost use Rattle.sc_world_laws.specs.Turns.{after};
 ghost use Rattle.sc_world_laws.specs.Told.{HaltsAt, IsAt, IsFramed, PassedEach, Tells, event_of, selects};
 ghost use Rattle.sc_world.specs.declared.halt.Halt.{Halt};
@@ -80,4 +81,11 @@ pub fn pauses_come_late()
     ensures passed { (s : Start) (texts : List Text) (stops : List StopAt) (walk : Walk) (turns : ℕ) (m : Standing) (t : ℕ) (n : Standing) (b : ℕ) → AreLean (alone texts) → IsLean m.state → Goes texts stops walk turns (Some m) (Paused t) (Some n) → IsRunOf s texts (Some n) → n.steps < b → PassedEach t (world_of m.state).trail (world_of n.state).trail (world_at (ending b s)).trail }
     ensures starts { (texts : List Text) (stack : ℕ) (heap : ℕ) (input : List ℕ) → AreLean (alone texts) → IsLean (started texts stack heap input).state }
     ensures keeps { (texts : List Text) (stops : List StopAt) (walk : Walk) (turns : ℕ) (m : Standing) (halt : Halt) (n : Standing) → AreLean (alone texts) → IsLean m.state → Goes texts stops walk turns (Some m) halt (Some n) → IsLean n.state }
+{}
+
+/// A program of checked modules is lean: no conversion in it is that of a conversion, no `switch` has two labels `default`, and
+/// each piece of an initialiser has a byte.
+#[tactic(auto)]
+pub fn formed_programs_are_lean()
+    ensures { (texts : List Text) → AreFormed texts → AreLean (alone texts) }
 {}
