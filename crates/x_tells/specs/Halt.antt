@@ -1,7 +1,0 @@
-use Rattle.std.specs.Prelude.{ℕ}
-
-pub data Halt : Type 0 where
-  Entered : Halt
-  AtLine : Halt
-  Ended : Halt
-  Paused : ℕ → Halt
