@@ -6,6 +6,7 @@ use Rattle.sc_meaning.specs.Outcomes.{Done, Ending, Exit, Undefined, StackFull, 
 use Rattle.sc_meaning.specs.Versions.{Text, callee_of}
 use Rattle.sc_meaning.specs.Changes.{statics_born}
 use Rattle.sc_meaning.specs.Behaviour.{Start, ending, first_world, main_key}
+use Rattle.sc_meaning.specs.Beside.{nothing_beside}
 use Rattle.sc_interp_access.specs.declared.stop.Stop.{Stop}
 use Rattle.sc_interp_access.specs.Gives.{ending_of}
 use Rattle.sc_interp_access.specs.declared.ended.Ended.{Ended}
@@ -24,7 +25,7 @@ end_of ended.NoRoom w = None
 
 -- one program, which does not change
 abbrev pub start_of : List Text → ℕ → ℕ → List ℕ → Start
-start_of texts stack heap input = record { stack = stack; heap = heap; input = input; history = alone texts }
+start_of texts stack heap input = record { stack = stack; heap = heap; input = input; history = alone texts; beside = nothing_beside }
 
 -- the run is not over after these steps of the call of main, behind the births
 abbrev pub LastsLonger : ℕ → Start → Type 0

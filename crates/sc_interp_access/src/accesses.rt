@@ -132,20 +132,6 @@ pub fn loaded(t: &CType, p: &Value, further: u32, world: &World) -> Result<Value
     Ok(as_type(t, found))
 }
 
-// The bytes of a number.
-#[tactic(auto, using(crate::proofs::Lists::map_take))]
-fn number_cells(alloc: Global, n: u32, bits: u32) -> Result<Items<Cell>, NoMemory>
-    ensures { IfOk result (λ cells. cells ≡ value.cells_of n (value.Number bits)) }
-{
-    let mut cells = Items::new(alloc);
-    cells.push(Cell::byte((bits % 256) as u8))?;
-    cells.push(Cell::byte((bits / 256 % 256) as u8))?;
-    cells.push(Cell::byte((bits / 65536 % 256) as u8))?;
-    cells.push(Cell::byte((bits / 16777216 % 256) as u8))?;
-    cells.truncate(n as usize);
-    Ok(cells)
-}
-
 /// The first `n` pieces of a pointer.
 pub fn pieces(alloc: Global, n: u32, v: &Value) -> Result<Items<Cell>, NoMemory>
     ensures { IfOk result (λ cells. cells ≡ take n (value.pieces_of v.now)) }
@@ -159,17 +145,6 @@ pub fn pieces(alloc: Global, n: u32, v: &Value) -> Result<Items<Cell>, NoMemory>
     Ok(cells)
 }
 
-/// The bytes of a stored value.
-pub fn cells_of(alloc: Global, n: u32, v: &Value) -> Result<Items<Cell>, NoMemory>
-    ensures { IfOk result (λ cells. cells ≡ value.cells_of n v.now) }
-{
-    match &v.shape {
-        Shape::Number(bits) => number_cells(alloc, n, *bits),
-        Shape::FunctionAt(_) => pieces(alloc, n, v),
-        Shape::Pointer(_, _) => pieces(alloc, n, v),
-    }
-}
-
 /// Writes a value of `n` bytes without a test.
 pub fn set_at(p: &Value, further: u32, n: u32, v: &Value, world: &mut World) -> Result<(), NoMemory>
     ensures { IfOk result (λ _. world.new ≡ spec.set_at p.now further n v.now world.old) }
@@ -177,10 +152,7 @@ pub fn set_at(p: &Value, further: u32, n: u32, v: &Value, world: &mut World) -> 
     match &p.shape {
         Shape::Number(_) => Ok(()),
         Shape::FunctionAt(_) => Ok(()),
-        Shape::Pointer(o, at) => {
-            let cells = cells_of(world.alloc(), n, v)?;
-            world.put(*o, sum(*at, further)?, cells)
-        }
+        Shape::Pointer(o, at) => world.store(*o, sum(*at, further)?, n, v),
     }
 }
 

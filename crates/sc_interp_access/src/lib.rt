@@ -9,8 +9,8 @@ mod stop;
 mod violations;
 
 pub use accesses::{
-    as_type, cells_of, converted_value, copied, copy_at, int_of, is_pointer_type, loaded,
-    number_of_cells, pieces, scalar_size, set_at, stored,
+    as_type, converted_value, copied, copy_at, int_of, is_pointer_type, loaded, number_of_cells,
+    pieces, scalar_size, set_at, stored,
 };
 pub use breaches::{access_breach, breach, line_of, moved, operand_breach, sum};
 pub use ended::Ended;

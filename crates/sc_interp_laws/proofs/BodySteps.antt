@@ -11,6 +11,8 @@ use Rattle.sc_core.specs.declared.statement.SwitchLabel.{SwitchLabel}
 use Rattle.sc_core.specs.Types.{type_of}
 use Rattle.sc_meaning.specs.Values.{Value, Number, FunctionAt, Pointer, Byte, cells_of, scalar_size}
 use Rattle.sc_meaning.specs.World.{World, Born, Birth, Death, pass, Work, Begin, End as Ends, Declares, OpenBlock, CloseBlock, Put, tick}
+use Rattle.sc_meaning.specs.declared.spot.Spot.{Spot}
+use Rattle.sc_meaning.specs.declared.spot.Spot.TheVariants.{Slot}
 use Rattle.sc_meaning.specs.Outcomes.{Outcome, Done, Over, BirthLimit, world_after}
 use Rattle.sc_meaning.specs.Violations.{reach_rule}
 use Rattle.sc_meaning.specs.Accesses.{tested, set_at, copy_at}
@@ -59,9 +61,9 @@ in_first id zero (b ∷ bs) p = in_front id b.ids (ids_of bs) p
 in_first id (suc k) (b ∷ bs) p = in_back id b.ids (ids_of bs) (in_first id k bs p)
 
 module _ (O : OwnRoad) where
-  born_go : (full : Bool) (size : ℕ) (constant : Bool) (w : World) → O.road.Goes w (world_after (if full then Over (BirthLimit w) else Done (length w.objects + 1) (pass (Birth size (auto_kind constant)) w)))
-  born_go true size constant w = O.road.here w
-  born_go false size constant w = O.births size constant w
+  born_go : (full : Bool) (size : ℕ) (constant : Bool) (at : Spot) (w : World) → O.road.Goes w (world_after (if full then Over (BirthLimit w) else Done (length w.objects + 1) (pass (Birth size (auto_kind constant) at) w)))
+  born_go true size constant at w = O.road.here w
+  born_go false size constant at w = O.births size constant at w
 
   pub bytes_go : (id at : ℕ) (bs : List ℕ) (w : World) → O.Own id → O.road.Goes w (set_bytes id at bs w)
   bytes_go id at [] w o = O.road.here w
@@ -73,7 +75,7 @@ module _ (O : OwnRoad) where
   pub autos_go : (autos : List Auto) (ids : List ℕ) (w : World) → O.road.Goes w (world_after (born_autos autos ids w))
   autos_go [] ids w = O.road.here w
   autos_go (a ∷ rest) ids w =
-      then_goes O.road w (born a.slot.size (auto_kind a.slot.constant) w) _ (born_go (nat_le 4000000000 (length w.objects)) a.slot.size a.slot.constant w) (λ id u. autos_go rest (ids ++ id ∷ []) u)
+      then_goes O.road w (born a.slot.size (auto_kind a.slot.constant) (Slot a.slot.offset) w) _ (born_go (nat_le 4000000000 (length w.objects)) a.slot.size a.slot.constant (Slot a.slot.offset) w) (λ id u. autos_go rest (ids ++ id ∷ []) u)
 
   pub moved_go : (p : Value) (q : Value) (further n : ℕ) (w : World) → O.Own (id_of p) → O.road.Goes w (pass (Work n) (copy_at p 0 q further n w))
   moved_go (Number k) q further n w o = works O.road n w

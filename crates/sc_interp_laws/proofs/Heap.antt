@@ -8,6 +8,7 @@ use Rattle.sc_rules.specs.Orders as orders
 use Rattle.sc_meaning.specs.Values.{Value, Number, FunctionAt, Pointer, Cell, Byte, cells_of}
 use Rattle.sc_meaning.specs.World.{World, Object, Item, Work, Begin, End, GoesOut, ComesBack, Declares, Happens, Birth, Death, Put, Copy, TakeFree, TakeNew, Give, Stack, Read, Seed, Push, Pop, OpenBlock, CloseBlock, Name, Unname, object_at, with_object, written, overwritten, cells_at, pass, tick, fresh, free_of, Enter, Leave, At, Out}
 use Rattle.sc_interp_laws.specs.Events.{stirs}
+use Rattle.sc_meaning.specs.declared.spot.Spot.TheVariants.{Block}
 use Rattle.sc_meaning.specs.Outcomes.{Outcome, Done, Over, BirthLimit, Breach, and_then, world_after, unless, went, access_breach}
 use Rattle.sc_meaning.specs.Violations.{store_rule, write_rule, free_rule, is_null, of_object}
 use Rattle.sc_meaning.specs.Accesses.{copy_at}
@@ -91,7 +92,7 @@ free_heap (Happens (Enter key home)) w e = absurd (cc)
 free_heap (Happens Leave) w e = refl
 free_heap (Happens (At home line enter)) w e = absurd (cc)
 free_heap (Happens (Out byte)) w e = refl
-free_heap (Birth size kind) w e = absurd (cc)
+free_heap (Birth size kind at) w e = absurd (cc)
 free_heap (Death id) w e = absurd (cc)
 free_heap (Put id at new) w e = absurd (cc)
 free_heap (Copy to at from off n) w e = absurd (cc)
@@ -209,13 +210,13 @@ back_go p w h = given_go p (block_size_at w p) w h
 
 -- a new block, and what is done with it
 module _ {B : Type 0} (n : ℕ) (f : Option ℕ → World → Outcome B) (old : List Object) (some : (o : ℕ) (v : World) → Stays old v.objects → IsWritable v.objects o → G v (world_after (f (Some o) v))) (none : (v : World) → G v (world_after (f None v))) where
-  new_go : (full : Bool) (w : World) → Stays old w.objects → G w (world_after (and_then (and_then (if full then Over (BirthLimit w) else Done (length w.objects + 1) (pass (Birth n Heap) w)) (λ o w. Done (Some o) w)) f))
+  new_go : (full : Bool) (w : World) → Stays old w.objects → G w (world_after (and_then (and_then (if full then Over (BirthLimit w) else Done (length w.objects + 1) (pass (Birth n Heap Block) w)) (λ o w. Done (Some o) w)) f))
   new_go true w s = here w
   new_go false w s =
-      let v : World = pass (Birth n Heap) w in
+      let v : World = pass (Birth n Heap Block) w in
       let o : ℕ = length w.objects + 1 in
-      on w v (world_after (f (Some o) v)) (along_one IsOfHeap (Birth n Heap) w refl)
-      (some o v (stays_on old w.objects v.objects s (birth_stays w.objects (fresh n Heap))) (fresh n Heap, (born_new n Heap w).1, refl, refl))
+      on w v (world_after (f (Some o) v)) (along_one IsOfHeap (Birth n Heap Block) w refl)
+      (some o v (stays_on old w.objects v.objects s (birth_stays w.objects (fresh n Heap))) (fresh n Heap, (born_new n Heap Block w).1, refl, refl))
 
   allocated_go : (w : World) → Stays old w.objects → G w (world_after (and_then (allocated n w) f))
   allocated_go w s = new_go (nat_le 4000000000 (length w.objects)) w s

@@ -108,7 +108,7 @@ free_write GoesOut w e = tt
 free_write ComesBack w e = tt
 free_write (Declares id) w e = tt
 free_write (Happens x) w e = tt
-free_write (Birth size kind) w e = absurd (cc)
+free_write (Birth size kind at) w e = absurd (cc)
 free_write (Death id) w e = absurd (cc)
 free_write (Put id at new) w e = absurd (cc)
 free_write (Copy to at from off n) w e = absurd (cc)
@@ -140,7 +140,7 @@ module _ (own : List ℕ) where
   free_own ComesBack w e = tt
   free_own (Declares id) w e = tt
   free_own (Happens x) w e = tt
-  free_own (Birth size kind) w e = absurd (cc)
+  free_own (Birth size kind at) w e = absurd (cc)
   free_own (Death id) w e = absurd (cc)
   free_own (Put id at new) w e = absurd (cc)
   free_own (Copy to at from off n) w e = absurd (cc)
@@ -161,7 +161,7 @@ module _ (own : List ℕ) where
   OwnWriting = record {
     road = Lawful (IsOwn own) free_own (λ id at new w h. inl h) (λ to at from off n w h. inl h);
     Own = λ id. IsIn id own;
-    births = λ size constant w. along_one (IsOwn own) (Birth size (auto_kind constant)) w (constant, refl);
+    births = λ size constant at w. along_one (IsOwn own) (Birth size (auto_kind constant) at) w (constant, refl);
     deaths = λ id w o. along_one (IsOwn own) (Death id) w o;
     fills = λ id at new w o. along_one (IsOwn own) (Put id at new) w (inr o);
     moves = λ id at from off n w o. along_two (IsOwn own) (Copy id at from off n) (Work n) w (inr o) tt;

@@ -9,6 +9,8 @@ use Rattle.sc_core.specs.declared.module.Auto.{Auto}
 use Rattle.sc_core.specs.declared.module.Fun.{Fun}
 use Rattle.sc_meaning.specs.Values.{Value, Number, FunctionAt, Pointer, cells_of}
 use Rattle.sc_meaning.specs.World.{World, Item, Event, Work, Begin, End, GoesOut, ComesBack, Declares, Happens, Birth, Death, Put, Copy, TakeFree, TakeNew, Give, Stack, Read, Seed, Push, Pop, OpenBlock, CloseBlock, Name, Unname, Born, Enter, Leave, changes_of, work_of, named_in, pass}
+use Rattle.sc_meaning.specs.declared.spot.Spot.{Spot}
+use Rattle.sc_meaning.specs.declared.spot.Spot.TheVariants.{Slot}
 use Rattle.sc_meaning.specs.Outcomes.{Outcome, Done, Over, BirthLimit, world_at, world_after}
 use Rattle.sc_meaning.specs.Accesses.{set_at, copy_at}
 use Rattle.sc_meaning.specs.Versions.{Text, Version, History, Definition, Callee, Missing, InText, InLibrary, callee_of, version_at, object_in, births_of, is_kept}
@@ -67,7 +69,7 @@ quiet_backs GoesOut w e = backs GoesOut w (omega arith)
 quiet_backs ComesBack w e = backs ComesBack w (omega arith)
 quiet_backs (Declares id) w e = backs (Declares id) w (omega arith)
 quiet_backs (Happens x) w e = backs (Happens x) w (omega arith)
-quiet_backs (Birth size kind) w e = absurd (cc)
+quiet_backs (Birth size kind at) w e = absurd (cc)
 quiet_backs (Death id) w e = absurd (cc)
 quiet_backs (Put id at new) w e = absurd (cc)
 quiet_backs (Copy to at from off n) w e = absurd (cc)
@@ -110,7 +112,7 @@ abbrev OwnBacking : OwnRoad
 OwnBacking = record {
   road = Backing;
   Own = λ id. Unit {0};
-  births = λ size constant w. backs (Birth size (auto_kind constant)) w (omega arith);
+  births = λ size constant at w. backs (Birth size (auto_kind constant) at) w (omega arith);
   deaths = λ id w o. backs (Death id) w (omega arith);
   fills = λ id at new w o. backs (Put id at new) w (omega arith);
   moves = λ id at from off n w o. copy_backs id at from off n w;
@@ -123,20 +125,20 @@ dead_backs : (ids : List ℕ) (w : World) → Backed w (all_dead ids w)
 dead_backs ids w = bodies.dead_go OwnBacking ids w (λ id p. tt)
 
 -- births of static objects, and changes of the version
-if_born : (full : Bool) (size : ℕ) (kind : Kind) (w : World) → Backed w (world_after (if full then Over (BirthLimit w) else Done (length w.objects + 1) (pass (Birth size kind) w)))
-if_born true size kind w = here w
-if_born false size kind w = backs (Birth size kind) w (omega arith)
+if_born : (full : Bool) (size : ℕ) (kind : Kind) (at : Spot) (w : World) → Backed w (world_after (if full then Over (BirthLimit w) else Done (length w.objects + 1) (pass (Birth size kind at) w)))
+if_born true size kind at w = here w
+if_born false size kind at w = backs (Birth size kind at) w (omega arith)
 
-born_backs : (size : ℕ) (kind : Kind) (w : World) → Backed w (world_after (born size kind w))
-born_backs size kind w = if_born (nat_le 4000000000 (length w.objects)) size kind w
+born_backs : (size : ℕ) (kind : Kind) (at : Spot) (w : World) → Backed w (world_after (born size kind at w))
+born_backs size kind at w = if_born (nat_le 4000000000 (length w.objects)) size kind at w
 
-as_backs : (d : Option Definition) (w : World) → Backed w (world_after (born_as d w))
-as_backs None w = born_backs _ _ w
-as_backs (Some d) w = born_backs _ _ w
+as_backs : (id : StaticId) (d : Option Definition) (w : World) → Backed w (world_after (born_as id d w))
+as_backs id None w = born_backs _ _ _ w
+as_backs id (Some d) w = born_backs _ _ _ w
 
 static_backs : (texts : List Text) (id : StaticId) (w : World) → Backed w (world_after (born_static texts id w))
-static_backs texts (Named key) w = as_backs (object_in texts key) w
-static_backs texts (Literal home bytes) w = born_backs _ _ w
+static_backs texts (Named key) w = as_backs (Named key) (object_in texts key) w
+static_backs texts (Literal home bytes) w = born_backs _ _ _ w
 
 each_backs : (texts : List Text) (id : StaticId) (o : Option ℕ) (w : World) → Backed w (world_after (born_unless texts id o w))
 each_backs texts id (Some o) w = here w
@@ -239,7 +241,7 @@ parameters_back : (autos : List Auto) (vs : List Value) (ids : List ℕ) (w : Wo
 parameters_back [] vs ids w = here w
 parameters_back (a ∷ rest) [] ids w = here w
 parameters_back (a ∷ rest) (v ∷ vs) ids w =
-    then_goes Backing w (born a.slot.size (auto_kind a.slot.constant) w) _ (born_backs a.slot.size (auto_kind a.slot.constant) w) (λ id u.
+    then_goes Backing w (born a.slot.size (auto_kind a.slot.constant) (Slot a.slot.offset) w) _ (born_backs a.slot.size (auto_kind a.slot.constant) (Slot a.slot.offset) w) (λ id u.
     let x : World = set_at (Pointer id 0) 0 a.slot.size v u in
     on u x (world_after (parameters rest vs (ids ++ id ∷ []) x)) (set_backs (Pointer id 0) 0 a.slot.size v u) (parameters_back rest vs (ids ++ id ∷ []) x))
 

@@ -3,6 +3,7 @@ use Rattle.std.proofs.Common.{◌≡◌, ℕ, Bool, List, [], Option, Some, None
 use Rattle.sc_base.specs.declared.report.Rule.{Rule}
 use Rattle.sc_meaning.specs.Values.{Value, Cell}
 use Rattle.sc_meaning.specs.World.{World, Item, Work, Begin, End, GoesOut, ComesBack, Declares, Happens, Birth, Death, Put, Copy, TakeFree, TakeNew, Give, Stack, Read, Seed, Push, Pop, OpenBlock, CloseBlock, Name, Unname, changes_of, pass}
+use Rattle.sc_meaning.specs.declared.spot.Spot.{Spot}
 use Rattle.sc_meaning.specs.Outcomes.{Outcome, Done, Over, Breach, and_then, world_after, unless}
 use Rattle.sc_meaning.specs.Violations.{store_rule, write_rule}
 use Rattle.sc_meaning.specs.Accesses.{set_at, copy_at}
@@ -25,7 +26,7 @@ pub record Road : Type 1 where
 pub record OwnRoad : Type 1 where
   pub road : Road
   pub Own : ℕ → Type 0
-  pub births : (size : ℕ) (constant : Bool) (w : World) → road.Goes w (pass (Birth size (auto_kind constant)) w)
+  pub births : (size : ℕ) (constant : Bool) (at : Spot) (w : World) → road.Goes w (pass (Birth size (auto_kind constant) at) w)
   pub deaths : (id : ℕ) (w : World) → Own id → road.Goes w (pass (Death id) w)
   pub fills : (id at : ℕ) (new : List Cell) (w : World) → Own id → road.Goes w (pass (Put id at new) w)
   pub moves : (id at from off n : ℕ) (w : World) → Own id → road.Goes w (pass (Work n) (pass (Copy id at from off n) w))
@@ -45,7 +46,7 @@ abbrev pub OwnHappening : OwnRoad
 OwnHappening = record {
   road = Happening;
   Own = λ id. Unit {0};
-  births = λ size constant w. one_more (Birth size (auto_kind constant)) w;
+  births = λ size constant at w. one_more (Birth size (auto_kind constant) at) w;
   deaths = λ id w o. one_more (Death id) w;
   fills = λ id at new w o. one_more (Put id at new) w;
   moves = λ id at from off n w o. and_more (Work n) w (pass (Copy id at from off n) w) (one_more (Copy id at from off n) w);
@@ -77,7 +78,7 @@ no_change GoesOut e = refl
 no_change ComesBack e = refl
 no_change (Declares id) e = refl
 no_change (Happens x) e = refl
-no_change (Birth size kind) e = absurd (cc)
+no_change (Birth size kind at) e = absurd (cc)
 no_change (Death id) e = absurd (cc)
 no_change (Put id at new) e = absurd (cc)
 no_change (Copy to at from off n) e = absurd (cc)

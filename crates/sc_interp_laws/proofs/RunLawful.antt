@@ -8,6 +8,7 @@ use Rattle.sc_core.specs.declared.module.Auto.{Auto}
 use Rattle.sc_core.specs.declared.module.Fun.{Fun}
 use Rattle.sc_meaning.specs.Values.{Value, Number, FunctionAt, Pointer, Cell, cells_of}
 use Rattle.sc_meaning.specs.World.{World, Object, Item, Event, Enter, Leave, Happens, Birth, Put, Push, Pop, Stack, OpenBlock, Born, object_at, with_object, written, overwritten, fresh, pass}
+use Rattle.sc_meaning.specs.declared.spot.Spot.TheVariants.{Slot}
 use Rattle.sc_meaning.specs.Outcomes.{Outcome, Done, Over, BirthLimit, and_then, world_after, went}
 use Rattle.sc_meaning.specs.Accesses.{set_at}
 use Rattle.sc_meaning.specs.Versions.{Text, History, Callee, Missing, InText, InLibrary, callee_of, version_at}
@@ -84,18 +85,18 @@ length_written objects id at cells None = refl
 length_written objects id at cells (Some o) = length_with objects id (record o { cells = overwritten o.cells at cells })
 
 module _ (n : ℕ) where
-  new_entry : (full : Bool) (a : Auto) (rest : List Auto) (v : Value) (vs : List Value) (ids : List ℕ) (w : World) → n ≤ length w.objects → ((id : ℕ) (x : World) → n ≤ length x.objects → Along (IsEntry n) x (world_after (parameters rest vs (ids ++ id ∷ []) x))) → Along (IsEntry n) w (world_after (and_then (if full then Over (BirthLimit w) else Done (length w.objects + 1) (pass (Birth a.slot.size (auto_kind a.slot.constant)) w)) (λ id w. parameters rest vs (ids ++ id ∷ []) (set_at (Pointer id 0) 0 a.slot.size v w))))
+  new_entry : (full : Bool) (a : Auto) (rest : List Auto) (v : Value) (vs : List Value) (ids : List ℕ) (w : World) → n ≤ length w.objects → ((id : ℕ) (x : World) → n ≤ length x.objects → Along (IsEntry n) x (world_after (parameters rest vs (ids ++ id ∷ []) x))) → Along (IsEntry n) w (world_after (and_then (if full then Over (BirthLimit w) else Done (length w.objects + 1) (pass (Birth a.slot.size (auto_kind a.slot.constant) (Slot a.slot.offset)) w)) (λ id w. parameters rest vs (ids ++ id ∷ []) (set_at (Pointer id 0) 0 a.slot.size v w))))
   new_entry true a rest v vs ids w le later = along_here (IsEntry n) w
   new_entry false a rest v vs ids w le later =
       let kind = auto_kind a.slot.constant in
       let id : ℕ = length w.objects + 1 in
-      let u : World = pass (Birth a.slot.size kind) w in
+      let u : World = pass (Birth a.slot.size kind (Slot a.slot.offset)) w in
       let cells : List Cell = cells_of a.slot.size v in
       let x : World = pass (Put id (0 + 0) cells) u in
       let more : length u.objects ≡ length w.objects + length (fresh a.slot.size kind ∷ []) = length-append w.objects (fresh a.slot.size kind ∷ []) in
       let same : length x.objects ≡ length u.objects = length_written u.objects id (0 + 0) cells (object_at u.objects id) in
       let end : World = world_after (parameters rest vs (ids ++ id ∷ []) x) in
-      along_on (IsEntry n) w u end (along_one (IsEntry n) (Birth a.slot.size kind) w (a.slot.constant, refl))
+      along_on (IsEntry n) w u end (along_one (IsEntry n) (Birth a.slot.size kind (Slot a.slot.offset)) w (a.slot.constant, refl))
       (along_on (IsEntry n) u x end (along_one (IsEntry n) (Put id (0 + 0) cells) u (omega (arith, le))) (later id x (omega (arith, le, more, same))))
 
   parameters_entry : (autos : List Auto) (vs : List Value) (ids : List ℕ) (w : World) → n ≤ length w.objects → Along (IsEntry n) w (world_after (parameters autos vs ids w))

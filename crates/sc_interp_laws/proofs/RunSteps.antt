@@ -6,6 +6,7 @@ use Rattle.sc_core.specs.declared.module.Auto.{Auto}
 use Rattle.sc_core.specs.declared.module.Fun.{Fun}
 use Rattle.sc_meaning.specs.Values.{Value, Number, FunctionAt, Pointer}
 use Rattle.sc_meaning.specs.World.{World, Born, Event, Enter, Leave, pass, Push, Pop, Stack, OpenBlock}
+use Rattle.sc_meaning.specs.declared.spot.Spot.TheVariants.{Slot}
 use Rattle.sc_meaning.specs.Outcomes.{Outcome, Done, Over, world_after}
 use Rattle.sc_meaning.specs.Accesses.{set_at}
 use Rattle.sc_meaning.specs.Versions.{Text, History, Callee, Missing, InText, InLibrary, callee_of, version_at}
@@ -48,7 +49,7 @@ pub parameters_lead : (autos : List Auto) (vs : List Value) (ids : List ℕ) (w 
 parameters_lead [] vs ids w = here w
 parameters_lead (a ∷ rest) [] ids w = here w
 parameters_lead (a ∷ rest) (v ∷ vs) ids w =
-    then_leads w (born a.slot.size (auto_kind a.slot.constant) w) _ (born_goes Going a.slot.size (auto_kind a.slot.constant) w) (λ id u.
+    then_leads w (born a.slot.size (auto_kind a.slot.constant) (Slot a.slot.offset) w) _ (born_goes Going a.slot.size (auto_kind a.slot.constant) (Slot a.slot.offset) w) (λ id u.
     let x : World = set_at (Pointer id 0) 0 a.slot.size v u in
     on u x (world_after (parameters rest vs (ids ++ id ∷ []) x)) (set_leads (Pointer id 0) 0 a.slot.size v u) (parameters_lead rest vs (ids ++ id ∷ []) x))
 

@@ -25,7 +25,7 @@ stirs_as i (e ∷ es) = i ∷ []
 
 abbrev pub stirs : Item → List Item
 stirs (Happens e) = stirs_as (Happens e) (told e)
-stirs (Birth size kind) = Birth size kind ∷ []
+stirs (Birth size kind at) = Birth size kind at ∷ []
 stirs (Death id) = Death id ∷ []
 stirs (Put id at new) = Put id at new ∷ []
 stirs (Copy to at from off n) = Copy to at from off n ∷ []

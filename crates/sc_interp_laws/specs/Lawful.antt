@@ -33,7 +33,7 @@ Along lawful w v = (is : List Item) × (v ≡ passed is w) × Each lawful w is
 
 -- in an expression no object is born, and none dies
 abbrev pub IsWrite : World → Item → Type 0
-IsWrite w (Birth size kind) = ⊥
+IsWrite w (Birth size kind at) = ⊥
 IsWrite w (Death id) = ⊥
 IsWrite w (Put id at new) = IsWritable w.objects id
 IsWrite w (Copy to at from off n) = IsWritable w.objects to
@@ -44,7 +44,7 @@ abbrev pub IsAutomatic : Kind → Type 0
 IsAutomatic kind = (constant : Bool) × (kind ≡ auto_kind constant)
 
 abbrev pub IsOwn : List ℕ → World → Item → Type 0
-IsOwn own w (Birth size kind) = IsAutomatic kind
+IsOwn own w (Birth size kind at) = IsAutomatic kind
 IsOwn own w (Death id) = IsIn id own
 IsOwn own w (Put id at new) = IsWritable w.objects id ⊎ IsIn id own
 IsOwn own w (Copy to at from off n) = IsWritable w.objects to ⊎ IsIn to own
@@ -56,7 +56,7 @@ abbrev pub IsBlock : List Object → ℕ → Type 0
 IsBlock objects id = (o : Object) × (object_at objects id ≡ Some o) × (o.live ≡ true) × (is_heap o.kind ≡ true)
 
 abbrev pub IsOfHeap : World → Item → Type 0
-IsOfHeap w (Birth size kind) = kind ≡ Heap
+IsOfHeap w (Birth size kind at) = kind ≡ Heap
 IsOfHeap w (Death id) = IsBlock w.objects id
 IsOfHeap w (Put id at new) = IsWritable w.objects id
 IsOfHeap w (Copy to at from off n) = IsWritable w.objects to
@@ -84,7 +84,7 @@ own_of _ env = ids_of env.blocks
 
 -- As a function is entered its parameters are born, and set: objects of which there were fewer than their numbers before.
 abbrev pub IsEntry : ℕ → World → Item → Type 0
-IsEntry before w (Birth size kind) = IsAutomatic kind
+IsEntry before w (Birth size kind at) = IsAutomatic kind
 IsEntry before w (Death id) = ⊥
 IsEntry before w (Put id at new) = before < id
 IsEntry before w (Copy to at from off n) = ⊥

@@ -5,6 +5,7 @@ ghost use Rattle.sc_meaning.specs.Changes as changes;
 ghost use Rattle.sc_meaning.specs.Outcomes as outcome;
 ghost use Rattle.sc_meaning.specs.Statements as spec;
 ghost use Rattle.sc_meaning.specs.Values as value;
+ghost use Rattle.sc_meaning.specs.declared.spot.Spot.TheVariants as spot;
 ghost use Rattle.sc_meaning.specs.Accesses as access;
 ghost use Rattle.sc_meaning.specs.World as worlds;
 ghost use Rattle.sc_interp_access.specs.Gives.{Gives};
@@ -13,21 +14,22 @@ use sc_base::{Items, Kind, NoMemory};
 use sc_core::Auto;
 use sc_interp_access::{Stop, access_breach, copy_at, reach_rule, set_at, sum};
 use sc_interp_world::{Cell, World};
+use sc_meaning::Spot;
 use sc_meaning_values::{Answer, Shape, Value};
 
-/// An object of `size` bytes is born, and gets the next number.
+/// An object of `size` bytes is born in its place, and gets the next number.
 ///
 /// # Errors
 ///
 /// `BirthLimit` where a run has as many as it may have.
-pub fn born(size: u32, kind: Kind, world: &mut World) -> Result<u32, Stop>
-    ensures { Gives (changes.born size kind world.old) result world.new }
+pub fn born(size: u32, kind: Kind, spot: &Spot, world: &mut World) -> Result<u32, Stop>
+    ensures { Gives (changes.born size kind spot.now world.old) result world.new }
 {
     let n = world.objects().len();
     if 4_000_000_000 <= n {
         return Err(Stop::BirthLimit);
     }
-    world.birth(size, kind)?;
+    world.birth(size, kind, spot)?;
     Ok(n as u32 + 1)
 }
 
@@ -35,6 +37,14 @@ fn auto_kind(constant: bool) -> Kind
     ensures { result ≡ spec.auto_kind constant }
 {
     if constant { Kind::Const } else { Kind::Auto }
+}
+
+// An object of automatic storage duration is born in its slot.
+fn born_auto(a: &Auto, world: &mut World) -> Result<u32, Stop>
+    ensures { Gives (changes.born a.now.slot.size (spec.auto_kind a.now.slot.constant) (spot.Slot a.now.slot.offset) world.old) result world.new }
+{
+    let spot = Spot::Slot(a.slot.offset);
+    born(a.slot.size, auto_kind(a.slot.constant), &spot, world)
 }
 
 /// The objects of a block are born, in order of declaration; their numbers.
@@ -47,7 +57,7 @@ pub fn born_autos(autos: &[Auto], world: &mut World) -> Result<Items<u32>, Stop>
 {
     let mut ids = Items::new(world.alloc());
     for a in autos {
-        let id = born(a.slot.size, auto_kind(a.slot.constant), world)?;
+        let id = born_auto(a, world)?;
         ids.push(id)?;
     }
     Ok(ids)
@@ -68,9 +78,9 @@ pub fn all_dead(ids: &[u32], world: &mut World) -> Result<(), NoMemory>
 
 // A parameter is born and set.
 fn parameter(a: &Auto, v: &Value, world: &mut World) -> Result<u32, Stop>
-    ensures { Gives (outcome.and_then (changes.born a.now.slot.size (spec.auto_kind a.now.slot.constant) world.old) (λ id w. outcome.Done id (access.set_at (value.Pointer id 0) 0 a.now.slot.size v.now w))) result world.new }
+    ensures { Gives (outcome.and_then (changes.born a.now.slot.size (spec.auto_kind a.now.slot.constant) (spot.Slot a.now.slot.offset) world.old) (λ id w. outcome.Done id (access.set_at (value.Pointer id 0) 0 a.now.slot.size v.now w))) result world.new }
 {
-    let id = born(a.slot.size, auto_kind(a.slot.constant), world)?;
+    let id = born_auto(a, world)?;
     set_at(&Value::pointer(id, 0), 0, a.slot.size, v, world)?;
     Ok(id)
 }

@@ -5,6 +5,7 @@ ghost use Rattle.sc_meaning.specs.Changes as spec;
 ghost use Rattle.sc_meaning.specs.Values as value;
 ghost use Rattle.sc_meaning.specs.Versions as versions;
 ghost use Rattle.sc_meaning.specs.World as worlds;
+ghost use Rattle.sc_meaning.specs.declared.spot.Spot.TheVariants as spots;
 ghost use Rattle.sc_interp_access.specs.Gives.{Gives};
 
 use crate::births::born;
@@ -13,6 +14,7 @@ use sc_core::Init;
 use sc_core_held::{Callee, Definition, Text, callee_of, object_in};
 use sc_interp_access::{Stop, pieces, sum};
 use sc_interp_world::{Cell, Object, World, object_at, unwritten};
+use sc_meaning::Spot;
 use sc_meaning_values::Value;
 use sc_program::StaticId;
 use std::alloc::Global;
@@ -43,35 +45,37 @@ fn kind_of(constant: bool) -> Kind
     if constant { Kind::Const } else { Kind::Static }
 }
 
-// An object of a key is born; where nothing defines it, it has no bytes.
-fn born_named(texts: &[Text], key: &Key, world: &mut World) -> Result<u32, Stop>
-    ensures { Gives (spec.born_as (versions.object_in texts.now key.now) world.old) result world.new }
+// The object of a key is born where it stands; where nothing defines it, it has no bytes.
+fn born_named(texts: &[Text], id: &StaticId, key: &Key, world: &mut World) -> Result<u32, Stop>
+    ensures { Gives (spec.born_as id.now (versions.object_in texts.now key.now) world.old) result world.new }
 {
+    let spot = Spot::Named(id.copy(world.alloc())?);
     match object_in(texts, key) {
-        None => born(0, Kind::Static, world),
+        None => born(0, Kind::Static, &spot, world),
         Some(d) => {
             let size = contents_size(d.object.init.as_slice())?;
-            born(size, kind_of(d.object.constant), world)
+            born(size, kind_of(d.object.constant), &spot, world)
         }
     }
 }
 
-fn born_literal(bytes: &Bytes, world: &mut World) -> Result<u32, Stop>
-    ensures { Gives (spec.born (length bytes.now) kind.Literal world.old) result world.new }
+fn born_literal(id: &StaticId, bytes: &Bytes, world: &mut World) -> Result<u32, Stop>
+    ensures { Gives (spec.born (length bytes.now) kind.Literal (spots.Named id.now) world.old) result world.new }
 {
+    let spot = Spot::Named(id.copy(world.alloc())?);
     let n = bytes.as_slice().len();
     if 4_294_967_295 < n {
         return Err(Stop::NoRoom);
     }
-    born(n as u32, Kind::Literal, world)
+    born(n as u32, Kind::Literal, &spot, world)
 }
 
 fn born_static(texts: &[Text], id: &StaticId, world: &mut World) -> Result<u32, Stop>
     ensures { Gives (spec.born_static texts.now id.now world.old) result world.new }
 {
     match id {
-        StaticId::Named(key) => born_named(texts, key, world),
-        StaticId::Literal(_, bytes) => born_literal(bytes, world),
+        StaticId::Named(key) => born_named(texts, id, key, world),
+        StaticId::Literal(_, bytes) => born_literal(id, bytes, world),
     }
 }
 

@@ -1,3 +1,4 @@
 pub mod Overwriting
 pub mod Outputs
 pub mod Naming
+pub mod Storing

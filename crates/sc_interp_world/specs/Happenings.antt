@@ -2,6 +2,7 @@
 -- What happens in the program, as the meaning has it.
 use Rattle.sc_interp_world.specs.declared.event.Change.{Change}
 use Rattle.sc_interp_world.specs.declared.event.Change.TheVariants as change
+use Rattle.sc_meaning.specs.Values.{cells_of}
 use Rattle.sc_meaning.specs.World.{Item, Work, Begin, End, GoesOut, ComesBack, Declares, Happens, Birth, Death, Put, Copy, TakeFree, TakeNew, Give, Stack, Read, Seed, Push, Pop, OpenBlock, CloseBlock, Name, Unname}
 
 abbrev pub item_of : Change → Item
@@ -12,9 +13,10 @@ item_of change.GoesOut = GoesOut
 item_of change.ComesBack = ComesBack
 item_of (change.Declares id) = Declares id
 item_of (change.Happens e) = Happens e
-item_of (change.Birth size kind) = Birth size kind
+item_of (change.Birth size kind spot) = Birth size kind spot.value
 item_of (change.Death id) = Death id
 item_of (change.Put id at new) = Put id at new.value
+item_of (change.Store id at n v) = Put id at (cells_of n v.value)
 item_of (change.Copy to at from off n) = Copy to at from off n
 item_of (change.TakeFree k) = TakeFree k
 item_of (change.TakeNew size) = TakeNew size

@@ -4,6 +4,8 @@ ghost use Rattle.sc_meaning.specs.World as spec;
 
 use crate::object::{Born, Cell, Frame};
 use sc_base::{Duplicate, Items, Key, Kind, Name, NoMemory};
+use sc_meaning::Spot;
+use sc_meaning_values::Value;
 use sc_program::StaticId;
 use std::alloc::Global;
 use std::marker::Model;
@@ -101,9 +103,10 @@ pub enum Change {
     ComesBack,
     Declares(u32),
     Happens(Event),
-    Birth(u32, Kind),
+    Birth(u32, Kind, Snapshot<Spot>),
     Death(u32),
     Put(u32, u32, Snapshot<Items<Cell>>),
+    Store(u32, u32, u32, Snapshot<Value>),
     Copy(u32, u32, u32, u32, u32),
     TakeFree(u32),
     TakeNew(u64),

@@ -2,13 +2,16 @@
 //! the single changes, which a trail keeps. It may be slow.
 #![tactic(auto)]
 
+mod beside;
 mod cells;
 mod event;
 mod names;
 mod object;
 mod past;
+mod values;
 mod world;
 
+pub use beside::Beside;
 pub use cells::{copy_cells, unwritten};
 pub use event::{Change, Event, Item, Showing};
 pub use names::{Named, Names, Roll, same_id};

@@ -4,6 +4,7 @@ ghost use Rattle.sc_meaning.specs.Values as spec;
 ghost use Rattle.sc_meaning.specs.World as world;
 
 use crate::cells::overwrite;
+use crate::values::store_value;
 use sc_base::{Duplicate, Form, Items, Key, Kind, Name, NoMemory};
 use sc_meaning_values::Value;
 use std::alloc::Global;
@@ -126,6 +127,16 @@ impl Object {
             self.cells = Items::new(alloc);
             self.live = false;
         }
+    }
+
+    /// A value is stored as `n` bytes from an offset on, where it lives.
+    pub fn store(&mut self, alloc: Global, at: u32, n: u32, v: &Value) -> Result<(), NoMemory>
+        ensures { IfOk result (λ _. self.new ≡ record self.old { cells = world.overwritten self.old.cells at (spec.cells_of n v.now) }) }
+    {
+        if !self.live {
+            return Err(NoMemory);
+        }
+        store_value(alloc, &mut self.cells, at, n, v)
     }
 
     /// Bytes are written from an offset on, where it lives.

@@ -56,6 +56,7 @@ impl Model for Past {
 }
 
 // The byte that an item writes.
+#[inline(always)]
 fn byte_of(item: &Item) -> Option<u8>
     ensures { written_by item.now ≡ option_to_list result }
 {
@@ -69,6 +70,7 @@ fn byte_of(item: &Item) -> Option<u8>
 }
 
 // The units of work of an item.
+#[inline(always)]
 fn work_of(item: &Item) -> u64
     ensures { result ≡ spec.work_of item.now }
 {
@@ -84,22 +86,24 @@ fn work_of(item: &Item) -> u64
             Showing::At(_, _, _) => 0,
             Showing::Out(_) => 0,
         },
-        Change::Birth(size, _) => u64::from(*size),
+        Change::Birth(size, _, _) => u64::from(*size),
         _ => 0,
     }
 }
 
 // The bytes that an item moves.
+#[inline(always)]
 fn moves_of(item: &Item) -> u64
     ensures { result ≡ moves_of item.now }
 {
     match &item.change {
-        Change::Birth(size, _) => u64::from(*size),
+        Change::Birth(size, _, _) => u64::from(*size),
         Change::Copy(_, _, _, _, n) => u64::from(*n),
         _ => 0,
     }
 }
 
+#[inline(always)]
 fn sum(a: u64, b: u64) -> Result<u64, NoMemory>
     ensures { IfOk result (λ n. n ≡ a + b) }
 {
@@ -110,6 +114,7 @@ fn sum(a: u64, b: u64) -> Result<u64, NoMemory>
 }
 
 // The bytes after what an item writes.
+#[inline(always)]
 fn note(item: &Item, written: &mut Items<u8>) -> Result<(), NoMemory>
     ensures ok { OnOk result (written.new ≡ written.old ++ written_by item.now) }
     ensures err { OnErr result (written.new ≡ written.old) }
@@ -133,7 +138,9 @@ impl Past {
         }
     }
 
-    /// One thing more happened. Where memory runs out, none did.
+    /// One thing more happened. Where memory runs out, none did. Callers name the kind of item, so that the item itself is
+    /// never made.
+    #[inline(always)]
     #[tactic(auto, using(crate::proofs::Outputs::output_last, crate::proofs::Outputs::work_last, crate::proofs::Outputs::bytes_moved_last))]
     pub fn push(&mut self, item: &Item) -> Result<(), NoMemory>
         ensures ok { OnOk result (self.new ≡ self.old ++ item.now ∷ []) }

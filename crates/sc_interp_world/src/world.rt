@@ -1,16 +1,21 @@
 // The world of a run, and the single changes to it.
 ghost use Rattle.std.specs.Prelude.{◌≡◌, true, false, not, ℕ, ◌+◌, ◌-◌, ◌∷◌, ◌++◌, [], List, length, reverse, IfOk, MatchOption, None, Some, slice_index, slice_set, replicate};
 ghost use Rattle.sc_meaning.specs.Violations.{of_object};
+ghost use Rattle.sc_meaning.specs.Beside.{nothing_beside};
+ghost use Rattle.sc_meaning.specs.Values as value;
 ghost use Rattle.sc_meaning.specs.World as spec;
 ghost use Rattle.sc_interp_world.specs.Happenings.{item_of};
 ghost use Rattle.sc_interp_world.specs.Outputs.{bytes_moved, output};
 
+use crate::beside::Beside;
 use crate::cells::{back, copy_cells, front, unwritten};
 use crate::event::{Change, Event, Item, Showing};
 use crate::names::Names;
 use crate::object::{Born, Cell, Frame, Object};
 use crate::past::Past;
 use sc_base::{Bytes, Duplicate, Items, Key, Kind, Name, NoMemory, Stack};
+use sc_meaning::Spot;
+use sc_meaning_values::Value;
 use sc_program::StaticId;
 use std::alloc::Global;
 use std::marker::Model;
@@ -37,6 +42,7 @@ pub struct World {
     count: u64,
     begun: u64,
     past: Past,
+    beside: Beside,
 }
 
 impl Model for World {
@@ -44,7 +50,7 @@ impl Model for World {
 
     ghost Value = { spec.World };
 
-    ghost view = { λ w. record { stack = w.stack; heap = w.heap; objects = w.objects.items; used = w.used; free = w.free; made = w.made; input = w.input; seed = w.seed; frames = w.frames; names = w.names; enters = w.enters; count = w.count; begun = w.begun; trail = w.past } };
+    ghost view = { λ w. record { stack = w.stack; heap = w.heap; objects = w.objects.items; used = w.used; free = w.free; made = w.made; input = w.input; seed = w.seed; frames = w.frames; names = w.names; enters = w.enters; count = w.count; begun = w.begun; trail = w.past; beside = w.beside.told } };
 }
 
 // One more.
@@ -122,7 +128,7 @@ fn no_block(alloc: Global) -> Result<Items<u64>, NoMemory>
 impl World {
     /// A world in which nothing is there yet.
     pub fn new(alloc: Global, stack: u64, heap: u64, input: Items<u8>) -> Result<World, NoMemory>
-        ensures { IfOk result (λ w. w ≡ record { stack = stack; heap = heap; objects = []; used = 0; free = replicate 29 0; made = 0; input = input; seed = 1; frames = []; names = []; enters = 0; count = 0; begun = 0; trail = [] }) }
+        ensures { IfOk result (λ w. w ≡ record { stack = stack; heap = heap; objects = []; used = 0; free = replicate 29 0; made = 0; input = input; seed = 1; frames = []; names = []; enters = 0; count = 0; begun = 0; trail = []; beside = nothing_beside }) }
     {
         let free = no_block(alloc)?;
         let mut left = Stack::new(alloc);
@@ -143,6 +149,7 @@ impl World {
             count: 0,
             begun: 0,
             past: Past::new(alloc),
+            beside: Beside::nothing(),
         })
     }
 
@@ -291,6 +298,7 @@ impl World {
     }
 
     // The trail keeps what happened.
+    #[inline(always)]
     fn keep(&mut self, change: Change) -> Result<(), NoMemory>
         ensures { IfOk result (λ _. self.new ≡ record self.old { trail = self.old.trail ++ item_of change ∷ [] }) }
     {
@@ -365,13 +373,13 @@ impl World {
         self.keep(Change::Happens(event))
     }
 
-    /// An object is born, its bytes unwritten.
-    pub fn birth(&mut self, size: u32, kind: Kind) -> Result<(), NoMemory>
-        ensures { IfOk result (λ _. self.new ≡ spec.pass (spec.Birth size kind) self.old) }
+    /// An object is born in its place, its bytes unwritten.
+    pub fn birth(&mut self, size: u32, kind: Kind, spot: &Spot) -> Result<(), NoMemory>
+        ensures { IfOk result (λ _. self.new ≡ spec.pass (spec.Birth size kind spot.now) self.old) }
     {
         let cells = unwritten(self.alloc, size)?;
         self.objects.push(Object::living(size, kind, cells))?;
-        self.keep(Change::Birth(size, kind))
+        self.keep(Change::Birth(size, kind, Snapshot::of(spot)))
     }
 
     /// An object dies.
@@ -388,6 +396,14 @@ impl World {
     {
         self.keep(Change::Put(id, at, Snapshot::of(&new)))?;
         write_object(self.alloc, &mut self.objects, id, at, new)
+    }
+
+    /// A value is stored as `n` bytes of an object from an offset on.
+    pub fn store(&mut self, id: u32, at: u32, n: u32, v: &Value) -> Result<(), NoMemory>
+        ensures { IfOk result (λ _. self.new ≡ spec.pass (spec.Put id at (value.cells_of n v.now)) self.old) }
+    {
+        self.keep(Change::Store(id, at, n, Snapshot::of(v)))?;
+        store_in(self.alloc, &mut self.objects, id, at, n, v)
     }
 
     /// So many bytes go to an object and offset from an object and offset.
@@ -527,6 +543,23 @@ fn write_object(
         return Ok(());
     }
     objects[id as usize - 1].write(alloc, at, new)
+}
+
+// A value is stored in an object.
+fn store_in(
+    alloc: Global,
+    objects: &mut Vec<Object>,
+    id: u32,
+    at: u32,
+    n: u32,
+    v: &Value,
+) -> Result<(), NoMemory>
+    ensures { IfOk result (λ _. objects.new.items ≡ spec.written objects.old.items id at (value.cells_of n v.now) (spec.object_at objects.old.items id)) }
+{
+    if id == 0 || objects.len() < id as usize {
+        return Ok(());
+    }
+    objects[id as usize - 1].store(alloc, at, n, v)
 }
 
 /// The `n` bytes of an object from an offset on, where it is not dead.

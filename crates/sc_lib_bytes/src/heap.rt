@@ -11,6 +11,7 @@ use sc_base::{Duplicate, Items, Kind, NoMemory, Rule, Shared};
 use sc_interp_access::{Breach, Stop, breach, copy_at, free_rule, is_null};
 use sc_interp_parts::born;
 use sc_interp_world::{Cell, World};
+use sc_meaning::Spot;
 use sc_meaning_values::{Answer, Shape, Value};
 use std::alloc::Global;
 
@@ -38,7 +39,7 @@ fn class_of(n: u32) -> u32
 fn allocated(n: u32, world: &mut World) -> Result<Option<u32>, Stop>
     ensures { Gives (spec.allocated n world.old) result world.new }
 {
-    let o = born(n, Kind::Heap, world)?;
+    let o = born(n, Kind::Heap, &Spot::Block, world)?;
     Ok(Some(o))
 }
 

@@ -9,6 +9,7 @@ use Rattle.sc_core.specs.declared.module.Fun.{Fun}
 use Rattle.sc_core.specs.declared.module.Auto.{Auto}
 use Rattle.sc_meaning.specs.Values.{Value, Pointer}
 use Rattle.sc_meaning.specs.World.{World, Born, Enter, Leave, Begin, Work, pass, Push, Pop, Stack, OpenBlock}
+use Rattle.sc_meaning.specs.declared.spot.Spot.TheVariants.{Slot}
 use Rattle.sc_meaning.specs.Outcomes.{Outcome, StackFull}
 use Rattle.sc_meaning.specs.Accesses.{set_at}
 use Rattle.sc_meaning.specs.Versions.{Text, History, Callee, Missing, InText, InLibrary}
@@ -27,8 +28,8 @@ module _ (R : Relation) where
   parameters_go [] vs ids w = same_done R ids w
   parameters_go (a ∷ rest) [] ids w = same_done R ids w
   parameters_go (a ∷ rest) (v ∷ vs) ids w =
-      let r : Outcome ℕ = born a.slot.size (auto_kind a.slot.constant) w in
-      R.bind w r r _ _ (born_goes R a.slot.size (auto_kind a.slot.constant) w) (λ id u.
+      let r : Outcome ℕ = born a.slot.size (auto_kind a.slot.constant) (Slot a.slot.offset) w in
+      R.bind w r r _ _ (born_goes R a.slot.size (auto_kind a.slot.constant) (Slot a.slot.offset) w) (λ id u.
       let x : World = set_at (Pointer id 0) 0 a.slot.size v u in
       R.earlier u x _ _ (set_leads (Pointer id 0) 0 a.slot.size v u) (parameters_go rest vs (ids ++ id ∷ []) x))
 

@@ -40,13 +40,13 @@ deaths_lead old new (id ∷ ids) w =
     on w v (deaths old new ids v) (one_dead old new id w) (deaths_lead old new ids v)
 
 module _ (R : Relation) where
-  as_goes : (d : Option Definition) (w : World) → R.Rel w (born_as d w) (born_as d w)
-  as_goes None w = born_goes R _ _ w
-  as_goes (Some d) w = born_goes R _ _ w
+  as_goes : (id : StaticId) (d : Option Definition) (w : World) → R.Rel w (born_as id d w) (born_as id d w)
+  as_goes id None w = born_goes R _ _ _ w
+  as_goes id (Some d) w = born_goes R _ _ _ w
 
   static_goes : (texts : List Text) (id : StaticId) (w : World) → R.Rel w (born_static texts id w) (born_static texts id w)
-  static_goes texts (Named key) w = as_goes (object_in texts key) w
-  static_goes texts (Literal home bytes) w = born_goes R _ _ w
+  static_goes texts (Named key) w = as_goes (Named key) (object_in texts key) w
+  static_goes texts (Literal home bytes) w = born_goes R _ _ _ w
 
   each_goes : (texts : List Text) (id : StaticId) (o : Option ℕ) (w : World) → R.Rel w (born_unless texts id o w) (born_unless texts id o w)
   each_goes texts id (Some o) w = same_done R tt w

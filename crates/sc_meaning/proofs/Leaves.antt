@@ -6,6 +6,7 @@ use Rattle.sc_base.specs.declared.operator.Op.{Op}
 use Rattle.sc_types.specs.declared.ctype.CType.{CType}
 use Rattle.sc_meaning.specs.Values.{Value, Number, FunctionAt, Pointer, scalar_size, is_pointer_type}
 use Rattle.sc_meaning.specs.World.{World, Birth}
+use Rattle.sc_meaning.specs.declared.spot.Spot.{Spot}
 use Rattle.sc_meaning.specs.Outcomes.{BirthLimit}
 use Rattle.sc_base.specs.declared.integer.Int.TheVariants.{UInt}
 use Rattle.sc_base.specs.declared.operator.Op.TheVariants.{Add}
@@ -57,5 +58,5 @@ module _ (R : Relation) where
   pub tested_goes : (t : CType) (v : Value) (w : World) → R.Rel w (tested t v w) (tested t v w)
   tested_goes t v w = unless_goes R (truth_rule w.objects (is_pointer_type t) v) _ _ _ w (same_done R _ w)
 
-  pub born_goes : (size : ℕ) (kind : Kind) (w : World) → R.Rel w (born size kind w) (born size kind w)
-  born_goes size kind w = if_goes R (nat_le 4000000000 (length w.objects)) w _ _ _ _ (R.over (BirthLimit w) w (here w)) (passes R _ (Birth size kind) w)
+  pub born_goes : (size : ℕ) (kind : Kind) (at : Spot) (w : World) → R.Rel w (born size kind at w) (born size kind at w)
+  born_goes size kind at w = if_goes R (nat_le 4000000000 (length w.objects)) w _ _ _ _ (R.over (BirthLimit w) w (here w)) (passes R _ (Birth size kind at) w)

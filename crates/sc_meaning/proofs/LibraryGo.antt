@@ -10,6 +10,7 @@ use Rattle.sc_fmt.specs.declared.conversion.Piece.TheVariants as piece
 use Rattle.sc_fmt.specs.Format.{piece_of}
 use Rattle.sc_meaning.specs.Values.{Value, Number, FunctionAt, Pointer}
 use Rattle.sc_meaning.specs.World.{World, pass, Work, Out, TakeFree, TakeNew, Death, tick, free_of}
+use Rattle.sc_meaning.specs.declared.spot.Spot.TheVariants.{Block}
 use Rattle.sc_meaning.specs.Outcomes.{Outcome}
 use Rattle.sc_meaning.specs.Violations.{load_rule, store_rule, free_rule, is_overlapping}
 use Rattle.sc_meaning.specs.Accesses.{set_at}
@@ -68,7 +69,7 @@ module _ (R : Relation) where
   apart_goes to n from m w = either_goes R (is_overlapping to n from m) _ _ _ _ w (stops R _ w) (same_done R tt w)
 
   allocated_goes : (n : ℕ) (w : World) → R.Rel w (allocated n w) (allocated n w)
-  allocated_goes n w = R.bind w (born n Heap w) (born n Heap w) _ _ (born_goes R n Heap w) (λ o u. same_done R (Some o) u)
+  allocated_goes n w = R.bind w (born n Heap Block w) (born n Heap Block w) _ _ (born_goes R n Heap Block w) (λ o u. same_done R (Some o) u)
 
   pub taken_goes : (n : ℕ) (w : World) → R.Rel w (taken n w) (taken n w)
   taken_goes n w =

@@ -5,6 +5,7 @@ use Rattle.std.proofs.lemmas.Option.{slice_get_past}
 use Rattle.sc_base.specs.declared.memory.Kind.{Kind}
 use Rattle.sc_meaning.specs.Values.{Cell}
 use Rattle.sc_meaning.specs.World.{World, Item, Work, Begin, End, GoesOut, ComesBack, Declares, Happens, Birth, Death, Put, Copy, TakeFree, TakeNew, Give, Stack, Read, Seed, Push, Pop, OpenBlock, CloseBlock, Name, Unname, Enter, Leave, At, Out, Object, object_at, with_object, fresh, ended, overwritten, written, cells_at, effect, pass, passed}
+use Rattle.sc_meaning.specs.declared.spot.Spot.{Spot}
 use Rattle.sc_meaning.specs.Laws.{Leads, IsKept, KeepsObjects}
 
 get-front : {X : Type 0} (xs ys : List X) (i : ℕ) (x : X) → slice_get xs i ≡ Some x → slice_get (xs ++ ys) i ≡ Some x
@@ -72,7 +73,7 @@ effect_keeps (Happens (Enter key home)) w = same_objects w.objects
 effect_keeps (Happens Leave) w = same_objects w.objects
 effect_keeps (Happens (At home line enter)) w = same_objects w.objects
 effect_keeps (Happens (Out byte)) w = same_objects w.objects
-effect_keeps (Birth size kind) w = born_keeps w.objects (fresh size kind)
+effect_keeps (Birth size kind at) w = born_keeps w.objects (fresh size kind)
 effect_keeps (Death id) w = ended_keeps w.objects id (object_at w.objects id) refl
 effect_keeps (Put id at new) w = written_keeps w.objects id at new (object_at w.objects id) refl
 effect_keeps (Copy to at from off n) w = written_keeps w.objects to at (cells_at w.objects from off n) (object_at w.objects to) refl
@@ -97,5 +98,5 @@ pub leads_keep : (w v : World) → Leads w v → KeepsObjects w.objects v.object
 leads_keep w v l = subst (λ u. KeepsObjects w.objects u.objects) (sym l.1) (passed_keeps l.0 w)
 
 -- a birth takes a number that no object has had
-pub born_new : (size : ℕ) (kind : Kind) (w : World) → (object_at w.objects (length w.objects + 1) ≡ None) × (object_at (pass (Birth size kind) w).objects (length w.objects + 1) ≡ Some (fresh size kind))
-born_new size kind w = rw add-one (slice_get_past w.objects (length w.objects) (omega arith), get-last w.objects (fresh size kind))
+pub born_new : (size : ℕ) (kind : Kind) (at : Spot) (w : World) → (object_at w.objects (length w.objects + 1) ≡ None) × (object_at (pass (Birth size kind at) w).objects (length w.objects + 1) ≡ Some (fresh size kind))
+born_new size kind at w = rw add-one (slice_get_past w.objects (length w.objects) (omega arith), get-last w.objects (fresh size kind))

@@ -11,6 +11,7 @@ use Rattle.sc_core.specs.declared.statement.SwitchLabel.{SwitchLabel}
 use Rattle.sc_core.specs.Types.{type_of}
 use Rattle.sc_meaning.specs.Values.{Value, Byte, scalar_size}
 use Rattle.sc_meaning.specs.World.{World, Item, Born, pass, Work, Begin, End, Declares, Death, Put, OpenBlock, CloseBlock, tick}
+use Rattle.sc_meaning.specs.declared.spot.Spot.TheVariants.{Slot}
 use Rattle.sc_meaning.specs.Outcomes.{Outcome, Done, and_then}
 use Rattle.sc_meaning.specs.Violations.{bits, reach_rule}
 use Rattle.sc_meaning.specs.Accesses.{set_at, copy_at}
@@ -41,8 +42,8 @@ module _ (R : Relation) where
   autos_go : (autos : List Auto) (ids : List ℕ) (w : World) → R.Rel w (born_autos autos ids w) (born_autos autos ids w)
   autos_go [] ids w = same_done R ids w
   autos_go (a ∷ rest) ids w =
-      let r : Outcome ℕ = born a.slot.size (auto_kind a.slot.constant) w in
-      R.bind w r r _ _ (born_goes R a.slot.size (auto_kind a.slot.constant) w) (λ id u. autos_go rest (ids ++ id ∷ []) u)
+      let r : Outcome ℕ = born a.slot.size (auto_kind a.slot.constant) (Slot a.slot.offset) w in
+      R.bind w r r _ _ (born_goes R a.slot.size (auto_kind a.slot.constant) (Slot a.slot.offset) w) (λ id u. autos_go rest (ids ++ id ∷ []) u)
 
   block_ends : (ids : List ℕ) (way : Way) (w : World) → R.Rel w (block_ended ids way w) (block_ended ids way w)
   block_ends ids way w =

@@ -3,6 +3,7 @@
 use Rattle.std.specs.Prelude.{ℕ, List, [], ◌∷◌, replicate, None}
 use Rattle.sc_base.specs.declared.key.Key.{Key}
 use Rattle.sc_meaning.specs.World.{World, Event, GoesOut, ComesBack, pass, events}
+use Rattle.sc_meaning.specs.Beside.{Beside}
 use Rattle.sc_meaning.specs.Outcomes.{Outcome, Done, Over, Ending, Exit, and_then, world_at}
 use Rattle.sc_meaning.specs.Violations.{bits}
 use Rattle.sc_meaning.specs.Versions.{History}
@@ -10,12 +11,13 @@ use Rattle.sc_meaning.specs.Changes.{settled}
 use Rattle.sc_meaning.specs.Expressions.{Answer, Plain, Place, Part, Nothing}
 use Rattle.sc_meaning.specs.Calls.{call}
 
--- how a run starts: the bytes of stack and heap, the input, and the versions that the run has
+-- how a run starts: the bytes of stack and heap, the input, the versions that the run has, and what its machine was told
 pub record Start : Type 0 where
   pub stack : ℕ
   pub heap : ℕ
   pub input : List ℕ
   pub history : History
+  pub beside : Beside
 
 -- nothing is there yet; the heap has 29 classes of blocks
 abbrev pub first_world : Start → World
@@ -34,6 +36,7 @@ first_world s = record {
   count = 0;
   begun = 0;
   trail = [];
+  beside = s.beside;
 }
 
 -- the bytes of `main`

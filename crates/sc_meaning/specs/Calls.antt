@@ -9,6 +9,7 @@ use Rattle.sc_core.specs.declared.module.Fun.{Fun}
 use Rattle.sc_core.specs.declared.module.Auto.{Auto}
 use Rattle.sc_meaning.specs.Values.{Value, Pointer}
 use Rattle.sc_meaning.specs.World.{World, Frame, Born, Enter, Leave, pass, Push, Pop, Stack, OpenBlock}
+use Rattle.sc_meaning.specs.declared.spot.Spot.TheVariants.{Slot}
 use Rattle.sc_meaning.specs.Outcomes.{Outcome, Done, Over, StackFull, OutOfFuel, and_then, undefined}
 use Rattle.sc_meaning.specs.Accesses.{set_at}
 use Rattle.sc_meaning.specs.Versions.{Text, History, Callee, Missing, InText, InLibrary, callee_of, version_at}
@@ -22,7 +23,7 @@ abbrev pub parameters : List Auto → List Value → List ℕ → World → Outc
 parameters [] vs ids w = Done ids w
 parameters (a ∷ rest) [] ids w = Done ids w
 parameters (a ∷ rest) (v ∷ vs) ids w =
-    and_then (born a.slot.size (auto_kind a.slot.constant) w) (λ id w. parameters rest vs (ids ++ id ∷ []) (set_at (Pointer id 0) 0 a.slot.size v w))
+    and_then (born a.slot.size (auto_kind a.slot.constant) (Slot a.slot.offset) w) (λ id w. parameters rest vs (ids ++ id ∷ []) (set_at (Pointer id 0) 0 a.slot.size v w))
 
 abbrev pub frame_of : Key → Text → World → Frame
 frame_of key t w = record { key = key; text = t.number; home = t.core.name; form = t.form; enter = w.enters + 1; line = 0; blocks = [] }

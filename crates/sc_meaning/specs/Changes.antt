@@ -10,14 +10,16 @@ use Rattle.sc_core.specs.declared.module.Init.{Init}
 use Rattle.sc_core.specs.declared.module.Init.TheVariants as init
 use Rattle.sc_meaning.specs.Values.{Value, FunctionAt, Pointer, Cell, Unwritten, Byte, pieces_of}
 use Rattle.sc_meaning.specs.World.{World, Object, Event, At, pass, Birth, Death, Put, Name, Unname, Happens, Frame, named_in, object_at}
+use Rattle.sc_meaning.specs.declared.spot.Spot.{Spot}
+use Rattle.sc_meaning.specs.declared.spot.Spot.TheVariants as spot
 use Rattle.sc_meaning.specs.Outcomes.{Outcome, Done, Over, BirthLimit, and_then, Step, went}
 use Rattle.sc_meaning.specs.Versions.{Text, Version, History, Definition, Callee, Missing, InText, InLibrary, callee_of, object_in, is_kept, births_of}
 
 -- an object is born, and gets the next number; a run has at most so many
-abbrev pub born : ℕ → Kind → World → Outcome ℕ
-born size kind w =
+abbrev pub born : ℕ → Kind → Spot → World → Outcome ℕ
+born size kind at w =
     if nat_le 4000000000 (length w.objects) then Over (BirthLimit w)
-    else Done (length w.objects + 1) (pass (Birth size kind) w)
+    else Done (length w.objects + 1) (pass (Birth size kind at) w)
 
 abbrev pub piece_size : Init → ℕ
 piece_size (init.Byte b) = 1
@@ -31,14 +33,14 @@ contents_size (i ∷ is) = piece_size i + contents_size is
 abbrev pub kind_of : Bool → Kind
 kind_of constant = if constant then kind.Const else kind.Static
 
-abbrev pub born_as : Option Definition → World → Outcome ℕ
-born_as None w = born 0 kind.Static w
-born_as (Some d) w = born (contents_size d.object.init) (kind_of d.object.constant) w
+abbrev pub born_as : StaticId → Option Definition → World → Outcome ℕ
+born_as id None w = born 0 kind.Static (spot.Named id) w
+born_as id (Some d) w = born (contents_size d.object.init) (kind_of d.object.constant) (spot.Named id) w
 
 -- an object of static storage duration, or a literal, is born
 abbrev pub born_static : List Text → StaticId → World → Outcome ℕ
-born_static texts (Named key) w = born_as (object_in texts key) w
-born_static texts (Literal home bytes) w = born (length bytes) kind.Literal w
+born_static texts (Named key) w = born_as (Named key) (object_in texts key) w
+born_static texts (Literal home bytes) w = born (length bytes) kind.Literal (spot.Named (Literal home bytes)) w
 
 -- those that have no object yet are born in their order
 abbrev pub born_unless : List Text → StaticId → Option ℕ → Step

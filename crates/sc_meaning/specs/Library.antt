@@ -7,6 +7,7 @@ use Rattle.sc_base.specs.declared.report.Rule.{Rule}
 use Rattle.sc_base.specs.declared.report.Rule.TheVariants.{U16, U18}
 use Rattle.sc_meaning.specs.Values.{Value, Number, Pointer, null, number_of_cells}
 use Rattle.sc_meaning.specs.World.{World, Object, pass, Out, Give, TakeFree, TakeNew, Death, tick, free_of}
+use Rattle.sc_meaning.specs.declared.spot.Spot.TheVariants.{Block}
 use Rattle.sc_meaning.specs.Outcomes.{Outcome, Done, and_then, Step, went, breach, undefined, unless, access_breach, Breach}
 use Rattle.sc_meaning.specs.Violations.{load_rule, store_rule, cells_read, object_of, is_overlapping, free_rule}
 use Rattle.sc_meaning.specs.Accesses.{set_at}
@@ -95,7 +96,7 @@ abbrev pub class_of : ℕ → ℕ
 class_of n = class_from 29 0 n
 
 abbrev pub allocated : ℕ → World → Outcome (Option ℕ)
-allocated n w = and_then (born n Heap w) (λ o w. Done (Some o) w)
+allocated n w = and_then (born n Heap Block w) (λ o w. Done (Some o) w)
 
 -- A new object of n bytes in a block of its class: the free one that was freed last, or one more where the heap has
 -- room for it. Else there is none.

@@ -15,6 +15,7 @@ use Rattle.sc_core.specs.declared.statement.SwitchLabel.{SwitchLabel}
 use Rattle.sc_core.specs.Types.{type_of}
 use Rattle.sc_meaning.specs.Values.{Value, Pointer, Byte, scalar_size}
 use Rattle.sc_meaning.specs.World.{World, Born, pass, Work, Begin, End, Declares, Death, Put, OpenBlock, CloseBlock, tick}
+use Rattle.sc_meaning.specs.declared.spot.Spot.TheVariants.{Slot}
 use Rattle.sc_meaning.specs.Outcomes.{Outcome, Done, and_then, Step, went, unless, access_breach}
 use Rattle.sc_meaning.specs.Violations.{bits, reach_rule}
 use Rattle.sc_meaning.specs.Accesses.{tested, set_at, copy_at}
@@ -47,7 +48,7 @@ auto_kind constant = if constant then kind.Const else kind.Auto
 -- objects are born in order of declaration; what follows takes their numbers
 abbrev pub born_autos : List Auto → List ℕ → World → Outcome (List ℕ)
 born_autos [] ids w = Done ids w
-born_autos (a ∷ rest) ids w = and_then (born a.slot.size (auto_kind a.slot.constant) w) (λ id w. born_autos rest (ids ++ id ∷ []) w)
+born_autos (a ∷ rest) ids w = and_then (born a.slot.size (auto_kind a.slot.constant) (Slot a.slot.offset) w) (λ id w. born_autos rest (ids ++ id ∷ []) w)
 
 -- objects die, the last born first
 abbrev pub all_dead : List ℕ → World → World

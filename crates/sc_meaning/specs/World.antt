@@ -7,7 +7,9 @@ use Rattle.sc_base.specs.declared.memory.Form.{Form}
 use Rattle.sc_base.specs.declared.key.Key.{Key}
 use Rattle.sc_program.specs.declared.storage.StaticId.{StaticId}
 use Rattle.sc_program.specs.declared.storage.StaticId.TheVariants.{Named, Literal}
+use Rattle.sc_meaning.specs.declared.spot.Spot.{Spot}
 use Rattle.sc_meaning.specs.Values.{Cell, Unwritten, same_key}
+use Rattle.sc_meaning.specs.Beside.{Beside}
 
 -- an object: its size in bytes, its kind, whether it lives, and its bytes
 pub record Object : Type 0 where
@@ -52,8 +54,8 @@ pub data Item : Type 0 where
   -- the line that is reached next is that of this object's declarator, the initialiser of which comes behind it
   Declares : ℕ → Item
   Happens : Event → Item
-  -- an object of this size and kind is born, its bytes unwritten; the object with this number dies
-  Birth : ℕ → Kind → Item
+  -- an object of this size and kind is born in its place, its bytes unwritten; the object with this number dies
+  Birth : ℕ → Kind → Spot → Item
   Death : ℕ → Item
   -- bytes are written into an object from an offset on
   Put : ℕ → ℕ → List Cell → Item
@@ -80,7 +82,7 @@ pub data Item : Type 0 where
 -- The bytes that stack and heap may have; the objects, of which the first has number 1; the stack used; by class, how
 -- many heap blocks are free; the heap's bytes that were made blocks; the input that is left; the last random number;
 -- the active calls, innermost first; the objects with names; how many calls were entered, how many events passed, and
--- how many statements have begun and not ended; and all that happened so far.
+-- how many statements have begun and not ended; all that happened so far; and what the machine was told beside.
 pub record World : Type 0 where
   pub stack : ℕ
   pub heap : ℕ
@@ -96,6 +98,7 @@ pub record World : Type 0 where
   pub count : ℕ
   pub begun : ℕ
   pub trail : List Item
+  pub beside : Beside
 
 -- the object with a number
 abbrev pub object_at : List Object → ℕ → Option Object
@@ -176,7 +179,7 @@ effect GoesOut w = w
 effect ComesBack w = w
 effect (Declares id) w = w
 effect (Happens e) w = counted e w
-effect (Birth size kind) w = record w { objects = w.objects ++ fresh size kind ∷ [] }
+effect (Birth size kind at) w = record w { objects = w.objects ++ fresh size kind ∷ [] }
 effect (Death id) w = record w { objects = ended w.objects id (object_at w.objects id) }
 effect (Put id at new) w = record w { objects = written w.objects id at new (object_at w.objects id) }
 effect (Copy to at from off n) w = record w { objects = written w.objects to at (cells_at w.objects from off n) (object_at w.objects to) }
@@ -219,7 +222,7 @@ work_of End = 1
 work_of GoesOut = 1
 work_of ComesBack = 1
 work_of (Happens e) = event_work e
-work_of (Birth size kind) = size
+work_of (Birth size kind at) = size
 work_of _ = 0
 
 -- the work of a trail, its events, and its changes of objects
@@ -236,7 +239,7 @@ events [] = []
 events (i ∷ is) = events_of i ++ events is
 
 abbrev pub changes_of : Item → List Item
-changes_of (Birth size kind) = Birth size kind ∷ []
+changes_of (Birth size kind at) = Birth size kind at ∷ []
 changes_of (Death id) = Death id ∷ []
 changes_of (Put id at new) = Put id at new ∷ []
 changes_of (Copy to at from off n) = Copy to at from off n ∷ []

@@ -6,6 +6,7 @@ ghost use Rattle.sc_core.specs.declared.expression.CoreExpr.{CoreExpr};
 ghost use Rattle.sc_core.specs.declared.statement.CoreStmt.{CoreStmt};
 ghost use Rattle.sc_meaning.specs.Values.{Value};
 ghost use Rattle.sc_meaning.specs.World.{World, Birth, fresh, object_at, pass, passed};
+ghost use Rattle.sc_meaning.specs.declared.spot.Spot.{Spot};
 ghost use Rattle.sc_meaning.specs.Outcomes.{Breach, Undefined, world_after, world_at};
 ghost use Rattle.sc_meaning.specs.Versions.{History};
 ghost use Rattle.sc_meaning.specs.Expressions.{Env};
@@ -55,7 +56,7 @@ pub fn later_versions_change_nothing()
 /// once it is dead; and a birth takes a number that no object has had.
 pub fn objects_keep_their_numbers()
     ensures kept { (w v : World) → Leads w v → KeepsObjects w.objects v.objects }
-    ensures new { (size : ℕ) (kind : Kind) (w : World) → (object_at w.objects (length w.objects + 1) ≡ None) × (object_at (pass (Birth size kind) w).objects (length w.objects + 1) ≡ Some (fresh size kind)) }
+    ensures new { (size : ℕ) (kind : Kind) (at : Spot) (w : World) → (object_at w.objects (length w.objects + 1) ≡ None) × (object_at (pass (Birth size kind at) w).objects (length w.objects + 1) ≡ Some (fresh size kind)) }
 {}
 
 /// Where the types of the tree are right, an expression of integer type gives a number and never a pointer, unless it gives

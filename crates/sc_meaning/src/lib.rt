@@ -5,6 +5,7 @@
 mod history;
 mod laws;
 mod library;
+mod spot;
 
 pub use history::{Event, Past};
 pub use laws::{
@@ -13,3 +14,4 @@ pub use laws::{
     undefined_steps_end_runs,
 };
 pub use library::LibFun;
+pub use spot::Spot;

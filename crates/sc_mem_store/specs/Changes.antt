@@ -3,16 +3,17 @@
 use Rattle.std.specs.Prelude.{List, [], ◌∷◌, ◌++◌}
 use Rattle.sc_mem_store.specs.declared.history.Change.{Change}
 use Rattle.sc_mem_store.specs.declared.history.Change.TheVariants as change
+use Rattle.sc_meaning.specs.declared.spot.Spot.TheVariants.{Block}
 use Rattle.sc_meaning.specs.World.{Item, Birth, Death, Put, Object, fresh, ended, written, object_at}
 
 abbrev pub item_of : Change → Item
-item_of (change.Birth size kind) = Birth size kind
+item_of (change.Birth size kind) = Birth size kind Block
 item_of (change.Death id) = Death id
 item_of (change.Put id at c) = Put id at (c.value ∷ [])
 
--- the objects after a birth, a death or a put
+-- the objects after a birth, a death or a put; the place of a birth is no matter of theirs
 abbrev pub changed : List Object → Item → List Object
-changed objects (Birth size kind) = objects ++ fresh size kind ∷ []
+changed objects (Birth size kind spot) = objects ++ fresh size kind ∷ []
 changed objects (Death id) = ended objects id (object_at objects id)
 changed objects (Put id at new) = written objects id at new (object_at objects id)
 changed objects _ = objects

@@ -4,7 +4,7 @@ use sc_interp_access::Stop;
 use sc_interp_parts::set_bytes;
 use sc_interp_world::{Frame, World};
 use sc_lib::library_call;
-use sc_meaning::LibFun;
+use sc_meaning::{LibFun, Spot};
 use sc_meaning_values::{Answer, Held, Shape, Value};
 use std::alloc::Global;
 use std::test::Fail;
@@ -46,8 +46,9 @@ fn world_of(alloc: Global, first: &[u8], second: &[u8]) -> Result<World, NoMemor
         line: 1,
         blocks: Items::new(alloc),
     })?;
-    world.birth(16, Kind::Auto)?;
-    world.birth(16, Kind::Auto)?;
+    world.use_stack(48)?;
+    world.birth(16, Kind::Auto, &Spot::Slot(0))?;
+    world.birth(16, Kind::Auto, &Spot::Slot(20))?;
     set_bytes(1, 0, first, &mut world)?;
     set_bytes(2, 0, second, &mut world)?;
     Ok(world)

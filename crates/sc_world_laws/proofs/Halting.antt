@@ -6,6 +6,7 @@ use Rattle.sc_program.specs.declared.storage.StaticId.{StaticId}
 use Rattle.sc_program.specs.declared.storage.StaticId.TheVariants.{Named, Literal}
 use Rattle.sc_base.specs.declared.memory.Kind.{Kind}
 use Rattle.sc_meaning.specs.World.{World, Frame, Item, Event, Enter, Leave, At, Out, Happens, Birth, Put, Name, GoesOut, ComesBack, pass, events, named_in}
+use Rattle.sc_meaning.specs.declared.spot.Spot.{Spot}
 use Rattle.sc_meaning.specs.Outcomes.{Outcome, Done, Over, BirthLimit, Ending, Exit, and_then, world_after, world_at, went}
 use Rattle.sc_meaning.specs.Versions.{Text, Definition, callee_of, object_in, births_of}
 use Rattle.sc_meaning.specs.Changes.{born, born_as, born_static, born_unless, born_all, unnamed, filled, filled_all, born_and_filled, statics_born, static_contents, contents_size, kind_of}
@@ -306,20 +307,20 @@ turns_bound m old nodes p = omega (arith, p.counted, bound m.turns nodes)
 
 -- ---- the start
 
-born_inside : (size : ℕ) (kind : Kind) (w : World) → Inside w (world_after (born size kind w))
-born_inside size kind w = go (nat_le 4000000000 (length w.objects))
+born_inside : (size : ℕ) (kind : Kind) (at : Spot) (w : World) → Inside w (world_after (born size kind at w))
+born_inside size kind at w = go (nat_le 4000000000 (length w.objects))
   where
-    go : (b : Bool) → Inside w (world_after (if b then Over (BirthLimit w) else Done (length w.objects + 1) (pass (Birth size kind) w)))
+    go : (b : Bool) → Inside w (world_after (if b then Over (BirthLimit w) else Done (length w.objects + 1) (pass (Birth size kind at) w)))
     go true = along_here IsInside w
-    go false = along_one IsInside (Birth size kind) w refl
+    go false = along_one IsInside (Birth size kind at) w refl
 
-as_inside : (d : Option Definition) (w : World) → Inside w (world_after (born_as d w))
-as_inside None w = born_inside _ _ w
-as_inside (Some d) w = born_inside (contents_size d.object.init) (kind_of d.object.constant) w
+as_inside : (id : StaticId) (d : Option Definition) (w : World) → Inside w (world_after (born_as id d w))
+as_inside id None w = born_inside _ _ _ w
+as_inside id (Some d) w = born_inside (contents_size d.object.init) (kind_of d.object.constant) _ w
 
 static_inside : (texts : List Text) (id : StaticId) (w : World) → Inside w (world_after (born_static texts id w))
-static_inside texts (Named key) w = as_inside (object_in texts key) w
-static_inside texts (Literal home bytes) w = born_inside _ _ w
+static_inside texts (Named key) w = as_inside (Named key) (object_in texts key) w
+static_inside texts (Literal home bytes) w = born_inside _ _ _ w
 
 then_inside : {A B : Type 0} (w : World) (r : Outcome A) (f : A → World → Outcome B) → Inside w (world_after r) → ((a : A) (v : World) → Inside v (world_after (f a v))) → Inside w (world_after (and_then r f))
 then_inside w (Done a v) f l q = along_on IsInside w v (world_after (f a v)) l (q a v)

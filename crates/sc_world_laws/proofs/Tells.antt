@@ -7,6 +7,7 @@ use Rattle.sc_core.specs.declared.module.Auto.{Auto}
 use Rattle.sc_core.specs.declared.module.Fun.{Fun}
 use Rattle.sc_meaning.specs.Values.{Value, Number, FunctionAt, Pointer, cells_of}
 use Rattle.sc_meaning.specs.World.{World, Item, Event, Enter, Leave, At, Out, Happens, Birth, Put, Push, Pop, Stack, OpenBlock, Born, Frame, pass, events, events_of}
+use Rattle.sc_meaning.specs.declared.spot.Spot.TheVariants.{Slot}
 use Rattle.sc_meaning.specs.Outcomes.{Outcome, Done, Over, BirthLimit, and_then, world_after, world_at, went}
 use Rattle.sc_meaning.specs.Accesses.{set_at}
 use Rattle.sc_meaning.specs.Versions.{Text, History, Callee, Missing, InText, InLibrary, callee_of}
@@ -111,14 +112,14 @@ inside_then : {A B : Type 0} (w : World) (r : Outcome A) (f : A → World → Ou
 inside_then w (Done a v) f l q = along_on IsInside w v (world_after (f a v)) l (q a v)
 inside_then w (Over e) f l q = l
 
-parameter_inside : (full : Bool) (a : Auto) (rest : List Auto) (v : Value) (vs : List Value) (ids : List ℕ) (w : World) → ((id : ℕ) (x : World) → Inside x (world_after (parameters rest vs (ids ++ id ∷ []) x))) → Inside w (world_after (and_then (if full then Over (BirthLimit w) else Done (length w.objects + 1) (pass (Birth a.slot.size (auto_kind a.slot.constant)) w)) (λ id w. parameters rest vs (ids ++ id ∷ []) (set_at (Pointer id 0) 0 a.slot.size v w))))
+parameter_inside : (full : Bool) (a : Auto) (rest : List Auto) (v : Value) (vs : List Value) (ids : List ℕ) (w : World) → ((id : ℕ) (x : World) → Inside x (world_after (parameters rest vs (ids ++ id ∷ []) x))) → Inside w (world_after (and_then (if full then Over (BirthLimit w) else Done (length w.objects + 1) (pass (Birth a.slot.size (auto_kind a.slot.constant) (Slot a.slot.offset)) w)) (λ id w. parameters rest vs (ids ++ id ∷ []) (set_at (Pointer id 0) 0 a.slot.size v w))))
 parameter_inside true a rest v vs ids w later = along_here IsInside w
 parameter_inside false a rest v vs ids w later =
     let id : ℕ = length w.objects + 1 in
-    let u : World = pass (Birth a.slot.size (auto_kind a.slot.constant)) w in
+    let u : World = pass (Birth a.slot.size (auto_kind a.slot.constant) (Slot a.slot.offset)) w in
     let x : World = pass (Put id (0 + 0) (cells_of a.slot.size v)) u in
     let end : World = world_after (parameters rest vs (ids ++ id ∷ []) x) in
-    along_on IsInside w u end (along_one IsInside (Birth a.slot.size (auto_kind a.slot.constant)) w refl)
+    along_on IsInside w u end (along_one IsInside (Birth a.slot.size (auto_kind a.slot.constant) (Slot a.slot.offset)) w refl)
     (along_on IsInside u x end (along_one IsInside (Put id (0 + 0) (cells_of a.slot.size v)) u refl) (later id x))
 
 parameters_inside : (autos : List Auto) (vs : List Value) (ids : List ℕ) (w : World) → Inside w (world_after (parameters autos vs ids w))
