@@ -6,3 +6,6 @@ pub mod Lists
 pub mod Meant
 pub mod Reading
 pub mod Writing
+pub mod Words
+pub mod ValueBytes
+pub mod Apart

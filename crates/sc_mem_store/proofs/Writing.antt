@@ -6,10 +6,11 @@ use Rattle.std.proofs.lemmas.List.{length-append, length-take, length-drop, appe
 use Rattle.sc_cells.specs.Range.{with_range}
 use Rattle.sc_cells.proofs.Ranges.{with_range-push, length-with_range}
 use Rattle.sc_objects.proofs.Lists.{slice_get-set_same}
-use Rattle.sc_meaning.specs.Values.{Cell}
+use Rattle.sc_meaning.specs.Values.{Value, Cell, cells_of}
 use Rattle.sc_meaning.specs.World.{Object, object_at, written, overwritten}
 use Rattle.sc_mem_store.specs.Holding.{IsInside}
 use Rattle.sc_mem_store.proofs.Lists.{set-twice, set-same}
+use Rattle.sc_mem_store.proofs.ValueBytes.{length_of_cells, none_of}
 use Rattle.sc_mem_store.proofs.Holding.{with-byte}
 
 pub nothing-over : (cells : List Cell) (at : ℕ) → overwritten cells at [] ≡ cells
@@ -69,3 +70,17 @@ put_step first now new id at next n cells c e f g h i =
 
 pub put_all : (first now : List Object) (id at n : ℕ) (cells : List Cell) → now ≡ written first id at (take n cells) (object_at first id) → length cells ≤ n → now ≡ written first id at cells (object_at first id)
 put_all first now id at n cells e l = e ∙ ap (λ xs. written first id at xs (object_at first id)) (take_all n cells l)
+
+-- the bytes of a value, one after another
+pub store_nothing : (os : List Object) (id at : ℕ) (v : Value) → written os id at (cells_of 0 v) (object_at os id) ≡ os
+store_nothing os id at v = ap (λ xs. written os id at xs (object_at os id)) (none_of v) ∙ put_nothing os id at
+
+pub store_step : (first now new : List Object) (id at next k n : ℕ) (v : Value) (c : Cell) → now ≡ written first id at (cells_of k v) (object_at first id) → next ≡ at + k → k < n → n ≤ 4 → cells_of (k + 1) v ≡ cells_of k v ++ c ∷ [] → IsInside now id next → new ≡ written now id next (c ∷ []) (object_at now id) → new ≡ written first id at (cells_of (k + 1) v) (object_at first id)
+store_step first now new id at next k n v c e f l few more h i =
+    let size : length (cells_of k v) ≡ k = length_of_cells v k (omega (arith, l, few)) in
+    let place : next ≡ at + length (cells_of k v) = f ∙ ap (λ j. at + j) (sym size) in
+    i
+    ∙ (ap (λ (os : List Object). written os id next (c ∷ []) (object_at os id)) e
+    ∙ (ap (λ j. written (written first id at (cells_of k v) (object_at first id)) id j (c ∷ []) (object_at (written first id at (cells_of k v) (object_at first id)) id)) place
+    ∙ (put_more first id at (cells_of k v) c (subst (λ (os : List Object). IsInside os id (at + length (cells_of k v))) e (subst (λ j. IsInside now id j) place h))
+    ∙ ap (λ xs. written first id at xs (object_at first id)) (sym more))))

@@ -1,46 +1,57 @@
 -- Inside: plumbing, a representation, an invariant or a promise beside the claim (docs/TRUST.md).
 -- What it is that a memory holds the objects of a run: the same objects number by number, and for each one that lives the
--- bytes at its addresses.
-use Rattle.std.specs.Prelude.{◌≡◌, ⊤, ℕ, ◌+◌, ◌-◌, ◌/◌, ◌%◌, ◌<◌, min, ◌==◌, nat_le, true, if◌then◌else◌, List, length, slice_get, Option, Some, None, option_map}
+-- bytes at its addresses. Every cell that a machine can store stands for a byte.
+use Rattle.std.specs.Prelude.{◌≡◌, ◌⊎◌, ⊤, ℕ, ◌+◌, ◌-◌, ◌/◌, ◌%◌, ◌<◌, min, ◌==◌, ◌&&◌, nat_le, true, if◌then◌else◌, List, length, slice_get, Option, Some, None, option_map}
 use Rattle.sc_base.specs.declared.key.Key.{Key}
 use Rattle.sc_base.specs.declared.memory.Cell.{Cell as Stored}
 use Rattle.sc_base.specs.declared.memory.Cell.TheVariants as stored
 use Rattle.sc_objects.specs.declared.objects.Obj.{Obj}
 use Rattle.sc_objects.specs.Numbered.{object_of}
 use Rattle.sc_mem.specs.Flat.{Flat, cell_at}
-use Rattle.sc_meaning.specs.Values.{Value, FunctionAt, Pointer, Cell, Unwritten, Byte, Piece}
+use Rattle.sc_mem.specs.Violations.{offset_from}
+use Rattle.sc_meaning.specs.Values.{Value, Number, FunctionAt, Pointer, Cell, Unwritten, Byte, Piece}
 use Rattle.sc_meaning.specs.World.{Object, object_at}
 
--- the function whose stub stands at an address: stub F has eight bytes, and function F is the one with this place in the list
-abbrev pub function_at : List Key → ℕ → Option Value
-function_at functions address = option_map FunctionAt (slice_get functions ((address - 0x00010000) / 8))
+-- the function whose stub begins at an address: stub F has eight bytes, and function F is the one with this place in the list
+abbrev pub function_of : List Key → ℕ → Option Key
+function_of functions address = if nat_le 0x00010000 address && (address % 8 == 0) then slice_get functions ((address - 0x00010000) / 8) else None
 
--- the place in an object where an address lies, if it does not lie before the object
-abbrev pub place_in : ℕ → ℕ → Option Obj → Option Value
-place_in id address None = None
-place_in id address (Some o) = if nat_le o.base address then Some (Pointer id (address - o.base)) else None
+-- Every word is a value. The number 0 is no object's: it has the words with the functions' tag whose address is no stub of a function.
+abbrev pub function_or : Option Key → ℕ → Value
+function_or (Some key) address = FunctionAt key
+function_or None address = Pointer 0 address
 
--- the value of a pointer by its tag and address
-abbrev pub value_at : List Key → List Obj → ℕ → ℕ → Option Value
-value_at functions table tag address = if tag == 4294967295 then function_at functions address else place_in tag address (object_of table tag)
+-- as far behind an object's base as an address lies, modulo 2^32
+abbrev pub place_or : ℕ → Option Obj → ℕ → Value
+place_or tag (Some o) address = Pointer tag (offset_from address (Some o))
+place_or tag None address = Pointer 0 address
 
-abbrev pub piece_of : ℕ → Option Value → Option Cell
-piece_of k None = None
-piece_of k (Some v) = Some (Piece v k)
+-- the value of a word by its tag and address
+abbrev pub value_at : List Key → List Obj → ℕ → ℕ → Value
+value_at functions table tag address =
+    if tag == 0 then Number address
+    else if tag == 4294967295 then function_or (function_of functions address) address
+    else place_or tag (object_of table tag) address
 
 -- the byte that a cell of memory stands for
-abbrev pub meant : List Key → List Obj → Stored → Option Cell
-meant functions table stored.Unwritten = Some Unwritten
-meant functions table (stored.Byte b) = Some (Byte b)
-meant functions table (stored.Frag whole tag k) = piece_of k (value_at functions table tag whole)
-
-abbrev pub meant_by : List Key → List Obj → Option Stored → Option Cell
-meant_by functions table None = None
-meant_by functions table (Some c) = meant functions table c
+abbrev pub meant : List Key → List Obj → Stored → Cell
+meant functions table stored.Unwritten = Unwritten
+meant functions table (stored.Byte b) = Byte b
+meant functions table (stored.Frag whole tag k) = Piece (value_at functions table tag whole) k
 
 -- the byte at an address
 abbrev pub byte_at : Flat → List Key → ℕ → Option Cell
-byte_at m functions at = meant_by functions m.objects (cell_at m at)
+byte_at m functions at = option_map (meant functions m.objects) (cell_at m at)
+
+-- the tags that there are: of numbers, of functions, and of the objects that were born
+abbrev pub IsTag : List Obj → ℕ → Type 0
+IsTag table tag = (tag ≡ 0) ⊎ ((tag ≡ 4294967295) ⊎ ((p : Obj) × (object_of table tag ≡ Some p)))
+
+-- a piece has one of them
+abbrev pub IsTagged : List Obj → Stored → Type 0
+IsTagged table stored.Unwritten = ⊤
+IsTagged table (stored.Byte b) = ⊤
+IsTagged table (stored.Frag whole tag k) = IsTag table tag
 
 -- these bytes stand from an address on
 abbrev pub HasBytes : Flat → List Key → ℕ → List Cell → Type 0
@@ -60,13 +71,11 @@ AreHeld m functions None None = ⊤
 AreHeld m functions (Some o) (Some p) = IsHeld m functions o p
 AreHeld m functions _ _ = ⊥
 
+-- number by number; and every cell, also one that stands in no object, has a tag that there is
 pub record Holds (objects : List Object) (m : Flat) (functions : List Key) : Type 0 where
   pub count : length m.objects ≡ length objects
   pub each : (id : ℕ) → AreHeld m functions (object_at objects id) (object_of m.objects id)
-
--- the numbers of functions stay
-abbrev pub Grows : List Key → List Key → Type 0
-Grows old new = (n : ℕ) (key : Key) → slice_get old n ≡ Some key → slice_get new n ≡ Some key
+  pub tagged : (at : ℕ) (c : Stored) → cell_at m at ≡ Some c → IsTagged m.objects c
 
 -- an offset is inside of a live object
 abbrev pub IsInside : List Object → ℕ → ℕ → Type 0

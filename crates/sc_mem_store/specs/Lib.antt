@@ -1,4 +1,5 @@
 -- Inside: plumbing, a representation, an invariant or a promise beside the claim (docs/TRUST.md).
+pub mod Apart
 pub mod Cells
 pub mod Changes
 pub mod Holding

@@ -1,7 +1,7 @@
 // Bytes of objects as cells of memory.
 ghost use Rattle.std.specs.Prelude.{◌≡◌, Some, length, IfOk};
 ghost use Rattle.sc_meaning.specs.Values as spec;
-ghost use Rattle.sc_mem_store.specs.Holding.{byte_at, meant, Grows, HasBytes};
+ghost use Rattle.sc_mem_store.specs.Holding.{byte_at, meant, HasBytes, IsTagged};
 
 use crate::cell::{Cell, Content};
 use crate::pointers::{value_of, word_of};
@@ -12,7 +12,7 @@ use std::alloc::Global;
 
 // The byte that a cell of memory stands for.
 fn byte_of(functions: &[Shared<Key>], memory: &Memory, cell: Stored) -> Result<Cell, NoMemory>
-    ensures { IfOk result (λ c. meant functions.now memory.now.flat.objects cell ≡ Some c) }
+    ensures { IfOk result (λ c. c ≡ meant functions.now memory.now.flat.objects cell) }
 {
     match cell {
         Stored::Unwritten => Ok(Cell::unwritten()),
@@ -58,13 +58,13 @@ pub fn bytes_at(
 
 // Piece `k` of a word, which has four.
 fn piece_of(
-    functions: &mut Items<Shared<Key>>,
+    functions: &[Shared<Key>],
     memory: &Memory,
     v: &Value,
     k: u32,
 ) -> Result<Stored, NoMemory>
-    ensures grows { Grows functions.old functions.new }
-    ensures cell { IfOk result (λ s. meant functions.new memory.now.flat.objects s ≡ Some (spec.Piece v.now k)) }
+    ensures cell { IfOk result (λ s. meant functions.now memory.now.flat.objects s ≡ spec.Piece v.now k) }
+    ensures tag { IfOk result (λ s. IsTagged memory.now.flat.objects s) }
 {
     if k >= 4 {
         return Err(NoMemory);
@@ -78,13 +78,9 @@ fn piece_of(
 }
 
 /// The cell of memory that stands for a byte.
-pub fn cell_of(
-    functions: &mut Items<Shared<Key>>,
-    memory: &Memory,
-    cell: &Cell,
-) -> Result<Stored, NoMemory>
-    ensures grows { Grows functions.old functions.new }
-    ensures cell { IfOk result (λ s. meant functions.new memory.now.flat.objects s ≡ Some cell.now) }
+pub fn cell_of(functions: &[Shared<Key>], memory: &Memory, cell: &Cell) -> Result<Stored, NoMemory>
+    ensures cell { IfOk result (λ s. meant functions.now memory.now.flat.objects s ≡ cell.now) }
+    ensures tag { IfOk result (λ s. IsTagged memory.now.flat.objects s) }
 {
     match &cell.content {
         Content::Unwritten => Ok(Stored::Unwritten),

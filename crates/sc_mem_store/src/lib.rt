@@ -6,12 +6,13 @@ mod cell;
 mod few;
 mod history;
 mod laws;
-mod places;
 mod pointers;
 mod span;
 mod store;
+mod values;
 
 pub use cell::{Cell, Content};
 pub use few::Few;
-pub use laws::held_objects_agree;
+pub use laws::{held_objects_agree, words_have_values_of_their_own};
 pub use store::{Facts, Store};
+pub use values::value_byte;

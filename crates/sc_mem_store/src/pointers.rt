@@ -1,48 +1,57 @@
-// Pointers as the pieces of words, and the numbers of functions.
-ghost use Rattle.std.specs.Prelude.{◌≡◌, List, Some, slice_get, IfOk, IfSome, IsTrue};
-ghost use Rattle.sc_base.specs.declared.key.Key.{Key};
+// Words as values, and values as words.
+ghost use Rattle.std.specs.Prelude.{◌≡◌, ◌<◌, Some, None, slice_get, IfOk, IfSome, IsTrue, MatchOption};
 ghost use Rattle.sc_meaning.specs.Values as spec;
-ghost use Rattle.sc_mem_store.specs.Holding.{function_at, value_at, Grows};
+ghost use Rattle.sc_mem_store.specs.Holding.{function_of, function_or, value_at, IsTag};
 
-use sc_base::{Items, Key, NoMemory, Shared, Word};
+use sc_base::{Key, NoMemory, Shared, Word};
 use sc_meaning_values::{Shape, Value};
 use sc_mem::Memory;
 
 /// Where the stubs of functions begin, each of eight bytes.
 const STUBS: u32 = 0x0001_0000;
 
-// The function whose stub stands at an address.
-fn function_of(functions: &[Shared<Key>], address: u32) -> Result<Value, NoMemory>
-    ensures { IfOk result (λ v. function_at functions.now address ≡ Some v) }
+/// The stubs that there may be.
+const MOST: u32 = 65536;
+
+// The function whose stub begins at an address.
+fn function_at(functions: &[Shared<Key>], address: u32) -> Option<&Shared<Key>>
+    ensures { MatchOption result (function_of functions.now address ≡ None) (λ key. function_of functions.now address ≡ Some key.now) }
 {
-    let Some(offset) = address.checked_sub(STUBS) else {
-        return Err(NoMemory);
-    };
-    match functions.get(offset as usize / 8) {
-        None => Err(NoMemory),
+    if address < STUBS || address % 8 != 0 {
+        return None;
+    }
+    functions.get((address - STUBS) as usize / 8)
+}
+
+// The value of a word with the functions' tag.
+fn function_value(functions: &[Shared<Key>], address: u32) -> Result<Value, NoMemory>
+    ensures { IfOk result (λ v. v ≡ function_or (function_of functions.now address) address) }
+{
+    match function_at(functions, address) {
+        None => Ok(Value::pointer(0, address)),
         Some(key) => Ok(Value::function(key.share()?)),
     }
 }
 
-/// The value of a pointer by its tag and address.
+/// The value of a word by its tag and address.
 pub fn value_of(
     functions: &[Shared<Key>],
     memory: &Memory,
     tag: u32,
     address: u32,
 ) -> Result<Value, NoMemory>
-    ensures { IfOk result (λ v. value_at functions.now memory.now.flat.objects tag address ≡ Some v) }
+    ensures { IfOk result (λ v. v ≡ value_at functions.now memory.now.flat.objects tag address) }
 {
-    if tag == Word::FUNCTION {
-        return function_of(functions, address);
+    if tag == 0 {
+        return Ok(Value::number(address));
     }
-    let Some(object) = memory.find(tag) else {
-        return Err(NoMemory);
-    };
-    let Some(offset) = address.checked_sub(object.base) else {
-        return Err(NoMemory);
-    };
-    Ok(Value::pointer(tag, offset))
+    if tag == Word::FUNCTION {
+        return function_value(functions, address);
+    }
+    match memory.find(tag) {
+        None => Ok(Value::pointer(0, address)),
+        Some(object) => Ok(Value::pointer(tag, address.wrapping_sub(object.base))),
+    }
 }
 
 // Whether two keys are one.
@@ -53,12 +62,13 @@ fn is_same(a: &Key, b: &Key) -> bool
     *a == *b
 }
 
-// The number of a function, where it has one.
-fn found(functions: &[Shared<Key>], key: &Key) -> Option<u32>
-    ensures { IfSome result (λ n. slice_get functions.now n ≡ Some key.now) }
+// The number of a function.
+fn number_of(functions: &[Shared<Key>], key: &Key) -> Option<u32>
+    ensures number { IfSome result (λ n. slice_get functions.now n ≡ Some key.now) }
+    ensures few { IfSome result (λ n. n < 65536) }
 {
     let mut n = 0;
-    while n < functions.len() && n < 0x0100_0000 {
+    while n < functions.len() && n < MOST as usize {
         if is_same(functions[n].get(), key) {
             return Some(n as u32);
         }
@@ -67,64 +77,73 @@ fn found(functions: &[Shared<Key>], key: &Key) -> Option<u32>
     None
 }
 
-// The number of a function, which gets the next one where it has none.
-fn number_of(functions: &mut Items<Shared<Key>>, key: &Shared<Key>) -> Result<u32, NoMemory>
-    ensures grows { Grows functions.old functions.new }
-    ensures number { IfOk result (λ n. slice_get functions.new n ≡ Some key.now) }
-{
-    if let Some(n) = found(functions.as_slice(), key.get()) {
-        return Ok(n);
-    }
-    let Ok(n) = u32::try_from(functions.len()) else {
-        return Err(NoMemory);
-    };
-    functions.push(key.share()?)?;
-    Ok(n)
-}
-
 // The word of a function.
-fn function_word(functions: &mut Items<Shared<Key>>, key: &Shared<Key>) -> Result<Word, NoMemory>
-    ensures grows { Grows functions.old functions.new }
-    ensures word { IfOk result (λ w. (w.tag ≡ Word.FUNCTION) × (function_at functions.new w.bits ≡ Some (spec.FunctionAt key.now))) }
+#[tactic(auto, using(crate::proofs::Words::stub_word))]
+fn function_word(functions: &[Shared<Key>], key: &Shared<Key>) -> Result<Word, NoMemory>
+    ensures { IfOk result (λ w. (w.tag ≡ Word.FUNCTION) × (function_of functions.now w.bits ≡ Some key.now)) }
 {
-    let number = number_of(functions, key)?;
-    if number >= 0x0100_0000 {
-        return Err(NoMemory);
+    match number_of(functions, key.get()) {
+        None => Err(NoMemory),
+        Some(number) => Ok(Word {
+            bits: STUBS + 8 * number,
+            tag: Word::FUNCTION,
+        }),
     }
-    Ok(Word {
-        bits: STUBS + 8 * number,
-        tag: Word::FUNCTION,
-    })
 }
 
-/// The word of a pointer.
-pub fn word_of(
-    functions: &mut Items<Shared<Key>>,
-    memory: &Memory,
-    v: &Value,
-) -> Result<Word, NoMemory>
-    ensures grows { Grows functions.old functions.new }
-    ensures word { IfOk result (λ w. value_at functions.new memory.now.flat.objects w.tag w.bits ≡ Some v.now) }
+// The word of an address with the functions' tag, which is no stub of a function.
+fn stray_word(functions: &[Shared<Key>], address: u32) -> Result<Word, NoMemory>
+    ensures { IfOk result (λ w. (w.tag ≡ Word.FUNCTION) × (w.bits ≡ address) × (function_of functions.now w.bits ≡ None)) }
+{
+    match function_at(functions, address) {
+        Some(_) => Err(NoMemory),
+        None => Ok(Word {
+            bits: address,
+            tag: Word::FUNCTION,
+        }),
+    }
+}
+
+/// The word of a value.
+///
+/// # Errors
+///
+/// `NoMemory` also for a function without a number and for a place in an object that was not born, which no run has.
+#[tactic(auto, using(crate::proofs::Words::number_stands, crate::proofs::Words::function_stands, crate::proofs::Words::stray_stands))]
+pub fn word_of(functions: &[Shared<Key>], memory: &Memory, v: &Value) -> Result<Word, NoMemory>
+    ensures value { IfOk result (λ w. value_at functions.now memory.now.flat.objects w.tag w.bits ≡ v.now) }
+    ensures tag { IfOk result (λ w. IsTag memory.now.flat.objects w.tag) }
 {
     match &v.shape {
-        Shape::Number(_) => Err(NoMemory),
+        Shape::Number(bits) => Ok(Word {
+            bits: *bits,
+            tag: 0,
+        }),
         Shape::FunctionAt(key) => function_word(functions, key),
-        Shape::Pointer(o, i) => place_word(memory, *o, *i),
+        Shape::Pointer(0, address) => stray_word(functions, *address),
+        Shape::Pointer(o, i) => place_word(functions, memory, *o, *i),
     }
 }
 
 // The word of a place in an object.
-fn place_word(memory: &Memory, id: u32, offset: u32) -> Result<Word, NoMemory>
-    ensures { IfOk result (λ w. (functions : List Key) → value_at functions memory.now.flat.objects w.tag w.bits ≡ Some (spec.Pointer id offset)) }
+#[tactic(auto, using(crate::proofs::Words::place_stands))]
+fn place_word(
+    functions: &[Shared<Key>],
+    memory: &Memory,
+    id: u32,
+    offset: u32,
+) -> Result<Word, NoMemory>
+    ensures value { IfOk result (λ w. value_at functions.now memory.now.flat.objects w.tag w.bits ≡ spec.Pointer id offset) }
+    ensures tag { IfOk result (λ w. IsTag memory.now.flat.objects w.tag) }
 {
-    if id == Word::FUNCTION {
+    if id == 0 || id == Word::FUNCTION {
         return Err(NoMemory);
     }
     let Some(object) = memory.find(id) else {
         return Err(NoMemory);
     };
-    let Some(bits) = object.base.checked_add(offset) else {
-        return Err(NoMemory);
-    };
-    Ok(Word { bits, tag: id })
+    Ok(Word {
+        bits: object.base.wrapping_add(offset),
+        tag: id,
+    })
 }

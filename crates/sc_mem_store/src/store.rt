@@ -5,15 +5,17 @@ ghost use Rattle.sc_objects.specs.Numbered.{IsLive};
 ghost use Rattle.sc_mem.specs.Flat.{place, with_death, written_at};
 ghost use Rattle.sc_mem.specs.Safe.{IsSafe};
 ghost use Rattle.sc_mem_store.specs.Changes.{changed, item_of};
+ghost use Rattle.sc_meaning.specs.Values.{cells_of};
 ghost use Rattle.sc_meaning.specs.World.{Object, cells_at, ended, fresh, object_at, written};
 
 use crate::bytes::{bytes_at, cell_of};
 use crate::cell::Cell;
 use crate::few::{Few, few_at};
 use crate::history::{Change, History, Item};
-use crate::places::{Places, place_object};
 use crate::span::span_of;
+use crate::values::value_byte;
 use sc_base::{Cell as Stored, Items, Key, Kind, NoMemory, Shared};
+use sc_meaning_values::Value;
 use sc_mem::Memory;
 use sc_objects::Obj;
 use std::alloc::Global;
@@ -35,7 +37,6 @@ pub struct Store {
     alloc: Global,
     memory: Memory,
     functions: Items<Shared<Key>>,
-    places: Places,
     history: History,
 }
 
@@ -55,9 +56,14 @@ impl Model for Store {
 impl Store {
     ghost use Rattle.sc_mem_store.specs.Holding.{IsInside};
 
-    /// No object is born. The stack and the heap have these bytes.
+    /// No object is born. The stack and the heap have these bytes, and the functions the numbers of their places in the list.
     #[tactic(auto, using(crate::proofs::Holding::holds_none))]
-    pub fn new(alloc: Global, stack: u64, heap: u64) -> Result<Store, NoMemory>
+    pub fn new(
+        alloc: Global,
+        stack: u64,
+        heap: u64,
+        functions: Items<Shared<Key>>,
+    ) -> Result<Store, NoMemory>
         ensures { IfOk result (λ s. s ≡ []) }
     {
         if stack > 16777216 || heap > 67108864 {
@@ -67,8 +73,7 @@ impl Store {
         Ok(Store {
             alloc,
             memory,
-            functions: Items::new(alloc),
-            places: Places::new(),
+            functions,
             history: History::new(),
         })
     }
@@ -124,13 +129,23 @@ impl Store {
         )
     }
 
-    /// An object is born, its bytes unwritten.
+    /// An object outside the heap is born at an address, its bytes unwritten.
     #[tactic(auto, using(crate::proofs::Holding::holds_born))]
-    pub fn birth(&mut self, size: u32, kind: Kind) -> Result<(), NoMemory>
+    pub fn birth(&mut self, size: u32, kind: Kind, base: u32) -> Result<(), NoMemory>
         ensures { IfOk result (λ _. self.new ≡ self.old ++ fresh size kind ∷ []) }
     {
-        place_object(&mut self.memory, &mut self.places, size, kind)?;
+        self.memory.settle(size, kind, base)?;
         self.history = after(&self.history, Change::Birth(size, kind));
+        Ok(())
+    }
+
+    /// An object of the heap is born in a block of its own, its bytes unwritten.
+    #[tactic(auto, using(crate::proofs::Holding::holds_born))]
+    pub fn allocate(&mut self, size: u32) -> Result<(), NoMemory>
+        ensures { IfOk result (λ _. self.new ≡ self.old ++ fresh size Kind.Heap ∷ []) }
+    {
+        self.memory.allocate(size)?;
+        self.history = after(&self.history, Change::Birth(size, Kind::Heap));
         Ok(())
     }
 
@@ -146,13 +161,12 @@ impl Store {
             return Err(NoMemory);
         }
         end_object(&mut self.memory, id, object);
-        self.places.leave(object);
         self.history = after(&self.history, Change::Death(id));
         Ok(())
     }
 
     // A byte is written into a live object.
-    #[tactic(auto, using(crate::proofs::Holding::holds_put, crate::proofs::Holding::holds_grown))]
+    #[tactic(auto, using(crate::proofs::Holding::holds_put))]
     fn put_byte(&mut self, id: u32, at: u32, cell: &Cell) -> Result<(), NoMemory>
         ensures put { IfOk result (λ _. self.new ≡ written self.old id at (cell.now ∷ []) (object_at self.old id)) }
         ensures inside { IfOk result (λ _. IsInside self.old id at) }
@@ -166,7 +180,7 @@ impl Store {
         let Some(address) = object.base.checked_add(at) else {
             return Err(NoMemory);
         };
-        let stored = cell_of(&mut self.functions, &self.memory, cell)?;
+        let stored = cell_of(self.functions.as_slice(), &self.memory, cell)?;
         put_cell(&mut self.memory, address, stored)?;
         self.history = after(&self.history, Change::Put(id, at, Snapshot::of(cell)));
         Ok(())
@@ -180,6 +194,26 @@ impl Store {
         let mut next = at;
         for cell in cells {
             self.put_byte(id, next, cell)?;
+            let Some(further) = next.checked_add(1) else {
+                return Err(NoMemory);
+            };
+            next = further;
+        }
+        Ok(())
+    }
+
+    /// A value is stored as `n` bytes of a live object from an offset on, at most four.
+    #[tactic(auto, using(crate::proofs::Writing::store_nothing))]
+    pub fn store(&mut self, id: u32, at: u32, n: u32, v: &Value) -> Result<(), NoMemory>
+        ensures { IfOk result (λ _. self.new ≡ written self.old id at (cells_of n v.now) (object_at self.old id)) }
+    {
+        if n > 4 {
+            return Err(NoMemory);
+        }
+        let mut next = at;
+        for k in 0..n {
+            let cell = value_byte(self.alloc, v, k)?;
+            self.put_byte(id, next, &cell)?;
             let Some(further) = next.checked_add(1) else {
                 return Err(NoMemory);
             };

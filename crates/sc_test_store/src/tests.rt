@@ -46,9 +46,20 @@ fn two_pieces(alloc: Global, o: u32, i: u32) -> Result<Items<Cell>, NoMemory> {
     Ok(cells)
 }
 
-fn function_piece(alloc: Global) -> Result<Items<Cell>, NoMemory> {
+fn main_key(alloc: Global) -> Result<Shared<Key>, NoMemory> {
     let name = Name::new(alloc, b"main").map_err(|_| NoMemory)?;
-    let key = Shared::new(alloc, Key { module: None, name })?;
+    Shared::new(alloc, Key { module: None, name })
+}
+
+// The functions by their numbers: `main` alone.
+fn functions(alloc: Global) -> Result<Items<Shared<Key>>, NoMemory> {
+    let mut functions = Items::new(alloc);
+    functions.push(main_key(alloc)?)?;
+    Ok(functions)
+}
+
+fn function_piece(alloc: Global) -> Result<Items<Cell>, NoMemory> {
+    let key = main_key(alloc)?;
     let mut cells = Items::new(alloc);
     cells.push(Cell::piece(Value::function(key), 3))?;
     Ok(cells)
@@ -56,12 +67,12 @@ fn function_piece(alloc: Global) -> Result<Items<Cell>, NoMemory> {
 
 // An object of each kind, of four bytes.
 fn five(alloc: Global) -> Result<Store, NoMemory> {
-    let mut store = Store::new(alloc, 4096, 4096)?;
-    store.birth(4, Kind::Static)?;
-    store.birth(4, Kind::Const)?;
-    store.birth(4, Kind::Literal)?;
-    store.birth(4, Kind::Auto)?;
-    store.birth(4, Kind::Heap)?;
+    let mut store = Store::new(alloc, 4096, 4096, functions(alloc)?)?;
+    store.birth(4, Kind::Static, 0x0800_0000)?;
+    store.birth(4, Kind::Const, 0x0800_0008)?;
+    store.birth(4, Kind::Literal, 0x0800_0010)?;
+    store.birth(4, Kind::Auto, 0x1fff_ffe0)?;
+    store.allocate(4)?;
     Ok(store)
 }
 
@@ -86,7 +97,7 @@ fn pointers_are_read_as_they_were_put(rt: HostRuntime) -> Result<(), Fail> {
     store.put(1, 0, two_pieces(alloc, 5, 4)?.as_slice())?;
     store.put(1, 2, function_piece(alloc)?.as_slice())?;
     store.death(5)?;
-    store.birth(4, Kind::Heap)?;
+    store.allocate(4)?;
     assert!(rt; shown(alloc, &store, 1)?.as_slice() == b"j0j1f3.".as_slice());
     assert!(rt; shown(alloc, &store, 6)?.as_slice() == b"....".as_slice());
     assert!(rt; shown(alloc, &store, 5).is_err());
@@ -108,18 +119,20 @@ fn copies_go_by_way_of_another_place(rt: HostRuntime) -> Result<(), Fail> {
 #[test]
 fn room_is_given_back(rt: HostRuntime) -> Result<(), Fail> {
     let alloc = rt.alloc();
-    let mut store = Store::new(alloc, 64, 64)?;
+    let mut store = Store::new(alloc, 64, 64, functions(alloc)?)?;
     for turn in 0..20 {
-        store.birth(20, Kind::Auto)?;
-        store.birth(30, Kind::Auto)?;
-        store.birth(40, Kind::Heap)?;
-        store.birth(600000, Kind::Const)?;
+        store.birth(20, Kind::Auto, 0x1fff_ffc0)?;
+        store.birth(30, Kind::Auto, 0x1fff_ffd8)?;
+        store.allocate(40)?;
+        store.birth(600000, Kind::Const, 0x0800_0000)?;
         store.death(4 * turn + 4)?;
         store.death(4 * turn + 3)?;
         store.death(4 * turn + 2)?;
         store.death(4 * turn + 1)?;
     }
     assert_eq!(rt; store.len(), 80);
-    assert!(rt; store.birth(65, Kind::Auto).is_err());
+    store.birth(20, Kind::Auto, 0x1fff_ffc0)?;
+    assert!(rt; store.birth(4, Kind::Auto, 0x1fff_ffd4).is_err());
+    assert!(rt; store.birth(65, Kind::Auto, 0x1fff_ffc0).is_err());
     Ok(())
 }

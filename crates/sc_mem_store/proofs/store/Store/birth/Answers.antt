@@ -5,4 +5,4 @@ pub invariant_of-self-2 : goal.invariant_of-self-2
 invariant_of-self-2 c =
     let s = c.self.inside in
     rw c.after-self-inside.ensures
-    (holds_born s.history.objects s.memory c.place_object.new.memory.flat s.functions c.args.size c.args.kind c.place_object.ensures.safe c.self.invariant c.in_ok-place_object.ensures.birth)
+    (holds_born s.history.objects s.memory c.settle.new.self.flat s.functions c.args.size c.args.kind c.settle.ensures.safe c.self.invariant c.in_ok-settle.ensures.birth)

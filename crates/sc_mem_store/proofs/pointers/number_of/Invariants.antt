@@ -1,5 +1,5 @@
 use Rattle.std.proofs.Common.{◌≤◌, ◌-◌, length}
-use Rattle.sc_mem_store.proofs.pointers.found.Given as goal
+use Rattle.sc_mem_store.proofs.pointers.number_of.Given as goal
 
 abbrev pub invariant-loop-n : goal.invariant-loop-n
 invariant-loop-n l = l.n ≤ length l.functions
