@@ -55,7 +55,7 @@ key-same j k h = by (option_eq bytes_eq j.«module» k.«module») refl h
     by false e g = absurd (true≢false (sym g))
 
 -- a function that is appended
-get-push : {A : Type 0} (xs : List A) (y : A) (i : ℕ) → slice_get (xs ++ y ∷ []) i ≡ cond (i == length xs) (Some y) (slice_get xs i)
+pub get-push : {A : Type 0} (xs : List A) (y : A) (i : ℕ) → slice_get (xs ++ y ∷ []) i ≡ cond (i == length xs) (Some y) (slice_get xs i)
 get-push [] y zero = refl
 get-push [] y (suc i) = sym (ap (λ b. cond b (Some y) None) (false-eq (suc i) 0 (λ e. absurd (omega arith))))
 get-push (x ∷ xs) y zero = sym (ap (λ b. cond b (Some y) (Some x)) (false-eq 0 (suc (length xs)) (λ e. absurd (omega arith))))

@@ -4,5 +4,6 @@ pub mod Indexed
 pub mod Leads
 pub mod Listed
 pub mod Order
+pub mod Renewed
 pub mod Targets
 pub mod Values

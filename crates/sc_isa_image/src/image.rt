@@ -1,21 +1,25 @@
 // The image of a program.
-ghost use Rattle.std.specs.Prelude.{◌≡◌, ◌≢◌, ◌↔◌, ℕ, ◌+◌, ◌*◌, ◌/◌, ◌<◌, ◌≤◌, ◌==◌, [], ◌∷◌, ◌++◌, true, false, length, map, slice_get, if◌then◌else◌, nat_eq, IsSome, IsTrue, MatchBool, None, Some, OnOk};
-ghost use Rattle.std.specs.Option.{option_copied};
+ghost use Rattle.std.specs.Prelude.{◌≡◌, ◌≢◌, ◌↔◌, ℕ, ◌+◌, ◌*◌, ◌/◌, ◌<◌, ◌≤◌, ◌==◌, [], ◌∷◌, ◌++◌, true, false, length, map, slice_get, if◌then◌else◌, nat_eq, IfSome, IsSome, IsTrue, MatchBool, None, Some, OnOk};
+ghost use Rattle.std.specs.Option.{option_copied, option_map};
+ghost use Rattle.sc_isa.specs.Reading.{instr_of};
+ghost use Rattle.sc_isa.specs.Table.{IsSound};
 ghost use Rattle.sc_base.specs.declared.key.Key.{Key as Named};
 ghost use Rattle.sc_isa_image.specs.declared.stub.Stub.{Stub as Words};
 ghost use Rattle.sc_isa_image.specs.Literals.{literal_of};
-ghost use Rattle.sc_isa_image.specs.Stubs.{face, led_by, new_stub, set_at, stub_address, stub_word, with_half};
+ghost use Rattle.sc_isa_image.specs.Stubs.{face, half, led_by, new_stub, set_at, stub_address, stub_word, with_half};
 ghost use Rattle.std.specs.Map.{lookup};
 ghost use Rattle.indexmap.specs.IndexMap.{spare};
 ghost use Rattle.sc_isa_image.specs.Texts.{holds, starts_at, text_with, word_in};
 ghost use Rattle.sc_isa_image.specs.Lookups.{SameKeys, SameLiterals, SameTargets, SameTexts, SameValues, SameWords, Spends, and_more, function_room, functions_of, is_stub_of, key_eq, key_of, literal_in, literal_room, stub_value, target_of, text_at, text_room, value_of, value_room, word_at, written_of};
 
+use crate::area::Area;
+use crate::decoded::Decoded;
 use crate::literals::{Literal, Literals};
 use crate::stub::{STUBS, Stub, TEXTS, call_stub, led, stub_at};
 use crate::text::{Text, TextAt};
-use crate::texts::Texts;
 use indexmap::IndexMap;
 use sc_base::{Bytes, Items, Key, Name, NoMemory};
+use sc_isa::Instr;
 use std::alloc::Global;
 use std::collections::HashMap;
 
@@ -23,7 +27,7 @@ use std::collections::HashMap;
 /// stubs; the values of keys; and the places of literals. It counts the words that were written, as far as 2^64 - 1.
 #[derive(Drop)]
 pub struct Image {
-    texts: Texts,
+    texts: Area,
     functions: IndexMap<Key, Stub>,
     values: HashMap<Key, u32>,
     literals: Literals,
@@ -39,6 +43,20 @@ impl Image {
             stub_word_of(&self.functions, pc)
         } else {
             self.texts.word(pc)
+        }
+    }
+
+    /// The word at an address as an instruction, decoded when it was written: `None` exactly where the image has no
+    /// word, and `Some(None)` for a word that is no instruction.
+    #[inline(always)]
+    pub fn instruction(&self, pc: u32) -> Option<Option<Instr>>
+        ensures value { result ≡ option_map instr_of (word_at self.now pc) }
+        ensures sound { IfSome result (λ r. IfSome r (λ i. IsSound i)) }
+    {
+        if pc < TEXTS {
+            stub_instruction_of(&self.functions, pc)
+        } else {
+            self.texts.instruction(pc)
         }
     }
 
@@ -60,7 +78,7 @@ impl Image {
         ensures { result ≡ target_of self.now k.now }
     {
         match self.functions.get(k) {
-            Some(stub) => led(stub.first, stub.second),
+            Some(stub) => led(stub.first.word(), stub.second.word()),
             None => None,
         }
     }
@@ -127,7 +145,7 @@ impl Image {
         ensures { IsBlank result }
     {
         Image {
-            texts: Texts::new(alloc),
+            texts: Area::new(alloc),
             functions: IndexMap::new(alloc),
             values: HashMap::new(alloc),
             literals: Literals::new(alloc),
@@ -336,8 +354,8 @@ fn fresh_stub(n: u32) -> Stub
     let words = call_stub();
     Stub {
         value: Some(STUBS + 8 * n),
-        first: words[0],
-        second: words[1],
+        first: Decoded::new(words[0]),
+        second: Decoded::new(words[1]),
     }
 }
 
@@ -362,9 +380,9 @@ fn set_half(functions: &mut IndexMap<Key, Stub>, n: usize, first: bool, word: u3
 {
     if let Some(stub) = functions.get_index_mut(n) {
         if first {
-            stub.first = word;
+            stub.first = Decoded::new(word);
         } else {
-            stub.second = word;
+            stub.second = Decoded::new(word);
         }
     }
 }
@@ -375,5 +393,26 @@ fn stub_word_of(functions: &IndexMap<Key, Stub>, pc: u32) -> Option<u32>
 {
     let n = stub_at(pc)?;
     let (_, stub) = functions.get_index(n as usize)?;
-    Some(if pc % 8 == 0 { stub.first } else { stub.second })
+    Some(half_of(stub, pc).word())
+}
+
+// The instruction at an address in a stub.
+fn stub_instruction_of(functions: &IndexMap<Key, Stub>, pc: u32) -> Option<Option<Instr>>
+    ensures value { result ≡ option_map instr_of (stub_word functions.now.entries pc) }
+    ensures sound { IfSome result (λ r. IfSome r (λ i. IsSound i)) }
+{
+    let n = stub_at(pc)?;
+    let (_, stub) = functions.get_index(n as usize)?;
+    Some(half_of(stub, pc).instruction())
+}
+
+// The word of a stub that an address is of.
+fn half_of(stub: &Stub, pc: u32) -> &Decoded
+    ensures { result.now ≡ half pc stub.now }
+{
+    if pc % 8 == 0 {
+        &stub.first
+    } else {
+        &stub.second
+    }
 }

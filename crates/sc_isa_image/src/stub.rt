@@ -4,6 +4,7 @@ ghost use Rattle.std.specs.Int.{w32, cast_unsigned};
 ghost use Rattle.sc_isa.specs.Reading.{instr_of};
 ghost use Rattle.sc_isa_image.specs.Stubs.{call_words, jump_words, joined, led as leads_to, led_by, lower_of, lower_part as lower_read, stub_of_word, upper_of, upper_part as upper_read};
 
+use crate::decoded::Decoded;
 use sc_isa::{ImmOp, Instr, decode, encode};
 
 /// Where the stubs begin.
@@ -13,11 +14,11 @@ pub const STUBS: u32 = 0x0001_0000;
 pub const TEXTS: u32 = 0x0010_0000;
 
 /// The two words of a function's stub, and the function's value where that is the stub.
-#[derive(Clone, Copy, Debug, PartialEq, Eq)]
+#[derive(Drop)]
 pub struct Stub {
     pub value: Option<u32>,
-    pub first: u32,
-    pub second: u32,
+    pub first: Decoded,
+    pub second: Decoded,
 }
 
 /// The stub of a function that is not in object form: `addi t0, x0, 1` and `ecall`.
