@@ -18,16 +18,16 @@ eq-true m n h = grind (arith, nat_tests)
 eq-false : (m n : ℕ) → (m == n) ≡ false → m ≢ n
 eq-false m n h = grind (arith, nat_tests)
 
-true-eq : (m n : ℕ) → m ≡ n → (m == n) ≡ true
+pub true-eq : (m n : ℕ) → m ≡ n → (m == n) ≡ true
 true-eq m n h = grind (arith, nat_tests)
 
-false-eq : (m n : ℕ) → m ≢ n → (m == n) ≡ false
+pub false-eq : (m n : ℕ) → m ≢ n → (m == n) ≡ false
 false-eq m n h = grind (arith, nat_tests)
 
-true-lt : (m n : ℕ) → m < n → nat_lt m n ≡ true
+pub true-lt : (m n : ℕ) → m < n → nat_lt m n ≡ true
 true-lt m n h = grind (arith, nat_tests)
 
-lt-false : (m n : ℕ) → nat_lt m n ≡ false → n ≤ m
+pub lt-false : (m n : ℕ) → nat_lt m n ≡ false → n ≤ m
 lt-false m n h = grind (arith, nat_tests)
 
 -- equal keys are one key
@@ -55,7 +55,7 @@ key-same j k h = by (option_eq bytes_eq j.«module» k.«module») refl h
     by false e g = absurd (true≢false (sym g))
 
 -- a function that is appended
-get-push : {A : Type 0} (xs : List A) (y : A) (i : ℕ) → slice_get (xs ++ y ∷ []) i ≡ cond (i == length xs) (Some y) (slice_get xs i)
+pub get-push : {A : Type 0} (xs : List A) (y : A) (i : ℕ) → slice_get (xs ++ y ∷ []) i ≡ cond (i == length xs) (Some y) (slice_get xs i)
 get-push [] y zero = refl
 get-push [] y (suc i) = sym (ap (λ b. cond b (Some y) None) (false-eq (suc i) 0 (λ e. absurd (omega arith))))
 get-push (x ∷ xs) y zero = sym (ap (λ b. cond b (Some y) (Some x)) (false-eq 0 (suc (length xs)) (λ e. absurd (omega arith))))
@@ -275,7 +275,7 @@ half-at [] n first w pc e h = absurd (cc (h))
 half-at (x ∷ fs) zero first w pc e h = let same : x ≡ e = cc in ap Some (half-with (pc % 8 == 0) first w x.1 ∙ ap (λ (y : Key × Stub). cond (same_half (pc % 8 == 0) first) w (half pc y.1)) same)
 half-at (x ∷ fs) (suc n) first w pc e h = half-at fs n first w pc e h
 
-some-of : {A B : Type 0} (f : A → B) (r : Option A) → IsSome (option_map f r) → (x : A) × (r ≡ Some x)
+pub some-of : {A B : Type 0} (f : A → B) (r : Option A) → IsSome (option_map f r) → (x : A) × (r ≡ Some x)
 some-of f None h = absurd (true≢false (sym h))
 some-of f (Some x) h = (x, refl)
 
@@ -392,7 +392,7 @@ on-ok (Ok x) P i h = h
 on-ok (Err e) P i h = absurd (true≢false (sym i))
 
 -- keys by the stubs of their functions
-stub-of-address : (n : ℕ) → stub_of_word (stub_address n) ≡ Some n
+pub stub-of-address : (n : ℕ) → stub_of_word (stub_address n) ≡ Some n
 stub-of-address n = by (find-where (stub_address n))
   where
     by : Where (stub_address n) → stub_of_word (stub_address n) ≡ Some n
@@ -401,7 +401,16 @@ stub-of-address n = by (find-where (stub_address n))
     by (in_first l a t e) = e ∙ ap Some (omega arith)
     by (in_second l a ne t e) = absurd (ne (omega arith))
 
-key-at-address : (fs : Functions) (n : ℕ) (e : Key × Stub) → slice_get fs n ≡ Some e → key_at fs (stub_address n) ≡ Some e.0
+pub stub-of-second : (n : ℕ) → stub_of_word (stub_address n + 4) ≡ Some n
+stub-of-second n = by (find-where (stub_address n + 4))
+  where
+    by : Where (stub_address n + 4) → stub_of_word (stub_address n + 4) ≡ Some n
+    by (is_below l e) = absurd (omega arith)
+    by (is_between l ne e) = absurd (ne (omega arith))
+    by (in_first l a t e) = absurd (omega arith)
+    by (in_second l a ne t e) = e ∙ ap Some (omega arith)
+
+pub key-at-address : (fs : Functions) (n : ℕ) (e : Key × Stub) → slice_get fs n ≡ Some e → key_at fs (stub_address n) ≡ Some e.0
 key-at-address fs n e h = (λ i. cond (true-eq (stub_address n % 8) 0 (omega arith) i) (option_map (λ (x : Key × Stub). x.0) (function_at fs (stub-of-address n i))) None) ∙ ap (option_map (λ (x : Key × Stub). x.0)) h
 
 bytes-refl : (xs : List ℕ) → bytes_eq xs xs ≡ true

@@ -54,7 +54,7 @@ get-set-same [] i x l = absurd (omega arith)
 get-set-same (y ∷ ys) zero x l = refl
 get-set-same (y ∷ ys) (suc i) x l = get-set-same ys i x (omega arith)
 
-get-set-other : {A : Type 0} (xs : List A) (i k : ℕ) (x : A) → k ≢ i → slice_get (set xs i x) k ≡ slice_get xs k
+pub get-set-other : {A : Type 0} (xs : List A) (i k : ℕ) (x : A) → k ≢ i → slice_get (set xs i x) k ≡ slice_get xs k
 get-set-other [] i k x ne = refl
 get-set-other (y ∷ ys) zero zero x ne = absurd (ne refl)
 get-set-other (y ∷ ys) zero (suc k) x ne = refl
@@ -362,3 +362,18 @@ holding-taken texts r start pc o s below above l =
     let last = last-low texts r s.0 s.1 o s.2 (rw (← s.3) at below) (rw (← s.3) at above) l in
     let i : r - 1 ≡ s.0 = omega arith in
     rw (i, ← s.3) (holding-remove texts s.0 s.1 pc o s.2)
+
+-- the text that begins where another one does is that one
+pub only-start : (texts : List Text) (t u : Text) (start q : ℕ) → IsOrdered texts → text_holding texts start ≡ Some t → (t.at.start == start) ≡ true → text_holding texts q ≡ Some u → (u.at.start == start) ≡ true → holds q t ≡ false → ⊥
+only-start texts t u start q o a b h c out =
+    let f = find-some (holds start) texts t a in
+    let g = find-some (holds q) texts u h in
+    let x = eq-true t.at.start start b in
+    let y = eq-true u.at.start start c in
+    elim (three f.0 g.0) [
+      | inl less ↦ let p = (o.pairs f.0 g.0 t u f.1 g.1 less).0 in absurd (omega arith)
+      | inr r ↦ elim r [
+        | inl same ↦ true≢false (sym g.2 ∙ (ap (holds q) (sym (some-same texts f.0 g.0 t u same f.1 g.1)) ∙ out))
+        | inr more ↦ let p = (o.pairs g.0 f.0 u t g.1 f.1 more).0 in absurd (omega arith)
+      ]
+    ]

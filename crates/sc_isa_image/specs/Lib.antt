@@ -3,3 +3,4 @@ pub mod Texts
 pub mod Literals
 pub mod Stubs
 pub mod Lookups
+pub mod Slots

@@ -1,6 +1,6 @@
 -- Yardstick: to be compared with what it restates (docs/TRUST.md).
 -- The look-ups of an image.
-use Rattle.std.specs.Prelude.{◌≡◌, ℕ, ◌+◌, ◌≤◌, ◌&&◌, Bool, nat_lt, if◌then◌else◌, List, [], Option, None, Some}
+use Rattle.std.specs.Prelude.{◌≡◌, ℕ, ◌+◌, ◌≤◌, ◌/◌, ◌*◌, ◌^◌, ◌-◌, ◌&&◌, Bool, false, min, nat_lt, if◌then◌else◌, List, [], Option, None, Some}
 use Rattle.std.specs.Option.{option_eq}
 use Rattle.std.specs.Str.{bytes_eq}
 use Rattle.std.specs.Map.{lookup}
@@ -12,7 +12,7 @@ use Rattle.sc_isa_image.specs.declared.stub.Stub.{Stub}
 use Rattle.sc_isa_image.specs.declared.text.Text.{Text}
 use Rattle.sc_isa_image.specs.declared.text.TextAt.{TextAt}
 use Rattle.sc_isa_image.specs.Literals.{literal_at}
-use Rattle.sc_isa_image.specs.Stubs.{Functions, key_at, stub_word}
+use Rattle.sc_isa_image.specs.Stubs.{Functions, key_at, led, stub_word}
 use Rattle.sc_isa_image.specs.Texts.{place_of, text_holding, text_word}
 
 -- two keys are equal
@@ -55,6 +55,29 @@ value_or (Some at) other = Some at
 abbrev pub value_of : Image → Key → Option ℕ
 value_of i k = value_or (lookup (key_eq k) i.values.entries) (stub_value (function_of i k))
 
+-- the text to which a function's stub leads
+abbrev pub stub_target : Option Stub → Option ℕ
+stub_target None = None
+stub_target (Some stub) = led stub.first stub.second
+
+abbrev pub target_of : Image → Key → Option ℕ
+target_of i k = stub_target (function_of i k)
+
+-- an address is in the stub of a function
+abbrev pub has_key : Option Key → Key → Bool
+has_key None k = false
+has_key (Some j) k = key_eq j k
+
+abbrev pub is_stub_of : Image → Key → ℕ → Bool
+is_stub_of i k pc = nat_lt pc 0x00100000 && has_key (key_of i (pc / 8 * 8)) k
+
+-- how many words were written since the image was made, and how many there are after some more, at most 2^64 - 1
+abbrev pub written_of : Image → ℕ
+written_of i = i.written
+
+abbrev pub and_more : ℕ → ℕ → ℕ
+and_more written more = min (written + more) (2 ^ 64 - 1)
+
 -- the literal at a place
 abbrev pub literal_in : Image → ℕ → Option Literal
 literal_in i at = literal_at i.literals.places at
@@ -91,6 +114,9 @@ SameKeys old new = (at : ℕ) → key_of new at ≡ key_of old at
 abbrev pub SameValues : Image → Image → Type 0
 SameValues old new = (k : Key) → value_of new k ≡ value_of old k
 
+abbrev pub SameTargets : Image → Image → Type 0
+SameTargets old new = (k : Key) → target_of new k ≡ target_of old k
+
 abbrev pub SameLiterals : Image → Image → Type 0
 SameLiterals old new = (at : ℕ) → literal_in new at ≡ literal_in old at
 
@@ -101,3 +127,5 @@ pub record IsBlank (i : Image) : Type 0 where
   pub functions : functions_of i ≡ []
   pub values : (k : Key) → value_of i k ≡ None
   pub literals : (at : ℕ) → literal_in i at ≡ None
+  pub targets : (k : Key) → target_of i k ≡ None
+  pub written : written_of i ≡ 0

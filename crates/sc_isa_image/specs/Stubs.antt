@@ -1,12 +1,14 @@
 -- Yardstick: to be compared with what it restates (docs/TRUST.md).
 -- Stubs of functions, and addresses in two parts.
-use Rattle.std.specs.Prelude.{ℕ, zero, suc, Bool, true, false, ◌+◌, ◌-◌, ◌*◌, ◌/◌, ◌%◌, ◌^◌, ◌==◌, nat_lt, if◌then◌else◌, List, [], ◌∷◌, slice_get, Option, Some, None, ℤ, pos}
+use Rattle.std.specs.Prelude.{ℕ, zero, suc, Bool, true, false, ◌+◌, ◌-◌, ◌*◌, ◌/◌, ◌%◌, ◌^◌, ◌==◌, ◌&&◌, nat_lt, if◌then◌else◌, List, [], ◌∷◌, slice_get, Option, Some, None, ℤ, pos}
 use Rattle.std.specs.Option.{option_map}
+use Rattle.std.specs.Int.{w32, cast_unsigned}
 use Rattle.sc_base.specs.declared.key.Key.{Key}
+use Rattle.sc_isa.specs.declared.instruction.Instr.{Instr}
 use Rattle.sc_isa.specs.declared.instruction.Instr.TheVariants.{Lui, Jalr, Imm, Ecall}
 use Rattle.sc_isa.specs.declared.instruction.ImmOp.TheVariants.{Addi}
 use Rattle.sc_isa.specs.Table.{word_of}
-use Rattle.sc_isa.specs.Reading.{extend}
+use Rattle.sc_isa.specs.Reading.{extend, instr_of}
 use Rattle.sc_isa_image.specs.declared.stub.Stub.{Stub}
 
 -- the upper 20 bits of an address, one more where its lower 12 bits are taken as negative
@@ -24,6 +26,27 @@ call_words = word_of (Imm Addi 5 0 (pos 1)) ∷ word_of Ecall ∷ []
 -- the stub of a function in object form jumps to its text
 abbrev pub jump_words : ℕ → List ℕ
 jump_words at = word_of (Lui 6 (upper_of at)) ∷ word_of (Jalr 0 6 (lower_of at)) ∷ []
+
+-- the upper part that a `lui t1` loads, and the lower part that a `jalr x0` by t1 adds
+abbrev pub upper_part : Option Instr → Option ℕ
+upper_part (Some (Lui rd upper)) = if rd == 6 then Some upper else None
+upper_part _ = None
+
+abbrev pub lower_part : Option Instr → Option ℤ
+lower_part (Some (Jalr rd base lower)) = if (rd == 0) && (base == 6) then Some lower else None
+lower_part _ = None
+
+abbrev pub joined : Option ℕ → Option ℤ → Option ℕ
+joined (Some upper) (Some lower) = Some ((upper * 2 ^ 12 + cast_unsigned w32 lower) % 2 ^ 32)
+joined _ _ = None
+
+-- the address to which two words lead that are a `lui t1` and a `jalr x0` by t1
+abbrev pub led : ℕ → ℕ → Option ℕ
+led first second = joined (upper_part (instr_of first)) (lower_part (instr_of second))
+
+abbrev pub led_by : Option ℕ → Option ℕ → Option ℕ
+led_by (Some first) (Some second) = led first second
+led_by _ _ = None
 
 -- the address of a function's stub, by the function's number
 abbrev pub stub_address : ℕ → ℕ

@@ -51,6 +51,11 @@ text_word texts pc = word_in_found pc (text_holding texts pc)
 abbrev pub place_of : Option Text → Option TextAt
 place_of found = option_map (λ t. t.at) found
 
+-- how many words has what was found
+abbrev pub count_of : Option Text → ℕ
+count_of None = 0
+count_of (Some t) = length t.words
+
 -- what was found, but for the text that begins there
 abbrev pub without : ℕ → Option Text → Option Text
 without start None = None

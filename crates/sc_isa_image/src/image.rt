@@ -1,31 +1,37 @@
 // The image of a program.
-ghost use Rattle.std.specs.Prelude.{◌≡◌, ◌≢◌, ◌↔◌, ℕ, ◌+◌, ◌*◌, ◌<◌, ◌≤◌, ◌==◌, [], ◌∷◌, ◌++◌, true, false, length, map, slice_get, if◌then◌else◌, nat_eq, IsSome, IsTrue, MatchBool, None, Some, OnOk};
-ghost use Rattle.std.specs.Option.{option_copied};
+ghost use Rattle.std.specs.Prelude.{◌≡◌, ◌≢◌, ◌↔◌, ℕ, ◌+◌, ◌*◌, ◌/◌, ◌<◌, ◌≤◌, ◌==◌, [], ◌∷◌, ◌++◌, true, false, length, map, slice_get, if◌then◌else◌, nat_eq, IfSome, IsSome, IsTrue, MatchBool, None, Some, OnOk};
+ghost use Rattle.std.specs.Option.{option_copied, option_map};
+ghost use Rattle.sc_isa.specs.Reading.{instr_of};
+ghost use Rattle.sc_isa.specs.Table.{IsSound};
 ghost use Rattle.sc_base.specs.declared.key.Key.{Key as Named};
+ghost use Rattle.sc_isa_image.specs.declared.stub.Stub.{Stub as Words};
 ghost use Rattle.sc_isa_image.specs.Literals.{literal_of};
-ghost use Rattle.sc_isa_image.specs.Stubs.{face, new_stub, set_at, stub_address, stub_word};
+ghost use Rattle.sc_isa_image.specs.Stubs.{face, half, led_by, new_stub, set_at, stub_address, stub_word, with_half};
 ghost use Rattle.std.specs.Map.{lookup};
 ghost use Rattle.indexmap.specs.IndexMap.{spare};
 ghost use Rattle.sc_isa_image.specs.Texts.{holds, starts_at, text_with, word_in};
-ghost use Rattle.sc_isa_image.specs.Lookups.{SameKeys, SameLiterals, SameTexts, SameValues, SameWords, Spends, function_room, functions_of, key_eq, key_of, literal_in, literal_room, stub_value, text_at, text_room, value_of, value_room, word_at};
+ghost use Rattle.sc_isa_image.specs.Lookups.{SameKeys, SameLiterals, SameTargets, SameTexts, SameValues, SameWords, Spends, and_more, function_room, functions_of, is_stub_of, key_eq, key_of, literal_in, literal_room, stub_value, target_of, text_at, text_room, value_of, value_room, word_at, written_of};
 
+use crate::area::Area;
+use crate::decoded::Decoded;
 use crate::literals::{Literal, Literals};
-use crate::stub::{STUBS, Stub, TEXTS, call_stub, stub_at};
+use crate::stub::{STUBS, Stub, TEXTS, call_stub, led, stub_at};
 use crate::text::{Text, TextAt};
-use crate::texts::Texts;
 use indexmap::IndexMap;
 use sc_base::{Bytes, Items, Key, Name, NoMemory};
+use sc_isa::Instr;
 use std::alloc::Global;
 use std::collections::HashMap;
 
 /// The image of a program: words by address, of placed texts and of the stubs of functions; keys by the addresses of
-/// stubs; the values of keys; and the places of literals.
+/// stubs; the values of keys; and the places of literals. It counts the words that were written, as far as 2^64 - 1.
 #[derive(Drop)]
 pub struct Image {
-    texts: Texts,
+    texts: Area,
     functions: IndexMap<Key, Stub>,
     values: HashMap<Key, u32>,
     literals: Literals,
+    written: u64,
 }
 
 impl Image {
@@ -40,6 +46,20 @@ impl Image {
         }
     }
 
+    /// The word at an address as an instruction, decoded when it was written: `None` exactly where the image has no
+    /// word, and `Some(None)` for a word that is no instruction.
+    #[inline(always)]
+    pub fn instruction(&self, pc: u32) -> Option<Option<Instr>>
+        ensures value { result ≡ option_map instr_of (word_at self.now pc) }
+        ensures sound { IfSome result (λ r. IfSome r (λ i. IsSound i)) }
+    {
+        if pc < TEXTS {
+            stub_instruction_of(&self.functions, pc)
+        } else {
+            self.texts.instruction(pc)
+        }
+    }
+
     /// The value of a key: a function's is its stub, an object's its place.
     pub fn value(&self, k: &Key) -> Option<u32>
         ensures { result ≡ value_of self.now k.now }
@@ -51,6 +71,23 @@ impl Image {
                 None => None,
             },
         }
+    }
+
+    /// The text to which a function's stub leads: `None` for a stub that asks for a service, and for a key without one.
+    pub fn target(&self, k: &Key) -> Option<u32>
+        ensures { result ≡ target_of self.now k.now }
+    {
+        match self.functions.get(k) {
+            Some(stub) => led(stub.first.word(), stub.second.word()),
+            None => None,
+        }
+    }
+
+    /// How many words were written since the image was made.
+    pub fn written(&self) -> u64
+        ensures { result ≡ written_of self.now }
+    {
+        self.written
     }
 
     /// The place of a literal, by its module and its bytes.
@@ -108,10 +145,11 @@ impl Image {
         ensures { IsBlank result }
     {
         Image {
-            texts: Texts::new(alloc),
+            texts: Area::new(alloc),
             functions: IndexMap::new(alloc),
             values: HashMap::new(alloc),
             literals: Literals::new(alloc),
+            written: 0,
         }
     }
 
@@ -132,6 +170,8 @@ impl Image {
         ensures keys { SameKeys self.old self.new }
         ensures values { SameValues self.old self.new }
         ensures literals { SameLiterals self.old self.new }
+        ensures targets { SameTargets self.old self.new }
+        ensures written { written_of self.new ≡ written_of self.old }
     {
         self.texts.reserve(texts)?;
         self.values.reserve(values)?;
@@ -153,8 +193,11 @@ impl Image {
         ensures keys { SameKeys self.old self.new }
         ensures values { SameValues self.old self.new }
         ensures literals { SameLiterals self.old self.new }
+        ensures targets { SameTargets self.old self.new }
+        ensures written { written_of self.new ≡ and_more (written_of self.old) (length words.items) }
         ensures room { Spends self.old self.new 1 0 0 0 }
     {
+        self.written = self.written.saturating_add(words.len() as u64);
         let words = Items::from_vec(words);
         self.texts.put(Text { at: t, words });
     }
@@ -168,6 +211,8 @@ impl Image {
         ensures keys { SameKeys self.old self.new }
         ensures values { SameValues self.old self.new }
         ensures literals { SameLiterals self.old self.new }
+        ensures targets { SameTargets self.old self.new }
+        ensures written { written_of self.new ≡ written_of self.old }
         ensures room { Spends self.old self.new 0 0 0 0 }
     {
         self.texts.take(start);
@@ -183,6 +228,8 @@ impl Image {
         ensures count { length (functions_of self.new) ≡ length (functions_of self.old) }
         ensures keys { SameKeys self.old self.new }
         ensures literals { SameLiterals self.old self.new }
+        ensures targets { SameTargets self.old self.new }
+        ensures written { written_of self.new ≡ written_of self.old }
         ensures room { Spends self.old self.new 0 1 0 0 }
     {
         let _ = self.values.insert(k, at);
@@ -194,6 +241,8 @@ impl Image {
         requires free { literal_in self.old at ≡ None }
         requires absent { (p : ℕ) → literal_in self.old p ≢ Some (literal_of «module» bytes) }
         ensures literals { (p : ℕ) → literal_in self.new p ≡ (if nat_eq at p then Some (literal_of «module» bytes) else literal_in self.old p) }
+        ensures targets { SameTargets self.old self.new }
+        ensures written { written_of self.new ≡ written_of self.old }
         ensures words { SameWords self.old self.new }
         ensures texts { SameTexts self.old self.new }
         ensures count { length (functions_of self.new) ≡ length (functions_of self.old) }
@@ -208,6 +257,8 @@ impl Image {
     pub fn take_literal(&mut self, at: u32)
         requires { IsSome (literal_in self.old at) }
         ensures literals { (p : ℕ) → literal_in self.new p ≡ (if nat_eq at p then None else literal_in self.old p) }
+        ensures targets { SameTargets self.old self.new }
+        ensures written { written_of self.new ≡ written_of self.old }
         ensures words { SameWords self.old self.new }
         ensures texts { SameTexts self.old self.new }
         ensures count { length (functions_of self.new) ≡ length (functions_of self.old) }
@@ -235,9 +286,12 @@ impl Image {
         ensures words { (pc : ℕ) → word_at self.new pc ≡ (if pc == stub_address (length (functions_of self.old)) then slice_get call_words 0 else if pc == stub_address (length (functions_of self.old)) + 4 then slice_get call_words 1 else word_at self.old pc) }
         ensures texts { SameTexts self.old self.new }
         ensures literals { SameLiterals self.old self.new }
+        ensures targets { (q : Named) → target_of self.new q ≡ (if key_eq k q then None else target_of self.old q) }
+        ensures written { written_of self.new ≡ and_more (written_of self.old) 2 }
         ensures room { Spends self.old self.new 0 0 0 1 }
     {
         add_function(&mut self.functions, k);
+        self.written = self.written.saturating_add(2);
     }
 
     /// Takes the value of a key away.
@@ -249,6 +303,8 @@ impl Image {
         ensures texts { SameTexts self.old self.new }
         ensures keys { SameKeys self.old self.new }
         ensures literals { SameLiterals self.old self.new }
+        ensures targets { SameTargets self.old self.new }
+        ensures written { written_of self.new ≡ written_of self.old }
         ensures room { Spends self.old self.new 0 0 0 0 }
     {
         let _ = self.values.remove(k);
@@ -264,8 +320,11 @@ impl Image {
         ensures keys { SameKeys self.old self.new }
         ensures values { SameValues self.old self.new }
         ensures literals { SameLiterals self.old self.new }
+        ensures targets { (q : Named) → target_of self.new q ≡ (if is_stub_of self.old q pc then led_by (word_at self.new (pc / 8 * 8)) (word_at self.new (pc / 8 * 8 + 4)) else target_of self.old q) }
+        ensures written { written_of self.new ≡ and_more (written_of self.old) 1 }
         ensures room { Spends self.old self.new 0 0 0 0 }
     {
+        self.written = self.written.saturating_add(1);
         if pc >= TEXTS {
             self.texts.set_word(pc, word);
         } else if let Some(n) = stub_at(pc) {
@@ -295,8 +354,8 @@ fn fresh_stub(n: u32) -> Stub
     let words = call_stub();
     Stub {
         value: Some(STUBS + 8 * n),
-        first: words[0],
-        second: words[1],
+        first: Decoded::new(words[0]),
+        second: Decoded::new(words[1]),
     }
 }
 
@@ -316,13 +375,14 @@ fn forget_value(functions: &mut IndexMap<Key, Stub>, k: &Key)
 // Puts a word into a stub, its first one or its second.
 fn set_half(functions: &mut IndexMap<Key, Stub>, n: usize, first: bool, word: u32)
     ensures entries { functions.new.entries ≡ set_at functions.old.entries n first word }
+    ensures found { (k : Named) (s : Words) → slice_get functions.old.entries n ≡ Some (k, s) → (q : Named) → lookup (key_eq q) functions.new.entries ≡ (if key_eq k q then Some (with_half first word s) else lookup (key_eq q) functions.old.entries) }
     ensures room { spare functions.old ≤ spare functions.new }
 {
     if let Some(stub) = functions.get_index_mut(n) {
         if first {
-            stub.first = word;
+            stub.first = Decoded::new(word);
         } else {
-            stub.second = word;
+            stub.second = Decoded::new(word);
         }
     }
 }
@@ -333,5 +393,26 @@ fn stub_word_of(functions: &IndexMap<Key, Stub>, pc: u32) -> Option<u32>
 {
     let n = stub_at(pc)?;
     let (_, stub) = functions.get_index(n as usize)?;
-    Some(if pc % 8 == 0 { stub.first } else { stub.second })
+    Some(half_of(stub, pc).word())
+}
+
+// The instruction at an address in a stub.
+fn stub_instruction_of(functions: &IndexMap<Key, Stub>, pc: u32) -> Option<Option<Instr>>
+    ensures value { result ≡ option_map instr_of (stub_word functions.now.entries pc) }
+    ensures sound { IfSome result (λ r. IfSome r (λ i. IsSound i)) }
+{
+    let n = stub_at(pc)?;
+    let (_, stub) = functions.get_index(n as usize)?;
+    Some(half_of(stub, pc).instruction())
+}
+
+// The word of a stub that an address is of.
+fn half_of(stub: &Stub, pc: u32) -> &Decoded
+    ensures { result.now ≡ half pc stub.now }
+{
+    if pc % 8 == 0 {
+        &stub.first
+    } else {
+        &stub.second
+    }
 }

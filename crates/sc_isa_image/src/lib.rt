@@ -1,6 +1,8 @@
 //! The image of a program: the placed texts, the stubs of functions, and the places of keys and literals.
 #![tactic(auto)]
 
+mod area;
+mod decoded;
 mod image;
 mod literals;
 mod stub;

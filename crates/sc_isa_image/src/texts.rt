@@ -85,6 +85,7 @@ impl Texts {
     pub fn find(&self, pc: u32) -> Option<&Text>
         ensures text { option_copied result ≡ text_holding self.now.texts pc }
         ensures held { IfSome result (λ t. t.now.at.start ≤ pc) }
+        ensures ordered { IsOrdered self.now.texts }
     {
         let i = rank(self.texts.as_slice(), pc);
         if i == 0 {

@@ -1,9 +1,11 @@
 use Rattle.std.proofs.Common.{◌∙◌, ap, cond, length, refl}
 use Rattle.std.specs.Prelude.{nat_lt}
-use Rattle.sc_isa_image.specs.Lookups.{texts_of}
+use Rattle.std.specs.Map.{lookup}
+use Rattle.sc_isa_image.specs.Lookups.{key_eq, texts_of}
 use Rattle.sc_isa_image.specs.Stubs.{key_at, new_stub, stub_address, stub_word}
 use Rattle.sc_isa_image.specs.Texts.{text_word}
 use Rattle.sc_isa_image.proofs.Functions.{absent-key, key_at-push, value-push, word-push}
+use Rattle.sc_isa_image.proofs.Targets.{target-push}
 use Rattle.sc_isa_image.proofs.image.Image.put_fun.Goals as goal
 
 pub returns-clause-keys : goal.returns-clause-keys
@@ -24,3 +26,8 @@ returns-clause-words c = λ pc.
 
 pub add_function-requires-clause-new : goal.add_function-requires-clause-new
 add_function-requires-clause-new c = absent-key c.args.k c.args.self.now.functions.entries c.requires.new
+
+pub returns-clause-targets : goal.returns-clause-targets
+returns-clause-targets c = λ q.
+    let fs = c.args.self.now.functions.entries in
+    target-push c.args.k q (length fs) (lookup (key_eq q) fs) (lookup (key_eq q) c.add_function.new.functions.entries) (c.add_function.ensures.found q)
