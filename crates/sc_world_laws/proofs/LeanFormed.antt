@@ -16,8 +16,12 @@ use Rattle.sc_core.specs.declared.module.Core.{Core}
 use Rattle.sc_core.specs.declared.module.Fun.{Fun}
 use Rattle.sc_core.specs.Modules.{function_of}
 use Rattle.sc_core_labels.specs.Targets.{Target, labels_of}
-use Rattle.sc_core_needs.specs.Values.{convert_layer}
-use Rattle.sc_core_formed.specs.declared.statements.Body.{Body}
+use Rattle.sc_types.specs.Tables.{is_object}
+use Rattle.sc_check_operand.specs.Types.{shape, is_scalar}
+use Rattle.sc_core_needs.specs.Operators.{is_structure}
+use Rattle.sc_core_needs.specs.Values.{convert_layer, is_value_for}
+use Rattle.sc_core_formed.specs.Known.{table_known}
+use Rattle.sc_core_formed.specs.Contents as contents
 use Rattle.sc_core_formed.specs.Names.{value_eq, are_new}
 use Rattle.sc_core_formed.specs.Expressions as expressions
 use Rattle.sc_core_formed.specs.Expressions.{node_level, deep, expression_level, expression, auto_at}
@@ -211,13 +215,13 @@ module _ (core : Core) (f : Fun) where
   piece_lean : (around : List ℕ) (whole : CType) (size end : ℕ) (i : AutoInit) (m : ℕ) → piece_end core f around whole size end i ≡ Some m → LeanPiece i
   piece_lean around whole size end (piece.Value at of e) m p =
       let q = when_so (is_scalar_piece core f around of e) (scalar_placed size end at (size_in core.structs of)) m p in
-      (refl, given_lean around e _ (three _ _ (expression core f.blocks around e && _) q.0).2)
+      (refl, given_lean around e (is_value_for core.structs of e) (three (is_object core.structs of) (is_scalar (shape core.structs of)) (statements.is_given core f around of e) q.0).2)
   piece_lean around whole size end (piece.Text at bytes) m p = (text_some at bytes (placed_some size end at (length bytes) m p), tt)
   piece_lean around whole size end (piece.Zero at n) m p = (placed_some size end at n m p, tt)
   piece_lean around whole size end (piece.Structure n e) m p =
       let q = when_so (is_structure_piece core f around whole e && (n == size)) (placed size end 0 n) m p in
       let r = both (is_structure_piece core f around whole e) (n == size) q.0 in
-      (refl, given_lean around e _ (both _ (expression core f.blocks around e && _) r.0).1)
+      (refl, given_lean around e (is_value_for core.structs whole e) (both (is_structure (shape core.structs whole)) (statements.is_given core f around whole e) r.0).1)
 
   pieces_lean : (around : List ℕ) (whole : CType) (size end : ℕ) (ps : List AutoInit) (m : ℕ) → pieces_end core f around whole size end ps ≡ Some m → AllOf LeanPiece ps
   pieces_lean around whole size end [] m p = tt
@@ -246,33 +250,29 @@ module _ (core : Core) (f : Fun) where
     tests = statements.test_of core f targets
 
     abbrev Below : ℕ → Type 0
-    Below n = (s : CoreStmt) (around : List ℕ) (body : Body) (next m : ℕ) → tests s s around body next ≡ Some m → LeanStmtTo n s
+    Below n = (s : CoreStmt) (around : List ℕ) (body : _) (next m : ℕ) → tests s s around body next ≡ Some m → LeanStmtTo n s
 
-    each_lean_stmt : (n : ℕ) → Below n → (ss : List CoreStmt) (around : List ℕ) (body : Body) (next m : ℕ) → statements.each (map tests ss) ss around body next ≡ Some m → AllOf (LeanStmtTo n) ss
+    each_lean_stmt : (n : ℕ) → Below n → (ss : List CoreStmt) (around : List ℕ) (body : _) (next m : ℕ) → statements.each (map tests ss) ss around body next ≡ Some m → AllOf (LeanStmtTo n) ss
     each_lean_stmt n ih [] around body next m p = tt
     each_lean_stmt n ih (s ∷ ss) around body next m p =
         let q = then_so (λ next. statements.each (map tests ss) ss around body next) (tests s s around body next) m p in
         (ih s around body next q.0 q.1, each_lean_stmt n ih ss around body q.0 m q.2)
 
-    abbrev option_tests : Option CoreStmt → Option (CoreStmt → Test)
-    option_tests None = None
-    option_tests (Some s) = Some (tests s)
-
-    optional_lean : (n : ℕ) → Below n → (s : Option CoreStmt) (around : List ℕ) (body : Body) (next m : ℕ) → statements.optional (option_tests s) s around body next ≡ Some m → IfAny (LeanStmtTo n) s
-    optional_lean n ih None around body next m p = tt
-    optional_lean n ih (Some s) around body next m p = ih s around body next m p
-
-    stmt_level_lean : (n : ℕ) → Below n → (x : CoreStmt-F CoreStmt) (around : List ℕ) (body : Body) (next m : ℕ) → level core f targets (map-CoreStmt CoreStmt (CoreStmt → Test) tests x) x around body next ≡ Some m → stmt_level (LeanStmtTo n) x
+    stmt_level_lean : (n : ℕ) → Below n → (x : CoreStmt-F CoreStmt) (around : List ℕ) (body : _) (next m : ℕ) → level core f targets (map-CoreStmt CoreStmt (CoreStmt → Test) tests x) x around body next ≡ Some m → stmt_level (LeanStmtTo n) x
     stmt_level_lean n ih (CoreStmt-F.Block l b ls qs) around body next m p = each_lean_stmt n ih qs (b ∷ around) body (next + 1) m (when_so _ _ m p).1
     stmt_level_lean n ih (CoreStmt-F.Initialize l b i pieces) around body next m p =
         let q = when_so (statements.is_initialized core f around b i pieces) (Some next) m p in
         initial_lean around (auto_at f.blocks b i) pieces (both _ (pieces_of core f around (auto_at f.blocks b i) pieces) q.0).1
     stmt_level_lean n ih (CoreStmt-F.Empty l) around body next m p = tt
     stmt_level_lean n ih (CoreStmt-F.Expression l e) around body next m p = given_lean around e _ (when_so (statements.is_whole core f around e) (Some next) m p).0
-    stmt_level_lean n ih (CoreStmt-F.If l e a b) around body next m p =
+    stmt_level_lean n ih (CoreStmt-F.If l e a None) around body next m p =
         let q = when_so (statements.is_test core f around e) _ m p in
-        let r = then_so (λ next. statements.optional (option_tests b) b around body next) (tests a a around body next) m q.1 in
-        (given_lean around e _ q.0, ih a around body next r.0 r.1, optional_lean n ih b around body r.0 m r.2)
+        let r = then_so (λ next. Some next) (tests a a around body next) m q.1 in
+        (given_lean around e _ q.0, ih a around body next r.0 r.1, tt)
+    stmt_level_lean n ih (CoreStmt-F.If l e a (Some b)) around body next m p =
+        let q = when_so (statements.is_test core f around e) _ m p in
+        let r = then_so (λ next. tests b b around body next) (tests a a around body next) m q.1 in
+        (given_lean around e _ q.0, ih a around body next r.0 r.1, ih b around body r.0 m r.2)
     stmt_level_lean n ih (CoreStmt-F.Switch l e labels a) around body next m p =
         let q = when_so (statements.is_switch core f around e labels a) (tests a a around (statements.of_switch body) next) m p in
         let r = both (statements.is_selector core f around e) _ q.0 in
@@ -287,8 +287,8 @@ module _ (core : Core) (f : Fun) where
         let q = when_so (statements.is_head core f around first e after) (tests a a around (statements.of_loop body) next) m p in
         let r = three (whole_or_none core f around first) (test_or_none core f around e) (whole_or_none core f around after) q.0 in
         (whole_lean around first r.0, test_lean around e r.1, whole_lean around after r.2, ih a around (statements.of_loop body) next m q.1)
-    stmt_level_lean n ih (CoreStmt-F.Case l a) around body next m p = ih a around body next m (when_so body.in_switch (tests a a around body next) m p).1
-    stmt_level_lean n ih (CoreStmt-F.Default l a) around body next m p = ih a around body next m (when_so body.in_switch (tests a a around body next) m p).1
+    stmt_level_lean n ih (CoreStmt-F.Case l a) around body next m p = ih a around body next m (when_so _ (tests a a around body next) m p).1
+    stmt_level_lean n ih (CoreStmt-F.Default l a) around body next m p = ih a around body next m (when_so _ (tests a a around body next) m p).1
     stmt_level_lean n ih (CoreStmt-F.Label l a) around body next m p = ih a around body next m p
     stmt_level_lean n ih (CoreStmt-F.Goto l k) around body next m p = tt
     stmt_level_lean n ih (CoreStmt-F.Continue l) around body next m p = tt
@@ -353,7 +353,7 @@ formed_functions core p =
     let b = both _ (modules.with_functions core) a.1 in
     let c = both _ (modules.with_literals core) b.1 in
     let d = both _ (modules.is_lawful core) c.1 in
-    fourth _ _ _ (functions core core.funs) _ d.1
+    fourth (table_known core.structs core.structs) (modules.bodies core core.funs) (contents.are_born core) (functions core core.funs) (modules.declarations core core.declared && contents.objects core core.objects && contents.literals_end core.literals) d.1
   where
     fourth : (a b c d e : Bool) → (a && b && c && d && e) ≡ true → d ≡ true
     fourth true true true d e p = (both d e p).0
