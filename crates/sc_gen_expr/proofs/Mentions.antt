@@ -1,13 +1,12 @@
 -- Targets that are known keep their numbers when others are named, so that relocations stay as they were written.
-use Rattle.std.proofs.Common.{◌≡◌, ℕ, suc, ◌+◌, ◌*◌, Bool, true, false, ◌||◌, ◌&&◌, if◌then◌else◌, List, [], ◌∷◌, ◌++◌, length, refl, sym, ap, subst, ◌∙◌, arith, append_assoc, append-nil, pos, Option, None, Some, eq-eqb}
-use Rattle.std.specs.List.{list_any, position_or_len, fold, flat_map}
+use Rattle.std.proofs.Common.{◌≡◌, ℕ, ◌+◌, Bool, true, false, ◌||◌, ◌&&◌, if◌then◌else◌, List, [], ◌∷◌, ◌++◌, refl, sym, ap, subst, ◌∙◌, append-nil, pos, Option, None, Some, eq-eqb}
+use Rattle.std.specs.List.{list_any, position_or_len}
 use Rattle.std.specs.Option.{option_eq}
 use Rattle.std.specs.Str.{bytes_eq}
 use Rattle.std.proofs.lemmas.List.Folds.{list_any-append}
 use Rattle.std.proofs.lemmas.Slice.Eq.{bytes_eq-Decides}
 use Rattle.sc_gen_expr.specs.declared.symbolic.Target.{Target}
 use Rattle.sc_gen_expr.specs.declared.symbolic.Target.TheVariants.{Named, Literal}
-use Rattle.sc_gen_expr.specs.declared.symbolic.Symbolic.{Symbolic}
 use Rattle.sc_object.specs.declared.object.Reloc.{Reloc}
 use Rattle.sc_gen_expr.specs.declared.symbolic.Symbolic.TheVariants.{Plain, Upper, Lower, Call}
 use Rattle.sc_gen_expr.specs.Code.{Code}

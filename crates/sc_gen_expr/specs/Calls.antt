@@ -1,13 +1,12 @@
 -- Machine: the program once more; a theorem ties it to a yardstick (docs/TRUST.md).
 -- The code of a call, behind that of its arguments, each of which but the last waits in a temporary (RISC-V calling convention).
-use Rattle.std.specs.Prelude.{ℕ, zero, suc, ◌+◌, ◌-◌, ◌*◌, ◌==◌, Bool, true, false, ◌&&◌, if◌then◌else◌, nat_lt, min, List, [], ◌∷◌, ◌++◌, ℤ, pos, Option, Some, None, is_none}
+use Rattle.std.specs.Prelude.{ℕ, zero, suc, ◌+◌, ◌-◌, ◌*◌, Bool, ◌&&◌, if◌then◌else◌, nat_lt, min, List, [], ◌∷◌, ◌++◌, ℤ, pos, Option, Some, None, is_none}
 use Rattle.std.specs.Str.{bytes_eq}
 use Rattle.sc_base.specs.declared.key.Key.{Key}
 use Rattle.sc_isa.specs.declared.instruction.Instr.TheVariants.{Jalr}
 use Rattle.sc_isa.specs.declared.instruction.RegOp.TheVariants as reg
 use Rattle.sc_core.specs.declared.expression.CoreExpr.{CoreExpr, out-CoreExpr}
 use Rattle.sc_core.specs.declared.expression.CoreExpr.TheOpen.{CoreExpr-F}
-use Rattle.sc_gen_expr.specs.declared.symbolic.Symbolic.{Symbolic}
 use Rattle.sc_gen_expr.specs.declared.symbolic.Symbolic.TheVariants.{Plain, Call}
 use Rattle.sc_gen_expr.specs.declared.symbolic.Target.TheVariants as target
 use Rattle.sc_gen_expr.specs.declared.calls.Base.{Base}

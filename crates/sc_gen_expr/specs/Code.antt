@@ -1,14 +1,11 @@
 -- Machine: the program once more; a theorem ties it to a yardstick (docs/TRUST.md).
 -- Short sequences of instructions, from which the code of expressions and statements is made (RISC-V unprivileged manual, RV32IM).
-use Rattle.std.specs.Prelude.{ℕ, ◌+◌, ◌-◌, ◌*◌, ◌^◌, ◌==◌, Bool, if◌then◌else◌, ◌||◌, nat_lt, nat_le, List, [], ◌∷◌, ◌++◌, ℤ, pos}
+use Rattle.std.specs.Prelude.{ℕ, ◌+◌, ◌*◌, if◌then◌else◌, ◌||◌, nat_lt, nat_le, List, [], ◌∷◌, ◌++◌, ℤ, pos}
 use Rattle.std.specs.Int.{w32, cast_signed}
 use Rattle.sc_isa.specs.declared.instruction.Instr.{Instr}
-use Rattle.sc_isa.specs.declared.instruction.Instr.TheVariants.{Lui, Jal, Jalr, Branch, Load, Store, Imm, Reg, Ecall}
-use Rattle.sc_isa.specs.declared.instruction.BranchOp.{BranchOp}
+use Rattle.sc_isa.specs.declared.instruction.Instr.TheVariants.{Lui, Jal, Branch, Load, Store, Imm, Reg, Ecall}
 use Rattle.sc_isa.specs.declared.instruction.BranchOp.TheVariants.{Beq, Bne}
-use Rattle.sc_isa.specs.declared.instruction.LoadOp.{LoadOp}
 use Rattle.sc_isa.specs.declared.instruction.LoadOp.TheVariants.{Lw}
-use Rattle.sc_isa.specs.declared.instruction.StoreOp.{StoreOp}
 use Rattle.sc_isa.specs.declared.instruction.StoreOp.TheVariants.{Sw}
 use Rattle.sc_isa.specs.declared.instruction.ImmOp.TheVariants.{Addi}
 use Rattle.sc_isa.specs.declared.instruction.RegOp.{RegOp}

@@ -1,11 +1,10 @@
 -- Machine: the program once more; a theorem ties it to a yardstick (docs/TRUST.md).
 -- The code of an expression: it leaves the word of the expression's value, or of its place, in a0 (ANSI 3.3). Its temporaries are the words
 -- from an offset above sp on, as many as the expression needs room for. Every jump stays inside its own construct.
-use Rattle.std.specs.Prelude.{ℕ, ◌+◌, ◌%◌, ◌^◌, Bool, true, false, ◌&&◌, if◌then◌else◌, List, [], ◌∷◌, ◌++◌, length, min, slice_get, Option, Some, None, option_and_then}
+use Rattle.std.specs.Prelude.{ℕ, ◌+◌, ◌%◌, ◌^◌, true, ◌&&◌, if◌then◌else◌, List, [], ◌∷◌, ◌++◌, length, min, slice_get, Option, Some, None, option_and_then}
 use Rattle.sc_base.specs.declared.key.Key.{Key}
 use Rattle.sc_base.specs.declared.operator.Op.TheVariants as op
 use Rattle.sc_isa.specs.declared.instruction.RegOp.TheVariants as reg
-use Rattle.sc_types.specs.declared.ctype.CType.{CType}
 use Rattle.sc_core.specs.declared.expression.CoreExpr.{CoreExpr, out-CoreExpr, fold-CoreExpr}
 use Rattle.sc_core.specs.declared.expression.CoreExpr.TheOpen.{CoreExpr-F}
 use Rattle.sc_core.specs.declared.module.Auto.{Auto}

@@ -1,4 +1,4 @@
-use Rattle.std.proofs.Common.{refl, ap, ◌∙◌, List, ℕ, [], ◌∷◌, ◌++◌}
+use Rattle.std.proofs.Common.{refl, ap, ◌∙◌, ℕ, [], ◌∷◌, ◌++◌}
 use Rattle.std.proofs.lemmas.Result.{on_ok_weaker}
 use Rattle.sc_gen_expr.proofs.Appended.{one-more}
 use Rattle.sc_gen_expr.proofs.emit.write_one.Goals as goal
