@@ -1,0 +1,6 @@
+pub mod Patches
+pub mod Arguments
+pub mod Waiting
+pub mod Mentions
+pub mod Appended
+pub mod Layers
