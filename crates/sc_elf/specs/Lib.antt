@@ -1,0 +1,4 @@
+pub mod Pieces
+pub mod Tables
+pub mod Parsed
+pub mod Fields
