@@ -12,7 +12,8 @@ use Rattle.sc_elf.specs.declared.field.ElfFault.{ElfFault}
 use Rattle.sc_elf.specs.declared.field.ElfFault.TheVariants.{Truncated, BadField, BadReloc, NoMemory}
 use Rattle.sc_elf.specs.declared.piece.Piece.{Piece}
 use Rattle.sc_elf.specs.Parsed.{file_pieces, object_in, object_from, parsed_pieces, parsed}
-use Rattle.sc_elf.specs.Fields.{width, IsWrong, wrong_header, wrong_rest}
+use Rattle.sc_elf.specs.Fields.{width, IsWrong}
+use Rattle.sc_elf.specs.Tests.{wrong_header, wrong_rest}
 use Rattle.sc_elf.proofs.FramesRead.{block_back_1, block_back_2}
 use Rattle.sc_elf.proofs.Laying.{piece_of}
 use Rattle.sc_elf.proofs.Whole.{front, saber, symtab, strtab, shstrtab, pieces_are, object_back, whole_ends}
@@ -132,28 +133,38 @@ rest_wrong bytes f at big ended none e =
     let no : (o : Object) → IsSpellable o → take (length bytes) (spelled o) ≡ take (length bytes) bytes → ⊥ =
     λ o ok alike. all_wrong bytes o big ended (none o) ok alike in
     elim (cases_Bool (nat_lt (end_of bytes) (length bytes))) [
-      inl t ↦
-        let q : BadField End (end_of bytes) ≡ BadField f at = sym (cond-true (nat_lt (end_of bytes) (length bytes)) (BadField End (end_of bytes)) (BadField SectionEntry (length bytes - 4)) t) ∙ e in
-        let len : end_of bytes + (length bytes - end_of bytes) ≡ length bytes = omega arith in
-        subst (λ z. IsWrong bytes z.0 z.1) (ap (λ z. field_at z (f, at)) q)
-          (λ o ok alike. no o ok (subst (λ k. take k (spelled o) ≡ take k bytes) len alike))
-    | inr t ↦
-        let q : BadField SectionEntry (length bytes - 4) ≡ BadField f at = sym (cond-false (nat_lt (end_of bytes) (length bytes)) (BadField End (end_of bytes)) (BadField SectionEntry (length bytes - 4)) t) ∙ e in
-        let len : length bytes - 4 + 4 ≡ length bytes = omega arith in
-        subst (λ z. IsWrong bytes z.0 z.1) (ap (λ z. field_at z (f, at)) q)
-          (λ o ok alike. no o ok (subst (λ k. take k (spelled o) ≡ take k bytes) len alike)) ]
+      | inl t ↦
+          let q : BadField End (end_of bytes) ≡ BadField f at = sym (cond-true (nat_lt (end_of bytes) (length bytes)) (BadField End (end_of bytes)) (BadField SectionEntry (length bytes - 4)) t) ∙ e in
+          let len : end_of bytes + (length bytes - end_of bytes) ≡ length bytes = omega arith in
+          subst (λ z. IsWrong bytes z.0 z.1) (ap (λ z. field_at z (f, at)) q)
+          (record { placed = refl; none = λ o ok alike. no o ok (subst (λ k. take k (spelled o) ≡ take k bytes) len alike) })
+      | inr t ↦
+          let q : BadField SectionEntry (length bytes - 4) ≡ BadField f at = sym (cond-false (nat_lt (end_of bytes) (length bytes)) (BadField End (end_of bytes)) (BadField SectionEntry (length bytes - 4)) t) ∙ e in
+          let len : length bytes - 4 + 4 ≡ length bytes = omega arith in
+          subst (λ z. IsWrong bytes z.0 z.1) (ap (λ z. field_at z (f, at)) q)
+          (record { placed = refl; none = λ o ok alike. no o ok (subst (λ k. take k (spelled o) ≡ take k bytes) len alike) })
+    ]
 
 pub rest_not_short : (bytes : List ℕ) (n : ℕ) → wrong_rest bytes ≡ Truncated n → ⊥
 rest_not_short bytes n e =
     elim (cases_Bool (nat_lt (end_of bytes) (length bytes))) [
-      inl t ↦ let q : BadField End (end_of bytes) ≡ Truncated n = sym (cond-true (nat_lt (end_of bytes) (length bytes)) (BadField End (end_of bytes)) (BadField SectionEntry (length bytes - 4)) t) ∙ e in cc
-    | inr t ↦ let q : BadField SectionEntry (length bytes - 4) ≡ Truncated n = sym (cond-false (nat_lt (end_of bytes) (length bytes)) (BadField End (end_of bytes)) (BadField SectionEntry (length bytes - 4)) t) ∙ e in cc ]
+      | inl t ↦ let q : BadField End (end_of bytes) ≡ Truncated n = sym (cond-true (nat_lt (end_of bytes) (length bytes)) (BadField End (end_of bytes)) (BadField SectionEntry (length bytes - 4)) t) ∙ e in cc
+      | inr t ↦ let q : BadField SectionEntry (length bytes - 4) ≡ Truncated n = sym (cond-false (nat_lt (end_of bytes) (length bytes)) (BadField End (end_of bytes)) (BadField SectionEntry (length bytes - 4)) t) ∙ e in cc
+    ]
 
 pub rest_no_reloc : (bytes : List ℕ) (n : ℕ) → wrong_rest bytes ≡ BadReloc n → ⊥
 rest_no_reloc bytes n e =
     elim (cases_Bool (nat_lt (end_of bytes) (length bytes))) [
-      inl t ↦ let q : BadField End (end_of bytes) ≡ BadReloc n = sym (cond-true (nat_lt (end_of bytes) (length bytes)) (BadField End (end_of bytes)) (BadField SectionEntry (length bytes - 4)) t) ∙ e in cc
-    | inr t ↦ let q : BadField SectionEntry (length bytes - 4) ≡ BadReloc n = sym (cond-false (nat_lt (end_of bytes) (length bytes)) (BadField End (end_of bytes)) (BadField SectionEntry (length bytes - 4)) t) ∙ e in cc ]
+      | inl t ↦ let q : BadField End (end_of bytes) ≡ BadReloc n = sym (cond-true (nat_lt (end_of bytes) (length bytes)) (BadField End (end_of bytes)) (BadField SectionEntry (length bytes - 4)) t) ∙ e in cc
+      | inr t ↦ let q : BadField SectionEntry (length bytes - 4) ≡ BadReloc n = sym (cond-false (nat_lt (end_of bytes) (length bytes)) (BadField End (end_of bytes)) (BadField SectionEntry (length bytes - 4)) t) ∙ e in cc
+    ]
+
+pub rest_has_memory : (bytes : List ℕ) → wrong_rest bytes ≡ NoMemory → ⊥
+rest_has_memory bytes e =
+    elim (cases_Bool (nat_lt (end_of bytes) (length bytes))) [
+      | inl t ↦ let q : BadField End (end_of bytes) ≡ NoMemory = sym (cond-true (nat_lt (end_of bytes) (length bytes)) (BadField End (end_of bytes)) (BadField SectionEntry (length bytes - 4)) t) ∙ e in cc
+      | inr t ↦ let q : BadField SectionEntry (length bytes - 4) ≡ NoMemory = sym (cond-false (nat_lt (end_of bytes) (length bytes)) (BadField End (end_of bytes)) (BadField SectionEntry (length bytes - 4)) t) ∙ e in cc
+    ]
 
 -- the header of a file is right
 header_whole : (o : Object) → length (take 52 (spelled o)) ≡ 52
@@ -165,7 +176,8 @@ header_stands o = omega (arith, length-take 52 (spelled o), header_whole o)
 pub file_passes : (o : Object) → IsSpellable o → wrong_header (spelled o) ≡ None
 file_passes o ok =
     elim (found (spelled o)) [
-      little l w ↦ absurd (omega (arith, l, header_stands o))
-    | other r l f w ↦ absurd (refused_field (spelled o) r.0 r.1 w o ok refl)
-    | short l f s w ↦ absurd (omega (arith, s, file_ends o ok))
-    | right l f s w ↦ w ]
+      | little l w ↦ absurd (omega (arith, l, header_stands o))
+      | other r l f w ↦ absurd ((refused_field (spelled o) r.0 r.1 w).none o ok refl)
+      | short l f s w ↦ absurd (omega (arith, s, file_ends o ok))
+      | right l f s w ↦ w
+    ]

@@ -12,41 +12,47 @@ use Rattle.sc_object.specs.Reading.{IsSpellable, HasFixedFields, IsShort, end_of
 use Rattle.sc_elf.specs.declared.field.Field.{Field}
 use Rattle.sc_elf.specs.declared.field.ElfFault.{ElfFault}
 use Rattle.sc_elf.specs.declared.field.ElfFault.TheVariants.{Truncated, BadField, BadReloc, NoMemory}
-use Rattle.sc_elf.specs.Fields.{width, IsWrong, Fixed, fixed_before, fixed_behind, has, wrong_of, or_else, wrong_field, too_short, wrong_fields, wrong_header}
+use Rattle.sc_elf.specs.Fields.{place, width, IsWrong}
+use Rattle.sc_elf.specs.Tests.{Fixed, fixed_before, fixed_behind, has, wrong_of, or_else, wrong_field, too_short, wrong_fields, wrong_header}
 
 -- each file has these bytes at these places
 abbrev pub AllFixed : List Fixed → Type 0
 AllFixed [] = Unit {0}
-AllFixed (r ∷ rs) = (((o : Object) → take (length r.bytes) (drop r.at (spelled o)) ≡ r.bytes) × ((bytes : List ℕ) → width bytes r.field r.at ≡ length r.bytes)) × AllFixed rs
+AllFixed (r ∷ rs) = (((o : Object) → take (length r.bytes) (drop r.at (spelled o)) ≡ r.bytes) × (((bytes : List ℕ) → width bytes r.field r.at ≡ length r.bytes) × ((bytes : List ℕ) → r.at ≡ place bytes r.field))) × AllFixed rs
 
 before_fixed : AllFixed fixed_before
 before_fixed =
-    ((λ o. refl, λ bs. refl), ((λ o. refl, λ bs. refl), ((λ o. refl, λ bs. refl), ((λ o. refl, λ bs. refl), ((λ o. refl, λ bs. refl), ((λ o. refl, λ bs. refl), tt))))))
+    ((λ o. refl, (λ bs. refl, λ bs. refl)), ((λ o. refl, (λ bs. refl, λ bs. refl)), ((λ o. refl, (λ bs. refl, λ bs. refl)), ((λ o. refl, (λ bs. refl, λ bs. refl)), ((λ o. refl, (λ bs. refl, λ bs. refl)), ((λ o. refl, (λ bs. refl, λ bs. refl)), tt))))))
 
 behind_fixed : AllFixed fixed_behind
-behind_fixed = ((λ o. refl, λ bs. refl), ((λ o. refl, λ bs. refl), ((λ o. refl, λ bs. refl), ((λ o. refl, λ bs. refl), ((λ o. refl, λ bs. refl), tt)))))
+behind_fixed = ((λ o. refl, (λ bs. refl, λ bs. refl)), ((λ o. refl, (λ bs. refl, λ bs. refl)), ((λ o. refl, (λ bs. refl, λ bs. refl)), ((λ o. refl, (λ bs. refl, λ bs. refl)), ((λ o. refl, (λ bs. refl, λ bs. refl)), tt)))))
 
 -- lists that begin alike have the same bytes at each place there
 pub same_front : (xs ys : List ℕ) (at w : ℕ) → take (at + w) xs ≡ take (at + w) ys → take w (drop at xs) ≡ take w (drop at ys)
 same_front xs ys at w e = sym (drop-take at w xs) ∙ ap (drop at) e ∙ drop-take at w ys
 
-wrong_row : (bytes : List ℕ) (r : Fixed) → ((o : Object) → take (length r.bytes) (drop r.at (spelled o)) ≡ r.bytes) → ((bs : List ℕ) → width bs r.field r.at ≡ length r.bytes)
-    → has bytes r.at r.bytes ≡ false → IsWrong bytes r.field r.at
-wrong_row bytes r whole wide h o ok e =
+none_begins : (bytes : List ℕ) (r : Fixed) → ((o : Object) → take (length r.bytes) (drop r.at (spelled o)) ≡ r.bytes) → ((bs : List ℕ) → width bs r.field r.at ≡ length r.bytes)
+    → has bytes r.at r.bytes ≡ false → (o : Object) → IsSpellable o → take (r.at + width bytes r.field r.at) (spelled o) ≢ take (r.at + width bytes r.field r.at) bytes
+none_begins bytes r whole wide h o ok e =
     let w : ℕ = length r.bytes in
     let f : take (r.at + w) (spelled o) ≡ take (r.at + w) bytes = subst (λ k. take (r.at + k) (spelled o) ≡ take (r.at + k) bytes) (wide bytes) e in
     let g : take w (drop r.at bytes) ≡ r.bytes = sym (same_front (spelled o) bytes r.at w f) ∙ whole o in
     both_ways (has bytes r.at r.bytes) h ((bytes_decides (take w (drop r.at bytes)) r.bytes).1 g)
 
+wrong_row : (bytes : List ℕ) (r : Fixed) → ((o : Object) → take (length r.bytes) (drop r.at (spelled o)) ≡ r.bytes) → ((bs : List ℕ) → width bs r.field r.at ≡ length r.bytes)
+    → ((bs : List ℕ) → r.at ≡ place bs r.field) → has bytes r.at r.bytes ≡ false → IsWrong bytes r.field r.at
+wrong_row bytes r whole wide stands h = record { placed = stands bytes; none = none_begins bytes r whole wide h }
+
 wrong_rows : (rs : List Fixed) (bytes : List ℕ) (f : Field) (at : ℕ) → AllFixed rs → wrong_of rs bytes ≡ Some (f, at) → IsWrong bytes f at
 wrong_rows [] bytes f at all e = absurd (cc)
 wrong_rows (r ∷ rs) bytes f at all e =
     elim (cases_Bool (has bytes r.at r.bytes)) [
-      inl t ↦ wrong_rows rs bytes f at all.1 (sym (cond-true (has bytes r.at r.bytes) (wrong_of rs bytes) (Some (r.field, r.at)) t) ∙ e)
-    | inr n ↦
-        let p : Some (r.field, r.at) ≡ Some (f, at) = sym (cond-false (has bytes r.at r.bytes) (wrong_of rs bytes) (Some (r.field, r.at)) n) ∙ e in
-        let q : (r.field, r.at) ≡ (f, at) = ap (λ o. unwrap_or o (r.field, r.at)) p in
-        subst (λ z. IsWrong bytes z.0 z.1) q (wrong_row bytes r all.0.0 all.0.1 n) ]
+      | inl t ↦ wrong_rows rs bytes f at all.1 (sym (cond-true (has bytes r.at r.bytes) (wrong_of rs bytes) (Some (r.field, r.at)) t) ∙ e)
+      | inr n ↦
+          let p : Some (r.field, r.at) ≡ Some (f, at) = sym (cond-false (has bytes r.at r.bytes) (wrong_of rs bytes) (Some (r.field, r.at)) n) ∙ e in
+          let q : (r.field, r.at) ≡ (f, at) = ap (λ o. unwrap_or o (r.field, r.at)) p in
+          subst (λ z. IsWrong bytes z.0 z.1) q (wrong_row bytes r all.0.0 all.0.1.0 all.0.1.1 n)
+    ]
 
 -- these bytes stand there
 abbrev pub AllHave : List Fixed → List ℕ → Type 0
@@ -57,12 +63,14 @@ right_rows : (rs : List Fixed) (bytes : List ℕ) → wrong_of rs bytes ≡ None
 right_rows [] bytes e = tt
 right_rows (r ∷ rs) bytes e =
     elim (cases_Bool (has bytes r.at r.bytes)) [
-      inl t ↦
-        ((bytes_decides (take (length r.bytes) (drop r.at bytes)) r.bytes).0 t,
-         right_rows rs bytes (sym (cond-true (has bytes r.at r.bytes) (wrong_of rs bytes) (Some (r.field, r.at)) t) ∙ e))
-    | inr n ↦
-        let p : Some (r.field, r.at) ≡ None = sym (cond-false (has bytes r.at r.bytes) (wrong_of rs bytes) (Some (r.field, r.at)) n) ∙ e in
-        absurd (cc) ]
+      | inl t ↦ (
+        (bytes_decides (take (length r.bytes) (drop r.at bytes)) r.bytes).0 t,
+        right_rows rs bytes (sym (cond-true (has bytes r.at r.bytes) (wrong_of rs bytes) (Some (r.field, r.at)) t) ∙ e),
+      )
+      | inr n ↦
+          let p : Some (r.field, r.at) ≡ None = sym (cond-false (has bytes r.at r.bytes) (wrong_of rs bytes) (Some (r.field, r.at)) n) ∙ e in
+          absurd (cc)
+    ]
 
 none_wrong : (rs : List Fixed) (bytes : List ℕ) → AllHave rs bytes → wrong_of rs bytes ≡ None
 none_wrong [] bytes h = refl
@@ -131,8 +139,9 @@ or_some (Some y) b x e = inl e
 pub field_wrong : (bytes : List ℕ) (f : Field) (at : ℕ) → wrong_field bytes ≡ Some (f, at) → IsWrong bytes f at
 field_wrong bytes f at e =
     elim (or_some (wrong_of fixed_before bytes) (wrong_of fixed_behind bytes) (f, at) e) [
-      inl h ↦ wrong_rows fixed_before bytes f at before_fixed h
-    | inr h ↦ wrong_rows fixed_behind bytes f at behind_fixed h ]
+      | inl h ↦ wrong_rows fixed_before bytes f at before_fixed h
+      | inr h ↦ wrong_rows fixed_behind bytes f at behind_fixed h
+    ]
 
 pub fields_right : (bytes : List ℕ) → wrong_field bytes ≡ None → HasFixedFields bytes
 fields_right bytes e =
@@ -153,19 +162,21 @@ pub data Found (bytes : List ℕ) : Type 0 where
 found_rest : (bytes : List ℕ) → nat_lt (length bytes) 52 ≡ false → (w : Option (Field × ℕ)) → wrong_field bytes ≡ w → Found bytes
 found_rest bytes n (Some r) e =
     other r (ltb-false (length bytes) 52 n) e
-      (cond-false (nat_lt (length bytes) 52) (Some (Truncated (length bytes))) (wrong_fields bytes (wrong_field bytes)) n ∙ ap (wrong_fields bytes) e)
+    (cond-false (nat_lt (length bytes) 52) (Some (Truncated (length bytes))) (wrong_fields bytes (wrong_field bytes)) n ∙ ap (wrong_fields bytes) e)
 found_rest bytes n None e =
     let at : wrong_header bytes ≡ too_short bytes (end_of bytes) =
     cond-false (nat_lt (length bytes) 52) (Some (Truncated (length bytes))) (wrong_fields bytes (wrong_field bytes)) n ∙ ap (wrong_fields bytes) e in
     elim (cases_Bool (nat_lt (length bytes) (end_of bytes))) [
-      inl t ↦ short (ltb-false (length bytes) 52 n) e (ltb-true (length bytes) (end_of bytes) t) (at ∙ cond-true (nat_lt (length bytes) (end_of bytes)) (Some (Truncated (length bytes))) None t)
-    | inr m ↦ right (ltb-false (length bytes) 52 n) e (ltb-false (length bytes) (end_of bytes) m) (at ∙ cond-false (nat_lt (length bytes) (end_of bytes)) (Some (Truncated (length bytes))) None m) ]
+      | inl t ↦ short (ltb-false (length bytes) 52 n) e (ltb-true (length bytes) (end_of bytes) t) (at ∙ cond-true (nat_lt (length bytes) (end_of bytes)) (Some (Truncated (length bytes))) None t)
+      | inr m ↦ right (ltb-false (length bytes) 52 n) e (ltb-false (length bytes) (end_of bytes) m) (at ∙ cond-false (nat_lt (length bytes) (end_of bytes)) (Some (Truncated (length bytes))) None m)
+    ]
 
 pub found : (bytes : List ℕ) → Found bytes
 found bytes =
     elim (cases_Bool (nat_lt (length bytes) 52)) [
-      inl t ↦ little (ltb-true (length bytes) 52 t) (cond-true (nat_lt (length bytes) 52) (Some (Truncated (length bytes))) (wrong_fields bytes (wrong_field bytes)) t)
-    | inr n ↦ found_rest bytes n (wrong_field bytes) refl ]
+      | inl t ↦ little (ltb-true (length bytes) 52 t) (cond-true (nat_lt (length bytes) 52) (Some (Truncated (length bytes))) (wrong_fields bytes (wrong_field bytes)) t)
+      | inr n ↦ found_rest bytes n (wrong_field bytes) refl
+    ]
 
 -- the answers for the header alone
 abbrev truncated : ElfFault → ℕ → ℕ
@@ -177,20 +188,23 @@ truncated NoMemory d = d
 pub refused_short : (bytes : List ℕ) (n : ℕ) → wrong_header bytes ≡ Some (Truncated n) → (n ≡ length bytes) × IsShort bytes
 refused_short bytes n e =
     elim (found bytes) [
-      little l w ↦ (ap (λ o. truncated (unwrap_or o NoMemory) 0) (sym e ∙ w), inl l)
-    | other r l f w ↦ let p : Some (Truncated n) ≡ Some (BadField r.0 r.1) = sym e ∙ w in absurd (cc)
-    | short l f s w ↦ (ap (λ o. truncated (unwrap_or o NoMemory) 0) (sym e ∙ w), inr (fields_right bytes f, s))
-    | right l f s w ↦ let p : Some (Truncated n) ≡ None = sym e ∙ w in absurd (cc) ]
+      | little l w ↦ (ap (λ o. truncated (unwrap_or o NoMemory) 0) (sym e ∙ w), inl l)
+      | other r l f w ↦ let p : Some (Truncated n) ≡ Some (BadField r.0 r.1) = sym e ∙ w in absurd (cc)
+      | short l f s w ↦ (ap (λ o. truncated (unwrap_or o NoMemory) 0) (sym e ∙ w), inr (fields_right bytes f, s))
+      | right l f s w ↦ let p : Some (Truncated n) ≡ None = sym e ∙ w in absurd (cc)
+    ]
 
 pub short_refused : (bytes : List ℕ) → IsShort bytes → wrong_header bytes ≡ Some (Truncated (length bytes))
 short_refused bytes h =
     elim (found bytes) [
-      little l w ↦ w
-    | other r l f w ↦ elim h [
-        inl s ↦ absurd (omega (arith, l, s))
-      | inr s ↦ let p : Some r ≡ None = sym f ∙ none_from_fields bytes s.0 in absurd (cc) ]
-    | short l f s w ↦ w
-    | right l f s w ↦ elim h [ inl t ↦ absurd (omega (arith, l, t)) | inr t ↦ absurd (omega (arith, s, t.1)) ] ]
+      | little l w ↦ w
+      | other r l f w ↦ elim h [
+        | inl s ↦ absurd (omega (arith, l, s))
+        | inr s ↦ let p : Some r ≡ None = sym f ∙ none_from_fields bytes s.0 in absurd (cc)
+      ]
+      | short l f s w ↦ w
+      | right l f s w ↦ elim h [ inl t ↦ absurd (omega (arith, l, t)) | inr t ↦ absurd (omega (arith, s, t.1)) ]
+    ]
 
 abbrev field_of : ElfFault → Field × ℕ → Field × ℕ
 field_of (Truncated n) d = d
@@ -201,25 +215,28 @@ field_of NoMemory d = d
 pub refused_field : (bytes : List ℕ) (f : Field) (at : ℕ) → wrong_header bytes ≡ Some (BadField f at) → IsWrong bytes f at
 refused_field bytes f at e =
     elim (found bytes) [
-      little l w ↦ let p : Some (BadField f at) ≡ Some (Truncated (length bytes)) = sym e ∙ w in absurd (cc)
-    | other r l h w ↦
-        let q : r ≡ (f, at) = ap (λ o. field_of (unwrap_or o NoMemory) (f, at)) (sym w ∙ e) in
-        field_wrong bytes f at (h ∙ ap Some q)
-    | short l h s w ↦ let p : Some (BadField f at) ≡ Some (Truncated (length bytes)) = sym e ∙ w in absurd (cc)
-    | right l h s w ↦ let p : Some (BadField f at) ≡ None = sym e ∙ w in absurd (cc) ]
+      | little l w ↦ let p : Some (BadField f at) ≡ Some (Truncated (length bytes)) = sym e ∙ w in absurd (cc)
+      | other r l h w ↦
+          let q : r ≡ (f, at) = ap (λ o. field_of (unwrap_or o NoMemory) (f, at)) (sym w ∙ e) in
+          field_wrong bytes f at (h ∙ ap Some q)
+      | short l h s w ↦ let p : Some (BadField f at) ≡ Some (Truncated (length bytes)) = sym e ∙ w in absurd (cc)
+      | right l h s w ↦ let p : Some (BadField f at) ≡ None = sym e ∙ w in absurd (cc)
+    ]
 
 pub refused_reloc : (bytes : List ℕ) (at : ℕ) → wrong_header bytes ≡ Some (BadReloc at) → ⊥
 refused_reloc bytes at e =
     elim (found bytes) [
-      little l w ↦ let p : Some (BadReloc at) ≡ Some (Truncated (length bytes)) = sym e ∙ w in absurd (cc)
-    | other r l h w ↦ let p : Some (BadReloc at) ≡ Some (BadField r.0 r.1) = sym e ∙ w in absurd (cc)
-    | short l h s w ↦ let p : Some (BadReloc at) ≡ Some (Truncated (length bytes)) = sym e ∙ w in absurd (cc)
-    | right l h s w ↦ let p : Some (BadReloc at) ≡ None = sym e ∙ w in absurd (cc) ]
+      | little l w ↦ let p : Some (BadReloc at) ≡ Some (Truncated (length bytes)) = sym e ∙ w in absurd (cc)
+      | other r l h w ↦ let p : Some (BadReloc at) ≡ Some (BadField r.0 r.1) = sym e ∙ w in absurd (cc)
+      | short l h s w ↦ let p : Some (BadReloc at) ≡ Some (Truncated (length bytes)) = sym e ∙ w in absurd (cc)
+      | right l h s w ↦ let p : Some (BadReloc at) ≡ None = sym e ∙ w in absurd (cc)
+    ]
 
 pub passed : (bytes : List ℕ) → wrong_header bytes ≡ None → (52 ≤ length bytes) × (end_of bytes ≤ length bytes) × HasFixedFields bytes
 passed bytes e =
     elim (found bytes) [
-      little l w ↦ let p : Some (Truncated (length bytes)) ≡ None = sym w ∙ e in absurd (cc)
-    | other r l h w ↦ let p : Some (BadField r.0 r.1) ≡ None = sym w ∙ e in absurd (cc)
-    | short l h s w ↦ let p : Some (Truncated (length bytes)) ≡ None = sym w ∙ e in absurd (cc)
-    | right l h s w ↦ (l, s, fields_right bytes h) ]
+      | little l w ↦ let p : Some (Truncated (length bytes)) ≡ None = sym w ∙ e in absurd (cc)
+      | other r l h w ↦ let p : Some (BadField r.0 r.1) ≡ None = sym w ∙ e in absurd (cc)
+      | short l h s w ↦ let p : Some (Truncated (length bytes)) ≡ None = sym w ∙ e in absurd (cc)
+      | right l h s w ↦ (l, s, fields_right bytes h)
+    ]

@@ -1,10 +1,13 @@
 -- One more turn of the loops of a reading, and their ends.
-use Rattle.std.proofs.Common.{◌≡◌, ◌<◌, ◌≤◌, ◌+◌, ◌-◌, ◌*◌, ◌==◌, ℕ, suc, Bool, true, false, List, [], ◌∷◌, ◌++◌, length, drop, get_or, Option, Some, None, sym, ap, ◌∙◌, arith, refl, nat_le}
+use Rattle.std.proofs.Common.{◌≡◌, ◌<◌, ◌≤◌, ◌+◌, ◌-◌, ◌*◌, ◌==◌, ◌&&◌, ℕ, suc, Bool, true, false, List, [], ◌∷◌, ◌++◌, length, drop, get_or, Option, Some, None, sym, ap, ◌∙◌, arith, refl, nat_le}
 use Rattle.std.specs.Prelude.{option_and_then}
+use Rattle.std.proofs.lemmas.Bool.{le-leb, lt-leb}
 use Rattle.std.proofs.lemmas.List.{append_assoc, append-nil, drop_more, drop_all}
 use Rattle.sc_object.specs.declared.object.SectionKind.{SectionKind}
 use Rattle.sc_object.specs.declared.object.Section.{Section}
+use Rattle.sc_object.specs.declared.object.Reloc.{Reloc}
 use Rattle.sc_object.specs.declared.object.Symbol.{Symbol}
+use Rattle.sc_object.specs.Reading.{by_sections}
 use Rattle.sc_elf.specs.declared.piece.Piece.{Piece}
 use Rattle.sc_elf.specs.Pieces.{piece_in, behind_piece, pieces_in, text, behind_text}
 use Rattle.sc_elf.specs.Tables.{rows, many, kind_of, section_in, named, sections_in, symbol_in, symbols_in}
@@ -82,8 +85,9 @@ sections_some ps i all more m e p k s whole inv below p-is k-is e-is s-is more-i
     (λ t. sections_in (more-is t) (drop (i + 1) ps) (e-is t))
     ∙ ap (λ z. sections_in (all ++ z ∷ []) (drop (i + 1) ps) (behind_text (named k m))) s-is
     ∙ ap (λ o. elim o as (λ _. List Section) [
-        None ↦ sections_in all (drop (i + 1) ps) m
-      | Some kind ↦ sections_in (all ++ section_in kind p (text (named kind m)) ∷ []) (drop (i + 1) ps) (behind_text (named kind m)) ]) k-is
+      | None ↦ sections_in all (drop (i + 1) ps) m
+      | Some kind ↦ sections_in (all ++ section_in kind p (text (named kind m)) ∷ []) (drop (i + 1) ps) (behind_text (named kind m))
+    ]) k-is
     ∙ ap (λ z. sections_in all z m) (sym here)
     ∙ inv
 
@@ -93,7 +97,24 @@ pub sections_none : (ps : List Piece) (i : ℕ) (all : List Section) (m : List �
 sections_none ps i all m p whole inv below p-is k-is =
     let here : drop i ps ≡ p ∷ drop (i + 1) ps = drop_more ps i p below ∙ ap (λ q. q ∷ drop (i + 1) ps) (sym p-is) in
     ap (λ o. elim o as (λ _. List Section) [
-        None ↦ sections_in all (drop (i + 1) ps) m
-      | Some kind ↦ sections_in (all ++ section_in kind p (text (named kind m)) ∷ []) (drop (i + 1) ps) (behind_text (named kind m)) ]) k-is
+      | None ↦ sections_in all (drop (i + 1) ps) m
+      | Some kind ↦ sections_in (all ++ section_in kind p (text (named kind m)) ∷ []) (drop (i + 1) ps) (behind_text (named kind m))
+    ]) k-is
     ∙ ap (λ z. sections_in all z m) (sym here)
     ∙ inv
+
+-- a relocation more, one that stands too far behind, and the last one
+pub sorted_more : (rs : List Reloc) (i least : ℕ) (none : Reloc) (whole : Bool) → by_sections least (drop i rs) ≡ whole → i < length rs
+    → least ≤ (get_or rs i none).section → by_sections (get_or rs i none).section (drop (i + 1) rs) ≡ whole
+sorted_more rs i least none whole inv below fits =
+    let r : Reloc = get_or rs i none in
+    sym (ap (λ b. b && by_sections r.section (drop (i + 1) rs)) (le-leb least r.section fits)) ∙ ap (by_sections least) (sym (drop_more rs i none below)) ∙ inv
+
+pub sorted_stop : (rs : List Reloc) (i least : ℕ) (r : Reloc) (whole : Bool) → by_sections least (drop i rs) ≡ whole → i < length rs → r ≡ get_or rs i r
+    → r.section < least → false ≡ whole
+sorted_stop rs i least r whole inv below r-is over =
+    let here : drop i rs ≡ r ∷ drop (i + 1) rs = drop_more rs i r below ∙ ap (λ q. q ∷ drop (i + 1) rs) (sym r-is) in
+    sym (ap (λ b. b && by_sections r.section (drop (i + 1) rs)) (lt-leb least r.section over)) ∙ ap (by_sections least) (sym here) ∙ inv
+
+pub sorted_end : (rs : List Reloc) (i least : ℕ) (whole : Bool) → by_sections least (drop i rs) ≡ whole → length rs ≤ i → true ≡ whole
+sorted_end rs i least whole inv over = ap (by_sections least) (sym (drop_all i rs over)) ∙ inv

@@ -23,14 +23,18 @@ use Rattle.sc_elf.proofs.Laying.{piece_of}
 kind_small : (n : ℕ) → is_kind n ≡ true → n < 256
 kind_small n h =
     elim (or_cases (n == 1 || n == 19 || n == 26 || n == 27) (n == 28) h) [
-      inr e ↦ let f : n ≡ 28 = eqb-true n 28 e in omega arith
-    | inl h4 ↦ elim (or_cases (n == 1 || n == 19 || n == 26) (n == 27) h4) [
-        inr e ↦ let f : n ≡ 27 = eqb-true n 27 e in omega arith
-      | inl h3 ↦ elim (or_cases (n == 1 || n == 19) (n == 26) h3) [
-          inr e ↦ let f : n ≡ 26 = eqb-true n 26 e in omega arith
-        | inl h2 ↦ elim (or_cases (n == 1) (n == 19) h2) [
-            inr e ↦ let f : n ≡ 19 = eqb-true n 19 e in omega arith
-          | inl e ↦ let f : n ≡ 1 = eqb-true n 1 e in omega arith ] ] ] ]
+      | inr e ↦ let f : n ≡ 28 = eqb-true n 28 e in omega arith
+      | inl h4 ↦ elim (or_cases (n == 1 || n == 19 || n == 26) (n == 27) h4) [
+        | inr e ↦ let f : n ≡ 27 = eqb-true n 27 e in omega arith
+        | inl h3 ↦ elim (or_cases (n == 1 || n == 19) (n == 26) h3) [
+          | inr e ↦ let f : n ≡ 26 = eqb-true n 26 e in omega arith
+          | inl h2 ↦ elim (or_cases (n == 1) (n == 19) h2) [
+            | inr e ↦ let f : n ≡ 19 = eqb-true n 19 e in omega arith
+            | inl e ↦ let f : n ≡ 1 = eqb-true n 1 e in omega arith
+          ]
+        ]
+      ]
+    ]
 
 kind_of_info : (s k : ℕ) → k < 256 → s < 2 ^ 24 - 1 → low ((s + 1) * 256 + k) % 256 ≡ k
 kind_of_info s k a b = let e : low ((s + 1) * 256 + k) ≡ (s + 1) * 256 + k = value_word ((s + 1) * 256 + k) (omega arith) in omega arith
@@ -88,30 +92,32 @@ module _ (sections symbols : ℕ) (few : symbols < 2 ^ 24) where
   front_is n (r ∷ rs) h =
       let t = and_parts (is_reloc sections symbols r) (list_all (is_reloc sections symbols) rs) h in
       elim (cases_Bool (is_of n r)) [
-        inl e ↦
-          let g : group_len n (r ∷ rs) ≡ suc (group_len n rs) = cond-true (is_of n r) (1 + group_len n rs) 0 e ∙ omega arith in
-          ap (λ k. list_all (is_reloc_of n) (take k (r ∷ rs))) g
-          ∙ and_from (is_reloc_of n r) (list_all (is_reloc_of n) (take (group_len n rs) rs)) (and_from (is_of n r) (is_reloc sections symbols r) e t.0) (front_is n rs t.1)
-      | inr e ↦
-          let g : group_len n (r ∷ rs) ≡ 0 = cond-false (is_of n r) (1 + group_len n rs) 0 e in
-          ap (λ k. list_all (is_reloc_of n) (take k (r ∷ rs))) g ]
+        | inl e ↦
+            let g : group_len n (r ∷ rs) ≡ suc (group_len n rs) = cond-true (is_of n r) (1 + group_len n rs) 0 e ∙ omega arith in
+            ap (λ k. list_all (is_reloc_of n) (take k (r ∷ rs))) g
+            ∙ and_from (is_reloc_of n r) (list_all (is_reloc_of n) (take (group_len n rs) rs)) (and_from (is_of n r) (is_reloc sections symbols r) e t.0) (front_is n rs t.1)
+        | inr e ↦
+            let g : group_len n (r ∷ rs) ≡ 0 = cond-false (is_of n r) (1 + group_len n rs) 0 e in
+            ap (λ k. list_all (is_reloc_of n) (take k (r ∷ rs))) g
+      ]
 
   rest_sorted : (n : ℕ) (rs : List Reloc) → by_sections n rs ≡ true → by_sections (n + 1) (drop (group_len n rs) rs) ≡ true
   rest_sorted n [] h = refl
   rest_sorted n (r ∷ rs) h =
       let t = and_parts (nat_le n r.section) (by_sections r.section rs) h in
       elim (cases_Bool (is_of n r)) [
-        inl e ↦
-          let g : group_len n (r ∷ rs) ≡ suc (group_len n rs) = cond-true (is_of n r) (1 + group_len n rs) 0 e ∙ omega arith in
-          let same : r.section ≡ n = eqb-true r.section n e in
-          let sorted : by_sections n rs ≡ true = subst (λ k. by_sections k rs ≡ true) same t.1 in
-          ap (λ k. by_sections (n + 1) (drop k (r ∷ rs))) g ∙ rest_sorted n rs sorted
-      | inr e ↦
-          let g : group_len n (r ∷ rs) ≡ 0 = cond-false (is_of n r) (1 + group_len n rs) 0 e in
-          let least : n ≤ r.section = leb-true n r.section t.0 in
-          let other : r.section ≡ n → ⊥ = eqb-false r.section n e in
-          ap (λ k. by_sections (n + 1) (drop k (r ∷ rs))) g
-          ∙ and_from (nat_le (n + 1) r.section) (by_sections r.section rs) (le-leb (n + 1) r.section (omega arith)) t.1 ]
+        | inl e ↦
+            let g : group_len n (r ∷ rs) ≡ suc (group_len n rs) = cond-true (is_of n r) (1 + group_len n rs) 0 e ∙ omega arith in
+            let same : r.section ≡ n = eqb-true r.section n e in
+            let sorted : by_sections n rs ≡ true = subst (λ k. by_sections k rs ≡ true) same t.1 in
+            ap (λ k. by_sections (n + 1) (drop k (r ∷ rs))) g ∙ rest_sorted n rs sorted
+        | inr e ↦
+            let g : group_len n (r ∷ rs) ≡ 0 = cond-false (is_of n r) (1 + group_len n rs) 0 e in
+            let least : n ≤ r.section = leb-true n r.section t.0 in
+            let other : r.section ≡ n → ⊥ = eqb-false r.section n e in
+            ap (λ k. by_sections (n + 1) (drop k (r ∷ rs))) g
+            ∙ and_from (nat_le (n + 1) r.section) (by_sections r.section rs) (le-leb (n + 1) r.section (omega arith)) t.1
+      ]
 
   rest_is : (k : ℕ) (rs : List Reloc) → list_all (is_reloc sections symbols) rs ≡ true → list_all (is_reloc sections symbols) (drop k rs) ≡ true
   rest_is k rs h =

@@ -67,8 +67,9 @@ sections_back all (s ∷ ss) symbols rs more h =
     let rest : behind_text (named s.kind names) ≡ behind = ap behind_text own ∙ behind_back s.name behind v.0 in
     let same : section_in s.kind p s.name ≡ s = λ i. record { name = s.name; kind = s.kind; bytes = s.bytes; size = word_back s.size u.1 i } in
     ap (λ o. elim o as (λ _. List Section) [
-        None ↦ sections_in all ps names
-      | Some kind ↦ sections_in (all ++ section_in kind p (text (named kind names)) ∷ []) ps (behind_text (named kind names)) ]) (kind_back s.kind)
+      | None ↦ sections_in all ps names
+      | Some kind ↦ sections_in (all ++ section_in kind p (text (named kind names)) ∷ []) ps (behind_text (named kind names))
+    ]) (kind_back s.kind)
     ∙ ap (λ n. sections_in (all ++ section_in s.kind p n ∷ []) ps (behind_text (named s.kind names))) name
     ∙ ap (sections_in (all ++ section_in s.kind p s.name ∷ []) ps) rest
     ∙ ap (λ z. sections_in (all ++ z ∷ []) ps behind) same

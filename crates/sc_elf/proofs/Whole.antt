@@ -126,7 +126,7 @@ module _ (version : ℕ) (block_back : (b : BlockTable) (more : List ℕ) → is
   parts_length =
       length-append front_parts (tables version (symbols_at o) o)
       ∙ ap (λ k. k + 3) (length-append (map section_part o.sections) (map (rela_part (symbols_at o)) (all_relas o))
-        ∙ (λ i. length-map o.sections section_part i + length-map (all_relas o) (rela_part (symbols_at o)) i))
+      ∙ (λ i. length-map o.sections section_part i + length-map (all_relas o) (rela_part (symbols_at o)) i))
 
   all_few : length all + 1 < 2 ^ 16
   all_few = omega (arith, length_push (parts version o) shstrtab, parts_length, sections_few)
@@ -174,9 +174,10 @@ module _ (version : ℕ) (block_back : (b : BlockTable) (more : List ℕ) → is
       let own : List ℕ = codes ".shstrtab" in
       let names : (laid_of (parts version o)).names ≡ (0 ∷ []) ++ ((flat_map with_zero sections ++ flat_map with_zero relas) ++ flat_map with_zero rest) =
       names_are nothing_laid (parts version o)
-      ∙ ap (λ z. (0 ∷ []) ++ z) (flat_map-append with_zero front_parts rest ∙ ap (λ z. z ++ flat_map with_zero rest) (flat_map-append with_zero sections relas)) in
-      ((flat_map with_zero relas ++ flat_map with_zero rest) ++ (own ++ 0 ∷ []),
-       ap (λ z. drop 1 ((z ++ own) ++ 0 ∷ [])) names ∙ again (flat_map with_zero sections) (flat_map with_zero relas) (flat_map with_zero rest) own (0 ∷ []))
+      ∙ ap (λ z. (0 ∷ []) ++ z) (flat_map-append with_zero front_parts rest ∙ ap (λ z. z ++ flat_map with_zero rest) (flat_map-append with_zero sections relas)) in (
+        (flat_map with_zero relas ++ flat_map with_zero rest) ++ (own ++ 0 ∷ []),
+        ap (λ z. drop 1 ((z ++ own) ++ 0 ∷ [])) names ∙ again (flat_map with_zero sections) (flat_map with_zero relas) (flat_map with_zero rest) own (0 ∷ []),
+      )
 
   sections_are : sections_in [] front (drop 1 shstrtab.bytes) ≡ o.sections
   sections_are =

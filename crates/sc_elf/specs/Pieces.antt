@@ -1,3 +1,4 @@
+-- Machine: the program once more; a theorem ties it to a yardstick (docs/TRUST.md).
 -- What a reading takes from the front of the bytes: the sections of a file, without their names.
 use Rattle.std.specs.Prelude.{ℕ, zero, suc, ◌+◌, ◌-◌, ◌*◌, ◌/◌, ◌%◌, ◌==◌, if◌then◌else◌, not, Bool, List, [], ◌∷◌, length, take, drop}
 use Rattle.std.specs.List.{prefix_len}

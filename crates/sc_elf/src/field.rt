@@ -1,6 +1,6 @@
 // What a reading refuses.
 ghost use Rattle.std.specs.Prelude.{◌≡◌};
-ghost use Rattle.sc_elf.specs.Fields.{fixed_before, fixed_behind, has, wrong_of};
+ghost use Rattle.sc_elf.specs.Tests.{fixed_before, fixed_behind, has, wrong_of};
 
 use crate::bytes::{behind, front};
 use sc_base::NoMemory;

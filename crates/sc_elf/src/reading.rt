@@ -1,8 +1,10 @@
 // The object of a file.
 ghost use Rattle.std.specs.Prelude.{◌≡◌, ◌≢◌, ◌⊎◌, ◌↔◌, ◌<◌, ◌≤◌, ◌^◌, ℕ, true, length, MatchResult, IfOk, IfErr, IfSome};
+ghost use Rattle.std.specs.Str.{bytes_eq};
 ghost use Rattle.sc_object.specs.Reading.{IsFileOf, IsShort, end_of};
 ghost use Rattle.sc_elf.specs.Parsed.{object_of, object_in, object_from, parsed};
-ghost use Rattle.sc_elf.specs.Fields.{IsWrong, wrong_field, wrong_header, wrong_rest};
+ghost use Rattle.sc_elf.specs.Fields.{IsWrong};
+ghost use Rattle.sc_elf.specs.Tests.{wrong_field, wrong_header, wrong_rest};
 ghost use Rattle.sc_elf.specs.declared.field.ElfFault.TheVariants as fault;
 
 use crate::bytes::{behind, half_at, word_at};
@@ -83,35 +85,51 @@ fn parsed(alloc: Global, version: u32, bytes: &[u8]) -> Result<Option<Object>, N
     object_from(alloc, version, front, last)
 }
 
+fn is_same(a: &[u8], b: &[u8]) -> bool
+    ensures { result ≡ bytes_eq a.now b.now }
+{
+    a == b
+}
+
 // Whether the bytes are the file of an object.
 fn is_file_of(alloc: Global, version: u32, o: &Object, bytes: &[u8]) -> Result<bool, NoMemory>
     ensures { IfOk result (λ b. (b ≡ true) ↔ IsFileOf version o.now bytes.now) }
 {
     let again = write_as(alloc, version as usize, o)?;
-    if again.as_slice() == bytes {
+    let same = is_same(again.as_slice(), bytes);
+    if same {
         is_spellable_in(alloc, version, o, again.len())
     } else {
         Ok(false)
     }
 }
 
-// The object whose file with frame tables of a version the bytes are.
-#[tactic(auto, using(crate::proofs::Clauses::found_is, crate::proofs::Clauses::found_other))]
-fn read_as(alloc: Global, version: u32, bytes: &[u8]) -> Result<Option<Object>, NoMemory>
-    requires { (version ≡ 1) ⊎ (version ≡ 2) }
-    ensures ok { IfOk result (IfSome (λ o. IsFileOf version o bytes.now)) }
+// The object that the bytes say, if they are its file.
+fn if_file(alloc: Global, version: u32, bytes: &[u8], o: Object) -> Result<Option<Object>, NoMemory>
+    requires known { (version ≡ 1) ⊎ (version ≡ 2) }
+    requires said { Some o ≡ parsed version bytes.now }
+    ensures ok { IfOk result (λ r. IfSome r (λ o. IsFileOf version o bytes.now)) }
     ensures only { (o : Object) → IsFileOf version o bytes.now → IfOk result (λ r. r ≡ Some o) }
 {
-    match parsed(alloc, version, bytes)? {
+    let same = is_file_of(alloc, version, &o, bytes)?;
+    if same {
+        Ok(Some(o))
+    } else {
+        drop(o);
+        Ok(None)
+    }
+}
+
+// The object whose file with frame tables of a version the bytes are.
+fn read_as(alloc: Global, version: u32, bytes: &[u8]) -> Result<Option<Object>, NoMemory>
+    requires { (version ≡ 1) ⊎ (version ≡ 2) }
+    ensures ok { IfOk result (λ r. IfSome r (λ o. IsFileOf version o bytes.now)) }
+    ensures only { (o : Object) → IsFileOf version o bytes.now → IfOk result (λ r. r ≡ Some o) }
+{
+    let said = parsed(alloc, version, bytes)?;
+    match said {
+        Some(o) => if_file(alloc, version, bytes, o),
         None => Ok(None),
-        Some(o) => {
-            if is_file_of(alloc, version, &o, bytes)? {
-                Ok(Some(o))
-            } else {
-                drop(o);
-                Ok(None)
-            }
-        }
     }
 }
 
@@ -155,16 +173,42 @@ fn wrong_header(bytes: &[u8]) -> Option<ElfFault>
 
 // What is wrong with bytes that are no file and whose header is right.
 fn wrong_rest(bytes: &[u8]) -> ElfFault
-    requires small { length bytes.now < 2 ^ 32 }
-    requires header { 52 ≤ length bytes.now }
-    requires end { end_of bytes.now ≤ length bytes.now }
+    requires { length bytes.now < 2 ^ 32 }
     ensures { result ≡ wrong_rest bytes.now }
 {
     let end = end_of(bytes);
     if end < bytes.len() {
         ElfFault::BadField(Field::End, end as u32)
     } else {
-        ElfFault::BadField(Field::SectionEntry, (bytes.len() - 4) as u32)
+        ElfFault::BadField(Field::SectionEntry, bytes.len().saturating_sub(4) as u32)
+    }
+}
+
+// The object that was found, or what is wrong where there is none.
+fn answered(bytes: &[u8], found: Option<Object>) -> Result<Object, ElfFault>
+    requires small { length bytes.now < 2 ^ 32 }
+    requires ok { IfSome found (λ o. IsFileOf 2 o bytes.now) }
+    requires only { (o : Object) → IsFileOf 2 o bytes.now → found ≡ Some o }
+    ensures ok { IfOk result (λ o. IsFileOf 2 o bytes.now) }
+    ensures only { (o : Object) → IsFileOf 2 o bytes.now → result ≡ Ok o }
+    ensures rest { IfErr result (λ f. f ≡ wrong_rest bytes.now) }
+{
+    match found {
+        Some(o) => Ok(o),
+        None => Err(wrong_rest(bytes)),
+    }
+}
+
+// The object whose file bytes with a right header are.
+fn read_rest(alloc: Global, bytes: &[u8]) -> Result<Object, ElfFault>
+    requires { length bytes.now < 2 ^ 32 }
+    ensures ok { IfOk result (λ o. IsFileOf 2 o bytes.now) }
+    ensures only { (o : Object) → IsFileOf 2 o bytes.now → MatchResult result (λ p. p ≡ o) (λ f. f ≡ fault.NoMemory) }
+    ensures rest { IfErr result (λ f. (f ≡ wrong_rest bytes.now) ⊎ (f ≡ fault.NoMemory)) }
+{
+    match read_as(alloc, 2, bytes) {
+        Ok(found) => answered(bytes, found),
+        Err(NoMemory) => Err(ElfFault::NoMemory),
     }
 }
 
@@ -180,12 +224,9 @@ pub fn read_object(alloc: Global, bytes: &[u8]) -> Result<Object, ElfFault>
     ensures field { (f : Field) (at : ℕ) → result ≡ Err (fault.BadField f at) → IsWrong bytes.now f at }
     ensures reloc { (at : ℕ) → result ≢ Err (fault.BadReloc at) }
 {
-    if let Some(fault) = wrong_header(bytes) {
-        return Err(fault);
-    }
-    match read_as(alloc, 2, bytes)? {
-        Some(o) => Ok(o),
-        None => Err(wrong_rest(bytes)),
+    match wrong_header(bytes) {
+        Some(fault) => Err(fault),
+        None => read_rest(alloc, bytes),
     }
 }
 
@@ -195,26 +236,27 @@ pub fn version(alloc: Global, bytes: &[u8]) -> Result<Option<u32>, NoMemory>
     ensures two { IfOk result (λ v. (v ≡ Some 2) ↔ ((o : Object) × IsFileOf 2 o bytes.now)) }
     ensures one { IfOk result (λ v. (v ≡ Some 1) ↔ ((o : Object) × IsFileOf 1 o bytes.now)) }
 {
-    if is_file(alloc, 2, bytes)? {
-        Ok(Some(2))
-    } else if is_file(alloc, 1, bytes)? {
-        Ok(Some(1))
-    } else {
-        Ok(None)
+    let two = is_file(alloc, 2, bytes)?;
+    if two {
+        return Ok(Some(2));
     }
+    let one = is_file(alloc, 1, bytes)?;
+    if one { Ok(Some(1)) } else { Ok(None) }
 }
 
 // Whether the bytes are a file with frame tables of a version. Bytes that end before their section headers do are none,
 // and are not read: so the work grows with the bytes and not with what they claim.
-#[tactic(auto, using(crate::proofs::Clauses::ends_within, crate::proofs::Clauses::is_no_file))]
 fn is_file(alloc: Global, version: u32, bytes: &[u8]) -> Result<bool, NoMemory>
     requires { (version ≡ 1) ⊎ (version ≡ 2) }
     ensures { IfOk result (λ b. (b ≡ true) ↔ ((o : Object) × IsFileOf version o bytes.now)) }
 {
-    if bytes.len() < end_of(bytes) {
+    let len = bytes.len();
+    let end = end_of(bytes);
+    if len < end {
         return Ok(false);
     }
-    match read_as(alloc, version, bytes)? {
+    let found = read_as(alloc, version, bytes)?;
+    match found {
         Some(o) => {
             drop(o);
             Ok(true)

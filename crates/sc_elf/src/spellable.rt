@@ -1,12 +1,14 @@
 // Which objects have a file.
-ghost use Rattle.std.specs.Prelude.{◌≡◌, ◌+◌, length, IfOk};
+ghost use Rattle.std.specs.Prelude.{◌≡◌, ◌≤◌, ◌+◌, length, IfOk};
 ghost use Rattle.std.specs.List.{list_all, prefix_len};
 ghost use Rattle.sc_object.specs.Parts.{is_local, all_relas};
 ghost use Rattle.sc_object.specs.Reading.{is_name, held, is_word, is_section, is_below, is_symbol, is_global, locals_first, is_addend, is_reloc, by_sections, is_slot, line_fits, is_block, is_frame, fits, is_spellable_in};
 
 use crate::relocations::relas;
 use sc_base::NoMemory;
-use sc_object::{BlockTable, FrameTable, Object, Reloc, Section, SectionKind, Symbol, is_kind};
+use sc_object::{
+    BlockTable, FrameTable, Object, Rela, Reloc, Section, SectionKind, Symbol, is_kind,
+};
 use sc_program::Slot;
 use std::alloc::Global;
 
@@ -58,7 +60,8 @@ fn is_symbol(sections: usize, s: &Symbol) -> bool
 }
 
 fn locals(symbols: &[Symbol]) -> usize
-    ensures { result ≡ prefix_len is_local symbols.now }
+    ensures len { result ≡ prefix_len is_local symbols.now }
+    ensures bound { result ≤ length symbols.now }
 {
     symbols.iter().take_while(|s| !s.global).count()
 }
@@ -72,7 +75,8 @@ fn all_global(symbols: &[Symbol]) -> bool
 fn locals_first(symbols: &[Symbol]) -> bool
     ensures { result ≡ locals_first symbols.now }
 {
-    all_global(&symbols[locals(symbols).min(symbols.len())..])
+    let (_, rest) = symbols.split_at(locals(symbols));
+    all_global(rest)
 }
 
 fn is_addend(addend: i32) -> bool
@@ -91,6 +95,7 @@ fn is_reloc(sections: usize, symbols: usize, r: &Reloc) -> bool
         && is_addend(r.addend)
 }
 
+#[tactic(auto, using(crate::proofs::Loops::sorted_stop, crate::proofs::Loops::sorted_end))]
 fn by_sections(relocs: &[Reloc]) -> bool
     ensures { result ≡ by_sections 0 relocs.now }
 {
@@ -110,6 +115,12 @@ fn is_slot(s: &Slot) -> bool
     is_word(s.offset as usize) && is_word(s.size as usize)
 }
 
+fn all_slots(slots: &[Slot]) -> bool
+    ensures { result ≡ list_all is_slot slots.now }
+{
+    slots.iter().all(|s| is_slot(s))
+}
+
 fn line_fits(version: u32, line: u32) -> bool
     ensures { result ≡ line_fits version line }
 {
@@ -122,7 +133,13 @@ fn is_block(version: u32, b: &BlockTable) -> bool
     line_fits(version, b.line)
         && is_word(b.line as usize)
         && is_word(b.slots.len())
-        && b.slots.as_slice().iter().all(|s| is_slot(s))
+        && all_slots(b.slots.as_slice())
+}
+
+fn all_blocks(version: u32, blocks: &[BlockTable]) -> bool
+    ensures { result ≡ list_all (is_block version) blocks.now }
+{
+    blocks.iter().all(|b| is_block(version, b))
 }
 
 fn is_frame(version: u32, symbols: usize, f: &FrameTable) -> bool
@@ -131,19 +148,16 @@ fn is_frame(version: u32, symbols: usize, f: &FrameTable) -> bool
     (f.symbol as usize) < symbols
         && is_word(f.cost as usize)
         && is_word(f.blocks.len())
-        && f.blocks.as_slice().iter().all(|b| is_block(version, b))
+        && all_blocks(version, f.blocks.as_slice())
 }
 
-fn fits(o: &Object, relas: usize, len: usize) -> bool
-    requires { relas ≡ length (all_relas o.now) }
+fn fits(o: &Object, relas: &[Rela], len: usize) -> bool
+    requires { relas.now ≡ all_relas o.now }
     ensures { result ≡ fits o.now len }
 {
-    let sections = o.sections.as_slice().len();
+    let sections = o.sections.as_slice().len() + relas.len();
     let symbols = o.symbols.as_slice().len();
-    sections + relas + 5 < 65280
-        && symbols + 1 < 16777216
-        && is_word(o.frames.len())
-        && is_word(len)
+    sections + 5 < 65280 && symbols + 1 < 16777216 && is_word(o.frames.len()) && is_word(len)
 }
 
 fn all_sections(sections: &[Section]) -> bool
@@ -189,6 +203,6 @@ pub fn is_spellable_in(
             && all_relocs(sections, symbols, o.relocs.as_slice())
             && by_sections(o.relocs.as_slice())
             && all_frames(version, symbols, o.frames.as_slice())
-            && fits(o, relas.len(), len),
+            && fits(o, relas.as_slice(), len),
     )
 }

@@ -66,10 +66,7 @@ fn text(alloc: Global) -> Result<Section, NoMemory> {
     Ok(Section {
         name: Bytes::from_slice(alloc, b"f")?,
         kind: SectionKind::Text,
-        bytes: Bytes::from_slice(
-            alloc,
-            b"\x97\x00\x00\x00\xe7\x80\x00\x00\x67\x80\x00\x00",
-        )?,
+        bytes: Bytes::from_slice(alloc, b"\x97\x00\x00\x00\xe7\x80\x00\x00\x67\x80\x00\x00")?,
         size: 12,
     })
 }
@@ -162,11 +159,20 @@ fn a_file_is_read_as_its_object(rt: HostRuntime) -> Result<(), Fail> {
 fn other_bytes_are_refused(rt: HostRuntime) -> Result<(), Fail> {
     let alloc = rt.alloc();
     let mut file = file(alloc)?;
-    assert_eq!(rt; read_again(alloc, &file[..51]).err(), Some(ElfFault::Truncated(51)));
+    assert_eq!(rt;
+        read_again(alloc, &file[..51]).err(),
+        Some(ElfFault::Truncated(51))
+    );
     file.push(0)?;
-    assert_eq!(rt; read_again(alloc, file.as_slice()).err(), Some(ElfFault::BadField(Field::End, 508)));
+    assert_eq!(rt;
+        read_again(alloc, file.as_slice()).err(),
+        Some(ElfFault::BadField(Field::End, 508))
+    );
     file[18] = 0;
-    assert_eq!(rt; read_again(alloc, file.as_slice()).err(), Some(ElfFault::BadField(Field::Machine, 18)));
+    assert_eq!(rt;
+        read_again(alloc, file.as_slice()).err(),
+        Some(ElfFault::BadField(Field::Machine, 18))
+    );
     assert_eq!(rt; version(alloc, file.as_slice())?, None);
     Ok(())
 }
