@@ -92,16 +92,16 @@ pub file_ends : (o : Object) → IsSpellable o → end_of (spelled o) ≡ length
 file_ends o ok = whole_ends 2 block_back_2 o ok
 
 pub file_not_short : (version : ℕ) (bytes : List ℕ) (o : Object) → (version ≡ 1) ⊎ (version ≡ 2) → IsFileOf version o bytes → length bytes < end_of bytes → ⊥
-file_not_short version bytes o (inl e) file short =
+file_not_short version bytes o (inl e) file early =
     let ok : is_spellable 1 o ≡ true = subst (λ v. is_spellable v o ≡ true) e file.0 in
     let same : spelled_as 1 o ≡ bytes = subst (λ v. spelled_as v o ≡ bytes) e file.1 in
     let end : end_of bytes ≡ length bytes = subst (λ z. end_of z ≡ length z) same (whole_ends 1 block_back_1 o ok) in
-    absurd (omega (arith, end, short))
-file_not_short version bytes o (inr e) file short =
+    absurd (omega (arith, end, early))
+file_not_short version bytes o (inr e) file early =
     let ok : is_spellable 2 o ≡ true = subst (λ v. is_spellable v o ≡ true) e file.0 in
     let same : spelled_as 2 o ≡ bytes = subst (λ v. spelled_as v o ≡ bytes) e file.1 in
     let end : end_of bytes ≡ length bytes = subst (λ z. end_of z ≡ length z) same (whole_ends 2 block_back_2 o ok) in
-    absurd (omega (arith, end, short))
+    absurd (omega (arith, end, early))
 
 -- bytes that begin with another list's header end as it does
 same_end : (xs ys : List ℕ) (n : ℕ) → 52 ≤ n → take n xs ≡ take n ys → end_of xs ≡ end_of ys

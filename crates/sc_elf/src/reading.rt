@@ -98,10 +98,9 @@ fn is_file_of(alloc: Global, version: u32, o: &Object, bytes: &[u8]) -> Result<b
     let again = write_as(alloc, version as usize, o)?;
     let same = is_same(again.as_slice(), bytes);
     if same {
-        is_spellable_in(alloc, version, o, again.len())
-    } else {
-        Ok(false)
+        return is_spellable_in(alloc, version, o, again.len());
     }
+    Ok(false)
 }
 
 // The object that the bytes say, if they are its file.

@@ -87,44 +87,66 @@ fn symbol(
     })
 }
 
-fn frame(alloc: Global) -> Result<FrameTable, NoMemory> {
-    let mut slots = Items::new(alloc);
-    slots.push(Slot {
-        offset: 0,
-        size: 4,
-        constant: true,
-    })?;
-    let mut blocks = Items::new(alloc);
-    blocks.push(BlockTable { line: 1, slots })?;
-    Ok(FrameTable {
-        symbol: 0,
-        cost: 16,
-        blocks,
-    })
+fn sections(alloc: Global) -> Result<Items<Section>, NoMemory> {
+    let mut all = Items::new(alloc);
+    all.push(text(alloc)?)?;
+    Ok(all)
 }
 
-// The object of that file.
-fn object(alloc: Global) -> Result<Object, NoMemory> {
-    let mut sections = Items::new(alloc);
-    sections.push(text(alloc)?)?;
-    let mut symbols = Items::new(alloc);
-    symbols.push(symbol(alloc, b"f", Some(0), 2, 12)?)?;
-    symbols.push(symbol(alloc, b"g", None, 0, 0)?)?;
-    let mut relocs = Items::new(alloc);
-    relocs.push(Reloc {
+fn symbols(alloc: Global) -> Result<Items<Symbol>, NoMemory> {
+    let mut all = Items::new(alloc);
+    all.push(symbol(alloc, b"f", Some(0), 2, 12)?)?;
+    all.push(symbol(alloc, b"g", None, 0, 0)?)?;
+    Ok(all)
+}
+
+fn relocs(alloc: Global) -> Result<Items<Reloc>, NoMemory> {
+    let mut all = Items::new(alloc);
+    all.push(Reloc {
         section: 0,
         at: 0,
         kind: 19,
         symbol: 1,
         addend: -4,
     })?;
-    let mut frames = Items::new(alloc);
-    frames.push(frame(alloc)?)?;
+    Ok(all)
+}
+
+fn slots(alloc: Global) -> Result<Items<Slot>, NoMemory> {
+    let mut all = Items::new(alloc);
+    all.push(Slot {
+        offset: 0,
+        size: 4,
+        constant: true,
+    })?;
+    Ok(all)
+}
+
+fn blocks(alloc: Global) -> Result<Items<BlockTable>, NoMemory> {
+    let slots = slots(alloc)?;
+    let mut all = Items::new(alloc);
+    all.push(BlockTable { line: 1, slots })?;
+    Ok(all)
+}
+
+fn frames(alloc: Global) -> Result<Items<FrameTable>, NoMemory> {
+    let blocks = blocks(alloc)?;
+    let mut all = Items::new(alloc);
+    all.push(FrameTable {
+        symbol: 0,
+        cost: 16,
+        blocks,
+    })?;
+    Ok(all)
+}
+
+// The object of that file.
+fn object(alloc: Global) -> Result<Object, NoMemory> {
     Ok(Object {
-        sections,
-        symbols,
-        relocs,
-        frames,
+        sections: sections(alloc)?,
+        symbols: symbols(alloc)?,
+        relocs: relocs(alloc)?,
+        frames: frames(alloc)?,
     })
 }
 
@@ -137,11 +159,30 @@ fn read_again(alloc: Global, bytes: &[u8]) -> Result<Vec<u8>, ElfFault> {
     Ok(write_object(alloc, &object)?)
 }
 
+fn refusal(alloc: Global, bytes: &[u8]) -> Option<ElfFault> {
+    match read_again(alloc, bytes) {
+        Ok(_) => None,
+        Err(fault) => Some(fault),
+    }
+}
+
+// The file with a byte changed or added.
+fn changed(alloc: Global, at: usize, byte: u8) -> Result<Vec<u8>, NoMemory> {
+    let mut file = file(alloc)?;
+    if at < file.len() {
+        file[at] = byte;
+    } else {
+        file.push(byte)?;
+    }
+    Ok(file)
+}
+
 #[test]
 fn an_object_is_written_as_its_file(rt: HostRuntime) -> Result<(), Fail> {
     let alloc = rt.alloc();
     let object = object(alloc)?;
-    assert!(rt; write_object(alloc, &object)?.as_slice() == file(alloc)?.as_slice());
+    let written = write_object(alloc, &object)?;
+    assert!(rt; written.as_slice() == file(alloc)?.as_slice());
     Ok(())
 }
 
@@ -156,23 +197,33 @@ fn a_file_is_read_as_its_object(rt: HostRuntime) -> Result<(), Fail> {
 }
 
 #[test]
-fn other_bytes_are_refused(rt: HostRuntime) -> Result<(), Fail> {
+fn a_part_is_too_short(rt: HostRuntime) -> Result<(), Fail> {
     let alloc = rt.alloc();
-    let mut file = file(alloc)?;
+    let file = file(alloc)?;
+    let (part, _) = file.as_slice().split_at(51.min(file.len()));
+    assert_eq!(rt; refusal(alloc, part), Some(ElfFault::Truncated(51)));
+    Ok(())
+}
+
+#[test]
+fn another_machine_is_refused(rt: HostRuntime) -> Result<(), Fail> {
+    let alloc = rt.alloc();
+    let file = changed(alloc, 18, 0)?;
     assert_eq!(rt;
-        read_again(alloc, &file[..51]).err(),
-        Some(ElfFault::Truncated(51))
-    );
-    file.push(0)?;
-    assert_eq!(rt;
-        read_again(alloc, file.as_slice()).err(),
-        Some(ElfFault::BadField(Field::End, 508))
-    );
-    file[18] = 0;
-    assert_eq!(rt;
-        read_again(alloc, file.as_slice()).err(),
+        refusal(alloc, file.as_slice()),
         Some(ElfFault::BadField(Field::Machine, 18))
     );
     assert_eq!(rt; version(alloc, file.as_slice())?, None);
+    Ok(())
+}
+
+#[test]
+fn a_byte_behind_the_end_is_refused(rt: HostRuntime) -> Result<(), Fail> {
+    let alloc = rt.alloc();
+    let file = changed(alloc, 508, 0)?;
+    assert_eq!(rt;
+        refusal(alloc, file.as_slice()),
+        Some(ElfFault::BadField(Field::End, 508))
+    );
     Ok(())
 }

@@ -5,7 +5,7 @@ use Rattle.sc_elf.proofs.reading.is_file.Goals as goal
 
 pub returns-then-len-end : goal.returns-then-len-end
 returns-then-len-end c =
-    let short : length c.args.bytes.now < end_of c.args.bytes.now = omega (arith, c.len-len.ensures, c.end_of-end.ensures, c.if-len-end.true) in
+    let short : length c.args.bytes.now < end_of c.args.bytes.now = omega (arith, c.end_of-end.ensures, c.if-len-end.true) in
     decided_false (ends_within c.args.version c.args.bytes.now c.requires short)
 
 pub returns-in-Some : goal.returns-in-Some

@@ -10,8 +10,8 @@ returns-then-same c =
     let len : c.len.result ≡ length again = search rules in
     spelled_again c.args.version c.len.result c.args.o.now again c.args.bytes.now c.is_spellable_in.result c.in_ok-again.ensures same len c.is_spellable_in.ensures
 
-pub returns-else-same : goal.returns-else-same
-returns-else-same c =
+pub returns : goal.returns
+returns c =
     let again = c.in_ok-again.again.items in
     let differs : bytes_eq again c.args.bytes.now ≡ false = search rules in
     spelled_otherwise c.args.version c.args.o.now again c.args.bytes.now c.in_ok-again.ensures differs
