@@ -1,5 +1,5 @@
 -- A file of parts, read: its sections, and where it ends.
-use Rattle.std.proofs.Common.{◌≡◌, ◌<◌, ◌≤◌, ◌^◌, ◌*◌, ◌/◌, ◌%◌, ◌+◌, ◌-◌, ℕ, List, [], ◌∷◌, ◌++◌, length, drop, take, map, replicate, sym, ap, ◌∙◌, subst, arith, refl}
+use Rattle.std.proofs.Common.{◌≡◌, ◌<◌, ◌^◌, ◌*◌, ◌+◌, ◌-◌, ℕ, List, [], ◌∷◌, ◌++◌, length, drop, map, replicate, sym, ap, ◌∙◌, arith, refl}
 use Rattle.std.specs.Prelude.{fold}
 use Rattle.std.proofs.lemmas.List.{append_assoc, append-nil, length-append, length_push, drop_at}
 use Rattle.std.proofs.lemmas.List.Sums.{fold-append}

@@ -1,23 +1,22 @@
 -- What a reading finds, and that it finds each object by its file.
-use Rattle.std.proofs.Common.{◌≡◌, ◌≢◌, ◌⊎◌, inl, inr, ◌<◌, ◌≤◌, ◌^◌, ◌*◌, ◌+◌, ◌-◌, ℕ, Bool, true, false, nat_lt, List, [], ◌∷◌, ◌++◌, length, drop, take, get_or, Option, Some, None, sym, ap, ◌∙◌, subst, arith, refl}
-use Rattle.std.specs.Prelude.{unwrap_or}
-use Rattle.std.proofs.lemmas.Bool.{cases_Bool, cond-true, cond-false, ltb-true, ltb-false, lt-ltb, le-ltb}
+use Rattle.std.proofs.Common.{◌≡◌, ◌⊎◌, inl, inr, ◌<◌, ◌≤◌, ◌*◌, ◌+◌, ◌-◌, ℕ, true, nat_lt, List, [], ◌∷◌, ◌++◌, length, drop, take, get_or, Some, None, sym, ap, ◌∙◌, subst, arith, refl}
+use Rattle.std.proofs.lemmas.Bool.{cases_Bool, cond-true, cond-false}
 use Rattle.std.proofs.lemmas.List.{length-append, length-take, take_at, drop_at, take_all, take-take}
 use Rattle.sc_object.specs.declared.object.Object.{Object}
 use Rattle.sc_object.specs.Spelling.{spelled, spelled_as}
-use Rattle.sc_object.specs.Reading.{is_spellable, IsSpellable, IsFileOf, IsShort, end_of, half_at, word_at, value_of}
+use Rattle.sc_object.specs.Reading.{is_spellable, IsSpellable, IsFileOf, end_of, value_of}
 use Rattle.sc_elf.specs.declared.field.Field.{Field}
 use Rattle.sc_elf.specs.declared.field.Field.TheVariants.{SectionEntry, End}
 use Rattle.sc_elf.specs.declared.field.ElfFault.{ElfFault}
 use Rattle.sc_elf.specs.declared.field.ElfFault.TheVariants.{Truncated, BadField, BadReloc, NoMemory}
 use Rattle.sc_elf.specs.declared.piece.Piece.{Piece}
 use Rattle.sc_elf.specs.Parsed.{file_pieces, object_in, object_from, parsed_pieces, parsed}
-use Rattle.sc_elf.specs.Fields.{width, IsWrong}
+use Rattle.sc_elf.specs.Fields.{IsWrong}
 use Rattle.sc_elf.specs.Tests.{wrong_header, wrong_rest}
 use Rattle.sc_elf.proofs.FramesRead.{block_back_1, block_back_2}
 use Rattle.sc_elf.proofs.Laying.{piece_of}
 use Rattle.sc_elf.proofs.Whole.{front, saber, symtab, strtab, shstrtab, pieces_are, object_back, whole_ends}
-use Rattle.sc_elf.proofs.Headers.{same_front, refused_field, refused_short, Found, found, little, other, short, right}
+use Rattle.sc_elf.proofs.Headers.{same_front, refused_field, found, little, other, short, right}
 
 -- the last four sections of a file
 last_four : (ps : List Piece) (s t n m : Piece) → length (ps ++ s ∷ t ∷ n ∷ m ∷ []) - 4 ≡ length ps

@@ -1,16 +1,15 @@
 -- The tables of frames, written and read.
-use Rattle.std.proofs.Common.{◌≡◌, ◌<◌, ◌≤◌, ◌^◌, ◌*◌, ◌+◌, ◌-◌, ◌==◌, ◌&&◌, ◌||◌, not, ℕ, Bool, true, false, cond, nat_lt, List, [], ◌∷◌, ◌++◌, length, drop, Option, Some, None, if◌then◌else◌, sym, ap, ◌∙◌, subst, arith, refl}
+use Rattle.std.proofs.Common.{◌≡◌, ◌<◌, ◌≤◌, ◌^◌, ◌*◌, ◌+◌, ◌-◌, ◌==◌, ◌&&◌, ℕ, Bool, true, false, nat_lt, List, [], ◌++◌, length, drop, Some, None, if◌then◌else◌, sym, ap, ◌∙◌, arith, refl}
 use Rattle.std.specs.Prelude.{flat_map, option_map}
 use Rattle.std.specs.List.{list_all}
 use Rattle.std.proofs.lemmas.Bool.{and_parts, cond-false, ltb-true, le-ltb, eqb-true}
-use Rattle.std.proofs.lemmas.List.{append_assoc, append-nil, length-append, drop_at}
+use Rattle.std.proofs.lemmas.List.{append-nil, length-append, drop_at}
 use Rattle.sc_program.specs.declared.frame.Slot.{Slot}
 use Rattle.sc_object.specs.declared.object.BlockTable.{BlockTable}
 use Rattle.sc_object.specs.declared.object.FrameTable.{FrameTable}
-use Rattle.sc_object.specs.Words.{word}
 use Rattle.sc_object.specs.Parts.{slot_words, block_words, frame_words, saber_words}
-use Rattle.sc_object.specs.Reading.{value_of, is_word, is_slot, line_fits, is_block, is_frame}
-use Rattle.sc_elf.specs.Tables.{rows, many, slot_in, head_len, slot_count, block_len, block_of, block_in, frame_of, frame_in, frames_in}
+use Rattle.sc_object.specs.Reading.{is_word, is_slot, line_fits, is_block, is_frame}
+use Rattle.sc_elf.specs.Tables.{rows, many, slot_in, slot_count, block_len, block_of, block_in, frame_of, frame_in, frames_in}
 use Rattle.sc_elf.proofs.Words.{low, value_word, rows_back, rows_length, many_back}
 
 constant_back : (b : Bool) → (low (if b then 1 else 0) == 1) ≡ b

@@ -1,13 +1,12 @@
 -- The parts of a file one behind another, written and read.
-use Rattle.std.proofs.Common.{◌≡◌, ◌<◌, ◌≤◌, ◌^◌, ◌*◌, ◌/◌, ◌%◌, ◌+◌, ◌-◌, ℕ, suc, Bool, true, false, cond, List, [], ◌∷◌, ◌++◌, length, drop, take, map, replicate, sym, ap, ◌∙◌, subst, arith, refl}
+use Rattle.std.proofs.Common.{◌≡◌, ◌≤◌, ◌*◌, ◌%◌, ◌+◌, ◌-◌, ℕ, suc, List, [], ◌∷◌, ◌++◌, length, drop, take, map, replicate, sym, ap, ◌∙◌, arith, refl}
 use Rattle.std.specs.Prelude.{flat_map, fold}
-use Rattle.std.proofs.lemmas.List.{append_assoc, append-nil, append_cancel_left, length-append, length-replicate, take_at, drop_at}
+use Rattle.std.proofs.lemmas.List.{append_assoc, append-nil, length-append, length-replicate, take_at, drop_at}
 use Rattle.sc_object.specs.declared.part.Part.{Part}
 use Rattle.sc_object.specs.declared.part.Laid.{Laid}
-use Rattle.sc_object.specs.Words.{word}
-use Rattle.sc_object.specs.Spelling.{padded, section_header, with_part, nothing_laid}
+use Rattle.sc_object.specs.Spelling.{padded, section_header, with_part}
 use Rattle.sc_elf.specs.declared.piece.Piece.{Piece}
-use Rattle.sc_elf.specs.Pieces.{held_by, filled, piece_in, behind_piece, pieces_in}
+use Rattle.sc_elf.specs.Pieces.{held_by, filled, piece_in, pieces_in}
 use Rattle.sc_elf.proofs.Words.{low}
 
 abbrev pub piece_of : Part → Piece

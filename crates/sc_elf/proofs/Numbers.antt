@@ -1,5 +1,5 @@
 -- The number that the first bytes of a list make.
-use Rattle.std.proofs.Common.{◌≡◌, ◌<◌, ◌^◌, ◌*◌, ◌+◌, ℕ, List, [], ◌∷◌, take, arith, refl, get_or}
+use Rattle.std.proofs.Common.{◌≡◌, ◌*◌, ◌+◌, ℕ, List, [], ◌∷◌, take, arith, refl, get_or}
 use Rattle.sc_object.specs.Reading.{value_of}
 
 pub first_two : (r : List ℕ) → value_of (take 2 r) ≡ get_or r 0 0 + 256 * get_or r 1 0

@@ -1,7 +1,7 @@
 -- The relocations of an object, written and read.
-use Rattle.std.proofs.Common.{◌≡◌, ◌<◌, ◌≤◌, ◌^◌, ◌*◌, ◌/◌, ◌%◌, ◌+◌, ◌-◌, ◌==◌, ◌&&◌, ◌||◌, ℕ, suc, Bool, true, false, cond, nat_lt, nat_le, List, [], ◌∷◌, ◌++◌, length, drop, take, map, sym, ap, ◌∙◌, subst, arith, refl, ◌⊎◌, inl, inr}
+use Rattle.std.proofs.Common.{◌≡◌, ◌<◌, ◌≤◌, ◌^◌, ◌*◌, ◌/◌, ◌%◌, ◌+◌, ◌-◌, ◌==◌, ◌&&◌, ◌||◌, ℕ, suc, Bool, true, false, nat_lt, nat_le, List, [], ◌∷◌, ◌++◌, length, drop, take, map, sym, ap, ◌∙◌, subst, arith, refl, inl, inr}
 use Rattle.std.specs.Prelude.{flat_map}
-use Rattle.std.specs.List.{list_all, prefix_len}
+use Rattle.std.specs.List.{list_all}
 use Rattle.std.proofs.lemmas.Bool.{and_parts, and_from, or_cases, cases_Bool, ltb-true, leb-true, le-leb, eqb-true, eqb-false, cond-true, cond-false, ne_eqb}
 use Rattle.std.proofs.lemmas.List.{append_assoc, append-nil, take-append-drop}
 use Rattle.std.proofs.lemmas.List.Concat.{flat_map-append}
@@ -11,7 +11,6 @@ use Rattle.sc_object.specs.declared.object.SectionKind.TheVariants.{Text, Data, 
 use Rattle.sc_object.specs.declared.object.Section.{Section}
 use Rattle.sc_object.specs.declared.object.Reloc.{Reloc}
 use Rattle.sc_object.specs.declared.part.Rela.{Rela}
-use Rattle.sc_object.specs.Words.{word}
 use Rattle.sc_object.specs.Parts.{entry_of, entries, is_of, group_len, rela_of, with_group, relas, section_part, rela_part, type_of}
 use Rattle.sc_object.specs.Reading.{is_word, is_kind, is_addend, is_reloc, by_sections}
 use Rattle.sc_elf.specs.declared.piece.Piece.{Piece}

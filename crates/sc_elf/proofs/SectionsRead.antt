@@ -1,5 +1,5 @@
 -- The sections of an object, written and read.
-use Rattle.std.proofs.Common.{◌≡◌, ◌+◌, ◌==◌, ◌&&◌, not, ℕ, Bool, true, false, cond, List, [], ◌∷◌, ◌++◌, length, drop, take, map, Option, Some, None, sym, ap, ◌∙◌, subst, arith, refl}
+use Rattle.std.proofs.Common.{◌≡◌, ◌==◌, ◌&&◌, ℕ, true, List, [], ◌∷◌, ◌++◌, length, map, Some, None, sym, ap, ◌∙◌, refl}
 use Rattle.std.specs.Prelude.{flat_map}
 use Rattle.std.specs.List.{list_all}
 use Rattle.std.proofs.lemmas.Bool.{and_parts, eqb-true}
@@ -7,7 +7,6 @@ use Rattle.std.proofs.lemmas.List.{append_assoc, append-nil}
 use Rattle.sc_object.specs.declared.object.SectionKind.{SectionKind}
 use Rattle.sc_object.specs.declared.object.SectionKind.TheVariants.{Text, Data, Rodata, Bss}
 use Rattle.sc_object.specs.declared.object.Section.{Section}
-use Rattle.sc_object.specs.declared.part.Part.{Part}
 use Rattle.sc_object.specs.declared.part.Rela.{Rela}
 use Rattle.sc_object.specs.Parts.{prefix, type_of, flags_of, section_part, rela_part}
 use Rattle.sc_object.specs.Reading.{is_name, held, is_word, is_section}

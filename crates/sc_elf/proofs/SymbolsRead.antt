@@ -1,17 +1,17 @@
 -- The table of symbols, written and read.
-use Rattle.std.proofs.Common.{◌≡◌, ◌<◌, ◌≤◌, ◌^◌, ◌*◌, ◌/◌, ◌%◌, ◌+◌, ◌-◌, ◌==◌, ◌&&◌, ℕ, suc, Bool, true, false, cond, nat_lt, nat_le, if◌then◌else◌, List, [], ◌∷◌, ◌++◌, length, drop, take, Option, Some, None, sym, ap, ◌∙◌, subst, arith, refl}
+use Rattle.std.proofs.Common.{◌≡◌, ◌<◌, ◌*◌, ◌%◌, ◌+◌, ◌-◌, ◌==◌, ◌&&◌, ℕ, suc, Bool, true, false, nat_lt, nat_le, if◌then◌else◌, List, [], ◌∷◌, ◌++◌, length, Option, Some, None, sym, ap, ◌∙◌, arith, refl}
 use Rattle.std.specs.Prelude.{flat_map, fold}
 use Rattle.std.specs.List.{list_all}
 use Rattle.std.proofs.lemmas.Bool.{and_parts, ltb-true, cond-false, ne_eqb, le-leb, lt-leb}
 use Rattle.std.proofs.lemmas.List.{append_assoc, append-nil, length-append}
 use Rattle.sc_object.specs.declared.object.Symbol.{Symbol}
 use Rattle.sc_object.specs.declared.part.SymbolTable.{SymbolTable}
-use Rattle.sc_object.specs.Words.{half, word}
-use Rattle.sc_object.specs.Parts.{info_of, number_of, symbol_entry, with_symbol}
+use Rattle.sc_object.specs.Words.{half}
+use Rattle.sc_object.specs.Parts.{number_of, symbol_entry, with_symbol}
 use Rattle.sc_object.specs.Reading.{value_of, is_name, is_below, is_word, is_symbol}
 use Rattle.sc_elf.specs.Pieces.{text, behind_text}
 use Rattle.sc_elf.specs.Tables.{section_at, symbol_in, symbols_in}
-use Rattle.sc_elf.proofs.Words.{low, value_half}
+use Rattle.sc_elf.proofs.Words.{value_half}
 use Rattle.sc_elf.proofs.FramesRead.{word_back}
 use Rattle.sc_elf.proofs.Texts.{text_back, behind_back}
 

@@ -1,6 +1,6 @@
 -- The file of an object is read as that object.
-use Rattle.std.proofs.Common.{◌≡◌, ◌<◌, ◌≤◌, ◌^◌, ◌*◌, ◌/◌, ◌%◌, ◌+◌, ◌-◌, ◌&&◌, ℕ, Bool, true, IsTrue, nat_lt, List, [], ◌∷◌, ◌++◌, length, drop, take, map, replicate, Option, Some, None, codes, sym, ap, ◌∙◌, subst, arith, refl}
-use Rattle.std.specs.Prelude.{fold, flat_map, filter, option_map}
+use Rattle.std.proofs.Common.{◌≡◌, ◌<◌, ◌^◌, ◌/◌, ◌+◌, ◌&&◌, ℕ, Bool, true, nat_lt, List, [], ◌∷◌, ◌++◌, length, drop, map, replicate, Some, codes, sym, ap, ◌∙◌, subst, arith, refl}
+use Rattle.std.specs.Prelude.{flat_map, filter, option_map}
 use Rattle.std.specs.List.{list_all}
 use Rattle.std.proofs.lemmas.Bool.{and_parts, ltb-true}
 use Rattle.std.proofs.lemmas.List.{append_assoc, append-nil, length-append, length-map, length_push, map-append}
@@ -12,13 +12,12 @@ use Rattle.sc_object.specs.declared.part.Part.{Part}
 use Rattle.sc_object.specs.declared.part.Rela.{Rela}
 use Rattle.sc_object.specs.declared.part.SymbolTable.{SymbolTable}
 use Rattle.sc_object.specs.Parts.{section_part, rela_part, block_words, saber_words, saber_part, symbol_table, is_local, symbols_part, strings_part, tables, all_relas, symbols_at, parts}
-use Rattle.sc_object.specs.Spelling.{names_part, nothing_laid, file_of_parts, spelled_as}
+use Rattle.sc_object.specs.Spelling.{names_part, nothing_laid, spelled_as}
 use Rattle.sc_object.specs.Reading.{is_section, is_symbol, locals_first, is_reloc, by_sections, is_block, is_frame, is_word, fits, is_spellable, end_of}
 use Rattle.sc_elf.specs.declared.piece.Piece.{Piece}
-use Rattle.sc_elf.specs.Pieces.{held_by}
-use Rattle.sc_elf.specs.Tables.{block_in, sections_in, relocs_in, symbols_in, frames_in}
+use Rattle.sc_elf.specs.Tables.{block_in, sections_in, relocs_in, symbols_in}
 use Rattle.sc_elf.specs.Parsed.{file_pieces, object_of, object_in}
-use Rattle.sc_elf.proofs.Words.{low, value_word}
+use Rattle.sc_elf.proofs.Words.{value_word}
 use Rattle.sc_elf.proofs.FramesRead.{frames_back}
 use Rattle.sc_elf.proofs.Laying.{piece_of, with_zero, names_are, Within, within, AllHeld, more_contents}
 use Rattle.sc_elf.proofs.SectionsRead.{section_held, sections_back}

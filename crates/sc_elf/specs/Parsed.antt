@@ -1,6 +1,6 @@
 -- Machine: the program once more; a theorem ties it to a yardstick (docs/TRUST.md).
 -- The object that a reading finds, before it is written again and compared.
-use Rattle.std.specs.Prelude.{ℕ, ◌+◌, ◌-◌, ◌/◌, ◌==◌, ◌&&◌, if◌then◌else◌, List, [], ◌∷◌, ◌++◌, length, take, drop, Option, None, Some, option_map, option_and_then}
+use Rattle.std.specs.Prelude.{ℕ, ◌+◌, ◌-◌, ◌/◌, List, [], ◌∷◌, length, take, drop, Option, None, option_map}
 use Rattle.sc_object.specs.declared.object.FrameTable.{FrameTable}
 use Rattle.sc_object.specs.declared.object.Object.{Object}
 use Rattle.sc_object.specs.Reading.{half_at, word_at}

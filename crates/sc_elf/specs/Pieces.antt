@@ -1,6 +1,6 @@
 -- Machine: the program once more; a theorem ties it to a yardstick (docs/TRUST.md).
 -- What a reading takes from the front of the bytes: the sections of a file, without their names.
-use Rattle.std.specs.Prelude.{ℕ, zero, suc, ◌+◌, ◌-◌, ◌*◌, ◌/◌, ◌%◌, ◌==◌, if◌then◌else◌, not, Bool, List, [], ◌∷◌, length, take, drop}
+use Rattle.std.specs.Prelude.{ℕ, zero, suc, ◌+◌, ◌-◌, ◌%◌, ◌==◌, if◌then◌else◌, not, Bool, List, [], ◌∷◌, take, drop}
 use Rattle.std.specs.List.{prefix_len}
 use Rattle.sc_object.specs.Reading.{word_at}
 use Rattle.sc_elf.specs.declared.piece.Piece.{Piece}

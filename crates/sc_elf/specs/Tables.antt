@@ -1,6 +1,6 @@
 -- Machine: the program once more; a theorem ties it to a yardstick (docs/TRUST.md).
 -- What a reading takes from the tables of a file.
-use Rattle.std.specs.Prelude.{ℕ, zero, suc, ◌+◌, ◌-◌, ◌*◌, ◌/◌, ◌%◌, ◌==◌, ◌&&◌, if◌then◌else◌, nat_lt, nat_le, Bool, List, [], ◌∷◌, ◌++◌, length, take, drop, flat_map, Option, None, Some, option_map, option_and_then, slice_index}
+use Rattle.std.specs.Prelude.{ℕ, zero, suc, ◌+◌, ◌-◌, ◌*◌, ◌/◌, ◌%◌, ◌==◌, ◌&&◌, if◌then◌else◌, nat_lt, nat_le, List, [], ◌∷◌, ◌++◌, length, drop, flat_map, Option, None, Some, option_map, option_and_then, slice_index}
 use Rattle.std.specs.Int.{w32, cast_signed}
 use Rattle.sc_program.specs.declared.frame.Slot.{Slot}
 use Rattle.sc_object.specs.declared.object.SectionKind.{SectionKind}
