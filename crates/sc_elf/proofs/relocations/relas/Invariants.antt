@@ -1,4 +1,4 @@
-use Rattle.std.proofs.Common.{◌≡◌, [], drop}
+use Rattle.std.proofs.Common.{◌≡◌, drop}
 use Rattle.sc_object.specs.Parts.{relas, all_relas}
 use Rattle.sc_elf.proofs.relocations.relas.Given as goal
 

@@ -1,0 +1,5 @@
+//! Tests of objects as files.
+#![tactic(auto)]
+
+#[cfg(test)]
+mod files;
