@@ -1,26 +1,25 @@
 -- A go halts at the first selected event behind the place where it began.
-use Rattle.std.proofs.Common.{◌≡◌, ◌⊎◌, inl, inr, ℕ, zero, suc, ◌+◌, ◌-◌, ◌*◌, ◌<◌, ◌≤◌, nat_le, Bool, true, false, ◌||◌, if◌then◌else◌, List, [], ◌∷◌, ◌++◌, length, drop, take, append_assoc, refl, sym, ap, ◌∙◌, subst, arith, Option, Some, None}
+use Rattle.std.proofs.Common.{◌≡◌, ◌⊎◌, inl, inr, ℕ, zero, suc, ◌+◌, ◌*◌, ◌<◌, ◌≤◌, nat_le, Bool, true, false, ◌||◌, if◌then◌else◌, List, [], ◌∷◌, ◌++◌, length, drop, append_assoc, refl, sym, ap, ◌∙◌, subst, arith, Option, Some, None}
 use Rattle.std.proofs.lemmas.List.{append-nil}
-use Rattle.sc_core.specs.declared.module.Init.{Init}
 use Rattle.sc_program.specs.declared.storage.StaticId.{StaticId}
 use Rattle.sc_program.specs.declared.storage.StaticId.TheVariants.{Named, Literal}
 use Rattle.sc_base.specs.declared.memory.Kind.{Kind}
-use Rattle.sc_meaning.specs.World.{World, Frame, Item, Event, Enter, Leave, At, Out, Happens, Birth, Put, Name, GoesOut, ComesBack, pass, events, named_in}
+use Rattle.sc_meaning.specs.World.{World, Frame, Item, Event, Enter, Leave, At, Out, Birth, Put, Name, GoesOut, ComesBack, pass, events, named_in}
 use Rattle.sc_meaning.specs.declared.spot.Spot.{Spot}
-use Rattle.sc_meaning.specs.Outcomes.{Outcome, Done, Over, BirthLimit, Ending, Exit, and_then, world_after, world_at, went}
+use Rattle.sc_meaning.specs.Outcomes.{Outcome, Done, Over, BirthLimit, Ending, and_then, world_after, world_at, went}
 use Rattle.sc_meaning.specs.Versions.{Text, Definition, callee_of, object_in, births_of}
-use Rattle.sc_meaning.specs.Changes.{born, born_as, born_static, born_unless, born_all, unnamed, filled, filled_all, born_and_filled, statics_born, static_contents, contents_size, kind_of}
-use Rattle.sc_meaning.specs.Behaviour.{Start, first_world, main_key, ending, events_upto}
+use Rattle.sc_meaning.specs.Changes.{born, born_as, born_static, born_unless, born_all, unnamed, filled, filled_all, statics_born, static_contents, contents_size, kind_of}
+use Rattle.sc_meaning.specs.Behaviour.{Start, first_world, main_key, events_upto}
 use Rattle.sc_meaning.proofs.Trails.{events-append}
-use Rattle.sc_interp_machine.specs.Runs.{Caller, State, Runs, Makes, Answers, Ends, then_goes}
+use Rattle.sc_interp_machine.specs.Runs.{State, Runs, Makes, Answers, Ends, then_goes}
 use Rattle.sc_interp_laws.specs.Worlds as course
 use Rattle.sc_interp_laws.specs.Events.{IsPrefix}
-use Rattle.sc_interp_laws.specs.Inside.{IsInside, Inside, AreHidden, all_told}
+use Rattle.sc_interp_laws.specs.Inside.{IsInside, Inside, AreHidden}
 use Rattle.sc_interp_laws.proofs.Lawfully.{along_here, along_one, along_on}
-use Rattle.sc_interp_laws.proofs.Inside.{inside_calls, inside_hidden, hidden_on}
+use Rattle.sc_interp_laws.proofs.Inside.{inside_hidden, hidden_on}
 use Rattle.sc_interp.specs.declared.stepped.Shown.{Shown}
 use Rattle.sc_interp.specs.declared.stepped.Shown.TheVariants as shown
-use Rattle.sc_interp.specs.Steady.{alone, callee_next, advance}
+use Rattle.sc_interp.specs.Steady.{alone, advance}
 use Rattle.sc_interp.specs.Shows.{shown as shown_by, entry_shown}
 use Rattle.sc_interp.specs.Steps.{is_over}
 use Rattle.sc_interp.specs.Ends.{start_of}
@@ -33,11 +32,11 @@ use Rattle.sc_words.specs.Stops.{is_matched}
 use Rattle.sc_world.specs.declared.halt.Halt.{Halt}
 use Rattle.sc_world.specs.declared.halt.Halt.TheVariants as halt
 use Rattle.sc_world.specs.Standing.{Standing, world_of, has_ended}
-use Rattle.sc_world.specs.Wants.{Want, walks, halt_if, line_wanted, entry_wanted, wanted, else_over, halts, taken, halt_or, else_paused, rests}
+use Rattle.sc_world.specs.Wants.{Want, walks, halt_if, wanted, else_over, halts, taken, halt_or, else_paused, rests}
 use Rattle.sc_world.specs.Costs.{bytes_touched}
-use Rattle.sc_world.specs.Goes.{moved_on, stepped, seen, here_or, gone, with_status, closed, Leaves, want_of, Goes, main_next, first_from, first_standing, started}
+use Rattle.sc_world.specs.Goes.{stepped, seen, here_or, gone, with_status, closed, want_of, Goes, main_next, first_standing, started}
 use Rattle.sc_world.specs.Meant.{IsRunOf}
-use Rattle.sc_world_laws.specs.Halts.{first_of, Free, GoesFree}
+use Rattle.sc_world_laws.specs.Halts.{Free, GoesFree}
 use Rattle.sc_world_laws.specs.Told.{walks_to, selects, event_of, happening, Tells, IsFramed, now, IsAt, is_entry, IsFirst, HaltsAt}
 use Rattle.sc_world_laws.proofs.Halts.{free_on, goes_here, goes_on, halts_first, halts_free, bound}
 use Rattle.sc_world_laws.proofs.Shown.{events_begin, all_events}

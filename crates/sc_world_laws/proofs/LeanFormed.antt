@@ -1,6 +1,6 @@
 -- The functions of a formed module are lean.
 use Rattle.std.proofs.Common.{◌≡◌, ℕ, zero, suc, ◌+◌, ◌==◌, Bool, true, false, not, if◌then◌else◌, ◌||◌, List, [], ◌∷◌, ◌++◌, length, refl, sym, ap, ◌∙◌, subst, Option, Some, None}
-use Rattle.std.specs.Prelude.{◌&&◌, map, nat_lt, nat_le, is_some, option_and_then, ◌%◌}
+use Rattle.std.specs.Prelude.{◌&&◌, map, nat_lt, nat_le, is_some, option_and_then}
 use Rattle.std.specs.List.{list_any}
 use Rattle.sc_base.specs.declared.key.Key.{Key}
 use Rattle.sc_types.specs.declared.ctype.CType.{CType}
@@ -34,10 +34,10 @@ use Rattle.sc_core_formed.specs.Modules.{formed}
 use Rattle.std.specs.Str.{bytes_eq}
 use Rattle.sc_meaning.specs.declared.library.LibFun.{LibFun}
 use Rattle.sc_types.specs.Layouts.{size_in}
-use Rattle.sc_meaning.specs.Versions.{Text, Callee, Missing, InText, InLibrary, History, version_at, if_external, fun_by, or_library, library_callee, or_later, callee_of}
+use Rattle.sc_meaning.specs.Versions.{Text, Callee, if_external, fun_by, or_library, library_callee, or_later, callee_of}
 use Rattle.sc_meaning.specs.Names.{library_fun}
 use Rattle.sc_interp_laws.specs.Paid.{is_conversion, is_something, is_default, has_default, label_pays}
-use Rattle.sc_interp_laws.specs.Lean.{AllOf, IfAny, lean_level, LeanTo, Lean, lean_piece, LeanPiece, Once, stmt_level, LeanStmtTo, LeanStmt, LeanCallee, AreLean}
+use Rattle.sc_interp_laws.specs.Lean.{AllOf, IfAny, lean_level, LeanTo, Lean, LeanPiece, Once, stmt_level, LeanStmtTo, LeanStmt, LeanCallee, AreLean}
 use Rattle.sc_interp.specs.Steady.{alone}
 use Rattle.sc_world_laws.specs.Formed.{AreFormed}
 use Rattle.sc_interp.proofs.Unchanged.{present}

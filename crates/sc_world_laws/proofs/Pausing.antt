@@ -1,10 +1,10 @@
 -- A go that pauses has done work for its turns.
-use Rattle.std.proofs.Common.{◌≡◌, ◌⊎◌, inl, inr, ℕ, zero, suc, ◌+◌, ◌-◌, ◌*◌, ◌/◌, ◌<◌, ◌≤◌, nat_lt, Bool, true, false, List, [], ◌∷◌, ◌++◌, length, slice_index_or, refl, sym, ap, ◌∙◌, subst, arith, Option, Some, None}
+use Rattle.std.proofs.Common.{◌≡◌, ◌⊎◌, inl, inr, ℕ, zero, suc, ◌+◌, ◌-◌, ◌*◌, ◌/◌, ◌<◌, ◌≤◌, nat_lt, Bool, true, false, List, [], ◌∷◌, ◌++◌, slice_index_or, refl, sym, ap, ◌∙◌, subst, arith, Option, Some, None}
 use Rattle.sc_base.specs.declared.key.Key.{Key}
 use Rattle.sc_meaning.specs.World.{World, Item, Event, GoesOut, pass, work, work_of}
 use Rattle.sc_meaning.specs.Outcomes.{Outcome, Done, Over, world_at}
 use Rattle.sc_meaning.specs.Values.{Value}
-use Rattle.sc_meaning.specs.Versions.{Text, Callee, Missing, InText, InLibrary, callee_of, version_at}
+use Rattle.sc_meaning.specs.Versions.{Text, Callee, Missing, InText, InLibrary, callee_of}
 use Rattle.sc_meaning.specs.Changes.{statics_born}
 use Rattle.sc_meaning.specs.Behaviour.{Start, first_world, main_key, ending}
 use Rattle.sc_meaning.specs.Calls.{parameters}
@@ -28,16 +28,16 @@ use Rattle.sc_words.specs.declared.stop.Walk.{Walk}
 use Rattle.sc_world.specs.declared.halt.Halt.{Halt}
 use Rattle.sc_world.specs.declared.halt.Halt.TheVariants as halt
 use Rattle.sc_world.specs.Standing.{Standing, world_of}
-use Rattle.sc_world.specs.Wants.{Want, wanted, else_over, halts, taken, else_paused, rests}
+use Rattle.sc_world.specs.Wants.{Want, wanted, else_over, halts, taken, rests}
 use Rattle.sc_world.specs.Costs.{bytes_touched}
-use Rattle.sc_world.specs.Goes.{stepped, seen, here_or, gone, with_status, closed, want_of, Goes, main_next, first_from, started}
+use Rattle.sc_world.specs.Goes.{stepped, seen, here_or, gone, with_status, want_of, Goes, main_next, started}
 use Rattle.sc_world.specs.Meant.{IsRunOf}
 use Rattle.sc_world_laws.specs.Halts.{total}
 use Rattle.sc_world_laws.specs.Told.{event_of, PassedEach}
 use Rattle.sc_world_laws.proofs.Halts.{paused, passed_each}
 use Rattle.sc_world_laws.proofs.Shown.{run_leads}
 use Rattle.sc_world_laws.proofs.Turns.{same_world, there, touched_there}
-use Rattle.sc_world_laws.proofs.Halting.{sel, Chosen, Why, wanted_chosen, why_last, why_rests, paused_none, over_none, over_ended, left_state}
+use Rattle.sc_world_laws.proofs.Halting.{sel, Chosen, Why, wanted_chosen, why_last, why_rests, paused_none, over_ended, left_state}
 
 -- ---- one step
 

@@ -1,12 +1,11 @@
 -- The events of a run are the first of those that its program's meaning gives.
-use Rattle.std.proofs.Common.{◌≡◌, ℕ, ◌<◌, Bool, true, false, List, [], ◌∷◌, ◌++◌, append_assoc, refl, sym, ap, ◌∙◌, subst, arith, Option, Some, None}
+use Rattle.std.proofs.Common.{◌≡◌, ℕ, ◌<◌, true, List, [], ◌∷◌, ◌++◌, append_assoc, refl, sym, ap, ◌∙◌, subst, Some}
 use Rattle.sc_meaning.specs.World.{World, Item, GoesOut, ComesBack, pass, events}
-use Rattle.sc_meaning.specs.Outcomes.{Outcome, Done, Over, Ending, and_then, went, world_at, world_after}
-use Rattle.sc_meaning.specs.Versions.{Text, History, callee_of, version_at}
+use Rattle.sc_meaning.specs.Outcomes.{Outcome, Done, Over, and_then, went, world_at, world_after}
+use Rattle.sc_meaning.specs.Versions.{Text, callee_of, version_at}
 use Rattle.sc_meaning.specs.Changes.{settled, statics_born}
-use Rattle.sc_meaning.specs.Expressions.{Answer}
 use Rattle.sc_meaning.specs.Calls.{call}
-use Rattle.sc_meaning.specs.Behaviour.{Start, first_world, main_key, main_called, started, ending, ending_of, events_upto}
+use Rattle.sc_meaning.specs.Behaviour.{Start, first_world, main_key, main_called, started, ending, events_upto}
 use Rattle.sc_meaning.specs.Laws.{Leads}
 use Rattle.sc_meaning.proofs.Steps.{here, one_more}
 use Rattle.sc_meaning.proofs.Deeper.{ending_world}
@@ -22,7 +21,6 @@ use Rattle.sc_interp.specs.Steady as steady
 use Rattle.sc_interp.specs.Steady.{alone}
 use Rattle.sc_interp.proofs.Unchanged.{quiet, present, callee_step, same_run}
 use Rattle.sc_world.specs.Standing.{Standing, has_ended, world_of}
-use Rattle.sc_world.specs.Goes.{main_next}
 use Rattle.sc_world.specs.Meant.{IsReached, Stands, IsRunOf}
 
 -- the machine's first state behind the births, and its steps, where the program does not change

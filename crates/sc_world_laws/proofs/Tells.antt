@@ -1,12 +1,12 @@
 -- A step of a run tells at most one event, the last thing that happens in it, and it is the one that is shown.
-use Rattle.std.proofs.Common.{◌≡◌, ℕ, zero, suc, ◌+◌, ◌-◌, nat_lt, nat_le, Bool, true, false, if◌then◌else◌, List, [], ◌∷◌, ◌++◌, length, drop, append_assoc, slice_index_or, Option, Some, None, refl, sym, ap, ◌∙◌, subst, arith}
-use Rattle.std.proofs.lemmas.List.{append-nil, length-append}
+use Rattle.std.proofs.Common.{◌≡◌, ℕ, suc, ◌+◌, ◌-◌, nat_lt, nat_le, Bool, true, false, if◌then◌else◌, List, [], ◌∷◌, ◌++◌, length, drop, append_assoc, slice_index_or, Option, Some, None, refl, sym, ap, ◌∙◌, subst, arith}
+use Rattle.std.proofs.lemmas.List.{append-nil}
 use Rattle.sc_base.specs.declared.key.Key.{Key}
 use Rattle.sc_base.specs.declared.report.Rule.{Rule}
 use Rattle.sc_core.specs.declared.module.Auto.{Auto}
 use Rattle.sc_core.specs.declared.module.Fun.{Fun}
 use Rattle.sc_meaning.specs.Values.{Value, Number, FunctionAt, Pointer, cells_of}
-use Rattle.sc_meaning.specs.World.{World, Item, Event, Enter, Leave, At, Out, Happens, Birth, Put, Push, Pop, Stack, OpenBlock, Born, Frame, pass, events, events_of}
+use Rattle.sc_meaning.specs.World.{World, Item, Event, Enter, Leave, Happens, Birth, Put, Push, Pop, Stack, OpenBlock, Born, Frame, pass, events}
 use Rattle.sc_meaning.specs.declared.spot.Spot.TheVariants.{Slot}
 use Rattle.sc_meaning.specs.Outcomes.{Outcome, Done, Over, BirthLimit, and_then, world_after, world_at, went}
 use Rattle.sc_meaning.specs.Accesses.{set_at}
@@ -21,13 +21,12 @@ use Rattle.sc_interp_machine.specs.Bodies as body
 use Rattle.sc_interp_machine.specs.Runs.{Active, Caller, State, Runs, Makes, Answers, Ends, then_goes, answers}
 use Rattle.sc_interp_laws.specs.Worlds.{body_left, world_of}
 use Rattle.sc_interp_laws.specs.Inside.{IsInside, Inside, ActiveCall, call_in, calls, AreHidden}
-use Rattle.sc_interp_laws.specs.Lawful.{Along, IsOfHeap}
 use Rattle.sc_interp_laws.proofs.Lawfully.{along_here, along_one, along_on}
 use Rattle.sc_interp_laws.proofs.LibraryLawful as library
 use Rattle.sc_interp_laws.proofs.Inside.{body_inside, dead_inside, library_inside, inside_calls, inside_hidden, hidden_on}
 use Rattle.sc_interp.specs.Steady.{on_line, without_call, body_next, begins, with_frame, enters, callee_next, value_next, made_unless, advance}
 use Rattle.sc_interp.specs.Shows.{line_shown, entry_shown, shown}
-use Rattle.sc_interp.specs.declared.stepped.Shown.TheVariants.{Nothing, Line, Entered}
+use Rattle.sc_interp.specs.declared.stepped.Shown.TheVariants.{Line, Entered}
 use Rattle.sc_world_laws.specs.Told.{event_of, happening, Tells, IsFramed}
 
 -- what stays inside tells nothing

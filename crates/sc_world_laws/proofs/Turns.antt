@@ -1,13 +1,12 @@
 -- The turns of a run are paid by work.
-use Rattle.std.proofs.Common.{◌≡◌, ℕ, zero, suc, ◌+◌, ◌-◌, ◌*◌, ◌≤◌, Bool, true, false, List, [], ◌∷◌, refl, sym, ap, ◌∙◌, subst, arith}
-use Rattle.sc_meaning.specs.World.{World}
-use Rattle.sc_meaning.specs.Versions.{Text, History}
+use Rattle.std.proofs.Common.{◌≡◌, ℕ, zero, suc, ◌+◌, ◌-◌, ◌*◌, ◌≤◌, true, List, refl, subst, arith}
+use Rattle.sc_meaning.specs.Versions.{Text}
 use Rattle.sc_interp_machine.specs.Runs as runs
 use Rattle.sc_interp_machine.specs.Runs.{State, Runs, Makes, Answers, Ends}
 use Rattle.sc_interp_world.specs.Outputs.{bytes_moved}
 use Rattle.sc_interp_laws.specs.Worlds as course
 use Rattle.sc_interp_laws.specs.Paid.{done, credit, pays, RunPaid, AllPay}
-use Rattle.sc_interp_laws.specs.Moved.{Backed, StepBacked}
+use Rattle.sc_interp_laws.specs.Moved.{StepBacked}
 use Rattle.sc_interp_laws.proofs.Works.{leads_work}
 use Rattle.sc_interp_laws.proofs.RunSteps.{advance_leads}
 use Rattle.sc_interp_laws.proofs.RunPays.{advance_paid}

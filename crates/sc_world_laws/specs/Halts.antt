@@ -1,6 +1,6 @@
 -- Yardstick: to be compared with what it restates (docs/TRUST.md).
 -- Where a go halts among the events of a run.
-use Rattle.std.specs.Prelude.{◌≡◌, ℕ, zero, suc, ◌+◌, Bool, true, false, if◌then◌else◌, List, [], ◌∷◌, ◌++◌, Option, Some, None}
+use Rattle.std.specs.Prelude.{◌≡◌, ℕ, suc, ◌+◌, Bool, if◌then◌else◌, List, [], ◌∷◌, ◌++◌, Option, Some, None}
 
 abbrev pub one_later : Option ℕ → Option ℕ
 one_later None = None

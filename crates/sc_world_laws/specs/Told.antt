@@ -1,6 +1,6 @@
 -- Yardstick: to be compared with what it restates (docs/TRUST.md).
 -- What a step of a run tells, as an event of the meaning; where a run stands among its events; and where a go halts there.
-use Rattle.std.specs.Prelude.{◌≡◌, ℕ, suc, ◌+◌, ◌≤◌, ◌<◌, ◌/◌, nat_le, Bool, true, false, ◌||◌, List, [], ◌∷◌, ◌++◌, length, take, drop, Option, Some, None}
+use Rattle.std.specs.Prelude.{◌≡◌, ℕ, suc, ◌+◌, ◌≤◌, ◌<◌, ◌/◌, nat_le, Bool, true, false, ◌||◌, List, [], ◌∷◌, ◌++◌, length, take, drop, Some}
 use Rattle.sc_meaning.specs.World.{World, Frame, Event, Enter, Leave, At, Out, Item, Happens, events, work}
 use Rattle.sc_interp_laws.specs.Inside.{AreHidden}
 use Rattle.sc_interp_laws.specs.Events.{IsPrefix}
