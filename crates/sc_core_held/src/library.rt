@@ -10,7 +10,8 @@ use sc_base::{Int, Name};
 use sc_meaning::LibFun;
 use sc_types::{CType, Signature};
 
-const NAMES: [(&[u8], LibFun); 39] = [
+/// The names of the library, in the order of their numbers.
+pub const NAMES: [(&[u8], LibFun); 39] = [
     (b"putchar", LibFun::Putchar),
     (b"puts", LibFun::Puts),
     (b"printf", LibFun::Printf),

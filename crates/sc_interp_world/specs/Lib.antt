@@ -1,5 +1,4 @@
 -- Inside: plumbing, a representation, an invariant or a promise beside the claim (docs/TRUST.md).
-pub mod Cells
 pub mod Showings
 pub mod Happenings
 pub mod Outputs
