@@ -118,7 +118,13 @@ pub fn run(
 ) -> Result<Finished, NoMemory>
     ensures { IfOk result (λ r. EndsSo limits.steps (start_of texts.now limits.stack limits.heap input) r.ended r.world) }
 {
-    let mut world = World::new(alloc, limits.stack, limits.heap, input, layout_of(alloc, texts)?)?;
+    let mut world = World::new(
+        alloc,
+        limits.stack,
+        limits.heap,
+        input,
+        layout_of(alloc, texts)?,
+    )?;
     let ended = end_told(started(texts, limits.steps, &mut world));
     Ok(Finished { ended, world })
 }

@@ -63,12 +63,7 @@ pub fn static_size(texts: &[Text], id: &StaticId) -> Result<u32, NoMemory>
 }
 
 // The object of a key is born where it stands; where nothing defines it, it has no bytes.
-fn born_named(
-    texts: &[Text],
-    id: &StaticId,
-    key: &Key,
-    world: &mut World,
-) -> Result<u32, Stop>
+fn born_named(texts: &[Text], id: &StaticId, key: &Key, world: &mut World) -> Result<u32, Stop>
     ensures { Gives (spec.born_as id.now (versions.object_in texts.now key.now) world.old) result world.new }
 {
     let spot = Spot::Named(id.copy(world.alloc())?);

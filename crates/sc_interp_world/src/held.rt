@@ -6,8 +6,8 @@ ghost use Rattle.sc_meaning.specs.World as spec;
 use crate::cells::{copy_cells, unwritten};
 use crate::object::{Object, cells_at};
 use sc_base::{Items, Key, Kind, NoMemory, Shared};
-use sc_mem_store::{Cell, Store};
 use sc_meaning_values::Value;
+use sc_mem_store::{Cell, Store};
 use std::alloc::Global;
 use std::marker::Model;
 

@@ -4,8 +4,8 @@ ghost use Rattle.sc_meaning.specs.Values as spec;
 ghost use Rattle.sc_meaning.specs.World as world;
 
 use sc_base::{Items, NoMemory};
-use sc_mem_store::{Cell, value_byte};
 use sc_meaning_values::Value;
+use sc_mem_store::{Cell, value_byte};
 use std::alloc::Global;
 
 /// A value is stored as `n` bytes from an offset on, all of which have a place there.

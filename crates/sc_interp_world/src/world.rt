@@ -8,14 +8,14 @@ ghost use Rattle.sc_interp_world.specs.Outputs.{bytes_moved, output};
 
 use crate::beside::Beside;
 use crate::event::{Change, Event, Item, Showing};
-use crate::names::Names;
 use crate::held::Held;
+use crate::names::Names;
 use crate::object::{Born, Frame, Object};
 use crate::past::Past;
 use sc_base::{Bytes, Duplicate, Items, Key, Kind, Name, NoMemory, Shared, Stack};
-use sc_mem_store::Cell;
 use sc_meaning::Spot;
 use sc_meaning_values::Value;
+use sc_mem_store::Cell;
 use sc_program::StaticId;
 use std::alloc::Global;
 use std::marker::Model;
