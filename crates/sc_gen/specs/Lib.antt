@@ -1,0 +1,10 @@
+pub mod Jumps
+pub mod Initializers
+pub mod Statements
+pub mod Functions
+pub mod Blocks
+pub mod Sections
+pub mod Objects
+pub mod Nodes
+pub mod Turns
+pub mod Limits

@@ -1,0 +1,10 @@
+use Rattle.std.proofs.Common.{◌≡◌, ◌++◌, map, drop}
+use Rattle.sc_gen_expr.specs.Expressions.{part_of}
+use Rattle.sc_gen_expr.proofs.Waiting.{from}
+use Rattle.sc_gen_expr.proofs.expressions.+expression.Given as goal
+
+-- what is to come stands behind what is there
+abbrev pub invariant-arguments-loop-i : goal.invariant-arguments-loop-i
+invariant-arguments-loop-i l =
+    l.code ++ from l.i (map (part_of l.slots) (drop l.i l.args)) (drop l.i l.args) l.own
+    ≡ l.initial.code ++ from 0 (map (part_of l.slots) l.args) l.args l.fn.t

@@ -1,0 +1,131 @@
+// What is written of an object so far: the words of one text, relocations, and the targets that they name.
+ghost use Rattle.std.specs.Prelude.{◌≡◌, ◌+◌, ◌*◌, ◌<◌, ◌^◌, [], ◌∷◌, ◌++◌, length, slice_get, min, None, Some, MatchOption, OnOk, IfOk, pos};
+ghost use Rattle.sc_gen_expr.specs.Emitted as emitted;
+ghost use Rattle.sc_gen_expr.specs.Expressions.{expression_code};
+ghost use Rattle.sc_gen_expr.specs.Words as spec;
+
+use crate::expressions::expression;
+use crate::symbolic::{Symbolic, Target};
+use crate::words::symbolic_word;
+use indexmap::IndexSet;
+use sc_base::{Duplicate, Items, NoMemory};
+use sc_core::{Auto, CoreExpr};
+use sc_object::Reloc;
+use std::alloc::Global;
+use std::marker::Model;
+
+/// The targets that an object names, in the order in which they were named first. Contracts see the list of them.
+#[derive(Drop)]
+pub struct Targets {
+    all: IndexSet<Target>,
+}
+
+impl Model for Targets {
+    ghost use Rattle.std.specs.Prelude.{List};
+    ghost use Rattle.sc_gen_expr.specs.declared.symbolic.Target.{Target};
+
+    ghost Value = { List Target };
+
+    ghost view = { λ t. t.all.keys };
+}
+
+impl Targets {
+    /// No targets.
+    pub fn new(alloc: Global) -> Targets
+        ensures { result ≡ [] }
+    {
+        Targets {
+            all: IndexSet::new(alloc),
+        }
+    }
+
+    /// The number of a target, which is new where it was not named before.
+    pub fn mention(&mut self, target: Target) -> Result<usize, NoMemory>
+        ensures known { OnOk result (self.new ≡ spec.mention self.old target) }
+        ensures number { IfOk result (λ n. n ≡ spec.number_of self.old target) }
+    {
+        match self.all.insert_full(target) {
+            Ok((n, _)) => Ok(n),
+            Err(_) => Err(NoMemory),
+        }
+    }
+
+    /// The target of a number.
+    pub fn get(&self, n: usize) -> Option<&Target>
+        ensures { MatchOption result (slice_get self.now n ≡ None) (λ t. slice_get self.now n ≡ Some t.now) }
+    {
+        self.all.get_index(n)
+    }
+
+    /// How many targets there are.
+    pub fn len(&self) -> usize
+        ensures { result ≡ length self.now }
+    {
+        self.all.len()
+    }
+}
+
+/// The words of one text so far; the relocations of the object so far; the targets that they name; the index of the text's
+/// section; and the offset in the frame from which temporaries are free.
+#[derive(Drop)]
+pub struct Emit {
+    pub words: Items<u32>,
+    pub relocs: Items<Reloc>,
+    pub targets: Targets,
+    pub section: u32,
+    pub temporaries: u32,
+}
+
+/// Numbers above 2^32 - 1 are counted as that one.
+pub fn fitted(n: usize) -> u32
+    ensures { result ≡ spec.fitted n }
+{
+    if n < 4294967295 { n as u32 } else { 4294967295 }
+}
+
+/// A relocation of the next word.
+fn relocate(alloc: Global, at: &mut Emit, kind: u8, target: &Target) -> Result<(), NoMemory> {
+    let symbol = at.targets.mention(target.copy(alloc)?)?;
+    let offset = fitted(at.words.len().saturating_mul(4));
+    at.relocs.push(Reloc {
+        section: at.section,
+        at: offset,
+        kind,
+        symbol: fitted(symbol),
+        addend: 0,
+    })
+}
+
+fn write_one(alloc: Global, at: &mut Emit, s: &Symbolic) -> Result<(), NoMemory> {
+    match s {
+        Symbolic::Plain(_) => {}
+        Symbolic::Upper(target) => relocate(alloc, at, 26, target)?,
+        Symbolic::Lower(target) => relocate(alloc, at, 27, target)?,
+        Symbolic::Call(target) => relocate(alloc, at, 19, target)?,
+    }
+    at.words.push(symbolic_word(s))
+}
+
+/// The words of some code, behind those that stand there, with their relocations.
+pub fn write(alloc: Global, code: &[Symbolic], at: &mut Emit) -> Result<(), NoMemory>
+    ensures { OnOk result (emitted.Appends code.now at.old at.new) }
+{
+    for s in code {
+        write_one(alloc, at, s)?;
+    }
+    Ok(())
+}
+
+/// The code of an expression of a function whose objects stand in these slots.
+pub fn gen_expr(
+    alloc: Global,
+    slots: &[Items<Auto>],
+    e: &CoreExpr,
+    at: &mut Emit,
+) -> Result<(), NoMemory>
+    ensures { OnOk result (emitted.Appends (expression_code slots.now e.now at.old.temporaries) at.old at.new) }
+{
+    let mut code = Items::new(alloc);
+    expression(alloc, slots, e, at.temporaries, &mut code)?;
+    write(alloc, code.as_slice(), at)
+}
