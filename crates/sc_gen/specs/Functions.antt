@@ -1,3 +1,4 @@
+-- Machine: the program once more; a theorem ties it to a yardstick (docs/TRUST.md).
 -- The text of a function: its frame is taken, the parameters are born, and the body is run; behind its end the function returns without a value.
 use Rattle.std.specs.Prelude.{ℕ, ◌-◌, ◌*◌, min, if◌then◌else◌, nat_le, [], ◌∷◌, ◌++◌, length, pos, neg_ℤ}
 use Rattle.sc_isa.specs.declared.instruction.StoreOp.TheVariants.{Sw}

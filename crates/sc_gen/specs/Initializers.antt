@@ -1,3 +1,4 @@
+-- Machine: the program once more; a theorem ties it to a yardstick (docs/TRUST.md).
 -- The code of an automatic object's initialiser (ANSI 3.5.7), piece by piece in the order of offsets.
 use Rattle.std.specs.Prelude.{ℕ, ◌+◌, ◌*◌, ◌%◌, ◌^◌, ◌==◌, if◌then◌else◌, List, [], ◌∷◌, ◌++◌, flat_map, pos, negsuc}
 use Rattle.sc_isa.specs.declared.instruction.Instr.TheVariants.{Branch, Store}

@@ -1,10 +1,15 @@
+-- Inside: plumbing, a representation, an invariant or a promise beside the claim (docs/TRUST.md).
 pub mod Jumps
 pub mod Initializers
 pub mod Statements
 pub mod Functions
 pub mod Blocks
 pub mod Sections
+pub mod Definitions
 pub mod Objects
+pub mod Finding
+pub mod Making
 pub mod Nodes
+pub mod Counts
 pub mod Turns
 pub mod Limits

@@ -1,3 +1,4 @@
+-- Yardstick: to be compared with what it restates (docs/TRUST.md).
 -- The nodes of a typed tree: expressions but conversions, statements, and one for each function, automatic object, static object, item of
 -- an initialiser, literal and declared name. A string that initialises an array has as many as it has bytes.
 use Rattle.std.specs.Prelude.{ℕ, ◌+◌, ◌*◌, ◌≤◌, List, [], ◌∷◌, length, sum, sum_by, Option, Some, None}

@@ -1,7 +1,9 @@
+-- Yardstick: to be compared with what it restates (docs/TRUST.md).
 -- How many turns of the machine stand between two units of the meaning's work, over the code of the templates. A turn is an instruction,
 -- and one more for a service. A unit is the beginning and the end of an expression that is no conversion, of a statement and of an
 -- initialised declarator, and each label of a `switch` that is compared.
-use Rattle.std.specs.Prelude.{ℕ, ◌+◌, ◌≤◌, max, true, List, [], ◌∷◌, ◌++◌, sum_by, Option, Some, None}
+use Rattle.std.specs.Prelude.{ℕ, ◌+◌, ◌≤◌, ◌==◌, ◌&&◌, max, Bool, true, List, [], ◌∷◌, ◌++◌, sum_by, Option, Some, None}
+use Rattle.std.specs.List.{list_all}
 use Rattle.sc_base.specs.declared.key.Key.{Key}
 use Rattle.sc_base.specs.declared.operator.Op.TheVariants as op
 use Rattle.sc_isa.specs.declared.instruction.Instr.{Instr}
@@ -135,3 +137,43 @@ expression_way slots e t = ways_of slots e e t
 abbrev pub IsPaid : Way → Type 0
 IsPaid (Plain_way n) = n ≤ 63
 IsPaid (With_units before most behind) = (before ≤ 63) × (most ≤ 63) × (behind ≤ 63)
+
+-- How many conversions stand on top of an expression, and whether no operand in it is converted twice in a row.
+pub record Top : Type 0 where
+  pub conversions : ℕ
+  pub once : Bool
+
+abbrev pub below : Bool → Top
+below b = record { conversions = 0; once = b }
+
+abbrev pub top_layer : CoreExpr-F Top → Top
+top_layer (CoreExpr-F.Number l t n) = below true
+top_layer (CoreExpr-F.Literal l t i) = below true
+top_layer (CoreExpr-F.Automatic l t b i) = below true
+top_layer (CoreExpr-F.Static l t key) = below true
+top_layer (CoreExpr-F.Function l t key) = below true
+top_layer (CoreExpr-F.Index l t n a b) = below (a.once && b.once)
+top_layer (CoreExpr-F.Call l t f es) = below (f.once && list_all (λ e. e.once) es)
+top_layer (CoreExpr-F.Member l t n a) = below a.once
+top_layer (CoreExpr-F.Arrow l t n a) = below a.once
+top_layer (CoreExpr-F.Step l t s n a) = below a.once
+top_layer (CoreExpr-F.Address l t a) = below a.once
+top_layer (CoreExpr-F.Indirection l t a) = below a.once
+top_layer (CoreExpr-F.Unary l t o a) = below a.once
+top_layer (CoreExpr-F.Cast l t a) = below a.once
+top_layer (CoreExpr-F.Binary l t o a b) = below (a.once && b.once)
+top_layer (CoreExpr-F.Offset l t o n a b) = below (a.once && b.once)
+top_layer (CoreExpr-F.Difference l t n a b) = below (a.once && b.once)
+top_layer (CoreExpr-F.Compare l t o a b) = below (a.once && b.once)
+top_layer (CoreExpr-F.And l t a b) = below (a.once && b.once)
+top_layer (CoreExpr-F.Or l t a b) = below (a.once && b.once)
+top_layer (CoreExpr-F.Conditional l t a b d) = below (a.once && (b.once && d.once))
+top_layer (CoreExpr-F.Assign l t a b) = below (a.once && b.once)
+top_layer (CoreExpr-F.AssignStructure l t n a b) = below (a.once && b.once)
+top_layer (CoreExpr-F.Compound l t o k a b) = below (a.once && b.once)
+top_layer (CoreExpr-F.CompoundOffset l t o n a b) = below (a.once && b.once)
+top_layer (CoreExpr-F.Comma l t a b) = below (a.once && b.once)
+top_layer (CoreExpr-F.Convert l t a) = record { conversions = 1 + a.conversions; once = a.once && a.conversions == 0 }
+
+abbrev pub top : CoreExpr → Top
+top = fold-CoreExpr Top top_layer

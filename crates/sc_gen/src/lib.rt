@@ -2,15 +2,20 @@
 #![tactic(auto)]
 
 mod blocks;
+mod definitions;
 mod functions;
 mod initializers;
 mod jumps;
+mod laws;
+mod literals;
 mod module;
 mod sections;
 mod statements;
-mod tables;
+mod symbols;
 
+pub use definitions::{Definition, Fixup};
 pub use functions::function;
 pub use jumps::{Exits, LabelPlace, Place, Text};
-pub use module::{GenFault, MAX_WORDS, generate};
-pub use tables::Tables;
+pub use laws::{expressions_are_paid, texts_are_short};
+pub use module::{Compiled, GenFault, MAX_FILE, MAX_WORDS, Making, compile, generate};
+pub use symbols::Home;

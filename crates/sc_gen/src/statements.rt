@@ -1,5 +1,6 @@
 // The code of statements (ANSI 3.6).
-ghost use Rattle.std.specs.Prelude.{◌≡◌, ◌+◌, ◌-◌, [], ◌∷◌, ◌++◌, length, map, take, slice_set, option_map, OnOk, IfOk};
+ghost use Rattle.std.specs.Prelude.{◌≡◌, ◌≤◌, ◌+◌, ◌-◌, [], ◌∷◌, ◌++◌, length, map, take, slice_set, if◌then◌else◌, option_map, OnOk, IfOk};
+ghost use Rattle.sc_gen_expr.specs.Code as words;
 ghost use Rattle.sc_gen.specs.Jumps as jumps;
 ghost use Rattle.sc_gen.specs.Statements as spec;
 
@@ -286,14 +287,15 @@ fn open_labels(labels: &[LabelAt], text: &mut Text) -> Result<(), NoMemory>
     Ok(())
 }
 
-// The jumps of labels, the first of which stands at a place.
+// The jumps of labels, which stand behind a place.
 fn set_labels(code: &mut Items<Symbolic>, first: usize, labels: &[LabelAt], starts: &[usize])
+    requires { first + length labels.now ≤ length code.old }
     ensures { code.new ≡ jumps.with_jumps code.old first (jumps.start_of first starts.now) labels.now }
 {
-    let mut at = first;
-    for l in labels {
-        at = at.saturating_add(1);
-        if at < code.len() {
+    let len = code.len();
+    for (n, l) in labels.iter().enumerate() {
+        let at = first + n + 1;
+        if at < len {
             code.set(at, Symbolic::Plain(jump(at, start_of(first, starts, l.at))));
         }
     }
@@ -314,12 +316,13 @@ fn block(
     ensures { IfOk result (λ found. spec.Enters (spec.block_inner number labels.now (map (spec.body_of (spec.frame f.now temporaries)) items.now) items.now (length text.old.code) (spec.around text.old exits)) text.old text.new found) }
 {
     let first = text.code.len();
+    let depth = text.blocks.len();
     let outer = text.labels.len();
     text.blocks.push(number)?;
     open_labels(labels, text)?;
     let starts = items_from(alloc, f, temporaries, items, exits, text)?;
     set_labels(&mut text.code, first, labels, starts.as_slice());
-    let _ = text.blocks.pop();
+    text.blocks.truncate(depth);
     text.labels.truncate(outer);
     block_service(&mut text.code, 3, number)?;
     Ok(starts)
@@ -374,6 +377,15 @@ fn choice(
     Ok(())
 }
 
+// The word at a place becomes a jump over all that stands behind it, where a loop begins with its test.
+fn close_unless(code: &mut Items<Symbolic>, body_first: bool, place: usize)
+    ensures { code.new ≡ (if body_first then code.old else slice_set code.old place (words.over (length code.old - (place + 1)))) }
+{
+    if !body_first {
+        close(code, place);
+    }
+}
+
 /// Every loop: a jump, the words of `break` and `continue`, the body, what comes after each turn, the test, the jump back.
 #[cycle(statement)]
 fn turns(
@@ -409,9 +421,7 @@ fn turns(
     statement(alloc, f, temporaries, body, own, text)?;
     close(&mut text.code, on_continue);
     value_or_none(alloc, f, temporaries, after, &mut text.code)?;
-    if !body_first {
-        close(&mut text.code, start);
-    }
+    close_unless(&mut text.code, body_first, start);
     test(alloc, f, temporaries, e, &mut text.code)?;
     let here = text.code.len();
     put_one(&mut text.code, jump(here, top))?;

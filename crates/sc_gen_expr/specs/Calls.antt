@@ -1,3 +1,4 @@
+-- Machine: the program once more; a theorem ties it to a yardstick (docs/TRUST.md).
 -- The code of a call, behind that of its arguments, each of which but the last waits in a temporary (RISC-V calling convention).
 use Rattle.std.specs.Prelude.{ℕ, zero, suc, ◌+◌, ◌-◌, ◌*◌, ◌==◌, Bool, true, false, ◌&&◌, if◌then◌else◌, nat_lt, min, List, [], ◌∷◌, ◌++◌, ℤ, pos, Option, Some, None, is_none}
 use Rattle.std.specs.Str.{bytes_eq}

@@ -1,3 +1,4 @@
+-- Machine: the program once more; a theorem ties it to a yardstick (docs/TRUST.md).
 -- Short sequences of instructions, from which the code of expressions and statements is made (RISC-V unprivileged manual, RV32IM).
 use Rattle.std.specs.Prelude.{ℕ, ◌+◌, ◌-◌, ◌*◌, ◌^◌, ◌==◌, Bool, if◌then◌else◌, ◌||◌, nat_lt, nat_le, List, [], ◌∷◌, ◌++◌, ℤ, pos}
 use Rattle.std.specs.Int.{w32, cast_signed}

@@ -1,3 +1,4 @@
+-- Machine: the program once more; a theorem ties it to a yardstick (docs/TRUST.md).
 -- The code of an expression: it leaves the word of the expression's value, or of its place, in a0 (ANSI 3.3). Its temporaries are the words
 -- from an offset above sp on, as many as the expression needs room for. Every jump stays inside its own construct.
 use Rattle.std.specs.Prelude.{ℕ, ◌+◌, ◌%◌, ◌^◌, Bool, true, false, ◌&&◌, if◌then◌else◌, List, [], ◌∷◌, ◌++◌, length, min, slice_get, Option, Some, None, option_and_then}
@@ -73,6 +74,15 @@ count es = min (length es) 31
 abbrev pub called : Part → List Part → CoreExpr → List CoreExpr → ℕ → Option Key → Code
 called p ps f es t (Some key) = arguments ps es (next t) ++ (marshalled (count es) t ++ call_direct key (count es))
 called p ps f es t None = p f t ++ (push t ++ (arguments ps es (next t) ++ (marshalled (count es) t ++ call_through (base_of (count es) t))))
+
+-- the function of a call, which waits in the first temporary where it is no name, and what stands behind the arguments
+abbrev pub awaited : Part → CoreExpr → ℕ → Option Key → Code
+awaited p f t (Some key) = []
+awaited p f t None = p f t ++ push t
+
+abbrev pub transfer : ℕ → ℕ → Option Key → Code
+transfer n t (Some key) = marshalled n t ++ call_direct key n
+transfer n t None = marshalled n t ++ call_through (base_of n t)
 
 -- the value of a scalar's place is read (3.2.2.1)
 abbrev pub read : CoreExpr → Code

@@ -1,3 +1,4 @@
+-- Machine: the program once more; a theorem ties it to a yardstick (docs/TRUST.md).
 -- The code of operators, on values that stand in registers: the result is put into a0 (ANSI 3.3).
 use Rattle.std.specs.Prelude.{ℕ, ◌+◌, ◌-◌, ◌*◌, ◌%◌, ◌^◌, ◌==◌, Bool, true, false, ◌&&◌, if◌then◌else◌, nat_lt, List, [], ◌∷◌, ◌++◌, ℤ, pos, negsuc}
 use Rattle.sc_base.specs.declared.integer.Int.{Int}

@@ -1,3 +1,4 @@
+-- Yardstick: to be compared with what it restates (docs/TRUST.md).
 -- The words of a text as they stand in an object, the relocations that fill in addresses, and the targets that these name (RISC-V psABI).
 use Rattle.std.specs.Prelude.{ℕ, ◌+◌, ◌*◌, ◌<◌, ◌^◌, ◌%◌, ◌==◌, nat_lt, min, Bool, true, false, ◌&&◌, if◌then◌else◌, List, [], ◌∷◌, ◌++◌, fold, map, flat_map, int_le, Option, Some, None, ℤ, pos, negsuc}
 use Rattle.std.specs.Int.{w32, cast_unsigned}

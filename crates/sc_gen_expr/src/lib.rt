@@ -17,3 +17,4 @@ pub use emit::{Emit, Targets, fitted, gen_expr, write};
 pub use expressions::{expression, slot_of};
 pub use operators::{machine_type, store_of};
 pub use symbolic::{Access, Symbolic, Target};
+pub use words::symbolic_word;
