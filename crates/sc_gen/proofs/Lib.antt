@@ -1,4 +1,5 @@
 pub mod Patches
+pub mod Loops
 pub mod Rows
 pub mod Steps
 pub mod Weights

@@ -1,16 +1,17 @@
 -- Statements as they are put together step by step, with the places at which jumps are written late.
-use Rattle.std.proofs.Common.{◌≡◌, ◌<◌, ◌≤◌, ℕ, ◌+◌, ◌-◌, Bool, if◌then◌else◌, List, [], ◌∷◌, ◌++◌, length, map, drop, get_or, refl, sym, ap, ◌∙◌, arith, append_assoc, append-nil, length-append, None, Some}
+use Rattle.std.proofs.Common.{◌≡◌, ◌<◌, ◌≤◌, ℕ, ◌+◌, ◌-◌, Bool, if◌then◌else◌, List, [], ◌∷◌, ◌++◌, length, map, drop, get_or, refl, sym, ap, ◌∙◌, arith, append_assoc, append-nil, length-append, Option, None, Some}
 use Rattle.std.specs.Prelude.{slice_set}
 use Rattle.std.proofs.lemmas.List.{drop_more, drop_all}
 use Rattle.sc_core.specs.declared.statement.CoreStmt.{CoreStmt}
+use Rattle.sc_core.specs.declared.statement.SwitchLabel.{SwitchLabel}
 use Rattle.sc_gen_expr.specs.declared.symbolic.Symbolic.{Symbolic}
 use Rattle.sc_gen_expr.specs.Code.{Code, over, skip_if}
 use Rattle.sc_gen.specs.declared.jumps.Place.{Place}
 use Rattle.sc_gen.specs.declared.jumps.Exits.{Exits}
 use Rattle.sc_gen.specs.declared.jumps.LabelPlace.{LabelPlace}
 use Rattle.sc_gen.specs.declared.jumps.Text.{Text}
-use Rattle.sc_gen.specs.Jumps.{Around, jump, in_loop, in_switch, nowhere}
-use Rattle.sc_gen.specs.Statements.{Frame, Body, around, body_of, choice, items_code, loop, loop_around, starts, statement_code, switched}
+use Rattle.sc_gen.specs.Jumps.{Around, jump, in_loop, in_switch, nowhere, start_of}
+use Rattle.sc_gen.specs.Statements.{Frame, Body, around, body_of, cases_code, choice, items_code, loop, loop_around, starts, statement_code, switched}
 use Rattle.sc_gen.proofs.Patches.{loop_is, switch_is}
 
 -- the same blocks and labels are known
@@ -98,3 +99,26 @@ pub switch_at : (c0 value c1 c2 c3 c4 c5 c6 c7 c8 c9 : Code) (body : ℕ → Cod
     c9 ≡ c0 ++ switched value (body (length c0 + length value + 2)) (labels (length c0 + length value + 2 + length (body (length c0 + length value + 2)) + 1))
 switch_at c0 value c1 c2 c3 c4 c5 c6 c7 c8 c9 body labels x y z p q r e1 ep e2 eq e3 e4 er e5 e6 e7 e8 e9 =
     switch_is c0 value c1 c2 c3 c4 c5 c6 c7 c8 c9 body labels x y z e1 e2 e3 e4 e5 (renamed c5 c6 p (length c1) ep e6) e7 (renamed c7 c8 r (length c4) er e8) (renamed c8 c9 q (length c2) eq e9)
+
+pub second_place : (c0 c1 : Code) (w : Symbolic) (q : ℕ) → c1 ≡ c0 ++ w ∷ [] → q ≡ length c1 → q ≡ length c0 + 1
+second_place c0 c1 w q e h = omega (arith, h, ap length e, length-append c0 (w ∷ []))
+
+pub third_place : (c0 c1 c2 : Code) (w v : Symbolic) (r : ℕ) → c1 ≡ c0 ++ w ∷ [] → c2 ≡ c1 ++ v ∷ [] → r ≡ length c2 → r ≡ length c0 + 1 + 1
+third_place c0 c1 c2 w v r e f h = omega (arith, h, ap length e, ap length f, length-append c0 (w ∷ []), length-append c1 (v ∷ []))
+
+-- behind a value and one word, and behind two
+pub behind_value : (c0 c1 c2 value : Code) (w : Symbolic) (q : ℕ) → c1 ≡ c0 ++ value → c2 ≡ c1 ++ w ∷ [] → q ≡ length c2 → q ≡ length c0 + length value + 1
+behind_value c0 c1 c2 value w q e f h = omega (arith, h, ap length e, ap length f, length-append c0 value, length-append c1 (w ∷ []))
+
+pub behind_two : (c0 c1 c2 c3 value : Code) (w v : Symbolic) (q : ℕ) → c1 ≡ c0 ++ value → c2 ≡ c1 ++ w ∷ [] → c3 ≡ c2 ++ v ∷ [] → q ≡ length c3 → q ≡ length c0 + length value + 2
+behind_two c0 c1 c2 c3 value w v q e f g h =
+    omega (arith, h, ap length e, ap length f, ap length g, length-append c0 value, length-append c1 (w ∷ []), length-append c2 (v ∷ []))
+
+-- The labels of a `switch` behind its body: the block, where the body begins and where its statements do, by other names.
+pub labels_known : (c0 c1 : Code) (block b : Option ℕ) (top at : ℕ) (found places : List ℕ) (ls : List SwitchLabel) → block ≡ b → top ≡ at → found ≡ places →
+    c1 ≡ c0 ++ cases_code block (start_of top found) (length c0) None ls → c1 ≡ c0 ++ cases_code b (start_of at places) (length c0) None ls
+labels_known c0 c1 block b top at found places ls eb et ef e =
+    e
+    ∙ ap (λ (o : Option ℕ). c0 ++ cases_code o (start_of top found) (length c0) None ls) eb
+    ∙ ap (λ (k : ℕ). c0 ++ cases_code b (start_of k found) (length c0) None ls) et
+    ∙ ap (λ (xs : List ℕ). c0 ++ cases_code b (start_of at xs) (length c0) None ls) ef
