@@ -1,6 +1,9 @@
 -- How many words the code of a statement has, at most, by its nodes and by what is no node.
-use Rattle.std.proofs.Common.{◌≡◌, ◌≤◌, ℕ, zero, suc, ◌+◌, ◌-◌, ◌*◌, Bool, true, false, if◌then◌else◌, List, [], ◌∷◌, ◌++◌, length, map, sum, nat_lt, pos, Option, Some, None, refl, sym, ap, subst, ◌∙◌, arith, length-append}
+use Rattle.std.proofs.Common.{◌≡◌, ◌≤◌, ℕ, zero, suc, ◌+◌, ◌-◌, ◌*◌, ◌==◌, Bool, true, false, if◌then◌else◌, List, [], ◌∷◌, ◌++◌, length, map, sum, nat_lt, nat_le, pos, negsuc, neg_ℤ, Option, Some, None, refl, sym, ap, subst, ◌∙◌, arith, length-append}
 use Rattle.std.specs.Prelude.{sum_by, flat_map, slice_get}
+use Rattle.std.proofs.lemmas.List.Sums.{sum_by-cons}
+use Rattle.sc_isa.specs.declared.instruction.Instr.TheVariants.{Branch, Jalr, Store}
+use Rattle.sc_isa.specs.declared.instruction.BranchOp.TheVariants.{Bne}
 use Rattle.sc_isa.specs.declared.instruction.LoadOp.TheVariants.{Lw}
 use Rattle.sc_isa.specs.declared.instruction.StoreOp.TheVariants.{Sb, Sw}
 use Rattle.sc_isa.specs.declared.instruction.RegOp.TheVariants as reg
@@ -14,12 +17,13 @@ use Rattle.sc_core.specs.declared.statement.CoreStmt.{CoreStmt, out-CoreStmt, ro
 use Rattle.sc_core.specs.declared.statement.CoreStmt.TheOpen.{CoreStmt-F}
 use Rattle.sc_core.specs.declared.module.Auto.{Auto}
 use Rattle.sc_core.specs.declared.module.Fun.{Fun}
+use Rattle.sc_gen_expr.specs.declared.symbolic.Symbolic.TheVariants.{Plain}
 use Rattle.sc_gen_expr.specs.declared.symbolic.Access.TheVariants as access
-use Rattle.sc_gen_expr.specs.Code.{Code, ra, sp, a0, t0, t1, t2, addi, apply, li, near, service, block_service, copied}
+use Rattle.sc_gen_expr.specs.Code.{Code, x0, ra, sp, a0, a1, t0, t1, t2, addi, apply, mv, ecall, li, near, over, skip_if, skip_unless, service, block_service, copied}
 use Rattle.sc_gen_expr.specs.Operators.{machine_type, store_of}
 use Rattle.sc_gen_expr.specs.Expressions.{expression_code, slot_of}
 use Rattle.sc_gen.specs.declared.jumps.Place.{Place}
-use Rattle.sc_gen.specs.Jumps.{Around, go, go_in, leaving, entering, labelled, label_jumps, label_rows, rows, start_of, inside, in_loop, in_switch, nowhere}
+use Rattle.sc_gen.specs.Jumps.{Around, jump, go, go_in, leaving, entering, unless_equal, labelled, label_jumps, label_rows, rows, start_of, inside, in_loop, in_switch, nowhere}
 use Rattle.sc_gen.specs.Initializers.{text_bytes, zero_bytes, piece_code, pieces_code, place_behind}
 use Rattle.sc_gen.specs.Statements.{Frame, frame, Inner, Body, alone, epilogue, block_layer, block_of, whole, whole_by, items_code, starts, block_inner, value_or_none, test_code, loop, loop_body, choice, case_code, cases_code, switched, switch_code, switch_inner, switch_of, returned, go_to, branch_code, choice_code, if_code, turns_code, for_code, statement_layer, body_of, statement_code}
 use Rattle.sc_gen.specs.Functions.{frame_taken, prologue, first_temporary, function_code}
@@ -27,11 +31,14 @@ use Rattle.sc_gen.specs.Nodes.{expression_nodes, optional_nodes, item_nodes, pie
 use Rattle.sc_gen.specs.Nodes as nodes
 use Rattle.sc_gen.specs.Counts.{Counts, counts, nothing, plus, conversions, of_expression, of_option, of_piece, of_pieces, optional, counts_of, IsMeasured}
 use Rattle.sc_gen.specs.Counts as counted
-use Rattle.sc_gen.proofs.Weights.{if_short, app, cons, longer, same, li-short, near-short, block_service-short, copied-short, expression_fits}
+use Rattle.sc_gen.proofs.Weights.{if_short, app, cons, cons_suc, longer, same, sum_more, li-short, near-short, block_service-short, copied-short, expression_fits}
 
 -- so many words have room in a tree with so many nodes, and with this besides
 abbrev pub Room : ℕ → ℕ → Counts → Type 0
 Room w n c = w + 29 * c.labelled + 9 * c.items ≤ 29 * n + 3 * c.converts + 9 * c.missing + 8 * c.listed
+
+join_sum : (w wa wb na nb n : ℕ) (a b : Counts) → n ≡ na + nb → w ≤ wa + wb → Room wa na a → Room wb nb b → Room w n (plus a b)
+join_sum w wa wb na nb n a b e h p q = omega (arith, e, h, p, q)
 
 join : (w wa wb na nb : ℕ) (a b : Counts) → w ≤ wa + wb → Room wa na a → Room wb nb b → Room w (na + nb) (plus a b)
 join w wa wb na nb a b h p q = omega (arith, h, p, q)
@@ -67,12 +74,16 @@ text_length at [] = omega arith
 text_length at (b ∷ bs) =
     let rest = text_length (place_behind at 1) bs in
     let put = access.Store Sb a0 in
-    longer (text_bytes at (b ∷ bs)) (2 + (3 + 5 * length bs)) (5 * (1 + length bs))
-    (app (li a0 b) _ 2 (3 + 5 * length bs) (li-short a0 b) (app (near at put) (text_bytes (place_behind at 1) bs) 3 (5 * length bs) (near-short at put) rest))
+    longer (text_bytes at (b ∷ bs)) (2 + (3 + 5 * length bs)) (5 * suc (length bs))
+    (app (li a0 b) (near at put ++ text_bytes (place_behind at 1) bs) 2 (3 + 5 * length bs) (li-short a0 b) (app (near at put) (text_bytes (place_behind at 1) bs) 3 (5 * length bs) (near-short at put) rest))
     (omega arith)
 
 zero_length : (at n : ℕ) → length (zero_bytes at n) ≤ 9
-zero_length at n = if_short _ _ _ 9 (omega arith) (app (near at (access.Address t1)) _ 3 6 (near-short at (access.Address t1)) (app (near (place_behind at n) (access.Address t2)) _ 3 3 (near-short (place_behind at n) (access.Address t2)) (omega arith)))
+zero_length at n =
+    let fill = Plain (Store Sb x0 t1 (pos 0)) ∷ addi t1 t1 (pos 1) ∷ Plain (Branch Bne t1 t2 (negsuc 7)) ∷ [] in
+    let end = near (place_behind at n) (access.Address t2) ++ fill in
+    if_short (n == 0) [] (near at (access.Address t1) ++ end) 9 (omega arith)
+    (app (near at (access.Address t1)) end 3 6 (near-short at (access.Address t1)) (app (near (place_behind at n) (access.Address t2)) fill 3 3 (near-short (place_behind at n) (access.Address t2)) (omega arith)))
 
 -- the nodes of a piece, but for the item itself
 abbrev low : AutoInit → ℕ
@@ -93,7 +104,7 @@ low-item (piece.Structure n e) = same (expression_nodes e)
 
 low-sum : (ps : List AutoInit) → low_all ps ≤ sum_by item_nodes ps
 low-sum [] = omega arith
-low-sum (p ∷ ps) = let a = low-item p in let b = low-sum ps in omega (arith, a, b)
+low-sum (p ∷ ps) = let a = low-item p in let b = low-sum ps in omega (arith, a, b, sum_by-cons item_nodes p ps)
 
 low-pieces : (ps : List AutoInit) → low_all ps ≤ pieces_nodes ps
 low-pieces [] = omega arith
@@ -127,7 +138,7 @@ piece_room slots temp at (piece.Zero n count) = zero_piece (length (zero_bytes (
 piece_room slots temp at (piece.Structure size e) =
     let own = expression_code slots e temp in
     spare _ (length own + (1 + (3 + 4))) (expression_nodes e) (counts (conversions e) 0 0 0 1)
-    (app own _ (length own) (1 + (3 + 4)) (same (length own)) (cons _ _ (3 + 4) (app (near at (access.Address a0)) (copied size) 3 4 (near-short at (access.Address a0)) (copied-short size))))
+    (app own (mv a1 a0 ∷ near at (access.Address a0) ++ copied size) (length own) (1 + (3 + 4)) (same (length own)) (cons (near at (access.Address a0) ++ copied size) (3 + 4) (app (near at (access.Address a0)) (copied size) 3 4 (near-short at (access.Address a0)) (copied-short size))))
     (structure_piece (length own) (expression_nodes e) (conversions e) (expression_fits slots e temp))
 
 pieces_low : (slots : List (List Auto)) (temp at : ℕ) (ps : List AutoInit) → Room (length (pieces_code slots temp at ps)) (low_all ps) (of_pieces ps)
@@ -154,10 +165,12 @@ entering-short None = omega arith
 entering-short (Some b) = block_service-short 2 b
 
 go-short : (blocks : List ℕ) (at : ℕ) (place : Place) → length (go blocks at place) ≤ 5
-go-short blocks at place = app (leaving (slice_get blocks place.depth)) _ 4 1 (leaving-short (slice_get blocks place.depth)) (omega arith)
+go-short blocks at place =
+    let out = leaving (slice_get blocks place.depth) in
+    app out (jump (at + length out) place.word ∷ []) 4 1 (leaving-short (slice_get blocks place.depth)) (omega arith)
 
 go_in-short : (block : Option ℕ) (at to : ℕ) → length (go_in block at to) ≤ 5
-go_in-short block at to = app (entering block) _ 4 1 (entering-short block) (omega arith)
+go_in-short block at to = app (entering block) (jump (at + length (entering block)) to ∷ []) 4 1 (entering-short block) (omega arith)
 
 go_to-short : (blocks : List ℕ) (at : ℕ) (o : Option Place) → length (go_to blocks at o) ≤ 5
 go_to-short blocks at None = omega arith
@@ -165,29 +178,33 @@ go_to-short blocks at (Some place) = go-short blocks at place
 
 epilogue-short : (cost : ℕ) → length (epilogue cost) ≤ 7
 epilogue-short cost =
-    let back = if nat_lt cost 2048 then addi sp sp (pos cost) ∷ [] else li t0 cost ++ apply reg.Add sp sp t0 ∷ [] in
-    app (near (cost - 4) (access.Load Lw ra)) _ 3 4 (near-short (cost - 4) (access.Load Lw ra))
-    (app back _ 3 1 (if_short _ _ _ 3 (omega arith) (app (li t0 cost) _ 2 1 (li-short t0 cost) (omega arith))) (omega arith))
+    let far = li t0 cost ++ apply reg.Add sp sp t0 ∷ [] in
+    let back = if nat_lt cost 2048 then addi sp sp (pos cost) ∷ [] else far in
+    let end = Plain (Jalr x0 ra (pos 0)) ∷ [] in
+    app (near (cost - 4) (access.Load Lw ra)) (back ++ end) 3 4 (near-short (cost - 4) (access.Load Lw ra))
+    (app back end 3 1 (if_short (nat_lt cost 2048) (addi sp sp (pos cost) ∷ []) far 3 (omega arith) (app (li t0 cost) (apply reg.Add sp sp t0 ∷ []) 2 1 (li-short t0 cost) (omega arith))) (omega arith))
 
 label_jumps-length : (at : ℕ) (start : ℕ → ℕ) (ls : List LabelAt) → length (label_jumps at start ls) ≤ length ls
 label_jumps-length at start [] = omega arith
-label_jumps-length at start (l ∷ ls) = cons _ _ (length ls) (label_jumps-length (at + 1) start ls)
+label_jumps-length at start (l ∷ ls) = cons_suc (label_jumps (at + 1) start ls) (length ls) (label_jumps-length (at + 1) start ls)
 
 label_rows-length : (at : ℕ) (start : ℕ → ℕ) (ls : List LabelAt) → length (label_rows at start ls) ≤ 1 + length ls
 label_rows-length at start [] = omega arith
-label_rows-length at start (l ∷ ls) = cons _ _ (length (l ∷ ls)) (label_jumps-length (at + 1) start (l ∷ ls))
+label_rows-length at start (l ∷ ls) = cons (label_jumps (at + 1) start (l ∷ ls)) (length (l ∷ ls)) (label_jumps-length (at + 1) start (l ∷ ls))
 
 case-short : (block : Option ℕ) (at v to : ℕ) → length (case_code block at v to) ≤ 8
-case-short block at v to = app (li 6 v) _ 2 6 (li-short 6 v) (cons _ _ 5 (go_in-short block (at + length (li 6 v) + 1) to))
+case-short block at v to =
+    let go_on = go_in block (at + length (li t1 v) + 1) to in
+    app (li t1 v) (unless_equal (length (entering block) + 1) ∷ go_on) 2 6 (li-short t1 v) (cons go_on 5 (go_in-short block (at + length (li t1 v) + 1) to))
 
 abbrev extra : Option ℕ → ℕ
 extra None = 0
 extra (Some n) = 5
 
-one_label : (w n k : ℕ) → w ≤ 8 * n + k → 8 + w ≤ 8 * (1 + n) + k
+one_label : (w n k : ℕ) → w ≤ 8 * n + k → 8 + w ≤ 8 * suc n + k
 one_label w n k h = omega (arith, h)
 
-a_default : (w n k : ℕ) → w ≤ 8 * n + 5 → w ≤ 8 * (1 + n) + k
+a_default : (w n k : ℕ) → w ≤ 8 * n + 5 → w ≤ 8 * suc n + k
 a_default w n k h = omega (arith, h)
 
 cases-length : (block : Option ℕ) (start : ℕ → ℕ) (at : ℕ) (d : Option ℕ) (ls : List SwitchLabel) → length (cases_code block start at d ls) ≤ 8 * length ls + extra d
@@ -220,25 +237,35 @@ cases-length block start at (Some n) (l ∷ ls) =
 
 loop-length : (at : ℕ) (b : Bool) (body after test : Code) (m n k : ℕ) → length body ≤ m → length after ≤ n → length test ≤ k → length (loop at b body after test) ≤ m + n + k + 4
 loop-length at b body after test m n k f g h =
+    let end = test ++ jump (at + 3 + length body + length after + length test) (at + 3) ∷ [] in
+    let all = body ++ (after ++ end) in
+    let two = over (length body) ∷ all in
+    let one = over (1 + length body + length after + length test + 1) ∷ two in
     longer (loop at b body after test) (1 + (1 + (1 + (m + (n + (k + 1)))))) (m + n + k + 4)
-    (cons _ _ (1 + (1 + (m + (n + (k + 1))))) (cons _ _ (1 + (m + (n + (k + 1)))) (cons _ _ (m + (n + (k + 1)))
-    (app body _ m (n + (k + 1)) f (app after _ n (k + 1) g (app test _ k 1 h (omega arith)))))))
+    (cons one (1 + (1 + (m + (n + (k + 1))))) (cons two (1 + (m + (n + (k + 1)))) (cons all (m + (n + (k + 1)))
+    (app body (after ++ end) m (n + (k + 1)) f (app after end n (k + 1) g
+    (app test (jump (at + 3 + length body + length after + length test) (at + 3) ∷ []) k 1 h (omega arith)))))))
     (omega arith)
 
 switched-length : (value body labels : Code) (m n k : ℕ) → length value ≤ m → length body ≤ n → length labels ≤ k → length (switched value body labels) ≤ m + n + k + 3
 switched-length value body labels m n k f g h =
+    let end = over (length labels) ∷ labels in
+    let two = over (length body + 1 + length labels) ∷ (body ++ end) in
     longer (switched value body labels) (m + (1 + (1 + (n + (1 + k))))) (m + n + k + 3)
-    (app value _ m (1 + (1 + (n + (1 + k)))) f (cons _ _ (1 + (n + (1 + k))) (cons _ _ (n + (1 + k)) (app body _ n (1 + k) g (cons _ labels k h)))))
+    (app value (over (1 + length body + 1) ∷ two) m (1 + (1 + (n + (1 + k)))) f (cons two (1 + (n + (1 + k))) (cons (body ++ end) (n + (1 + k)) (app body end n (1 + k) g (cons labels k h)))))
     (omega arith)
 
 branch-length : (test first : Code) (m n : ℕ) → length test ≤ m → length first ≤ n → length (choice test first None) ≤ m + n + 2
 branch-length test first m n f g =
-    longer (choice test first None) (m + (1 + (1 + n))) (m + n + 2) (app test _ m (1 + (1 + n)) f (cons _ _ (1 + n) (cons _ first n g))) (omega arith)
+    longer (choice test first None) (m + (1 + (1 + n))) (m + n + 2)
+    (app test (skip_if ∷ over (length first) ∷ first) m (1 + (1 + n)) f (cons (over (length first) ∷ first) (1 + n) (cons first n g))) (omega arith)
 
 choice-length : (test first other : Code) (m n k : ℕ) → length test ≤ m → length first ≤ n → length other ≤ k → length (choice test first (Some other)) ≤ m + n + k + 3
 choice-length test first other m n k f g h =
+    let end = over (length other) ∷ other in
+    let two = over (length first + 1) ∷ (first ++ end) in
     longer (choice test first (Some other)) (m + (1 + (1 + (n + (1 + k))))) (m + n + k + 3)
-    (app test _ m (1 + (1 + (n + (1 + k)))) f (cons _ _ (1 + (n + (1 + k))) (cons _ _ (n + (1 + k)) (app first _ n (1 + k) g (cons _ other k h)))))
+    (app test (skip_if ∷ two) m (1 + (1 + (n + (1 + k)))) f (cons two (1 + (n + (1 + k))) (cons (first ++ end) (n + (1 + k)) (app first end n (1 + k) g (cons other k h)))))
     (omega arith)
 
 -- the entry of a block has at most four words
@@ -264,7 +291,7 @@ switch_room w we wi ne n e l c h f p = omega (arith, h, f, p)
 plain_end : (w n : ℕ) (c : Counts) → Room w n c → Room (w + 0) n c
 plain_end w n c h = omega (arith, h)
 
-for_room : (w wf we wa ws nf ne na ns : ℕ) (f e a c : Counts) → w ≤ wf + (ws + wa + we + 4) → Room wf nf f → Room we (ne + 1) e → Room wa na a → Room ws ns c →
+for_room : (w wf we wa ws nf ne na ns : ℕ) (f e a c : Counts) → w ≤ wf + (ws + wa + we + 4) → Room wf nf f → Room we ne e → Room wa na a → Room ws ns c →
     Room w (1 + nf + ne + na + ns) (plus (plus f (plus e a)) c)
 for_room w wf we wa ws nf ne na ns f e a c h p q r s = omega (arith, h, p, q, r, s)
 
@@ -282,12 +309,13 @@ module _ (f : Frame) where
   option_room None = nothing_room
   option_room (Some e) = expr_room e
 
-  test_room : (o : Option CoreExpr) → Room (length (test_code f o)) (optional_nodes o + 1) (of_option o)
-  test_room None = omega arith
+  test_room : (o : Option CoreExpr) → Room (length (test_code f o)) (optional_nodes o) (of_option o)
+  test_room None = nothing_room
   test_room (Some e) =
       let own = length (expression_code f.slots e f.temporaries) in
-      spare _ (own + 1) (expression_nodes e + 1) (of_expression e) (app (expression_code f.slots e f.temporaries) _ own 1 (same own) (omega arith))
-      (let h = expr_room e in omega (arith, h))
+      spare _ (own + 17) (expression_nodes e) (of_expression e)
+      (longer (test_code f (Some e)) (own + 1) (own + 17) (app (expression_code f.slots e f.temporaries) (skip_unless ∷ []) own 1 (same own) (omega arith)) (omega arith))
+      (value_room f.slots e f.temporaries)
 
   abbrev pub Holds : CoreStmt → Type 0
   Holds s = (at : ℕ) (around : Around) → Room (length ((body_of f s s at around).code) + entry (block_of s)) (statement_nodes s) (counts_of s)
@@ -310,7 +338,8 @@ module _ (f : Frame) where
   items_room (s ∷ ss) at around =
       let first = whole (body_of f s.0) s.0 at around in
       let rest = items_code (map (body_of f) (all ss)) (all ss) (at + length first) around in
-      join _ (length first) (length rest) (statement_nodes s.0) (sum (map statement_nodes (all ss))) (counts_of s.0) (counted.all (map counts_of (all ss)))
+      join_sum _ (length first) (length rest) (statement_nodes s.0) (sum (map statement_nodes (all ss))) _ (counts_of s.0) (counted.all (map counts_of (all ss)))
+      (sum_more (statement_nodes s.0) (map statement_nodes (all ss)))
       (app first rest (length first) (length rest) (same (length first)) (same (length rest))) (whole_room s at around) (items_room ss (at + length first) around)
 
   abbrev Layer : CoreStmt-F CoreStmt → Type 0
@@ -326,13 +355,13 @@ module _ (f : Frame) where
       loop-length at b body (value_or_none f after) (test_code f e) (length body) (length (value_or_none f after)) (length (test_code f e)) (same (length body)) (same (length (value_or_none f after))) (same (length (test_code f e)))
 
   returned_room : (o : Option CoreExpr) → Room (length (returned f o) + 0) (1 + optional_nodes o) (of_option o)
-  returned_room None = plain_end _ _ nothing (node_of _ 0 nothing (longer (returned f None) (2 + 7) 29 (app (service 6) _ 2 7 (omega arith) (epilogue-short f.cost)) (omega arith)))
+  returned_room None = plain_end _ 1 nothing (node_of _ 0 nothing (longer (returned f None) (2 + 7) 29 (app (service 6) (epilogue f.cost) 2 7 (omega arith) (epilogue-short f.cost)) (omega arith)))
   returned_room (Some e) =
       let own = length (expression_code f.slots e f.temporaries) in
-      plain_end _ _ (of_expression e)
+      plain_end _ (1 + expression_nodes e) (of_expression e)
       (in_node _ own (expression_nodes e) (of_expression e)
       (longer (returned f (Some e)) (own + (4 + 7)) (own + 29)
-      (app (expression_code f.slots e f.temporaries) _ own (4 + 7) (same own) (app (block_service 3 0) _ 4 7 (block_service-short 3 0) (epilogue-short f.cost)))
+      (app (expression_code f.slots e f.temporaries) (block_service 3 0 ++ epilogue f.cost) own (4 + 7) (same own) (app (block_service 3 0) (epilogue f.cost) 4 7 (block_service-short 3 0) (epilogue-short f.cost)))
       (omega arith))
       (expr_room e))
 
@@ -340,14 +369,14 @@ module _ (f : Frame) where
   if_room e s None at around a ar =
       let te = expression_code f.slots e f.temporaries in
       let ws = whole (body_of f s.0) s.0 (a + length te + 2) ar in
-      plain_end _ _ _ (in_node3 _ (length te) (length ws) 0 (expression_nodes e) (statement_nodes s.0) 0 (of_expression e) (counts_of s.0) nothing
+      plain_end _ (1 + expression_nodes e + statement_nodes s.0 + 0) (plus (of_expression e) (plus (counts_of s.0) nothing)) (in_node3 _ (length te) (length ws) 0 (expression_nodes e) (statement_nodes s.0) 0 (of_expression e) (counts_of s.0) nothing
       (longer (choice te ws None) (length te + length ws + 2) (length te + length ws + 0 + 29) (branch-length te ws (length te) (length ws) (same (length te)) (same (length ws))) (omega arith))
       (expr_room e) (whole_room s (a + length te + 2) ar) nothing_room)
   if_room e s (Some r) at around a ar =
       let te = expression_code f.slots e f.temporaries in
       let ws = whole (body_of f s.0) s.0 (a + length te + 2) ar in
       let wr = whole (body_of f r.0) r.0 (a + length te + 2 + length ws + 1) ar in
-      plain_end _ _ _ (in_node3 _ (length te) (length ws) (length wr) (expression_nodes e) (statement_nodes s.0) (statement_nodes r.0) (of_expression e) (counts_of s.0) (counts_of r.0)
+      plain_end _ (1 + expression_nodes e + statement_nodes s.0 + statement_nodes r.0) (plus (of_expression e) (plus (counts_of s.0) (counts_of r.0))) (in_node3 _ (length te) (length ws) (length wr) (expression_nodes e) (statement_nodes s.0) (statement_nodes r.0) (of_expression e) (counts_of s.0) (counts_of r.0)
       (longer (choice te ws (Some wr)) (length te + length ws + length wr + 3) (length te + length ws + length wr + 29)
       (choice-length te ws wr (length te) (length ws) (length wr) (same (length te)) (same (length ws)) (same (length wr))) (omega arith))
       (expr_room e) (whole_room s (a + length te + 2) ar) (whole_room r (a + length te + 2 + length ws + 1) ar))
@@ -357,11 +386,11 @@ module _ (f : Frame) where
       let items = items_code (map (body_of f) (all ss)) (all ss) (at + rows ls) (inside around b ls at) in
       let start = start_of at (starts (map (body_of f) (all ss)) (all ss) (at + rows ls) (inside around b ls at)) in
       block_room _ (length items) (sum (map statement_nodes (all ss))) (length ls) (counted.all (map counts_of (all ss)))
-      (app (label_rows at start ls) _ (1 + length ls) (length items + 4) (label_rows-length at start ls) (app items (block_service 3 b) (length items) 4 (same (length items)) (block_service-short 3 b)))
+      (app (label_rows at start ls) (items ++ block_service 3 b) (1 + length ls) (length items + 4) (label_rows-length at start ls) (app items (block_service 3 b) (length items) 4 (same (length items)) (block_service-short 3 b)))
       (items_room ss (at + rows ls) (inside around b ls at))
-  weighed (CoreStmt-F.Initialize l b n ps) at around = plain_end _ _ _ (pieces_room f.slots f.temporaries (slot_of f.slots b n) ps)
+  weighed (CoreStmt-F.Initialize l b n ps) at around = plain_end _ (pieces_nodes ps) (of_pieces ps) (pieces_room f.slots f.temporaries (slot_of f.slots b n) ps)
   weighed (CoreStmt-F.Empty l) at around = omega arith
-  weighed (CoreStmt-F.Expression l e) at around = plain_end _ _ _ (in_node _ (length (expression_code f.slots e f.temporaries)) (expression_nodes e) (of_expression e) (omega arith) (expr_room e))
+  weighed (CoreStmt-F.Expression l e) at around = plain_end _ (1 + expression_nodes e) (of_expression e) (in_node _ (length (expression_code f.slots e f.temporaries)) (expression_nodes e) (of_expression e) (omega arith) (expr_room e))
   weighed (CoreStmt-F.If l e s other) at around = if_room e s other at around at around
   weighed (CoreStmt-F.Switch l e ls s) at around =
       let value = expression_code f.slots e f.temporaries in
@@ -377,32 +406,32 @@ module _ (f : Frame) where
   weighed (CoreStmt-F.While l e s) at around =
       let own = expression_code f.slots e f.temporaries in
       let ws = whole (body_of f s.0) s.0 (at + 3) (in_loop around (at + 1)) in
-      plain_end _ _ _ (in_node2 _ (length own) (length ws) (expression_nodes e) (statement_nodes s.0) (of_expression e) (counts_of s.0)
+      plain_end _ (1 + expression_nodes e + statement_nodes s.0) (plus (of_expression e) (counts_of s.0)) (in_node2 _ (length own) (length ws) (expression_nodes e) (statement_nodes s.0) (of_expression e) (counts_of s.0)
       (longer (turns_code f (body_of f s.0) false (Some e) None s.0 at around) (length ws + 0 + length (test_code f (Some e)) + 4) (length own + length ws + 29) (turns_length s false (Some e) None at around)
-      (longer_by (length ws) own (length (test_code f (Some e))) (app own _ (length own) 1 (same (length own)) (omega arith))))
+      (longer_by (length ws) own (length (test_code f (Some e))) (app own (skip_unless ∷ []) (length own) 1 (same (length own)) (omega arith))))
       (expr_room e) (whole_room s (at + 3) (in_loop around (at + 1))))
   weighed (CoreStmt-F.Do l s line e) at around =
       let own = expression_code f.slots e f.temporaries in
       let ws = whole (body_of f s.0) s.0 (at + 3) (in_loop around (at + 1)) in
-      plain_end _ _ _ (do_room _ (length own) (length ws) (expression_nodes e) (statement_nodes s.0) (of_expression e) (counts_of s.0)
+      plain_end _ (1 + statement_nodes s.0 + expression_nodes e) (plus (of_expression e) (counts_of s.0)) (do_room _ (length own) (length ws) (expression_nodes e) (statement_nodes s.0) (of_expression e) (counts_of s.0)
       (longer (turns_code f (body_of f s.0) true (Some e) None s.0 at around) (length ws + 0 + length (test_code f (Some e)) + 4) (length own + length ws + 29) (turns_length s true (Some e) None at around)
-      (longer_by (length ws) own (length (test_code f (Some e))) (app own _ (length own) 1 (same (length own)) (omega arith))))
+      (longer_by (length ws) own (length (test_code f (Some e))) (app own (skip_unless ∷ []) (length own) 1 (same (length own)) (omega arith))))
       (expr_room e) (whole_room s (at + 3) (in_loop around (at + 1))))
   weighed (CoreStmt-F.For l first e after s) at around =
       let before = value_or_none f first in
       let here = at + length before in
       let ws = whole (body_of f s.0) s.0 (here + 3) (in_loop around (here + 1)) in
       let turns = turns_code f (body_of f s.0) false e after s.0 here around in
-      plain_end _ _ _ (for_room _ (length before) (length (test_code f e)) (length (value_or_none f after)) (length ws)
+      plain_end _ (1 + optional_nodes first + optional_nodes e + optional_nodes after + statement_nodes s.0) (plus (plus (of_option first) (plus (of_option e) (of_option after))) (counts_of s.0)) (for_room _ (length before) (length (test_code f e)) (length (value_or_none f after)) (length ws)
       (optional_nodes first) (optional_nodes e) (optional_nodes after) (statement_nodes s.0) (of_option first) (of_option e) (of_option after) (counts_of s.0)
       (app before turns (length before) (length ws + length (value_or_none f after) + length (test_code f e) + 4) (same (length before)) (turns_length s false e after here around))
       (option_room first) (test_room e) (option_room after) (whole_room s (here + 3) (in_loop around (here + 1))))
-  weighed (CoreStmt-F.Case l s) at around = plain_end _ _ _ (behind_label _ (statement_nodes s.0) (counts_of s.0) (whole_room s at around))
-  weighed (CoreStmt-F.Default l s) at around = plain_end _ _ _ (behind_label _ (statement_nodes s.0) (counts_of s.0) (whole_room s at around))
-  weighed (CoreStmt-F.Label l s) at around = plain_end _ _ _ (behind_label _ (statement_nodes s.0) (counts_of s.0) (whole_room s at around))
-  weighed (CoreStmt-F.Goto l k) at around = plain_end _ _ nothing (node_of _ 0 nothing (longer (go_to around.blocks at (labelled k around.labels)) 5 29 (go_to-short around.blocks at (labelled k around.labels)) (omega arith)))
-  weighed (CoreStmt-F.Continue l) at around = plain_end _ _ nothing (node_of _ 0 nothing (longer (go around.blocks at around.on_continue) 5 29 (go-short around.blocks at around.on_continue) (omega arith)))
-  weighed (CoreStmt-F.Break l) at around = plain_end _ _ nothing (node_of _ 0 nothing (longer (go around.blocks at around.on_break) 5 29 (go-short around.blocks at around.on_break) (omega arith)))
+  weighed (CoreStmt-F.Case l s) at around = plain_end _ (1 + statement_nodes s.0) (plus (counts 0 0 0 1 0) (counts_of s.0)) (behind_label _ (statement_nodes s.0) (counts_of s.0) (whole_room s at around))
+  weighed (CoreStmt-F.Default l s) at around = plain_end _ (1 + statement_nodes s.0) (plus (counts 0 0 0 1 0) (counts_of s.0)) (behind_label _ (statement_nodes s.0) (counts_of s.0) (whole_room s at around))
+  weighed (CoreStmt-F.Label l s) at around = plain_end _ (1 + statement_nodes s.0) (plus (counts 0 0 0 1 0) (counts_of s.0)) (behind_label _ (statement_nodes s.0) (counts_of s.0) (whole_room s at around))
+  weighed (CoreStmt-F.Goto l k) at around = plain_end _ 1 nothing (node_of _ 0 nothing (longer (go_to around.blocks at (labelled k around.labels)) 5 29 (go_to-short around.blocks at (labelled k around.labels)) (omega arith)))
+  weighed (CoreStmt-F.Continue l) at around = plain_end _ 1 nothing (node_of _ 0 nothing (longer (go around.blocks at around.on_continue) 5 29 (go-short around.blocks at around.on_continue) (omega arith)))
+  weighed (CoreStmt-F.Break l) at around = plain_end _ 1 nothing (node_of _ 0 nothing (longer (go around.blocks at around.on_break) 5 29 (go-short around.blocks at around.on_break) (omega arith)))
   weighed (CoreStmt-F.Return l e) at around = returned_room e
 
   carry : (w v n m : ℕ) (c d : Counts) → w ≡ v → n ≡ m → c ≡ d → Room v m d → Room w n c
@@ -430,11 +459,15 @@ module _ (f : Frame) where
   statement_room s at around = whole-length (block_of s) (body_of f s) s at around (statement_nodes s) (counts_of s) (λ at. statement_holds s at around)
 
 frame_taken-short : (cost : ℕ) → length (frame_taken cost) ≤ 3
-frame_taken-short cost = if_short _ _ _ 3 (omega arith) (app (li t0 cost) _ 2 1 (li-short t0 cost) (omega arith))
+frame_taken-short cost =
+    let far = li t0 cost ++ apply reg.Sub sp sp t0 ∷ [] in
+    if_short (nat_le cost 2048) (addi sp sp (neg_ℤ (pos cost)) ∷ []) far 3 (omega arith) (app (li t0 cost) (apply reg.Sub sp sp t0 ∷ []) 2 1 (li-short t0 cost) (omega arith))
 
 prologue-short : (cost : ℕ) → length (prologue cost) ≤ 9
 prologue-short cost =
-    cons _ _ 8 (cons _ _ 7 (cons _ _ 6 (app (frame_taken cost) _ 3 3 (frame_taken-short cost) (near-short (cost - 4) (access.Store Sw ra)))))
+    let kept = near (cost - 4) (access.Store Sw ra) in
+    let end = frame_taken cost ++ kept in
+    cons (addi t1 x0 (pos 0) ∷ ecall ∷ end) 8 (cons (ecall ∷ end) 7 (cons end 6 (app (frame_taken cost) kept 3 3 (frame_taken-short cost) (near-short (cost - 4) (access.Store Sw ra)))))
 
 last : (w ws n a : ℕ) (c : Counts) → w ≤ 9 + (ws + (2 + 7)) → Room ws n c → c.converts ≤ n → c.listed ≤ c.labelled → c.missing ≤ c.items + a → 4 * w ≤ 128 * (1 + a + n + 1)
 last w ws n a c h p once named behind = omega (arith, h, p, once, named, behind)

@@ -1,11 +1,18 @@
 -- How many words the code of an expression has, at most, by its nodes and conversions.
-use Rattle.std.proofs.Common.{◌≡◌, ◌≤◌, ℕ, zero, suc, ◌+◌, ◌-◌, ◌*◌, Bool, true, false, ◌&&◌, if◌then◌else◌, nat_lt, min, List, [], ◌∷◌, ◌++◌, length, map, sum, Option, Some, None, refl, sym, ap, subst, ◌∙◌, arith, length-append, pos}
+use Rattle.std.proofs.Common.{◌≡◌, ◌≤◌, ℕ, zero, suc, ◌+◌, ◌-◌, ◌*◌, ◌==◌, Bool, true, false, ◌&&◌, ◌||◌, if◌then◌else◌, nat_lt, nat_le, min, List, [], ◌∷◌, ◌++◌, length, map, sum, Option, Some, None, refl, sym, ap, subst, ◌∙◌, arith, length-append, pos}
+use Rattle.std.specs.Int.{w32, cast_signed}
+use Rattle.std.proofs.lemmas.List.Sums.{sum_by-cons}
 use Rattle.sc_base.specs.declared.key.Key.{Key}
 use Rattle.sc_base.specs.declared.integer.Int.{Int}
 use Rattle.sc_base.specs.declared.integer.Int.TheVariants as int
 use Rattle.sc_base.specs.declared.operator.Op.{Op}
 use Rattle.sc_base.specs.declared.operator.Op.TheVariants as op
 use Rattle.sc_types.specs.declared.ctype.CType.{CType}
+use Rattle.sc_types.specs.Compatibility.{same_int}
+use Rattle.sc_isa.specs.declared.instruction.Instr.TheVariants.{Lui, Jalr}
+use Rattle.sc_isa.specs.declared.instruction.RegOp.TheVariants as reg
+use Rattle.sc_isa_image.specs.Stubs.{upper_of, lower_of}
+use Rattle.sc_check_operand.specs.Operands.{is_place}
 use Rattle.sc_isa.specs.declared.instruction.LoadOp.TheVariants.{Lw}
 use Rattle.sc_isa.specs.declared.instruction.StoreOp.TheVariants.{Sw}
 use Rattle.sc_core.specs.declared.expression.Step.{Step}
@@ -16,13 +23,15 @@ use Rattle.sc_core.specs.declared.expression.CoreExpr.TheOpen.{CoreExpr-F}
 use Rattle.sc_core.specs.declared.module.Auto.{Auto}
 use Rattle.sc_core.specs.Types.{type_of}
 use Rattle.sc_gen_expr.specs.declared.symbolic.Symbolic.{Symbolic}
+use Rattle.sc_gen_expr.specs.declared.symbolic.Symbolic.TheVariants.{Plain, Call}
+use Rattle.sc_gen_expr.specs.declared.symbolic.Target.TheVariants as target
 use Rattle.sc_gen_expr.specs.declared.symbolic.Access.{Access}
 use Rattle.sc_gen_expr.specs.declared.symbolic.Access.TheVariants as access
 use Rattle.sc_gen_expr.specs.declared.calls.Base.{Base}
-use Rattle.sc_gen_expr.specs.Code.{Code, a0, a1, a2, li, near, push, pop, service, block_service, copied}
+use Rattle.sc_gen_expr.specs.Code.{Code, x0, ra, sp, t0, t1, t2, a0, a1, a2, addi, apply, mv, sw, ecall, accessed, li, near, push, pop, service, block_service, copied, over, skip_if, skip_unless, tagged, address}
 use Rattle.sc_gen_expr.specs.Operators as operators
 use Rattle.sc_gen_expr.specs.Calls as calls
-use Rattle.sc_gen_expr.specs.Expressions.{Part, slot_of, next, automatic, both, logical, choice, assigned, further_arguments, arguments, count, called, read, part_of, expression_code, expression_layer}
+use Rattle.sc_gen_expr.specs.Expressions.{Part, slot_of, next, automatic, named, both, logical, choice, assigned, further_arguments, arguments, count, called, read, part_of, expression_code, expression_layer}
 use Rattle.sc_gen.specs.Nodes as nodes
 use Rattle.sc_gen.specs.Counts as counts
 
@@ -35,17 +44,26 @@ if_short false x y k p q = q
 pub app : (x y : Code) (m n : ℕ) → length x ≤ m → length y ≤ n → length (x ++ y) ≤ m + n
 app x y m n p q = omega (arith, length-append x y, p, q)
 
-pub cons : (w : Symbolic) (y : Code) (n : ℕ) → length y ≤ n → length (w ∷ y) ≤ 1 + n
-cons w y n q = omega (arith, q)
+-- one word more
+pub cons : (y : Code) (n : ℕ) → length y ≤ n → suc (length y) ≤ 1 + n
+cons y n q = omega (arith, q)
+
+pub cons_suc : (y : Code) (n : ℕ) → length y ≤ n → suc (length y) ≤ suc n
+cons_suc y n q = omega (arith, q)
 
 pub longer : (x : Code) (m n : ℕ) → length x ≤ m → m ≤ n → length x ≤ n
 longer x m n p q = omega (arith, p, q)
 
+pub same : (n : ℕ) → n ≤ n
+same n = omega arith
+
 pub li-short : (rd n : ℕ) → length (li rd n) ≤ 2
-li-short rd n = if_short _ _ _ 2 (omega arith) (omega arith)
+li-short rd n = if_short (nat_lt n 2048 || nat_le 4294965248 n) (addi rd x0 (cast_signed w32 n) ∷ []) (Plain (Lui rd (upper_of n)) ∷ addi rd rd (lower_of n) ∷ []) 2 (omega arith) (omega arith)
 
 pub near-short : (offset : ℕ) (what : Access) → length (near offset what) ≤ 3
-near-short offset what = if_short _ _ _ 3 (omega arith) (omega arith)
+near-short offset what =
+    if_short (nat_lt offset 2048) (Plain (accessed what sp (pos offset)) ∷ [])
+    (Plain (Lui t0 (upper_of offset)) ∷ apply reg.Add t0 t0 sp ∷ Plain (accessed what t0 (lower_of offset)) ∷ []) 3 (omega arith) (omega arith)
 
 pub push-short : (t : ℕ) → length (push t) ≤ 3
 push-short t = near-short t (access.Store Sw a0)
@@ -53,13 +71,17 @@ push-short t = near-short t (access.Store Sw a0)
 pub pop-short : (rd t : ℕ) → length (pop rd t) ≤ 3
 pop-short rd t = near-short t (access.Load Lw rd)
 
+-- a constant and one word more
+constant : (rd n : ℕ) (w : Symbolic) → length (li rd n ++ w ∷ []) ≤ 2 + 1
+constant rd n w = app (li rd n) (w ∷ []) 2 1 (li-short rd n) (omega arith)
+
 pub block_service-short : (k b : ℕ) → length (block_service k b) ≤ 4
-block_service-short k b = cons _ _ 3 (app (li 6 b) _ 2 1 (li-short 6 b) (omega arith))
+block_service-short k b = cons (li t1 b ++ ecall ∷ []) 3 (constant t1 b ecall)
 
 pub copied-short : (size : ℕ) → length (copied size) ≤ 4
 copied-short size = app (li a2 size) (service 5) 2 2 (li-short a2 size) (omega arith)
 
-narrowed-short : (k : Int) (r : ℕ) → length (operators.narrowed k r) ≤ 2
+pub narrowed-short : (k : Int) (r : ℕ) → length (operators.narrowed k r) ≤ 2
 narrowed-short int.Char r = omega arith
 narrowed-short int.UChar r = omega arith
 narrowed-short int.SChar r = omega arith
@@ -70,29 +92,34 @@ narrowed-short int.UInt r = omega arith
 narrowed-short int.Long r = omega arith
 narrowed-short int.ULong r = omega arith
 
-convert-short : (t : CType) (r : ℕ) → length (operators.convert t r) ≤ 2
+pub convert-short : (t : CType) (r : ℕ) → length (operators.convert t r) ≤ 2
 convert-short t r = narrowed-short (operators.machine_type t) r
 
-reconvert-short : (t u : CType) → length (operators.reconvert t u) ≤ 2
-reconvert-short t u = if_short _ _ _ 2 (omega arith) (convert-short u a0)
+pub reconvert-short : (t u : CType) → length (operators.reconvert t u) ≤ 2
+reconvert-short t u = if_short (same_int (operators.machine_type t) (operators.machine_type u)) [] (operators.convert u a0) 2 (omega arith) (convert-short u a0)
 
-read-short : (e : CoreExpr) → length (read e) ≤ 1
-read-short e = if_short _ _ _ 1 (omega arith) (omega arith)
+pub read-short : (e : CoreExpr) → length (read e) ≤ 1
+read-short e = if_short (is_place e && operators.is_scalar (type_of e)) (operators.load (type_of e) a0 a0 ∷ []) [] 1 (omega arith) (omega arith)
 
-scale-short : (r size : ℕ) → length (operators.scale r size) ≤ 3
-scale-short r size = if_short _ _ _ 3 (omega arith) (app (li 6 size) _ 2 1 (li-short 6 size) (omega arith))
+pub scale-short : (r size : ℕ) → length (operators.scale r size) ≤ 3
+scale-short r size = if_short (size == 1) [] (li t1 size ++ apply reg.Mul r r t1 ∷ []) 3 (omega arith) (constant t1 size (apply reg.Mul r r t1))
 
-moved-short : (o : Op) (b : Bool) (size : ℕ) → length (operators.moved o b size) ≤ 4
-moved-short o true size = app (operators.scale a0 size) _ 3 1 (scale-short a0 size) (omega arith)
-moved-short o false size = app (operators.scale a1 size) _ 3 1 (scale-short a1 size) (omega arith)
+pub moved-short : (o : Op) (b : Bool) (size : ℕ) → length (operators.moved o b size) ≤ 4
+moved-short o true size = app (operators.scale a0 size) (apply (operators.add_or_sub o) a0 a1 a0 ∷ []) 3 1 (scale-short a0 size) (omega arith)
+moved-short o false size = app (operators.scale a1 size) (apply reg.Add a0 a0 a1 ∷ []) 3 1 (scale-short a1 size) (omega arith)
 
-difference-short : (size : ℕ) → length (operators.difference size) ≤ 4
-difference-short size = cons _ _ 3 (if_short _ _ _ 3 (omega arith) (app (li 6 size) _ 2 1 (li-short 6 size) (omega arith)))
+pub difference-short : (size : ℕ) → length (operators.difference size) ≤ 4
+difference-short size =
+    let end = if size == 1 then [] else li t1 size ++ apply reg.Div a0 a0 t1 ∷ [] in
+    cons end 3 (if_short (size == 1) [] (li t1 size ++ apply reg.Div a0 a0 t1 ∷ []) 3 (omega arith) (constant t1 size (apply reg.Div a0 a0 t1)))
 
-further-short : (n : ℕ) → length (operators.further n) ≤ 3
-further-short n = if_short _ _ _ 3 (omega arith) (if_short _ _ _ 3 (omega arith) (app (li 6 n) _ 2 1 (li-short 6 n) (omega arith)))
+pub further-short : (n : ℕ) → length (operators.further n) ≤ 3
+further-short n =
+    let far = li t1 n ++ apply reg.Add a0 a0 t1 ∷ [] in
+    if_short (n == 0) [] (if nat_lt n 2048 then addi a0 a0 (pos n) ∷ [] else far) 3 (omega arith)
+    (if_short (nat_lt n 2048) (addi a0 a0 (pos n) ∷ []) far 3 (omega arith) (constant t1 n (apply reg.Add a0 a0 t1)))
 
-operate-short : (o : Op) (u : Bool) (x y : ℕ) → length (operators.operate o u x y) ≤ 2
+pub operate-short : (o : Op) (u : Bool) (x y : ℕ) → length (operators.operate o u x y) ≤ 2
 operate-short op.Add u x y = omega arith
 operate-short op.Sub u x y = omega arith
 operate-short op.Mul u x y = omega arith
@@ -115,74 +142,98 @@ operate-short op.Truth u x y = omega arith
 operate-short op.Inc u x y = omega arith
 operate-short op.Dec u x y = omega arith
 
-unary-short : (o : UnaryOperator) → length (operators.unary_of o) ≤ 1
+pub unary-short : (o : UnaryOperator) → length (operators.unary_of o) ≤ 1
 unary-short unary.Plus = omega arith
 unary-short unary.Minus = omega arith
 unary-short unary.Complement = omega arith
 unary-short unary.Not = omega arith
 
-next_value-short : (s : Step) (n : ℕ) (t : CType) → length (operators.next_value s n t) ≤ 3
-next_value-short s n t = if_short _ _ _ 3 (app (li 6 (operators.addend s n)) _ 2 1 (li-short 6 (operators.addend s n)) (omega arith)) (cons _ _ 2 (convert-short t a2))
+pub next_value-short : (s : Step) (n : ℕ) (t : CType) → length (operators.next_value s n t) ≤ 3
+next_value-short s n t =
+    if_short (operators.is_pointer t) (li t1 (operators.addend s n) ++ apply reg.Add a2 a0 t1 ∷ []) (addi a2 a0 (operators.one s) ∷ operators.convert t a2) 3
+    (constant t1 (operators.addend s n) (apply reg.Add a2 a0 t1)) (cons (operators.convert t a2) 2 (convert-short t a2))
 
-stepped-short : (s : Step) (n : ℕ) (t : CType) → length (operators.stepped s n t) ≤ 7
-stepped-short s n t = cons _ _ 6 (cons _ _ 5 (app (operators.next_value s n t) _ 3 2 (next_value-short s n t) (cons _ _ 1 (if_short _ _ _ 1 (omega arith) (omega arith)))))
+pub stepped-short : (s : Step) (n : ℕ) (t : CType) → length (operators.stepped s n t) ≤ 7
+stepped-short s n t =
+    let last = if operators.is_before s then mv a0 a2 ∷ [] else [] in
+    let end = operators.store t a2 a1 ∷ last in
+    let mid = operators.next_value s n t ++ end in
+    cons (operators.load t a0 a1 ∷ mid) 6 (cons mid 5 (app (operators.next_value s n t) end 3 2 (next_value-short s n t)
+    (cons last 1 (if_short (operators.is_before s) (mv a0 a2 ∷ []) [] 1 (omega arith) (omega arith)))))
 
-changed-short : (o : Op) (k : Int) (t : CType) → length (operators.changed o k t) ≤ 6
-changed-short o k t = cons _ _ 5 (app (operators.operate o (operators.is_unsigned k) a2 a0) _ 2 3 (operate-short o (operators.is_unsigned k) a2 a0) (app (operators.convert t a0) _ 2 1 (convert-short t a0) (omega arith)))
+pub changed-short : (o : Op) (k : Int) (t : CType) → length (operators.changed o k t) ≤ 6
+changed-short o k t =
+    let end = operators.convert t a0 ++ operators.store t a0 a1 ∷ [] in
+    let own = operators.operate o (operators.is_unsigned k) a2 a0 in
+    cons (own ++ end) 5 (app own end 2 3 (operate-short o (operators.is_unsigned k) a2 a0) (app (operators.convert t a0) (operators.store t a0 a1 ∷ []) 2 1 (convert-short t a0) (omega arith)))
 
-moved_by-short : (o : Op) (size : ℕ) (t : CType) → length (operators.moved_by o size t) ≤ 6
-moved_by-short o size t = cons _ _ 5 (app (operators.scale a0 size) _ 3 2 (scale-short a0 size) (omega arith))
+pub moved_by-short : (o : Op) (size : ℕ) (t : CType) → length (operators.moved_by o size t) ≤ 6
+moved_by-short o size t =
+    let end = apply (operators.add_or_sub o) a0 a2 a0 ∷ operators.store t a0 a1 ∷ [] in
+    cons (operators.scale a0 size ++ end) 5 (app (operators.scale a0 size) end 3 2 (scale-short a0 size) (omega arith))
 
 both-short : (p q : Part) (a b : CoreExpr) (t m n : ℕ) → length (p a t) ≤ m → length (q b (next t)) ≤ n → length (both p q a b t) ≤ m + n + 6
 both-short p q a b t m n h k =
+    let right = q b (next t) ++ pop a1 t in
     longer (both p q a b t) (m + (3 + (n + 3))) (m + n + 6)
-    (app (p a t) _ m (3 + (n + 3)) h (app (push t) _ 3 (n + 3) (push-short t) (app (q b (next t)) (pop a1 t) n 3 k (pop-short a1 t))))
+    (app (p a t) (push t ++ right) m (3 + (n + 3)) h (app (push t) right 3 (n + 3) (push-short t) (app (q b (next t)) (pop a1 t) n 3 k (pop-short a1 t))))
     (omega arith)
 
 logical-short : (s : Symbolic) (a b : Code) (m n : ℕ) → length a ≤ m → length b ≤ n → length (logical s a b) ≤ m + n + 3
 logical-short s a b m n h k =
+    let end = apply reg.Sltu a0 x0 a0 ∷ [] in
     longer (logical s a b) (m + (1 + (1 + (n + 1)))) (m + n + 3)
-    (app a _ m (1 + (1 + (n + 1))) h (cons _ _ (1 + (n + 1)) (cons _ _ (n + 1) (app b _ n 1 k (omega arith)))))
+    (app a (s ∷ over (length b) ∷ (b ++ end)) m (1 + (1 + (n + 1))) h (cons (over (length b) ∷ (b ++ end)) (1 + (n + 1)) (cons (b ++ end) (n + 1) (app b end n 1 k (omega arith)))))
     (omega arith)
 
-pub choice-short : (a b d : Code) (m n k : ℕ) → length a ≤ m → length b ≤ n → length d ≤ k → length (choice a b d) ≤ m + n + k + 3
+choice-short : (a b d : Code) (m n k : ℕ) → length a ≤ m → length b ≤ n → length d ≤ k → length (choice a b d) ≤ m + n + k + 3
 choice-short a b d m n k f g h =
+    let end = over (length d) ∷ d in
     longer (choice a b d) (m + (1 + (1 + (n + (1 + k))))) (m + n + k + 3)
-    (app a _ m (1 + (1 + (n + (1 + k)))) f (cons _ _ (1 + (n + (1 + k))) (cons _ _ (n + (1 + k)) (app b _ n (1 + k) g (cons _ d k h)))))
+    (app a (skip_if ∷ over (length b + 1) ∷ (b ++ end)) m (1 + (1 + (n + (1 + k)))) f
+    (cons (over (length b + 1) ∷ (b ++ end)) (1 + (n + (1 + k))) (cons (b ++ end) (n + (1 + k)) (app b end n (1 + k) g (cons d k h)))))
     (omega arith)
 
 assigned-short : (a b : Code) (t size m n : ℕ) → length a ≤ m → length b ≤ n → length (assigned a t b size) ≤ m + n + 11
 assigned-short a b t size m n h k =
+    let end = pop a0 t ++ copied size in
+    let right = b ++ (mv a1 a0 ∷ end) in
     longer (assigned a t b size) (m + (3 + (n + (1 + (3 + 4))))) (m + n + 11)
-    (app a _ m (3 + (n + (1 + (3 + 4)))) h (app (push t) _ 3 (n + (1 + (3 + 4))) (push-short t) (app b _ n (1 + (3 + 4)) k (cons _ _ (3 + 4) (app (pop a0 t) (copied size) 3 4 (pop-short a0 t) (copied-short size))))))
+    (app a (push t ++ right) m (3 + (n + (1 + (3 + 4)))) h (app (push t) right 3 (n + (1 + (3 + 4))) (push-short t)
+    (app b (mv a1 a0 ∷ end) n (1 + (3 + 4)) k (cons end (3 + 4) (app (pop a0 t) (copied size) 3 4 (pop-short a0 t) (copied-short size))))))
     (omega arith)
 
 -- arguments that go on
-outgoing-length : (base : Base) (i n : ℕ) → length (calls.outgoing base i n) ≤ 2 * n
+pub outgoing-length : (base : Base) (i n : ℕ) → length (calls.outgoing base i n) ≤ 2 * n
 outgoing-length base i zero = omega arith
 outgoing-length base i (suc n) = let h = outgoing-length base (i + 1) n in omega (arith, h)
 
-incoming-length : (base : Base) (i n : ℕ) → length (calls.incoming base i n) ≤ n
+pub incoming-length : (base : Base) (i n : ℕ) → length (calls.incoming base i n) ≤ n
 incoming-length base i zero = omega arith
 incoming-length base i (suc n) = let h = incoming-length base (i + 1) n in omega (arith, h)
 
 based-short : (n t : ℕ) → length (calls.based n t) ≤ 3
-based-short n t = if_short _ _ _ 3 (omega arith) (app (li 5 t) _ 2 1 (li-short 5 t) (omega arith))
+based-short n t = if_short (calls.is_near n t) [] (li t0 t ++ apply reg.Add t0 t0 sp ∷ []) 3 (omega arith) (constant t0 t (apply reg.Add t0 t0 sp))
 
 marshalled-short : (n t : ℕ) → length (calls.marshalled n t) ≤ 3 * n + 6
 marshalled-short n t =
     let k = 2 * (n - 9) in
     let m = min (n - 1) 8 in
+    let base = calls.base_of n t in
+    let in_registers = calls.incoming base 0 m ++ calls.last_in n in
+    let behind = calls.last_out n ++ in_registers in
+    let out = calls.outgoing base 8 (n - 9) ++ behind in
     longer (calls.marshalled n t) (1 + (3 + (k + (1 + (m + 1))))) (3 * n + 6)
-    (app (calls.last_waits n) _ 1 (3 + (k + (1 + (m + 1)))) (if_short _ _ _ 1 (omega arith) (omega arith))
-    (app (calls.based n t) _ 3 (k + (1 + (m + 1))) (based-short n t)
-    (app (calls.outgoing (calls.base_of n t) 8 (n - 9)) _ k (1 + (m + 1)) (outgoing-length (calls.base_of n t) 8 (n - 9))
-    (app (calls.last_out n) _ 1 (m + 1) (if_short _ _ _ 1 (omega arith) (omega arith))
-    (app (calls.incoming (calls.base_of n t) 0 m) (calls.last_in n) m 1 (incoming-length (calls.base_of n t) 0 m) (if_short _ _ _ 1 (omega arith) (omega arith)))))))
+    (app (calls.last_waits n) (calls.based n t ++ out) 1 (3 + (k + (1 + (m + 1)))) (if_short (nat_lt 0 n) (mv t1 a0 ∷ []) [] 1 (omega arith) (omega arith))
+    (app (calls.based n t) out 3 (k + (1 + (m + 1))) (based-short n t)
+    (app (calls.outgoing base 8 (n - 9)) behind k (1 + (m + 1)) (outgoing-length base 8 (n - 9))
+    (app (calls.last_out n) in_registers 1 (m + 1) (if_short (nat_lt 8 n) (sw t1 sp (pos (4 * (n - 1 - 8))) ∷ []) [] 1 (omega arith) (omega arith))
+    (app (calls.incoming base 0 m) (calls.last_in n) m 1 (incoming-length base 0 m) (if_short (nat_lt 0 n && nat_lt n 9) (mv (9 + n) t1 ∷ []) [] 1 (omega arith) (omega arith)))))))
     (omega arith)
 
 call_direct-short : (key : Key) (n : ℕ) → length (calls.call_direct key n) ≤ 4
-call_direct-short key n = app (calls.counted key n) _ 2 2 (if_short _ _ _ 2 (li-short 7 n) (omega arith)) (omega arith)
+call_direct-short key n =
+    app (calls.counted key n) (Call (target.Named key) ∷ Plain (Jalr ra ra (pos 0)) ∷ []) 2 2 (if_short (calls.is_printf key) (li t2 n) [] 2 (li-short t2 n) (omega arith)) (omega arith)
 
 call_through-short : (base : Base) → length (calls.call_through base) ≤ 4
 call_through-short base = omega arith
@@ -211,14 +262,15 @@ pointer_call : (w wf wa n c na ca nf cf : ℕ) → w ≤ wf + (3 + (wa + (3 * c 
     w + 17 ≤ 29 * (1 + nf + na) + 3 * (cf + ca)
 pointer_call w wf wa n c na ca nf cf h l f a = omega (arith, h, l, f, a)
 
-one_more : (w we wr n ne ce nr cr : ℕ) → w ≤ 3 + (we + wr) → we + 17 ≤ 29 * ne + 3 * ce → wr + 14 * n ≤ 29 * nr + 3 * cr → w + 14 * (1 + n) ≤ 29 * (ne + nr) + 3 * (ce + cr)
-one_more w we wr n ne ce nr cr h e r = omega (arith, h, e, r)
+one_more : (w we wr n ne ce nr cr sn sc : ℕ) → sn ≡ ne + nr → sc ≡ ce + cr → w ≤ 3 + (we + wr) → we + 17 ≤ 29 * ne + 3 * ce → wr + 14 * n ≤ 29 * nr + 3 * cr → w + 14 * suc n ≤ 29 * sn + 3 * sc
+one_more w we wr n ne ce nr cr sn sc p q h e r = omega (arith, p, q, h, e, r)
 
-first_one : (w we wr n ne ce nr cr : ℕ) → w ≤ we + wr → we + 17 ≤ 29 * ne + 3 * ce → wr + 14 * n ≤ 29 * nr + 3 * cr → w + 14 * (1 + n) ≤ 29 * (ne + nr) + 3 * (ce + cr)
-first_one w we wr n ne ce nr cr h e r = omega (arith, h, e, r)
+first_one : (w we wr n ne ce nr cr sn sc : ℕ) → sn ≡ ne + nr → sc ≡ ce + cr → w ≤ we + wr → we + 17 ≤ 29 * ne + 3 * ce → wr + 14 * n ≤ 29 * nr + 3 * cr → w + 14 * suc n ≤ 29 * sn + 3 * sc
+first_one w we wr n ne ce nr cr sn sc p q h e r = omega (arith, p, q, h, e, r)
 
-same : (n : ℕ) → n ≤ n
-same n = omega arith
+-- a sum with one number more
+pub sum_more : (n : ℕ) (ns : List ℕ) → sum (n ∷ ns) ≡ n + sum ns
+sum_more n ns = sum_by-cons (λ x. x) n ns
 
 few : (n : ℕ) → min n 31 ≤ n
 few n = omega arith
@@ -243,7 +295,8 @@ module _ (slots : List (List Auto)) where
   further_fit (e ∷ es) t =
       let one = expression_code slots e.0 (next t) in
       let rest = further_arguments (map (part_of slots) (all es)) (all es) (next t) in
-      one_more _ (length one) (length rest) (length (all es)) (nodes.expression_nodes e.0) (counts.conversions e.0) (sum (map nodes.expression_nodes (all es))) (sum (map counts.conversions (all es)))
+      one_more _ (length one) (length rest) (length (all es)) (nodes.expression_nodes e.0) (counts.conversions e.0) (sum (map nodes.expression_nodes (all es))) (sum (map counts.conversions (all es))) _ _
+      (sum_more (nodes.expression_nodes e.0) (map nodes.expression_nodes (all es))) (sum_more (counts.conversions e.0) (map counts.conversions (all es)))
       (app (push t) (one ++ rest) 3 (length one + length rest) (push-short t) (app one rest (length one) (length rest) (same (length one)) (same (length rest))))
       (e.1 (next t))
       (further_fit es (next t))
@@ -254,7 +307,8 @@ module _ (slots : List (List Auto)) where
   arguments_fit (e ∷ es) t =
       let one = expression_code slots e.0 t in
       let rest = further_arguments (map (part_of slots) (all es)) (all es) t in
-      first_one _ (length one) (length rest) (length (all es)) (nodes.expression_nodes e.0) (counts.conversions e.0) (sum (map nodes.expression_nodes (all es))) (sum (map counts.conversions (all es)))
+      first_one _ (length one) (length rest) (length (all es)) (nodes.expression_nodes e.0) (counts.conversions e.0) (sum (map nodes.expression_nodes (all es))) (sum (map counts.conversions (all es))) _ _
+      (sum_more (nodes.expression_nodes e.0) (map nodes.expression_nodes (all es))) (sum_more (counts.conversions e.0) (map counts.conversions (all es)))
       (app one rest (length one) (length rest) (same (length one)) (same (length rest)))
       (e.1 t)
       (further_fit es t)
@@ -320,41 +374,41 @@ module _ (slots : List (List Auto)) where
   logical_fits s a b at =
       let wa = length (expression_code slots a.0 at) in
       let wb = length (expression_code slots b.0 at) in
-      fits2 _ (wa + wb + 3) wa wb _ _ _ _ (logical-short s _ _ wa wb (same wa) (same wb)) (omega arith) (a.1 at) (b.1 at)
+      fits2 _ (wa + wb + 3) wa wb _ _ _ _ (logical-short s (expression_code slots a.0 at) (expression_code slots b.0 at) wa wb (same wa) (same wb)) (omega arith) (a.1 at) (b.1 at)
 
   weighed : (y : CoreExpr-F Known) (at : ℕ) → Layer (plain y) at
-  weighed (CoreExpr-F.Number l t n) at = leaf _ (longer (li a0 n) 2 5 (li-short a0 n) (omega arith))
-  weighed (CoreExpr-F.Literal l t i) at = leaf _ (omega arith)
-  weighed (CoreExpr-F.Automatic l t b i) at = leaf _ (app (near (slot_of slots b i) (access.Address a0)) _ 3 2 (near-short (slot_of slots b i) (access.Address a0)) (omega arith))
-  weighed (CoreExpr-F.Static l t key) at = leaf _ (omega arith)
-  weighed (CoreExpr-F.Function l t key) at = leaf _ (omega arith)
-  weighed (CoreExpr-F.Index l t n a b) at = pair_fits a b _ 4 at (moved-short op.Add (operators.is_pointer (type_of a.0)) n) (omega arith)
+  weighed (CoreExpr-F.Number l t n) at = leaf (length (li a0 n)) (longer (li a0 n) 2 5 (li-short a0 n) (omega arith))
+  weighed (CoreExpr-F.Literal l t i) at = leaf (length (address (target.Literal i))) (omega arith)
+  weighed (CoreExpr-F.Automatic l t b i) at = leaf (length (automatic (slot_of slots b i))) (app (near (slot_of slots b i) (access.Address a0)) tagged 3 2 (near-short (slot_of slots b i) (access.Address a0)) (omega arith))
+  weighed (CoreExpr-F.Static l t key) at = leaf (length (named key)) (omega arith)
+  weighed (CoreExpr-F.Function l t key) at = leaf (length (named key)) (omega arith)
+  weighed (CoreExpr-F.Index l t n a b) at = pair_fits a b (operators.moved op.Add (operators.is_pointer (type_of a.0)) n) 4 at (moved-short op.Add (operators.is_pointer (type_of a.0)) n) (omega arith)
   weighed (CoreExpr-F.Call l t f es) at = called_fits f es at (calls.direct f.0)
-  weighed (CoreExpr-F.Member l t n a) at = single_fits a _ 3 at (further-short n) (omega arith)
-  weighed (CoreExpr-F.Arrow l t n a) at = single_fits a _ 3 at (further-short n) (omega arith)
-  weighed (CoreExpr-F.Step l t s n a) at = single_fits a _ 7 at (stepped-short s n (type_of a.0)) (omega arith)
+  weighed (CoreExpr-F.Member l t n a) at = single_fits a (operators.further n) 3 at (further-short n) (omega arith)
+  weighed (CoreExpr-F.Arrow l t n a) at = single_fits a (operators.further n) 3 at (further-short n) (omega arith)
+  weighed (CoreExpr-F.Step l t s n a) at = single_fits a (operators.stepped s n (type_of a.0)) 7 at (stepped-short s n (type_of a.0)) (omega arith)
   weighed (CoreExpr-F.Address l t a) at = bare_fits a at
   weighed (CoreExpr-F.Indirection l t a) at = bare_fits a at
-  weighed (CoreExpr-F.Unary l t o a) at = single_fits a _ 1 at (unary-short o) (omega arith)
-  weighed (CoreExpr-F.Cast l t a) at = single_fits a _ 2 at (convert-short t a0) (omega arith)
-  weighed (CoreExpr-F.Binary l t o a b) at = pair_fits a b _ 2 at (operate-short o (operators.is_unsigned (operators.machine_type (type_of a.0))) a1 a0) (omega arith)
-  weighed (CoreExpr-F.Offset l t o n a b) at = pair_fits a b _ 4 at (moved-short o (operators.is_pointer (type_of a.0)) n) (omega arith)
-  weighed (CoreExpr-F.Difference l t n a b) at = pair_fits a b _ 4 at (difference-short n) (omega arith)
-  weighed (CoreExpr-F.Compare l t o a b) at = pair_fits a b _ 2 at (operate-short o true a1 a0) (omega arith)
-  weighed (CoreExpr-F.And l t a b) at = logical_fits _ a b at
-  weighed (CoreExpr-F.Or l t a b) at = logical_fits _ a b at
+  weighed (CoreExpr-F.Unary l t o a) at = single_fits a (operators.unary_of o) 1 at (unary-short o) (omega arith)
+  weighed (CoreExpr-F.Cast l t a) at = single_fits a (operators.convert t a0) 2 at (convert-short t a0) (omega arith)
+  weighed (CoreExpr-F.Binary l t o a b) at = pair_fits a b (operators.operate o (operators.is_unsigned (operators.machine_type (type_of a.0))) a1 a0) 2 at (operate-short o (operators.is_unsigned (operators.machine_type (type_of a.0))) a1 a0) (omega arith)
+  weighed (CoreExpr-F.Offset l t o n a b) at = pair_fits a b (operators.moved o (operators.is_pointer (type_of a.0)) n) 4 at (moved-short o (operators.is_pointer (type_of a.0)) n) (omega arith)
+  weighed (CoreExpr-F.Difference l t n a b) at = pair_fits a b (operators.difference n) 4 at (difference-short n) (omega arith)
+  weighed (CoreExpr-F.Compare l t o a b) at = pair_fits a b (operators.operate o true a1 a0) 2 at (operate-short o true a1 a0) (omega arith)
+  weighed (CoreExpr-F.And l t a b) at = logical_fits skip_if a b at
+  weighed (CoreExpr-F.Or l t a b) at = logical_fits skip_unless a b at
   weighed (CoreExpr-F.Conditional l t a b d) at =
       let wa = length (expression_code slots a.0 at) in
       let wb = length (expression_code slots b.0 at) in
       let wd = length (expression_code slots d.0 at) in
-      fits3 _ wa wb wd _ _ _ _ _ _ (choice-short _ _ _ wa wb wd (same wa) (same wb) (same wd)) (a.1 at) (b.1 at) (d.1 at)
-  weighed (CoreExpr-F.Assign l t a b) at = pair_fits a b _ 1 at (omega arith) (omega arith)
+      fits3 _ wa wb wd _ _ _ _ _ _ (choice-short (expression_code slots a.0 at) (expression_code slots b.0 at) (expression_code slots d.0 at) wa wb wd (same wa) (same wb) (same wd)) (a.1 at) (b.1 at) (d.1 at)
+  weighed (CoreExpr-F.Assign l t a b) at = pair_fits a b (operators.store (type_of a.0) a0 a1 ∷ []) 1 at (omega arith) (omega arith)
   weighed (CoreExpr-F.AssignStructure l t n a b) at =
       let wa = length (expression_code slots a.0 at) in
       let wb = length (expression_code slots b.0 (next at)) in
-      fits2 _ (wa + wb + 11) wa wb _ _ _ _ (assigned-short _ _ at n wa wb (same wa) (same wb)) (omega arith) (a.1 at) (b.1 (next at))
-  weighed (CoreExpr-F.Compound l t o k a b) at = pair_fits a b _ 6 at (changed-short o k (type_of a.0)) (omega arith)
-  weighed (CoreExpr-F.CompoundOffset l t o n a b) at = pair_fits a b _ 6 at (moved_by-short o n (type_of a.0)) (omega arith)
+      fits2 _ (wa + wb + 11) wa wb _ _ _ _ (assigned-short (expression_code slots a.0 at) (expression_code slots b.0 (next at)) at n wa wb (same wa) (same wb)) (omega arith) (a.1 at) (b.1 (next at))
+  weighed (CoreExpr-F.Compound l t o k a b) at = pair_fits a b (operators.changed o k (type_of a.0)) 6 at (changed-short o k (type_of a.0)) (omega arith)
+  weighed (CoreExpr-F.CompoundOffset l t o n a b) at = pair_fits a b (operators.moved_by o n (type_of a.0)) 6 at (moved_by-short o n (type_of a.0)) (omega arith)
   weighed (CoreExpr-F.Comma l t a b) at =
       let wa = length (expression_code slots a.0 at) in
       let wb = length (expression_code slots b.0 at) in
@@ -362,7 +416,7 @@ module _ (slots : List (List Auto)) where
   weighed (CoreExpr-F.Convert l t a) at =
       let wa = length (expression_code slots a.0 at) in
       converted _ wa (nodes.expression_nodes a.0) (counts.conversions a.0)
-      (app (expression_code slots a.0 at) _ wa (1 + 2) (same wa) (app (read a.0) _ 1 2 (read-short a.0) (reconvert-short (type_of a.0) t)))
+      (app (expression_code slots a.0 at) (read a.0 ++ operators.reconvert (type_of a.0) t) wa (1 + 2) (same wa) (app (read a.0) (operators.reconvert (type_of a.0) t) 1 2 (read-short a.0) (reconvert-short (type_of a.0) t)))
       (a.1 at)
 
   carry : (w v n m c d : ℕ) → w ≡ v → n ≡ m → c ≡ d → v + 17 ≤ 29 * m + 3 * d → w + 17 ≤ 29 * n + 3 * c

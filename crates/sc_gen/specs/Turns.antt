@@ -2,7 +2,7 @@
 -- How many turns of the machine stand between two units of the meaning's work, over the code of the templates. A turn is an instruction,
 -- and one more for a service. A unit is the beginning and the end of an expression that is no conversion, of a statement and of an
 -- initialised declarator, and each label of a `switch` that is compared.
-use Rattle.std.specs.Prelude.{ℕ, ◌+◌, ◌≤◌, ◌==◌, ◌&&◌, max, Bool, true, List, [], ◌∷◌, ◌++◌, sum_by, Option, Some, None}
+use Rattle.std.specs.Prelude.{ℕ, ◌+◌, ◌≤◌, ◌==◌, ◌&&◌, max, Bool, true, List, [], ◌∷◌, ◌++◌, Option, Some, None}
 use Rattle.std.specs.List.{list_all}
 use Rattle.sc_base.specs.declared.key.Key.{Key}
 use Rattle.sc_base.specs.declared.operator.Op.TheVariants as op
@@ -31,7 +31,8 @@ symbolic_turns (Lower target) = 1
 symbolic_turns (Call target) = 1
 
 abbrev pub turns : Code → ℕ
-turns code = sum_by symbolic_turns code
+turns [] = 0
+turns (w ∷ ws) = symbolic_turns w + turns ws
 
 -- A way through some code: without a unit it takes so many turns; else there are turns before its first unit, the most between two of its
 -- units, and turns behind the last one.
