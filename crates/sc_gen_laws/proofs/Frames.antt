@@ -3,12 +3,13 @@ use Rattle.std.proofs.Common.{◌≡◌, ◌<◌, ◌≤◌, ℕ, zero, suc, len
 use Rattle.std.specs.Prelude.{flat_map, slice_get, option_and_then, option_map, unwrap_or}
 use Rattle.std.specs.List.{list_all}
 use Rattle.std.proofs.lemmas.Bool.Decides.{nat_tests}
+use Rattle.std.proofs.lemmas.Option.{slice_get_past}
 use Rattle.sc_program.specs.declared.frame.Slot.{Slot}
 use Rattle.sc_base.specs.declared.integer.Int.{Int}
 use Rattle.sc_base.specs.declared.integer.Int.TheVariants as int
 use Rattle.sc_types.specs.declared.ctype.CType.{CType, out-CType, fold-CType, fold_out-CType, map-CType}
 use Rattle.sc_types.specs.declared.ctype.CType.TheOpen.{CType-F}
-use Rattle.sc_types.specs.declared.ctype.Signature.{Signature}
+use Rattle.sc_types.specs.declared.ctype.Signature.{Signature, fold-Signature}
 use Rattle.sc_types.specs.declared.ctype.StructDef.{StructDef}
 use Rattle.sc_types.specs.declared.layout.Layout.{Layout}
 use Rattle.sc_types.specs.Compatibility.{same_bool}
@@ -115,7 +116,7 @@ chain_aligned at end (s ∷ ss) h c =
     both (is_aligned s) (list_all is_aligned ss) (aligned_one at s.offset h c.0) (chain_aligned (at + slot_bytes s.size) end ss (next_aligned at s.size h) c.1)
 
 inside_one : (cost at end offset size : ℕ) → end + 8 ≤ cost → offset ≡ at → at + slot_bytes size ≤ end → nat_lt (offset + size) (cost - 8) ≡ true
-inside_one cost at end offset size h e u = let w = wide size in grind (arith, nat_tests)
+inside_one cost at end offset size h e u = let below : offset + size < cost - 8 = omega (arith, h, e, u, wide size) in grind (arith, nat_tests, below)
 
 chain_inside : (cost at end : ℕ) (ss : List Slot) → end + 8 ≤ cost → Chain at ss end → list_all (is_inside cost) ss ≡ true
 chain_inside cost at end [] h c = refl
@@ -124,13 +125,16 @@ chain_inside cost at end (s ∷ ss) h c =
     (chain_inside cost (at + slot_bytes s.size) end ss h c.1)
 
 before : (at offset size other : ℕ) (b : Bool) → offset ≡ at → at + slot_bytes size ≤ other → (nat_lt (offset + size) other || b) ≡ true
-before at offset size other b e h = let w = wide size in let t : nat_lt (offset + size) other ≡ true = grind (arith, nat_tests) in rw t refl
+before at offset size other b e h =
+    let below : offset + size < other = omega (arith, e, h, wide size) in
+    let t : nat_lt (offset + size) other ≡ true = grind (arith, nat_tests, below) in
+    rw t refl
 
 all_behind : (s : Slot) (base at end : ℕ) (ss : List Slot) → s.offset ≡ base → base + slot_bytes s.size ≤ at → Chain at ss end → list_all (apart s) ss ≡ true
 all_behind s base at end [] e h c = refl
 all_behind s base at end (t ∷ ts) e h c =
     both (apart s t) (list_all (apart s) ts)
-    (before base s.offset s.size t.offset _ e (let o = c.0 in omega (arith, h, o)))
+    (before base s.offset s.size t.offset (nat_lt (t.offset + t.size) s.offset) e (let o = c.0 in omega (arith, h, o)))
     (all_behind s base (at + slot_bytes t.size) end ts e (omega (arith, h)) c.1)
 
 chain_apart : (at end : ℕ) (ss : List Slot) → Chain at ss end → all_apart ss ≡ true
@@ -162,35 +166,39 @@ abbrev size_of : Option Layout → ℕ
 size_of o = unwrap_or (option_map (λ (l : Layout). l.size) o) 0
 
 -- by one level of each type
-level_small : (structs : List StructDef) (places : ℕ → Option Layout) (a : CType → Test) (b : CType → Option Layout) (t u : CType) (p o : Level) →
+level_small : (structs : List StructDef) (places : ℕ → Option Layout) (a : CType → Test) (c : Signature → Unit {0}) (b : CType → Option Layout) (d : Signature → Unit {0}) (t u : CType) (p o : Level) →
     is_scalar (shape_layer structs p) ≡ true →
-    alike_level structs (map-CType CType Signature Test (Unit {0}) a (λ _. tt) p) p o t u ≡ true →
-    Small (size_of (layer places (map-CType CType Signature (Option Layout) (Unit {0}) b (λ _. tt) o)))
-level_small structs places a b t u (CType-F.Void c) o s h = cc
-level_small structs places a b t u (CType-F.Array x n) o s h = cc
-level_small structs places a b t u (CType-F.Struct id c) o s h = cc
-level_small structs places a b t u (CType-F.Function f) o s h = cc
-level_small structs places a b t u (CType-F.Int k c) (CType-F.Int j d) s h = int_small j
-level_small structs places a b t u (CType-F.Int k c) (CType-F.Void d) s h = cc
-level_small structs places a b t u (CType-F.Int k c) (CType-F.Pointer y d) s h = cc
-level_small structs places a b t u (CType-F.Int k c) (CType-F.Array y n) s h = cc
-level_small structs places a b t u (CType-F.Int k c) (CType-F.Struct id d) s h = cc
-level_small structs places a b t u (CType-F.Int k c) (CType-F.Function f) s h = cc
-level_small structs places a b t u (CType-F.Pointer x c) (CType-F.Pointer y d) s h = refl
-level_small structs places a b t u (CType-F.Pointer x c) (CType-F.Void d) s h = cc
-level_small structs places a b t u (CType-F.Pointer x c) (CType-F.Int k d) s h = cc
-level_small structs places a b t u (CType-F.Pointer x c) (CType-F.Array y n) s h = cc
-level_small structs places a b t u (CType-F.Pointer x c) (CType-F.Struct id d) s h = cc
-level_small structs places a b t u (CType-F.Pointer x c) (CType-F.Function f) s h = cc
+    alike_level structs (map-CType CType Signature Test (Unit {0}) a c p) p o t u ≡ true →
+    Small (size_of (layer places (map-CType CType Signature (Option Layout) (Unit {0}) b d o)))
+level_small structs places a m b w t u (CType-F.Void c) o s h = cc
+level_small structs places a m b w t u (CType-F.Array x n) o s h = cc
+level_small structs places a m b w t u (CType-F.Struct id c) o s h = cc
+level_small structs places a m b w t u (CType-F.Function f) o s h = cc
+level_small structs places a m b w t u (CType-F.Int k c) (CType-F.Int j d) s h = int_small j
+level_small structs places a m b w t u (CType-F.Int k c) (CType-F.Void d) s h = cc
+level_small structs places a m b w t u (CType-F.Int k c) (CType-F.Pointer y d) s h = cc
+level_small structs places a m b w t u (CType-F.Int k c) (CType-F.Array y n) s h = cc
+level_small structs places a m b w t u (CType-F.Int k c) (CType-F.Struct id d) s h = cc
+level_small structs places a m b w t u (CType-F.Int k c) (CType-F.Function f) s h = cc
+level_small structs places a m b w t u (CType-F.Pointer x c) (CType-F.Pointer y d) s h = refl
+level_small structs places a m b w t u (CType-F.Pointer x c) (CType-F.Void d) s h = cc
+level_small structs places a m b w t u (CType-F.Pointer x c) (CType-F.Int k d) s h = cc
+level_small structs places a m b w t u (CType-F.Pointer x c) (CType-F.Array y n) s h = cc
+level_small structs places a m b w t u (CType-F.Pointer x c) (CType-F.Struct id d) s h = cc
+level_small structs places a m b w t u (CType-F.Pointer x c) (CType-F.Function f) s h = cc
 
 scalar_small : (structs : List StructDef) (p of : CType) → takes structs p of ≡ true → Small (size_in structs of)
 scalar_small structs p of h =
-    let a = fold-CType Test (Unit {0}) (λ p t u. alike_level structs p (out-CType t) (out-CType u) t u) (λ _. tt) in
+    let step : CType-F Test (Unit {0}) → Test = λ p t u. alike_level structs p (out-CType t) (out-CType u) t u in
+    let place = layer (structure_layout (length structs) structs) in
+    let a = fold-CType Test (Unit {0}) step (λ _. tt) in
     let b = layout_in structs in
-    let alike_is = ap (λ (f : Test). f p of) (fold_out-CType Test (Unit {0}) (λ p t u. alike_level structs p (out-CType t) (out-CType u) t u) (λ _. tt) p) in
-    let layout_is = fold_out-CType (Option Layout) (Unit {0}) (layer (structure_layout (length structs) structs)) (λ _. tt) of in
+    let m = fold-Signature Test (Unit {0}) step (λ _. tt) in
+    let w = fold-Signature (Option Layout) (Unit {0}) place (λ _. tt) in
+    let alike_is = ap (λ (f : Test). f p of) (fold_out-CType Test (Unit {0}) step (λ _. tt) p) in
+    let layout_is = fold_out-CType (Option Layout) (Unit {0}) place (λ _. tt) of in
     subst (λ (l : Option Layout). Small (size_of l)) (sym layout_is)
-    (level_small structs (structure_layout (length structs) structs) a b p of (out-CType p) (out-CType of)
+    (level_small structs (structure_layout (length structs) structs) a m b w p of (out-CType p) (out-CType of)
     (and-left (is_scalar (shape structs p)) (alike structs p of) h)
     (sym alike_is ∙ and-right (is_scalar (shape structs p)) (alike structs p of) h))
 
@@ -249,6 +257,6 @@ frame_sound core f n h =
     }
 
 pub every : (core : Core) (fs : List Fun) → functions core fs ≡ true → (f : Fun) (i : ℕ) → slice_get fs i ≡ Some f → is_function core f ≡ true
-every core [] h f i e = cc
+every core [] h f i e = let none : slice_get {X = Fun} [] i ≡ None = slice_get_past [] i (omega arith) in cc
 every core (g ∷ gs) h f zero e = let same : g ≡ f = cc in subst (λ (x : Fun). is_function core x ≡ true) same (and-left (is_function core g) (functions core gs) h)
 every core (g ∷ gs) h f (suc i) e = every core gs (and-right (is_function core g) (functions core gs) h) f i e
