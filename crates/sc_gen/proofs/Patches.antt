@@ -102,13 +102,13 @@ loop_is c0 c1 c2 c3 c4 c5 c6 c7 c8 c9 c10 body after test body_first x y e1 e2 e
     let size : length behind ≡ 1 + length part + length after + length test + 1 =
     omega (arith, length-append ((inner ++ after) ++ test) (j ∷ []), length-append (inner ++ after) test, length-append inner after) in
     let N = 1 + length part + length after + length test + 1 in
-    let flat : (c0 ++ w ∷ []) ++ over N ∷ behind ≡ c0 ++ w ∷ over N ∷ over (length part) ∷ part ++ (after ++ (test ++ j ∷ [])) = simp append_assoc in
+    let flat : (c0 ++ w ∷ []) ++ over N ∷ behind ≡ c0 ++ (w ∷ over N ∷ over (length part) ∷ part ++ (after ++ (test ++ j ∷ []))) = simp append_assoc in
     e10
     ∙ closed_at (c0 ++ w ∷ []) behind c9 x (length c1) nine start
     ∙ ap (λ (k : ℕ). (c0 ++ w ∷ []) ++ over k ∷ behind) size
     ∙ flat
-    ∙ ap (λ (k : ℕ). c0 ++ w ∷ over N ∷ over (length part) ∷ part ++ (after ++ (test ++ jump k (length c3) ∷ []))) from
-    ∙ ap (λ (k : ℕ). c0 ++ w ∷ over N ∷ over (length part) ∷ part ++ (after ++ (test ++ jump (length c0 + 3 + length part + length after + length test) k ∷ []))) at
+    ∙ ap (λ (k : ℕ). c0 ++ (w ∷ over N ∷ over (length part) ∷ part ++ (after ++ (test ++ jump k (length c3) ∷ [])))) from
+    ∙ ap (λ (k : ℕ). c0 ++ (w ∷ over N ∷ over (length part) ∷ part ++ (after ++ (test ++ jump (length c0 + 3 + length part + length after + length test) k ∷ [])))) at
     ∙ ap (λ (k : ℕ). c0 ++ loop (length c0) body_first (body k) after test) at
 
 pub switch_is : (c0 value c1 c2 c3 c4 c5 c6 c7 c8 c9 : Code) (body : ℕ → Code) (labels : ℕ → Code) (x y z : Symbolic) →

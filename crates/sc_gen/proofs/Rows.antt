@@ -2,7 +2,7 @@
 use Rattle.std.proofs.Common.{◌≡◌, ◌<◌, ◌≤◌, ℕ, suc, ◌+◌, List, [], ◌∷◌, ◌++◌, length, drop, take, replicate, refl, sym, ap, ◌∙◌, arith, append_assoc, length-append, get_or}
 use Rattle.std.specs.Prelude.{slice_set}
 use Rattle.std.proofs.Math.Seq.{set-append_seam, set_out, take-append_seam}
-use Rattle.std.proofs.lemmas.List.{drop_more}
+use Rattle.std.proofs.lemmas.List.{drop_more, length-replicate}
 use Rattle.sc_core.specs.declared.statement.LabelAt.{LabelAt}
 use Rattle.sc_core.specs.declared.statement.CoreStmt.{CoreStmt}
 use Rattle.sc_gen_expr.specs.declared.symbolic.Symbolic.{Symbolic}
@@ -41,7 +41,7 @@ rows_set (l ∷ ls) c0 items start =
 
 pub holes-length : (ls : List LabelAt) → length (label_holes ls) ≡ rows ls
 holes-length [] = refl
-holes-length (l ∷ ls) = refl
+holes-length (l ∷ ls) = omega (arith, length-replicate (length (l ∷ ls)) (over 0))
 
 pub rows-many : (ls : List LabelAt) → length ls ≤ rows ls
 rows-many [] = omega arith

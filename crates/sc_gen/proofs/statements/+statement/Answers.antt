@@ -1,5 +1,8 @@
-use Rattle.std.proofs.Common.{◌≡◌, ℕ, ◌+◌, ◌++◌, [], ◌∷◌, length, map, take, None, Some, refl, sym, ap, ◌∙◌}
+use Rattle.std.proofs.Common.{rules, List, ◌≡◌, ℕ, ◌+◌, ◌++◌, [], ◌∷◌, length, map, take, None, Some, refl, sym, ap, ◌∙◌}
+use Rattle.sc_core.specs.declared.statement.CoreStmt.{CoreStmt, the_lemmas}
+use Rattle.sc_core.specs.declared.module.Auto.{Auto}
 use Rattle.sc_gen_expr.specs.declared.symbolic.Symbolic.{Symbolic}
+use Rattle.sc_gen_expr.specs.Expressions.{expression_code}
 use Rattle.sc_gen.specs.Statements as spec
 use Rattle.sc_gen.specs.Jumps.{Around, in_loop, in_switch, start_of, with_jumps}
 use Rattle.sc_gen.proofs.Patches.{branch_is, choice_is}
@@ -13,8 +16,9 @@ branch-returns t c =
     let out = spec.around c.args.text.now c.args.exits in
     let skip = c.in_ok-put_one.ensures ∙ ap (λ (w : Symbolic). c.expression.new.code ++ w ∷ []) c.skip_if.ensures in
     let inner = c.in_ok-statement.ensures in
+    let test = c.in_ok-expression.ensures ∙ ap (λ (bs : List (List Auto)). c.args.text.now.code ++ expression_code bs c.args.e.now c.args.temporaries) c.as_slice.ensures in
     record {
-      appended = branch_is _ _ _ _ _ _ _ (λ k. spec.statement_code f c.args.first.now k out) _ _ c.in_ok-expression.ensures skip c.len-end.ensures c.in_ok-put_one-2.ensures inner.appended c.close.ensures;
+      appended = branch_is _ _ _ _ _ _ _ (λ k. spec.statement_code f c.args.first.now k out) _ _ test skip c.len-end.ensures c.in_ok-put_one-2.ensures inner.appended c.close.ensures;
       same_blocks = inner.same_blocks;
       same_labels = inner.same_labels;
     }
@@ -24,12 +28,13 @@ choice-returns t c =
     let f = spec.frame c.args.f.now c.args.temporaries in
     let out = spec.around c.args.text.now c.args.exits in
     let skip = c.in_ok-put_one.ensures ∙ ap (λ (w : Symbolic). c.expression.new.code ++ w ∷ []) c.skip_if.ensures in
+    let test = c.in_ok-expression.ensures ∙ ap (λ (bs : List (List Auto)). c.args.text.now.code ++ expression_code bs c.args.e.now c.args.temporaries) c.as_slice.ensures in
     let first = c.in_ok-statement.ensures in
     let second = c.in_ok-statement-2.ensures in
     let here = around-same (record c.statement.new.text { code = c.close.new.code }) c.args.text.now c.args.exits first.same_blocks first.same_labels in
     record {
       appended = choice_is _ _ _ _ _ _ _ _ _ _ (λ k. spec.statement_code f c.args.first.now k out) (λ k. spec.statement_code f c.args.second.now k out) _ _ _ _
-          c.in_ok-expression.ensures skip c.len-other.ensures c.in_ok-put_one-2.ensures first.appended c.len-end.ensures c.in_ok-put_one-3.ensures c.close.ensures
+          test skip c.len-other.ensures c.in_ok-put_one-2.ensures first.appended c.len-end.ensures c.in_ok-put_one-3.ensures c.close.ensures
           (second.appended ∙ ap (λ (a : Around). c.close.new.code ++ spec.statement_code f c.args.second.now (length c.close.new.code) a) here) c.close-2.ensures;
       same_blocks = second.same_blocks ∙ first.same_blocks;
       same_labels = second.same_labels ∙ first.same_labels;
@@ -60,12 +65,14 @@ items_from-loop-s-preserved t c =
     let f = spec.frame c.args.f.now c.args.temporaries in
     let inv = c.loop-s.invariant in
     let one = c.in_ok-statement.ensures in
+    let out = spec.around c.loop-s.text c.args.exits in
+    let appended = one.appended ∙ ap (λ (s : CoreStmt). c.loop-s.text.code ++ spec.statement_code f s (length c.loop-s.text.code) out) c.get.ensures in
     let same = around-same c.loop-s.text c.args.text.now c.args.exits inv.same_blocks inv.same_labels in
-    let out = spec.around c.args.text.now c.args.exits in
+    let first = spec.around c.args.text.now c.args.exits in
     record {
-      words = words_step f c.args.items.now c.loop-s.s-index c.s-item.result c.loop-s.text.code c.statement.new.text.code _ out _ c.loop-s-test.true c.s-item.is same one.appended inv.words;
-      places = places_step f c.args.items.now c.loop-s.s-index c.s-item.result c.loop-s.text.code c.statement.new.text.code c.loop-s.starts c.push.new.self _ out _ _
-          c.loop-s-test.true c.s-item.is same one.appended c.len.ensures c.in_ok-push.ensures inv.places;
+      words = words_step f c.args.items.now c.loop-s.s-index c.s-item.result c.loop-s.text.code c.statement.new.text.code _ first _ c.loop-s-test.true c.s-item.is same appended inv.words;
+      places = places_step f c.args.items.now c.loop-s.s-index c.s-item.result c.loop-s.text.code c.statement.new.text.code c.loop-s.starts c.push.new.self _ first _ _
+          c.loop-s-test.true c.s-item.is same appended c.len.ensures c.in_ok-push.ensures.ok inv.places;
       same_blocks = one.same_blocks ∙ inv.same_blocks;
       same_labels = one.same_labels ∙ inv.same_labels;
     }
@@ -90,8 +97,9 @@ switch-returns t c =
     let text = c.args.text.now in
     let value = spec.value_or_none f (Some c.args.e.now) in
     let inner = c.in_ok-starts.ensures in
-    let word = behind_value text.code c.expression.new.code c.put_one.new.code value _ _ c.in_ok-expression.ensures c.in_ok-put_one.ensures c.len-on_break.ensures in
-    let top = behind_two text.code c.expression.new.code c.put_one.new.code c.put_one-2.new.code value _ _ _ c.in_ok-expression.ensures c.in_ok-put_one.ensures c.in_ok-put_one-2.ensures c.len-top.ensures in
+    let first = c.in_ok-expression.ensures ∙ ap (λ (bs : List (List Auto)). text.code ++ expression_code bs c.args.e.now c.args.temporaries) c.as_slice.ensures in
+    let word = behind_value text.code c.expression.new.code c.put_one.new.code value _ _ first c.in_ok-put_one.ensures c.len-on_break.ensures in
+    let top = behind_two text.code c.expression.new.code c.put_one.new.code c.put_one-2.new.code value _ _ _ first c.in_ok-put_one.ensures c.in_ok-put_one-2.ensures c.len-top.ensures in
     let known = switch_known text.blocks text.labels c.args.exits (length text.code + length value + 1) _ _ c.len-depth.ensures word in
     let out = in_switch (spec.around text c.args.exits) (length text.code + length value + 1) in
     let own = spec.body_of f c.args.body.now c.args.body.now in
@@ -99,7 +107,7 @@ switch-returns t c =
     let places = inner.places_are ∙ ap (λ (a : Around). (own (length c.put_one-2.new.code) a).starts) known ∙ ap (λ (k : ℕ). (own k out).starts) (sym c.len-top.ensures ∙ top) in
     record {
       appended = switch_at _ value _ _ _ _ _ _ _ _ _ (λ k. (own k out).code) (λ k. spec.cases_code (spec.block_of c.args.body.now) (start_of at ((own at out).starts)) k None c.args.labels.now) _ _ _ _ _ _
-          c.in_ok-expression.ensures c.len-to_labels.ensures c.in_ok-put_one.ensures c.len-on_break.ensures c.in_ok-put_one-2.ensures
+          first c.len-to_labels.ensures c.in_ok-put_one.ensures c.len-on_break.ensures c.in_ok-put_one-2.ensures
           (inner.added.appended ∙ ap (λ (a : Around). c.put_one-2.new.code ++ (own (length c.put_one-2.new.code) a).code) known)
           c.len-to_end.ensures c.in_ok-put_one-3.ensures c.close.ensures
           (labels_known c.close.new.code c.cases.new.code _ _ _ at _ _ c.args.labels.now c.block_of.ensures top places c.in_ok-cases.ensures)
@@ -115,7 +123,7 @@ block-returns t c =
     let out = spec.around text c.args.exits in
     let opened = c.in_ok-open_labels.ensures in
     let items = c.in_ok-starts.ensures in
-    let pushed = c.in_ok-push.ensures in
+    let pushed = c.in_ok-push.ensures.ok in
     let known = inside_is text.blocks c.push.new.self text.labels c.open_labels.new.text.labels out c.args.number (length text.code) c.args.labels.now pushed opened.more_labels refl refl in
     let in_block = around-same c.open_labels.new.text (record c.open_labels.new.text { blocks = c.push.new.self }) c.args.exits opened.same_blocks refl in
     let all = block_lists out (spec.around c.open_labels.new.text c.args.exits) text.code c.open_labels.new.text.code c.items_from-starts.new.text.code c.set_labels.new.code c.block_service.new.code
@@ -133,3 +141,24 @@ block-returns t c =
             (c.truncate-2.ensures ∙ ap (λ (k : ℕ). take k c.items_from-starts.new.text.labels) c.len-outer.ensures);
       };
     }
+
+pub branch-statement-requires : goal.branch-statement-requires
+branch-statement-requires t c = (search (rules, the_lemmas), tt)
+
+pub choice-statement-requires : goal.choice-statement-requires
+choice-statement-requires t c = (search (rules, the_lemmas), tt)
+
+pub choice-statement-requires-2 : goal.choice-statement-requires-2
+choice-statement-requires-2 t c = (search (rules, the_lemmas), tt)
+
+pub statement-branch-alloc-requires : goal.statement-branch-alloc-requires
+statement-branch-alloc-requires t c = (search (rules, the_lemmas), tt)
+
+pub statement-choice-requires : goal.statement-choice-requires
+statement-choice-requires t c = (search (rules, the_lemmas), tt)
+
+pub statement-switch-requires : goal.statement-switch-requires
+statement-switch-requires t c = (search (rules, the_lemmas), tt)
+
+pub switch-inner-requires : goal.switch-inner-requires
+switch-inner-requires t c = (search (rules, the_lemmas), tt)
