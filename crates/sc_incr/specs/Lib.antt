@@ -3,3 +3,6 @@ pub mod Stands
 pub mod Uses
 pub mod Parts
 pub mod Program
+pub mod Layout
+pub mod Sound
+pub mod Laid
