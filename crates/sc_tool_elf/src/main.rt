@@ -73,9 +73,12 @@ fn read_all(rt: &HostRuntime, alloc: Global, name: &str) -> ExitCode {
 fn line_of(alloc: Global, file: &[u8]) -> Result<Vec<u8>, NoMemory> {
     let mut line = Vec::new(alloc);
     put_number(alloc, &mut line, version(alloc, file)?.unwrap_or(0))?;
-    match read_object(alloc, file) {
-        Ok(object) => put_object(alloc, &mut line, &object)?,
-        Err(fault) => put_fault(alloc, &mut line, fault)?,
+    // No file is longer: its length stood in four bytes.
+    if file.len() < 4294967296 {
+        match read_object(alloc, file) {
+            Ok(object) => put_object(alloc, &mut line, &object)?,
+            Err(fault) => put_fault(alloc, &mut line, fault)?,
+        }
     }
     line.push(b'\n')?;
     Ok(line)
