@@ -94,6 +94,11 @@ abbrev pub fetches : Option ℕ → State → Outcome
 fetches None s = Stops BadFetch
 fetches (Some w) s = acts (instr_of w) s
 
+-- the same of a word that was read as an instruction when it was fetched
+abbrev pub obeys : Option (Option Instr) → State → Outcome
+obeys None s = Stops BadFetch
+obeys (Some r) s = acts r s
+
 -- the address to which calls from outside return; no text and no stub is there
 abbrev pub return_address : ℕ
 return_address = 0x0000f000

@@ -1,17 +1,17 @@
 // One step (RISC-V unprivileged manual, RV32I and the extension M).
-ghost use Rattle.std.specs.Prelude.{◌≡◌, ◌^◌, ◌<◌, ◌/◌, ◌*◌, ⊤, Some};
+ghost use Rattle.std.specs.Prelude.{◌≡◌, ◌^◌, ◌<◌, ◌/◌, ◌*◌, ⊤, IfSome, Some};
 ghost use Rattle.sc_isa.specs.Table.{IsSound};
 ghost use Rattle.sc_isa_image.specs.Lookups.{word_at};
 ghost use Rattle.sc_isa.specs.declared.instruction.Instr.TheVariants as instr;
 ghost use Rattle.sc_emu.specs.Operations.{bits_of, plain as plain_of, sum};
 ghost use Rattle.sc_emu.specs.Registers.{register, with_word};
-ghost use Rattle.sc_emu.specs.Machine.{Gives, IsStore, act as acted, fetched, rv_step, state_of};
+ghost use Rattle.sc_emu.specs.Machine.{Gives, IsStore, act as acted, fetched, obeys, rv_step, state_of};
 
 use crate::operations::{is_taken, load_size, loaded, of_two, store_size, with_constant};
 use crate::outcome::{Crash, Step};
 use crate::registers::{Regs, plain};
 use sc_base::{NoMemory, Word};
-use sc_isa::{Instr, LoadOp, StoreOp, decode};
+use sc_isa::{Instr, LoadOp, StoreOp};
 use sc_isa_image::Image;
 use sc_mem::Memory;
 
@@ -31,12 +31,20 @@ pub fn step(regs: &mut Regs, image: &Image, mem: &mut Memory) -> Step
     if pc % 4 != 0 {
         return Step::Stopped(Crash::Misfetch);
     }
-    let Some(word) = image.word(pc) else {
-        return Step::Stopped(Crash::BadFetch);
-    };
-    match decode(word) {
-        None => Step::Stopped(Crash::Illegal),
-        Some(i) => act(regs, mem, i),
+    carry_out(regs, mem, image.instruction(pc))
+}
+
+// Carries out the instruction that was fetched, where there is a word and it is one.
+#[inline(always)]
+fn carry_out(regs: &mut Regs, mem: &mut Memory, fetched: Option<Option<Instr>>) -> Step
+    requires { IfSome fetched (λ r. IfSome r (λ i. IsSound i)) }
+    ensures step { Gives (obeys fetched (state_of regs.old mem.old.flat)) (IsStore fetched) (state_of regs.old mem.old.flat) (state_of regs.new mem.new.flat) result }
+    ensures blocks { mem.new.blocks ≡ mem.old.blocks }
+{
+    match fetched {
+        None => Step::Stopped(Crash::BadFetch),
+        Some(None) => Step::Stopped(Crash::Illegal),
+        Some(Some(i)) => act(regs, mem, i),
     }
 }
 
