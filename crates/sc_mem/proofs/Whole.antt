@@ -13,10 +13,10 @@ same n = grind (arith, nat_tests)
 none : (n : ℕ) → (n == 0) ≡ true → n ≡ 0
 none n h = grind (arith, nat_tests)
 
-four_bytes : ℕ → List Cell
+abbrev four_bytes : ℕ → List Cell
 four_bytes n = Byte (n % 256) ∷ Byte (n / 256 % 256) ∷ Byte (n / 65536 % 256) ∷ Byte (n / 16777216 % 256) ∷ []
 
-four_pieces : ℕ → ℕ → List Cell
+abbrev four_pieces : ℕ → ℕ → List Cell
 four_pieces bits tag = Frag bits tag 0 ∷ Frag bits tag 1 ∷ Frag bits tag 2 ∷ Frag bits tag 3 ∷ []
 
 number-is : (n : ℕ) → n < 2 ^ 32 → n ≡ n % 256 + 256 * (n / 256 % 256 + 256 * (n / 65536 % 256 + 256 * (n / 16777216 % 256 + 256 * 0)))
