@@ -1,40 +1,66 @@
 // A list of cells of a fixed length.
-ghost use Rattle.std.specs.Prelude.{◌≡◌, ◌+◌, ◌<◌, ◌≤◌, length, replicate, slice_get, slice_set, IfOk, List, MatchResult};
-ghost use Rattle.sc_base.specs.declared.memory.Cell.{Cell};
+ghost use Rattle.std.specs.Prelude.{◌≡◌, ◌+◌, ◌<◌, ◌≤◌, length, replicate, slice_get, slice_set, IfOk, IfSome, MatchResult, Some};
+ghost use Rattle.sc_base.specs.declared.memory.Cell.{Cell as One};
+ghost use Rattle.sc_cells.specs.Pages.{whole_cells};
 ghost use Rattle.sc_cells.specs.Range.{range_of, with_range};
 
-use sc_base::{Cell, NoMemory};
+use crate::pages::{
+    PAGE, blank_pages, cell_at, copy_cells, wipe, word_at, write_cell, write_cells, write_word,
+};
+use sc_base::{Cell, Items, NoMemory, Word};
 use std::alloc::Global;
 use std::marker::Model;
 
 /// As many cells as were asked for, seen as the list of them. What writes cells may answer want of memory, and changes
-/// nothing then; what reads or clears them never does. A cell takes at most 16 bytes.
+/// nothing then; what reads or clears them never does. They stand in pages of 4,096, and a page is taken when it is
+/// first written. A cell takes at most 16 bytes.
 #[derive(Drop)]
 pub struct Cells {
-    cells: Vec<Cell>,
+    alloc: Global,
+    size: usize,
+    pages: Vec<Items<Cell>>,
 }
 
 impl Model for Cells {
+    ghost use Rattle.std.specs.Prelude.{◌<◌, ◌^◌, List};
+    ghost use Rattle.sc_base.specs.declared.memory.Cell.{Cell};
+    ghost use Rattle.sc_cells.specs.Pages.{IsPaged, cells_in};
+
     ghost Value = { List Cell };
 
-    ghost view = { λ c. c.cells.items };
+    ghost view = { λ c. cells_in c.size c.pages.items };
+
+    ghost invariant = { λ c. IsPaged c.pages.items c.size };
 }
 
 impl Cells {
-    /// This many cells, none of them written.
+    /// This many cells, none of them written, and no page taken.
+    #[tactic(auto, using(crate::proofs::Paged::blank_cells, crate::proofs::Paged::blank_paged))]
     pub fn new(alloc: Global, size: u32) -> Result<Cells, NoMemory>
-        ensures { IfOk result (λ cells. cells ≡ replicate size Cell.Unwritten) }
+        ensures { IfOk result (λ cells. cells ≡ replicate size One.Unwritten) }
     {
-        let cells = Vec::from_elem(alloc, Cell::Unwritten, size as usize)?;
-        Ok(Cells { cells })
+        let size = size as usize;
+        let pages = blank_pages(alloc, size / PAGE + 1)?;
+        Ok(Cells { alloc, size, pages })
     }
 
     /// The cell at a place, counted from 0.
+    #[inline(always)]
     pub fn read(&self, at: u32) -> Cell
         requires { at < length self.now }
         ensures { slice_get self.now at ≡ Some result }
     {
-        self.cells[at as usize]
+        cell_at(self.pages.as_slice(), at as usize)
+    }
+
+    /// The whole word that the four cells from a place on are: the bytes of a number, or the pieces of a pointer. It may
+    /// answer `None` where they are one, too, since it looks into one page alone.
+    #[inline(always)]
+    pub fn word(&self, at: u32) -> Option<Word>
+        requires { at + 4 ≤ length self.now }
+        ensures { IfSome result (λ w. range_of self.now at 4 ≡ whole_cells w) }
+    {
+        word_at(self.pages.as_slice(), at as usize)
     }
 
     /// Puts another cell at a place.
@@ -42,8 +68,7 @@ impl Cells {
         requires { at < length self.old }
         ensures { MatchResult result (λ _. self.new ≡ slice_set self.old at c) (λ _. self.new ≡ self.old) }
     {
-        self.cells[at as usize] = c;
-        Ok(())
+        write_cell(self.alloc, &mut self.pages, at as usize, c)
     }
 
     /// Puts other cells at the places from `at` on, all of them or none.
@@ -52,9 +77,16 @@ impl Cells {
         ensures cells { MatchResult result (λ _. self.new ≡ with_range self.old at row.now) (λ _. self.new ≡ self.old) }
         ensures len { length self.new ≡ length self.old }
     {
-        let at = at as usize;
-        self.cells[at..at + row.len()].copy_from_slice(row);
-        Ok(())
+        write_cells(self.alloc, &mut self.pages, at as usize, row)
+    }
+
+    /// Puts the four cells of a whole word at the places from `at` on, all of them or none.
+    pub fn put_word(&mut self, at: u32, w: Word) -> Result<(), NoMemory>
+        requires { at + 4 ≤ length self.old }
+        ensures cells { MatchResult result (λ _. self.new ≡ with_range self.old at (whole_cells w)) (λ _. self.new ≡ self.old) }
+        ensures len { length self.new ≡ length self.old }
+    {
+        write_word(self.alloc, &mut self.pages, at as usize, w)
     }
 
     /// Copies the `n` cells from `from` on to the places from `to` on, as if by way of another place.
@@ -64,43 +96,21 @@ impl Cells {
         ensures cells { MatchResult result (λ _. self.new ≡ with_range self.old to (range_of self.old from n)) (λ _. self.new ≡ self.old) }
         ensures len { length self.new ≡ length self.old }
     {
-        if to <= from {
-            copy_upward(&mut self.cells, to as usize, from as usize, n as usize);
-        } else {
-            copy_downward(&mut self.cells, to as usize, from as usize, n as usize);
-        }
-        Ok(())
+        copy_cells(
+            self.alloc,
+            &mut self.pages,
+            to as usize,
+            from as usize,
+            n as usize,
+        )
     }
 
-    /// Makes the `n` cells from `at` on unwritten.
+    /// Makes the `n` cells from `at` on unwritten. No page is taken.
     pub fn clear(&mut self, at: u32, n: u32)
         requires { at + n ≤ length self.old }
-        ensures cells { self.new ≡ with_range self.old at (replicate n Cell.Unwritten) }
+        ensures cells { self.new ≡ with_range self.old at (replicate n One.Unwritten) }
         ensures len { length self.new ≡ length self.old }
     {
-        let at = at as usize;
-        self.cells[at..at + n as usize].fill(Cell::Unwritten);
-    }
-}
-
-// Copies from the lowest cell on, for a target that does not begin above its source.
-fn copy_upward(cells: &mut [Cell], to: usize, from: usize, n: usize)
-    requires below { to ≤ from }
-    requires source { from + n ≤ length cells.old }
-    ensures { cells.new ≡ with_range cells.old to (range_of cells.old from n) }
-{
-    for k in 0..n {
-        cells[to + k] = cells[from + k];
-    }
-}
-
-// Copies from the highest cell down, for a target that does not begin below its source.
-fn copy_downward(cells: &mut [Cell], to: usize, from: usize, n: usize)
-    requires above { from ≤ to }
-    requires target { to + n ≤ length cells.old }
-    ensures { cells.new ≡ with_range cells.old to (range_of cells.old from n) }
-{
-    for k in (0..n).rev() {
-        cells[to + k] = cells[from + k];
+        wipe(&mut self.pages, at as usize, n as usize);
     }
 }

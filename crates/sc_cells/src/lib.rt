@@ -2,5 +2,6 @@
 #![tactic(auto)]
 
 mod cells;
+mod pages;
 
 pub use cells::Cells;

@@ -19,6 +19,7 @@ use sc_mem::Memory;
 const RETURN: u32 = 0xf000;
 
 /// One step: the instruction at the next address is carried out on the registers and the memory.
+#[inline(always)]
 pub fn step(regs: &mut Regs, image: &Image, mem: &mut Memory) -> Step
     ensures step { Gives (rv_step (word_at image.now) (state_of regs.old mem.old.flat)) (IsStore (fetched (word_at image.now) (state_of regs.old mem.old.flat))) (state_of regs.old mem.old.flat) (state_of regs.new mem.new.flat) result }
     ensures blocks { mem.new.blocks ≡ mem.old.blocks }

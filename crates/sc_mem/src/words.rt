@@ -1,7 +1,7 @@
 // Words as cells, and cells as words.
-ghost use Rattle.std.specs.Prelude.{◌≡◌, ◌+◌, ◌^◌, ◌<◌, ◌≤◌, ◌∷◌, [], length, map, slice_index, MatchResult};
+ghost use Rattle.std.specs.Prelude.{◌≡◌, ◌+◌, ◌^◌, ◌<◌, ◌≤◌, ◌∷◌, [], length, map, slice_index, IfSome, MatchResult};
 ghost use Rattle.sc_base.specs.declared.memory.Cell.TheVariants.{Byte};
-ghost use Rattle.sc_mem.specs.Words.{IsSize, byte_of, bytes_of, cells_of, pieces_of, tag_of, word_of};
+ghost use Rattle.sc_mem.specs.Words.{IsSize, byte_of, bytes_of, cells_of, tag_of, word_of};
 ghost use Rattle.sc_mem.specs.Words.{is_piece as piece};
 ghost use Rattle.sc_cells.specs.Range.{range_of, with_range};
 
@@ -91,7 +91,41 @@ fn word_of_four(a: Cell, b: Cell, c: Cell, d: Cell) -> Word
 }
 
 /// The word in the `n` cells from a place on.
+#[inline(always)]
 pub fn load_word(cells: &Cells, i: u32, n: u8) -> Word
+    requires size { IsSize n }
+    requires inside { i + n ≤ length cells.now }
+    requires fits { i < 2 ^ 31 }
+    ensures { result ≡ word_of (range_of cells.now i n) }
+{
+    match whole_word(cells, i, n) {
+        Some(word) => word,
+        None => load_cells(cells, i, n),
+    }
+}
+
+// The word that four cells are whole, where it is found at once.
+#[inline(always)]
+fn whole_word(cells: &Cells, i: u32, n: u8) -> Option<Word>
+    requires { i + n ≤ length cells.now }
+    ensures { IfSome result (λ w. w ≡ word_of (range_of cells.now i n)) }
+{
+    if n == 4 { four_cells(cells, i) } else { None }
+}
+
+#[inline(always)]
+fn four_cells(cells: &Cells, i: u32) -> Option<Word>
+    requires { i + 4 ≤ length cells.now }
+    ensures { IfSome result (λ w. w ≡ word_of (range_of cells.now i 4)) }
+{
+    match cells.word(i) {
+        Some(word) => Some(word),
+        None => None,
+    }
+}
+
+// The same cell by cell.
+fn load_cells(cells: &Cells, i: u32, n: u8) -> Word
     requires size { IsSize n }
     requires inside { i + n ≤ length cells.now }
     requires fits { i < 2 ^ 31 }
@@ -119,10 +153,8 @@ pub fn store_word(cells: &mut Cells, i: u32, n: u8, w: Word) -> Result<(), NoMem
     ensures cells { MatchResult result (λ _. cells.new ≡ with_range cells.old i (cells_of n w)) (λ _. cells.new ≡ cells.old) }
     ensures len { length cells.new ≡ length cells.old }
 {
-    if n == 4 && w.tag != 0 {
-        cells.write_row(i, &pieces(w))
-    } else if n == 4 {
-        cells.write_row(i, &bytes(w.bits))
+    if n == 4 {
+        store_whole(cells, i, w)
     } else if n == 2 {
         cells.write_row(i, &[byte_cell(w.bits, 0), byte_cell(w.bits, 1)])
     } else {
@@ -130,38 +162,14 @@ pub fn store_word(cells: &mut Cells, i: u32, n: u8, w: Word) -> Result<(), NoMem
     }
 }
 
-// The four pieces of a pointer.
-fn pieces(w: Word) -> [Cell; 4]
-    ensures { result ≡ pieces_of w }
+// Writes the four cells of a whole word.
+#[inline(always)]
+fn store_whole(cells: &mut Cells, i: u32, w: Word) -> Result<(), NoMemory>
+    requires { i + 4 ≤ length cells.old }
+    ensures cells { MatchResult result (λ _. cells.new ≡ with_range cells.old i (cells_of 4 w)) (λ _. cells.new ≡ cells.old) }
+    ensures len { length cells.new ≡ length cells.old }
 {
-    [
-        piece_of(w, 0),
-        piece_of(w, 1),
-        piece_of(w, 2),
-        piece_of(w, 3),
-    ]
-}
-
-// The four bytes of a number, the lowest first.
-fn bytes(bits: u32) -> [Cell; 4]
-    ensures { result ≡ map Byte (bytes_of bits) }
-{
-    [
-        byte_cell(bits, 0),
-        byte_cell(bits, 1),
-        byte_cell(bits, 2),
-        byte_cell(bits, 3),
-    ]
-}
-
-fn piece_of(w: Word, k: u8) -> Cell
-    ensures { result ≡ Cell.Frag w.bits w.tag k }
-{
-    Cell::Frag {
-        whole: w.bits,
-        tag: w.tag,
-        k,
-    }
+    cells.put_word(i, w)
 }
 
 fn byte_cell(bits: u32, k: u8) -> Cell

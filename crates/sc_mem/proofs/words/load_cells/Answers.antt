@@ -1,6 +1,6 @@
 use Rattle.std.proofs.Common.{◌≡◌, inl, inr}
 use Rattle.sc_mem.proofs.Runs.{run-one, run-two, run-four}
-use Rattle.sc_mem.proofs.words.load_word.Goals as goal
+use Rattle.sc_mem.proofs.words.load_cells.Goals as goal
 
 pub returns-then-n-eq1 : goal.returns-then-n-eq1
 returns-then-n-eq1 c = rw (c.if-n-eq1.true, run-one c.args.cells.now c.args.i c.read-a.result c.read-a.ensures) c.word_of_one.ensures

@@ -1,0 +1,449 @@
+// Cells in pages, of which those that nothing was written to take no room.
+ghost use Rattle.std.specs.Prelude.{◌≡◌, ℕ, ◌+◌, ◌*◌, ◌/◌, ◌%◌, ◌<◌, ◌≤◌, ◌^◌, ◌⊎◌, ◌∷◌, [], length, replicate, slice_index_or, slice_set, IfOk, IfSome, IsTrue, MatchResult, OnOk};
+ghost use Rattle.sc_base.specs.declared.memory.Cell.{Cell as One};
+ghost use Rattle.sc_cells.specs.Pages.{AreTaken, Grows, IsPaged, IsTaken, Rewritten, SameShape, at_place, cells_in, four_in, four_of, page_of, set_place, whole_cells, with_page};
+ghost use Rattle.sc_cells.specs.Range.{range_of, with_range};
+
+use sc_base::{Cell, Items, NoMemory, Word};
+use std::alloc::Global;
+
+/// How many cells a page has.
+pub const PAGE: usize = 4096;
+
+/// This many pages, none of them taken.
+pub fn blank_pages(alloc: Global, count: usize) -> Result<Vec<Items<Cell>>, NoMemory>
+    ensures { IfOk result (λ pages. pages.items ≡ replicate count []) }
+{
+    let mut pages = Vec::with_capacity(alloc, count)?;
+    'making: for n in 0..count {
+        pages.push(Items::new(alloc))?;
+    }
+    Ok(pages)
+}
+
+/// The cell at a place.
+#[inline(always)]
+pub fn cell_at(pages: &[Items<Cell>], i: usize) -> Cell
+    ensures { result ≡ at_place pages.now i }
+{
+    match pages.get(i / PAGE) {
+        Some(page) => cell_of(page.as_slice(), i % PAGE),
+        None => Cell::Unwritten,
+    }
+}
+
+// A cell of a page.
+#[inline(always)]
+fn cell_of(page: &[Cell], j: usize) -> Cell
+    ensures { result ≡ slice_index_or page.now j One.Unwritten }
+{
+    match page.get(j) {
+        Some(cell) => *cell,
+        None => Cell::Unwritten,
+    }
+}
+
+/// Puts another cell at a place of a page that was taken.
+#[inline(always)]
+pub fn put_at(pages: &mut Vec<Items<Cell>>, i: usize, c: Cell)
+    requires inside { i / 4096 < length pages.old.items }
+    requires taken { IsTaken pages.old.items (i / 4096) }
+    ensures { pages.new.items ≡ set_place pages.old.items i c }
+{
+    put_in(&mut pages[i / PAGE], i % PAGE, c);
+}
+
+#[inline(always)]
+fn put_in(page: &mut Items<Cell>, j: usize, c: Cell)
+    requires { j < length page.old }
+    ensures { page.new ≡ slice_set page.old j c }
+{
+    page.set(j, c);
+}
+
+/// Makes a cell unwritten. A page that was not taken stays so.
+#[inline(always)]
+pub fn wipe_at(pages: &mut Vec<Items<Cell>>, i: usize)
+    requires inside { i / 4096 < length pages.old.items }
+    requires whole { (length (page_of pages.old.items (i / 4096)) ≡ 0) ⊎ IsTaken pages.old.items (i / 4096) }
+    ensures shape { SameShape pages.old.items pages.new.items }
+    ensures cells { (n : ℕ) → i < n → cells_in n pages.new.items ≡ slice_set (cells_in n pages.old.items) i One.Unwritten }
+{
+    let len = page_len(pages.as_slice(), i / PAGE);
+    if len == 0 {
+        return;
+    }
+    put_at(pages, i, Cell::Unwritten);
+}
+
+// How many cells a page has.
+#[inline(always)]
+fn page_len(pages: &[Items<Cell>], p: usize) -> usize
+    ensures { result ≡ length (page_of pages.now p) }
+{
+    match pages.get(p) {
+        Some(page) => page.len(),
+        None => 0,
+    }
+}
+
+/// Takes a page, where it was not.
+#[inline(always)]
+pub fn take_page(alloc: Global, pages: &mut Vec<Items<Cell>>, p: usize) -> Result<(), NoMemory>
+    requires { p < length pages.old.items }
+    ensures { MatchResult result (λ _. pages.new.items ≡ with_page pages.old.items p) (λ _. pages.new.items ≡ pages.old.items) }
+{
+    if pages[p].is_empty() {
+        fill_page(alloc, &mut pages[p])
+    } else {
+        Ok(())
+    }
+}
+
+#[inline(never)]
+fn fill_page(alloc: Global, page: &mut Items<Cell>) -> Result<(), NoMemory>
+    ensures { MatchResult result (λ _. page.new ≡ replicate 4096 One.Unwritten) (λ _. page.new ≡ page.old) }
+{
+    let cells = Vec::from_elem(alloc, Cell::Unwritten, PAGE)?;
+    *page = Items::from_vec(cells);
+    Ok(())
+}
+
+/// Takes the pages of the `n` cells from a place on.
+pub fn take_pages(
+    alloc: Global,
+    pages: &mut Vec<Items<Cell>>,
+    at: usize,
+    n: usize,
+) -> Result<(), NoMemory>
+    requires inside { at + n ≤ 4096 * length pages.old.items }
+    requires small { at + n < 2 ^ 62 }
+    requires whole { (p : ℕ) → (length (page_of pages.old.items p) ≡ 0) ⊎ IsTaken pages.old.items p }
+    ensures grows { Grows pages.old.items pages.new.items }
+    ensures taken { OnOk result (AreTaken pages.new.items at n) }
+{
+    let first = at / PAGE;
+    let end = if n == 0 {
+        first
+    } else {
+        (at + n - 1) / PAGE + 1
+    };
+    take_from(alloc, pages, first, end)
+}
+
+fn take_from(
+    alloc: Global,
+    pages: &mut Vec<Items<Cell>>,
+    first: usize,
+    end: usize,
+) -> Result<(), NoMemory>
+    requires order { first ≤ end }
+    requires inside { end ≤ length pages.old.items }
+    requires whole { (p : ℕ) → (length (page_of pages.old.items p) ≡ 0) ⊎ IsTaken pages.old.items p }
+    ensures grows { Grows pages.old.items pages.new.items }
+    ensures taken { OnOk result ((p : ℕ) → first ≤ p → p < end → IsTaken pages.new.items p) }
+{
+    'taking: for p in first..end {
+        take_page(alloc, pages, p)?;
+    }
+    Ok(())
+}
+
+/// Puts cells at the places from `at` on, whose pages were taken.
+pub fn put_row(pages: &mut Vec<Items<Cell>>, at: usize, row: &[Cell])
+    requires inside { at + length row.now ≤ 4096 * length pages.old.items }
+    requires small { at + length row.now < 2 ^ 62 }
+    requires taken { AreTaken pages.old.items at (length row.now) }
+    ensures { Rewritten pages.old.items pages.new.items (at + length row.now) at (λ _. row.now) }
+{
+    'putting: for k in 0..row.len() {
+        put_at(pages, at + k, cell_of(row, k));
+    }
+}
+
+/// Copies from the lowest cell on, for a target that does not begin above its source.
+pub fn copy_upward(pages: &mut Vec<Items<Cell>>, to: usize, from: usize, n: usize)
+    requires below { to ≤ from }
+    requires inside { from + n ≤ 4096 * length pages.old.items }
+    requires small { from + n < 2 ^ 62 }
+    requires taken { AreTaken pages.old.items to n }
+    ensures { Rewritten pages.old.items pages.new.items (from + n) to (λ all. range_of all from n) }
+{
+    'copying: for k in 0..n {
+        let c = cell_at(pages.as_slice(), from + k);
+        put_at(pages, to + k, c);
+    }
+}
+
+/// Copies from the highest cell down, for a target that does not begin below its source.
+pub fn copy_downward(pages: &mut Vec<Items<Cell>>, to: usize, from: usize, n: usize)
+    requires above { from ≤ to }
+    requires inside { to + n ≤ 4096 * length pages.old.items }
+    requires small { to + n < 2 ^ 62 }
+    requires taken { AreTaken pages.old.items to n }
+    ensures { Rewritten pages.old.items pages.new.items (to + n) to (λ all. range_of all from n) }
+{
+    'copying: for k in (0..n).rev() {
+        let c = cell_at(pages.as_slice(), from + k);
+        put_at(pages, to + k, c);
+    }
+}
+
+/// Makes the `n` cells from a place on unwritten, and takes no page.
+pub fn wipe(pages: &mut Vec<Items<Cell>>, at: usize, n: usize)
+    requires inside { at + n ≤ 4096 * length pages.old.items }
+    requires small { at + n < 2 ^ 62 }
+    requires whole { (p : ℕ) → (length (page_of pages.old.items p) ≡ 0) ⊎ IsTaken pages.old.items p }
+    ensures { Rewritten pages.old.items pages.new.items (at + n) at (λ _. replicate n One.Unwritten) }
+{
+    'wiping: for k in 0..n {
+        wipe_at(pages, at + k);
+    }
+}
+
+/// Takes the pages of a row and puts its cells there. Where memory runs out all cells stay as they are.
+pub fn write_cells(
+    alloc: Global,
+    pages: &mut Vec<Items<Cell>>,
+    at: usize,
+    row: &[Cell],
+) -> Result<(), NoMemory>
+    requires inside { at + length row.now ≤ 4096 * length pages.old.items }
+    requires small { at + length row.now < 2 ^ 62 }
+    requires whole { (p : ℕ) → (length (page_of pages.old.items p) ≡ 0) ⊎ IsTaken pages.old.items p }
+    ensures paged { (size : ℕ) → IsPaged pages.old.items size → IsPaged pages.new.items size }
+    ensures cells { (size : ℕ) → at + length row.now ≤ size → MatchResult result (λ _. cells_in size pages.new.items ≡ with_range (cells_in size pages.old.items) at row.now) (λ _. cells_in size pages.new.items ≡ cells_in size pages.old.items) }
+{
+    match take_pages(alloc, pages, at, row.len()) {
+        Ok(()) => {
+            put_row(pages, at, row);
+            Ok(())
+        }
+        Err(e) => Err(e),
+    }
+}
+
+/// Takes the page of a cell and puts another one there. Where memory runs out all cells stay as they are.
+pub fn write_cell(
+    alloc: Global,
+    pages: &mut Vec<Items<Cell>>,
+    at: usize,
+    c: Cell,
+) -> Result<(), NoMemory>
+    requires inside { at + 1 ≤ 4096 * length pages.old.items }
+    requires small { at + 1 < 2 ^ 62 }
+    requires whole { (p : ℕ) → (length (page_of pages.old.items p) ≡ 0) ⊎ IsTaken pages.old.items p }
+    ensures paged { (size : ℕ) → IsPaged pages.old.items size → IsPaged pages.new.items size }
+    ensures cells { (size : ℕ) → at < size → MatchResult result (λ _. cells_in size pages.new.items ≡ slice_set (cells_in size pages.old.items) at c) (λ _. cells_in size pages.new.items ≡ cells_in size pages.old.items) }
+{
+    match take_pages(alloc, pages, at, 1) {
+        Ok(()) => {
+            put_at(pages, at, c);
+            Ok(())
+        }
+        Err(e) => Err(e),
+    }
+}
+
+/// Takes the pages of a target and copies cells there. Where memory runs out all cells stay as they are.
+pub fn copy_cells(
+    alloc: Global,
+    pages: &mut Vec<Items<Cell>>,
+    to: usize,
+    from: usize,
+    n: usize,
+) -> Result<(), NoMemory>
+    requires target { to + n ≤ 4096 * length pages.old.items }
+    requires source { from + n ≤ 4096 * length pages.old.items }
+    requires small { to + n < 2 ^ 62 }
+    requires low { from + n < 2 ^ 62 }
+    requires whole { (p : ℕ) → (length (page_of pages.old.items p) ≡ 0) ⊎ IsTaken pages.old.items p }
+    ensures paged { (size : ℕ) → IsPaged pages.old.items size → IsPaged pages.new.items size }
+    ensures cells { (size : ℕ) → to + n ≤ size → from + n ≤ size → MatchResult result (λ _. cells_in size pages.new.items ≡ with_range (cells_in size pages.old.items) to (range_of (cells_in size pages.old.items) from n)) (λ _. cells_in size pages.new.items ≡ cells_in size pages.old.items) }
+{
+    match take_pages(alloc, pages, to, n) {
+        Ok(()) => {
+            copy_taken(pages, to, from, n);
+            Ok(())
+        }
+        Err(e) => Err(e),
+    }
+}
+
+fn copy_taken(pages: &mut Vec<Items<Cell>>, to: usize, from: usize, n: usize)
+    requires target { to + n ≤ 4096 * length pages.old.items }
+    requires source { from + n ≤ 4096 * length pages.old.items }
+    requires small { to + n < 2 ^ 62 }
+    requires low { from + n < 2 ^ 62 }
+    requires taken { AreTaken pages.old.items to n }
+    ensures shape { SameShape pages.old.items pages.new.items }
+    ensures cells { (size : ℕ) → to + n ≤ size → from + n ≤ size → cells_in size pages.new.items ≡ with_range (cells_in size pages.old.items) to (range_of (cells_in size pages.old.items) from n) }
+{
+    if to <= from {
+        copy_upward(pages, to, from, n);
+    } else {
+        copy_downward(pages, to, from, n);
+    }
+}
+
+/// Puts the cells of a whole word at the four places from `at` on, and takes their pages. Where memory runs out all
+/// cells stay as they are.
+#[inline(always)]
+pub fn write_word(
+    alloc: Global,
+    pages: &mut Vec<Items<Cell>>,
+    at: usize,
+    w: Word,
+) -> Result<(), NoMemory>
+    requires inside { at + 4 ≤ 4096 * length pages.old.items }
+    requires small { at + 4 < 2 ^ 62 }
+    requires whole { (p : ℕ) → (length (page_of pages.old.items p) ≡ 0) ⊎ IsTaken pages.old.items p }
+    ensures paged { (size : ℕ) → IsPaged pages.old.items size → IsPaged pages.new.items size }
+    ensures cells { (size : ℕ) → at + 4 ≤ size → MatchResult result (λ _. cells_in size pages.new.items ≡ with_range (cells_in size pages.old.items) at (whole_cells w)) (λ _. cells_in size pages.new.items ≡ cells_in size pages.old.items) }
+{
+    if is_in_page(pages.as_slice(), at) {
+        put_word_at(pages, at, w);
+        Ok(())
+    } else {
+        write_cells(alloc, pages, at, &cells_of_word(w))
+    }
+}
+
+// Whether the four cells from a place on stand in one page that was taken.
+#[inline(always)]
+fn is_in_page(pages: &[Items<Cell>], i: usize) -> bool
+    ensures { IsTrue result → (i % 4096 + 4 ≤ 4096) × IsTaken pages.now (i / 4096) }
+{
+    i % PAGE <= PAGE - 4 && page_len(pages, i / PAGE) == PAGE
+}
+
+// Puts the cells of a whole word in one page that was taken.
+#[inline(always)]
+fn put_word_at(pages: &mut Vec<Items<Cell>>, i: usize, w: Word)
+    requires inside { i + 4 ≤ 4096 * length pages.old.items }
+    requires near { i % 4096 + 4 ≤ 4096 }
+    requires taken { IsTaken pages.old.items (i / 4096) }
+    ensures { pages.new.items ≡ slice_set pages.old.items (i / 4096) (four_in (page_of pages.old.items (i / 4096)) (i % 4096) (whole_cells w)) }
+{
+    put_word_in(&mut pages[i / PAGE], i % PAGE, w);
+}
+
+#[inline(always)]
+fn put_word_in(page: &mut Items<Cell>, j: usize, w: Word)
+    requires near { j + 4 ≤ 4096 }
+    requires taken { length page.old ≡ 4096 }
+    ensures { page.new ≡ four_in page.old j (whole_cells w) }
+{
+    if w.tag == 0 {
+        page.set(j, Cell::Byte((w.bits % 256) as u8));
+        page.set(j + 1, Cell::Byte((w.bits / 256 % 256) as u8));
+        page.set(j + 2, Cell::Byte((w.bits / 65536 % 256) as u8));
+        page.set(j + 3, Cell::Byte((w.bits / 16777216 % 256) as u8));
+    } else {
+        page.set(j, piece(w, 0));
+        page.set(j + 1, piece(w, 1));
+        page.set(j + 2, piece(w, 2));
+        page.set(j + 3, piece(w, 3));
+    }
+}
+
+/// The whole word that the four cells from a place on are, where they stand in one page and are one.
+#[inline(always)]
+pub fn word_at(pages: &[Items<Cell>], i: usize) -> Option<Word>
+    ensures { (size : ℕ) → i + 4 ≤ size → IfSome result (λ w. range_of (cells_in size pages.now) i 4 ≡ whole_cells w) }
+{
+    match pages.get(i / PAGE) {
+        Some(page) => word_in(page.as_slice(), i % PAGE),
+        None => None,
+    }
+}
+
+// The same in a page.
+#[inline(always)]
+fn word_in(page: &[Cell], j: usize) -> Option<Word>
+    ensures inside { IfSome result (λ w. j + 4 ≤ 4096) }
+    ensures word { IfSome result (λ w. four_of page.now j ≡ whole_cells w) }
+{
+    if j > PAGE - 4 || page.len() < PAGE {
+        return None;
+    }
+    word_of(page[j], page[j + 1], page[j + 2], page[j + 3])
+}
+
+/// The whole word that four cells of a page are, where they are one.
+#[inline(always)]
+pub fn word_of(a: Cell, b: Cell, c: Cell, d: Cell) -> Option<Word>
+    ensures { IfSome result (λ w. a ∷ b ∷ c ∷ d ∷ [] ≡ whole_cells w) }
+{
+    match (a, b, c, d) {
+        (Cell::Byte(a), Cell::Byte(b), Cell::Byte(c), Cell::Byte(d)) => { Some(number(a, b, c, d)) }
+        _ => pointer(a, b, c, d),
+    }
+}
+
+#[inline(always)]
+fn number(a: u8, b: u8, c: u8, d: u8) -> Word
+    ensures { One.Byte a ∷ One.Byte b ∷ One.Byte c ∷ One.Byte d ∷ [] ≡ whole_cells result }
+{
+    Word {
+        bits: u32::from(a) + 256 * u32::from(b) + 65536 * u32::from(c) + 16777216 * u32::from(d),
+        tag: 0,
+    }
+}
+
+fn pointer(a: Cell, b: Cell, c: Cell, d: Cell) -> Option<Word>
+    ensures { IfSome result (λ w. a ∷ b ∷ c ∷ d ∷ [] ≡ whole_cells w) }
+{
+    let Cell::Frag { whole, tag, k } = a else {
+        return None;
+    };
+    let is_whole = tag != 0
+        && k == 0
+        && is_piece(b, whole, tag, 1)
+        && is_piece(c, whole, tag, 2)
+        && is_piece(d, whole, tag, 3);
+    if is_whole {
+        Some(Word { bits: whole, tag })
+    } else {
+        None
+    }
+}
+
+// Whether a cell is this piece of this pointer.
+#[inline(always)]
+fn is_piece(cell: Cell, bits: u32, of: u32, j: u8) -> bool
+    ensures { IsTrue result → cell ≡ One.Frag bits of j }
+{
+    match cell {
+        Cell::Frag { whole, tag, k } => whole == bits && tag == of && k == j,
+        _ => false,
+    }
+}
+
+/// The cells of a whole word.
+#[inline(always)]
+pub fn cells_of_word(w: Word) -> [Cell; 4]
+    ensures { result ≡ whole_cells w }
+{
+    if w.tag == 0 {
+        [
+            Cell::Byte((w.bits % 256) as u8),
+            Cell::Byte((w.bits / 256 % 256) as u8),
+            Cell::Byte((w.bits / 65536 % 256) as u8),
+            Cell::Byte((w.bits / 16777216 % 256) as u8),
+        ]
+    } else {
+        [piece(w, 0), piece(w, 1), piece(w, 2), piece(w, 3)]
+    }
+}
+
+#[inline(always)]
+fn piece(w: Word, k: u8) -> Cell
+    ensures { result ≡ One.Frag w.bits w.tag k }
+{
+    Cell::Frag {
+        whole: w.bits,
+        tag: w.tag,
+        k,
+    }
+}
