@@ -132,9 +132,9 @@ front_of : (modules : List Text) (stops : List StopAt) (how : Walk) (turns sent 
     → Goes modules stops how turns (Some m) h new
     → ((a b : Option (List ℕ)) → Posted a b (length (written m)) sent bytes → Sends a b modules stops how turns (Some m) sent new)
     → (p : Posted sink gained (length (written m)) sent bytes) → IsFirstOf modules stops how turns (Some m) p.front
-front_of modules stops how turns sent m new h sink gained bytes goes as p =
+front_of modules stops how turns sent m new h sink gained bytes goes back p =
     sends_some (Some []) (Some p.front) modules stops how turns sent (Some m) new h goes
-    (as (Some []) (Some p.front) (record { front = p.front; gains = refl; whole = p.whole; order = p.order; inside = p.inside }))
+    (back (Some []) (Some p.front) (record { front = p.front; gains = refl; whole = p.whole; order = p.order; inside = p.inside }))
 
 -- Nothing went out of a go, or what went out says whether a line is open.
 kept_open : (sink gained : Option (List ℕ)) (modules : List Text) (stops : List StopAt) (how : Walk) (turns : ℕ) (r : Option Standing) (first : World) (before sent : ℕ) (h : Halt) (new : Option Standing) (within now : Bool)

@@ -1,9 +1,5 @@
-use Rattle.std.proofs.Common.{sym, ◌∙◌}
-use Rattle.sc_session.proofs.SendingLemmas.{known_open, none_open}
+use Rattle.sc_session.proofs.SendingLemmas.{known_open}
 use Rattle.sc_session.proofs.going.untold.Goals as goal
-
-pub returns-then-le : goal.returns-then-le
-returns-then-le c = none_open c.args.run.now c.args.before c.args.halted.sent c.args.within c.if-le.true
 
 pub returns : goal.returns
 returns c =
