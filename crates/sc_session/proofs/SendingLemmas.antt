@@ -72,7 +72,7 @@ no_bytes : (front : List ℕ) → length front ≡ 0 → front ≡ []
 no_bytes [] p = refl
 no_bytes (b ∷ front) p = absurd (omega (arith, p))
 
-or_world : World → Option World → World
+abbrev or_world : World → Option World → World
 or_world v None = v
 or_world v (Some w) = w
 
@@ -220,6 +220,13 @@ pub walk_first : (sink gained : Option (List ℕ)) (old : Plain) (how : Walk) (b
     → Gains sink gained (λ front. IsFirstOf modules stops how turns r front) → Gains sink gained (λ front. WalkFirst old how front)
 walk_first sink gained old how before modules stops turns r b runs m p t (front, gains, first) =
     (front, gains, (r, subst (λ x. RunsIn x r) b runs, first_in old how modules stops turns r front m p t first))
+
+-- why nothing is told
+pub lost_memory : (sink gained : Option (List ℕ)) (First : List ℕ → Type 0) (before now : Bool) (l : Lost) → l ≡ lost.NoMemory now → Loses sink gained First before l → Gains sink gained (λ front. First front × (now ≡ stays_in_line before front))
+lost_memory sink gained First before now l is p = subst (Loses sink gained First before) is p
+
+pub lost_write : (sink gained : Option (List ℕ)) (First : List ℕ → Type 0) (before : Bool) (e : Unsent) (l : Lost) → l ≡ lost.Unsent e → Loses sink gained First before l → Gains sink gained First
+lost_write sink gained First before e l is p = subst (Loses sink gained First before) is p
 
 -- no memory was left before the run went on, and as it was told of
 pub walk_unbegun : (sink : Option (List ℕ)) (old new : Plain) (how : Walk) → new ≡ old → WalksOut sink sink old how (Ok answer.NoMemory) new

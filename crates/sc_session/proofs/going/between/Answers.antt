@@ -5,4 +5,4 @@ use Rattle.sc_session.proofs.going.between.Goals as goal
 
 pub returns-then-to-bytes : goal.returns-then-to-bytes
 returns-then-to-bytes c =
-    c.behind.ensures ∙ ap (drop c.args.from) (sym (take_all c.args.to c.args.bytes.now (omega (arith, c.if-to-bytes.true, c.len.ensures))))
+    c.behind.ensures ∙ ap (drop c.args.from) (sym (take_all c.args.to c.args.bytes.now (omega (arith, c.if-to-bytes.true))))

@@ -1,7 +1,7 @@
 use Rattle.std.proofs.Common.{refl, ap, ◌∙◌}
 use Rattle.sc_session.specs.Going.{in_state}
 use Rattle.sc_session.specs.Stopping.{places}
-use Rattle.sc_session.proofs.SendingLemmas.{begin_told, begin_first, begin_lost, begin_unbegun}
+use Rattle.sc_session.proofs.SendingLemmas.{begin_told, begin_first, begin_lost, begin_unbegun, lost_memory, lost_write}
 use Rattle.sc_session.proofs.session.Session.start.Goals as goal
 
 pub returns-in_default-clause-begins : goal.returns-in_default-clause-begins
@@ -33,7 +33,7 @@ returns-in-Err-NoMemory-clause-begins g c =
     (c.from-stack.ensures ∙ ap (λ p. p.limits.stack) c.self.view_is)
     (c.from-heap.ensures ∙ ap (λ p. p.limits.heap) c.self.view_is)
     (ap (λ p. p.limits.turns) c.self.view_is)
-    c.in-Ok-start.ensures.starts (ap (λ p. p.in_line) c.self.view_is) c.self.view_is c.put_state.ensures c.in-Err-NoMemory.ensures.lost
+    c.in-Ok-start.ensures.starts (ap (λ p. p.in_line) c.self.view_is) c.self.view_is c.put_state.ensures (lost_memory _ _ _ _ _ _ c.in-Err-NoMemory.is c.in-Err-NoMemory.ensures.lost)
 
 pub returns-clause-begins : goal.returns-clause-begins
 returns-clause-begins g c =
@@ -45,4 +45,4 @@ returns-clause-begins g c =
     (c.from-stack.ensures ∙ ap (λ p. p.limits.stack) c.self.view_is)
     (c.from-heap.ensures ∙ ap (λ p. p.limits.heap) c.self.view_is)
     (ap (λ p. p.limits.turns) c.self.view_is)
-    c.in-Ok-start.ensures.starts c.in-Err-Unsent.ensures.lost
+    c.in-Ok-start.ensures.starts (lost_write _ _ _ _ _ _ c.in-Err-Unsent.is c.in-Err-Unsent.ensures.lost)

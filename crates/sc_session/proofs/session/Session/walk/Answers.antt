@@ -1,7 +1,7 @@
 use Rattle.std.proofs.Common.{refl, ap, ◌∙◌}
 use Rattle.sc_session.specs.Going.{in_state}
 use Rattle.sc_session.specs.Stopping.{places}
-use Rattle.sc_session.proofs.SendingLemmas.{walk_told, walk_first, walk_lost, walk_unbegun}
+use Rattle.sc_session.proofs.SendingLemmas.{walk_told, walk_first, walk_lost, walk_unbegun, lost_memory, lost_write}
 use Rattle.sc_session.proofs.session.Session.walk.Goals as goal
 
 pub returns-in_default-clause-walks : goal.returns-in_default-clause-walks
@@ -29,7 +29,7 @@ returns-in-Err-NoMemory-clause-walks g c =
     (c.as_slice-3.ensures ∙ c.in-Ok.ensures ∙ ap places (c.as_slice.ensures.value ∙ ap (λ p. p.stops) c.self.view_is))
     (ap (λ p. p.limits.turns) c.self.view_is)
     (ap (λ p. p.in_line) c.self.view_is)
-    c.self.view_is c.replace.ensures.after c.in-Err-NoMemory.ensures.lost
+    c.self.view_is c.replace.ensures.after (lost_memory _ _ _ _ _ _ c.in-Err-NoMemory.is c.in-Err-NoMemory.ensures.lost)
 
 pub returns-clause-walks : goal.returns-clause-walks
 returns-clause-walks g c =
@@ -40,4 +40,4 @@ returns-clause-walks g c =
     (c.as_slice-2.ensures.value ∙ ap (λ p. p.modules) c.self.view_is)
     (c.as_slice-3.ensures ∙ c.in-Ok.ensures ∙ ap places (c.as_slice.ensures.value ∙ ap (λ p. p.stops) c.self.view_is))
     (ap (λ p. p.limits.turns) c.self.view_is)
-    c.in-Err-Unsent.ensures.lost
+    (lost_write _ _ _ _ _ _ c.in-Err-Unsent.is c.in-Err-Unsent.ensures.lost)
