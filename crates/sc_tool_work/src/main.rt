@@ -43,7 +43,12 @@ fn told(rt: &HostRuntime, alloc: Global, names: &[String]) -> Result<Vec<u8>, No
 }
 
 /// How the program in a file ends, and its work.
-fn put_run(rt: &HostRuntime, alloc: Global, text: &mut Vec<u8>, name: &str) -> Result<(), NoMemory> {
+fn put_run(
+    rt: &HostRuntime,
+    alloc: Global,
+    text: &mut Vec<u8>,
+    name: &str,
+) -> Result<(), NoMemory> {
     let Some(core) = core_of(rt, alloc, name)? else {
         return put_line(text, b" is no module");
     };
@@ -90,7 +95,12 @@ fn finished(alloc: Global, core: Core) -> Result<Finished, NoMemory> {
     run(alloc, texts.as_slice(), limits, Items::new(alloc))
 }
 
-fn put_number(alloc: Global, text: &mut Vec<u8>, words: &[u8], number: u64) -> Result<(), NoMemory> {
+fn put_number(
+    alloc: Global,
+    text: &mut Vec<u8>,
+    words: &[u8],
+    number: u64,
+) -> Result<(), NoMemory> {
     let digits = number.to_string(alloc)?;
     text.extend_from_slice(words)?;
     text.extend_from_slice(digits.as_bytes())?;
