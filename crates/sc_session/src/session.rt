@@ -384,11 +384,13 @@ impl Session {
                 put_state(&mut self.state, told.state);
                 Ok(Answer::Ran(told.text))
             }
-            Err(Lost::NoMemory(within)) => {
-                self.in_line = within;
-                Ok(Answer::NoMemory)
-            }
-            Err(Lost::Unsent(unsent)) => Err(unsent),
+            Err(lost) => match lost {
+                Lost::NoMemory(within) => {
+                    self.in_line = within;
+                    Ok(Answer::NoMemory)
+                }
+                Lost::Unsent(unsent) => Err(unsent),
+            },
         }
     }
 
@@ -470,11 +472,13 @@ impl Session {
                 put_state(&mut self.state, told.state);
                 Ok(Answer::Ran(told.text))
             }
-            Err(Lost::NoMemory(within)) => {
-                self.in_line = within;
-                Ok(Answer::NoMemory)
-            }
-            Err(Lost::Unsent(unsent)) => Err(unsent),
+            Err(lost) => match lost {
+                Lost::NoMemory(within) => {
+                    self.in_line = within;
+                    Ok(Answer::NoMemory)
+                }
+                Lost::Unsent(unsent) => Err(unsent),
+            },
         }
     }
 

@@ -19,17 +19,17 @@ returns-in-Ok-gone-clause-walks g c =
     c.in-Ok-gone.ensures.went
     c.put_state.ensures (ap (in_state c.put_state.new.place) c.self.view_is)
 
-pub returns-in-Err-NoMemory-clause-walks : goal.returns-in-Err-NoMemory-clause-walks
-returns-in-Err-NoMemory-clause-walks g c =
+pub returns-in-NoMemory-clause-walks : goal.returns-in-NoMemory-clause-walks
+returns-in-NoMemory-clause-walks g c =
     walk_lost (g.K.Sink.written c.args.out.now) (g.K.Sink.written c.gone.new.out) c.args.self.now _ c.args.walk c.replace.result c.replace.new.dest c.as_slice-2.result.now c.as_slice-3.result.now c.self.inside.limits.turns
-    c.run_out_of-run.result c.self.inside.in_line c.in-Err-NoMemory.within
+    c.run_out_of-run.result c.self.inside.in_line c.in-NoMemory.within
     (c.replace.ensures.value ∙ ap (λ p. p.state) c.self.view_is)
     c.run_out_of-run.ensures
     (c.as_slice-2.ensures.value ∙ ap (λ p. p.modules) c.self.view_is)
     (c.as_slice-3.ensures ∙ c.in-Ok.ensures ∙ ap places (c.as_slice.ensures.value ∙ ap (λ p. p.stops) c.self.view_is))
     (ap (λ p. p.limits.turns) c.self.view_is)
     (ap (λ p. p.in_line) c.self.view_is)
-    c.self.view_is c.replace.ensures.after (lost_memory _ _ _ _ _ _ c.in-Err-NoMemory.is c.in-Err-NoMemory.ensures.lost)
+    c.self.view_is c.replace.ensures.after (lost_memory _ _ _ _ _ _ c.in-NoMemory.is c.in-Err.ensures.lost)
 
 pub returns-clause-walks : goal.returns-clause-walks
 returns-clause-walks g c =
@@ -40,4 +40,4 @@ returns-clause-walks g c =
     (c.as_slice-2.ensures.value ∙ ap (λ p. p.modules) c.self.view_is)
     (c.as_slice-3.ensures ∙ c.in-Ok.ensures ∙ ap places (c.as_slice.ensures.value ∙ ap (λ p. p.stops) c.self.view_is))
     (ap (λ p. p.limits.turns) c.self.view_is)
-    (lost_write _ _ _ _ _ _ c.in-Err-Unsent.is c.in-Err-Unsent.ensures.lost)
+    (lost_write _ _ _ _ _ _ c.in-Unsent.is c.in-Err.ensures.lost)
