@@ -21,8 +21,8 @@ use Rattle.sc_interp_access.specs.Gives.{ending_of, Stops}
 use Rattle.sc_interp.specs.declared.drive.Reached.{Reached}
 use Rattle.sc_interp.specs.declared.going.Going.{Going}
 use Rattle.sc_interp.specs.declared.drive.Reached.TheVariants as reached
-use Rattle.sc_interp.specs.declared.stepped.Stepped.{Stepped}
-use Rattle.sc_interp.specs.Shows.{shown, entry_shown, StepsTo}
+use Rattle.sc_interp.specs.declared.stepped.Shown.{Shown}
+use Rattle.sc_interp.specs.Shows.{shown, entry_shown, StepsShowing}
 use Rattle.sc_interp.specs.Steps.{Brings, Steps, is_over}
 use Rattle.sc_interp_access.specs.declared.ended.Ended.{Ended}
 use Rattle.sc_interp_access.specs.declared.ended.Ended.TheVariants as ended
@@ -75,13 +75,13 @@ pub none_left : (k : ℕ) (h : History) (texts : List Text) (t : State) (r : Res
 none_left k h texts t r w is = subst (λ k. Brings (steady.ran k h texts t) r w) (sym is)
 
 -- a step from a state that is another one
-pub from_there : (h : History) (texts : List Text) (s t : State) (r : Result Stepped Stop) (cs : List Caller) (w : World) → s ≡ t → StepsTo (steady.advance h texts t) (shown h texts t) r cs w → StepsTo (steady.advance h texts s) (shown h texts s) r cs w
-from_there h texts s t r cs w is = subst (λ s. StepsTo (steady.advance h texts s) (shown h texts s) r cs w) (sym is)
+pub from_there : (h : History) (texts : List Text) (s t : State) (r : Result Shown Stop) (g : Going) (cs : List Caller) (w : World) → s ≡ t → StepsShowing (steady.advance h texts t) (shown h texts t) r g cs w → StepsShowing (steady.advance h texts s) (shown h texts s) r g cs w
+from_there h texts s t r g cs w is = subst (λ s. StepsShowing (steady.advance h texts s) (shown h texts s) r g cs w) (sym is)
 
 -- a step that makes a call
-pub makes_there : (h : History) (texts : List Text) (s : State) (t : CType) (v : Value) (us vs : List Value) (c : Caller) (cs ds : List Caller) (w w2 : World) (g : Result Going Stop) (r : Result Stepped Stop) → s ≡ Makes t v vs c cs w → us ≡ vs → Steps (steady.made_unless (value_rule texts c.env.text t v) h texts v us (c ∷ cs) w) g ds w2 → ((s : State) (cs : List Caller) (w : World) → Steps s g cs w → StepsTo s (entry_shown s) r cs w) → StepsTo (steady.advance h texts s) (shown h texts s) r ds w2
-makes_there h texts s t v us vs c cs ds w w2 g r is same p f =
-    from_there h texts s (Makes t v vs c cs w) r ds w2 is
+pub makes_there : (h : History) (texts : List Text) (s : State) (t : CType) (v : Value) (us vs : List Value) (c : Caller) (cs ds : List Caller) (w w2 : World) (g : Result Going Stop) (r : Result Shown Stop) (next : Going) → s ≡ Makes t v vs c cs w → us ≡ vs → Steps (steady.made_unless (value_rule texts c.env.text t v) h texts v us (c ∷ cs) w) g ds w2 → ((s : State) (cs : List Caller) (w : World) → Steps s g cs w → StepsShowing s (entry_shown s) r next cs w) → StepsShowing (steady.advance h texts s) (shown h texts s) r next ds w2
+makes_there h texts s t v us vs c cs ds w w2 g r next is same p f =
+    from_there h texts s (Makes t v vs c cs w) r next ds w2 is
     (f (steady.advance h texts (Makes t v vs c cs w)) ds w2 (subst (λ us. Steps (steady.made_unless (value_rule texts c.env.text t v) h texts v us (c ∷ cs) w) g ds w2) same p))
 
 -- a step that failed ends the whole, as `?` passes its end on

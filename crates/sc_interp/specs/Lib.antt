@@ -2,4 +2,5 @@
 pub mod Steady
 pub mod Steps
 pub mod Shows
+pub mod Ran
 pub mod Ends

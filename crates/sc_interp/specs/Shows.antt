@@ -11,7 +11,6 @@ use Rattle.sc_interp_access.specs.Gives.{ending_of}
 use Rattle.sc_interp.specs.declared.stepped.Shown.{Shown}
 use Rattle.sc_interp.specs.declared.stepped.Shown.TheVariants.{Nothing, Line, Entered}
 use Rattle.sc_interp.specs.declared.going.Going.{Going}
-use Rattle.sc_interp.specs.declared.stepped.Stepped.{Stepped}
 use Rattle.sc_interp.specs.Steady.{advance}
 use Rattle.sc_interp.specs.Steps.{Is}
 
@@ -37,12 +36,7 @@ shown h texts (Makes t v vs c cs w) = entry_shown (advance h texts (Makes t v vs
 shown h texts (Answers a cs w) = Nothing
 shown h texts (Ends e) = Nothing
 
--- the program's step is this one, and shows this; where no room was left, nothing is said
-abbrev pub StepsTo : State → Shown → Result Stepped Stop → List Caller → World → Type 0
-StepsTo s now (Ok stepped) cs w = Is s stepped.going cs w × (stepped.shown ≡ now)
-StepsTo s now (Err stop) cs w = (e : Ending) → ending_of stop w ≡ Some e → s ≡ Ends e
-
--- the same of a step in place
+-- the program's step in place is this one, and shows this; where no room was left, nothing is said
 abbrev pub StepsShowing : State → Shown → Result Shown Stop → Going → List Caller → World → Type 0
 StepsShowing s now (Ok shown) g cs w = Is s g cs w × (shown ≡ now)
 StepsShowing s now (Err stop) g cs w = (e : Ending) → ending_of stop w ≡ Some e → s ≡ Ends e

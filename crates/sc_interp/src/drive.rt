@@ -9,7 +9,7 @@ ghost use Rattle.sc_interp.specs.Steps.{Brings, Is};
 ghost use Rattle.sc_interp.specs.Steps as course;
 
 use crate::going::{Caller, Going};
-use crate::step::step_once;
+use crate::step::step_run;
 use sc_base::Stack;
 use sc_core_held::Text;
 use sc_interp_access::Stop;
@@ -85,9 +85,13 @@ pub fn drive(
         if is_over(&going, callers) {
             return Ok(destination(going, callers));
         }
-        let stepped = step_once(texts, going, callers, world)?;
-        going = stepped.going;
-        left -= 1;
+        match step_run(texts, &mut going, callers, world) {
+            Ok(_) => left -= 1,
+            Err(stop) => {
+                drop(going);
+                return Err(stop);
+            }
+        }
     }
     Ok(destination(going, callers))
 }

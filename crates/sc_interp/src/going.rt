@@ -2,7 +2,7 @@
 
 use sc_base::{Items, Stack};
 use sc_interp_expr::Env;
-use sc_interp_machine::{Doing, Item, Pending, Use};
+use sc_interp_machine::{Doing, Focus, Pending, Slot, Use};
 use sc_meaning_values::{Answer, Value};
 use sc_types::CType;
 use std::marker::Model;
@@ -22,10 +22,11 @@ impl Model for Active {
     ghost view = { λ a. record { ids = a.ids; cost = a.cost } };
 }
 
-/// A caller that waits for an answer, with what is pending in it.
+/// A caller that waits for an answer, with what is pending in it. Its focus takes the answer.
 #[derive(Drop)]
 pub struct Caller {
-    pub items: Stack<Item>,
+    pub focus: Focus,
+    pub items: Stack<Slot>,
     pub user: Use,
     pub stmts: Stack<Pending>,
     pub env: Env,

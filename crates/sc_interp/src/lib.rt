@@ -12,4 +12,4 @@ mod stepped;
 pub use going::{Active, Caller, Going};
 pub use running::{Finished, Limits, call_main, run, status_of};
 pub use step::step_run;
-pub use stepped::{Shown, Stepped, entry};
+pub use stepped::{Shown, entry};

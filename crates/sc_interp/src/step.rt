@@ -1,85 +1,168 @@
-// One step of a run, and a whole run (ANSI 2.1.2.2, 2.1.2.3).
-ghost use Rattle.std.specs.Prelude.{◌≡◌, List};
+// One step of a run, in place (ANSI 2.1.2.2, 2.1.2.3).
+ghost use Rattle.std.specs.Prelude.{◌≡◌, List, IfOk};
 ghost use Rattle.sc_meaning.specs.Calls as spec;
 ghost use Rattle.sc_meaning.specs.Versions as versions;
 ghost use Rattle.sc_meaning.specs.World as worlds;
 ghost use Rattle.sc_interp_machine.specs.Runs as runs;
 ghost use Rattle.sc_lib.specs.Quiet.{IsQuiet};
 ghost use Rattle.sc_interp.specs.Steady as steady;
+ghost use Rattle.sc_interp.specs.Ran.{Leaves, RunsTo, Sends, Sent};
 ghost use Rattle.sc_interp.specs.Shows as shows;
+ghost use Rattle.sc_interp.specs.declared.going.Going.TheVariants as going;
+ghost use Rattle.sc_interp.specs.declared.stepped.Shown.{Shown as Shows};
 ghost use Rattle.sc_interp.specs.declared.stepped.Shown.TheVariants.{Nothing};
 ghost use Rattle.sc_interp.specs.Steps.{Is, Steps};
 
 use crate::calls::{answer_of, leave, makes, reach};
 use crate::going::{Active, Caller, Going};
-use crate::stepped::{Shown, Stepped, entry};
-use sc_base::Stack;
+use crate::stepped::{Ran, Shown, entry};
+use sc_base::{NoMemory, Stack};
 use sc_core_held::Text;
 use sc_interp_access::Stop;
 use sc_interp_body::{Move, step_body};
-use sc_interp_expr::Env;
-use sc_interp_machine::{Doing, Mode, Pending};
+use sc_interp_expr::{Env, call_out};
+use sc_interp_machine::{Doing, Focus, Pending, Slot, Use};
 use sc_interp_world::World;
 use sc_meaning_values::{Answer, Way};
 use std::mem;
 
-// A step that shows nothing.
-fn quiet(going: Going) -> Stepped
-    ensures going { result.going ≡ going }
-    ensures shown { result.shown ≡ Nothing }
+// A line is reached.
+#[inline(never)]
+fn lined(l: u32, world: &mut World) -> Result<(), NoMemory>
+    ensures { IfOk result (λ _. world.new ≡ steady.on_line l world.old) }
 {
-    Stepped {
-        going,
-        shown: Shown::Nothing,
-    }
+    reach(l, world)
 }
 
-// The same of one that may end the run.
-fn quietly(given: Result<Going, Stop>) -> Result<Stepped, Stop>
-    ensures { (s : runs.State) (cs : List runs.Caller) (w : worlds.World) → Steps s given cs w → shows.StepsTo s Nothing result cs w }
+// One step of the innermost body, in place.
+#[inline(always)]
+fn runs(
+    doing: &mut Doing,
+    stmts: &mut Stack<Pending>,
+    env: &mut Env,
+    active: &Active,
+    callers: &Stack<Caller>,
+    world: &mut World,
+) -> Result<Ran, Stop>
+    ensures { (h : versions.History) (texts : List versions.Text) → RunsTo (steady.advance h texts (runs.Runs doing.old stmts.old env.old active.now callers.now world.old)) (shows.shown h texts (runs.Runs doing.old stmts.old env.old active.now callers.now world.old)) result (going.Runs doing.new stmts.new env.new active.now) callers.now world.new }
 {
-    match given {
-        Ok(going) => Ok(quiet(going)),
+    match step_body(doing, stmts, env, world) {
+        Ok(Move::On) => Ok(Ran::On(Shown::Nothing)),
+        Ok(Move::Line(l)) => match lined(l, world) {
+            Ok(()) => Ok(Ran::On(Shown::Line(l))),
+            Err(_) => Err(Stop::NoRoom),
+        },
+        Ok(Move::Call) => Ok(Ran::Calls),
+        Ok(Move::Leave) => Ok(Ran::Leaves),
         Err(stop) => Err(stop),
     }
 }
 
-// A step that makes a call.
-fn entered(given: Result<Going, Stop>) -> Result<Stepped, Stop>
-    ensures { (s : runs.State) (cs : List runs.Caller) (w : worlds.World) → Steps s given cs w → shows.StepsTo s (shows.entry_shown s) result cs w }
+// How the run goes on takes the place of the former.
+fn becomes(going: &mut Going, next: Going)
+    ensures { going.new ≡ next }
 {
-    match given {
-        Ok(going) => {
-            let shown = entry(&going);
-            Ok(Stepped { going, shown })
-        }
-        Err(stop) => Err(stop),
-    }
+    drop(mem::replace(going, next));
 }
 
-// A line is reached, before a body goes on.
-fn lined(
-    l: u32,
-    doing: Doing,
+// How the run goes on is taken, and an answer without a value is left in its place.
+fn taken(going: &mut Going) -> Going
+    ensures { result ≡ going.old }
+{
+    mem::replace(going, Going::Answers(Answer::nothing()))
+}
+
+// A call goes out: what was done waits for its answer.
+fn waits(
+    focus: Focus,
+    items: Stack<Slot>,
+    user: Use,
     stmts: Stack<Pending>,
     env: Env,
     active: Active,
     callers: &Stack<Caller>,
-    world: &mut World,
+    world: &World,
 ) -> Result<Going, Stop>
-    ensures { Steps (runs.Runs doing stmts env active callers.now (steady.on_line l world.old)) result callers.now world.new }
+    ensures { (s : runs.State) → Sent s items user stmts env active callers.now world.now → Steps s result callers.now world.now }
 {
-    match reach(l, world) {
-        Ok(()) => Ok(Going::Runs(doing, stmts, env, active)),
+    let mut items = items;
+    match call_out(&mut items, world.alloc()) {
+        Ok(call) => {
+            let caller = Caller {
+                focus,
+                items,
+                user,
+                stmts,
+                env,
+                active,
+            };
+            Ok(Going::Makes(call.of, call.callee, call.arguments, caller))
+        }
         Err(_) => {
-            drop(doing);
+            drop(focus);
+            drop(items);
+            drop(user);
+            drop(stmts);
+            drop(env);
+            drop(active);
             Err(Stop::NoRoom)
         }
     }
 }
 
+fn sent_within(
+    doing: Doing,
+    stmts: Stack<Pending>,
+    env: Env,
+    active: Active,
+    callers: &Stack<Caller>,
+    world: &World,
+) -> Result<Going, Stop>
+    ensures { (s : runs.State) → Sends s (going.Runs doing stmts env active) callers.now world.now → Steps s result callers.now world.now }
+{
+    match doing {
+        Doing::Within(focus, items, user) => waits(
+            focus, items, user, stmts, env, active, callers, world,
+        ),
+        other => {
+            drop(other);
+            drop(stmts);
+            drop(env);
+            drop(active);
+            Err(Stop::NoRoom)
+        }
+    }
+}
+
+fn sent(going: Going, callers: &Stack<Caller>, world: &World) -> Result<Going, Stop>
+    ensures { (s : runs.State) → Sends s going callers.now world.now → Steps s result callers.now world.now }
+{
+    match going {
+        Going::Runs(doing, stmts, env, active) => {
+            sent_within(doing, stmts, env, active, callers, world)
+        }
+        other => {
+            drop(other);
+            Err(Stop::NoRoom)
+        }
+    }
+}
+
+#[inline(never)]
+fn sends(going: &mut Going, callers: &Stack<Caller>, world: &World) -> Result<Shown, Stop>
+    ensures { (s : runs.State) (now : Shows) → Sends s going.old callers.now world.now → Nothing ≡ now → shows.StepsShowing s now result going.new callers.now world.now }
+{
+    match sent(taken(going), callers, world) {
+        Ok(next) => {
+            becomes(going, next);
+            Ok(Shown::Nothing)
+        }
+        Err(stop) => Err(stop),
+    }
+}
+
 // A call ends, and its answer goes to its caller.
-fn left(
+fn comes_back(
     way: Way,
     active: &Active,
     callers: &Stack<Caller>,
@@ -91,42 +174,53 @@ fn left(
     Ok(Going::Answers(answer_of(way)))
 }
 
-// One step of the innermost body.
-fn runs(
+fn left_by(
     doing: Doing,
     stmts: Stack<Pending>,
     env: Env,
-    active: Active,
+    active: &Active,
     callers: &Stack<Caller>,
     world: &mut World,
-) -> Result<Stepped, Stop>
-    ensures { (h : versions.History) (texts : List versions.Text) → shows.StepsTo (steady.advance h texts (runs.Runs doing stmts env active callers.now world.old)) (shows.shown h texts (runs.Runs doing stmts env active callers.now world.old)) result callers.now world.new }
+) -> Result<Going, Stop>
+    ensures { (s : runs.State) → Leaves s (going.Runs doing stmts env active.now) callers.now world.old → Steps s result callers.now world.new }
 {
-    let mut stmts = stmts;
-    let mut env = env;
-    match step_body(doing, &mut stmts, &mut env, world)? {
-        Move::Go(doing) => Ok(quiet(Going::Runs(doing, stmts, env, active))),
-        Move::Line(l, doing) => {
-            let going = lined(l, doing, stmts, env, active, callers, world)?;
-            Ok(Stepped {
-                going,
-                shown: Shown::Line(l),
-            })
+    drop(stmts);
+    drop(env);
+    match doing {
+        Doing::Leave(way) => comes_back(way, active, callers, world),
+        other => {
+            drop(other);
+            Err(Stop::NoRoom)
         }
-        Move::Call(t, v, vs, items, user) => {
-            let caller = Caller {
-                items,
-                user,
-                stmts,
-                env,
-                active,
-            };
-            Ok(quiet(Going::Makes(t, v, vs, caller)))
+    }
+}
+
+fn left(going: Going, callers: &Stack<Caller>, world: &mut World) -> Result<Going, Stop>
+    ensures { (s : runs.State) → Leaves s going callers.now world.old → Steps s result callers.now world.new }
+{
+    match going {
+        Going::Runs(doing, stmts, env, active) => {
+            let next = left_by(doing, stmts, env, &active, callers, world);
+            drop(active);
+            next
         }
-        Move::Leave(way) => {
-            let going = left(way, &active, callers, world)?;
-            Ok(quiet(going))
+        other => {
+            drop(other);
+            Err(Stop::NoRoom)
         }
+    }
+}
+
+#[inline(never)]
+fn leaves(going: &mut Going, callers: &Stack<Caller>, world: &mut World) -> Result<Shown, Stop>
+    ensures { (s : runs.State) (now : Shows) → Leaves s going.old callers.now world.old → Nothing ≡ now → shows.StepsShowing s now result going.new callers.now world.new }
+{
+    match left(taken(going), callers, world) {
+        Ok(next) => {
+            becomes(going, next);
+            Ok(Shown::Nothing)
+        }
+        Err(stop) => Err(stop),
     }
 }
 
@@ -137,38 +231,83 @@ fn answers(a: Answer, callers: &mut Stack<Caller>, world: &World) -> Result<Goin
     match callers.pop() {
         None => Ok(Going::Answers(a)),
         Some(c) => {
-            let doing = Doing::Within(Mode::Give(a), c.items, c.user);
+            let mut focus = c.focus;
+            focus.gives = true;
+            drop(mem::replace(&mut focus.answer, a));
+            let doing = Doing::Within(focus, c.items, c.user);
             Ok(Going::Runs(doing, c.stmts, c.env, c.active))
         }
     }
 }
 
-/// One step of a run: exactly the machine's, in a run in which nothing changes behind an event, with what it shows.
-///
-/// # Errors
-///
-/// How the run ends in it.
-pub fn step_once(
+// A step that shows nothing takes its place.
+fn quietly(given: Result<Going, Stop>, going: &mut Going) -> Result<Shown, Stop>
+    ensures { (s : runs.State) (cs : List runs.Caller) (w : worlds.World) → Steps s given cs w → shows.StepsShowing s Nothing result going.new cs w }
+{
+    match given {
+        Ok(next) => {
+            becomes(going, next);
+            Ok(Shown::Nothing)
+        }
+        Err(stop) => Err(stop),
+    }
+}
+
+// A step that makes a call takes its place.
+fn entered(given: Result<Going, Stop>, going: &mut Going) -> Result<Shown, Stop>
+    ensures { (s : runs.State) (cs : List runs.Caller) (w : worlds.World) → Steps s given cs w → shows.StepsShowing s (shows.entry_shown s) result going.new cs w }
+{
+    match given {
+        Ok(next) => {
+            let shown = entry(&next);
+            becomes(going, next);
+            Ok(shown)
+        }
+        Err(stop) => Err(stop),
+    }
+}
+
+// A step while no body runs.
+fn between_of(
     texts: &[Text],
-    going: Going,
+    now: Going,
+    going: &mut Going,
     callers: &mut Stack<Caller>,
     world: &mut World,
-) -> Result<Stepped, Stop>
-    ensures { (h : versions.History) → IsQuiet h → (s : runs.State) → Is s going callers.old world.old → shows.StepsTo (steady.advance h texts.now s) (shows.shown h texts.now s) result callers.new world.new }
+) -> Result<Shown, Stop>
+    ensures { (h : versions.History) → IsQuiet h → (s : runs.State) → Is s now callers.old world.old → shows.StepsShowing (steady.advance h texts.now s) (shows.shown h texts.now s) result going.new callers.new world.new }
 {
-    match going {
-        Going::Runs(doing, stmts, env, active) => runs(doing, stmts, env, active, callers, world),
-        Going::Makes(t, v, vs, caller) => entered(makes(
-            texts,
-            &t,
-            v,
-            vs.as_slice(),
-            caller,
-            callers,
-            world,
-        )),
-        Going::Answers(a) => quietly(answers(a, callers, world)),
+    match now {
+        Going::Runs(doing, stmts, env, active) => {
+            drop(doing);
+            drop(stmts);
+            drop(env);
+            drop(active);
+            Err(Stop::NoRoom)
+        }
+        Going::Makes(t, v, vs, caller) => {
+            let given = makes(texts, &t, v, vs.as_slice(), caller, callers, world);
+            entered(given, going)
+        }
+        Going::Answers(a) => {
+            let given = answers(a, callers, world);
+            quietly(given, going)
+        }
     }
+}
+
+// The same in place.
+#[inline(never)]
+fn between(
+    texts: &[Text],
+    going: &mut Going,
+    callers: &mut Stack<Caller>,
+    world: &mut World,
+) -> Result<Shown, Stop>
+    ensures { (h : versions.History) → IsQuiet h → (s : runs.State) → Is s going.old callers.old world.old → shows.StepsShowing (steady.advance h texts.now s) (shows.shown h texts.now s) result going.new callers.new world.new }
+{
+    let now = taken(going);
+    between_of(texts, now, going, callers, world)
 }
 
 /// One step of a run in place: exactly the machine's, in a run in which nothing changes behind an event. It answers what it shows.
@@ -184,12 +323,16 @@ pub fn step_run(
 ) -> Result<Shown, Stop>
     ensures { (h : versions.History) → IsQuiet h → (s : runs.State) → Is s going.old callers.old world.old → shows.StepsShowing (steady.advance h texts.now s) (shows.shown h texts.now s) result going.new callers.new world.new }
 {
-    let now = mem::replace(going, Going::Answers(Answer::nothing()));
-    match step_once(texts, now, callers, world) {
-        Ok(next) => {
-            drop(mem::replace(going, next.going));
-            Ok(next.shown)
+    match going {
+        Going::Runs(doing, stmts, env, active) => {
+            match runs(doing, stmts, env, active, callers, world) {
+                Ok(Ran::On(shown)) => Ok(shown),
+                Ok(Ran::Calls) => sends(going, callers, world),
+                Ok(Ran::Leaves) => leaves(going, callers, world),
+                Err(stop) => Err(stop),
+            }
         }
-        Err(stop) => Err(stop),
+        Going::Makes(_, _, _, _) => between(texts, going, callers, world),
+        Going::Answers(_) => between(texts, going, callers, world),
     }
 }

@@ -16,11 +16,15 @@ pub enum Shown {
     Entered,
 }
 
-/// How a run goes on behind a step, and what the step showed.
-#[derive(Drop)]
-pub struct Stepped {
-    pub going: Going,
-    pub shown: Shown,
+/// What a step of the innermost body came to.
+#[derive(Clone, Copy)]
+pub enum Ran {
+    /// It goes on, and shows this.
+    On(Shown),
+    /// A call goes out of its expression.
+    Calls,
+    /// It is left, in the way that is there.
+    Leaves,
 }
 
 /// What is shown where a call that was to be made goes on so.

@@ -6,7 +6,7 @@ ghost use Rattle.sc_interp_machine.specs.Bodies as machine;
 ghost use Rattle.sc_interp_machine.specs.declared.body.Pending.TheVariants as kind;
 ghost use Rattle.sc_interp_body.specs.Moves.{Moves};
 
-use crate::moves::{Move, leaves};
+use crate::moves::{Next, leaves};
 use sc_base::{Duplicate, Items, NoMemory, Shared, Stack};
 use sc_core::{Auto, CoreStmt};
 use sc_interp_access::Stop;
@@ -43,7 +43,7 @@ fn opened(
     env: &mut Env,
     ids: Items<u32>,
     world: &mut World,
-) -> Result<Move, Stop>
+) -> Result<Next, Stop>
     ensures { Moves (machine.opened s b rest stmts.old env.old ids world.old) result stmts.new env.new world.new }
 {
     let born = Born { block: b, ids };
@@ -66,7 +66,7 @@ pub fn enters(
     stmts: &mut Stack<Pending>,
     env: &mut Env,
     world: &mut World,
-) -> Result<Move, Stop>
+) -> Result<Next, Stop>
     ensures { Moves (machine.enters s b rest stmts.old env.old world.old) result stmts.new env.new world.new }
 {
     let ids = born_autos(block_autos(env, b), world)?;
@@ -101,7 +101,7 @@ pub fn block_ends(
     stmts: &Stack<Pending>,
     env: &mut Env,
     world: &mut World,
-) -> Result<Move, Stop>
+) -> Result<Next, Stop>
     ensures { Moves (machine.item_next (kind.EndBlock k) way stmts.now env.old world.old) result stmts.now env.new world.new }
 {
     first_dead(env.blocks.as_slice(), k, world)?;

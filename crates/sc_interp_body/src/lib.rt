@@ -1,4 +1,4 @@
-//! One step of the plain program on a function's body: exactly the step of the machine. It may be slow.
+//! One step of the plain program on a function's body, in place: exactly the step of the machine.
 #![tactic(auto)]
 
 mod blocks;

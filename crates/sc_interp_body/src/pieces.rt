@@ -10,7 +10,7 @@ ghost use Rattle.sc_interp_machine.specs.declared.body.Pending.TheVariants as ki
 ghost use Rattle.sc_interp_body.specs.Moves.{Moves};
 
 use crate::blocks::enters;
-use crate::moves::{Move, leaves, within};
+use crate::moves::{Next, leaves, within};
 use sc_base::{Duplicate, Shared, Stack};
 use sc_core::{AutoInit, CoreExpr, CoreStmt, SwitchLabel};
 use sc_interp_access::Stop;
@@ -29,12 +29,12 @@ fn value_piece(
     e: &Shared<CoreExpr>,
     rest: Pieces,
     world: &World,
-) -> Result<Move, Stop>
+) -> Result<Next, Stop>
     ensures { (ss : List Pending) (env : spec.Env) → Moves (machine.piece_next p (piece.Value at t.now e.now) rest ss env world.now) result ss env world.now }
 {
     let t = t.copy(world.alloc())?;
     let doing = within(e, Use::Set(p, at, t, rest), world)?;
-    Ok(Move::Go(doing))
+    Ok(Next::Go(doing))
 }
 
 // The structure that is copied is found.
@@ -44,33 +44,33 @@ fn structure_piece(
     e: &Shared<CoreExpr>,
     rest: Pieces,
     world: &World,
-) -> Result<Move, Stop>
+) -> Result<Next, Stop>
     ensures { (ss : List Pending) (env : spec.Env) → Moves (machine.piece_next p (piece.Structure n e.now) rest ss env world.now) result ss env world.now }
 {
     let doing = within(e, Use::Copy(p, n, rest), world)?;
-    Ok(Move::Go(doing))
+    Ok(Next::Go(doing))
 }
 
 // One piece, before the ones that follow.
-fn piece_next(p: Value, piece: &AutoInit, rest: Pieces, world: &mut World) -> Result<Move, Stop>
+fn piece_next(p: Value, piece: &AutoInit, rest: Pieces, world: &mut World) -> Result<Next, Stop>
     ensures { (ss : List Pending) (env : spec.Env) → Moves (machine.piece_next p piece.now rest ss env world.old) result ss env world.new }
 {
     match piece {
         AutoInit::Value(at, t, e) => value_piece(p, *at, t, e, rest, world),
         AutoInit::Text(at, bytes) => {
             set_bytes(id_of(&p), *at, bytes.as_slice(), world)?;
-            Ok(Move::Go(Doing::Pieces(p, rest)))
+            Ok(Next::Go(Doing::Pieces(p, rest)))
         }
         AutoInit::Zero(at, n) => {
             set_zeros(id_of(&p), *at, *n, world)?;
-            Ok(Move::Go(Doing::Pieces(p, rest)))
+            Ok(Next::Go(Doing::Pieces(p, rest)))
         }
         AutoInit::Structure(n, e) => structure_piece(p, *n, e, rest, world),
     }
 }
 
 // All pieces are set.
-fn pieces_end(world: &mut World) -> Result<Move, Stop>
+fn pieces_end(world: &mut World) -> Result<Next, Stop>
     ensures { (p : value.Value) (ss : List Pending) (env : spec.Env) → Moves (machine.pieces_next p [] ss env world.old) result ss env world.new }
 {
     world.tick()?;
@@ -82,7 +82,7 @@ fn pieces_end(world: &mut World) -> Result<Move, Stop>
 /// # Errors
 ///
 /// `NoRoom` alone.
-pub fn pieces_next(p: Value, pieces: Pieces, world: &mut World) -> Result<Move, Stop>
+pub fn pieces_next(p: Value, pieces: Pieces, world: &mut World) -> Result<Next, Stop>
     ensures { (ss : List Pending) (env : spec.Env) → Moves (machine.pieces_next p pieces ss env world.old) result ss env world.new }
 {
     let mut rest = pieces.share()?;
@@ -100,7 +100,7 @@ fn body_next(
     stmts: &mut Stack<Pending>,
     env: &mut Env,
     world: &mut World,
-) -> Result<Move, Stop>
+) -> Result<Next, Stop>
     ensures { Moves (machine.body_next s at (out-CoreStmt s) stmts.old env.old world.old) result stmts.new env.new world.new }
 {
     match s.get() {
@@ -111,7 +111,7 @@ fn body_next(
             world.begin()?;
             enters(block, b, rest, stmts, env, world)
         }
-        _ => Ok(Move::Go(Doing::Exec(s))),
+        _ => Ok(Next::Go(Doing::Exec(s))),
     }
 }
 
@@ -122,7 +122,7 @@ fn landed_next(
     stmts: &mut Stack<Pending>,
     env: &mut Env,
     world: &mut World,
-) -> Result<Move, Stop>
+) -> Result<Next, Stop>
     ensures { Moves (machine.landed_next s at (kind.EndSwitch ∷ stmts.old) env.old world.old) result stmts.new env.new world.new }
 {
     stmts.push(Pending::EndSwitch)?;
@@ -142,17 +142,17 @@ fn label_next(
     stmts: &mut Stack<Pending>,
     env: &mut Env,
     world: &mut World,
-) -> Result<Move, Stop>
+) -> Result<Next, Stop>
     ensures { Moves (machine.label_next label.value label.at rest n default s stmts.old env.old world.old) result stmts.new env.new world.new }
 {
     let Some(v) = label.value else {
-        return Ok(Move::Go(Doing::Labels(rest, n, Some(label.at), s)))
+        return Ok(Next::Go(Doing::Labels(rest, n, Some(label.at), s)))
     };
     world.tick()?;
     if v == n {
         landed_next(s, Some(label.at), stmts, env, world)
     } else {
-        Ok(Move::Go(Doing::Labels(rest, n, default, s)))
+        Ok(Next::Go(Doing::Labels(rest, n, default, s)))
     }
 }
 
@@ -169,7 +169,7 @@ pub fn labels_next(
     stmts: &mut Stack<Pending>,
     env: &mut Env,
     world: &mut World,
-) -> Result<Move, Stop>
+) -> Result<Next, Stop>
     ensures { Moves (machine.labels_next labels n default s stmts.old env.old world.old) result stmts.new env.new world.new }
 {
     let mut rest = labels;

@@ -13,7 +13,7 @@ ghost use Rattle.sc_interp_machine.specs.declared.body.Use.TheVariants as user;
 ghost use Rattle.sc_interp_body.specs.Moves.{Moves};
 
 use crate::blocks::enters;
-use crate::moves::{Move, ends, execs, turns, within};
+use crate::moves::{Next, ends, execs, turns, within};
 use sc_base::{Duplicate, NoMemory, Shared, Stack};
 use sc_core::{CoreExpr, CoreStmt, type_of};
 use sc_interp_access::Stop;
@@ -35,11 +35,11 @@ pub fn stmt_begun(s: &CoreStmt, world: &mut World) -> Result<(), NoMemory>
 }
 
 // An expression is evaluated once its line is reached.
-fn on_line(l: u32, e: &Shared<CoreExpr>, user: Use, world: &World) -> Result<Move, Stop>
+fn on_line(l: u32, e: &Shared<CoreExpr>, user: Use, world: &World) -> Result<Next, Stop>
     ensures { (ss : List Pending) (env : spec.Env) → Moves (machine.Lines l (machine.within e.now user) ss env world.now) result ss env world.now }
 {
     let doing = within(e, user, world)?;
-    Ok(Move::Line(l, doing))
+    Ok(Next::Line(l, doing))
 }
 
 // A jump, or an empty statement: its line is reached, and then it ends.
@@ -49,11 +49,11 @@ fn jump(
     stmts: &mut Stack<Pending>,
     env: &Env,
     world: &World,
-) -> Result<Move, Stop>
+) -> Result<Next, Stop>
     ensures { Moves (machine.Lines l (doing.Leave way) (kind.End ∷ stmts.old) env.now world.now) result stmts.new env.now world.now }
 {
     stmts.push(Pending::End)?;
-    Ok(Move::Line(l, Doing::Leave(way)))
+    Ok(Next::Line(l, Doing::Leave(way)))
 }
 
 // A copy of the type of an expression that is tested.
@@ -89,7 +89,7 @@ fn first_next(
     e: &Option<Shared<CoreExpr>>,
     s: &Shared<CoreStmt>,
     world: &World,
-) -> Result<Move, Stop>
+) -> Result<Next, Stop>
     ensures { (ss : List Pending) (env : spec.Env) → Moves (machine.first_next l e.now s.now ss env world.now) result ss env world.now }
 {
     let s = s.share()?;
@@ -106,7 +106,7 @@ fn return_next(
     stmts: &mut Stack<Pending>,
     env: &Env,
     world: &World,
-) -> Result<Move, Stop>
+) -> Result<Next, Stop>
     ensures { Moves (machine.return_next l e.now stmts.old env.now world.now) result stmts.new env.now world.now }
 {
     match e {
@@ -122,7 +122,7 @@ fn if_next(
     a: &Shared<CoreStmt>,
     b: &Option<Shared<CoreStmt>>,
     world: &World,
-) -> Result<Move, Stop>
+) -> Result<Next, Stop>
     ensures { (ss : List Pending) (env : spec.Env) → Moves (machine.Lines l (machine.within e.now (user.If (types.type_of e.now) a.now b.now)) ss env world.now) result ss env world.now }
 {
     let t = tested_type(e, world)?;
@@ -138,7 +138,7 @@ fn switch_next(
     e: &Shared<CoreExpr>,
     a: &Shared<CoreStmt>,
     world: &World,
-) -> Result<Move, Stop>
+) -> Result<Next, Stop>
     ensures { (ss : List Pending) (env : spec.Env) → Moves (machine.Lines l (machine.within e.now (user.Switch (labels_in (out-CoreStmt s.now)) a.now)) ss env world.now) result ss env world.now }
 {
     let s = s.share()?;
@@ -154,11 +154,11 @@ fn declares_next(
     stmts: &Stack<Pending>,
     env: &Env,
     world: &mut World,
-) -> Result<Move, Stop>
+) -> Result<Next, Stop>
     ensures { Moves (machine.declares_next l p (pieces_in (out-CoreStmt s)) stmts.now env.now world.old) result stmts.now env.now world.new }
 {
     world.declares(id_of(&p))?;
-    Ok(Move::Line(l, Doing::Pieces(p, Pieces::of(s))))
+    Ok(Next::Line(l, Doing::Pieces(p, Pieces::of(s))))
 }
 
 /// A statement has begun.
@@ -171,7 +171,7 @@ pub fn stmt_next(
     stmts: &mut Stack<Pending>,
     env: &mut Env,
     world: &mut World,
-) -> Result<Move, Stop>
+) -> Result<Next, Stop>
     ensures { Moves (machine.stmt_next s (out-CoreStmt s) stmts.old env.old world.old) result stmts.new env.new world.new }
 {
     match s.get() {
@@ -212,7 +212,7 @@ fn holds_next(
     stmts: &mut Stack<Pending>,
     env: &Env,
     world: &World,
-) -> Result<Move, Stop>
+) -> Result<Next, Stop>
     ensures { Moves (machine.holds_next l c.now x.now s.now a.now stmts.old env.now world.now) result stmts.new env.now world.now }
 {
     let s = s.share()?;
@@ -234,7 +234,7 @@ fn while_next(
     e: &Shared<CoreExpr>,
     a: &Shared<CoreStmt>,
     world: &World,
-) -> Result<Move, Stop>
+) -> Result<Next, Stop>
     ensures { (ss : List Pending) (env : spec.Env) → Moves (machine.Lines l (machine.within e.now (user.While (types.type_of e.now) s.now a.now)) ss env world.now) result ss env world.now }
 {
     let t = tested_type(e, world)?;
@@ -252,7 +252,7 @@ fn do_next(
     stmts: &mut Stack<Pending>,
     env: &Env,
     world: &World,
-) -> Result<Move, Stop>
+) -> Result<Next, Stop>
     ensures { Moves (machine.execs a.now (kind.Check m e.now s.now ∷ stmts.old) env.now world.now) result stmts.new env.now world.now }
 {
     let e = e.share()?;
@@ -270,7 +270,7 @@ pub fn turn_next(
     stmts: &mut Stack<Pending>,
     env: &Env,
     world: &mut World,
-) -> Result<Move, Stop>
+) -> Result<Next, Stop>
     ensures { Moves (machine.turn_next s.now (out-CoreStmt s.now) stmts.old env.now world.old) result stmts.new env.now world.new }
 {
     match s.get() {

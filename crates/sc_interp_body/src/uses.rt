@@ -7,7 +7,7 @@ ghost use Rattle.sc_interp_machine.specs.declared.body.Pending.TheVariants as pe
 ghost use Rattle.sc_interp_machine.specs.declared.body.Use.TheVariants as user;
 ghost use Rattle.sc_interp_body.specs.Moves.{Moves};
 
-use crate::moves::{Move, ends, execs, leaves, turns};
+use crate::moves::{Next, ends, execs, leaves, turns};
 use sc_base::{Shared, Stack};
 use sc_core::{CoreExpr, CoreStmt};
 use sc_interp_access::{Stop, bits, scalar_size, set_at, tested};
@@ -19,7 +19,7 @@ use sc_meaning_values::{Answer, Value, Way};
 use sc_types::CType;
 
 // `return` has its value.
-fn returns(a: Answer, world: &mut World) -> Result<Move, Stop>
+fn returns(a: Answer, world: &mut World) -> Result<Next, Stop>
     ensures { (ss : List Pending) (env : spec.Env) → Moves (machine.use_next user.Return a ss env world.old) result ss env world.new }
 {
     let v = used(a, world)?;
@@ -32,7 +32,7 @@ fn optional_next(
     stmts: &mut Stack<Pending>,
     env: &Env,
     world: &World,
-) -> Result<Move, Stop>
+) -> Result<Next, Stop>
     ensures { Moves (machine.optional_next s.now (pending.End ∷ stmts.old) env.now world.now) result stmts.new env.now world.now }
 {
     match s {
@@ -53,7 +53,7 @@ fn if_next(
     stmts: &mut Stack<Pending>,
     env: &Env,
     world: &World,
-) -> Result<Move, Stop>
+) -> Result<Next, Stop>
     ensures { Moves (machine.use_next (user.If t.now s.now other.now) a stmts.old env.now world.now) result stmts.new env.now world.now }
 {
     let v = used(a, world)?;
@@ -65,7 +65,7 @@ fn if_next(
 }
 
 // A `do` has its condition.
-fn repeat_next(t: &CType, s: Shared<CoreStmt>, a: Answer, world: &mut World) -> Result<Move, Stop>
+fn repeat_next(t: &CType, s: Shared<CoreStmt>, a: Answer, world: &mut World) -> Result<Next, Stop>
     ensures { (ss : List Pending) (env : spec.Env) → Moves (machine.use_next (user.Repeat t.now s) a ss env world.old) result ss env world.new }
 {
     let v = used(a, world)?;
@@ -85,7 +85,7 @@ fn while_next(
     stmts: &mut Stack<Pending>,
     env: &Env,
     world: &mut World,
-) -> Result<Move, Stop>
+) -> Result<Next, Stop>
     ensures { Moves (machine.use_next (user.While t.now s body.now) a stmts.old env.now world.old) result stmts.new env.now world.new }
 {
     let v = used(a, world)?;
@@ -106,7 +106,7 @@ fn for_next(
     stmts: &mut Stack<Pending>,
     env: &Env,
     world: &mut World,
-) -> Result<Move, Stop>
+) -> Result<Next, Stop>
     ensures { Moves (machine.use_next (user.For t.now s x body.now) a stmts.old env.now world.old) result stmts.new env.now world.new }
 {
     let v = used(a, world)?;
@@ -118,11 +118,11 @@ fn for_next(
 }
 
 // A `switch` has its value.
-fn switched(labels: Labels, s: Shared<CoreStmt>, a: Answer, world: &World) -> Result<Move, Stop>
+fn switched(labels: Labels, s: Shared<CoreStmt>, a: Answer, world: &World) -> Result<Next, Stop>
     ensures { (ss : List Pending) (env : spec.Env) → Moves (machine.use_next (user.Switch labels s) a ss env world.now) result ss env world.now }
 {
     let v = used(a, world)?;
-    Ok(Move::Go(Doing::Labels(labels, bits(&v), None, s)))
+    Ok(Next::Go(Doing::Labels(labels, bits(&v), None, s)))
 }
 
 // A piece has its value, which is set.
@@ -133,22 +133,22 @@ fn set_next(
     rest: Pieces,
     a: Answer,
     world: &mut World,
-) -> Result<Move, Stop>
+) -> Result<Next, Stop>
     ensures { (ss : List Pending) (env : spec.Env) → Moves (machine.use_next (user.Set p at t.now rest) a ss env world.old) result ss env world.new }
 {
     let v = used(a, world)?;
     let n = scalar_size(t);
     set_at(&p, at, n, &v, world)?;
     world.work(n)?;
-    Ok(Move::Go(Doing::Pieces(p, rest)))
+    Ok(Next::Go(Doing::Pieces(p, rest)))
 }
 
 // A structure is there, which is copied.
-fn copy_next(p: Value, n: u32, rest: Pieces, a: Answer, world: &mut World) -> Result<Move, Stop>
+fn copy_next(p: Value, n: u32, rest: Pieces, a: Answer, world: &mut World) -> Result<Next, Stop>
     ensures { (ss : List Pending) (env : spec.Env) → Moves (machine.use_next (user.Copy p n rest) a ss env world.old) result ss env world.new }
 {
     initial_structure(&p, n, a, world)?;
-    Ok(Move::Go(Doing::Pieces(p, rest)))
+    Ok(Next::Go(Doing::Pieces(p, rest)))
 }
 
 /// What a statement does with the answer of its whole expression.
@@ -162,7 +162,7 @@ pub fn use_next(
     stmts: &mut Stack<Pending>,
     env: &Env,
     world: &mut World,
-) -> Result<Move, Stop>
+) -> Result<Next, Stop>
     ensures { Moves (machine.use_next user a stmts.old env.now world.old) result stmts.new env.now world.new }
 {
     match user {

@@ -11,7 +11,7 @@ ghost use Rattle.sc_interp_machine.specs.declared.body.Use.TheVariants as user;
 ghost use Rattle.sc_interp_body.specs.Moves.{Moves};
 
 use crate::blocks::block_ends;
-use crate::moves::{Move, ends, execs, leaves, turns, within};
+use crate::moves::{Next, ends, execs, leaves, turns, within};
 use sc_base::{Duplicate, Shared, Stack};
 use sc_core::{CoreExpr, CoreStmt, LabelAt, type_of};
 use sc_interp_access::Stop;
@@ -27,7 +27,7 @@ fn next_of(
     stmts: &mut Stack<Pending>,
     env: &Env,
     world: &World,
-) -> Result<Move, Stop>
+) -> Result<Next, Stop>
     ensures { Moves (machine.rest_next statement.Normal block rest stmts.old env.now world.now) result stmts.new env.now world.now }
 {
     let mut rest = rest;
@@ -66,7 +66,7 @@ fn resumed_next(
     stmts: &mut Stack<Pending>,
     env: &Env,
     world: &World,
-) -> Result<Move, Stop>
+) -> Result<Next, Stop>
     ensures { Moves (machine.resumed_next block at (out-CoreStmt block) stmts.old env.now world.now) result stmts.new env.now world.now }
 {
     match block.get() {
@@ -86,7 +86,7 @@ fn jumped_next(
     stmts: &mut Stack<Pending>,
     env: &Env,
     world: &World,
-) -> Result<Move, Stop>
+) -> Result<Next, Stop>
     ensures { Moves (machine.jumped_next block k (statement.place_in k (out-CoreStmt block)) stmts.old env.now world.now) result stmts.new env.now world.now }
 {
     match place_in(k, block.get()) {
@@ -103,7 +103,7 @@ fn rest_next(
     stmts: &mut Stack<Pending>,
     env: &Env,
     world: &World,
-) -> Result<Move, Stop>
+) -> Result<Next, Stop>
     ensures { Moves (machine.rest_next way block rest stmts.old env.now world.now) result stmts.new env.now world.now }
 {
     match way.exit {
@@ -116,7 +116,7 @@ fn rest_next(
 }
 
 // `break` leaves a `switch`.
-fn switch_next(way: Way, world: &mut World) -> Result<Move, Stop>
+fn switch_next(way: Way, world: &mut World) -> Result<Next, Stop>
     ensures { (ss : List Pending) (env : spec.Env) → Moves (machine.switch_next way ss env world.old) result ss env world.new }
 {
     let way = match way.exit {
@@ -130,7 +130,7 @@ fn switch_next(way: Way, world: &mut World) -> Result<Move, Stop>
 }
 
 // After a turn of a `while`: `continue` goes on as the body's end does, `break` ends the loop.
-fn again_next(s: Shared<CoreStmt>, way: Way, world: &mut World) -> Result<Move, Stop>
+fn again_next(s: Shared<CoreStmt>, way: Way, world: &mut World) -> Result<Next, Stop>
     ensures { (ss : List Pending) (env : spec.Env) → Moves (machine.item_next (kind.Again s) way ss env world.old) result ss env world.new }
 {
     match way.exit {
@@ -143,12 +143,12 @@ fn again_next(s: Shared<CoreStmt>, way: Way, world: &mut World) -> Result<Move, 
 }
 
 // The condition of a `do` is evaluated.
-fn checked(l: u32, e: &Shared<CoreExpr>, s: Shared<CoreStmt>, world: &World) -> Result<Move, Stop>
+fn checked(l: u32, e: &Shared<CoreExpr>, s: Shared<CoreStmt>, world: &World) -> Result<Next, Stop>
     ensures { (ss : List Pending) (env : spec.Env) → Moves (machine.Lines l (machine.within e.now (user.Repeat (types.type_of e.now) s)) ss env world.now) result ss env world.now }
 {
     let t = type_of(e.get()).copy(world.alloc())?;
     let doing = within(e, Use::Repeat(t, s), world)?;
-    Ok(Move::Line(l, doing))
+    Ok(Next::Line(l, doing))
 }
 
 // After a turn of a `do`.
@@ -158,7 +158,7 @@ fn check_next(
     s: Shared<CoreStmt>,
     way: Way,
     world: &mut World,
-) -> Result<Move, Stop>
+) -> Result<Next, Stop>
     ensures { (ss : List Pending) (env : spec.Env) → Moves (machine.item_next (kind.Check l e.now s) way ss env world.old) result ss env world.new }
 {
     match way.exit {
@@ -171,14 +171,14 @@ fn check_next(
 }
 
 // The third expression of a `for` is evaluated, and the next turn begins.
-fn third(x: &Option<Shared<CoreExpr>>, s: Shared<CoreStmt>, world: &World) -> Result<Move, Stop>
+fn third(x: &Option<Shared<CoreExpr>>, s: Shared<CoreStmt>, world: &World) -> Result<Next, Stop>
     ensures { (ss : List Pending) (env : spec.Env) → Moves (machine.third_next x.now s ss env world.now) result ss env world.now }
 {
     match x {
         None => Ok(turns(s)),
         Some(e) => {
             let doing = within(e, Use::Turns(s), world)?;
-            Ok(Move::Go(doing))
+            Ok(Next::Go(doing))
         }
     }
 }
@@ -189,7 +189,7 @@ fn third_next(
     s: Shared<CoreStmt>,
     way: Way,
     world: &mut World,
-) -> Result<Move, Stop>
+) -> Result<Next, Stop>
     ensures { (ss : List Pending) (env : spec.Env) → Moves (machine.item_next (kind.Third x.now s) way ss env world.old) result ss env world.new }
 {
     match way.exit {
@@ -208,7 +208,7 @@ fn item_next(
     stmts: &mut Stack<Pending>,
     env: &mut Env,
     world: &mut World,
-) -> Result<Move, Stop>
+) -> Result<Next, Stop>
     ensures { Moves (machine.item_next item way stmts.old env.old world.old) result stmts.new env.new world.new }
 {
     match item {
@@ -232,11 +232,11 @@ pub fn way_next(
     stmts: &mut Stack<Pending>,
     env: &mut Env,
     world: &mut World,
-) -> Result<Move, Stop>
+) -> Result<Next, Stop>
     ensures { Moves (machine.way_next stmts.old way env.old world.old) result stmts.new env.new world.new }
 {
     match stmts.pop() {
-        None => Ok(Move::Leave(way)),
+        None => Ok(Next::Leave(way)),
         Some(item) => item_next(item, way, stmts, env, world),
     }
 }

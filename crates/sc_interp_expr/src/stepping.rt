@@ -1,283 +1,442 @@
-// One step on an expression (ANSI 3.3).
-ghost use Rattle.std.specs.Prelude.{◌∷◌, List};
+// One step on an expression, in place (ANSI 3.3).
+ghost use Rattle.std.specs.Prelude.{◌≡◌, ◌∷◌, true, false};
+ghost use Rattle.sc_core.specs.declared.expression.CoreExpr.{out-CoreExpr};
+ghost use Rattle.sc_meaning.specs.Accesses as access;
 ghost use Rattle.sc_meaning.specs.Expressions as spec;
+ghost use Rattle.sc_meaning.specs.Values as value;
 ghost use Rattle.sc_interp_machine.specs.Machine as machine;
-ghost use Rattle.sc_interp_machine.specs.declared.pending.Item.{Item};
-ghost use Rattle.sc_interp_machine.specs.declared.pending.Item.TheVariants as kind;
-ghost use Rattle.sc_interp_machine.specs.declared.pending.Mode.TheVariants as mode;
-ghost use Rattle.sc_interp_expr.specs.Advances.{Advances};
+ghost use Rattle.sc_interp_machine.specs.Slots.{first_of, mode_of, second_of};
+ghost use Rattle.sc_interp_expr.specs.Advances.{Advances, Goes};
 
+use crate::arguments::{argument_next, callee_next};
 use crate::begin::{begun, expr_next};
 use crate::env::Env;
-use crate::next::{Next, evals, gives, goes_on};
-use crate::pairs::{pair, store};
-use crate::singles::single;
-use sc_base::{Items, Shared, Stack};
-use sc_core::CoreExpr;
+use crate::next::{Went, ends_plain, finishes, keeps_answer, keeps_none, keeps_value, taken};
+use crate::pairs::{
+    assigned, binary, comparison, compound, distance, index, moved, offset, structure,
+};
+use crate::singles::{
+    address_of, arrow, back, cast_to, converts, increment, indirection, member, truth_of, unary_of,
+};
+use sc_base::{Shared, Stack};
+use sc_core::{CoreExpr, type_of};
 use sc_interp_access::{Stop, tested};
-use sc_interp_machine::{Arguments, Item, Mode, Pair, Single, Store};
-use sc_interp_parts::{assigned_structure, plain, used};
+use sc_interp_machine::{Focus, Slot, Stage};
+use sc_interp_parts::used;
 use sc_interp_world::World;
 use sc_meaning_values::{Answer, Value};
 use sc_types::CType;
 
-// The only operand is there, or the last one.
-fn alone_next(s: &Single, a: Answer, world: &mut World) -> Result<Next, Stop>
-    ensures { (is : List Item) → Advances (machine.item_next (kind.Alone s.now) a is world.old) result is world.new }
-{
-    let v = single(s, a, world)?;
-    Ok(gives(v))
-}
-
-// The left operand is there.
-fn right_next(
-    p: Pair,
-    b: Shared<CoreExpr>,
-    a: Answer,
-    items: &mut Stack<Item>,
-    world: &World,
-) -> Result<Next, Stop>
-    ensures { Advances (machine.item_next (kind.Right p b) a items.old world.now) result items.new world.now }
-{
-    let x = used(a, world)?;
-    goes_on(b, Item::Now(p, x), items, world)
-}
-
-// Both operands are there.
-fn now_next(p: &Pair, x: &Value, a: Answer, world: &mut World) -> Result<Next, Stop>
-    ensures { (is : List Item) → Advances (machine.item_next (kind.Now p.now x.now) a is world.old) result is world.new }
-{
-    let y = used(a, world)?;
-    let v = pair(p, x, &y, world)?;
-    Ok(gives(v))
-}
-
-// The place and the value are there.
-fn store_next(s: &Store, p: Answer, a: Answer, world: &mut World) -> Result<Next, Stop>
-    ensures { (is : List Item) → Advances (machine.item_next (kind.StoreNow s.now p) a is world.old) result is world.new }
-{
-    let v = used(a, world)?;
-    let v = store(s, p, v, world)?;
-    Ok(gives(v))
-}
-
-// Both structures are there.
-fn structure_next(n: u32, p: Answer, a: Answer, world: &mut World) -> Result<Next, Stop>
-    ensures { (is : List Item) → Advances (machine.item_next (kind.StructureNow n p) a is world.old) result is world.new }
-{
-    let v = assigned_structure(n, p, a, world)?;
-    Ok(gives(v))
-}
-
 // The left side of `&&` is there (3.3.13).
+#[inline(never)]
 fn and_next(
     s: &CType,
-    t: CType,
     b: &Shared<CoreExpr>,
-    a: Answer,
-    items: &mut Stack<Item>,
+    node: &Shared<CoreExpr>,
+    at: &mut Shared<CoreExpr>,
+    gives: &mut bool,
+    answer: &mut Answer,
+    slots: &mut Stack<Slot>,
     world: &mut World,
-) -> Result<Next, Stop>
-    ensures { Advances (machine.item_next (kind.And s.now t b.now) a items.old world.old) result items.new world.new }
+) -> Result<Went, Stop>
+    requires { gives.old ≡ true }
+    ensures { Advances (machine.then_goes (spec.used answer.old world.old) (λ x w. machine.then_goes (access.tested s.now x w) (λ yes w. machine.whether yes (machine.evals b.now (second_of (out-CoreExpr node.now) spec.Nothing ∷ slots.old)) (λ w. machine.gives slots.old (spec.plain (value.Number 0) w)) w))) result (mode_of gives.new at.new answer.new) slots.new world.new }
 {
-    let x = used(a, world)?;
+    let x = used(taken(answer), world)?;
     if tested(s, &x, world)? {
-        evals(b, Item::Alone(Single::Truth(t)), items, world)
+        keeps_none(b.share()?, node.share()?, at, gives, slots, world)
     } else {
-        let no = plain(Value::number(0), world)?;
-        Ok(gives(no))
+        ends_plain(Value::number(0), answer, world)?;
+        Ok(Went::On)
     }
 }
 
 // The left side of `||` is there (3.3.14).
+#[inline(never)]
 fn or_next(
     s: &CType,
-    t: CType,
     b: &Shared<CoreExpr>,
-    a: Answer,
-    items: &mut Stack<Item>,
+    node: &Shared<CoreExpr>,
+    at: &mut Shared<CoreExpr>,
+    gives: &mut bool,
+    answer: &mut Answer,
+    slots: &mut Stack<Slot>,
     world: &mut World,
-) -> Result<Next, Stop>
-    ensures { Advances (machine.item_next (kind.Or s.now t b.now) a items.old world.old) result items.new world.new }
+) -> Result<Went, Stop>
+    requires { gives.old ≡ true }
+    ensures { Advances (machine.then_goes (spec.used answer.old world.old) (λ x w. machine.then_goes (access.tested s.now x w) (λ yes w. machine.whether yes (λ w. machine.gives slots.old (spec.plain (value.Number 1) w)) (machine.evals b.now (second_of (out-CoreExpr node.now) spec.Nothing ∷ slots.old)) w))) result (mode_of gives.new at.new answer.new) slots.new world.new }
 {
-    let x = used(a, world)?;
+    let x = used(taken(answer), world)?;
     if tested(s, &x, world)? {
-        let yes = plain(Value::number(1), world)?;
-        Ok(gives(yes))
+        ends_plain(Value::number(1), answer, world)?;
+        Ok(Went::On)
     } else {
-        evals(b, Item::Alone(Single::Truth(t)), items, world)
+        keeps_none(b.share()?, node.share()?, at, gives, slots, world)
     }
 }
 
 // The condition of `?:` is there (3.3.15).
+#[inline(never)]
 fn choice_next(
     t: &CType,
     b: &Shared<CoreExpr>,
     c: &Shared<CoreExpr>,
-    a: Answer,
-    items: &mut Stack<Item>,
+    node: &Shared<CoreExpr>,
+    at: &mut Shared<CoreExpr>,
+    gives: &mut bool,
+    answer: &mut Answer,
+    slots: &mut Stack<Slot>,
     world: &World,
-) -> Result<Next, Stop>
-    ensures { Advances (machine.item_next (kind.Choice t.now b.now c.now) a items.old world.now) result items.new world.now }
+) -> Result<Went, Stop>
+    ensures { Advances (machine.then_goes (spec.used answer.old world.now) (λ x w. machine.then_goes (access.tested t.now x w) (λ yes w. machine.whether yes (machine.evals b.now (second_of (out-CoreExpr node.now) spec.Nothing ∷ slots.old)) (machine.evals c.now (second_of (out-CoreExpr node.now) spec.Nothing ∷ slots.old)) w))) result (mode_of gives.new at.new answer.new) slots.new world.now }
 {
-    let x = used(a, world)?;
+    let x = used(taken(answer), world)?;
     if tested(t, &x, world)? {
-        evals(b, Item::Alone(Single::Whole), items, world)
+        keeps_none(b.share()?, node.share()?, at, gives, slots, world)
     } else {
-        evals(c, Item::Alone(Single::Whole), items, world)
+        keeps_none(c.share()?, node.share()?, at, gives, slots, world)
     }
 }
 
-// The next argument, or the call, which is work as it goes out (3.3.2.2).
-fn args_next(
-    t: CType,
-    v: Value,
-    rest: Arguments,
-    vs: Items<Value>,
-    items: &mut Stack<Item>,
+// The answer of the first operand, or of the only one, is there.
+fn first_next(
+    node: Shared<CoreExpr>,
+    at: &mut Shared<CoreExpr>,
+    gives: &mut bool,
+    answer: &mut Answer,
+    slots: &mut Stack<Slot>,
     world: &mut World,
-) -> Result<Next, Stop>
-    ensures { Advances (machine.args_next t v rest vs items.old world.old) result items.new world.new }
+) -> Result<Went, Stop>
+    requires { gives.old ≡ true }
+    ensures { Advances (machine.item_next (first_of (out-CoreExpr node)) answer.old slots.old world.old) result (mode_of gives.new at.new answer.new) slots.new world.new }
 {
-    let mut rest = rest;
-    match rest.next()? {
-        None => {
-            items.push(Item::Alone(Single::Back))?;
-            world.goes_out()?;
-            Ok(Next::Call(t, v, vs))
+    match node.get() {
+        CoreExpr::Convert(_, t, a) => {
+            converts(type_of(a.get()), t, answer, world)?;
+            Ok(Went::On)
         }
-        Some(e) => evals(&e, Item::Argument(t, v, rest, vs), items, world),
+        CoreExpr::Index(_, _, _, _, b) => keeps_value(
+            b.share()?,
+            node,
+            at,
+            gives,
+            answer,
+            slots,
+            world,
+        ),
+        CoreExpr::Binary(_, _, _, _, b) => keeps_value(
+            b.share()?,
+            node,
+            at,
+            gives,
+            answer,
+            slots,
+            world,
+        ),
+        CoreExpr::Offset(_, _, _, _, _, b) => keeps_value(
+            b.share()?,
+            node,
+            at,
+            gives,
+            answer,
+            slots,
+            world,
+        ),
+        CoreExpr::Difference(_, _, _, _, b) => keeps_value(
+            b.share()?,
+            node,
+            at,
+            gives,
+            answer,
+            slots,
+            world,
+        ),
+        CoreExpr::Compare(_, _, _, _, b) => keeps_value(
+            b.share()?,
+            node,
+            at,
+            gives,
+            answer,
+            slots,
+            world,
+        ),
+        CoreExpr::Assign(_, _, _, b) => keeps_answer(
+            b.share()?,
+            node,
+            at,
+            gives,
+            answer,
+            slots,
+            world,
+        ),
+        CoreExpr::AssignStructure(_, _, _, _, b) => keeps_answer(
+            b.share()?,
+            node,
+            at,
+            gives,
+            answer,
+            slots,
+            world,
+        ),
+        CoreExpr::Compound(_, _, _, _, _, b) => keeps_answer(
+            b.share()?,
+            node,
+            at,
+            gives,
+            answer,
+            slots,
+            world,
+        ),
+        CoreExpr::CompoundOffset(_, _, _, _, _, b) => keeps_answer(
+            b.share()?,
+            node,
+            at,
+            gives,
+            answer,
+            slots,
+            world,
+        ),
+        CoreExpr::Comma(_, _, _, b) => keeps_none(b.share()?, node, at, gives, slots, world),
+        CoreExpr::Call(_, _, _, _) => {
+            *gives = false;
+            callee_next(node, at, answer, slots, world)
+        }
+        CoreExpr::And(_, _, a, b) => and_next(
+            type_of(a.get()),
+            b,
+            &node,
+            at,
+            gives,
+            answer,
+            slots,
+            world,
+        ),
+        CoreExpr::Or(_, _, a, b) => or_next(
+            type_of(a.get()),
+            b,
+            &node,
+            at,
+            gives,
+            answer,
+            slots,
+            world,
+        ),
+        CoreExpr::Conditional(_, _, a, b, c) => choice_next(
+            type_of(a.get()),
+            b,
+            c,
+            &node,
+            at,
+            gives,
+            answer,
+            slots,
+            world,
+        ),
+        CoreExpr::Member(_, _, n, _) => {
+            member(*n, answer, world)?;
+            Ok(Went::On)
+        }
+        CoreExpr::Arrow(_, _, n, _) => {
+            arrow(*n, answer, world)?;
+            Ok(Went::On)
+        }
+        CoreExpr::Step(_, _, s, n, a) => {
+            increment(*s, *n, type_of(a.get()), answer, world)?;
+            Ok(Went::On)
+        }
+        CoreExpr::Address(_, _, _) => {
+            address_of(answer, world)?;
+            Ok(Went::On)
+        }
+        CoreExpr::Indirection(_, _, _) => {
+            indirection(answer, world)?;
+            Ok(Went::On)
+        }
+        CoreExpr::Unary(_, _, o, a) => {
+            unary_of(*o, type_of(a.get()), answer, world)?;
+            Ok(Went::On)
+        }
+        CoreExpr::Cast(_, t, _) => {
+            cast_to(t, answer, world)?;
+            Ok(Went::On)
+        }
+        _ => {
+            finishes(answer, world)?;
+            Ok(Went::On)
+        }
     }
 }
 
-// The function that is called is there.
-fn callee_next(
-    t: CType,
-    rest: Arguments,
-    a: Answer,
-    items: &mut Stack<Item>,
+// The answer of the last operand is there.
+fn second_next(
+    e: &CoreExpr,
+    held: Answer,
+    answer: &mut Answer,
+    slots: &Stack<Slot>,
     world: &mut World,
-) -> Result<Next, Stop>
-    ensures { Advances (machine.item_next (kind.Callee t rest) a items.old world.old) result items.new world.new }
+) -> Result<(), Stop>
+    ensures { Goes (machine.item_next (second_of (out-CoreExpr e.now) held) answer.old slots.now world.old) result answer.new slots.now world.new }
 {
-    let v = used(a, world)?;
-    let none = Items::new(world.alloc());
-    args_next(t, v, rest, none, items, world)
+    match e {
+        CoreExpr::Index(_, _, n, a, b) => index(
+            *n,
+            type_of(a.get()),
+            type_of(b.get()),
+            held,
+            answer,
+            world,
+        ),
+        CoreExpr::Binary(_, _, o, a, b) => binary(
+            *o,
+            type_of(a.get()),
+            type_of(b.get()),
+            held,
+            answer,
+            world,
+        ),
+        CoreExpr::Offset(_, _, o, n, a, b) => offset(
+            *o,
+            *n,
+            type_of(a.get()),
+            type_of(b.get()),
+            held,
+            answer,
+            world,
+        ),
+        CoreExpr::Difference(_, _, n, _, _) => distance(*n, held, answer, world),
+        CoreExpr::Compare(_, _, o, _, _) => comparison(*o, held, answer, world),
+        CoreExpr::Assign(_, _, a, _) => assigned(type_of(a.get()), held, answer, world),
+        CoreExpr::AssignStructure(_, _, n, _, _) => structure(*n, held, answer, world),
+        CoreExpr::Compound(_, _, o, i, a, b) => compound(
+            *o,
+            *i,
+            type_of(a.get()),
+            type_of(b.get()),
+            held,
+            answer,
+            world,
+        ),
+        CoreExpr::CompoundOffset(_, _, o, n, a, b) => moved(
+            *o,
+            *n,
+            type_of(a.get()),
+            type_of(b.get()),
+            held,
+            answer,
+            world,
+        ),
+        CoreExpr::And(_, _, _, b) => {
+            drop(held);
+            truth_of(type_of(b.get()), answer, world)
+        }
+        CoreExpr::Or(_, _, _, b) => {
+            drop(held);
+            truth_of(type_of(b.get()), answer, world)
+        }
+        _ => {
+            drop(held);
+            finishes(answer, world)
+        }
+    }
 }
 
-// One more argument is there.
-fn argument_next(
-    t: CType,
-    v: Value,
-    rest: Arguments,
-    vs: Items<Value>,
-    a: Answer,
-    items: &mut Stack<Item>,
-    world: &mut World,
-) -> Result<Next, Stop>
-    ensures { Advances (machine.item_next (kind.Argument t v rest vs) a items.old world.old) result items.new world.new }
-{
-    let y = used(a, world)?;
-    let mut vs = vs;
-    vs.push(y)?;
-    args_next(t, v, rest, vs, items, world)
-}
-
-// What is done with an answer by the innermost item, which is taken off.
+// What is done with the answer by the innermost item, which is taken off.
+#[inline(always)]
 fn item_next(
-    item: Item,
-    a: Answer,
-    items: &mut Stack<Item>,
+    slot: Slot,
+    at: &mut Shared<CoreExpr>,
+    gives: &mut bool,
+    answer: &mut Answer,
+    slots: &mut Stack<Slot>,
     world: &mut World,
-) -> Result<Next, Stop>
-    ensures { Advances (machine.item_next item a items.old world.old) result items.new world.new }
+) -> Result<Went, Stop>
+    requires { gives.old ≡ true }
+    ensures { Advances (machine.item_next slot answer.old slots.old world.old) result (mode_of gives.new at.new answer.new) slots.new world.new }
 {
-    match item {
-        Item::Alone(s) => {
-            let next = alone_next(&s, a, world);
-            drop(s);
-            next
+    let Slot { node, stage } = slot;
+    match stage {
+        Stage::First => first_next(node, at, gives, answer, slots, world),
+        Stage::Second(held) => {
+            second_next(node.get(), held, answer, slots, world)?;
+            drop(node);
+            Ok(Went::On)
         }
-        Item::Right(p, b) => right_next(p, b, a, items, world),
-        Item::Now(p, x) => {
-            let next = now_next(&p, &x, a, world);
-            drop(p);
-            drop(x);
-            next
+        Stage::Argument(v, vs) => {
+            *gives = false;
+            argument_next(node, v, vs, at, answer, slots, world)
         }
-        Item::StoreRight(s, b) => goes_on(b, Item::StoreNow(s, a), items, world),
-        Item::StoreNow(s, p) => {
-            let next = store_next(&s, p, a, world);
-            drop(s);
-            next
+        Stage::Back => {
+            drop(node);
+            back(answer, world)?;
+            Ok(Went::On)
         }
-        Item::StructureRight(n, b) => goes_on(b, Item::StructureNow(n, a), items, world),
-        Item::StructureNow(n, p) => structure_next(n, p, a, world),
-        Item::And(s, t, b) => {
-            let next = and_next(&s, t, &b, a, items, world);
-            drop(s);
-            drop(b);
-            next
-        }
-        Item::Or(s, t, b) => {
-            let next = or_next(&s, t, &b, a, items, world);
-            drop(s);
-            drop(b);
-            next
-        }
-        Item::Choice(t, b, c) => {
-            let next = choice_next(&t, &b, &c, a, items, world);
-            drop(t);
-            drop(b);
-            drop(c);
-            next
-        }
-        Item::Then(b) => {
-            drop(a);
-            goes_on(b, Item::Alone(Single::Whole), items, world)
-        }
-        Item::Callee(t, rest) => callee_next(t, rest, a, items, world),
-        Item::Argument(t, v, rest, vs) => argument_next(t, v, rest, vs, a, items, world),
     }
 }
 
-// What is done with an answer.
-fn answer_next(a: Answer, items: &mut Stack<Item>, world: &mut World) -> Result<Next, Stop>
-    ensures { Advances (machine.answer_next items.old a world.old) result items.new world.new }
+// What is done with the answer.
+#[inline(always)]
+fn give(
+    at: &mut Shared<CoreExpr>,
+    gives: &mut bool,
+    answer: &mut Answer,
+    slots: &mut Stack<Slot>,
+    world: &mut World,
+) -> Result<Went, Stop>
+    requires { gives.old ≡ true }
+    ensures { Advances (machine.answer_next slots.old answer.old world.old) result (mode_of gives.new at.new answer.new) slots.new world.new }
 {
-    match items.pop() {
-        None => Ok(Next::Give(a)),
-        Some(item) => item_next(item, a, items, world),
+    match slots.pop() {
+        None => Ok(Went::Ends),
+        Some(slot) => item_next(slot, at, gives, answer, slots, world),
     }
 }
 
 // An expression begins.
-fn eval_next(
+#[inline(always)]
+fn eval(
     env: &Env,
-    e: &Shared<CoreExpr>,
-    items: &mut Stack<Item>,
+    at: &mut Shared<CoreExpr>,
+    gives: &mut bool,
+    answer: &mut Answer,
+    slots: &mut Stack<Slot>,
     world: &mut World,
-) -> Result<Next, Stop>
-    ensures { Advances (machine.advance env.now (mode.Eval e.now) items.old world.old) result items.new world.new }
+) -> Result<Went, Stop>
+    requires { gives.old ≡ false }
+    ensures { Advances (machine.expr_next env.now (out-CoreExpr at.old) slots.old (spec.begun (out-CoreExpr at.old) world.old)) result (mode_of gives.new at.new answer.new) slots.new world.new }
 {
-    begun(e.get(), world)?;
-    expr_next(env, e, items, world)
+    begun(at.get(), world)?;
+    expr_next(env, at, gives, answer, slots, world)
 }
 
-/// One step on an expression: exactly the machine's.
+/// One step on an expression, in place: exactly the machine's.
 ///
 /// # Errors
 ///
 /// How the run ends in it.
-pub fn step(env: &Env, mode: Mode, items: &mut Stack<Item>, world: &mut World) -> Result<Next, Stop>
-    ensures { Advances (machine.advance env.now mode items.old world.old) result items.new world.new }
+pub fn step(
+    env: &Env,
+    focus: &mut Focus,
+    slots: &mut Stack<Slot>,
+    world: &mut World,
+) -> Result<Went, Stop>
+    ensures { Advances (machine.advance env.now focus.old slots.old world.old) result focus.new slots.new world.new }
 {
-    match mode {
-        Mode::Eval(e) => {
-            let next = eval_next(env, &e, items, world);
-            drop(e);
-            next
-        }
-        Mode::Give(a) => answer_next(a, items, world),
+    if focus.gives {
+        give(
+            &mut focus.at,
+            &mut focus.gives,
+            &mut focus.answer,
+            slots,
+            world,
+        )
+    } else {
+        eval(
+            env,
+            &mut focus.at,
+            &mut focus.gives,
+            &mut focus.answer,
+            slots,
+            world,
+        )
     }
 }

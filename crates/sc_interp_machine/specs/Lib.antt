@@ -6,3 +6,4 @@ pub mod Bodies
 pub mod BodyMeans
 pub mod Runs
 pub mod RunMeans
+pub mod Slots

@@ -1,7 +1,7 @@
 // What is pending in a function's body (ANSI 3.6).
 
-use crate::pending::{Item, Mode};
 use crate::rest::{Labels, Pieces, Statements};
+use crate::slot::{Focus, Slot};
 use sc_base::{Shared, Stack};
 use sc_core::{CoreExpr, CoreStmt};
 use sc_meaning_values::{Value, Way};
@@ -50,7 +50,7 @@ pub enum Pending {
 /// object's further pieces are set; a `switch`'s further labels are compared, where the last place found for `default` is known.
 #[derive(Drop)]
 pub enum Doing {
-    Within(Mode, Stack<Item>, Use),
+    Within(Focus, Stack<Slot>, Use),
     Exec(Shared<CoreStmt>),
     Turn(Shared<CoreStmt>),
     Leave(Way),

@@ -6,6 +6,7 @@ mod body;
 mod laws;
 mod pending;
 mod rest;
+mod slot;
 
 pub use body::{Doing, Pending, Use};
 pub use laws::{
@@ -14,3 +15,4 @@ pub use laws::{
 };
 pub use pending::{Item, Mode, Pair, Single, Store};
 pub use rest::{Arguments, Labels, Pieces, Statements};
+pub use slot::{Focus, Slot, Stage};

@@ -37,6 +37,13 @@ impl Arguments {
         Arguments { call, at: 0 }
     }
 
+    /// The arguments of a call from one of them on.
+    pub fn from(call: Shared<CoreExpr>, at: usize) -> Arguments
+        ensures { result ≡ drop at (arguments_in (out-CoreExpr call)) }
+    {
+        Arguments { call, at }
+    }
+
     /// The next one, which is taken off.
     pub fn next(&mut self) -> Result<Option<Shared<CoreExpr>>, NoMemory>
         ensures { IfOk result (λ next. MatchOption next ((self.old ≡ []) × (self.new ≡ [])) (λ e. self.old ≡ e ∷ self.new)) }

@@ -53,7 +53,13 @@ pub fn run(alloc: Global, words: Vec<u32>, steps: u64) -> io::Result<Vec<u8>> {
 
 /// Writes what one step of a word comes to with these numbers in a1 and a2: how it ends, the address of the next
 /// instruction and what a0 holds. Before a load the first number stands in memory, at the address that a2 has then.
-pub fn row(alloc: Global, text: &mut Vec<u8>, word: u32, first: u32, second: u32) -> io::Result<()> {
+pub fn row(
+    alloc: Global,
+    text: &mut Vec<u8>,
+    word: u32,
+    first: u32,
+    second: u32,
+) -> io::Result<()> {
     let words = vec![in alloc; word]?;
     let Ok(image) = placed(alloc, words) else {
         return Ok(());

@@ -356,7 +356,7 @@ StartsAt s = (old : List Event) × IsAt (first_standing s) old × AreHidden old
 hidden_start : (w born : World) (p : Inside w born) → events w.trail ≡ [] → AreHidden (events (pass GoesOut born).trail)
 hidden_start w born p e =
     let whole : events (pass GoesOut born).trail ≡ events p.0 =
-        events-append born.trail (GoesOut ∷ []) ∙ append-nil (events born.trail) ∙ (inside_hidden w born p).0 ∙ ap (λ es. es ++ events p.0) e in
+    events-append born.trail (GoesOut ∷ []) ∙ append-nil (events born.trail) ∙ (inside_hidden w born p).0 ∙ ap (λ es. es ++ events p.0) e in
     subst AreHidden (sym whole) (inside_hidden w born p).1
 
 main_starts : (texts : List Text) (w born : World) → Inside w born → events w.trail ≡ [] → length w.frames ≡ 0 → StartsAt (main_next texts [] born)
@@ -366,19 +366,24 @@ main_starts texts w born p e none =
     let es : List Event = event_of (entry_shown s) (world_of s).frames in
     let frames : (course.world_of s).frames ≡ (world_of s).frames = ap (λ u. u.frames) (sym (same_world s)) in
     let there : Tells es v (course.world_of s) = subst (λ fs. Tells (event_of (entry_shown s) fs) v (course.world_of s)) frames (callee_tells (alone texts) (quiet texts) texts main_key [] (callee_of texts main_key) [] v) in
-    let told : Tells es v (world_of s) = subst (λ u. Tells es v u) (sym (same_world s)) there in
-    (events v.trail ++ events told.0, record {
-      framed = callee_framed (alone texts) (quiet texts) texts main_key [] (callee_of texts main_key) [] v (framed_on 0 w born p none);
-      passed = told_events v (world_of s) es told;
-      last = told_last v (world_of s) es told;
-      counted = omega arith;
-    }, hidden_on (events v.trail) (events told.0) (hidden_start w born p e) told.2)
+    let told : Tells es v (world_of s) = subst (λ u. Tells es v u) (sym (same_world s)) there in (
+      events v.trail ++ events told.0,
+      record {
+        framed = callee_framed (alone texts) (quiet texts) texts main_key [] (callee_of texts main_key) [] v (framed_on 0 w born p none);
+        passed = told_events v (world_of s) es told;
+        last = told_last v (world_of s) es told;
+        counted = omega arith;
+      },
+      hidden_on (events v.trail) (events told.0) (hidden_start w born p e) told.2,
+    )
 
 over_starts : (w : World) (end : Ending) → Inside w (world_at end) → events w.trail ≡ [] → StartsAt (Ends end)
 over_starts w end p e =
-    let t : List Item = (world_at end).trail in
-    (events t, record { framed = tt; passed = sym (append-nil (events t)); last = (t, sym (append-nil t)); counted = omega arith; },
-     subst AreHidden (sym ((inside_hidden w (world_at end) p).0 ∙ ap (λ es. es ++ events p.0) e)) (inside_hidden w (world_at end) p).1)
+    let t : List Item = (world_at end).trail in (
+      events t,
+      record { framed = tt; passed = sym (append-nil (events t)); last = (t, sym (append-nil t)); counted = omega arith },
+      subst AreHidden (sym ((inside_hidden w (world_at end) p).0 ∙ ap (λ es. es ++ events p.0) e)) (inside_hidden w (world_at end) p).1,
+    )
 
 from_starts : (texts : List Text) (w : World) (r : Outcome (Unit {0})) → Inside w (world_after r) → events w.trail ≡ [] → length w.frames ≡ 0 → StartsAt (then_goes r (λ _ born. main_next texts [] born))
 from_starts texts w (Done _ born) p e none = main_starts texts w born p e none

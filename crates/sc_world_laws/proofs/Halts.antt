@@ -94,9 +94,10 @@ module _ (E : Type 0) (sel : E → Bool) where
   halts_first old quiet e new all later is whole free chosen =
       let split : all ≡ old ++ (quiet ++ e ∷ later) = whole ∙ ap (λ n. n ++ later) is ∙ append_assoc old (quiet ++ e ∷ []) later ∙ ap (λ r. old ++ r) (append_assoc quiet (e ∷ []) later) in
       let one : length quiet + 1 ≡ suc (length quiet) = omega arith in
-      let len : length new ≡ length old + suc (length quiet) = ap length is ∙ length-append old (quiet ++ e ∷ []) ∙ ap (λ n. length old + n) (length-append quiet (e ∷ []) ∙ one) in
-      (ap (λ a. first_of sel (drop (length old) a)) split ∙ ap (first_of sel) (drop_front old (quiet ++ e ∷ later)) ∙ first_behind E sel quiet e later free chosen,
-       sym (ap (λ n. take n all) (sym len) ∙ ap (take (length new)) whole ∙ take_front new later))
+      let len : length new ≡ length old + suc (length quiet) = ap length is ∙ length-append old (quiet ++ e ∷ []) ∙ ap (λ n. length old + n) (length-append quiet (e ∷ []) ∙ one) in (
+        ap (λ a. first_of sel (drop (length old) a)) split ∙ ap (first_of sel) (drop_front old (quiet ++ e ∷ later)) ∙ first_behind E sel quiet e later free chosen,
+        sym (ap (λ n. take n all) (sym len) ∙ ap (take (length new)) whole ∙ take_front new later),
+      )
 
   pub halts_free : (old more new : List E) → new ≡ old ++ more → Free sel more → Free sel (drop (length old) new)
   halts_free old more new is free = ap (λ a. first_of sel (drop (length old) a)) is ∙ ap (first_of sel) (drop_front old more) ∙ free

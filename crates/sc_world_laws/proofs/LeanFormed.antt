@@ -192,9 +192,10 @@ pays_new before (Some v ∷ vs) q = refl
 
 once_new : (before : List (Option ℕ)) (ls : List SwitchLabel) → are_new value_eq before (values ls) ≡ true → Once ls
 once_new before [] q = tt
-once_new before (l ∷ ls) q =
-    (same_pays (l ∷ ls) ∙ pays_new before (values (l ∷ ls)) q,
-     once_new (before ++ l.value ∷ []) ls (both (not (list_any (value_eq l.value) before)) (are_new value_eq (before ++ l.value ∷ []) (values ls)) q).1)
+once_new before (l ∷ ls) q = (
+  same_pays (l ∷ ls) ∙ pays_new before (values (l ∷ ls)) q,
+  once_new (before ++ l.value ∷ []) ls (both (not (list_any (value_eq l.value) before)) (are_new value_eq (before ++ l.value ∷ []) (values ls)) q).1,
+)
 
 -- a piece that is placed has a byte
 placed_some : (size end at n m : ℕ) → placed size end at n ≡ Some m → nat_lt 0 n ≡ true

@@ -138,10 +138,11 @@ IsLate m last t = (t / 64 ≤ done (world_of last.state) - done (world_of m.stat
 paused_at : (want : Want) (m last : Standing) (t : ℕ) → want.before ≡ m.turns → IsLean m.state → Paid m last → Why want (halt.Paused t) last → IsLate m last t
 paused_at want m last t b p paid (inl e) = no_pause want last t e
 paused_at want m last t b p paid (inr (none, e)) =
-    let s : t ≡ last.turns - m.turns = same_pause t (taken want last) e ∙ ap (λ k. last.turns - k) b in
-    (paused t 7 (done (world_of last.state) - done (world_of m.state)) (omega arith) (enough last.turns m.turns (near m.state) (near last.state) (done (world_of m.state)) (done (world_of last.state)) t paid.0 paid.1 (near_most m.state p) s),
-     paid.1,
-     over_last (wanted want last.shown (world_of last.state).frames) (is_over last.state) none)
+    let s : t ≡ last.turns - m.turns = same_pause t (taken want last) e ∙ ap (λ k. last.turns - k) b in (
+      paused t 7 (done (world_of last.state) - done (world_of m.state)) (omega arith) (enough last.turns m.turns (near m.state) (near last.state) (done (world_of m.state)) (done (world_of last.state)) t paid.0 paid.1 (near_most m.state p) s),
+      paid.1,
+      over_last (wanted want last.shown (world_of last.state).frames) (is_over last.state) none,
+    )
 
 pub goes_lean : (texts : List Text) (stops : List StopAt) (walk : Walk) (turns : ℕ) (m : Standing) (h : Halt) (n : Standing) → AreLean (alone texts) → IsLean m.state → Goes texts stops walk turns (Some m) h (Some n) → IsLean n.state
 goes_lean texts stops walk turns m h n lean p g =

@@ -150,10 +150,12 @@ entered_tells key t f cs ids w u p =
     let is : List Item = front ++ (p.0 ++ OpenBlock born ∷ []) in
     let now = entry_event key t f cs ids w u u.frames refl (inside_calls v u p) in
     let opened : (pass (OpenBlock born) u).trail ≡ w.trail ++ is =
-        ap (λ t. t ++ OpenBlock born ∷ []) (inside_trail v u p ∙ ap (λ t. t ++ p.0) (frame_trail key t f w) ∙ append_assoc w.trail front p.0)
-        ∙ append_assoc w.trail (front ++ p.0) (OpenBlock born ∷ []) ∙ ap (λ js. w.trail ++ js) (append_assoc front p.0 (OpenBlock born ∷ [])) in
-    (is, one_more w (pass (OpenBlock born) u) is (Happens (Enter key t.core.name)) opened ∙ ap (λ es. w.trail ++ (is ++ happening es)) (sym now),
-     subst AreHidden (sym (events-append p.0 (OpenBlock born ∷ []))) (hidden_on (events p.0) [] (inside_hidden v u p).1 refl))
+    ap (λ t. t ++ OpenBlock born ∷ []) (inside_trail v u p ∙ ap (λ t. t ++ p.0) (frame_trail key t f w) ∙ append_assoc w.trail front p.0)
+    ∙ append_assoc w.trail (front ++ p.0) (OpenBlock born ∷ []) ∙ ap (λ js. w.trail ++ js) (append_assoc front p.0 (OpenBlock born ∷ [])) in (
+      is,
+      one_more w (pass (OpenBlock born) u) is (Happens (Enter key t.core.name)) opened ∙ ap (λ es. w.trail ++ (is ++ happening es)) (sym now),
+      subst AreHidden (sym (events-append p.0 (OpenBlock born ∷ []))) (hidden_on (events p.0) [] (inside_hidden v u p).1 refl),
+    )
 
 full_tells : (key : Key) (t : Text) (f : Fun) (w u : World) → Inside (with_frame key t f w) u → Tells [] w u
 full_tells key t f w u p =

@@ -1,7 +1,8 @@
 use Rattle.std.proofs.Common.{◌≡◌, ◌+◌, ◌-◌, refl, sym, ap, ◌∙◌, subst, arith, Ok}
 use Rattle.sc_interp.specs.Steady as steady
+use Rattle.sc_interp.specs.Shows.{StepsShowing, shown}
 use Rattle.sc_interp.specs.Steps.{Brings}
-use Rattle.sc_interp.proofs.Whole.{one_less, ended_there, ends_here, over_there, none_left}
+use Rattle.sc_interp.proofs.Whole.{one_less, ended_there, over_there, none_left}
 use Rattle.sc_interp.proofs.drive.drive.Goals as goal
 
 pub stepping-init : goal.stepping-init
@@ -10,13 +11,14 @@ stepping-init c = λ h q s i. (s, i, refl)
 pub stepping-preserved : goal.stepping-preserved
 stepping-preserved c = λ h q s i.
     let p = c.stepping.invariant h q s i in
-    (steady.advance h c.args.texts.now p.0, (c.in_ok-stepped.ensures h q p.0 p.1).0, sym (one_less c.stepping.left (c.stepping.left - 1) h c.args.texts.now p.0 (omega arith)) ∙ p.2)
+    let stepped = subst (λ r. StepsShowing (steady.advance h c.args.texts.now p.0) (shown h c.args.texts.now p.0) r c.step_run.new.going c.step_run.new.callers c.step_run.new.world) c.in-Ok.is (c.step_run.ensures h q p.0 p.1) in
+    (steady.advance h c.args.texts.now p.0, stepped.0, sym (one_less c.stepping.left (c.stepping.left - 1) h c.args.texts.now p.0 (omega arith)) ∙ p.2)
 
-pub returns-in_err-stepped : goal.returns-in_err-stepped
-returns-in_err-stepped c = λ h q s i.
+pub returns-in-Err : goal.returns-in-Err
+returns-in-Err c = λ h q s i.
     let p = c.stepping.invariant h q s i in
-    ends_here _ c.from_residual.result c.in_err-stepped.field-0.0 _ c.from_residual.ensures.1
-    (λ e is. sym p.2 ∙ one_less c.stepping.left (c.stepping.left - 1) h c.args.texts.now p.0 (omega arith) ∙ ended_there (c.stepping.left - 1) h c.args.texts.now _ e (c.in_err-stepped.ensures h q p.0 p.1 e is))
+    let stepped = subst (λ r. StepsShowing (steady.advance h c.args.texts.now p.0) (shown h c.args.texts.now p.0) r c.step_run.new.going c.step_run.new.callers c.step_run.new.world) c.in-Err.is (c.step_run.ensures h q p.0 p.1) in
+    λ e is. sym p.2 ∙ one_less c.stepping.left (c.stepping.left - 1) h c.args.texts.now p.0 (omega arith) ∙ ended_there (c.stepping.left - 1) h c.args.texts.now _ e (stepped e is)
 
 pub returns-then-is_over : goal.returns-then-is_over
 returns-then-is_over c = λ h q s i.

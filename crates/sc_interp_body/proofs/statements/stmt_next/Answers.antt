@@ -11,12 +11,12 @@ use Rattle.sc_interp_machine.specs.Rests.{labels_in}
 use Rattle.sc_interp_machine.specs.declared.body.Pending.{Pending}
 use Rattle.sc_interp_machine.specs.declared.body.Use.TheVariants as user
 use Rattle.sc_interp_access.specs.declared.stop.Stop.{Stop}
-use Rattle.sc_interp_body.specs.declared.moves.Move.{Move}
+use Rattle.sc_interp_body.specs.declared.moves.Next.{Next}
 use Rattle.sc_interp_body.specs.Moves.{Moves}
 use Rattle.sc_interp_body.proofs.statements.stmt_next.Goals as goal
 
 -- the labels that a switch has
-switched : (s : CoreStmt) (f : CoreStmt-F CoreStmt) (l : ℕ) (e : CoreExpr) (labels : List SwitchLabel) (a : CoreStmt) (ss : List Pending) (env : Env) (w : World) (r : Result Move Stop) → f ≡ CoreStmt-F.Switch l e labels a → Moves (machine.Lines l (machine.within e (user.Switch (labels_in f) a)) ss env w) r ss env w → Moves (machine.stmt_next s f ss env w) r ss env w
+switched : (s : CoreStmt) (f : CoreStmt-F CoreStmt) (l : ℕ) (e : CoreExpr) (labels : List SwitchLabel) (a : CoreStmt) (ss : List Pending) (env : Env) (w : World) (r : Result Next Stop) → f ≡ CoreStmt-F.Switch l e labels a → Moves (machine.Lines l (machine.within e (user.Switch (labels_in f) a)) ss env w) r ss env w → Moves (machine.stmt_next s f ss env w) r ss env w
 switched s f l e labels a ss env w r is =
     subst (λ f. Moves (machine.Lines l (machine.within e (user.Switch (labels_in f) a)) ss env w) r ss env w → Moves (machine.stmt_next s f ss env w) r ss env w) (sym is) (λ h. h)
 
