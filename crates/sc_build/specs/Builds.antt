@@ -31,7 +31,7 @@ abbrev pub Reads : Option FileMap → List ℕ → Result (List Token) PpFault �
 Reads held file outcome = Known held (λ map. preprocessed map file ≡ outcome)
 
 -- The tokens are a unit of the grammar within the limits, which has these functions and declarations; at most 500 brackets are open at one place.
-unfoldable pub IsUnit : List Token → List External → Type 0
+abbrev pub IsUnit : List Token → List External → Type 0
 IsUnit tokens items = grammar.IsUnit true (symbols tokens) items × AreShallow 0 (symbols tokens)
 
 -- there is no such file, or it is longer than a file may be

@@ -1,9 +1,7 @@
-use Rattle.sc_build.specs.Builds.{IsUnit}
 use Rattle.sc_build.proofs.Phases.{grammar_fails}
 use Rattle.sc_build.proofs.building.parsed.Goals as goal
 
 pub returns-in-Ok : goal.returns-in-Ok
-unfolding IsUnit
 returns-in-Ok c = c.checked.ensures c.args.tokens.now (c.in-Ok.ensures.only, c.in-Ok.ensures.shallow)
 
 pub returns-in-Err : goal.returns-in-Err
