@@ -1,7 +1,7 @@
 -- Yardstick: to be compared with what it restates (docs/TRUST.md).
 -- What a run answers that begins or goes on, and how the session stands behind it.
 use Rattle.std.specs.Io.KnownBytes.{Appends}
-use Rattle.std.specs.Prelude.{◌≡◌, ◌⊎◌, ℕ, Bool, true, false, List, [], ◌∷◌, ◌++◌, length, drop, Option, Some, None, Result, Ok, Err, codes, decimal}
+use Rattle.std.specs.Prelude.{◌≡◌, ◌≢◌, ◌<◌, ◌≤◌, ◌⊎◌, ℕ, ◌+◌, ◌-◌, ◌==◌, not, Bool, true, false, List, [], ◌∷◌, ◌++◌, length, take, drop, slice_get, Option, Some, None, Result, Ok, Err, codes, decimal}
 use Rattle.sc_meaning.specs.Behaviour.{Start, main_key}
 use Rattle.sc_meaning.specs.Versions.{Text, Callee, callee_of, Missing}
 use Rattle.sc_meaning.specs.World.{World, Frame}
@@ -25,10 +25,13 @@ use Rattle.sc_words.specs.declared.stop.Walk.TheVariants as walk
 use Rattle.sc_world.specs.declared.halt.Halt.{Halt}
 use Rattle.sc_world.specs.declared.halt.Halt.TheVariants as halt
 use Rattle.sc_world.specs.declared.post.Unsent.{Unsent}
+use Rattle.sc_world.specs.declared.post.Unsent.TheVariants as unsent
 use Rattle.sc_world.specs.Goes.{Goes, started}
 use Rattle.sc_world.specs.Meant.{IsRunOf}
 use Rattle.sc_world.specs.Sends.{SendsSome}
-use Rattle.sc_world.specs.Standing.{Standing, world_in, EndedSo}
+use Rattle.sc_world.specs.Standing.{Standing, world_in, world_of, EndedSo}
+use Rattle.sc_session.specs.declared.going.Lost.{Lost}
+use Rattle.sc_session.specs.declared.going.Lost.TheVariants as lost
 use Rattle.sc_session.specs.declared.input.Input.{Input}
 use Rattle.sc_session.specs.declared.input.Input.TheVariants as input
 use Rattle.sc_session.specs.declared.state.State.{State}
@@ -124,33 +127,66 @@ state_after halt.AtLine r = state.Stopped r
 state_after halt.Ended r = state.Ended
 state_after (halt.Paused turns) r = state.Paused r
 
+-- Where a go halts before the run is over, fewer than 4,096 of the bytes that the program wrote did not go out: this many were
+-- written before the go, and these went out in it.
+abbrev pub KeepsFew : Halt → ℕ → List ℕ → Option Standing → Type 0
+KeepsFew h before front r = h ≢ halt.Ended → (w : World) → world_in r ≡ Some w → length (output w.trail) < before + length front + 4096
+
 -- A go over these modules that halted: the run was the old one, and is the new one, which is a run of the same program if the old
--- one was.
-pub record Went (modules : List Text) (stops : List StopAt) (how : Walk) (turns : ℕ) (old : Option Standing) (text : List ℕ) (after : State) : Type 0 where
+-- one was. The first bytes went out in the go, and the text stands behind them.
+pub record Went (modules : List Text) (stops : List StopAt) (how : Walk) (turns : ℕ) (old : Option Standing) (front text : List ℕ) (after : State) : Type 0 where
   pub first : World
   pub stood : IsWorldOf old first
   pub stops_at : Halt
   pub new : Option Standing
   pub goes : Goes modules stops how turns old stops_at new
   pub meant : (s : Start) → IsRunOf s modules old → IsRunOf s modules new
-  pub told : Told (length (output first.trail)) stops_at new text
+  pub told : Told (length (output first.trail)) stops_at new (front ++ text)
+  pub few : KeepsFew stops_at (length (output first.trail)) front new
   pub follows : after ≡ state_after stops_at new
 
 -- the sink gained some bytes of which this is so
 abbrev pub Gains : Option (List ℕ) → Option (List ℕ) → (List ℕ → Type 0) → Type 0
 Gains old new P = (front : List ℕ) × Appends old new front × P front
 
--- An answer behind bytes that went out while the command was carried out, by what the answers may be: the bytes are the first of the
--- text that is told of a go; where no memory was left for that, they are the first that the program writes, or none; and before other answers
--- none go out.
-abbrev pub Behind : (Answer → Type 0) → (List ℕ → Type 0) → List ℕ → Answer → Type 0
-Behind Answers First front (answer.Ran text) = Answers (answer.Ran (front ++ text))
-Behind Answers First front answer.NoMemory = Answers answer.NoMemory × ((front ≡ []) ⊎ First front)
-Behind Answers First front said = Answers said × (front ≡ [])
+-- whether a line is open behind bytes; one was or was not before them
+abbrev pub in_line_by : Bool → Option ℕ → Bool
+in_line_by before None = before
+in_line_by before (Some b) = not (b == 10)
 
--- bytes that went out of a go of which nothing is told: its run is over, so that none of them goes out again
-abbrev pub WithRunOver : (List ℕ → Type 0) → Plain → List ℕ → Type 0
-WithRunOver First new front = First front × (new.state ≡ state.Ended)
+abbrev pub stays_in_line : Bool → List ℕ → Bool
+stays_in_line before bytes = in_line_by before (slice_get bytes (length bytes - 1))
+
+-- the session whose run is over, with nothing told of it behind these bytes, which went out
+abbrev pub cut_off : List ℕ → Plain → Plain
+cut_off front session = record session { state = state.Ended; in_line = stays_in_line session.in_line front }
+
+-- No memory was left: before the go, and all is as before; or in it, and these first bytes of what the program writes went out.
+abbrev pub IsCutOff : (List ℕ → Type 0) → Plain → List ℕ → Plain → Type 0
+IsCutOff First session front new = ((front ≡ []) × (new ≡ session)) ⊎ (First front × (new ≡ cut_off front session))
+
+-- an end says where the run stands
+abbrev pub is_told : Ended → Bool
+is_told ended.OutOfSteps = false
+is_told ended.NoRoom = false
+is_told _ = true
+
+-- it is known where a run stands
+abbrev pub IsKnown : Option Standing → Type 0
+IsKnown r = (m : Standing) × (r ≡ Some m)
+
+-- Nothing is told of a go: bytes were written before it, and went out up to a place. Where none went out the line is as it was; else the
+-- last of them says it, where they are known.
+abbrev pub IsUntold : ℕ → ℕ → Bool → Option Standing → Lost → Type 0
+IsUntold before sent within r (lost.NoMemory now) =
+    ((sent ≤ before) × (now ≡ within)) ⊎ ((m : Standing) × (r ≡ Some m) × (now ≡ stays_in_line within (drop before (take sent (output (world_of m.state).trail)))))
+IsUntold before sent within r (lost.Unsent unsent.NoMemory) = Unit {0}
+IsUntold before sent within r (lost.Unsent unsent.Failed) = ⊥
+
+-- Why nothing is told of a go: no memory was left, and a line is open or not behind what went out; or that could not be written.
+abbrev pub Loses : Option (List ℕ) → Option (List ℕ) → (List ℕ → Type 0) → Bool → Lost → Type 0
+Loses old new First before (lost.NoMemory now) = Gains old new (λ front. First front × (now ≡ stays_in_line before front))
+Loses old new First before (lost.Unsent e) = Gains old new First
 
 -- these are the first bytes that the program writes in a go: a sink that was empty could have just them
 abbrev pub IsFirstOf : List Text → List StopAt → Walk → ℕ → Option Standing → List ℕ → Type 0
@@ -169,29 +205,24 @@ IsGoing (state.Stopped r) = Unit {0}
 IsGoing (state.Paused r) = Unit {0}
 IsGoing state.Ended = ⊥
 
--- one go of a session from a run, with the text that answers it, and the session behind it
-abbrev pub GoesOn : Plain → Walk → Option Standing → List ℕ → Plain → Type 0
-GoesOn session how r text new =
-    (s : State) × Went session.modules (places session.stops) how session.limits.turns r text s × (new ≡ in_state s session)
-
--- where no memory was left, the run may have gone on, and is over then
-abbrev pub IsCutOff : Plain → Plain → Type 0
-IsCutOff session new = (new ≡ session) ⊎ (new ≡ in_state state.Ended session)
-
--- the answers to `step`, `next` and `cont`
-abbrev pub Walks : Plain → Walk → Answer → Plain → Type 0
-Walks session how (answer.Ran text) new = (r : Option Standing) × RunsIn session.state r × GoesOn session how r text new
-Walks session how answer.NoMemory new = IsCutOff session new
-Walks session how _ new = ⊥
+-- one go of a session from a run, with the text that answers it behind what went out, and the session behind it
+abbrev pub GoesOn : Plain → Walk → Option Standing → List ℕ → List ℕ → Plain → Type 0
+GoesOn session how r front text new =
+    (s : State) × Went session.modules (places session.stops) how session.limits.turns r front text s × (new ≡ in_state s session)
 
 -- the first bytes that the program writes as a session's run goes on so
 abbrev pub WalkFirst : Plain → Walk → List ℕ → Type 0
 WalkFirst session how front = (r : Option Standing) × RunsIn session.state r × IsFirstOf session.modules (places session.stops) how session.limits.turns r front
 
+-- the answers to `step`, `next` and `cont` behind these bytes, which went out
+abbrev pub Walks : Plain → Walk → List ℕ → Answer → Plain → Type 0
+Walks session how front (answer.Ran text) new = (r : Option Standing) × RunsIn session.state r × GoesOn session how r front text new
+Walks session how front answer.NoMemory new = IsCutOff (WalkFirst session how) session front new
+Walks session how front _ new = ⊥
+
 -- What comes of a go of a session's run: an answer behind what went out, or a write that failed.
 abbrev pub WalksOut : Option (List ℕ) → Option (List ℕ) → Plain → Walk → Result Answer Unsent → Plain → Type 0
-WalksOut sink gained session how (Ok said) new =
-    Gains sink gained (λ front. Behind (λ said. Walks session how said new) (WithRunOver (WalkFirst session how) new) front said)
+WalksOut sink gained session how (Ok said) new = Gains sink gained (λ front. Walks session how front said new)
 WalksOut sink gained session how (Err e) new = Gains sink gained (λ front. WalkFirst session how front)
 
 -- the run of a session's program from its start on
@@ -199,23 +230,22 @@ abbrev pub run_of : Plain → List ℕ → Option Standing
 run_of session bytes = Some (started session.modules session.limits.stack session.limits.heap bytes)
 
 -- a run with this input goes from its start on: it is one of the program that the modules are
-abbrev pub Begins : Plain → List ℕ → List ℕ → Plain → Type 0
-Begins session bytes text new =
+abbrev pub Begins : Plain → List ℕ → List ℕ → List ℕ → Plain → Type 0
+Begins session bytes front text new =
     IsRunOf (start_of session.modules session.limits.stack session.limits.heap bytes) session.modules (run_of session bytes)
-    × GoesOn session walk.Cont (run_of session bytes) text new
+    × GoesOn session walk.Cont (run_of session bytes) front text new
 
 -- the first bytes that it writes there
 abbrev pub BeginFirst : Plain → List ℕ → List ℕ → Type 0
 BeginFirst session bytes front = IsFirstOf session.modules (places session.stops) walk.Cont session.limits.turns (run_of session bytes) front
 
 -- what is answered as it goes from its start on
-abbrev pub BeginsSo : Plain → List ℕ → Answer → Plain → Type 0
-BeginsSo session bytes (answer.Ran text) new = Begins session bytes text new
-BeginsSo session bytes answer.NoMemory new = IsCutOff session new
-BeginsSo session bytes _ new = ⊥
+abbrev pub BeginsSo : Plain → List ℕ → List ℕ → Answer → Plain → Type 0
+BeginsSo session bytes front (answer.Ran text) new = Begins session bytes front text new
+BeginsSo session bytes front answer.NoMemory new = IsCutOff (BeginFirst session bytes) session front new
+BeginsSo session bytes front _ new = ⊥
 
 -- and what comes of it
 abbrev pub BeginsOut : Option (List ℕ) → Option (List ℕ) → Plain → List ℕ → Result Answer Unsent → Plain → Type 0
-BeginsOut sink gained session bytes (Ok said) new =
-    Gains sink gained (λ front. Behind (λ said. BeginsSo session bytes said new) (WithRunOver (BeginFirst session bytes) new) front said)
+BeginsOut sink gained session bytes (Ok said) new = Gains sink gained (λ front. BeginsSo session bytes front said new)
 BeginsOut sink gained session bytes (Err e) new = Gains sink gained (λ front. BeginFirst session bytes front)

@@ -21,5 +21,7 @@ pub record Plain : Type 0 where
   pub stops : List Stop
   pub last : ℕ
   pub state : State
+  -- whether the last byte that was written is a program's and no LF, so that an answer has to end its line first
+  pub in_line : Bool
   -- whether `quit` was accepted
   pub over : Bool

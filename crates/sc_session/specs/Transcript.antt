@@ -1,6 +1,6 @@
 -- Yardstick: to be compared with what it restates (docs/TRUST.md).
 -- What a session answers to each command, and the session behind it.
-use Rattle.std.specs.Prelude.{◌≡◌, ◌⊎◌, ℕ, ◌+◌, Bool, true, false, List, [], ◌++◌, Option, Some, None, Result, Ok, Err}
+use Rattle.std.specs.Prelude.{◌≡◌, ◌⊎◌, ℕ, ◌+◌, ◌&&◌, Bool, true, false, List, [], ◌++◌, Option, Some, None, Result, Ok, Err}
 use Rattle.sc_build.specs.Builds.{Builds, Refuses, IsMissing, IsTooLong, Asks}
 use Rattle.sc_build.specs.declared.building.Built.{Built}
 use Rattle.sc_outside.specs.Causes.{Rose}
@@ -24,7 +24,7 @@ use Rattle.sc_session.specs.States.{refusal_of}
 use Rattle.sc_session.specs.Loading.{file_of, file_or, conflict, numbers_with, with_module, in_place, without, scopes_in, with_scopes, scopes_in_place, scopes_without}
 use Rattle.sc_session.specs.Stopping.{Sets, without_stop}
 use Rattle.sc_session.specs.Showing.{Lists, ShowsCalls, ShowsValue}
-use Rattle.sc_session.specs.Going.{in_state, has_main, IsInput, InputDenied, IsCutOff, Behind, Gains, WithRunOver, Walks, WalkFirst, Begins, BeginFirst}
+use Rattle.sc_session.specs.Going.{in_state, has_main, IsInput, InputDenied, IsCutOff, Gains, Walks, WalkFirst, Begins, BeginFirst}
 
 -- A session between two commands, what the files hold then where they tell it, and how often they have failed.
 pub record Moment : Type 0 where
@@ -50,6 +50,7 @@ empty limits = record {
   stops = [];
   last = 0;
   state = state.Idle;
+  in_line = false;
   over = false;
 }
 
@@ -141,47 +142,50 @@ abbrev pub RunDenied : Moment → Option (List ℕ) → ℕ → Denied → Type 
 RunDenied old file faults denied.NoMain = has_main old.session.modules ≡ false
 RunDenied old file faults d = (has_main old.session.modules ≡ true) × InputDenied old.held file old.faults faults d
 
--- the answers to `run`
-abbrev pub Runs : Moment → Option (List ℕ) → Answer → Moment → Type 0
-Runs old file (answer.Ran text) new = (new.held ≡ old.held) × (has_main old.session.modules ≡ true)
-    × ((bytes : List ℕ) × IsInput old.held file bytes × Begins old.session bytes text new.session)
-Runs old file (answer.Refused d) new = Leaves old new old.session × RunDenied old file new.faults d
-Runs old file answer.NoMemory new = (new.held ≡ old.held) × IsCutOff old.session new.session
-Runs old file _ new = ⊥
-
 -- the first bytes that the program writes as it is run so
 abbrev pub RunFirst : Moment → Option (List ℕ) → List ℕ → Type 0
 RunFirst old file front = (has_main old.session.modules ≡ true) × ((bytes : List ℕ) × IsInput old.held file bytes × BeginFirst old.session bytes front)
 
+-- the answers to `run` behind these bytes, which went out
+abbrev pub Runs : Moment → Option (List ℕ) → List ℕ → Answer → Moment → Type 0
+Runs old file front (answer.Ran text) new = (new.held ≡ old.held) × (has_main old.session.modules ≡ true)
+    × ((bytes : List ℕ) × IsInput old.held file bytes × Begins old.session bytes front text new.session)
+Runs old file front (answer.Refused d) new = (front ≡ []) × Leaves old new old.session × RunDenied old file new.faults d
+Runs old file front answer.NoMemory new = (new.held ≡ old.held) × IsCutOff (RunFirst old file) old.session front new.session
+Runs old file front _ new = ⊥
+
 -- what comes of it
 abbrev pub RunsOut : Option (List ℕ) → Option (List ℕ) → Moment → Option (List ℕ) → Result Answer Unsent → Moment → Type 0
-RunsOut sink gained old file (Ok said) new =
-    Gains sink gained (λ front. Behind (λ said. Runs old file said new) (WithRunOver (RunFirst old file) new.session) front said)
+RunsOut sink gained old file (Ok said) new = Gains sink gained (λ front. Runs old file front said new)
 RunsOut sink gained old file (Err e) new = Gains sink gained (λ front. RunFirst old file front)
 
 -- a command that looks at no file
 abbrev pub SameFiles : Moment → Moment → Type 0
 SameFiles old new = (new.held ≡ old.held) × (new.faults ≡ old.faults)
 
--- The answer to a command that is not refused before it is carried out, and the session after it.
-abbrev pub Carried : Moment → Command → Answer → Moment → Type 0
-Carried old command.Nothing said new = (said ≡ answer.Silent) × (new ≡ old)
-Carried old command.Unknown said new = ⊥
-Carried old command.BadArguments said new = ⊥
-Carried old (command.Load name) said new = Loads old name (file_of name) said new
-Carried old (command.Unload name) said new = (said ≡ answer.Unloaded name) × (new.session ≡ unloaded old.session name) × SameFiles old new
-Carried old (command.Edit name file) said new = Edits old name (file_or name file) said new
-Carried old (command.Run file) said new = Runs old file said new
-Carried old (command.Stop p) said new = Sets old.session p said new.session × SameFiles old new
-Carried old (command.Delete k) said new = (said ≡ answer.Deleted k) × (new.session ≡ without_stop k old.session) × SameFiles old new
-Carried old command.Step said new = Walks old.session walk.Step said new.session × SameFiles old new
-Carried old command.Next said new = Walks old.session walk.Next said new.session × SameFiles old new
-Carried old command.Cont said new = Walks old.session walk.Cont said new.session × SameFiles old new
-Carried old command.Frames said new = ShowsCalls old.session said × (new ≡ old)
-Carried old (command.Print name) said new = ShowsValue old.session name said × (new ≡ old)
-Carried old command.List said new = Lists old.session said × (new ≡ old)
-Carried old command.Reset said new = (said ≡ answer.Reset) × (new.session ≡ in_state state.Idle old.session) × SameFiles old new
-Carried old command.Quit said new = (said ≡ answer.Bye) × (new.session ≡ record old.session { over = true }) × SameFiles old new
+-- The answer to a command that is not refused before it is carried out and lets no program go on, and the session after it.
+abbrev pub Does : Moment → Command → Answer → Moment → Type 0
+Does old command.Nothing said new = (said ≡ answer.Silent) × (new ≡ old)
+Does old (command.Load name) said new = Loads old name (file_of name) said new
+Does old (command.Unload name) said new = (said ≡ answer.Unloaded name) × (new.session ≡ unloaded old.session name) × SameFiles old new
+Does old (command.Edit name file) said new = Edits old name (file_or name file) said new
+Does old (command.Stop p) said new = Sets old.session p said new.session × SameFiles old new
+Does old (command.Delete k) said new = (said ≡ answer.Deleted k) × (new.session ≡ without_stop k old.session) × SameFiles old new
+Does old command.Frames said new = ShowsCalls old.session said × (new ≡ old)
+Does old (command.Print name) said new = ShowsValue old.session name said × (new ≡ old)
+Does old command.List said new = Lists old.session said × (new ≡ old)
+Does old command.Reset said new = (said ≡ answer.Reset) × (new.session ≡ in_state state.Idle old.session) × SameFiles old new
+Does old command.Quit said new = (said ≡ answer.Bye) × (new.session ≡ record old.session { over = true }) × SameFiles old new
+Does old _ said new = ⊥
+
+-- The answer to a command that is not refused before it is carried out, behind the bytes of the program that went out meanwhile, and
+-- the session after it.
+abbrev pub Carried : Moment → Command → List ℕ → Answer → Moment → Type 0
+Carried old (command.Run file) front said new = Runs old file front said new
+Carried old command.Step front said new = Walks old.session walk.Step front said new.session × SameFiles old new
+Carried old command.Next front said new = Walks old.session walk.Next front said new.session × SameFiles old new
+Carried old command.Cont front said new = Walks old.session walk.Cont front said new.session × SameFiles old new
+Carried old c front said new = (front ≡ []) × Does old c said new
 
 -- a run that ended is forgotten as another is asked for
 abbrev pub unended : State → State
@@ -193,14 +197,14 @@ asked (command.Run file) session = in_state (unended session.state) session
 asked _ session = session
 
 -- a refused command leaves the session, and the files are not looked at
-abbrev pub Decides : Option Denied → Moment → Command → Answer → Moment → Type 0
-Decides (Some d) old c said new = (said ≡ answer.Refused d) × (new ≡ old)
-Decides None old c said new = Carried old c said new
+abbrev pub Decides : Option Denied → Moment → Command → List ℕ → Answer → Moment → Type 0
+Decides (Some d) old c front said new = (front ≡ []) × (said ≡ answer.Refused d) × (new ≡ old)
+Decides None old c front said new = Carried old c front said new
 
--- The answer to a command of a session that is not over, and the session after it.
-abbrev pub AnswersTo : Moment → Command → Answer → Moment → Type 0
-AnswersTo old c said new =
-    Decides (refusal_of (asked c old.session) c) (moment (asked c old.session) old.held old.faults) c said new
+-- The answer to a command of a session that is not over, behind the bytes of the program that went out meanwhile, and the session after it.
+abbrev pub AnswersTo : Moment → Command → List ℕ → Answer → Moment → Type 0
+AnswersTo old c front said new =
+    Decides (refusal_of (asked c old.session) c) (moment (asked c old.session) old.held old.faults) c front said new
 
 -- a command that lets the program go on
 abbrev pub is_go : Command → Bool
@@ -220,22 +224,26 @@ WritesFirst old _ front = ⊥
 
 -- what comes of one that is not refused
 abbrev pub GoesOut : Option (List ℕ) → Option (List ℕ) → Moment → Command → Result Answer Unsent → Moment → Type 0
-GoesOut sink gained old c (Ok said) new =
-    Gains sink gained (λ front. Behind (λ said. Carried old c said new) (WithRunOver (WritesFirst old c) new.session) front said)
+GoesOut sink gained old c (Ok said) new = Gains sink gained (λ front. Carried old c front said new)
 GoesOut sink gained old c (Err e) new = Gains sink gained (λ front. WritesFirst old c front)
 
 -- a refused command lets no program go on
 abbrev pub GoFirst : Moment → Command → List ℕ → Type 0
 GoFirst old c front = (refusal_of (asked c old.session) c ≡ None) × WritesFirst old c front
 
--- the answer behind bytes that went out while the command was carried out
-abbrev pub SaysBehind : Moment → Command → List ℕ → Answer → Moment → Type 0
-SaysBehind old c front said new = Behind (λ said. AnswersTo old c said new) (WithRunOver (GoFirst old c) new.session) front said
-
--- A command that lets no program go on sends nothing.
+-- The answer behind what the sink gained meanwhile. A command that lets no program go on sends nothing.
 abbrev pub Speaks : Option (List ℕ) → Option (List ℕ) → Moment → Command → Answer → Moment → Type 0
-Speaks sink gained old c said new = Gains sink gained (λ front. SaysBehind old c front said new × (is_go c ≡ false → front ≡ []))
+Speaks sink gained old c said new = Gains sink gained (λ front. AnswersTo old c front said new × (is_go c ≡ false → front ≡ []))
 
 -- The program's bytes could not be written: the sink has the first of them.
 abbrev pub BreaksOff : Option (List ℕ) → Option (List ℕ) → Moment → Command → Type 0
 BreaksOff sink gained old c = Gains sink gained (λ front. GoFirst old c front)
+
+-- nothing is answered
+abbrev pub is_silent : Answer → Bool
+is_silent answer.Silent = true
+is_silent _ = false
+
+-- the session behind an answer that was given: each answer ends its line
+abbrev pub told : Answer → Plain → Plain
+told said session = record session { in_line = session.in_line && is_silent said }

@@ -1,5 +1,5 @@
 // A run of a session goes on.
-ghost use Rattle.std.specs.Prelude.{◌≡◌, ◌≤◌, ◌++◌, ℕ, List, drop, Err, Some, IfOk, OnErr, codes, decimal};
+ghost use Rattle.std.specs.Prelude.{◌≡◌, ◌≤◌, ◌++◌, ℕ, List, drop, take, true, Err, Some, IfErr, IfOk, codes, decimal};
 ghost use Rattle.sc_meaning.specs.Behaviour.{main_key};
 ghost use Rattle.sc_meaning.specs.Versions.{callee_of};
 ghost use Rattle.sc_outside.specs.Causes.{Rose};
@@ -189,14 +189,74 @@ fn state_after(halt: Halt, run: Run) -> State
     }
 }
 
-/// Why nothing is told of a go: no memory was left, or what the program wrote did not go out.
+/// Why nothing is told of a go: no memory was left, and a line is open or not behind what the program wrote; or that did not
+/// go out.
 #[derive(Clone, Copy)]
 pub enum Lost {
-    NoMemory,
+    NoMemory(bool),
     Unsent(Unsent),
 }
 
-/// One go of a run: what is told of it behind what it sent, and the state behind it.
+// Whether a line is open behind bytes; one was or was not before them.
+fn stays_in_line(before: bool, bytes: &[u8]) -> bool
+    ensures { result ≡ spec.stays_in_line before bytes.now }
+{
+    match bytes.last() {
+        None => before,
+        Some(b) => *b != 10,
+    }
+}
+
+// Bytes from one place up to another.
+fn between(bytes: &[u8], from: usize, to: usize) -> &[u8]
+    ensures { result.now ≡ drop from (take to bytes.now) }
+{
+    if to >= bytes.len() {
+        return behind(bytes, from);
+    }
+    let (first, _) = bytes.split_at(to);
+    behind(first, from)
+}
+
+// Whether an end says where the run stands.
+fn is_told(ended: &Ended) -> bool
+    ensures { result ≡ spec.is_told ended.now }
+{
+    match ended {
+        Ended::OutOfSteps => false,
+        Ended::NoRoom => false,
+        Ended::Exit(_) => true,
+        Ended::Undefined(_) => true,
+        Ended::StackFull(_) => true,
+        Ended::BirthLimit => true,
+    }
+}
+
+// Whether it is known where a run stands.
+fn is_known(run: &Run) -> bool
+    ensures { result ≡ true → spec.IsKnown run.now }
+{
+    match run.end() {
+        None => true,
+        Some(ended) => is_told(ended),
+    }
+}
+
+// Nothing is told of a go that halted so. Where bytes of a run went out of which nothing is known, no answer can stand behind them.
+fn untold(before: usize, halted: Halted, run: &Run, within: bool) -> Lost
+    ensures { spec.IsUntold before halted.sent within run.now result }
+{
+    if halted.sent <= before {
+        return Lost::NoMemory(within);
+    }
+    if !is_known(run) {
+        return Lost::Unsent(Unsent::NoMemory);
+    }
+    let sent = between(run.world().output(), before, halted.sent);
+    Lost::NoMemory(stays_in_line(within, sent))
+}
+
+/// One go of a run: what is told of it behind what it sent, and the state behind it. A line was open before it, or not.
 ///
 /// # Errors
 ///
@@ -207,11 +267,12 @@ pub fn gone<K: Sink>(
     stops: &[StopAt],
     walk: Walk,
     turns: u64,
+    within: bool,
     mut run: Run,
     out: &mut K,
 ) -> Result<Told, Lost>
-    ensures went { IfOk result (λ g. spec.Gains (K.written out.old) (K.written out.new) (λ front. spec.Went texts.now stops.now walk turns run (front ++ g.text) g.state)) }
-    ensures lost { OnErr result (spec.Gains (K.written out.old) (K.written out.new) (λ front. spec.IsFirstOf texts.now stops.now walk turns run front)) }
+    ensures went { IfOk result (λ g. spec.Gains (K.written out.old) (K.written out.new) (λ front. spec.Went texts.now stops.now walk turns run front g.text g.state)) }
+    ensures lost { IfErr result (λ l. spec.Loses (K.written out.old) (K.written out.new) (λ front. spec.IsFirstOf texts.now stops.now walk turns run front) within l) }
     ensures later { K.faults out.old ≤ K.faults out.new }
     ensures failed { result ≡ Err (lost.Unsent unsent.Failed) → Rose (K.faults out.old) (K.faults out.new) }
 {
@@ -223,8 +284,9 @@ pub fn gone<K: Sink>(
                 state: state_after(halted.halt, run),
             }),
             Err(_) => {
+                let lost = untold(before, halted, &run, within);
                 drop(run);
-                Err(Lost::NoMemory)
+                Err(lost)
             }
         },
         Err(unsent) => {

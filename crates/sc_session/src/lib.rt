@@ -13,4 +13,4 @@ mod state;
 mod stops;
 
 pub use sc_world::Unsent;
-pub use session::{Session, is_go};
+pub use session::{Session, is_go, is_silent};

@@ -13,7 +13,7 @@ ghost use Rattle.sc_session.specs.Showing as showing;
 ghost use Rattle.sc_session.specs.States.{refusal_of};
 ghost use Rattle.sc_session.specs.Stopping as stopping;
 ghost use Rattle.sc_session.specs.Transcript as spec;
-ghost use Rattle.sc_session.specs.Transcript.{moment, BreaksOff, Carried, Speaks};
+ghost use Rattle.sc_session.specs.Transcript.{moment, BreaksOff, Does, Speaks};
 ghost use Rattle.sc_world.specs.declared.post.Unsent.TheVariants as unsent;
 
 use crate::going::{Lost, gone, has_main, run_in, run_out_of};
@@ -48,6 +48,7 @@ pub struct Session {
     stops: Vec<Stop>,
     last: u32,
     state: State,
+    in_line: bool,
     over: bool,
 }
 
@@ -63,7 +64,7 @@ impl Model for Session {
 
     ghost coded = { Prim.hlevel (codes, types.the_row.coded, signatures.the_row.coded, expressions.the_row.coded, statements.the_row.coded) };
 
-    ghost view = { λ s. record { limits = s.limits; modules = s.texts.items; loaded = s.loaded; scopes = s.scopes.items; numbers = s.numbers; stops = s.stops.items; last = s.last; state = s.state; over = s.over } };
+    ghost view = { λ s. record { limits = s.limits; modules = s.texts.items; loaded = s.loaded; scopes = s.scopes.items; numbers = s.numbers; stops = s.stops.items; last = s.last; state = s.state; in_line = s.in_line; over = s.over } };
 }
 
 impl Session {
@@ -84,6 +85,7 @@ impl Session {
             stops: Vec::new(alloc),
             last: 0,
             state: State::Idle,
+            in_line: false,
             over: false,
         }
     }
@@ -93,6 +95,20 @@ impl Session {
         ensures { result ≡ self.now.over }
     {
         self.over
+    }
+
+    /// Whether a line of the program is open, so that an answer has to end it first.
+    pub fn is_in_line(&self) -> bool
+        ensures { result ≡ self.now.in_line }
+    {
+        self.in_line
+    }
+
+    /// An answer was given: no line is open behind it. A command without an answer leaves all as it is.
+    pub fn tell(&mut self, said: &Answer)
+        ensures { self.new ≡ spec.told said.now self.old }
+    {
+        self.in_line = self.in_line && is_silent(said);
     }
 
     /// Lets the session go, with all that it holds.
@@ -180,12 +196,12 @@ impl Session {
         }
     }
 
-    // Carries out a command that is not refused, and lets no program go on.
+    // Carries out a command that is not refused and lets no program go on.
     fn carry<F: Files>(&mut self, alloc: Global, command: Command, files: &mut F) -> Answer
         requires named { IsNamed command }
         requires allowed { refusal_of self.old command ≡ None }
         requires quiet { spec.is_go command ≡ false }
-        ensures step { Carried (moment self.old (F.held files.old) (F.faults files.old)) command result (moment self.new (F.held files.new) (F.faults files.new)) }
+        ensures step { Does (moment self.old (F.held files.old) (F.faults files.old)) command result (moment self.new (F.held files.new) (F.faults files.new)) }
         ensures later { F.faults files.old ≤ F.faults files.new }
         ensures held { F.held files.new ≡ F.held files.old }
     {
@@ -360,6 +376,7 @@ impl Session {
             stops.as_slice(),
             walk,
             self.limits.turns,
+            self.in_line,
             run,
             out,
         ) {
@@ -367,8 +384,13 @@ impl Session {
                 put_state(&mut self.state, told.state);
                 Ok(Answer::Ran(told.text))
             }
-            Err(Lost::NoMemory) => Ok(Answer::NoMemory),
-            Err(Lost::Unsent(unsent)) => Err(unsent),
+            Err(lost) => match lost {
+                Lost::NoMemory(within) => {
+                    self.in_line = within;
+                    Ok(Answer::NoMemory)
+                }
+                Lost::Unsent(unsent) => Err(unsent),
+            },
         }
     }
 
@@ -442,6 +464,7 @@ impl Session {
             stops.as_slice(),
             Walk::Cont,
             self.limits.turns,
+            self.in_line,
             run,
             out,
         ) {
@@ -449,8 +472,13 @@ impl Session {
                 put_state(&mut self.state, told.state);
                 Ok(Answer::Ran(told.text))
             }
-            Err(Lost::NoMemory) => Ok(Answer::NoMemory),
-            Err(Lost::Unsent(unsent)) => Err(unsent),
+            Err(lost) => match lost {
+                Lost::NoMemory(within) => {
+                    self.in_line = within;
+                    Ok(Answer::NoMemory)
+                }
+                Lost::Unsent(unsent) => Err(unsent),
+            },
         }
     }
 
@@ -609,6 +637,13 @@ pub fn is_go(command: &Command) -> bool
         command,
         Command::Run(_) | Command::Step | Command::Next | Command::Cont
     )
+}
+
+/// Whether nothing is answered.
+pub fn is_silent(said: &Answer) -> bool
+    ensures { result ≡ spec.is_silent said.now }
+{
+    matches!(said, Answer::Silent)
 }
 
 // The file of a module.

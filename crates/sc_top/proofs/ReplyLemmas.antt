@@ -7,49 +7,19 @@ use Rattle.sc_outside.specs.Causes.{Rose}
 use Rattle.sc_outside.specs.Streams.{Writes, AppendsSome}
 use Rattle.sc_outside.specs.declared.sink.Sent.{Sent}
 use Rattle.sc_outside.specs.declared.sink.Sent.TheVariants as sent
-use Rattle.sc_session.specs.Transcript.{Moment, AnswersTo, SaysBehind, Speaks, BreaksOff, GoFirst, WritesFirst, is_go}
+use Rattle.sc_session.specs.Transcript.{Moment, Speaks, BreaksOff, GoFirst, WritesFirst, is_go}
 use Rattle.sc_words.specs.Commands.{command_of}
-use Rattle.sc_words.specs.Texts.{text_of}
 use Rattle.sc_words.specs.declared.answer.Answer.{Answer}
 use Rattle.sc_words.specs.declared.answer.Answer.TheVariants as answer
 use Rattle.sc_words.specs.declared.command.Command.{Command}
 use Rattle.sc_words.specs.declared.command.Command.TheVariants as command
-use Rattle.sc_top.specs.Transcript.{Replies, Answers, IsBefore}
+use Rattle.sc_top.specs.Transcript.{IsUnread, line_of, behind as after_answer}
 use Rattle.sc_top.specs.Sessions.{AnswersLine, LineAnswered, Replied, Sends, Unreplied, progress_of}
 use Rattle.sc_top.specs.declared.line.Progress.TheVariants as progress
 use Rattle.sc_world.specs.declared.post.Unsent.{Unsent}
 use Rattle.sc_top.specs.Waiting.{IsOnItsWay, IsPartlyOnItsWay, Posts}
 use Rattle.sc_top.proofs.RunLemmas.{replied}
-use Rattle.sc_top.proofs.WaitingLemmas.{appends_more, appends_none, waits_all, partly, partly-writes, behind, on_its_way, partly_on_its_way}
-
-module _ (old new : Moment) (line : List ℕ) (later : old.faults ≤ new.faults) where
-  -- an answer with nothing before it, and one that has the first of its text before it
-  plain : (said : Answer) (front : List ℕ) → IsBefore old (command_of line) said [] new → Replies old line said new → front ≡ [] → Answers old line (front ++ text_of said) new
-  plain said front before replies none =
-      subst (λ f. Answers old line (f ++ text_of said) new) (sym none)
-      (record { front = []; said = said; replies = replies; before = before; text = refl; later = later })
-
-  module _ (is : (said : Answer) → AnswersTo old (command_of line) said new → Replies old line said new) where
-    pub says : (front : List ℕ) (said : Answer) → SaysBehind old (command_of line) front said new → Answers old line (front ++ text_of said) new
-    says front answer.Silent p = plain answer.Silent front refl (is answer.Silent p.0) p.1
-    says front (answer.Loaded name) p = plain (answer.Loaded name) front refl (is (answer.Loaded name) p.0) p.1
-    says front (answer.Unloaded name) p = plain (answer.Unloaded name) front refl (is (answer.Unloaded name) p.0) p.1
-    says front (answer.Edited name) p = plain (answer.Edited name) front refl (is (answer.Edited name) p.0) p.1
-    says front (answer.StopSet k place) p = plain (answer.StopSet k place) front refl (is (answer.StopSet k place) p.0) p.1
-    says front (answer.Deleted k) p = plain (answer.Deleted k) front refl (is (answer.Deleted k) p.0) p.1
-    says front (answer.Ran text) p =
-        record { front = []; said = answer.Ran (front ++ text); replies = is (answer.Ran (front ++ text)) p; before = refl; text = refl; later = later }
-    says front (answer.Shown lines) p = plain (answer.Shown lines) front refl (is (answer.Shown lines) p.0) p.1
-    says front answer.Reset p = plain answer.Reset front refl (is answer.Reset p.0) p.1
-    says front answer.Bye p = plain answer.Bye front refl (is answer.Bye p.0) p.1
-    says front (answer.Refused d) p = plain (answer.Refused d) front refl (is (answer.Refused d) p.0) p.1
-    says front answer.NoMemory p =
-        record { front = front; said = answer.NoMemory; replies = is answer.NoMemory p.0; before = p.1; text = refl; later = later }
-
--- what was read is the command of the line
-said_so : (old new : Moment) (line : List ℕ) (c : Command) (said : Answer) (front : List ℕ) → c ≡ command_of line → old.faults ≤ new.faults → SaysBehind old c front said new → Answers old line (front ++ text_of said) new
-said_so old new line c said front is later p =
-    says old new line later (λ said q. replied old new line (command_of line) said refl q) front said (subst (λ c. SaysBehind old c front said new) is p)
+use Rattle.sc_top.proofs.WaitingLemmas.{appends_more, appends_none, partly, partly_more, partly-writes, behind, on_its_way, partly_on_its_way}
 
 -- what waited is written, and then the first of the answer
 through : (old mid new : Option (List ℕ)) (waited front : List ℕ) → Appends old mid waited → Appends mid new front → IsOnItsWay old new [] (waited ++ front)
@@ -61,15 +31,14 @@ still old new waited front none p =
 
 pub replies_through : (before after : Moment) (line : List ℕ) (c : Command) (said : Answer) (old mid new : Option (List ℕ)) (waited waiting : List ℕ) → c ≡ command_of line → before.faults ≤ after.faults → waiting ≡ [] → Appends old mid waited → Speaks mid new before c said after → Replied before line said after old new waited waiting
 replies_through before after line c said old mid new waited waiting is later none p (front, gains, (told, quiet)) =
-    (front, said_so before after line c said front is later told, subst (λ r. IsOnItsWay old new r (waited ++ front)) (sym none) (through old mid new waited front p gains))
+    (front, replied before after line c front said is told, later, subst (λ r. IsOnItsWay old new r (waited ++ front)) (sym none) (through old mid new waited front p gains))
 
 pub replies_still : (before after : Moment) (line : List ℕ) (c : Command) (said : Answer) (old new : Option (List ℕ)) (waited : List ℕ) → c ≡ command_of line → before.faults ≤ after.faults → is_go c ≡ false → Speaks old new before c said after → Replied before line said after old new waited waited
 replies_still before after line c said old new waited is later still_there (front, gains, (told, quiet)) =
-    (front, said_so before after line c said front is later told, still old new waited front (quiet still_there) gains)
+    (front, replied before after line c front said is told, later, still old new waited front (quiet still_there) gains)
 
-pub unread : (before : Moment) (line : List ℕ) (known : Option (List ℕ)) (waited : List ℕ) → before.faults ≤ before.faults → Replies before line answer.NoMemory before → Replied before line answer.NoMemory before known known waited waited
-unread before line known waited later replies =
-    ([], plain before before line later answer.NoMemory [] (inl refl) replies refl, still known known waited [] refl (appends_none known))
+pub unread : (before : Moment) (line : List ℕ) (known : Option (List ℕ)) (waited : List ℕ) → before.faults ≤ before.faults → IsUnread before (command_of line) answer.NoMemory before → Replied before line answer.NoMemory before known known waited waited
+unread before line known waited later is = ([], inr (refl, is), later, still known known waited [] refl (appends_none known))
 
 -- a command that lets no program go on is not broken off
 no_go : (old : Moment) (c : Command) (front : List ℕ) → is_go c ≡ false → WritesFirst old c front → ⊥
@@ -116,10 +85,17 @@ replies_behind before after line c (Ok said) old mid new waited waiting is later
 replies_behind before after line c (Err e) old mid new waited waiting is later none p q = breaks_through before line c old mid new waited waiting is none p q
 
 -- an answer that was sent
-posts_behind : (s : Sent) (old mid new : Option (List ℕ)) (waited waiting text more : List ℕ) → IsOnItsWay old mid waited text → Posts mid new waiting s (waited ++ more) → Posts old new waiting s (text ++ more)
+pub posts_behind : (s : Sent) (old mid new : Option (List ℕ)) (waited waiting text more : List ℕ) → IsOnItsWay old mid waited text → Posts mid new waiting s (waited ++ more) → Posts old new waiting s (text ++ more)
 posts_behind sent.Done old mid new waited waiting text more p q = on_its_way old mid new (waited ++ more) waiting (text ++ more) (behind old mid waited text more p) q
 posts_behind sent.Failed old mid new waited waiting text more p q = partly_on_its_way old mid new (waited ++ more) waiting (text ++ more) (behind old mid waited text more p) q
 posts_behind sent.NoMemory old mid new waited waiting text more p q = partly_on_its_way old mid new (waited ++ more) waiting (text ++ more) (behind old mid waited text more p) q
+
+-- two texts, one behind the other
+pub put_both : (s : Sent) (old mid new : Option (List ℕ)) (waited first waiting end text : List ℕ) → IsOnItsWay old mid first (waited ++ end) → Posts mid new waiting s (first ++ text) → Posts old new waiting s (waited ++ (end ++ text))
+put_both s old mid new waited first waiting end text p q = subst (Posts old new waiting s) (append_assoc waited end text) (posts_behind s old mid new first waiting (waited ++ end) text p q)
+
+pub put_first : (old new : Option (List ℕ)) (waited waiting end text : List ℕ) → IsPartlyOnItsWay old new waiting (waited ++ end) → IsPartlyOnItsWay old new waiting (waited ++ (end ++ text))
+put_first old new waited waiting end text p = subst (IsPartlyOnItsWay old new waiting) (append_assoc waited end text) (partly_more old new waiting (waited ++ end) text p)
 
 sends_of : (s : Sent) (over : Bool) (old new : Option (List ℕ)) (waiting text : List ℕ) → Posts old new waiting s text → Sends (progress_of s over) over old new waiting text
 sends_of sent.Done true old new waiting text p = (refl, p)
@@ -127,16 +103,18 @@ sends_of sent.Done false old new waiting text p = (refl, p)
 sends_of sent.Failed over old new waiting text p = p
 sends_of sent.NoMemory over old new waiting text p = p
 
-pub line_answered : (before after : Moment) (line : List ℕ) (said : Answer) (s : Sent) (over : Bool) (old mid new : Option (List ℕ)) (waited first waiting : List ℕ)
-    → over ≡ after.session.over → Replied before line said after old mid waited first → Posts mid new waiting s (first ++ text_of said)
+pub line_answered : (before mid after : Moment) (line : List ℕ) (said : Answer) (s : Sent) (within over : Bool) (old through new : Option (List ℕ)) (waited first waiting : List ℕ)
+    → within ≡ mid.session.in_line → after ≡ after_answer said mid → over ≡ after.session.over → Replied before line said mid old through waited first → Posts through new waiting s (first ++ line_of within said)
     → AnswersLine before line after old new waited waiting (progress_of s over)
-line_answered before after line said s over old mid new waited first waiting is (front, answers, on) posts =
-    let all : Posts old new waiting s (waited ++ (front ++ text_of said)) =
-    subst (Posts old new waiting s) (append_assoc waited front (text_of said)) (posts_behind s old mid new first waiting (waited ++ front) (text_of said) on posts) in
+line_answered before mid after line said s within over old through new waited first waiting at is ends (front, replies, later, on) posts =
+    let whole : List ℕ = front ++ line_of mid.session.in_line said in
+    let here : Posts through new waiting s (first ++ line_of mid.session.in_line said) = subst (λ o. Posts through new waiting s (first ++ line_of o said)) at posts in
+    let all : Posts old new waiting s (waited ++ whole) =
+    subst (Posts old new waiting s) (append_assoc waited front (line_of mid.session.in_line said)) (posts_behind s old through new first waiting (waited ++ front) (line_of mid.session.in_line said) on here) in
     inl (record {
-      text = front ++ text_of said;
-      answers = answers;
-      sends = subst (λ b. Sends (progress_of s over) b old new waiting (waited ++ (front ++ text_of said))) is (sends_of s over old new waiting (waited ++ (front ++ text_of said)) all);
+      text = whole;
+      answers = record { front = front; said = said; mid = mid; replies = replies; text = refl; after = is; later = subst (λ (m : Moment). before.faults ≤ m.faults) (sym is) later };
+      sends = subst (λ b. Sends (progress_of s over) b old new waiting (waited ++ whole)) ends (sends_of s over old new waiting (waited ++ whole) all);
     })
 
 -- why an answer was not written

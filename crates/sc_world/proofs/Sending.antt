@@ -140,8 +140,7 @@ posts_cut old mid new from to want texts first g x cs w c onto posted some =
 -- what a go leaves
 pub leaves_sends : (old new : Option (List ℕ)) (want : Want) (texts : List Text) (m : Standing) (from sent : ℕ) (halt : Halt) (after : Option Standing) → from ≡ length (written m) → Leaves (gone want.turns want texts m) halt after → Posted old new from sent (written (gone want.turns want texts m).1) → SendsTo old new want texts m sent after
 leaves_sends old new want texts m from sent halt None is p posted =
-    subst (λ n. PostedSome old new n (written (gone want.turns want texts m).1)) is
-    (posted_some old new from sent (written (gone want.turns want texts m).1) posted)
+    subst (λ n. Posted old new n sent (written (gone want.turns want texts m).1)) is posted
 leaves_sends old new want texts m from sent halt (Some n) is p posted =
     let last : Standing = (gone want.turns want texts m).1 in
     subst (λ k. Posted old new k sent (written n)) is
@@ -191,7 +190,8 @@ over_sends known texts stops walk turns sent w c (Some e) there is = posts_first
 -- what a go posted is the first of what the program writes in it
 pub sends_some : (old new : Option (List ℕ)) (texts : List Text) (stops : List StopAt) (walk : Walk) (turns sent : ℕ) (r after : Option Standing) (halt : Halt) → Goes texts stops walk turns r halt after → Sends old new texts stops walk turns r sent after → SendsSome old new texts stops walk turns r
 sends_some old new texts stops walk turns sent None after halt p q = q
-sends_some old new texts stops walk turns sent (Some m) None halt p q = q
+sends_some old new texts stops walk turns sent (Some m) None halt p q =
+    posted_some old new (length (written m)) sent (written (gone turns (want_of stops walk turns m) texts m).1) q
 sends_some old new texts stops walk turns sent (Some m) (Some n) halt p q =
     let last : Standing = (gone turns (want_of stops walk turns m) texts m).1 in
     subst (PostedSome old new (length (written m))) (ap written (sym p.1) ∙ status_output last.state) (posted_some old new (length (written m)) sent (written n) q)

@@ -21,9 +21,9 @@ written m = output (world_of m.state).trail
 abbrev pub SendsFirst : Option (List ℕ) → Option (List ℕ) → Want → List Text → Standing → Type 0
 SendsFirst old new want texts m = PostedSome old new (length (written m)) (written (gone want.turns want texts m).1)
 
--- A go posted what the program wrote in it, up to some place. Where no room was left for the run, nothing is known of the rest.
+-- A go posted what the program wrote in it, up to some place. Where no room was left for the run, nothing else is known of it.
 abbrev pub SendsTo : Option (List ℕ) → Option (List ℕ) → Want → List Text → Standing → ℕ → Option Standing → Type 0
-SendsTo old new want texts m sent None = SendsFirst old new want texts m
+SendsTo old new want texts m sent None = Posted old new (length (written m)) sent (written (gone want.turns want texts m).1)
 SendsTo old new want texts m sent (Some n) = Posted old new (length (written m)) sent (written n)
 
 -- the same of a run; one for which no room was left before writes nothing

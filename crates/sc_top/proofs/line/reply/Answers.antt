@@ -1,4 +1,4 @@
-use Rattle.std.proofs.Common.{inr, refl, arith, ◌∙◌, sym}
+use Rattle.std.proofs.Common.{refl, arith, ◌∙◌, sym}
 use Rattle.sc_outside.specs.declared.sink.Sent.TheVariants as sent
 use Rattle.sc_session.specs.Transcript.{moment}
 use Rattle.sc_top.proofs.ReplyLemmas.{replies_so, replies_behind, unread, unflushed}
@@ -7,7 +7,7 @@ use Rattle.sc_top.proofs.line.reply.Goals as goal
 pub returns-in-Err-clause-replies : goal.returns-in-Err-clause-replies
 returns-in-Err-clause-replies g c =
     unread (moment c.args.session.now (g.F.Files.held c.args.files.now) (g.F.Files.faults c.args.files.now)) c.args.line.now (g.K.Sink.written c.args.out.now) c.args.outbox.now
-    (omega arith) (inr (c.in-Err.ensures.no_memory, refl, refl))
+    (omega arith) (c.in-Err.ensures.no_memory, refl, refl)
 
 pub returns-then-not-is_go-clause-replies : goal.returns-then-not-is_go-clause-replies
 returns-then-not-is_go-clause-replies g c =

@@ -1,7 +1,7 @@
 use Rattle.std.proofs.Common.{refl, ap, ◌∙◌}
 use Rattle.sc_session.specs.Going.{in_state}
 use Rattle.sc_session.specs.Stopping.{places}
-use Rattle.sc_session.proofs.SendingLemmas.{begin_told, begin_first, begin_lost, begin_unbegun}
+use Rattle.sc_session.proofs.SendingLemmas.{begin_told, begin_first, begin_lost, begin_unbegun, lost_memory, lost_write}
 use Rattle.sc_session.proofs.session.Session.start.Goals as goal
 
 pub returns-in_default-clause-begins : goal.returns-in_default-clause-begins
@@ -23,18 +23,17 @@ returns-in-Ok-gone-clause-begins g c =
     c.in-Ok-start.ensures.starts c.in-Ok-start.ensures.meant c.in-Ok-gone.ensures.went
     c.put_state-in-Ok-gone.ensures (ap (in_state c.put_state-in-Ok-gone.new.place) c.self.view_is)
 
-pub returns-in-Err-NoMemory-clause-begins : goal.returns-in-Err-NoMemory-clause-begins
-returns-in-Err-NoMemory-clause-begins g c =
-    begin_lost (g.K.Sink.written c.args.out.now) (g.K.Sink.written c.gone.new.out) c.args.self.now _ c.args.input c.put_state.new.place c.self.view_is c.put_state.ensures
-    (begin_first (g.K.Sink.written c.args.out.now) (g.K.Sink.written c.gone.new.out) c.args.self.now c.as_slice-2.result.now c.as_slice-3.result.now c.as_slice-4.result.now c.from-stack.result c.from-heap.result c.self.inside.limits.turns
-    c.args.input c.in-Ok-start.run'
+pub returns-in-NoMemory-clause-begins : goal.returns-in-NoMemory-clause-begins
+returns-in-NoMemory-clause-begins g c =
+    begin_lost (g.K.Sink.written c.args.out.now) (g.K.Sink.written c.gone.new.out) c.args.self.now _ c.as_slice-2.result.now c.as_slice-3.result.now c.as_slice-4.result.now c.from-stack.result c.from-heap.result c.self.inside.limits.turns
+    c.args.input c.in-Ok-start.run' c.put_state.new.place c.self.inside.in_line c.in-NoMemory.within
     (c.as_slice-2.ensures.value ∙ ap (λ p. p.modules) c.self.view_is)
     (c.as_slice-3.ensures.value ∙ ap (λ p. p.modules) c.self.view_is)
     (c.as_slice-4.ensures ∙ c.in-Ok.ensures ∙ ap places (c.as_slice.ensures.value ∙ ap (λ p. p.stops) c.self.view_is))
     (c.from-stack.ensures ∙ ap (λ p. p.limits.stack) c.self.view_is)
     (c.from-heap.ensures ∙ ap (λ p. p.limits.heap) c.self.view_is)
     (ap (λ p. p.limits.turns) c.self.view_is)
-    c.in-Ok-start.ensures.starts c.in-Err-NoMemory.ensures.lost)
+    c.in-Ok-start.ensures.starts (ap (λ p. p.in_line) c.self.view_is) c.self.view_is c.put_state.ensures (lost_memory _ _ _ _ _ _ c.in-NoMemory.is c.in-Err.ensures.lost)
 
 pub returns-clause-begins : goal.returns-clause-begins
 returns-clause-begins g c =
@@ -46,4 +45,4 @@ returns-clause-begins g c =
     (c.from-stack.ensures ∙ ap (λ p. p.limits.stack) c.self.view_is)
     (c.from-heap.ensures ∙ ap (λ p. p.limits.heap) c.self.view_is)
     (ap (λ p. p.limits.turns) c.self.view_is)
-    c.in-Ok-start.ensures.starts c.in-Err-Unsent.ensures.lost
+    c.in-Ok-start.ensures.starts (lost_write _ _ _ _ _ _ c.in-Unsent.is c.in-Err.ensures.lost)
