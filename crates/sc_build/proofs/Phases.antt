@@ -1,11 +1,12 @@
 -- From what each phase answers to the answer of all.
-use Rattle.std.proofs.Common.{◌≡◌, ℕ, List, Option, Result, Ok, Err, true, refl, sym, subst}
+use Rattle.std.proofs.Common.{◌≡◌, ℕ, List, Option, Result, Ok, Err, true, refl, ap, sym, subst, ◌∙◌}
 use Rattle.sc_base.specs.declared.refusal.Fault.{Fault}
 use Rattle.sc_base.specs.declared.refusal.Fault.TheVariants as base
 use Rattle.sc_check.specs.Outcomes as rules
 use Rattle.sc_check.specs.Units.{unit_of}
 use Rattle.sc_core.specs.declared.module.Core.{Core}
 use Rattle.sc_core_formed.specs.Modules.{formed}
+use Rattle.sc_gen.specs.Limits.{IsObject}
 use Rattle.sc_lex.specs.declared.token.Token.{Token}
 use Rattle.sc_outside.specs.Stored.{FileMap}
 use Rattle.sc_pp.specs.declared.unit.PpFault.{PpFault}
@@ -19,9 +20,11 @@ use Rattle.sc_core_names.specs.Scopes.{scopes_of}
 use Rattle.sc_parse_tokens.specs.Symbols.{symbols}
 use Rattle.sc_tree.specs.declared.statement.External.{External}
 use Rattle.sc_parse_laws.specs.Causes.{HasCause}
+use Rattle.sc_build.specs.Compiled.{Compiles}
+use Rattle.sc_build.specs.declared.building.Built.{Built}
 use Rattle.sc_build.specs.declared.building.BuildFault.{BuildFault}
 use Rattle.sc_build.specs.declared.building.BuildFault.TheVariants as fault
-use Rattle.sc_build.specs.Builds.{Answers, Checks, Reads, IsUnit, Refuses, in_preprocessing, in_grammar, in_types, InFile, of_files}
+use Rattle.sc_build.specs.Builds.{Answers, Checks, Reads, IsUnit, Refuses, in_preprocessing, in_grammar, in_types, in_code, InFile, of_files}
 
 -- preprocessing fails
 pub files_fail : (held : Option FileMap) (before now : ℕ) (file name : List ℕ) (f : PpFault)
@@ -65,9 +68,23 @@ types_fail tokens items file name base.NoMemory fault.TooLong unit told e held b
 types_fail tokens items file name base.NoMemory (fault.File asked) unit told e held before now reads = absurd e
 types_fail tokens items file name base.NoMemory fault.NoMemory unit told e held before now reads = tt
 
--- the module is there
-pub succeeds : (tokens : List Token) (items : List External) (file name : List ℕ) (core : Core) (scopes : Scopes)
-    → IsUnit tokens items → unit_of name items ≡ Ok core → core.name ≡ name → formed core ≡ true → scopes ≡ scopes_of items
-    → Checks tokens file name (Ok (record { core = core; scopes = scopes }))
-succeeds tokens items file name core scopes unit checks named law scoped held before now reads =
-    record { tokens = tokens; items = items; reads = reads; parses = unit; checks = checks; named = named; formed = law; scoped = scoped }
+-- the module is there, or too large for an object
+pub compiled_so : (tokens : List Token) (items : List External) (file name : List ℕ) (core : Core) (scopes : Scopes) (result : Result Built BuildFault)
+    → IsUnit tokens items → unit_of name items ≡ Ok core → core.name ≡ name → formed core ≡ true → scopes ≡ scopes_of items → Compiles file core scopes result
+    → Checks tokens file name result
+compiled_so tokens items file name core scopes (Ok built) unit checks named law scoped p held before now reads = record {
+  tokens = tokens;
+  items = items;
+  reads = reads;
+  parses = unit;
+  checks = checks ∙ ap Ok (sym p.0);
+  named = ap (λ c. c.name) p.0 ∙ named;
+  formed = ap formed p.0 ∙ law;
+  scoped = p.1 ∙ scoped;
+  compiled = subst (λ c. IsObject c built.object) (sym p.0) p.2;
+}
+compiled_so tokens items file name core scopes (Err (fault.Refused r)) unit checks named law scoped p held before now reads = in_code tokens items core r reads unit checks p
+compiled_so tokens items file name core scopes (Err fault.Missing) unit checks named law scoped p held before now reads = absurd p
+compiled_so tokens items file name core scopes (Err fault.TooLong) unit checks named law scoped p held before now reads = absurd p
+compiled_so tokens items file name core scopes (Err (fault.File asked)) unit checks named law scoped p held before now reads = absurd p
+compiled_so tokens items file name core scopes (Err fault.NoMemory) unit checks named law scoped p held before now reads = tt

@@ -7,7 +7,9 @@ use Rattle.sc_base.specs.declared.refusal.Fault.{Fault}
 use Rattle.sc_base.specs.declared.refusal.Fault.TheVariants as base
 use Rattle.sc_check.specs.Outcomes.{IsRefused}
 use Rattle.sc_check.specs.Units.{unit_of}
+use Rattle.sc_core.specs.declared.module.Core.{Core}
 use Rattle.sc_core_formed.specs.Modules.{formed}
+use Rattle.sc_gen.specs.Limits.{IsObject}
 use Rattle.sc_lex.specs.declared.token.Token.{Token}
 use Rattle.sc_outside.specs.Causes.{Rose}
 use Rattle.sc_outside.specs.Stored.{FileMap}
@@ -22,6 +24,7 @@ use Rattle.sc_tree.specs.declared.statement.External.{External}
 use Rattle.sc_parse_expr.specs.Brackets.{AreShallow}
 use Rattle.sc_parse_unit.specs.Grammar as grammar
 use Rattle.sc_parse_laws.specs.Causes.{Cause}
+use Rattle.sc_build.specs.Compiled.{Exceeds}
 use Rattle.sc_build.specs.declared.building.Built.{Built}
 use Rattle.sc_build.specs.declared.building.BuildFault.{BuildFault}
 use Rattle.sc_build.specs.declared.building.BuildFault.TheVariants as fault
@@ -45,7 +48,8 @@ IsTooLong held file = Reads held file (Err pp.TooLong)
 abbrev pub Asks : Option FileMap → List ℕ → List ℕ → Type 0
 Asks held file asked = Known held (λ map. Contains (asked_in map file) asked)
 
--- The module in a file: its tokens, which are a unit, which the rules of types make this module, and whose scopes are these.
+-- The module in a file: its tokens, which are a unit, which the rules of types make this module, whose scopes are these, and which has
+-- this object.
 pub record Builds (held : Option FileMap) (file name : List ℕ) (built : Built) : Type 0 where
   pub tokens : List Token
   pub items : List External
@@ -55,13 +59,15 @@ pub record Builds (held : Option FileMap) (file name : List ℕ) (built : Built)
   pub named : built.core.name ≡ name
   pub formed : formed built.core ≡ true
   pub scoped : built.scopes ≡ scopes_of items
+  pub compiled : IsObject built.core built.object
 
 -- Where the first refusal of a file comes from: preprocessing; the grammar, where preprocessing refuses nothing; the rules
--- of types, where the grammar refuses nothing.
+-- of types, where the grammar refuses nothing; the limits of objects, where they refuse nothing.
 pub data Refuses (held : Option FileMap) (file name : List ℕ) : Refusal → Type 0 where
   in_preprocessing : (r : Refusal) → Reads held file (Err (pp.Refused r)) → Refuses held file name r
   in_grammar : (tokens : List Token) (kind : X) (line : ℕ) → Reads held file (Ok tokens) → Cause (symbols tokens) kind line → Refuses held file name (record { kind = kind; file = file; line = line })
   in_types : (tokens : List Token) (items : List External) (kind : X) (line : ℕ) → Reads held file (Ok tokens) → IsUnit tokens items → IsRefused (unit_of name items) kind line → Refuses held file name (record { kind = kind; file = file; line = line })
+  in_code : (tokens : List Token) (items : List External) (core : Core) (r : Refusal) → Reads held file (Ok tokens) → IsUnit tokens items → unit_of name items ≡ Ok core → Exceeds file core r → Refuses held file name r
 
 -- what the code answers
 abbrev pub Answers : Option FileMap → ℕ → ℕ → List ℕ → List ℕ → Result Built BuildFault → Type 0

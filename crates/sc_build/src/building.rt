@@ -3,10 +3,12 @@ ghost use Rattle.std.specs.Prelude.{◌≡◌, ◌≤◌, List};
 ghost use Rattle.sc_lex.specs.declared.token.Token.{Token};
 ghost use Rattle.sc_build.specs.Builds.{Answers, Checks, IsUnit, InFile, of_files};
 
+use crate::compiling::compiled;
 use sc_base::{Bytes, Fault, Items, Name, Refusal};
 use sc_check::check;
 use sc_core::Core;
 use sc_core_names::{Scopes, scopes_of};
+use sc_object::Object;
 use sc_lex::Token;
 use sc_outside::Files;
 use sc_parse::parse;
@@ -25,11 +27,12 @@ pub enum BuildFault {
     NoMemory,
 }
 
-/// A module that was translated, and what each of its scopes declares.
+/// A module that was translated, what each of its scopes declares, and its object.
 #[derive(Drop)]
 pub struct Built {
     pub core: Core,
     pub scopes: Scopes,
+    pub object: Object,
 }
 
 // What preprocessing fails with.
@@ -74,7 +77,7 @@ fn checked(alloc: Global, name: &Name, file: &str, unit: Unit) -> Result<Built, 
                 return Err(BuildFault::NoMemory);
             };
             drop(unit);
-            Ok(Built { core, scopes })
+            compiled(alloc, file, core, scopes)
         }
         Err(fault) => {
             drop(unit);
@@ -93,9 +96,9 @@ fn parsed(alloc: Global, name: &Name, file: &str, tokens: &[Token]) -> Result<Bu
     }
 }
 
-/// The module in a file, with this name, and its scopes. The refusal of a text is the first of preprocessing, with the file in which its
-/// line stands; else the grammar's, else that of the rules of types, in the module's own file. `File` is the name of a file
-/// that was asked for and could not be read, only where the count of faults rose.
+/// The module in a file, with this name, its scopes and its object. The refusal of a text is the first of preprocessing, with the file in
+/// which its line stands; else the grammar's, else that of the rules of types, else that of the limits of objects, in the module's own
+/// file. `File` is the name of a file that was asked for and could not be read, only where the count of faults rose.
 pub fn build<F: Files>(
     alloc: Global,
     name: &Name,

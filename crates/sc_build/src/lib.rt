@@ -1,6 +1,7 @@
-//! From the files of a folder to a checked module: preprocessing, the grammar, and the rules of types.
+//! From the files of a folder to a checked module with its object: preprocessing, the grammar, the rules of types, and the generator.
 #![tactic(auto)]
 
 mod building;
+mod compiling;
 
 pub use building::{BuildFault, Built, build};

@@ -11,10 +11,10 @@ use Rattle.sc_cells.specs.Pages.{AreTaken, Grows, IsPaged, IsTaken, Rewritten, S
 use Rattle.sc_cells.specs.Range.{range_of, with_range}
 use Rattle.sc_cells.proofs.Ranges.{downward-step, range_of-cons, upward-step, with_range-push}
 
-eq-true : (m n : ℕ) → (m == n) ≡ true → m ≡ n
+pub eq-true : (m n : ℕ) → (m == n) ≡ true → m ≡ n
 eq-true m n h = grind (arith, nat_tests)
 
-eq-false : (m n : ℕ) → (m == n) ≡ false → m ≢ n
+pub eq-false : (m n : ℕ) → (m == n) ≡ false → m ≢ n
 eq-false m n h = grind (arith, nat_tests)
 
 -- lists of what a function has
@@ -37,7 +37,7 @@ module _ {A : Type 0} where
   listed-set (suc n) f g zero c l is others = λ k. is k ∷ listed-same n (λ i. f (suc i)) (λ i. g (suc i)) (λ i. others (suc i) (λ e. absurd (omega arith))) k
   listed-set (suc n) f g (suc i) c l is others = λ k. others zero (λ e. absurd (omega arith)) k ∷ listed-set n (λ j. f (suc j)) (λ j. g (suc j)) i c (omega arith) is (λ j ne. others (suc j) (λ e. ne (omega arith))) k
 
-  replicate-get : (n i : ℕ) (x : A) → get_or (replicate n x) i x ≡ x
+  pub replicate-get : (n i : ℕ) (x : A) → get_or (replicate n x) i x ≡ x
   replicate-get zero i x = refl
   replicate-get (suc n) zero x = refl
   replicate-get (suc n) (suc i) x = replicate-get n i x
@@ -297,7 +297,7 @@ blank_paged pages count size is small enough = rw is (record {
   whole = λ p. inl (ap length (replicate-get count p []));
 })
 
-all-same : (n : ℕ) (f : ℕ → Cell) → ((i : ℕ) → f i ≡ Unwritten) → listed n f ≡ replicate n Unwritten
+pub all-same : (n : ℕ) (f : ℕ → Cell) → ((i : ℕ) → f i ≡ Unwritten) → listed n f ≡ replicate n Unwritten
 all-same zero f h = refl
 all-same (suc n) f h = λ k. h zero k ∷ all-same n (λ i. f (suc i)) (λ i. h (suc i)) k
 
@@ -335,9 +335,9 @@ four-cells pages size i inside fits =
     read : (k : ℕ) → k < 4 → get_or (cells_in size pages) (i + k) Unwritten ≡ get_or (page_of pages (i / 4096)) (i % 4096 + k) Unwritten
     read k l = listed-get size (at_place pages) (i + k) Unwritten (omega arith) ∙ in-page pages i k (omega arith)
 
-pub four-word : (pages : List (List Cell)) (i : ℕ) (r : Option Word) (page : List Cell) → page ≡ page_of pages (i / 4096) → IfSome r (λ w. i % 4096 + 4 ≤ 4096) → IfSome r (λ w. four_of page (i % 4096) ≡ whole_cells w) → (size : ℕ) → i + 4 ≤ size → IfSome r (λ w. range_of (cells_in size pages) i 4 ≡ whole_cells w)
+pub four-word : (pages : List (List Cell)) (i : ℕ) (r : Option Word) (page : List Cell) → page ≡ page_of pages (i / 4096) → IfSome r (λ w. i % 4096 % 4 ≡ 0) → IfSome r (λ w. four_of page (i % 4096) ≡ whole_cells w) → (size : ℕ) → i + 4 ≤ size → IfSome r (λ w. range_of (cells_in size pages) i 4 ≡ whole_cells w)
 four-word pages i None page at inside is size l = tt
-four-word pages i (Some w) page at inside is size l = four-cells pages size i l inside ∙ (ap (λ (xs : List Cell). four_of xs (i % 4096)) (sym at) ∙ is)
+four-word pages i (Some w) page at inside is size l = four-cells pages size i l (omega arith) ∙ (ap (λ (xs : List Cell). four_of xs (i % 4096)) (sym at) ∙ is)
 
 -- four cells of one page are put at once
 nil-right : {A : Type 0} (xs : List A) → xs ++ [] ≡ xs
@@ -387,9 +387,12 @@ four-written pages i a b c d inside taken fits =
     let same : set_place (set_place (set_place (set_place pages (i + 0) a) (i + 1) b) (i + 2) c) (i + 3) d ≡ set pages (i / 4096) (four_set (page_of pages (i / 4096)) (i % 4096) a b c d) = ap (λ n. set_place (set_place (set_place (set_place pages n a) (i + 1) b) (i + 2) c) (i + 3) d) (omega arith) ∙ places-four pages i a b c d (omega arith) fits in
     subst (λ (ps : List (List Cell)). Rewritten pages ps (i + 4) i (λ all. row)) same four
 
-pub word-written : (pages : List (List Cell)) (i : ℕ) (w : Word) → i + 4 ≤ 4096 * length pages → IsTaken pages (i / 4096) → i % 4096 + 4 ≤ 4096 → Rewritten pages (set pages (i / 4096) (four_in (page_of pages (i / 4096)) (i % 4096) (whole_cells w))) (i + 4) i (λ all. whole_cells w)
-word-written pages i w inside taken fits = by (w.tag == 0)
+pub word-written : (pages : List (List Cell)) (i : ℕ) (w : Word) → i + 4 ≤ 4096 * length pages → IsTaken pages (i / 4096) → i % 4 ≡ 0 → Rewritten pages (set pages (i / 4096) (four_in (page_of pages (i / 4096)) (i % 4096) (whole_cells w))) (i + 4) i (λ all. whole_cells w)
+word-written pages i w inside taken aligned = by (w.tag == 0)
   where
+    fits : i % 4096 + 4 ≤ 4096
+    fits = omega arith
+
     number : List Cell
     number = Byte (w.bits % 256) ∷ Byte (w.bits / 256 % 256) ∷ Byte (w.bits / 65536 % 256) ∷ Byte (w.bits / 16777216 % 256) ∷ []
 

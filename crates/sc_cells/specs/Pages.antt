@@ -1,6 +1,6 @@
 -- Inside: plumbing, a representation, an invariant or a promise beside the claim (docs/TRUST.md).
 -- Cells in pages of 4,096, of which those that were not taken have none.
-use Rattle.std.specs.Prelude.{◌≡◌, ◌⊎◌, ℕ, zero, suc, ◌+◌, ◌*◌, ◌/◌, ◌%◌, ◌^◌, ◌==◌, ◌<◌, ◌≤◌, if◌then◌else◌, List, [], ◌∷◌, length, replicate, slice_index_or, slice_set}
+use Rattle.std.specs.Prelude.{◌≡◌, ◌⊎◌, ℕ, zero, suc, ◌+◌, ◌*◌, ◌/◌, ◌%◌, ◌^◌, ◌==◌, ◌<◌, ◌≤◌, if◌then◌else◌, List, [], ◌∷◌, length, replicate, slice_index_or, slice_set, Option, None, Some}
 use Rattle.sc_base.specs.declared.memory.Cell.{Cell}
 use Rattle.sc_base.specs.declared.memory.Cell.TheVariants.{Unwritten, Byte, Frag}
 use Rattle.sc_base.specs.declared.memory.Word.{Word}
@@ -77,3 +77,20 @@ four_set page j a b c d = slice_set (slice_set (slice_set (slice_set page j a) (
 abbrev pub four_in : List Cell → ℕ → List Cell → List Cell
 four_in page j (a ∷ b ∷ c ∷ d ∷ []) = four_set page j a b c d
 four_in page j _ = page
+
+-- the cell at place k of four, which stand as a word or as they are
+abbrev pub found : Option Word → ℕ → Cell → Cell
+found None k loose = loose
+found (Some w) k loose = slice_index_or (whole_cells w) k Unwritten
+
+-- the cell at a place of a page, each four cells of which stand as a word or as they are
+abbrev pub cell_of : List (Option Word) → List Cell → ℕ → Cell
+cell_of words cells i = found (slice_index_or words (i / 4) None) (i % 4) (slice_index_or cells i Unwritten)
+
+abbrev pub page_cells : List (Option Word) → List Cell → List Cell
+page_cells words cells = listed (4 * length words) (cell_of words cells)
+
+-- the cells where those of a word stand as they are
+abbrev pub opened : Option Word → List Cell → ℕ → List Cell
+opened None cells q = cells
+opened (Some w) cells q = four_in cells (4 * q) (whole_cells w)

@@ -4,21 +4,22 @@ ghost use Rattle.sc_base.specs.declared.memory.Cell.{Cell as One};
 ghost use Rattle.sc_cells.specs.Pages.{whole_cells};
 ghost use Rattle.sc_cells.specs.Range.{range_of, with_range};
 
+use crate::page::{PAGE, Page};
 use crate::pages::{
-    PAGE, blank_pages, cell_at, copy_cells, wipe, word_at, write_cell, write_cells, write_word,
+    blank_pages, cell_at, copy_cells, wipe, word_at, write_cell, write_cells, write_word,
 };
-use sc_base::{Cell, Items, NoMemory, Word};
+use sc_base::{Cell, NoMemory, Word};
 use std::alloc::Global;
 use std::marker::Model;
 
 /// As many cells as were asked for, seen as the list of them. What writes cells may answer want of memory, and changes
 /// nothing then; what reads or clears them never does. They stand in pages of 4,096, and a page is taken when it is
-/// first written. A cell takes at most 16 bytes.
+/// first written. A cell takes at most 19 bytes.
 #[derive(Drop)]
 pub struct Cells {
     alloc: Global,
     size: usize,
-    pages: Vec<Items<Cell>>,
+    pages: Vec<Page>,
 }
 
 impl Model for Cells {
@@ -54,7 +55,7 @@ impl Cells {
     }
 
     /// The whole word that the four cells from a place on are: the bytes of a number, or the pieces of a pointer. It may
-    /// answer `None` where they are one, too, since it looks into one page alone.
+    /// answer `None` where they are one, too, as where the place is no multiple of 4.
     #[inline(always)]
     pub fn word(&self, at: u32) -> Option<Word>
         requires { at + 4 ≤ length self.now }
@@ -81,6 +82,7 @@ impl Cells {
     }
 
     /// Puts the four cells of a whole word at the places from `at` on, all of them or none.
+    #[inline(always)]
     pub fn put_word(&mut self, at: u32, w: Word) -> Result<(), NoMemory>
         requires { at + 4 ≤ length self.old }
         ensures cells { MatchResult result (λ _. self.new ≡ with_range self.old at (whole_cells w)) (λ _. self.new ≡ self.old) }

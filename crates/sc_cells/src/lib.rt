@@ -2,6 +2,7 @@
 #![tactic(auto)]
 
 mod cells;
+mod page;
 mod pages;
 
 pub use cells::Cells;

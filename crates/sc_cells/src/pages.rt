@@ -1,43 +1,41 @@
 // Cells in pages, of which those that nothing was written to take no room.
-ghost use Rattle.std.specs.Prelude.{◌≡◌, ℕ, ◌+◌, ◌*◌, ◌/◌, ◌%◌, ◌<◌, ◌≤◌, ◌^◌, ◌⊎◌, ◌∷◌, [], length, replicate, slice_index_or, slice_set, IfOk, IfSome, IsTrue, MatchResult, OnOk};
+ghost use Rattle.std.specs.Prelude.{◌≡◌, ℕ, ◌+◌, ◌*◌, ◌/◌, ◌%◌, ◌<◌, ◌≤◌, ◌^◌, ◌⊎◌, [], length, replicate, slice_index_or, slice_set, IfOk, IfSome, IsTrue, MatchResult, OnOk};
 ghost use Rattle.sc_base.specs.declared.memory.Cell.{Cell as One};
-ghost use Rattle.sc_cells.specs.Pages.{AreTaken, Grows, IsPaged, IsTaken, Rewritten, SameShape, at_place, cells_in, four_in, four_of, page_of, set_place, whole_cells, with_page};
+ghost use Rattle.sc_cells.specs.Pages.{AreTaken, Grows, IsPaged, IsTaken, Rewritten, SameShape, at_place, cells_in, four_in, page_of, set_place, whole_cells, with_page};
 ghost use Rattle.sc_cells.specs.Range.{range_of, with_range};
 
-use sc_base::{Cell, Items, NoMemory, Word};
+use crate::page::{PAGE, Page, cells_of_word};
+use sc_base::{Cell, NoMemory, Word};
 use std::alloc::Global;
 
-/// How many cells a page has.
-pub const PAGE: usize = 4096;
-
 /// This many pages, none of them taken.
-pub fn blank_pages(alloc: Global, count: usize) -> Result<Vec<Items<Cell>>, NoMemory>
+pub fn blank_pages(alloc: Global, count: usize) -> Result<Vec<Page>, NoMemory>
     ensures { IfOk result (λ pages. pages.items ≡ replicate count []) }
 {
     let mut pages = Vec::with_capacity(alloc, count)?;
     'making: for n in 0..count {
-        pages.push(Items::new(alloc))?;
+        pages.push(Page::new(alloc))?;
     }
     Ok(pages)
 }
 
 /// The cell at a place.
 #[inline(always)]
-pub fn cell_at(pages: &[Items<Cell>], i: usize) -> Cell
+pub fn cell_at(pages: &[Page], i: usize) -> Cell
     ensures { result ≡ at_place pages.now i }
 {
     match pages.get(i / PAGE) {
-        Some(page) => cell_of(page.as_slice(), i % PAGE),
+        Some(page) => page.cell(i % PAGE),
         None => Cell::Unwritten,
     }
 }
 
-// A cell of a page.
+// A cell of a row.
 #[inline(always)]
-fn cell_of(page: &[Cell], j: usize) -> Cell
-    ensures { result ≡ slice_index_or page.now j One.Unwritten }
+fn cell_of(row: &[Cell], j: usize) -> Cell
+    ensures { result ≡ slice_index_or row.now j One.Unwritten }
 {
-    match page.get(j) {
+    match row.get(j) {
         Some(cell) => *cell,
         None => Cell::Unwritten,
     }
@@ -45,7 +43,7 @@ fn cell_of(page: &[Cell], j: usize) -> Cell
 
 /// Puts another cell at a place of a page that was taken.
 #[inline(always)]
-pub fn put_at(pages: &mut Vec<Items<Cell>>, i: usize, c: Cell)
+pub fn put_at(pages: &mut Vec<Page>, i: usize, c: Cell)
     requires inside { i / 4096 < length pages.old.items }
     requires taken { IsTaken pages.old.items (i / 4096) }
     ensures { pages.new.items ≡ set_place pages.old.items i c }
@@ -54,7 +52,7 @@ pub fn put_at(pages: &mut Vec<Items<Cell>>, i: usize, c: Cell)
 }
 
 #[inline(always)]
-fn put_in(page: &mut Items<Cell>, j: usize, c: Cell)
+fn put_in(page: &mut Page, j: usize, c: Cell)
     requires { j < length page.old }
     ensures { page.new ≡ slice_set page.old j c }
 {
@@ -63,7 +61,7 @@ fn put_in(page: &mut Items<Cell>, j: usize, c: Cell)
 
 /// Makes a cell unwritten. A page that was not taken stays so.
 #[inline(always)]
-pub fn wipe_at(pages: &mut Vec<Items<Cell>>, i: usize)
+pub fn wipe_at(pages: &mut Vec<Page>, i: usize)
     requires inside { i / 4096 < length pages.old.items }
     requires whole { (length (page_of pages.old.items (i / 4096)) ≡ 0) ⊎ IsTaken pages.old.items (i / 4096) }
     ensures shape { SameShape pages.old.items pages.new.items }
@@ -78,7 +76,7 @@ pub fn wipe_at(pages: &mut Vec<Items<Cell>>, i: usize)
 
 // How many cells a page has.
 #[inline(always)]
-fn page_len(pages: &[Items<Cell>], p: usize) -> usize
+fn page_len(pages: &[Page], p: usize) -> usize
     ensures { result ≡ length (page_of pages.now p) }
 {
     match pages.get(p) {
@@ -89,7 +87,7 @@ fn page_len(pages: &[Items<Cell>], p: usize) -> usize
 
 /// Takes a page, where it was not.
 #[inline(always)]
-pub fn take_page(alloc: Global, pages: &mut Vec<Items<Cell>>, p: usize) -> Result<(), NoMemory>
+pub fn take_page(alloc: Global, pages: &mut Vec<Page>, p: usize) -> Result<(), NoMemory>
     requires { p < length pages.old.items }
     ensures { MatchResult result (λ _. pages.new.items ≡ with_page pages.old.items p) (λ _. pages.new.items ≡ pages.old.items) }
 {
@@ -101,21 +99,15 @@ pub fn take_page(alloc: Global, pages: &mut Vec<Items<Cell>>, p: usize) -> Resul
 }
 
 #[inline(never)]
-fn fill_page(alloc: Global, page: &mut Items<Cell>) -> Result<(), NoMemory>
+fn fill_page(alloc: Global, page: &mut Page) -> Result<(), NoMemory>
     ensures { MatchResult result (λ _. page.new ≡ replicate 4096 One.Unwritten) (λ _. page.new ≡ page.old) }
 {
-    let cells = Vec::from_elem(alloc, Cell::Unwritten, PAGE)?;
-    *page = Items::from_vec(cells);
+    *page = Page::blank(alloc)?;
     Ok(())
 }
 
 /// Takes the pages of the `n` cells from a place on.
-pub fn take_pages(
-    alloc: Global,
-    pages: &mut Vec<Items<Cell>>,
-    at: usize,
-    n: usize,
-) -> Result<(), NoMemory>
+pub fn take_pages(alloc: Global, pages: &mut Vec<Page>, at: usize, n: usize) -> Result<(), NoMemory>
     requires inside { at + n ≤ 4096 * length pages.old.items }
     requires small { at + n < 2 ^ 62 }
     requires whole { (p : ℕ) → (length (page_of pages.old.items p) ≡ 0) ⊎ IsTaken pages.old.items p }
@@ -131,12 +123,7 @@ pub fn take_pages(
     take_from(alloc, pages, first, end)
 }
 
-fn take_from(
-    alloc: Global,
-    pages: &mut Vec<Items<Cell>>,
-    first: usize,
-    end: usize,
-) -> Result<(), NoMemory>
+fn take_from(alloc: Global, pages: &mut Vec<Page>, first: usize, end: usize) -> Result<(), NoMemory>
     requires order { first ≤ end }
     requires inside { end ≤ length pages.old.items }
     requires whole { (p : ℕ) → (length (page_of pages.old.items p) ≡ 0) ⊎ IsTaken pages.old.items p }
@@ -150,7 +137,7 @@ fn take_from(
 }
 
 /// Puts cells at the places from `at` on, whose pages were taken.
-pub fn put_row(pages: &mut Vec<Items<Cell>>, at: usize, row: &[Cell])
+pub fn put_row(pages: &mut Vec<Page>, at: usize, row: &[Cell])
     requires inside { at + length row.now ≤ 4096 * length pages.old.items }
     requires small { at + length row.now < 2 ^ 62 }
     requires taken { AreTaken pages.old.items at (length row.now) }
@@ -162,7 +149,7 @@ pub fn put_row(pages: &mut Vec<Items<Cell>>, at: usize, row: &[Cell])
 }
 
 /// Copies from the lowest cell on, for a target that does not begin above its source.
-pub fn copy_upward(pages: &mut Vec<Items<Cell>>, to: usize, from: usize, n: usize)
+pub fn copy_upward(pages: &mut Vec<Page>, to: usize, from: usize, n: usize)
     requires below { to ≤ from }
     requires inside { from + n ≤ 4096 * length pages.old.items }
     requires small { from + n < 2 ^ 62 }
@@ -176,7 +163,7 @@ pub fn copy_upward(pages: &mut Vec<Items<Cell>>, to: usize, from: usize, n: usiz
 }
 
 /// Copies from the highest cell down, for a target that does not begin below its source.
-pub fn copy_downward(pages: &mut Vec<Items<Cell>>, to: usize, from: usize, n: usize)
+pub fn copy_downward(pages: &mut Vec<Page>, to: usize, from: usize, n: usize)
     requires above { from ≤ to }
     requires inside { to + n ≤ 4096 * length pages.old.items }
     requires small { to + n < 2 ^ 62 }
@@ -190,7 +177,7 @@ pub fn copy_downward(pages: &mut Vec<Items<Cell>>, to: usize, from: usize, n: us
 }
 
 /// Makes the `n` cells from a place on unwritten, and takes no page.
-pub fn wipe(pages: &mut Vec<Items<Cell>>, at: usize, n: usize)
+pub fn wipe(pages: &mut Vec<Page>, at: usize, n: usize)
     requires inside { at + n ≤ 4096 * length pages.old.items }
     requires small { at + n < 2 ^ 62 }
     requires whole { (p : ℕ) → (length (page_of pages.old.items p) ≡ 0) ⊎ IsTaken pages.old.items p }
@@ -204,7 +191,7 @@ pub fn wipe(pages: &mut Vec<Items<Cell>>, at: usize, n: usize)
 /// Takes the pages of a row and puts its cells there. Where memory runs out all cells stay as they are.
 pub fn write_cells(
     alloc: Global,
-    pages: &mut Vec<Items<Cell>>,
+    pages: &mut Vec<Page>,
     at: usize,
     row: &[Cell],
 ) -> Result<(), NoMemory>
@@ -224,12 +211,7 @@ pub fn write_cells(
 }
 
 /// Takes the page of a cell and puts another one there. Where memory runs out all cells stay as they are.
-pub fn write_cell(
-    alloc: Global,
-    pages: &mut Vec<Items<Cell>>,
-    at: usize,
-    c: Cell,
-) -> Result<(), NoMemory>
+pub fn write_cell(alloc: Global, pages: &mut Vec<Page>, at: usize, c: Cell) -> Result<(), NoMemory>
     requires inside { at + 1 ≤ 4096 * length pages.old.items }
     requires small { at + 1 < 2 ^ 62 }
     requires whole { (p : ℕ) → (length (page_of pages.old.items p) ≡ 0) ⊎ IsTaken pages.old.items p }
@@ -248,7 +230,7 @@ pub fn write_cell(
 /// Takes the pages of a target and copies cells there. Where memory runs out all cells stay as they are.
 pub fn copy_cells(
     alloc: Global,
-    pages: &mut Vec<Items<Cell>>,
+    pages: &mut Vec<Page>,
     to: usize,
     from: usize,
     n: usize,
@@ -270,7 +252,7 @@ pub fn copy_cells(
     }
 }
 
-fn copy_taken(pages: &mut Vec<Items<Cell>>, to: usize, from: usize, n: usize)
+fn copy_taken(pages: &mut Vec<Page>, to: usize, from: usize, n: usize)
     requires target { to + n ≤ 4096 * length pages.old.items }
     requires source { from + n ≤ 4096 * length pages.old.items }
     requires small { to + n < 2 ^ 62 }
@@ -289,12 +271,7 @@ fn copy_taken(pages: &mut Vec<Items<Cell>>, to: usize, from: usize, n: usize)
 /// Puts the cells of a whole word at the four places from `at` on, and takes their pages. Where memory runs out all
 /// cells stay as they are.
 #[inline(always)]
-pub fn write_word(
-    alloc: Global,
-    pages: &mut Vec<Items<Cell>>,
-    at: usize,
-    w: Word,
-) -> Result<(), NoMemory>
+pub fn write_word(alloc: Global, pages: &mut Vec<Page>, at: usize, w: Word) -> Result<(), NoMemory>
     requires inside { at + 4 ≤ 4096 * length pages.old.items }
     requires small { at + 4 < 2 ^ 62 }
     requires whole { (p : ℕ) → (length (page_of pages.old.items p) ≡ 0) ⊎ IsTaken pages.old.items p }
@@ -309,19 +286,28 @@ pub fn write_word(
     }
 }
 
-// Whether the four cells from a place on stand in one page that was taken.
 #[inline(always)]
-fn is_in_page(pages: &[Items<Cell>], i: usize) -> bool
-    ensures { IsTrue result → (i % 4096 + 4 ≤ 4096) × IsTaken pages.now (i / 4096) }
+fn page_at(pages: &[Page], p: usize) -> &Page
+    requires { p < length pages.now }
+    ensures { result.now ≡ page_of pages.now p }
 {
-    i % PAGE <= PAGE - 4 && page_len(pages, i / PAGE) == PAGE
+    &pages[p]
 }
 
-// Puts the cells of a whole word in one page that was taken.
+// Whether a place is a multiple of 4 in a page that was taken.
 #[inline(always)]
-fn put_word_at(pages: &mut Vec<Items<Cell>>, i: usize, w: Word)
+fn is_in_page(pages: &[Page], i: usize) -> bool
+    requires { i / 4096 < length pages.now }
+    ensures { IsTrue result → (i % 4 ≡ 0) × IsTaken pages.now (i / 4096) }
+{
+    i % 4 == 0 && page_at(pages, i / PAGE).len() == PAGE
+}
+
+// Puts the cells of a whole word in a page that was taken.
+#[inline(always)]
+fn put_word_at(pages: &mut Vec<Page>, i: usize, w: Word)
     requires inside { i + 4 ≤ 4096 * length pages.old.items }
-    requires near { i % 4096 + 4 ≤ 4096 }
+    requires aligned { i % 4 ≡ 0 }
     requires taken { IsTaken pages.old.items (i / 4096) }
     ensures { pages.new.items ≡ slice_set pages.old.items (i / 4096) (four_in (page_of pages.old.items (i / 4096)) (i % 4096) (whole_cells w)) }
 {
@@ -329,121 +315,19 @@ fn put_word_at(pages: &mut Vec<Items<Cell>>, i: usize, w: Word)
 }
 
 #[inline(always)]
-fn put_word_in(page: &mut Items<Cell>, j: usize, w: Word)
-    requires near { j + 4 ≤ 4096 }
-    requires taken { length page.old ≡ 4096 }
+fn put_word_in(page: &mut Page, j: usize, w: Word)
+    requires aligned { j % 4 ≡ 0 }
+    requires inside { j < length page.old }
     ensures { page.new ≡ four_in page.old j (whole_cells w) }
 {
-    if w.tag == 0 {
-        page.set(j, Cell::Byte((w.bits % 256) as u8));
-        page.set(j + 1, Cell::Byte((w.bits / 256 % 256) as u8));
-        page.set(j + 2, Cell::Byte((w.bits / 65536 % 256) as u8));
-        page.set(j + 3, Cell::Byte((w.bits / 16777216 % 256) as u8));
-    } else {
-        page.set(j, piece(w, 0));
-        page.set(j + 1, piece(w, 1));
-        page.set(j + 2, piece(w, 2));
-        page.set(j + 3, piece(w, 3));
-    }
+    page.put_word(j, w);
 }
 
-/// The whole word that the four cells from a place on are, where they stand in one page and are one.
+/// The whole word that the four cells from a place on are, where they stand as one.
 #[inline(always)]
-pub fn word_at(pages: &[Items<Cell>], i: usize) -> Option<Word>
+pub fn word_at(pages: &[Page], i: usize) -> Option<Word>
+    requires { i / 4096 < length pages.now }
     ensures { (size : ℕ) → i + 4 ≤ size → IfSome result (λ w. range_of (cells_in size pages.now) i 4 ≡ whole_cells w) }
 {
-    match pages.get(i / PAGE) {
-        Some(page) => word_in(page.as_slice(), i % PAGE),
-        None => None,
-    }
-}
-
-// The same in a page.
-#[inline(always)]
-fn word_in(page: &[Cell], j: usize) -> Option<Word>
-    ensures inside { IfSome result (λ w. j + 4 ≤ 4096) }
-    ensures word { IfSome result (λ w. four_of page.now j ≡ whole_cells w) }
-{
-    if j > PAGE - 4 || page.len() < PAGE {
-        return None;
-    }
-    word_of(page[j], page[j + 1], page[j + 2], page[j + 3])
-}
-
-/// The whole word that four cells of a page are, where they are one.
-#[inline(always)]
-pub fn word_of(a: Cell, b: Cell, c: Cell, d: Cell) -> Option<Word>
-    ensures { IfSome result (λ w. a ∷ b ∷ c ∷ d ∷ [] ≡ whole_cells w) }
-{
-    match (a, b, c, d) {
-        (Cell::Byte(a), Cell::Byte(b), Cell::Byte(c), Cell::Byte(d)) => { Some(number(a, b, c, d)) }
-        _ => pointer(a, b, c, d),
-    }
-}
-
-#[inline(always)]
-fn number(a: u8, b: u8, c: u8, d: u8) -> Word
-    ensures { One.Byte a ∷ One.Byte b ∷ One.Byte c ∷ One.Byte d ∷ [] ≡ whole_cells result }
-{
-    Word {
-        bits: u32::from(a) + 256 * u32::from(b) + 65536 * u32::from(c) + 16777216 * u32::from(d),
-        tag: 0,
-    }
-}
-
-fn pointer(a: Cell, b: Cell, c: Cell, d: Cell) -> Option<Word>
-    ensures { IfSome result (λ w. a ∷ b ∷ c ∷ d ∷ [] ≡ whole_cells w) }
-{
-    let Cell::Frag { whole, tag, k } = a else {
-        return None;
-    };
-    let is_whole = tag != 0
-        && k == 0
-        && is_piece(b, whole, tag, 1)
-        && is_piece(c, whole, tag, 2)
-        && is_piece(d, whole, tag, 3);
-    if is_whole {
-        Some(Word { bits: whole, tag })
-    } else {
-        None
-    }
-}
-
-// Whether a cell is this piece of this pointer.
-#[inline(always)]
-fn is_piece(cell: Cell, bits: u32, of: u32, j: u8) -> bool
-    ensures { IsTrue result → cell ≡ One.Frag bits of j }
-{
-    match cell {
-        Cell::Frag { whole, tag, k } => whole == bits && tag == of && k == j,
-        _ => false,
-    }
-}
-
-/// The cells of a whole word.
-#[inline(always)]
-pub fn cells_of_word(w: Word) -> [Cell; 4]
-    ensures { result ≡ whole_cells w }
-{
-    if w.tag == 0 {
-        [
-            Cell::Byte((w.bits % 256) as u8),
-            Cell::Byte((w.bits / 256 % 256) as u8),
-            Cell::Byte((w.bits / 65536 % 256) as u8),
-            Cell::Byte((w.bits / 16777216 % 256) as u8),
-        ]
-    } else {
-        [piece(w, 0), piece(w, 1), piece(w, 2), piece(w, 3)]
-    }
-}
-
-#[inline(always)]
-fn piece(w: Word, k: u8) -> Cell
-    ensures { result ≡ One.Frag w.bits w.tag k }
-{
-    Cell::Frag {
-        whole: w.bits,
-        tag: w.tag,
-        k,
-    }
+    page_at(pages, i / PAGE).word(i % PAGE)
 }

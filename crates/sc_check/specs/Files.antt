@@ -1,6 +1,7 @@
 -- Yardstick: to be compared with what it restates (docs/TRUST.md).
 -- Declarations at file scope (ANSI 3.7).
 use Rattle.std.specs.Prelude.{ℕ, nat_lt, Bool, true, false, ◌&&◌, if◌then◌else◌, List, [], ◌∷◌, length, slice_get, slice_set, Option, Some, None, is_none, Ok}
+use Rattle.sc_tree.specs.Storages.{is_typedef}
 use Rattle.sc_tree.specs.declared.expression.Storage.{Storage}
 use Rattle.sc_tree.specs.declared.expression.Storage.TheVariants as s
 use Rattle.sc_tree.specs.declared.expression.Identifier.{Identifier}
@@ -83,10 +84,6 @@ linked d given x = and_then (link d x) (λ r. object r.0 d given (name_link r.0 
 -- a name for a type (3.5.6)
 abbrev pub named_type : ℕ → List ℕ → DeclaredType → Option Initializer → Translating (Unit {0})
 named_type line name of given x = and_then (name_type line name of x) (λ r. no_initializer line given r.1)
-
-abbrev pub is_typedef : Option Storage → Bool
-is_typedef (Some s.Typedef) = true
-is_typedef _ = false
 
 abbrev pub with_linkage : ℕ → Option Storage → Identifier → CType → Linked
 with_linkage line class id of = record { name = id.name; of = of; storage = class; line = line; name_line = id.line }

@@ -14,7 +14,7 @@ use sc_check_initial::static_initializer;
 use sc_check_linkage::{Birth, Declaration as Linked};
 use sc_check_operand::is_function;
 use sc_core::Init;
-use sc_tree::{Declaration, Identifier, InitDeclarator, Initializer, Storage};
+use sc_tree::{Declaration, Identifier, InitDeclarator, Initializer, Storage, is_typedef};
 use sc_types::CType;
 use std::alloc::Global;
 
@@ -101,15 +101,6 @@ fn is_extern(class: Option<Storage>) -> bool
 {
     match class {
         Some(Storage::Extern) => true,
-        _ => false,
-    }
-}
-
-fn is_typedef(class: Option<Storage>) -> bool
-    ensures { result ≡ spec.is_typedef class }
-{
-    match class {
-        Some(Storage::Typedef) => true,
         _ => false,
     }
 }

@@ -6,21 +6,9 @@ use sc_base::{Bytes, Fault, NoMemory, Refusal, X};
 use sc_check_body::{Finding, UnitFault};
 use sc_check_declare::{Failure, told as declaring};
 use sc_check_labels::LabelRule;
-use sc_check_operand::kind_of;
+use sc_check_operand::{kind_of, left_out, limit};
 use sc_check_scope::Problem;
 use std::alloc::Global;
-
-fn left_out(alloc: Global, word: &[u8]) -> Result<X, NoMemory>
-    ensures { IfOk result (λ x. x ≡ X.X9 word.now) }
-{
-    Ok(X::X9(Bytes::from_slice(alloc, word)?))
-}
-
-fn limit(alloc: Global, word: &[u8]) -> Result<X, NoMemory>
-    ensures { IfOk result (λ x. x ≡ X.X10 word.now) }
-{
-    Ok(X::X10(Bytes::from_slice(alloc, word)?))
-}
 
 fn label_kind(alloc: Global, rule: LabelRule) -> Result<X, NoMemory>
     ensures { IfOk result (λ x. x ≡ spec.label_kind rule) }

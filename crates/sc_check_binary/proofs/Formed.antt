@@ -9,6 +9,7 @@ use Rattle.sc_types.specs.declared.ctype.CType.TheVariants as t
 use Rattle.sc_types.specs.declared.ctype.CType.TheOpen.{CType-F}
 use Rattle.sc_types.specs.declared.ctype.Signature.{Signature}
 use Rattle.sc_types.specs.declared.ctype.StructDef.{StructDef}
+use Rattle.sc_types.specs.Calls.{fits}
 use Rattle.sc_types.specs.Conversions.{promote}
 use Rattle.sc_types.specs.Tables.{largest}
 use Rattle.sc_tree.specs.declared.expression.Constant.{Constant}
@@ -207,7 +208,7 @@ arguments-formed structs l ps i done (e ∷ es) hs gs =
 
 all-formed : (structs : List StructDef) (l : ℕ) (g : Signature) (args : List CoreExpr) → AllFormed args → AllGiven (calls.all_arguments structs l g args)
 all-formed structs l g args hs =
-    elim (calls.fits g (length args)) as (λ (b : Bool). AllGiven (if b then calls.arguments structs l g.params 0 [] args else mismatch l))
+    elim (fits g (length args)) as (λ (b : Bool). AllGiven (if b then calls.arguments structs l g.params 0 [] args else mismatch l))
     [ true ↦ arguments-formed structs l g.params 0 [] args (λ n. tt) hs | false ↦ tt ]
 
 call-with-formed : (l : ℕ) (of : CType) (f : CoreExpr) (args : Checked (List CoreExpr)) → Formed f → AllGiven args → GivesFormed (calls.call_with l of f args)

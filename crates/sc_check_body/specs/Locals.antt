@@ -6,6 +6,7 @@ use Rattle.sc_types.specs.declared.ctype.CType.{CType, out-CType}
 use Rattle.sc_types.specs.declared.ctype.CType.TheOpen.{CType-F}
 use Rattle.sc_types.specs.declared.ctype.Signature.{Signature}
 use Rattle.sc_types.specs.declared.ctype.StructDef.{StructDef}
+use Rattle.sc_tree.specs.Storages.{is_typedef}
 use Rattle.sc_tree.specs.declared.declaration.Declaration.{Declaration}
 use Rattle.sc_tree.specs.declared.declaration.InitDeclarator.{InitDeclarator}
 use Rattle.sc_tree.specs.declared.declaration.Initializer.{Initializer}
@@ -72,10 +73,6 @@ duration_by (Some storage.Typedef) = duration.Typedef
 
 abbrev pub duration_of : Option Storage → CType → Duration
 duration_of class of = if is_function of then duration.Function else duration_by class
-
-abbrev pub is_typedef : Option Storage → Bool
-is_typedef (Some storage.Typedef) = true
-is_typedef _ = false
 
 abbrev pub may_by : CType-F CType Signature → List StructDef → CType → Bool
 may_by (CType-F.Array u n) structs of = n == 0 || is_some (object_size structs of)

@@ -14,7 +14,7 @@ use sc_check_declare::{DeclaredType, Place, may_stand};
 use sc_check_expr::specifiers;
 use sc_check_linkage::Declaration as Declared;
 use sc_check_operand::{is_function, object_size};
-use sc_tree::{Declaration, Identifier, InitDeclarator, Initializer, Storage};
+use sc_tree::{Declaration, Identifier, InitDeclarator, Initializer, Storage, is_typedef};
 use sc_types::{CType, Structs};
 use std::alloc::Global;
 
@@ -42,16 +42,6 @@ fn duration_of(storage: Option<Storage>, of: &CType) -> Duration
         Some(Storage::Static) => Duration::Static,
         Some(Storage::Extern) => Duration::Extern,
         Some(Storage::Typedef) => Duration::Typedef,
-    }
-}
-
-fn is_typedef(storage: Option<Storage>) -> bool
-    ensures { result ≡ spec.is_typedef storage }
-{
-    match storage {
-        Some(Storage::Typedef) => true,
-        Some(Storage::Extern | Storage::Static | Storage::Auto | Storage::Register) => false,
-        None => false,
     }
 }
 

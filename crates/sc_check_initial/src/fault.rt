@@ -1,19 +1,8 @@
 // Why an initialiser is refused.
 ghost use Rattle.std.specs.Prelude.{◌≡◌};
 
-use sc_check_declare::{Reason, Refused};
 use sc_check_operand::{Cause, Diagnostic};
 use sc_check_scope::{CheckFault, Problem};
-
-/// A rule of initialisers fails in a construct of this line.
-pub(crate) fn rule(line: u32) -> CheckFault
-    ensures { result ≡ CheckFault.Found (Problem.Declaring (record { reason = Reason.Rule; line = line })) }
-{
-    CheckFault::Found(Problem::Declaring(Refused {
-        reason: Reason::Rule,
-        line,
-    }))
-}
 
 /// A constant is wanted in a construct of this line.
 pub(crate) fn not_constant(line: u32) -> CheckFault

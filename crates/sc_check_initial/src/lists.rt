@@ -4,13 +4,12 @@ ghost use Rattle.sc_check_scope.specs.Steps.{Fails, GivesWith};
 ghost use Rattle.sc_check_initial.specs.Values.{Gives};
 ghost use Rattle.sc_check_initial.specs.Lists as spec;
 
-use crate::fault::rule;
 use crate::places::{Filling, Listing, ended, listing_of, place_of};
 use crate::tree::all_typed;
 use crate::value::put_expression;
 use sc_check_declare::{Failure, Refused};
 use sc_check_places::Place;
-use sc_check_scope::{CheckFault, Problem, State};
+use sc_check_scope::{CheckFault, Problem, State, rule};
 use sc_tree::Initializer;
 use std::alloc::Global;
 

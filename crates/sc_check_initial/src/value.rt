@@ -7,7 +7,6 @@ ghost use Rattle.sc_check_declare.specs.Outcomes as outcomes;
 ghost use Rattle.sc_check_scope.specs.Steps.{GivesWith};
 ghost use Rattle.sc_check_initial.specs.Values as spec;
 
-use crate::fault::rule;
 use crate::tree::is_string;
 use sc_base::{Bytes, Items, NoMemory, Shared};
 use sc_check_declare::Failure;
@@ -17,7 +16,7 @@ use sc_check_operand::{
     refusal,
 };
 use sc_check_places::{Place, Text, takes, text_for};
-use sc_check_scope::{CheckFault, State};
+use sc_check_scope::{CheckFault, State, rule};
 use sc_core::{AutoInit, CoreExpr, type_of};
 use sc_tree::Expr;
 use sc_types::{CType, Structs};

@@ -4,13 +4,12 @@ ghost use Rattle.sc_check_scope.specs.Steps.{Says, GivesWith};
 ghost use Rattle.sc_check_initial.specs.Whole as spec;
 
 use crate::contents::contents_of;
-use crate::fault::rule;
 use crate::lists::put_at;
 use crate::places::{Filling, whole};
 use crate::tree::{line_of, typed};
 use sc_base::{Duplicate, Items, Name, NoMemory};
 use sc_check_operand::object_size;
-use sc_check_scope::{CheckFault, State};
+use sc_check_scope::{CheckFault, State, rule};
 use sc_core::{AutoInit, Init};
 use sc_tree::Initializer;
 use sc_types::{CType, Structs, is_object};

@@ -12,7 +12,7 @@ use Rattle.sc_check_declare.specs.Outcomes.{Outcome, refuse}
 use Rattle.sc_check_linkage.specs.declared.link.Link.{Link}
 use Rattle.sc_check_linkage.specs.declared.link.Declaration.{Declaration}
 use Rattle.sc_check_linkage.specs.Linkage.{place_of, is_declared, first, is_wrong_main, new_link, is_internal}
-use Rattle.sc_check_linkage.specs.Signatures.{is_function}
+use Rattle.sc_check_operand.specs.Types.{is_function}
 
 abbrev pub name_of : Link → List ℕ
 name_of l = l.key.name

@@ -2,15 +2,11 @@
 -- The frame of a function: where its objects stand, and what it costs.
 use Rattle.std.specs.Prelude.{ℕ, ◌+◌, ◌-◌, ◌*◌, ◌/◌, nat_le, if◌then◌else◌, List, [], ◌∷◌, sum_by, Ok}
 use Rattle.sc_core.specs.declared.module.Auto.{Auto}
-use Rattle.sc_types.specs.Frames.{frame_cost}
+use Rattle.sc_types.specs.Frames.{frame_cost, slot_bytes}
 use Rattle.sc_check_declare.specs.declared.failure.Reason.TheVariants as r
 use Rattle.sc_check_declare.specs.Outcomes.{Outcome, refuse}
 use Rattle.sc_check_declare.specs.Qualifiers.{is_constant}
 use Rattle.sc_check_linkage.specs.declared.frame.Local.{Local}
-
--- an object takes the least multiple of 4 that is greater than its size
-abbrev pub slot_bytes : ℕ → ℕ
-slot_bytes size = (size / 4 + 1) * 4
 
 abbrev pub block_bytes : List Local → ℕ
 block_bytes = sum_by (λ x. slot_bytes x.size)

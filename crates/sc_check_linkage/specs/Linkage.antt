@@ -22,7 +22,8 @@ use Rattle.sc_check_linkage.specs.declared.link.Definition.{Definition}
 use Rattle.sc_check_linkage.specs.declared.link.Definition.TheVariants as d
 use Rattle.sc_check_linkage.specs.declared.link.Declaration.{Declaration}
 use Rattle.sc_check_linkage.specs.Library.{is_library_name}
-use Rattle.sc_check_linkage.specs.Signatures.{is_function, is_main, is_printf, variadic}
+use Rattle.sc_check_operand.specs.Types.{is_function}
+use Rattle.sc_check_linkage.specs.Signatures.{is_main, is_printf, variadic}
 
 -- a key with a module is one of internal linkage
 abbrev pub has_internal : Link → Bool

@@ -8,13 +8,6 @@ use Rattle.sc_types.specs.declared.ctype.CType.TheVariants as t
 use Rattle.sc_types.specs.declared.ctype.CType.TheOpen.{CType-F}
 use Rattle.sc_types.specs.declared.ctype.Signature.{Signature}
 
-abbrev pub is_function_layer : CType-F CType Signature → Bool
-is_function_layer (CType-F.Function s) = true
-is_function_layer _ = false
-
-abbrev pub is_function : CType → Bool
-is_function of = is_function_layer (out-CType of)
-
 abbrev pub is_plain : Int → Bool
 is_plain i.Int = true
 is_plain _ = false

@@ -1,5 +1,5 @@
 // The frame of a function: where its objects stand, and what it costs.
-ghost use Rattle.std.specs.Prelude.{◌≡◌, ◌+◌, ◌≤◌, ◌<◌, ◌^◌, IfOk, IfSome, IfNone};
+ghost use Rattle.std.specs.Prelude.{◌≡◌, ◌+◌, ◌≤◌, ◌<◌, IfOk, IfSome, IfNone};
 ghost use Rattle.sc_types.specs.Frames.{frame_cost as bytes_of_frame};
 ghost use Rattle.sc_check_declare.specs.Outcomes.{Meets};
 ghost use Rattle.sc_check_linkage.specs.Frames as spec;
@@ -8,7 +8,7 @@ use sc_base::{Duplicate, Items, Name, NoMemory};
 use sc_check_declare::{Failure, Reason, is_constant, refusal};
 use sc_core::Auto;
 use sc_program::Slot;
-use sc_types::{CType, MAX_FRAME, frame_cost};
+use sc_types::{CType, MAX_FRAME, frame_cost, slot_bytes};
 use std::alloc::Global;
 
 /// A parameter or automatic object, with its size in bytes.
@@ -17,14 +17,6 @@ pub struct Local {
     pub name: Name,
     pub of: CType,
     pub size: u32,
-}
-
-/// The least multiple of 4 that is greater than a size.
-fn slot_bytes(size: u32) -> u64
-    ensures same { result ≡ spec.slot_bytes size }
-    ensures few { result < 2 ^ 33 }
-{
-    (u64::from(size) / 4 + 1) * 4
 }
 
 /// The bytes of a block behind those before it; none where they are more than a frame may have.

@@ -5,10 +5,11 @@ ghost use Rattle.sc_check_linkage.specs.declared.link.Link.{Link};
 ghost use Rattle.sc_check_linkage.specs.Linkage as spec;
 
 use crate::library::is_library_name;
-use crate::signature::{is_function, is_main, is_printf, variadic};
+use crate::signature::{is_main, is_printf, variadic};
 use indexmap::IndexSet;
 use sc_base::{Duplicate, Items, Key, Name, NoMemory};
 use sc_check_declare::{Failure, Reason, composite, refusal};
+use sc_check_operand::is_function;
 use sc_core::Declared;
 use sc_tree::Storage;
 use sc_types::{CType, Structs, compatible, is_complete, is_object};

@@ -6,15 +6,6 @@ use sc_base::{Duplicate, Int, NoMemory, Shared};
 use sc_types::{CType, Signature};
 use std::alloc::Global;
 
-pub(crate) fn is_function(of: &CType) -> bool
-    ensures { result ≡ spec.is_function of.now }
-{
-    match of {
-        CType::Function(_) => true,
-        _ => false,
-    }
-}
-
 fn is_plain(kind: Int) -> bool
     ensures { result ≡ spec.is_plain kind }
 {

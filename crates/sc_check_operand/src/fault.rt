@@ -24,13 +24,23 @@ pub enum Cause {
     Size,
 }
 
-fn left_out(alloc: Global, word: &[u8]) -> Result<X, NoMemory>
+/// The refusal of what this core of the language leaves out, by its word.
+///
+/// # Errors
+///
+/// `NoMemory` alone.
+pub fn left_out(alloc: Global, word: &[u8]) -> Result<X, NoMemory>
     ensures { IfOk result (λ x. x ≡ X.X9 word.now) }
 {
     Ok(X::X9(Bytes::from_slice(alloc, word)?))
 }
 
-fn limit(alloc: Global, word: &[u8]) -> Result<X, NoMemory>
+/// The refusal of what passes a limit, by its word.
+///
+/// # Errors
+///
+/// `NoMemory` alone.
+pub fn limit(alloc: Global, word: &[u8]) -> Result<X, NoMemory>
     ensures { IfOk result (λ x. x ≡ X.X10 word.now) }
 {
     Ok(X::X10(Bytes::from_slice(alloc, word)?))

@@ -13,7 +13,7 @@ mod shape;
 pub use addresses::{Base, Located, Passage, address_constant};
 pub use agreement::{assigned, joins, taken, targets_alike, targets_join};
 pub use combined::composite;
-pub use fault::{Cause, Diagnostic, TypeFault, kind_of, mismatch, refusal};
+pub use fault::{Cause, Diagnostic, TypeFault, kind_of, left_out, limit, mismatch, refusal};
 pub use folding::{Folded, evaluated, integer_constant, is_null, is_zero_constant};
 pub use operand::{converted, is_lvalue, is_place, to_int, to_type, valued};
 pub use shape::{

@@ -1,12 +1,11 @@
 // What an operand gives: its value, or the place itself (ANSI 3.2.2.1, 3.2.1.5).
 ghost use Rattle.std.specs.Prelude.{◌≡◌, IfOk};
 ghost use Rattle.sc_check_operand.specs.Operands as spec;
-ghost use Rattle.sc_types.specs.Compatibility.{same_int};
 
 use crate::shape::is_function;
 use sc_base::{Duplicate, Int, NoMemory, Shared};
 use sc_core::{CoreExpr, type_of};
-use sc_types::CType;
+use sc_types::{CType, same_int};
 use std::alloc::Global;
 
 /// Whether the expression is an lvalue (ANSI 3.2.2.1): it designates an object or a part of one. A member is one where its
@@ -97,12 +96,6 @@ pub fn valued(alloc: Global, line: u32, e: Shared<CoreExpr>) -> Result<Shared<Co
         Some(to) => converted(alloc, line, to, &e),
         None => Ok(e),
     }
-}
-
-fn same_int(a: Int, b: Int) -> bool
-    ensures { result ≡ same_int a b }
-{
-    a == b
 }
 
 fn is_of_int(k: Int, e: &CoreExpr) -> bool

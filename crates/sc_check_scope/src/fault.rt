@@ -56,7 +56,7 @@ impl From<Failure> for CheckFault {
 }
 
 /// The refusal of a construct of this line by a rule of declarations.
-pub(crate) fn rule(line: u32) -> CheckFault
+pub fn rule(line: u32) -> CheckFault
     ensures { result ≡ CheckFault.Found (Problem.Declaring (record { reason = Reason.Rule; line = line })) }
 {
     CheckFault::Found(Problem::Declaring(Refused {

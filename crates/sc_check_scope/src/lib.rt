@@ -14,7 +14,7 @@ pub use declare::{
     add_member, add_parameter, constant_value, declared_type, derived_array, enumerator,
     find_typedef,
 };
-pub use fault::{CheckFault, Problem};
+pub use fault::{CheckFault, Problem, rule};
 pub use produce::{
     arrow, assign, binary, call, cast, comma, conditional, constant, index, is_register, member,
     name, offset_of, postfix, size_of, string, unary,

@@ -1,6 +1,7 @@
 -- Yardstick: to be compared with what it restates (docs/TRUST.md).
 -- Calls of functions (ANSI 3.3.2.2).
 use Rattle.std.specs.Prelude.{ℕ, ◌+◌, ◌==◌, nat_lt, Bool, ◌&&◌, ◌||◌, if◌then◌else◌, List, [], ◌∷◌, ◌++◌, length, slice_get, Option, Some, None, Ok}
+use Rattle.sc_types.specs.Calls.{fits}
 use Rattle.sc_types.specs.declared.ctype.CType.{CType, out-CType}
 use Rattle.sc_types.specs.declared.ctype.CType.TheOpen.{CType-F}
 use Rattle.sc_types.specs.declared.ctype.Signature.{Signature}
@@ -48,10 +49,6 @@ argument structs line None e = further structs line e
 abbrev pub arguments : List StructDef → ℕ → List CType → ℕ → List CoreExpr → List CoreExpr → Checked (List CoreExpr)
 arguments structs line ps i done [] = Ok done
 arguments structs line ps i done (e ∷ es) = and_then (argument structs line (slice_get ps i) e) (λ v. arguments structs line ps (i + 1) (done ++ v ∷ []) es)
-
--- as many as there are parameters; more only where the function is variadic
-abbrev pub fits : Signature → ℕ → Bool
-fits f n = length f.params == n || (f.variadic && nat_lt (length f.params) n)
 
 abbrev pub all_arguments : List StructDef → ℕ → Signature → List CoreExpr → Checked (List CoreExpr)
 all_arguments structs line f args = if fits f (length args) then arguments structs line f.params 0 [] args else mismatch line

@@ -10,7 +10,7 @@ use sc_check_operand::{
     Shape, TypeFault, assigned, is_pointer, mismatch, plain, shape_of, to_int, valued,
 };
 use sc_core::{CoreExpr, type_of};
-use sc_types::{CType, Signature, Structs, promote};
+use sc_types::{CType, Signature, Structs, fits, promote};
 use std::alloc::Global;
 
 /// The function that a pointer of this type points to.
@@ -74,12 +74,6 @@ fn argument(
         Some(p) => assigned(alloc, structs, line, p, e),
         None => further(alloc, structs, line, e),
     }
-}
-
-fn fits(f: &Signature, n: usize) -> bool
-    ensures { result ≡ spec.fits f.now n }
-{
-    f.params.len() == n || (f.variadic && f.params.len() < n)
 }
 
 fn arguments(

@@ -15,11 +15,11 @@ Refusals, as `> refused C8 m.c`. A refused command leaves the session as it was.
   C12   the run is not at a stop: it has paused or ended
   C13   no module defines main
   C14   too many modules, functions (stubs) or bytes of static objects
-  C15   reading the file failed
+  C15   reading or writing the file failed
   C16   the name stands for no object here
   C18   there is no such stop
   C19   the file has more than 8388608 bytes
-(C9 and C17 belong to compiled modules and probes, which this version does not have.)
+(C9 and C17 belong to runs of compiled modules and to probes, which this version does not have.)
 `> no memory` may answer any command.
 
 Kinds of refused texts, as `> refused C5 X6 m.c:3`. docs/LANGUAGE.md has the rules.

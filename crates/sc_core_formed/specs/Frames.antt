@@ -1,6 +1,7 @@
 -- Inside: plumbing, a representation, an invariant or a promise beside the claim (docs/TRUST.md).
 -- What holds of a function: its parameters, its blocks, where its objects stand in the frame, and what the frame costs.
 use Rattle.std.specs.Prelude.{ℕ, ◌+◌, ◌-◌, ◌*◌, ◌/◌, ◌==◌, nat_le, Bool, true, false, ◌&&◌, if◌then◌else◌, List, [], ◌∷◌, length, slice_get, Option, Some, None, option_and_then}
+use Rattle.sc_types.specs.Frames.{slot_bytes}
 use Rattle.sc_types.specs.declared.ctype.CType.{CType}
 use Rattle.sc_types.specs.declared.ctype.Signature.{Signature}
 use Rattle.sc_types.specs.declared.ctype.StructDef.{StructDef}
@@ -21,10 +22,6 @@ use Rattle.sc_core_labels.specs.Targets.{Target, labels_of, are_distinct}
 use Rattle.sc_core_needs.specs.Needs.{need_of_statement}
 use Rattle.sc_core_formed.specs.Known.{is_known, signature_known}
 use Rattle.sc_core_formed.specs.Statements.{statement}
-
--- an object takes the least multiple of 4 that is greater than its size
-abbrev pub slot_bytes : ℕ → ℕ
-slot_bytes size = (size / 4 + 1) * 4
 
 -- an object of a complete type, with its size, at this place of the frame
 abbrev pub is_auto : List StructDef → ℕ → Auto → Bool

@@ -13,15 +13,7 @@ use sc_core_labels::{Targets, targets_of};
 use sc_core_needs::{
     MAX_ARGUMENTS, Need, alike, is_parameter, is_result, need_of_statement, same_bool,
 };
-use sc_types::{CType, MAX_FRAME, Signature, Structs, is_object, size_of};
-
-/// The least multiple of 4 that is greater than a size.
-fn slot_bytes(size: u32) -> u64
-    ensures same { result ≡ spec.slot_bytes size }
-    ensures few { result < 2 ^ 33 }
-{
-    (u64::from(size) / 4 + 1) * 4
-}
+use sc_types::{CType, MAX_FRAME, Signature, Structs, is_object, size_of, slot_bytes};
 
 /// Whether an object has a complete type, its size, and this place in the frame.
 fn is_auto(structs: &Structs, at: u64, x: &Auto) -> bool

@@ -7,7 +7,7 @@ mod module;
 mod numbers;
 mod text;
 
-pub use library::{TypeForm, library_fun, takes};
+pub use library::{NAMES, TypeForm, library_fun, takes};
 pub use module::Module;
 pub use numbers::{Numbers, insert_key};
 pub use text::{Callee, Definition, Text, callee_of, object_in};

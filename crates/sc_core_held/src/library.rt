@@ -8,9 +8,10 @@ ghost use Rattle.sc_core_held.specs.Forms.{form_of};
 
 use sc_base::{Int, Name};
 use sc_meaning::LibFun;
-use sc_types::{CType, Signature};
+use sc_types::{CType, Signature, rank};
 
-const NAMES: [(&[u8], LibFun); 39] = [
+/// The names of the library, in the order of their numbers.
+pub const NAMES: [(&[u8], LibFun); 39] = [
     (b"putchar", LibFun::Putchar),
     (b"puts", LibFun::Puts),
     (b"printf", LibFun::Printf),
@@ -91,23 +92,6 @@ const CONST_TEXT: TypeForm = TypeForm::ToText(true);
 const BYTES: TypeForm = TypeForm::ToVoid(false);
 
 const CONST_BYTES: TypeForm = TypeForm::ToVoid(true);
-
-// The place of an integer type in the order of all.
-fn rank(i: Int) -> u8
-    ensures { result ≡ compatibility.rank i }
-{
-    match i {
-        Int::Char => 0,
-        Int::SChar => 1,
-        Int::UChar => 2,
-        Int::Short => 3,
-        Int::UShort => 4,
-        Int::Int => 5,
-        Int::UInt => 6,
-        Int::Long => 7,
-        Int::ULong => 8,
-    }
-}
 
 fn same_bool(a: bool, b: bool) -> bool
     ensures { result ≡ compatibility.same_bool a b }

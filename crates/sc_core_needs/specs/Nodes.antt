@@ -5,6 +5,7 @@ use Rattle.sc_base.specs.declared.integer.Int.{Int}
 use Rattle.sc_base.specs.declared.integer.Int.TheVariants as i
 use Rattle.sc_base.specs.declared.operator.Op.{Op}
 use Rattle.sc_base.specs.declared.operator.Op.TheVariants as op
+use Rattle.sc_types.specs.Calls.{fits}
 use Rattle.sc_types.specs.declared.ctype.CType.{CType, out-CType}
 use Rattle.sc_types.specs.declared.ctype.CType.TheVariants as t
 use Rattle.sc_types.specs.declared.ctype.CType.TheOpen.{CType-F}
@@ -81,10 +82,6 @@ argument structs None e = is_further_shape (value structs e)
 abbrev pub arguments : List StructDef → List CType → ℕ → List CoreExpr → Bool
 arguments structs ps n [] = true
 arguments structs ps n (e ∷ es) = argument structs (slice_get ps n) e && arguments structs ps (n + 1) es
-
--- as many arguments as there are parameters; more only where the function is variadic
-abbrev pub fits : Signature → ℕ → Bool
-fits f n = length f.params == n || (f.variadic && nat_lt (length f.params) n)
 
 abbrev pub calls_function : List StructDef → CType → Signature → List CoreExpr → Bool
 calls_function structs of f args =

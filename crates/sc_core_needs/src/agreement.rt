@@ -1,24 +1,12 @@
 // Which types go together in a typed tree (ANSI 3.1.2.6, 3.2.2.3, 3.3.16.1).
 ghost use Rattle.std.specs.Prelude.{◌≡◌};
 ghost use Rattle.sc_core_needs.specs.Types as spec;
-ghost use Rattle.sc_types.specs.Compatibility.{same_int, same_length, same_bool};
+ghost use Rattle.sc_types.specs.Compatibility.{same_bool};
 ghost use Rattle.sc_types.specs.declared.ctype.CType.{out-CType};
 
 use sc_base::Int;
 use sc_check_operand::{is_array, is_const, is_function, is_void};
-use sc_types::{CType, Structs, compatible, promote};
-
-pub(crate) fn same_int(a: Int, b: Int) -> bool
-    ensures { result ≡ same_int a b }
-{
-    a == b
-}
-
-fn same_length(n: u32, m: u32) -> bool
-    ensures { result ≡ same_length n m }
-{
-    n == m || n == 0 || m == 0
-}
+use sc_types::{CType, Structs, compatible, promote, same_int, same_length};
 
 /// Whether two truth values are equal.
 pub fn same_bool(a: bool, b: bool) -> bool

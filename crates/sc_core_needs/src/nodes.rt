@@ -15,7 +15,7 @@ use sc_check_operand::{
 };
 use sc_core::{CoreExpr, UnaryOperator, type_of};
 use sc_ops::convert;
-use sc_types::{CType, Member, Signature, Structs, align_of, is_object, size_of};
+use sc_types::{CType, Member, Signature, Structs, align_of, fits, is_object, size_of};
 
 /// A number of an integer type, as its 32 bits (ANSI 3.1.3).
 pub fn is_number(of: &CType, n: u32) -> bool
@@ -101,12 +101,6 @@ fn arguments(structs: &Structs, params: &[CType], args: &[Shared<CoreExpr>]) -> 
         }
     }
     true
-}
-
-fn fits(f: &Signature, n: usize) -> bool
-    ensures { result ≡ spec.fits f.now n }
-{
-    f.params.len() == n || (f.variadic && f.params.len() < n)
 }
 
 fn calls_function(structs: &Structs, of: &CType, f: &Signature, args: &[Shared<CoreExpr>]) -> bool

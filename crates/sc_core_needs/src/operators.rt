@@ -5,14 +5,14 @@ ghost use Rattle.sc_types.specs.declared.ctype.CType.{out-CType};
 ghost use Rattle.sc_core.specs.Types.{type_of};
 
 use crate::agreement::{
-    is_given_as, is_int_of, is_plain_of, is_promoted, same_int, targets_alike, targets_join,
+    is_given_as, is_int_of, is_plain_of, is_promoted, targets_alike, targets_join,
 };
 use crate::nodes::writes;
 use crate::values::{is_condition, is_done, is_value_for, value};
 use sc_base::{Int, Op};
 use sc_check_operand::{Shape, is_const, is_null, is_pointer, is_scalar, shape_of};
 use sc_core::{CoreExpr, type_of};
-use sc_types::{CType, Structs, is_object, promote, size_of, usual};
+use sc_types::{CType, Structs, is_object, promote, same_int, size_of, usual};
 
 /// The operators with one rule for their operands. Those of one operand stand in no construct with two.
 #[derive(Clone, Copy, Debug, PartialEq, Eq)]

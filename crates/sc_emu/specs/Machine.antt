@@ -11,6 +11,8 @@ use Rattle.sc_isa.specs.Reading.{instr_of}
 use Rattle.sc_mem.specs.Flat.{Flat, aligned_place, put, raw_read}
 use Rattle.sc_emu.specs.declared.outcome.Crash.{Crash}
 use Rattle.sc_emu.specs.declared.outcome.Crash.TheVariants.{BadFetch, Misfetch, Illegal, Misaligned, Outside}
+use Rattle.sc_emu.specs.declared.outcome.Done.{Done}
+use Rattle.sc_emu.specs.declared.outcome.Done.TheVariants.{Finished, Asked, NoWord, NoInstruction, Unaligned, NoArea, NoRoom}
 use Rattle.sc_emu.specs.declared.outcome.Step.{Step}
 use Rattle.sc_emu.specs.declared.outcome.Step.TheVariants.{Went, Service, AtReturn, Stopped, NoMemory}
 use Rattle.sc_emu.specs.Operations.{bits_of, is_taken, load_size, loaded, of_two, plain, store_size, sum, with_constant}
@@ -131,3 +133,13 @@ Gives outcome store old new (Service n) = (outcome ≡ Asks new) × (n ≡ (regi
 Gives outcome store old new AtReturn = (outcome ≡ Returns) × (new ≡ old)
 Gives outcome store old new (Stopped crash) = (outcome ≡ Stops crash) × (new ≡ old)
 Gives outcome store old new NoMemory = IsGoing outcome × store × (new ≡ old)
+
+-- the answer of the code, by the one without the service's number and by that number
+abbrev pub told : Done → ℕ → Step
+told Finished n = Went
+told Asked n = Service n
+told NoWord n = Stopped BadFetch
+told NoInstruction n = Stopped Illegal
+told Unaligned n = Stopped Misaligned
+told NoArea n = Stopped Outside
+told NoRoom n = NoMemory

@@ -23,3 +23,15 @@ pub enum Step {
     Stopped(Crash),
     NoMemory,
 }
+
+/// The same in one byte, without the service's number: what the functions below a step hand on.
+#[derive(Clone, Copy)]
+pub enum Done {
+    Finished,
+    Asked,
+    NoWord,
+    NoInstruction,
+    Unaligned,
+    NoArea,
+    NoRoom,
+}

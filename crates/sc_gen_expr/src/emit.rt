@@ -1,5 +1,5 @@
 // What is written of an object so far: the words of one text, relocations, and the targets that they name.
-ghost use Rattle.std.specs.Prelude.{◌≡◌, ◌+◌, ◌*◌, ◌<◌, ◌^◌, [], ◌∷◌, ◌++◌, length, slice_get, min, None, Some, MatchOption, OnOk, IfOk, pos};
+ghost use Rattle.std.specs.Prelude.{◌≡◌, ◌+◌, ◌*◌, ◌<◌, ◌^◌, [], ◌∷◌, ◌++◌, length, position, slice_get, min, None, Some, MatchOption, OnOk, IfOk, pos};
 ghost use Rattle.sc_gen_expr.specs.Emitted as emitted;
 ghost use Rattle.sc_gen_expr.specs.Expressions.{expression_code};
 ghost use Rattle.sc_gen_expr.specs.Words as spec;
@@ -53,6 +53,20 @@ impl Targets {
         ensures { MatchOption result (slice_get self.now n ≡ None) (λ t. slice_get self.now n ≡ Some t.now) }
     {
         self.all.get_index(n)
+    }
+
+    /// The number of a target, where it was named.
+    pub fn number(&self, target: &Target) -> Option<usize>
+        ensures { result ≡ position (spec.target_eq target.now) self.now }
+    {
+        self.all.get_index_of(target)
+    }
+
+    /// The targets in the order of their numbers.
+    pub fn as_slice(&self) -> &[Target]
+        ensures { result.now ≡ self.now }
+    {
+        self.all.as_slice()
     }
 
     /// How many targets there are.

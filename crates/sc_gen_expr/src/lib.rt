@@ -10,10 +10,11 @@ mod symbolic;
 mod words;
 
 pub use code::{
-    A0, A1, A2, RA, SP, T0, T1, T2, X0, addi, block_service, close, copied, li, near, over, put,
-    put_one, service, skip_if, skip_unless,
+    A0, A1, A2, RA, SP, T0, T1, T2, X0, addi, block_service, close, copied, li, near, open, over,
+    put, put_one, reopen, service, skip_if, skip_unless,
 };
 pub use emit::{Emit, Targets, fitted, gen_expr, write};
 pub use expressions::{expression, slot_of};
 pub use operators::{machine_type, store_of};
 pub use symbolic::{Access, Symbolic, Target};
+pub use words::symbolic_word;

@@ -7,16 +7,16 @@ use Rattle.std.specs.Option.{option_map, option_or}
 use Rattle.sc_base.specs.declared.key.Key.{Key}
 use Rattle.sc_isa_image.specs.declared.image.Image.{Image}
 use Rattle.sc_isa_image.specs.declared.text.Text.{Text}
-use Rattle.sc_isa_image.specs.Stubs.{call_words, stub_address, stub_of_word}
+use Rattle.sc_isa_image.specs.Stubs.{stub_of_word}
 use Rattle.sc_isa_image.specs.Texts.{end_of, holds, place_of as where_of, text_holding, text_word, word_in, word_in_found}
-use Rattle.sc_isa_image.specs.Lookups.{key_of, literal_in, text_at, value_of, value_or, word_at}
+use Rattle.sc_isa_image.specs.Lookups.{literal_in, text_at, value_or, word_at}
 use Rattle.sc_link.specs.declared.placed.Placed.{Placed}
 use Rattle.sc_link.specs.declared.placed.LiteralAt.{LiteralAt}
 use Rattle.sc_link.specs.Entries.{Fix, fixes_in, jumps_in, literals_in, statics_in, texts_in}
 use Rattle.sc_link.specs.Linked.{AreApart, AreDistinct, IsLinked, fixed_all, key_in, place_in, stub_from, stub_half, stub_in, stub_words, text_word_in, value_in}
-use Rattle.sc_link.specs.Steps.{AreFree, AreNew, AreStubs, HasLiterals, PutsFunctions, PutsLiterals, PutsStatics, PutsTexts, Relocates, SetsJumps, call_over, count_of, jump_for, jump_over, key_from, stub_over, word_over}
+use Rattle.sc_link.specs.Steps.{AreFree, AreNew, AreStubs, HasLiterals, PutsFunctions, PutsLiterals, PutsStatics, PutsTexts, Relocates, SetsJumps, call_over, jump_for, jump_over, key_from, stub_over, word_over}
 use Rattle.sc_incr.specs.Stands.{AreAbsent, AreHeld, AreSingle, Covers, Has, Stands}
-use Rattle.sc_incr.proofs.Keys.{eq-true, eq-false, find-append, find-some, get-front, get-within, lookup-append, lt-false, lt-true, none-some, true-eq, false-eq, false-lt, true-lt}
+use Rattle.sc_incr.proofs.Keys.{find-append, find-some, get-front, get-within, lt-false, none-some, false-lt, true-lt}
 use Rattle.sc_incr.proofs.Numbers.{calls-high, calls-more, found-key, get-behind, jumps-high, jumps-more, keys-more, or-lookup, stub-at, stub-known, stub-number, stub_in-at, stubs-more}
 use Rattle.sc_incr.proofs.Fixing.{Again, fixed-anew, fixed-none}
 
@@ -49,20 +49,20 @@ or-assoc None None (Some n) = refl
 or-assoc None (Some n) c = refl
 or-assoc (Some n) b c = refl
 
-holds-from : (pc : ℕ) (t : Text) → 0x00100000 ≤ t.at.start → holds pc t ≡ true → 0x00100000 ≤ pc
+pub holds-from : (pc : ℕ) (t : Text) → 0x00100000 ≤ t.at.start → holds pc t ≡ true → 0x00100000 ≤ pc
 holds-from pc t l h = by t.at.start (end_of t) l h
   where
     by : (a b : ℕ) → 0x00100000 ≤ a → nat_le a pc && nat_lt pc b ≡ true → 0x00100000 ≤ pc
     by a b l h = grind (arith, nat_tests)
 
-find-none : {A : Type 0} (p : A → Bool) (xs : List A) → ((n : ℕ) (x : A) → slice_get xs n ≡ Some x → p x ≡ true → ⊥) → find p xs ≡ None
+pub find-none : {A : Type 0} (p : A → Bool) (xs : List A) → ((n : ℕ) (x : A) → slice_get xs n ≡ Some x → p x ≡ true → ⊥) → find p xs ≡ None
 find-none {A = A} p xs h = by (find p xs) refl
   where
     by : (r : Option A) → find p xs ≡ r → find p xs ≡ None
     by None e = e
     by (Some x) e = let g = find-some p xs x e in absurd (h g.0 x g.1 g.2)
 
-find-there : (pc : ℕ) (us : List Text) (n : ℕ) (t : Text) → slice_get us n ≡ Some t → holds pc t ≡ true → find (holds pc) us ≡ None → ⊥
+pub find-there : (pc : ℕ) (us : List Text) (n : ℕ) (t : Text) → slice_get us n ≡ Some t → holds pc t ≡ true → find (holds pc) us ≡ None → ⊥
 find-there pc [] n t g x z = none-some (slice_get [] n) t refl g
 find-there pc (u ∷ us) n t g x z = by (holds pc u) refl n g z (λ m i w. find-there pc us m t i x w)
   where
@@ -71,7 +71,7 @@ find-there pc (u ∷ us) n t g x z = by (holds pc u) refl n g z (λ m i w. find-
     by false e zero i w rest = let s : u ≡ t = cc in absurd (true≢false (sym x ∙ (ap (holds pc) (sym s) ∙ e)))
     by false e (suc m) i w rest = rest m i w
 
-where-none : (r : Option Text) → where_of r ≡ None → r ≡ None
+pub where-none : (r : Option Text) → where_of r ≡ None → r ≡ None
 where-none None e = refl
 where-none (Some t) e = absurd (cc)
 

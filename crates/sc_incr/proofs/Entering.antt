@@ -1,8 +1,7 @@
 -- The image of a list with one entry more.
-use Rattle.std.proofs.Common.{◌≡◌, ◌⊎◌, inl, inr, ℕ, zero, suc, ◌+◌, ◌≤◌, Bool, true, false, cond, List, [], ◌∷◌, ◌++◌, length, map, reverse, find, ◌&&◌, ◌%◌, ◌^◌, refl, sym, ap, ◌∙◌, Option, Some, None, subst, arith, true≢false}
+use Rattle.std.proofs.Common.{◌≡◌, ◌⊎◌, inl, inr, ℕ, zero, suc, ◌+◌, Bool, true, false, cond, List, [], ◌∷◌, ◌++◌, length, map, reverse, find, ◌&&◌, ◌%◌, ◌^◌, refl, sym, ap, ◌∙◌, Option, Some, None, subst, true≢false}
 use Rattle.std.specs.Prelude.{flat_map, filter, option_and_then}
 use Rattle.std.specs.List.{slice_get}
-use Rattle.std.specs.Map.{lookup}
 use Rattle.std.specs.Option.{option_or}
 use Rattle.std.specs.Str.{bytes_eq}
 use Rattle.sc_base.specs.declared.key.Key.{Key}
@@ -10,20 +9,19 @@ use Rattle.sc_object.specs.declared.object.Reloc.{Reloc}
 use Rattle.sc_object.specs.declared.object.Symbol.{Symbol}
 use Rattle.sc_isa_image.specs.declared.image.Image.{Image}
 use Rattle.sc_isa_image.specs.declared.literals.Literal.{Literal}
-use Rattle.sc_isa_image.specs.declared.text.Text.{Text}
-use Rattle.sc_isa_image.specs.Lookups.{key_eq, literal_in, value_of}
+use Rattle.sc_isa_image.specs.Lookups.{key_eq, value_of}
 use Rattle.sc_link.specs.declared.placed.Placed.{Placed}
 use Rattle.sc_link.specs.declared.placed.LiteralAt.{LiteralAt}
 use Rattle.sc_link.specs.Symbols.{is_literal, key_of as symbol_key, place_of}
-use Rattle.sc_link.specs.Entries.{Base, Fix, OfKey, Place, base_of, fix_at, fixes_at, fixes_from, fixes_if, fixes_in, fixes_of, has_second, is_object, jumps_if, jumps_in, literals_in, literals_of, spot_of, statics_if, statics_in, texts_if, texts_in}
+use Rattle.sc_link.specs.Entries.{Base, Fix, OfKey, Place, base_of, fix_at, fixes_at, fixes_if, fixes_in, fixes_of, has_second, is_object, jumps_if, jumps_in, literals_in, literals_of, spot_of, statics_if, statics_in, texts_if, texts_in}
 use Rattle.sc_link.specs.Linked.{AreOnePlaced, IsLinked, at_of, base_value, is_literal_at, literal_of, literal_place, or_zero, place_in, stub_from, value_in}
 use Rattle.sc_link.specs.Steps.{AreLiteralsFree, HasLiterals, Relocates}
-use Rattle.sc_incr.specs.Stands.{Covers, Has, Stands}
+use Rattle.sc_incr.specs.Stands.{Covers, Has, IsOpen, Stands}
 use Rattle.sc_incr.specs.Parts.{Follows, HasEntry, fixes_for, fixes_for_all, key_of_pair, new_keys}
 use Rattle.sc_incr.specs.Uses.{fixes_naming, is_key, key_by, key_named, names}
 use Rattle.sc_incr.proofs.Adding.{stands-fixed, stands-linked}
 use Rattle.sc_incr.proofs.Fixing.{Again}
-use Rattle.sc_incr.proofs.Keys.{bytes-same, find-some, key-refl, key-same, none-some}
+use Rattle.sc_incr.proofs.Keys.{bytes-same, find-some, key-refl, key-same}
 use Rattle.sc_incr.proofs.Members.{filter-has, flat-has, flat-snoc, has-back, has-filter, has-flat, has-front, has-nothing, has-reverse, has-split}
 use Rattle.sc_incr.proofs.Numbers.{or-lookup, stub-behind, stub-known, stub-there}
 use Rattle.sc_incr.proofs.Relocating.{relocates-then}
@@ -41,7 +39,7 @@ decide k ks = by (stub_from 0 ks k) refl
     by (Some at) e = known (stub-known 0 ks k at e)
 
 -- a key with a place is among the keys of the list
-place-known : (xs : List (Key × ℕ)) (k : Key) (at : ℕ) → place_in xs k ≡ Some at → Has k (map key_of_pair xs)
+pub place-known : (xs : List (Key × ℕ)) (k : Key) (at : ℕ) → place_in xs k ≡ Some at → Has k (map key_of_pair xs)
 place-known [] k at h = absurd (let z : ◌≡◌ {A = Option ℕ} None (Some at) = h in cc)
 place-known (x ∷ xs) k at h = by (key_eq x.0 k) refl h (place-known xs k at)
   where
@@ -168,7 +166,7 @@ again-covers v w es keys same f h =
     by e i o r j g None n = inr (onto e r g (unnamed v w e (slice_get e.object.symbols r.symbol) n))
     by e i o r j g (Some k) n = key e i o r j g k n (decide k keys)
 
-literal-same : (l : Literal) (x : LiteralAt) → is_literal_at l x ≡ true → literal_of x ≡ l
+pub literal-same : (l : Literal) (x : LiteralAt) → is_literal_at l x ≡ true → literal_of x ≡ l
 literal-same l x h = by (bytes_eq x.«module» l.«module») refl h
   where
     by : (b : Bool) → bytes_eq x.«module» l.«module» ≡ b → b && bytes_eq x.bytes l.bytes ≡ true → literal_of x ≡ l
@@ -189,21 +187,21 @@ literals-free ls more i h one = record {
   apart = λ m n x y g e s. let a = has-back ls more x (m, g) in let b = has-back ls more y (n, e) in one a.0 b.0 x y a.1 b.1 s;
 }
 
-pub linked-entered : (again : Again) (es : List Placed) (funs : List Key) (e : Placed) (more changed : List Key) (i j k : Image) → Follows es funs e more → HasEntry es funs e more i → changed ≡ new_keys e more → ((value : Key → Option ℕ) → ((q : Key) → value_of i q ≡ value q) → Relocates value (fixes_if e) i j) → ((value : Key → Option ℕ) → ((q : Key) → value_of j q ≡ value q) → Relocates value (fixes_for_all es changed) j k) → IsLinked (es ++ e ∷ []) (funs ++ more) k
-linked-entered again es funs e more changed i j k follows has c first rest =
+pub linked-entered : (again : Again) (es : List Placed) (funs : List Key) (e : Placed) (more changed : List Key) (h i j k : Image) → Follows es funs e more → (has : IsOpen es funs changed h) → HasEntry has.value es funs e more i → ((q : Key) → Has q (new_keys e more) → Has q changed) → ((value : Key → Option ℕ) → ((q : Key) → value_of i q ≡ value q) → Relocates value (fixes_if e) i j) → ((value : Key → Option ℕ) → ((q : Key) → value_of j q ≡ value q) → Relocates value (fixes_for_all es changed) j k) → IsLinked (es ++ e ∷ []) (funs ++ more) k
+linked-entered again es funs e more changed h i j k follows has stands c first rest =
     stands-linked (es ++ e ∷ []) (funs ++ more) k
     (subst (λ x. Stands (funs ++ more) x (jumps_in (es ++ e ∷ [])) (texts_in (es ++ e ∷ [])) (fixes_in (es ++ e ∷ [])) (value_in (es ++ e ∷ []) (funs ++ more)) (literals_in (es ++ e ∷ [])) k) (sym (flat-snoc statics_if es e))
     (subst (λ x. Stands (funs ++ more) (statics_in es ++ statics_if e) x (texts_in (es ++ e ∷ [])) (fixes_in (es ++ e ∷ [])) (value_in (es ++ e ∷ []) (funs ++ more)) (literals_in (es ++ e ∷ [])) k) (sym (flat-snoc jumps_if es e))
     (subst (λ x. Stands (funs ++ more) (statics_in es ++ statics_if e) (jumps_in es ++ jumps_if e) x (fixes_in (es ++ e ∷ [])) (value_in (es ++ e ∷ []) (funs ++ more)) (literals_in (es ++ e ∷ [])) k) (sym (flat-snoc texts_if es e))
     (subst (λ x. Stands (funs ++ more) (statics_in es ++ statics_if e) (jumps_in es ++ jumps_if e) (texts_in es ++ texts_if e) x (value_in (es ++ e ∷ []) (funs ++ more)) (literals_in (es ++ e ∷ [])) k) (sym (flat-snoc fixes_if es e))
     (subst (λ x. Stands (funs ++ more) (statics_in es ++ statics_if e) (jumps_in es ++ jumps_if e) (texts_in es ++ texts_if e) (fixes_in es ++ fixes_if e) (value_in (es ++ e ∷ []) (funs ++ more)) x k) (sym (flat-snoc literals_of es e))
-    (stands-fixed (funs ++ more) (statics_in es ++ statics_if e) (jumps_in es ++ jumps_if e) (texts_in es ++ texts_if e) (fixes_in es) (value_in es funs) (literals_in es ++ literals_of e) again after (fixes_in es ++ fixes_if e) (fixes_if e ++ fixes_for_all es changed) i k has follows.single covers made))))))
+    (stands-fixed (funs ++ more) (statics_in es ++ statics_if e) (jumps_in es ++ jumps_if e) (texts_in es ++ texts_if e) (fixes_in es) has.value (literals_in es ++ literals_of e) again after (fixes_in es ++ fixes_if e) (fixes_if e ++ fixes_for_all es changed) i k stands follows.single covers made))))))
   where
     after : Key → Option ℕ
     after = value_in (es ++ e ∷ []) (funs ++ more)
 
     values : (q : Key) → value_of i q ≡ after q
-    values q = has.values q ∙ ap (λ x. option_or (stub_from 0 (funs ++ more) q) (place_in x q)) (sym (flat-snoc statics_if es e))
+    values q = stands.values q ∙ ap (λ x. option_or (stub_from 0 (funs ++ more) q) (place_in x q)) (sym (flat-snoc statics_if es e))
 
     one : Relocates after (fixes_if e) i j
     one = first after values
@@ -211,22 +209,22 @@ linked-entered again es funs e more changed i j k follows has c first rest =
     made : Relocates after (fixes_if e ++ fixes_for_all es changed) i k
     made = relocates-then after (fixes_if e) (fixes_for_all es changed) i j k one (rest after (λ q. one.values q ∙ values q))
 
-    outside : (q : Key) → (Has q changed → ⊥) → value_in es funs q ≡ after q
-    outside q n = same-outside es funs e more q (λ h. n (subst (λ x. Has q x) (sym c) h)) ∙ ap (λ x. option_or (stub_from 0 (funs ++ more) q) (place_in x q)) (sym (flat-snoc statics_if es e))
+    outside : (q : Key) → (Has q changed → ⊥) → has.value q ≡ after q
+    outside q n = has.same q n ∙ (same-outside es funs e more q (λ h. n (c q h)) ∙ ap (λ x. option_or (stub_from 0 (funs ++ more) q) (place_in x q)) (sym (flat-snoc statics_if es e)))
 
     inside : (f : Fix) → Has f (fixes_if e) ⊎ Has f (fixes_for_all es changed) → Has f (fixes_in es ++ fixes_if e)
     inside f (inl h) = has-back (fixes_in es) (fixes_if e) f h
     inside f (inr h) = has-front (fixes_in es) (fixes_if e) f (again-inside es changed f h)
 
-    old : (f : Fix) → Has f (fixes_in es) → Has f (fixes_for_all es changed) ⊎ (base_value (value_in es funs) f.base ≡ base_value after f.base) → Has f (fixes_if e ++ fixes_for_all es changed) ⊎ (Has f (fixes_in es) × (base_value (value_in es funs) f.base ≡ base_value after f.base))
+    old : (f : Fix) → Has f (fixes_in es) → Has f (fixes_for_all es changed) ⊎ (base_value has.value f.base ≡ base_value after f.base) → Has f (fixes_if e ++ fixes_for_all es changed) ⊎ (Has f (fixes_in es) × (base_value has.value f.base ≡ base_value after f.base))
     old f h (inl g) = inl (has-back (fixes_if e) (fixes_for_all es changed) f g)
     old f h (inr g) = inr (h, g)
 
-    all : (f : Fix) → Has f (fixes_in es) ⊎ Has f (fixes_if e) → Has f (fixes_if e ++ fixes_for_all es changed) ⊎ (Has f (fixes_in es) × (base_value (value_in es funs) f.base ≡ base_value after f.base))
-    all f (inl h) = old f h (again-covers (value_in es funs) after es changed outside f h)
+    all : (f : Fix) → Has f (fixes_in es) ⊎ Has f (fixes_if e) → Has f (fixes_if e ++ fixes_for_all es changed) ⊎ (Has f (fixes_in es) × (base_value has.value f.base ≡ base_value after f.base))
+    all f (inl h) = old f h (again-covers has.value after es changed outside f h)
     all f (inr h) = inl (has-front (fixes_if e) (fixes_for_all es changed) f h)
 
-    covers : Covers (value_in es funs) after (fixes_in es) (fixes_in es ++ fixes_if e) (fixes_if e ++ fixes_for_all es changed)
+    covers : Covers has.value after (fixes_in es) (fixes_in es ++ fixes_if e) (fixes_if e ++ fixes_for_all es changed)
     covers = record {
       kept = λ f h. has-front (fixes_in es) (fixes_if e) f h;
       inside = λ f h. inside f (has-split (fixes_if e) (fixes_for_all es changed) f h);

@@ -1,7 +1,6 @@
 -- Words that are relocated again.
-use Rattle.std.proofs.Common.{◌≡◌, ◌≢◌, ◌⊎◌, inl, inr, ℕ, zero, suc, ◌==◌, Bool, true, false, cond, List, [], ◌∷◌, ◌++◌, refl, sym, ap, ◌∙◌, Option, Some, None, true≢false}
+use Rattle.std.proofs.Common.{◌≡◌, ◌≢◌, ◌⊎◌, inl, inr, ℕ, zero, suc, ◌==◌, Bool, true, false, cond, List, [], ◌∷◌, refl, sym, ap, ◌∙◌, Option, Some, None}
 use Rattle.std.specs.List.{slice_get}
-use Rattle.std.specs.Option.{option_map}
 use Rattle.sc_base.specs.declared.key.Key.{Key}
 use Rattle.sc_link.specs.Relocation.{relocated, target_of}
 use Rattle.sc_link.specs.Entries.{Fix}

@@ -1,5 +1,5 @@
 -- Functions by their numbers, and more of them.
-use Rattle.std.proofs.Common.{◌≡◌, ◌≢◌, ℕ, zero, suc, ◌+◌, ◌-◌, ◌*◌, ◌/◌, ◌%◌, ◌<◌, ◌≤◌, ◌==◌, Bool, true, false, cond, List, [], ◌∷◌, ◌++◌, length, refl, sym, ap, ◌∙◌, Option, Some, None, arith, true≢false, length-append}
+use Rattle.std.proofs.Common.{◌≡◌, ◌≢◌, ℕ, zero, suc, ◌+◌, ◌-◌, ◌*◌, ◌/◌, ◌%◌, ◌<◌, ◌≤◌, ◌==◌, Bool, true, false, cond, List, [], ◌∷◌, ◌++◌, length, refl, sym, ap, ◌∙◌, Option, Some, None, arith, true≢false}
 use Rattle.std.specs.Prelude.{nat_lt, option_and_then}
 use Rattle.std.specs.List.{slice_get}
 use Rattle.std.specs.Option.{option_or}
@@ -9,7 +9,7 @@ use Rattle.sc_isa_image.specs.Lookups.{key_eq}
 use Rattle.sc_link.specs.Linked.{AreDistinct, key_in, place_in, stub_from, stub_half, stub_in, stub_words}
 use Rattle.sc_link.specs.Steps.{call_over, jump_for, jump_over, key_from, stub_over}
 use Rattle.sc_incr.specs.Stands.{AreAbsent, Has}
-use Rattle.sc_incr.proofs.Keys.{get-front, lookup-append, none-some, eq-true, eq-false, true-eq, false-eq, true-lt, false-lt, lt-true, lt-false, get-within, key-refl, key-same, same-some}
+use Rattle.sc_incr.proofs.Keys.{lookup-append, none-some, eq-true, eq-false, true-eq, false-eq, true-lt, false-lt, lt-true, lt-false, key-refl, key-same, same-some}
 
 -- An address that no function's number gives, one of a number before these, and one of these.
 key-nowhere : (n : ℕ) (ks : List Key) (at : ℕ) (r : Option Key) → ((m : ℕ) → at ≢ stub_address m) → key_from n ks at r ≡ r
@@ -29,10 +29,10 @@ or-none : {A : Type 0} (r : Option A) → option_or r None ≡ r
 or-none None = refl
 or-none (Some x) = refl
 
-stub-below : (pc : ℕ) → pc < 0x00010000 → stub_of_word pc ≡ None
+pub stub-below : (pc : ℕ) → pc < 0x00010000 → stub_of_word pc ≡ None
 stub-below pc l = ap (λ b. cond b None (cond (pc % 4 == 0) (Some ((pc - 0x00010000) / 8)) None)) (true-lt pc 0x00010000 l)
 
-stub-odd : (pc : ℕ) → pc % 4 ≢ 0 → stub_of_word pc ≡ None
+pub stub-odd : (pc : ℕ) → pc % 4 ≢ 0 → stub_of_word pc ≡ None
 stub-odd pc h = by (nat_lt pc 0x00010000)
   where
     by : (b : Bool) → cond b None (cond (pc % 4 == 0) (Some ((pc - 0x00010000) / 8)) None) ≡ None
@@ -44,12 +44,12 @@ stub-at pc n l h e =
     ap (λ b. cond b None (cond (pc % 4 == 0) (Some ((pc - 0x00010000) / 8)) None)) (false-lt pc 0x00010000 l)
     ∙ (ap (λ b. cond b (Some ((pc - 0x00010000) / 8)) None) (true-eq (pc % 4) 0 h) ∙ ap Some e)
 
-key_in-at : (ks : List Key) (n at : ℕ) → at ≡ stub_address n → key_in ks at ≡ slice_get ks n
+pub key_in-at : (ks : List Key) (n at : ℕ) → at ≡ stub_address n → key_in ks at ≡ slice_get ks n
 key_in-at ks n at h =
     ap (λ b. cond b (option_and_then (slice_get ks) (stub_of_word at)) None) (true-eq (at % 8) 0 (omega arith))
     ∙ ap (option_and_then (slice_get ks)) (stub-at at n (omega arith) (omega arith) (omega arith))
 
-key_in-nowhere : (ks : List Key) (at : ℕ) → ((m : ℕ) → at ≢ stub_address m) → key_in ks at ≡ None
+pub key_in-nowhere : (ks : List Key) (at : ℕ) → ((m : ℕ) → at ≢ stub_address m) → key_in ks at ≡ None
 key_in-nowhere ks at h = by (at % 8 == 0) refl
   where
     low : at % 8 ≡ 0 → at < 0x00010000
@@ -170,16 +170,16 @@ half pc = by (nat_lt pc 0x00010000) refl (pc % 8 == 0) refl (pc % 8 == 4) refl
     by false e false g true h = second ((pc - 0x00010000) / 8) (let l = lt-false pc 0x00010000 e in let r = eq-true (pc % 8) 4 h in omega arith)
     by false e false g false h = odd (λ z. let a = eq-false (pc % 8) 0 g in let b = eq-false (pc % 8) 4 h in absurd (omega arith))
 
-stub_in-none : (js : List (Key × ℕ)) (ks : List Key) (pc : ℕ) → stub_of_word pc ≡ None → stub_in js ks pc ≡ None
+pub stub_in-none : (js : List (Key × ℕ)) (ks : List Key) (pc : ℕ) → stub_of_word pc ≡ None → stub_in js ks pc ≡ None
 stub_in-none js ks pc e = ap (option_and_then (λ n. option_and_then (λ key. stub_half pc (stub_words (place_in js key))) (slice_get ks n))) e
 
 pub stub_in-at : (js : List (Key × ℕ)) (ks : List Key) (pc n : ℕ) → stub_of_word pc ≡ Some n → stub_in js ks pc ≡ option_and_then (λ key. stub_half pc (stub_words (place_in js key))) (slice_get ks n)
 stub_in-at js ks pc n e = ap (option_and_then (λ n. option_and_then (λ key. stub_half pc (stub_words (place_in js key))) (slice_get ks n))) e
 
-half-first : (pc : ℕ) (ws : List ℕ) → pc % 8 ≡ 0 → stub_half pc ws ≡ slice_get ws 0
+pub half-first : (pc : ℕ) (ws : List ℕ) → pc % 8 ≡ 0 → stub_half pc ws ≡ slice_get ws 0
 half-first pc ws h = ap (λ b. cond b (slice_get ws 0) (slice_get ws 1)) (true-eq (pc % 8) 0 h)
 
-half-second : (pc : ℕ) (ws : List ℕ) → pc % 8 ≡ 4 → stub_half pc ws ≡ slice_get ws 1
+pub half-second : (pc : ℕ) (ws : List ℕ) → pc % 8 ≡ 4 → stub_half pc ws ≡ slice_get ws 1
 half-second pc ws h = ap (λ b. cond b (slice_get ws 0) (slice_get ws 1)) (false-eq (pc % 8) 0 (λ e. absurd (omega arith)))
 
 -- no stub of these functions is at an address behind the last
@@ -316,7 +316,7 @@ stubs-more ks more q r d = by (stub_from 0 ks q) refl ∙ sym (ap (λ s. option_
         ∙ (ap (λ s. option_or s r) e ∙ ap (λ s. option_or (option_or s (stub_from (length ks) more q)) r) (sym e))
 
 -- the words of stubs
-abbrev at_key : List (Key × ℕ) → ℕ → Option Key → Option ℕ
+abbrev pub at_key : List (Key × ℕ) → ℕ → Option Key → Option ℕ
 at_key js pc x = option_and_then (λ key. stub_half pc (stub_words (place_in js key))) x
 
 called : (js : List (Key × ℕ)) (x : Option Key) (pc half : ℕ) (r : Option ℕ) → ((k : Key) → x ≡ Some k → place_in js k ≡ None) → stub_half pc call_words ≡ slice_get call_words half → (x ≡ None → r ≡ None) → call_half x half r ≡ at_key js pc x

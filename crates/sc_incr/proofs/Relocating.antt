@@ -1,5 +1,5 @@
 -- Relocations one after another.
-use Rattle.std.proofs.Common.{◌≡◌, ◌≢◌, ℕ, zero, suc, ◌+◌, ◌<◌, ◌≤◌, ◌==◌, Bool, true, false, cond, List, [], ◌∷◌, ◌++◌, length, map, take, append_assoc, refl, sym, ap, ◌∙◌, Option, Some, None, arith, true≢false, add-one, subst}
+use Rattle.std.proofs.Common.{◌≡◌, ℕ, zero, suc, ◌+◌, ◌==◌, Bool, true, false, cond, List, [], ◌∷◌, ◌++◌, length, map, take, append_assoc, refl, sym, ap, ◌∙◌, Option, Some, None, arith, true≢false, add-one, subst}
 use Rattle.std.proofs.lemmas.List.{append-nil}
 use Rattle.std.specs.Prelude.{nat_lt, flat_map, filter, option_and_then, option_to_list}
 use Rattle.std.specs.List.{slice_get}
@@ -10,15 +10,14 @@ use Rattle.sc_object.specs.declared.object.Object.{Object}
 use Rattle.sc_object.specs.declared.object.Reloc.{Reloc}
 use Rattle.sc_object.specs.declared.object.Symbol.{Symbol}
 use Rattle.sc_isa_image.specs.declared.image.Image.{Image}
-use Rattle.sc_isa_image.specs.Lookups.{Spends, key_eq, value_of, word_at}
+use Rattle.sc_isa_image.specs.Lookups.{Spends, key_eq, word_at}
 use Rattle.sc_link.specs.declared.placed.Placed.{Placed}
 use Rattle.sc_link.specs.Symbols.{is_literal, key_of, place_of}
-use Rattle.sc_link.specs.Entries.{Base, Fix, OfKey, Place, base_of, fixes_if, fixes_of, is_object}
+use Rattle.sc_link.specs.Entries.{Fix, OfKey, Place, base_of, fixes_if, fixes_of, is_object}
 use Rattle.sc_link.specs.Linked.{base_value, fixed_all, fixed_by, or_zero}
 use Rattle.sc_link.specs.Steps.{Relocates}
-use Rattle.sc_incr.specs.Stands.{Has}
-use Rattle.sc_incr.specs.Parts.{AllAddTo, adds_to, fixes_at_position, fixes_placed, key_value}
-use Rattle.sc_incr.specs.Uses.{fixes_naming, is_key, key_by, key_named, names, or_nothing, positions, use_at, users_from, uses_of}
+use Rattle.sc_incr.specs.Parts.{AllAddTo, fixes_at_position, fixes_placed, key_value}
+use Rattle.sc_incr.specs.Uses.{fixes_naming, is_key, key_by, names, or_nothing, positions, use_at, users_from, uses_of}
 use Rattle.sc_incr.proofs.Keys.{key-same, none-some, same-some}
 use Rattle.sc_incr.proofs.Numbers.{get-behind}
 
@@ -52,7 +51,7 @@ relocates-none value i = record {
   room = spends-none i;
 }
 
-fixed-append : (value : Key → Option ℕ) (xs ys : List Fix) (pc w : ℕ) → fixed_all value ys pc (fixed_all value xs pc w) ≡ fixed_all value (xs ++ ys) pc w
+pub fixed-append : (value : Key → Option ℕ) (xs ys : List Fix) (pc w : ℕ) → fixed_all value ys pc (fixed_all value xs pc w) ≡ fixed_all value (xs ++ ys) pc w
 fixed-append value [] ys pc w = refl
 fixed-append value (x ∷ xs) ys pc w = fixed-append value xs ys pc (cond (x.at == pc) (fixed_by value x w) w)
 

@@ -2,4 +2,10 @@
 pub mod Stands
 pub mod Uses
 pub mod Parts
+pub mod Literals
+pub mod Settled
+pub mod Sound
 pub mod Program
+pub mod Leaving
+pub mod Modules
+pub mod Plans

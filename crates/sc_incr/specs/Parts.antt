@@ -1,16 +1,16 @@
 -- Inside: plumbing, a representation, an invariant or a promise beside the claim (docs/TRUST.md).
 -- What a new entry puts into an image, and what has to hold for it.
-use Rattle.std.specs.Prelude.{◌≡◌, ℕ, ◌+◌, ◌≤◌, if◌then◌else◌, List, [], ◌∷◌, ◌++◌, flat_map, length, map, slice_get, option_to_list, Option, Some, None}
+use Rattle.std.specs.Prelude.{◌≡◌, ℕ, Bool, ◌+◌, ◌≤◌, if◌then◌else◌, List, [], ◌++◌, flat_map, length, map, slice_get, option_to_list, Option, Some, None}
+use Rattle.std.specs.List.{list_any}
 use Rattle.sc_base.specs.declared.key.Key.{Key}
 use Rattle.sc_object.specs.declared.object.Reloc.{Reloc}
 use Rattle.sc_isa_image.specs.declared.image.Image.{Image}
 use Rattle.sc_isa_image.specs.declared.text.Text.{Text}
 use Rattle.sc_isa_image.specs.Texts.{end_of}
-use Rattle.sc_isa_image.specs.Lookups.{function_room, literal_room, text_room, value_room}
+use Rattle.sc_isa_image.specs.Lookups.{function_room, key_eq, literal_room, text_room, value_room}
 use Rattle.sc_link.specs.declared.placed.Placed.{Placed}
-use Rattle.sc_link.specs.declared.placed.LiteralAt.{LiteralAt}
 use Rattle.sc_link.specs.Entries.{Fix, base_of, fixes_if, fixes_in, fixes_of, is_object, jumps_if, jumps_in, literals_in, literals_of, statics_if, statics_in, texts_if, texts_in}
-use Rattle.sc_link.specs.Linked.{AreApart, AreDistinct, AreOnePlaced, base_value, or_zero, place_in, value_in}
+use Rattle.sc_link.specs.Linked.{AreApart, AreDistinct, AreOnePlaced, base_value, or_zero, place_in}
 use Rattle.sc_link.specs.Symbols.{key_of}
 use Rattle.sc_incr.specs.declared.parts.Parts.{Parts}
 use Rattle.sc_incr.specs.Stands.{AreAbsent, AreHeld, AreSingle, Has, Stands}
@@ -18,6 +18,10 @@ use Rattle.sc_incr.specs.Uses.{fixes_naming}
 
 abbrev pub key_of_pair : Key × ℕ → Key
 key_of_pair x = x.0
+
+-- a key is one of objects
+abbrev pub is_object_of : List (Key × ℕ) → Key → Bool
+is_object_of objects key = list_any (λ o. key_eq o.0 key) objects
 
 -- the keys that get a value with an entry: its new functions, and its objects
 abbrev pub new_keys : Placed → List Key → List Key
@@ -30,13 +34,13 @@ pub record ArePartsOf (e : Placed) (p : Parts) : Type 0 where
   pub jumps : p.jumps.items ≡ jumps_if e
   pub literals : p.literals.items ≡ literals_of e
   pub symbols : p.symbols.items ≡ map (key_of e.home) e.object.symbols
-  pub changed : p.changed.items ≡ new_keys e p.functions.items
+  pub changed : (k : Key) → Has k (new_keys e p.functions.items) → Has k p.changed.items
 
--- the image has room for the parts
-pub record HasRoom (i : Image) (p : Parts) : Type 0 where
+-- the image has room for the parts, and for some literals more
+pub record HasRoom (moved : ℕ) (i : Image) (p : Parts) : Type 0 where
   pub texts : length p.texts.items ≤ text_room i
   pub statics : length p.statics.items ≤ value_room i
-  pub literals : length p.literals.items ≤ literal_room i
+  pub literals : length p.literals.items + moved ≤ literal_room i
   pub functions : length p.functions.items ≤ function_room i
 
 -- an entry and new functions may follow those of the list
@@ -54,8 +58,8 @@ pub record Follows (es : List Placed) (funs : List Key) (e : Placed) (more : Lis
   pub single : AreSingle (fixes_in es ++ fixes_if e)
 
 -- an image with the parts of an entry behind those of a list, before the relocations of the entry
-abbrev pub HasEntry : List Placed → List Key → Placed → List Key → Image → Type 0
-HasEntry es funs e more i = Stands (funs ++ more) (statics_in es ++ statics_if e) (jumps_in es ++ jumps_if e) (texts_in es ++ texts_if e) (fixes_in es) (value_in es funs) (literals_in es ++ literals_of e) i
+abbrev pub HasEntry : (Key → Option ℕ) → List Placed → List Key → Placed → List Key → Image → Type 0
+HasEntry value es funs e more i = Stands (funs ++ more) (statics_in es ++ statics_if e) (jumps_in es ++ jumps_if e) (texts_in es ++ texts_if e) (fixes_in es) value (literals_in es ++ literals_of e) i
 
 -- to what a relocation adds, by the keys of symbols
 abbrev pub key_value : (Key → Option ℕ) → Option (Option Key) → ℕ

@@ -8,7 +8,7 @@ use Rattle.sc_object.specs.declared.object.Reloc.{Reloc}
 use Rattle.sc_object.specs.declared.object.Symbol.{Symbol}
 use Rattle.sc_isa_image.specs.Lookups.{key_eq}
 use Rattle.sc_link.specs.declared.placed.Placed.{Placed}
-use Rattle.sc_link.specs.Entries.{Fix, each, fixes_of, is_object}
+use Rattle.sc_link.specs.Entries.{Fix, fixes_of, is_object}
 use Rattle.sc_link.specs.Symbols.{is_literal, key_of}
 use Rattle.sc_incr.specs.declared.uses.Use.{Use}
 use Rattle.sc_incr.specs.declared.uses.Uses.{Uses}

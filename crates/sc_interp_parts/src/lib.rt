@@ -5,6 +5,7 @@
 mod answers;
 mod births;
 mod callees;
+mod layout;
 mod names;
 mod operations;
 mod statics;
@@ -14,6 +15,7 @@ pub use births::{
     all_dead, born, born_autos, id_of, initial_structure, parameters, set_bytes, set_zeros,
 };
 pub use callees::value_rule;
+pub use layout::layout_of;
 pub use names::{automatic_in, call_breach, literal_of, static_place, undefined_name};
 pub use operations::{
     assigned_structure, compounded, difference, moved_by, offset_by, stepped, unary,

@@ -7,6 +7,7 @@ ghost use Rattle.sc_meaning.specs.Versions as versions;
 ghost use Rattle.sc_meaning.specs.World as worlds;
 ghost use Rattle.sc_meaning.specs.declared.spot.Spot.TheVariants as spots;
 ghost use Rattle.sc_interp_access.specs.Gives.{Gives};
+ghost use Rattle.sc_interp_parts.specs.Layouts as layouts;
 
 use crate::births::born;
 use sc_base::{Bytes, Duplicate, Items, Key, Kind, NoMemory, Shared};
@@ -43,6 +44,22 @@ fn kind_of(constant: bool) -> Kind
     ensures { result ≡ spec.kind_of constant }
 {
     if constant { Kind::Const } else { Kind::Static }
+}
+
+/// How many bytes the object or the literal with a name has; none where nothing defines it.
+pub fn static_size(texts: &[Text], id: &StaticId) -> Result<u32, NoMemory>
+    ensures { IfOk result (λ n. n ≡ layouts.static_size texts.now id.now) }
+{
+    match id {
+        StaticId::Named(key) => match object_in(texts, key) {
+            None => Ok(0),
+            Some(d) => contents_size(d.object.init.as_slice()),
+        },
+        StaticId::Literal(_, bytes) => match u32::try_from(bytes.as_slice().len()) {
+            Ok(n) => Ok(n),
+            Err(_) => Err(NoMemory),
+        },
+    }
 }
 
 // The object of a key is born where it stands; where nothing defines it, it has no bytes.
@@ -257,7 +274,8 @@ fn filled_all(texts: &[Text], ids: &[StaticId], world: &mut World) -> Result<(),
     Ok(())
 }
 
-fn births_of(alloc: Global, texts: &[Text]) -> Result<Items<StaticId>, NoMemory>
+/// The objects and literals of some texts, in the order in which they are born.
+pub fn births_of(alloc: Global, texts: &[Text]) -> Result<Items<StaticId>, NoMemory>
     ensures { IfOk result (λ ids. ids ≡ versions.births_of texts.now) }
 {
     let mut ids = Items::new(alloc);

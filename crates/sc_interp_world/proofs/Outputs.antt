@@ -1,7 +1,7 @@
 -- The bytes that one item more writes, its work, and the bytes that it moves.
 use Rattle.std.proofs.Common.{◌≡◌, ℕ, ◌+◌, arith, refl, List, [], ◌∷◌, ◌++◌, ap, sym, ◌∙◌}
 use Rattle.std.proofs.lemmas.List.{append-nil, append_assoc}
-use Rattle.sc_meaning.specs.World.{Item, work, work_of}
+use Rattle.sc_meaning.specs.World.{Item, Work, work, work_of}
 use Rattle.sc_interp_world.specs.Outputs.{output, written_by, bytes_moved, moves_of}
 
 pub output_last : (is : List Item) (i : Item) → output (is ++ i ∷ []) ≡ output is ++ written_by i
@@ -19,3 +19,10 @@ work_last is i = sum_last work_of work refl (λ x is. refl) is i
 
 pub bytes_moved_last : (is : List Item) (i : Item) → bytes_moved (is ++ i ∷ []) ≡ bytes_moved is + moves_of i
 bytes_moved_last is i = sum_last moves_of bytes_moved refl (λ x is. refl) is i
+
+-- work alone writes nothing and moves nothing
+pub output_worked : (is : List Item) (n : ℕ) → output (is ++ Work n ∷ []) ≡ output is
+output_worked is n = output_last is (Work n) ∙ append-nil (output is)
+
+pub bytes_moved_worked : (is : List Item) (n : ℕ) → bytes_moved (is ++ Work n ∷ []) ≡ bytes_moved is
+bytes_moved_worked is n = bytes_moved_last is (Work n) ∙ omega arith

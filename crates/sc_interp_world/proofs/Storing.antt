@@ -1,31 +1,10 @@
 -- A value that is stored as bytes of an object, one byte after another.
 use Rattle.std.proofs.Common.{◌≡◌, ℕ, zero, suc, ◌+◌, ◌<◌, ◌≤◌, List, [], ◌∷◌, ◌++◌, length, take, drop, set, get_or, refl, sym, ap, ◌∙◌, arith}
 use Rattle.std.proofs.lemmas.List.{drop_more, length-take, length-append, length_push, length-drop, set_at, append_assoc}
-use Rattle.sc_base.specs.declared.key.Key.{Key}
-use Rattle.sc_meaning.specs.Values.{Value, Number, FunctionAt, Pointer, Cell, Piece, cells_of}
+use Rattle.sc_meaning.specs.Values.{Value, Cell, cells_of}
 use Rattle.sc_meaning.specs.World.{overwritten}
+use Rattle.sc_mem_store.proofs.ValueBytes.{length_of_cells, none_of}
 use Rattle.sc_interp_world.proofs.Overwriting.{overwritten_nothing}
-
--- a value has as many bytes as are stored, up to four
-pub length_of_cells : (v : Value) (k : ℕ) → k ≤ 4 → length (cells_of k v) ≡ k
-length_of_cells (Number bits) zero l = refl
-length_of_cells (Number bits) (suc zero) l = refl
-length_of_cells (Number bits) (suc (suc zero)) l = refl
-length_of_cells (Number bits) (suc (suc (suc zero))) l = refl
-length_of_cells (Number bits) (suc (suc (suc (suc zero)))) l = refl
-length_of_cells (Number bits) (suc (suc (suc (suc (suc k))))) l = absurd (omega (arith, l))
-length_of_cells (FunctionAt key) zero l = refl
-length_of_cells (FunctionAt key) (suc zero) l = refl
-length_of_cells (FunctionAt key) (suc (suc zero)) l = refl
-length_of_cells (FunctionAt key) (suc (suc (suc zero))) l = refl
-length_of_cells (FunctionAt key) (suc (suc (suc (suc zero)))) l = refl
-length_of_cells (FunctionAt key) (suc (suc (suc (suc (suc k))))) l = absurd (omega (arith, l))
-length_of_cells (Pointer o i) zero l = refl
-length_of_cells (Pointer o i) (suc zero) l = refl
-length_of_cells (Pointer o i) (suc (suc zero)) l = refl
-length_of_cells (Pointer o i) (suc (suc (suc zero))) l = refl
-length_of_cells (Pointer o i) (suc (suc (suc (suc zero)))) l = refl
-length_of_cells (Pointer o i) (suc (suc (suc (suc (suc k))))) l = absurd (omega (arith, l))
 
 -- one byte more
 pub overwritten_push : (cells : List Cell) (at : ℕ) (part : List Cell) (x : Cell) → at + length part < length cells → set (overwritten cells at part) (at + length part) x ≡ overwritten cells at (part ++ x ∷ [])
@@ -37,11 +16,6 @@ overwritten_push cells at part x h =
 
 pub length_overwritten : (cells : List Cell) (at : ℕ) (part : List Cell) → at + length part ≤ length cells → length (overwritten cells at part) ≡ length cells
 length_overwritten cells at part h = simp (length-append, length-take, length-drop) (omega arith)
-
-none_of : (v : Value) → cells_of 0 v ≡ []
-none_of (Number bits) = refl
-none_of (FunctionAt key) = refl
-none_of (Pointer o i) = refl
 
 -- before the first byte, and after one byte more
 pub store_none : (cells : List Cell) (at : ℕ) (v : Value) → overwritten cells at (cells_of 0 v) ≡ cells
@@ -60,27 +34,6 @@ pub store_length : (first now : List Cell) (at k : ℕ) (v : Value) → k ≤ 4 
 store_length first now at k v small inside e =
     let n : length (cells_of k v) ≡ k = length_of_cells v k small in
     ap length e ∙ length_overwritten first at (cells_of k v) (omega (arith, inside, n))
-
--- byte k of a pointer is its piece k
-pub function_more : (key : Key) (v w : Value) (k : ℕ) (c : Cell) → v ≡ FunctionAt key → w ≡ v → c ≡ Piece w k → k < 4 → cells_of (k + 1) v ≡ cells_of k v ++ c ∷ []
-function_more key v w k c is same piece few = rw (piece, same, is) (by k few)
-  where
-    by : (k : ℕ) → k < 4 → cells_of (k + 1) (FunctionAt key) ≡ cells_of k (FunctionAt key) ++ Piece (FunctionAt key) k ∷ []
-    by zero l = refl
-    by (suc zero) l = refl
-    by (suc (suc zero)) l = refl
-    by (suc (suc (suc zero))) l = refl
-    by (suc (suc (suc (suc k)))) l = absurd (omega (arith, l))
-
-pub pointer_more : (o i : ℕ) (v w : Value) (k : ℕ) (c : Cell) → v ≡ Pointer o i → w ≡ v → c ≡ Piece w k → k < 4 → cells_of (k + 1) v ≡ cells_of k v ++ c ∷ []
-pointer_more o i v w k c is same piece few = rw (piece, same, is) (by k few)
-  where
-    by : (k : ℕ) → k < 4 → cells_of (k + 1) (Pointer o i) ≡ cells_of k (Pointer o i) ++ Piece (Pointer o i) k ∷ []
-    by zero l = refl
-    by (suc zero) l = refl
-    by (suc (suc zero)) l = refl
-    by (suc (suc (suc zero))) l = refl
-    by (suc (suc (suc (suc k)))) l = absurd (omega (arith, l))
 
 pub store_step : (first now new : List Cell) (at k n : ℕ) (v : Value) (c : Cell) → k < n → n ≤ 4 → at + n ≤ length first → now ≡ overwritten first at (cells_of k v) → cells_of (k + 1) v ≡ cells_of k v ++ c ∷ [] → new ≡ set now (at + k) c → (length new ≡ length first) × (new ≡ overwritten first at (cells_of (k + 1) v))
 store_step first now new at k n v c below few fits e more is =

@@ -1,6 +1,6 @@
 -- Inside: plumbing, a representation, an invariant or a promise beside the claim (docs/TRUST.md).
-pub mod Cells
 pub mod Showings
 pub mod Happenings
 pub mod Outputs
 pub mod Naming
+pub mod Addresses

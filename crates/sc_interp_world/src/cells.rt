@@ -3,8 +3,8 @@ ghost use Rattle.std.specs.Prelude.{◌≡◌, ◌-◌, ◌≤◌, length, take,
 ghost use Rattle.sc_meaning.specs.World as world;
 ghost use Rattle.sc_meaning.specs.Values as spec;
 
-use crate::object::Cell;
 use sc_base::{Duplicate, Items, NoMemory};
+use sc_mem_store::Cell;
 use std::alloc::Global;
 
 /// The first bytes, at most this many.

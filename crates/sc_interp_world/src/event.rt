@@ -2,10 +2,11 @@
 ghost use Rattle.std.specs.Prelude.{◌≡◌, IfOk};
 ghost use Rattle.sc_meaning.specs.World as spec;
 
-use crate::object::{Born, Cell, Frame};
+use crate::object::{Born, Frame};
 use sc_base::{Duplicate, Items, Key, Kind, Name, NoMemory};
 use sc_meaning::Spot;
 use sc_meaning_values::Value;
+use sc_mem_store::Cell;
 use sc_program::StaticId;
 use std::alloc::Global;
 use std::marker::Model;

@@ -5,6 +5,7 @@
 mod beside;
 mod cells;
 mod event;
+mod held;
 mod names;
 mod object;
 mod past;
@@ -15,6 +16,7 @@ pub use beside::Beside;
 pub use cells::{copy_cells, unwritten};
 pub use event::{Change, Event, Item, Showing};
 pub use names::{Named, Names, Roll, same_id};
-pub use object::{Born, Cell, Content, Frame, Object, copy_numbers};
+pub use object::{Born, Frame, Object, cells_at, copy_numbers, object_at};
 pub use past::{Past, Trail};
-pub use world::{World, cells_at, object_at};
+pub use sc_mem_store::{Cell, Content};
+pub use world::{Layout, World};

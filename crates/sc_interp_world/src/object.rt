@@ -1,77 +1,17 @@
 // Objects, their bytes, and active calls (ANSI 3.1.2.4).
-ghost use Rattle.std.specs.Prelude.{◌≡◌, false, true, IfOk, MatchOption};
+ghost use Rattle.std.specs.Prelude.{◌≡◌, false, true, not, None, Some, IfOk, MatchOption};
+ghost use Rattle.sc_meaning.specs.Violations.{of_object};
 ghost use Rattle.sc_meaning.specs.Values as spec;
 ghost use Rattle.sc_meaning.specs.World as world;
 
-use crate::cells::overwrite;
+use crate::cells::{back, front, overwrite};
 use crate::values::store_value;
 use sc_base::{Duplicate, Form, Items, Key, Kind, Name, NoMemory};
 use sc_meaning_values::Value;
+use sc_mem_store::Cell;
 use std::alloc::Global;
 use std::marker::Model;
 use std::snapshot::Snapshot;
-
-/// What a byte holds.
-#[derive(Drop)]
-pub enum Content {
-    Unwritten,
-    Byte(u8),
-    Piece(Value, u32),
-}
-
-/// A byte of an object: never written, a byte of a number, or a piece of a pointer.
-#[derive(Drop)]
-pub struct Cell {
-    pub content: Content,
-}
-
-impl Model for Cell {
-    ghost use Rattle.sc_interp_world.specs.Cells.{cell_of};
-    ghost use Rattle.sc_meaning.specs.Values as spec;
-
-    ghost Value = { spec.Cell };
-
-    ghost view = { λ c. cell_of c.content };
-}
-
-impl Cell {
-    /// A byte that was never written.
-    pub fn unwritten() -> Cell
-        ensures { result ≡ spec.Unwritten }
-    {
-        Cell {
-            content: Content::Unwritten,
-        }
-    }
-
-    /// A byte of a number.
-    pub fn byte(b: u8) -> Cell
-        ensures { result ≡ spec.Byte b }
-    {
-        Cell {
-            content: Content::Byte(b),
-        }
-    }
-
-    /// Piece `k` of a pointer.
-    pub fn piece(v: Value, k: u32) -> Cell
-        ensures { result ≡ spec.Piece v k }
-    {
-        Cell {
-            content: Content::Piece(v, k),
-        }
-    }
-}
-
-impl Duplicate for Cell {
-    fn copy(&self, alloc: Global) -> Result<Cell, NoMemory> {
-        match &self.content {
-            Content::Unwritten => Ok(Cell::unwritten()),
-            Content::Byte(b) => Ok(Cell::byte(*b)),
-            Content::Piece(v, k) => Ok(Cell::piece(v.copy(alloc)?, *k)),
-        }
-    }
-}
 
 /// An object: its size in bytes, its kind, whether it lives, and its bytes, of which a dead one keeps no room.
 #[derive(Drop)]
@@ -214,5 +154,28 @@ impl Duplicate for Frame {
             line: self.line,
             blocks: self.blocks.copy(alloc)?,
         })
+    }
+}
+
+/// The object with a number, counted from 1.
+pub fn object_at(objects: &[Object], id: u32) -> Option<&Object>
+    ensures { MatchOption result (world.object_at objects.now id ≡ None) (λ o. world.object_at objects.now id ≡ Some o.now) }
+{
+    if id == 0 {
+        return None;
+    }
+    objects.get(id as usize - 1)
+}
+
+/// The `n` bytes of an object from an offset on, where it is not dead.
+pub fn cells_at(objects: &[Object], id: u32, at: u64, n: u32) -> Option<&[Cell]>
+    ensures { MatchOption result (of_object false (λ o. not o.live) (world.object_at objects.now id) ≡ true) (λ cells. cells.now ≡ world.cells_at objects.now id at n) }
+{
+    match object_at(objects, id) {
+        None => Some(&[]),
+        Some(o) => match o.cells() {
+            None => None,
+            Some(cells) => Some(front(back(cells, at), n)),
+        },
     }
 }

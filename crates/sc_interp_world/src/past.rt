@@ -10,6 +10,12 @@ use sc_base::{Items, NoMemory};
 use std::alloc::Global;
 use std::marker::Model;
 
+/// So many units of work.
+#[derive(Drop)]
+pub struct Units {
+    pub n: u32,
+}
+
 /// The items of a run, in their order. It takes no room, and its functions do nothing while a program runs.
 #[derive(Drop)]
 pub struct Trail {
@@ -29,6 +35,12 @@ impl Trail {
 
     fn with(_before: &Trail, _item: &Item) -> Trail
         ensures { result.items ≡ _before.now.items ++ _item.now ∷ [] }
+    {
+        Trail {}
+    }
+
+    fn worked(_before: &Trail, _units: &Units) -> Trail
+        ensures { result.items ≡ _before.now.items ++ spec.Work _units.now.n ∷ [] }
     {
         Trail {}
     }
@@ -152,6 +164,20 @@ impl Past {
         self.work = work;
         self.moved = moved;
         self.trail = Trail::with(&self.trail, item);
+        Ok(())
+    }
+
+    /// Some units of work were done. Nothing happens more often, so no item is made for it.
+    #[inline(always)]
+    #[tactic(auto, using(crate::proofs::Outputs::output_worked, crate::proofs::Outputs::work_last, crate::proofs::Outputs::bytes_moved_worked))]
+    pub fn worked(&mut self, n: u32) -> Result<(), NoMemory>
+        ensures { IfOk result (λ _. self.new ≡ self.old ++ spec.Work n ∷ []) }
+    {
+        let work = sum(self.work, u64::from(n))?;
+        self.work = work;
+        let units = Units { n };
+        self.trail = Trail::worked(&self.trail, &units);
+        drop(units);
         Ok(())
     }
 

@@ -1,21 +1,22 @@
 // The world of a run, and the single changes to it.
 ghost use Rattle.std.specs.Prelude.{◌≡◌, true, false, not, ℕ, ◌+◌, ◌-◌, ◌∷◌, ◌++◌, [], List, length, reverse, IfOk, MatchOption, None, Some, slice_index, slice_set, replicate};
-ghost use Rattle.sc_meaning.specs.Violations.{of_object};
 ghost use Rattle.sc_meaning.specs.Beside.{nothing_beside};
 ghost use Rattle.sc_meaning.specs.Values as value;
 ghost use Rattle.sc_meaning.specs.World as spec;
 ghost use Rattle.sc_interp_world.specs.Happenings.{item_of};
+ghost use Rattle.sc_interp_world.specs.Addresses.{address};
 ghost use Rattle.sc_interp_world.specs.Outputs.{bytes_moved, output};
 
 use crate::beside::Beside;
-use crate::cells::{back, copy_cells, front, unwritten};
 use crate::event::{Change, Event, Item, Showing};
+use crate::held::Held;
 use crate::names::Names;
-use crate::object::{Born, Cell, Frame, Object};
+use crate::object::{Born, Frame, Object};
 use crate::past::Past;
-use sc_base::{Bytes, Duplicate, Items, Key, Kind, Name, NoMemory, Stack};
+use sc_base::{Bytes, Duplicate, Items, Key, Kind, Name, NoMemory, Shared, Stack};
 use sc_meaning::Spot;
 use sc_meaning_values::Value;
+use sc_mem_store::Cell;
 use sc_program::StaticId;
 use std::alloc::Global;
 use std::marker::Model;
@@ -24,13 +25,24 @@ use std::snapshot::Snapshot;
 /// The classes of the heap's blocks.
 const CLASSES: usize = 29;
 
+/// Where the stack ends.
+const STACK_END: u32 = 0x2000_0000;
+
+/// Where a program stands in memory: its functions by their numbers, and the addresses of its static objects and literals.
+#[derive(Drop)]
+pub struct Layout {
+    pub functions: Items<Shared<Key>>,
+    pub places: Names,
+}
+
 /// The world of a run: what is there, and all that happened so far.
 #[derive(Drop)]
 pub struct World {
     alloc: Global,
     stack: u64,
     heap: u64,
-    objects: Vec<Object>,
+    objects: Held,
+    places: Names,
     used: u64,
     free: Items<u64>,
     made: u64,
@@ -50,7 +62,7 @@ impl Model for World {
 
     ghost Value = { spec.World };
 
-    ghost view = { λ w. record { stack = w.stack; heap = w.heap; objects = w.objects.items; used = w.used; free = w.free; made = w.made; input = w.input; seed = w.seed; frames = w.frames; names = w.names; enters = w.enters; count = w.count; begun = w.begun; trail = w.past; beside = w.beside.told } };
+    ghost view = { λ w. record { stack = w.stack; heap = w.heap; objects = w.objects; used = w.used; free = w.free; made = w.made; input = w.input; seed = w.seed; frames = w.frames; names = w.names; enters = w.enters; count = w.count; begun = w.begun; trail = w.past; beside = w.beside.told } };
 }
 
 // One more.
@@ -61,16 +73,6 @@ fn more(n: u64) -> Result<u64, NoMemory>
         return Err(NoMemory)
     };
     Ok(m)
-}
-
-/// The object with a number, counted from 1.
-pub fn object_at(objects: &[Object], id: u32) -> Option<&Object>
-    ensures { MatchOption result (spec.object_at objects.now id ≡ None) (λ o. spec.object_at objects.now id ≡ Some o.now) }
-{
-    if id == 0 {
-        return None;
-    }
-    objects.get(id as usize - 1)
 }
 
 // The innermost call gets a line.
@@ -107,6 +109,33 @@ fn drop_block(frames: &mut Stack<Frame>) -> Result<(), NoMemory>
     Ok(())
 }
 
+// The address of what stands so far above the low end of the innermost frame, where so many bytes of the stack are used.
+fn frame_address(used: u64, offset: u32) -> Result<u32, NoMemory>
+    ensures { IfOk result (λ at. at ≡ 0x20000000 - used + offset) }
+{
+    let Some(low) = u64::from(STACK_END).checked_sub(used) else {
+        return Err(NoMemory);
+    };
+    match u32::try_from(low + u64::from(offset)) {
+        Ok(at) => Ok(at),
+        Err(_) => Err(NoMemory),
+    }
+}
+
+// The address of a place outside the heap.
+fn address_of(places: &Names, used: u64, spot: &Spot) -> Result<u32, NoMemory>
+    ensures { IfOk result (λ at. address places.now used spot.now ≡ Some at) }
+{
+    match spot {
+        Spot::Slot(offset) => frame_address(used, *offset),
+        Spot::Named(id) => match places.named(id) {
+            None => Err(NoMemory),
+            Some(at) => Ok(at),
+        },
+        Spot::Block => Err(NoMemory),
+    }
+}
+
 // Another count of free blocks of a class.
 fn put_free(free: &mut Items<u64>, k: u32, n: u64)
     ensures { free.new ≡ slice_set free.old k n }
@@ -127,17 +156,25 @@ fn no_block(alloc: Global) -> Result<Items<u64>, NoMemory>
 
 impl World {
     /// A world in which nothing is there yet.
-    pub fn new(alloc: Global, stack: u64, heap: u64, input: Items<u8>) -> Result<World, NoMemory>
+    pub fn new(
+        alloc: Global,
+        stack: u64,
+        heap: u64,
+        input: Items<u8>,
+        layout: Layout,
+    ) -> Result<World, NoMemory>
         ensures { IfOk result (λ w. w ≡ record { stack = stack; heap = heap; objects = []; used = 0; free = replicate 29 0; made = 0; input = input; seed = 1; frames = []; names = []; enters = 0; count = 0; begun = 0; trail = []; beside = nothing_beside }) }
     {
         let free = no_block(alloc)?;
+        let objects = Held::new(alloc, stack, heap, layout.functions)?;
         let mut left = Stack::new(alloc);
         left.push_all(input)?;
         Ok(World {
             alloc,
             stack,
             heap,
-            objects: Vec::new(alloc),
+            objects,
+            places: layout.places,
             used: 0,
             free,
             made: 0,
@@ -312,7 +349,7 @@ impl World {
     pub fn work(&mut self, n: u32) -> Result<(), NoMemory>
         ensures { IfOk result (λ _. self.new ≡ spec.pass (spec.Work n) self.old) }
     {
-        self.keep(Change::Work(n))
+        self.past.worked(n)
     }
 
     /// One unit of work.
@@ -373,12 +410,24 @@ impl World {
         self.keep(Change::Happens(event))
     }
 
+    // Memory and the objects get one more.
+    fn bear(&mut self, size: u32, kind: Kind, spot: &Spot) -> Result<(), NoMemory>
+        ensures { IfOk result (λ _. self.new ≡ record self.old { objects = self.old.objects ++ spec.fresh size kind ∷ [] }) }
+    {
+        match kind {
+            Kind::Heap => self.objects.allocate(size),
+            Kind::Static | Kind::Const | Kind::Literal | Kind::Auto => {
+                let base = address_of(&self.places, self.used, spot)?;
+                self.objects.birth(size, kind, base)
+            }
+        }
+    }
+
     /// An object is born in its place, its bytes unwritten.
     pub fn birth(&mut self, size: u32, kind: Kind, spot: &Spot) -> Result<(), NoMemory>
         ensures { IfOk result (λ _. self.new ≡ spec.pass (spec.Birth size kind spot.now) self.old) }
     {
-        let cells = unwritten(self.alloc, size)?;
-        self.objects.push(Object::living(size, kind, cells))?;
+        self.bear(size, kind, spot)?;
         self.keep(Change::Birth(size, kind, Snapshot::of(spot)))
     }
 
@@ -386,7 +435,7 @@ impl World {
     pub fn death(&mut self, id: u32) -> Result<(), NoMemory>
         ensures { IfOk result (λ _. self.new ≡ spec.pass (spec.Death id) self.old) }
     {
-        end_object(self.alloc, &mut self.objects, id);
+        self.objects.death(id)?;
         self.keep(Change::Death(id))
     }
 
@@ -395,7 +444,7 @@ impl World {
         ensures { IfOk result (λ _. self.new ≡ spec.pass (spec.Put id at new) self.old) }
     {
         self.keep(Change::Put(id, at, Snapshot::of(&new)))?;
-        write_object(self.alloc, &mut self.objects, id, at, new)
+        self.objects.put(id, at, new)
     }
 
     /// A value is stored as `n` bytes of an object from an offset on.
@@ -403,18 +452,14 @@ impl World {
         ensures { IfOk result (λ _. self.new ≡ spec.pass (spec.Put id at (value.cells_of n v.now)) self.old) }
     {
         self.keep(Change::Store(id, at, n, Snapshot::of(v)))?;
-        store_in(self.alloc, &mut self.objects, id, at, n, v)
+        self.objects.store(id, at, n, v)
     }
 
     /// So many bytes go to an object and offset from an object and offset.
     pub fn copy(&mut self, to: u32, at: u32, from: u32, off: u32, n: u32) -> Result<(), NoMemory>
         ensures { IfOk result (λ _. self.new ≡ spec.pass (spec.Copy to at from off n) self.old) }
     {
-        let Some(cells) = cells_at(self.objects.as_slice(), from, u64::from(off), n) else {
-            return Err(NoMemory)
-        };
-        let moved = copy_cells(self.alloc, cells)?;
-        write_object(self.alloc, &mut self.objects, to, at, moved)?;
+        self.objects.copy(to, at, from, off, n)?;
         self.keep(Change::Copy(to, at, from, off, n))
     }
 
@@ -517,60 +562,5 @@ impl World {
     {
         self.names.take(&id);
         self.keep(Change::Unname(id))
-    }
-}
-
-// An object dies.
-fn end_object(alloc: Global, objects: &mut Vec<Object>, id: u32)
-    ensures { objects.new.items ≡ spec.ended objects.old.items id (spec.object_at objects.old.items id) }
-{
-    if id != 0 && id as usize <= objects.len() {
-        objects[id as usize - 1].end(alloc);
-    }
-}
-
-// Bytes of an object are written.
-fn write_object(
-    alloc: Global,
-    objects: &mut Vec<Object>,
-    id: u32,
-    at: u32,
-    new: Items<Cell>,
-) -> Result<(), NoMemory>
-    ensures { IfOk result (λ _. objects.new.items ≡ spec.written objects.old.items id at new (spec.object_at objects.old.items id)) }
-{
-    if id == 0 || objects.len() < id as usize {
-        return Ok(());
-    }
-    objects[id as usize - 1].write(alloc, at, new)
-}
-
-// A value is stored in an object.
-fn store_in(
-    alloc: Global,
-    objects: &mut Vec<Object>,
-    id: u32,
-    at: u32,
-    n: u32,
-    v: &Value,
-) -> Result<(), NoMemory>
-    ensures { IfOk result (λ _. objects.new.items ≡ spec.written objects.old.items id at (value.cells_of n v.now) (spec.object_at objects.old.items id)) }
-{
-    if id == 0 || objects.len() < id as usize {
-        return Ok(());
-    }
-    objects[id as usize - 1].store(alloc, at, n, v)
-}
-
-/// The `n` bytes of an object from an offset on, where it is not dead.
-pub fn cells_at(objects: &[Object], id: u32, at: u64, n: u32) -> Option<&[Cell]>
-    ensures { MatchOption result (of_object false (λ o. not o.live) (spec.object_at objects.now id) ≡ true) (λ cells. cells.now ≡ spec.cells_at objects.now id at n) }
-{
-    match object_at(objects, id) {
-        None => Some(&[]),
-        Some(o) => match o.cells() {
-            None => None,
-            Some(cells) => Some(front(back(cells, at), n)),
-        },
     }
 }

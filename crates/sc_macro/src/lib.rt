@@ -18,4 +18,5 @@ mod waiting;
 mod walk;
 
 pub use macros::{Macro, MacroKind, Macros, Part, is_fixed};
+pub use marked::{is_mark, is_name, is_newline};
 pub use walk::expand;

@@ -64,6 +64,7 @@ pub fn copy_spaced(alloc: Global, token: &Token, space: bool) -> Result<Token, N
     })
 }
 
+/// Whether the token is an identifier.
 pub fn is_name(token: &Token) -> bool
     ensures { result ≡ spec.is_name token.now }
 {
@@ -73,6 +74,7 @@ pub fn is_name(token: &Token) -> bool
     }
 }
 
+/// Whether the token is the end of a line.
 pub fn is_newline(token: &Token) -> bool
     ensures { result ≡ spec.is_newline token.now }
 {

@@ -33,3 +33,20 @@ pub fn place(heap: u32, stack: u32, at: u32, n: u32) -> Option<u32>
         None
     }
 }
+
+/// The same, which looks into the stack first.
+#[tactic(auto, using(crate::proofs::Near::near_stack))]
+#[inline(always)]
+pub fn near_place(heap: u32, stack: u32, at: u32, n: u32) -> Option<u32>
+    requires heap { heap ≤ 67108864 }
+    requires stack { stack ≤ 16777216 }
+    ensures place { result ≡ place_in heap stack at n }
+    ensures inside { IfSome result (λ i. i + n ≤ 1048576 + heap + stack) }
+{
+    let low = STACK_END - stack;
+    if low <= at && u64::from(at - low) + u64::from(n) <= u64::from(stack) {
+        Some(STATIC_BYTES + heap + (at - low))
+    } else {
+        place(heap, stack, at, n)
+    }
+}

@@ -9,7 +9,7 @@ ghost use Rattle.sc_mem.specs.Safe.{Stands};
 ghost use Rattle.std.specs.Prelude.{IsTrue};
 
 use crate::access::{constant, reach, rule_in};
-use crate::areas::{HEAP, STACK_END, STATIC_BYTES, place};
+use crate::areas::{HEAP, STACK_END, STATIC_BYTES, near_place, place};
 use crate::arithmetic::{moved, offset};
 use crate::comparison::{difference, equality, freeing, order, ordering, overlap, truth};
 use crate::fault::StoreFault;
@@ -73,6 +73,7 @@ impl Memory {
     /// What the `size` bytes at an address hold, without a test: `None` exactly outside the areas and where the
     /// address is no multiple of the size. An unwritten cell reads as 0, a pointer's piece as its byte, and only the
     /// four pieces of one pointer have a tag.
+    #[inline(always)]
     pub fn raw_load(&self, at: u32, size: u8) -> Option<Word>
         requires { IsSize size }
         ensures { result ≡ raw_read self.now.flat at size }
@@ -81,7 +82,7 @@ impl Memory {
         if at % u32::from(size) != 0 {
             return None;
         }
-        match place(self.heap_bytes, self.stack, at, u32::from(size)) {
+        match near_place(self.heap_bytes, self.stack, at, u32::from(size)) {
             None => None,
             Some(i) => Some(load_word(cells, i, size)),
         }
@@ -97,7 +98,7 @@ impl Memory {
         if at % u32::from(size) != 0 {
             return Ok(None);
         }
-        let Some(i) = place(self.heap_bytes, self.stack, at, u32::from(size)) else {
+        let Some(i) = near_place(self.heap_bytes, self.stack, at, u32::from(size)) else {
             return Ok(None);
         };
         store_word(&mut self.cells, i, size, w)?;

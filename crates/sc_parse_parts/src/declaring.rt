@@ -16,7 +16,7 @@ use sc_parse_names::{Entry, Kind, Symbol, TypeNames};
 use sc_parse_unit::{Around, Obstacle, Stage};
 use sc_tree::{
     Binary, Block, Declaration, Declarator, External, Identifier, InitDeclarator, Initializer,
-    Specifiers, Storage,
+    Specifiers, Storage, is_typedef,
 };
 use std::alloc::Global;
 
@@ -279,15 +279,6 @@ pub fn list_ends(around: &mut Stack<Around>) -> Result<Stage, Obstacle>
             Err(STUCK)
         }
         None => Err(STUCK),
-    }
-}
-
-fn is_typedef(class: Option<Storage>) -> bool
-    ensures { result ≡ trees.is_typedef class }
-{
-    match class {
-        Some(Storage::Typedef) => true,
-        _ => false,
     }
 }
 

@@ -1,6 +1,7 @@
 -- Yardstick: to be compared with what it restates (docs/TRUST.md).
 -- Declarations, functions and units as trees.
 use Rattle.std.specs.Prelude.{ℕ, Bool, true, false, List, [], ◌∷◌, ◌++◌, Option, Some, None}
+use Rattle.sc_tree.specs.Storages.{is_typedef}
 use Rattle.sc_tree.specs.declared.expression.Storage.{Storage}
 use Rattle.sc_tree.specs.declared.expression.Storage.TheVariants as storage
 use Rattle.sc_tree.specs.declared.expression.Identifier.{Identifier}
@@ -14,10 +15,6 @@ use Rattle.sc_tree.specs.declared.statement.Statement.{Statement}
 use Rattle.sc_tree.specs.declared.statement.Block.{Block}
 use Rattle.sc_tree.specs.declared.statement.Function.{Function}
 use Rattle.sc_parse_names.specs.Names.{Names, declare}
-
-abbrev pub is_typedef : Option Storage → Bool
-is_typedef (Some storage.Typedef) = true
-is_typedef _ = false
 
 -- The scope gains the declarator's name: a type's where the storage class is `typedef`, else a plain one.
 abbrev pub declare_as : Option Storage → Option Identifier → Names → Names

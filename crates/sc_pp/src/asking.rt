@@ -4,9 +4,9 @@ ghost use Rattle.std.specs.Option.{option_map};
 ghost use Rattle.sc_pp.specs.Conditionals as spec;
 
 use crate::environment::Environment;
-use crate::token::{is_mark, is_name};
 use sc_base::{Bytes, Duplicate, Items, NoMemory};
 use sc_lex::{Token, TokenKind};
+use sc_macro::{is_mark, is_name};
 use std::alloc::Global;
 
 /// What is due in a condition: nothing of its own; the name that `defined` asks for, or `(`; the name inside

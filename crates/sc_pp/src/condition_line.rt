@@ -11,9 +11,9 @@ use crate::asking::answered;
 use crate::failure::{beyond, refused};
 use crate::line::{Directive, Word};
 use crate::state::{Place, State, expanded};
-use crate::token::is_name;
 use sc_base::{Bytes, Fault, X};
 use sc_lex::Token;
+use sc_macro::is_name;
 use sc_pp_condition::{ConditionFault, condition};
 use std::alloc::Global;
 

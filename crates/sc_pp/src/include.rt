@@ -6,9 +6,10 @@ ghost use Rattle.sc_pp.specs.Directives as spec;
 
 use crate::line::Line;
 use crate::state::Place;
-use crate::token::{are_some, is_mark};
+use crate::token::are_some;
 use sc_base::{Bytes, NoMemory, Stack};
 use sc_lex::{Token, TokenKind};
+use sc_macro::is_mark;
 use std::alloc::Global;
 
 /// A file that an `#include` names: whether the name is in quotes, and the line of the directive.

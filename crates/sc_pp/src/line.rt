@@ -2,9 +2,10 @@
 ghost use Rattle.std.specs.Prelude.{◌≡◌, IfOk};
 ghost use Rattle.sc_pp.specs.Lines as spec;
 
-use crate::token::{copied, is_mark, is_name};
+use crate::token::copied;
 use sc_base::{Items, NoMemory, Refusal};
 use sc_lex::Token;
+use sc_macro::{is_mark, is_name};
 use std::alloc::Global;
 
 /// What a directive is by its word. `Text` is text between directives, `Null` a directive without a word.

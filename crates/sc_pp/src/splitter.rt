@@ -3,9 +3,9 @@ ghost use Rattle.std.specs.Prelude.{◌≡◌, ◌++◌, [], OnOk, IfOk};
 ghost use Rattle.sc_pp.specs.Lines as spec;
 
 use crate::line::{Line, begins_directive, directive_line, text};
-use crate::token::is_newline;
 use sc_base::{Duplicate, Items, NoMemory, Refusal, Stack};
 use sc_lex::{Scan, Token, is_too_long, refusal_in};
+use sc_macro::is_newline;
 use std::alloc::Global;
 use std::mem;
 

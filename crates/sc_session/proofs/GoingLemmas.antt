@@ -11,34 +11,35 @@ use Rattle.sc_world.specs.Meant.{IsRunOf}
 use Rattle.sc_world.specs.Standing.{Standing}
 use Rattle.sc_session.specs.declared.state.State.{State}
 use Rattle.sc_session.specs.Going.{Went, RunsIn, Walks, Begins, run_of, in_state}
+use Rattle.sc_session.specs.Modules.{texts}
 use Rattle.sc_session.specs.Plain.{Plain}
 use Rattle.sc_session.specs.Stopping.{places}
 
 went_in : (old : Plain) (how : Walk) (modules : List Text) (stops : List StopAt) (turns : ℕ) (r : Option Standing) (front text : List ℕ) (s : State)
-    → modules ≡ old.modules → stops ≡ places old.stops → turns ≡ old.limits.turns → Went modules stops how turns r front text s
-    → Went old.modules (places old.stops) how old.limits.turns r front text s
+    → modules ≡ texts old.modules → stops ≡ places old.stops → turns ≡ old.limits.turns → Went modules stops how turns r front text s
+    → Went (texts old.modules) (places old.stops) how old.limits.turns r front text s
 went_in old how modules stops turns r front text s m p t went =
-    subst (λ x. Went old.modules (places old.stops) how x r front text s) t
-    (subst (λ x. Went old.modules x how turns r front text s) p (subst (λ x. Went x stops how turns r front text s) m went))
+    subst (λ x. Went (texts old.modules) (places old.stops) how x r front text s) t
+    (subst (λ x. Went (texts old.modules) x how turns r front text s) p (subst (λ x. Went x stops how turns r front text s) m went))
 
 pub walked : (old new : Plain) (how : Walk) (before : State) (modules : List Text) (stops : List StopAt) (turns : ℕ) (r : Option Standing) (front text : List ℕ) (s after : State)
-    → before ≡ old.state → RunsIn before r → modules ≡ old.modules → stops ≡ places old.stops → turns ≡ old.limits.turns
+    → before ≡ old.state → RunsIn before r → modules ≡ texts old.modules → stops ≡ places old.stops → turns ≡ old.limits.turns
     → Went modules stops how turns r front text s → after ≡ s → new ≡ in_state after old → Walks old how front (answer.Ran text) new
 walked old new how before modules stops turns r front text s after b runs m p t went same is =
     (r, subst (λ x. RunsIn x r) b runs, (s, went_in old how modules stops turns r front text s m p t went, is ∙ ap (λ x. in_state x old) same))
 
 pub begins : (old new : Plain) (first modules : List Text) (stops : List StopAt) (stack heap turns : ℕ) (input : List ℕ) (r : Option Standing) (front text : List ℕ) (s after : State)
-    → first ≡ old.modules → modules ≡ old.modules → stops ≡ places old.stops → stack ≡ old.limits.stack → heap ≡ old.limits.heap → turns ≡ old.limits.turns
+    → first ≡ texts old.modules → modules ≡ texts old.modules → stops ≡ places old.stops → stack ≡ old.limits.stack → heap ≡ old.limits.heap → turns ≡ old.limits.turns
     → r ≡ Some (started first stack heap input) → IsRunOf (start_of first stack heap input) first r
     → Went modules stops walk.Cont turns r front text s → after ≡ s → new ≡ in_state after old → Begins old input front text new
 begins old new first modules stops stack heap turns input r front text s after f m p k h t is meant went follows put =
     let same : r ≡ run_of old input =
-    is ∙ ap (λ x. Some (started x stack heap input)) f ∙ ap (λ x. Some (started old.modules x heap input)) k ∙ ap (λ x. Some (started old.modules old.limits.stack x input)) h in
-    let at_modules : IsRunOf (start_of old.modules stack heap input) old.modules r =
+    is ∙ ap (λ x. Some (started x stack heap input)) f ∙ ap (λ x. Some (started (texts old.modules) x heap input)) k ∙ ap (λ x. Some (started (texts old.modules) old.limits.stack x input)) h in
+    let at_modules : IsRunOf (start_of (texts old.modules) stack heap input) (texts old.modules) r =
     subst (λ x. IsRunOf (start_of x stack heap input) x r) f meant in
-    let at_limits : IsRunOf (start_of old.modules old.limits.stack old.limits.heap input) old.modules r =
-    subst (λ x. IsRunOf (start_of old.modules old.limits.stack x input) old.modules r) h
-    (subst (λ x. IsRunOf (start_of old.modules x heap input) old.modules r) k at_modules) in (
-      subst (λ x. IsRunOf (start_of old.modules old.limits.stack old.limits.heap input) old.modules x) same at_limits,
-      (s, subst (λ x. Went old.modules (places old.stops) walk.Cont old.limits.turns x front text s) same (went_in old walk.Cont modules stops turns r front text s m p t went), put ∙ ap (λ x. in_state x old) follows),
+    let at_limits : IsRunOf (start_of (texts old.modules) old.limits.stack old.limits.heap input) (texts old.modules) r =
+    subst (λ x. IsRunOf (start_of (texts old.modules) old.limits.stack x input) (texts old.modules) r) h
+    (subst (λ x. IsRunOf (start_of (texts old.modules) x heap input) (texts old.modules) r) k at_modules) in (
+      subst (λ x. IsRunOf (start_of (texts old.modules) old.limits.stack old.limits.heap input) (texts old.modules) x) same at_limits,
+      (s, subst (λ x. Went (texts old.modules) (places old.stops) walk.Cont old.limits.turns x front text s) same (went_in old walk.Cont modules stops turns r front text s m p t went), put ∙ ap (λ x. in_state x old) follows),
     )

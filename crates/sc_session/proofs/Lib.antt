@@ -1,7 +1,7 @@
 pub mod NameLemmas
 pub mod PlaceLemmas
 pub mod ShowLemmas
+pub mod FileLemmas
 pub mod GoingLemmas
-pub mod ScopesLemmas
 pub mod TakenLemmas
 pub mod SendingLemmas

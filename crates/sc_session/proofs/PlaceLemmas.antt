@@ -2,49 +2,46 @@
 use Rattle.std.proofs.Common.{◌≡◌, ◌<◌, ◌≤◌, ℕ, zero, suc, true, false, List, [], ◌∷◌, length, get_or, refl, ap, sym, subst, arith, Some}
 use Rattle.std.specs.Prelude.{slice_get, slice_set}
 use Rattle.std.proofs.lemmas.Option.{slice_get_within}
-use Rattle.sc_core.specs.declared.module.Core.{Core}
-use Rattle.sc_meaning.specs.Versions.{Text}
 use Rattle.sc_session_conflicts.specs.Clashes.{is_other}
-use Rattle.sc_session.specs.Loading.{in_place, anew, IsPlace}
+use Rattle.sc_session.specs.declared.present.Present.{Present}
+use Rattle.sc_session.specs.Loading.{in_place, IsPlace}
 
 -- the first modules are others
-abbrev pub IsBefore : Core → ℕ → List Text → Type 0
-IsBefore core zero ts = Unit {0}
-IsBefore core (suc n) [] = Unit {0}
-IsBefore core (suc n) (t ∷ ts) = (is_other core t ≡ true) × IsBefore core n ts
+abbrev pub IsBefore : Present → ℕ → List Present → Type 0
+IsBefore new zero ps = Unit {0}
+IsBefore new (suc n) [] = Unit {0}
+IsBefore new (suc n) (p ∷ ps) = (is_other new.text.core p.text ≡ true) × IsBefore new n ps
 
 some_same : {A : Type 0} (x y : A) → Some x ≡ Some y → x ≡ y
 some_same x y e = cc
 
-pub before_more : (core : Core) (n : ℕ) (ts : List Text) (t : Text) → slice_get ts n ≡ Some t → is_other core t ≡ true → IsBefore core n ts → IsBefore core (suc n) ts
-before_more core zero [] t get other before = tt
-before_more core zero (x ∷ ts) t get other before = (subst (λ y. is_other core y ≡ true) (sym (some_same x t get)) other, tt)
-before_more core (suc n) [] t get other before = tt
-before_more core (suc n) (x ∷ ts) t get other before = (before.0, before_more core n ts t get other before.1)
+pub before_more : (new : Present) (n : ℕ) (ps : List Present) (p : Present) → slice_get ps n ≡ Some p → is_other new.text.core p.text ≡ true → IsBefore new n ps → IsBefore new (suc n) ps
+before_more new zero [] p get other before = tt
+before_more new zero (x ∷ ps) p get other before = (subst (λ y. is_other new.text.core y.text ≡ true) (sym (some_same x p get)) other, tt)
+before_more new (suc n) [] p get other before = tt
+before_more new (suc n) (x ∷ ps) p get other before = (before.0, before_more new n ps p get other before.1)
 
-pub none_there : (core : Core) (n : ℕ) (ts : List Text) → IsBefore core n ts → length ts ≤ n → in_place ts core ≡ ts
-none_there core n [] before all = refl
-none_there core zero (x ∷ ts) before all = absurd (omega arith)
-none_there core (suc n) (x ∷ ts) before all =
-    let less : length ts ≤ n = omega arith in
-    rw before.0 (ap (λ r. x ∷ r) (none_there core n ts before.1 less))
+pub none_there : (new : Present) (n : ℕ) (ps : List Present) → IsBefore new n ps → length ps ≤ n → in_place ps new ≡ ps
+none_there new n [] before all = refl
+none_there new zero (x ∷ ps) before all = absurd (omega arith)
+none_there new (suc n) (x ∷ ps) before all =
+    let less : length ps ≤ n = omega arith in
+    rw before.0 (ap (λ r. x ∷ r) (none_there new n ps before.1 less))
 
-placed : (core : Core) (n : ℕ) (ts : List Text) (t : Text) → IsBefore core n ts → slice_get ts n ≡ Some t → is_other core t ≡ false → in_place ts core ≡ slice_set ts n (anew t core)
-placed core zero [] t before get other = cc
-placed core zero (x ∷ ts) t before get other =
-    subst (λ y. in_place (y ∷ ts) core ≡ slice_set (y ∷ ts) zero (anew t core)) (sym (some_same x t get)) (rw other refl)
-placed core (suc n) [] t before get other = cc
-placed core (suc n) (x ∷ ts) t before get other = rw before.0 (ap (λ r. x ∷ r) (placed core n ts t before.1 get other))
+placed : (new : Present) (n : ℕ) (ps : List Present) (p : Present) → IsBefore new n ps → slice_get ps n ≡ Some p → is_other new.text.core p.text ≡ false → in_place ps new ≡ slice_set ps n new
+placed new zero [] p before get other = cc
+placed new zero (x ∷ ps) p before get other =
+    subst (λ y. in_place (y ∷ ps) new ≡ slice_set (y ∷ ps) zero new) (sym (some_same x p get)) (rw other refl)
+placed new (suc n) [] p before get other = cc
+placed new (suc n) (x ∷ ps) p before get other = rw before.0 (ap (λ r. x ∷ r) (placed new n ps p before.1 get other))
 
-pub place_found : (core : Core) (n : ℕ) (ts : List Text) (t : Text) → IsBefore core n ts → slice_get ts n ≡ Some t → is_other core t ≡ false → IsPlace ts core n
-place_found core n ts t before get other = record {
-  inside = slice_get_within ts n t get;
-  old = t;
-  stands = get;
-  placed = placed core n ts t before get other;
+pub place_found : (new : Present) (n : ℕ) (ps : List Present) (p : Present) → IsBefore new n ps → slice_get ps n ≡ Some p → is_other new.text.core p.text ≡ false → IsPlace ps new n
+place_found new n ps p before get other = record {
+  inside = slice_get_within ps n p get;
+  placed = placed new n ps p before get other;
 }
 
-pub there : (ts : List Text) (i : ℕ) (t : Text) → i < length ts → t ≡ get_or ts i t → slice_get ts i ≡ Some t
-there [] i t inside is = absurd (omega arith)
-there (x ∷ ts) zero t inside is = ap Some (sym is)
-there (x ∷ ts) (suc i) t inside is = let less : i < length ts = omega arith in there ts i t less is
+pub there : (ps : List Present) (i : ℕ) (p : Present) → i < length ps → p ≡ get_or ps i p → slice_get ps i ≡ Some p
+there [] i p inside is = absurd (omega arith)
+there (x ∷ ps) zero p inside is = ap Some (sym is)
+there (x ∷ ps) (suc i) p inside is = let less : i < length ps = omega arith in there ps i p less is

@@ -36,6 +36,7 @@ use Rattle.sc_outside.specs.Stored.{FileMap}
 use Rattle.sc_world.specs.declared.post.Unsent.{Unsent}
 use Rattle.sc_world.specs.declared.post.Unsent.TheVariants as unsent
 use Rattle.sc_session.specs.Going.{IsWorldOf, Says, Told, ToldBehind, KeepsFew, Went, Gains, stays_in_line, is_told, IsKnown, cut_off, IsCutOff, IsUntold, Loses, IsFirstOf, RunsIn, Walks, WalkFirst, WalksOut, Begins, BeginFirst, BeginsSo, BeginsOut, state_after, run_of, in_state, has_main, IsInput, InputDenied}
+use Rattle.sc_session.specs.Modules.{texts}
 use Rattle.sc_session.specs.Plain.{Plain}
 use Rattle.sc_session.specs.Stopping.{places}
 use Rattle.sc_session.specs.States.{refusal_of}
@@ -202,21 +203,21 @@ untold_so sink gained modules stops how turns r first before sent h new within (
     first_of sink gained modules stops how turns r (sends_some sink gained modules stops how turns sent r new h goes sends)
 
 first_in : (old : Plain) (how : Walk) (modules : List Text) (stops : List StopAt) (turns : ℕ) (r : Option Standing) (front : List ℕ)
-    → modules ≡ old.modules → stops ≡ places old.stops → turns ≡ old.limits.turns → IsFirstOf modules stops how turns r front
-    → IsFirstOf old.modules (places old.stops) how old.limits.turns r front
+    → modules ≡ texts old.modules → stops ≡ places old.stops → turns ≡ old.limits.turns → IsFirstOf modules stops how turns r front
+    → IsFirstOf (texts old.modules) (places old.stops) how old.limits.turns r front
 first_in old how modules stops turns r front m p t first =
-    subst (λ x. IsFirstOf old.modules (places old.stops) how x r front) t
-    (subst (λ x. IsFirstOf old.modules x how turns r front) p (subst (λ x. IsFirstOf x stops how turns r front) m first))
+    subst (λ x. IsFirstOf (texts old.modules) (places old.stops) how x r front) t
+    (subst (λ x. IsFirstOf (texts old.modules) x how turns r front) p (subst (λ x. IsFirstOf x stops how turns r front) m first))
 
 pub walk_told : (sink gained : Option (List ℕ)) (old new : Plain) (how : Walk) (before : State) (modules : List Text) (stops : List StopAt) (turns : ℕ) (r : Option Standing) (text : List ℕ) (s after : State)
-    → before ≡ old.state → RunsIn before r → modules ≡ old.modules → stops ≡ places old.stops → turns ≡ old.limits.turns
+    → before ≡ old.state → RunsIn before r → modules ≡ texts old.modules → stops ≡ places old.stops → turns ≡ old.limits.turns
     → Gains sink gained (λ front. Went modules stops how turns r front text s) → after ≡ s → new ≡ in_state after old
     → WalksOut sink gained old how (Ok (answer.Ran text)) new
 walk_told sink gained old new how before modules stops turns r text s after b runs m p t (front, gains, went) same is =
     (front, gains, walked old new how before modules stops turns r front text s after b runs m p t went same is)
 
 pub walk_first : (sink gained : Option (List ℕ)) (old : Plain) (how : Walk) (before : State) (modules : List Text) (stops : List StopAt) (turns : ℕ) (r : Option Standing)
-    → before ≡ old.state → RunsIn before r → modules ≡ old.modules → stops ≡ places old.stops → turns ≡ old.limits.turns
+    → before ≡ old.state → RunsIn before r → modules ≡ texts old.modules → stops ≡ places old.stops → turns ≡ old.limits.turns
     → Gains sink gained (λ front. IsFirstOf modules stops how turns r front) → Gains sink gained (λ front. WalkFirst old how front)
 walk_first sink gained old how before modules stops turns r b runs m p t (front, gains, first) =
     (front, gains, (r, subst (λ x. RunsIn x r) b runs, first_in old how modules stops turns r front m p t first))
@@ -239,19 +240,19 @@ cut_there old v s now front is over told =
     ∙ ap (λ (x : Plain). record x { state = state.Ended; in_line = stays_in_line old.in_line front }) is
 
 pub walk_lost : (sink gained : Option (List ℕ)) (old v : Plain) (how : Walk) (before s : State) (modules : List Text) (stops : List StopAt) (turns : ℕ) (r : Option Standing) (within now : Bool)
-    → before ≡ old.state → RunsIn before r → modules ≡ old.modules → stops ≡ places old.stops → turns ≡ old.limits.turns → within ≡ old.in_line
+    → before ≡ old.state → RunsIn before r → modules ≡ texts old.modules → stops ≡ places old.stops → turns ≡ old.limits.turns → within ≡ old.in_line
     → v ≡ old → s ≡ state.Ended → Gains sink gained (λ front. IsFirstOf modules stops how turns r front × (now ≡ stays_in_line within front))
     → WalksOut sink gained old how (Ok answer.NoMemory) (record v { state = s; in_line = now })
 walk_lost sink gained old v how before s modules stops turns r within now b runs m p t o is over (front, gains, (first, told)) =
     let goes : WalkFirst old how front = (r, subst (λ x. RunsIn x r) b runs, first_in old how modules stops turns r front m p t first) in
     (front, gains, inr (goes, cut_there old v s now front is over (told ∙ ap (λ x. stays_in_line x front) o)))
 
-run_is : (old : Plain) (first : List Text) (stack heap : ℕ) (input : List ℕ) (r : Option Standing) → first ≡ old.modules → stack ≡ old.limits.stack → heap ≡ old.limits.heap → r ≡ Some (started first stack heap input) → r ≡ run_of old input
+run_is : (old : Plain) (first : List Text) (stack heap : ℕ) (input : List ℕ) (r : Option Standing) → first ≡ texts old.modules → stack ≡ old.limits.stack → heap ≡ old.limits.heap → r ≡ Some (started first stack heap input) → r ≡ run_of old input
 run_is old first stack heap input r f k h is =
-    is ∙ ap (λ x. Some (started x stack heap input)) f ∙ ap (λ x. Some (started old.modules x heap input)) k ∙ ap (λ x. Some (started old.modules old.limits.stack x input)) h
+    is ∙ ap (λ x. Some (started x stack heap input)) f ∙ ap (λ x. Some (started (texts old.modules) x heap input)) k ∙ ap (λ x. Some (started (texts old.modules) old.limits.stack x input)) h
 
 pub begin_told : (sink gained : Option (List ℕ)) (old new : Plain) (first modules : List Text) (stops : List StopAt) (stack heap turns : ℕ) (input : List ℕ) (r : Option Standing) (text : List ℕ) (s after : State)
-    → first ≡ old.modules → modules ≡ old.modules → stops ≡ places old.stops → stack ≡ old.limits.stack → heap ≡ old.limits.heap → turns ≡ old.limits.turns
+    → first ≡ texts old.modules → modules ≡ texts old.modules → stops ≡ places old.stops → stack ≡ old.limits.stack → heap ≡ old.limits.heap → turns ≡ old.limits.turns
     → r ≡ Some (started first stack heap input) → IsRunOf (start_of first stack heap input) first r
     → Gains sink gained (λ front. Went modules stops walk.Cont turns r front text s) → after ≡ s → new ≡ in_state after old
     → BeginsOut sink gained old input (Ok (answer.Ran text)) new
@@ -259,13 +260,13 @@ begin_told sink gained old new first modules stops stack heap turns input r text
     (front, gains, begins old new first modules stops stack heap turns input r front text s after f m p k h t is meant went follows put)
 
 first_begun : (old : Plain) (first modules : List Text) (stops : List StopAt) (stack heap turns : ℕ) (input : List ℕ) (r : Option Standing) (front : List ℕ)
-    → first ≡ old.modules → modules ≡ old.modules → stops ≡ places old.stops → stack ≡ old.limits.stack → heap ≡ old.limits.heap → turns ≡ old.limits.turns
+    → first ≡ texts old.modules → modules ≡ texts old.modules → stops ≡ places old.stops → stack ≡ old.limits.stack → heap ≡ old.limits.heap → turns ≡ old.limits.turns
     → r ≡ Some (started first stack heap input) → IsFirstOf modules stops walk.Cont turns r front → BeginFirst old input front
 first_begun old first modules stops stack heap turns input r front f m p k h t is q =
-    subst (λ r. IsFirstOf old.modules (places old.stops) walk.Cont old.limits.turns r front) (run_is old first stack heap input r f k h is) (first_in old walk.Cont modules stops turns r front m p t q)
+    subst (λ r. IsFirstOf (texts old.modules) (places old.stops) walk.Cont old.limits.turns r front) (run_is old first stack heap input r f k h is) (first_in old walk.Cont modules stops turns r front m p t q)
 
 pub begin_first : (sink gained : Option (List ℕ)) (old : Plain) (first modules : List Text) (stops : List StopAt) (stack heap turns : ℕ) (input : List ℕ) (r : Option Standing)
-    → first ≡ old.modules → modules ≡ old.modules → stops ≡ places old.stops → stack ≡ old.limits.stack → heap ≡ old.limits.heap → turns ≡ old.limits.turns
+    → first ≡ texts old.modules → modules ≡ texts old.modules → stops ≡ places old.stops → stack ≡ old.limits.stack → heap ≡ old.limits.heap → turns ≡ old.limits.turns
     → r ≡ Some (started first stack heap input)
     → Gains sink gained (λ front. IsFirstOf modules stops walk.Cont turns r front) → Gains sink gained (λ front. BeginFirst old input front)
 begin_first sink gained old first modules stops stack heap turns input r f m p k h t is (front, gains, q) =
@@ -275,7 +276,7 @@ pub begin_unbegun : (sink : Option (List ℕ)) (old new : Plain) (input : List �
 begin_unbegun sink old new input is = ([], appends_none sink, inl (refl, is))
 
 pub begin_lost : (sink gained : Option (List ℕ)) (old v : Plain) (first modules : List Text) (stops : List StopAt) (stack heap turns : ℕ) (input : List ℕ) (r : Option Standing) (s : State) (within now : Bool)
-    → first ≡ old.modules → modules ≡ old.modules → stops ≡ places old.stops → stack ≡ old.limits.stack → heap ≡ old.limits.heap → turns ≡ old.limits.turns
+    → first ≡ texts old.modules → modules ≡ texts old.modules → stops ≡ places old.stops → stack ≡ old.limits.stack → heap ≡ old.limits.heap → turns ≡ old.limits.turns
     → r ≡ Some (started first stack heap input) → within ≡ old.in_line → v ≡ old → s ≡ state.Ended
     → Gains sink gained (λ front. IsFirstOf modules stops walk.Cont turns r front × (now ≡ stays_in_line within front))
     → BeginsOut sink gained old input (Ok answer.NoMemory) (record v { state = s; in_line = now })
@@ -283,12 +284,12 @@ begin_lost sink gained old v first modules stops stack heap turns input r s with
     (front, gains, inr (first_begun old first modules stops stack heap turns input r front f m p k h t is q, cut_there old v s now front same over (told ∙ ap (λ x. stays_in_line x front) o)))
 
 -- a run that begins so
-begun_cut_off : (old : Moment) (file : Option (List ℕ)) (bytes front : List ℕ) (new : Plain) → has_main old.session.modules ≡ true → IsInput old.held file bytes
+begun_cut_off : (old : Moment) (file : Option (List ℕ)) (bytes front : List ℕ) (new : Plain) → has_main (texts old.session.modules) ≡ true → IsInput old.held file bytes
     → IsCutOff (BeginFirst old.session bytes) old.session front new → IsCutOff (RunFirst old file) old.session front new
 begun_cut_off old file bytes front new main input (inl p) = inl p
 begun_cut_off old file bytes front new main input (inr (first, is)) = inr ((main, (bytes, input, first)), is)
 
-begun_answers : (old : Moment) (file : Option (List ℕ)) (bytes front : List ℕ) (now : ℕ) (held : Option FileMap) (new : Plain) → has_main old.session.modules ≡ true → IsInput old.held file bytes → held ≡ old.held
+begun_answers : (old : Moment) (file : Option (List ℕ)) (bytes front : List ℕ) (now : ℕ) (held : Option FileMap) (new : Plain) → has_main (texts old.session.modules) ≡ true → IsInput old.held file bytes → held ≡ old.held
     → (said : Answer) → BeginsSo old.session bytes front said new → Runs old file front said (moment new held now)
 begun_answers old file bytes front now held new main input same (answer.Ran text) p = (same, main, (bytes, input, p))
 begun_answers old file bytes front now held new main input same answer.NoMemory p = (same, begun_cut_off old file bytes front new main input p)
@@ -296,6 +297,7 @@ begun_answers old file bytes front now held new main input same answer.Silent p 
 begun_answers old file bytes front now held new main input same (answer.Loaded name) p = absurd p
 begun_answers old file bytes front now held new main input same (answer.Unloaded name) p = absurd p
 begun_answers old file bytes front now held new main input same (answer.Edited name) p = absurd p
+begun_answers old file bytes front now held new main input same (answer.Compiled name) p = absurd p
 begun_answers old file bytes front now held new main input same (answer.StopSet k place) p = absurd p
 begun_answers old file bytes front now held new main input same (answer.Deleted k) p = absurd p
 begun_answers old file bytes front now held new main input same (answer.Shown lines) p = absurd p
@@ -303,13 +305,13 @@ begun_answers old file bytes front now held new main input same answer.Reset p =
 begun_answers old file bytes front now held new main input same answer.Bye p = absurd p
 begun_answers old file bytes front now held new main input same (answer.Refused d) p = absurd p
 
-pub begun_so : (sink gained : Option (List ℕ)) (old : Moment) (file : Option (List ℕ)) (bytes : List ℕ) (now : ℕ) (held : Option FileMap) (new : Plain) (r : Result Answer Unsent) → has_main old.session.modules ≡ true → IsInput old.held file bytes → held ≡ old.held
+pub begun_so : (sink gained : Option (List ℕ)) (old : Moment) (file : Option (List ℕ)) (bytes : List ℕ) (now : ℕ) (held : Option FileMap) (new : Plain) (r : Result Answer Unsent) → has_main (texts old.session.modules) ≡ true → IsInput old.held file bytes → held ≡ old.held
     → BeginsOut sink gained old.session bytes r new → RunsOut sink gained old file r (moment new held now)
 begun_so sink gained old file bytes now held new (Ok said) main input same (front, gains, p) = (front, gains, begun_answers old file bytes front now held new main input same said p)
 begun_so sink gained old file bytes now held new (Err e) main input same (front, gains, p) = (front, gains, (main, (bytes, input, p)))
 
 -- no program is run
-input_denied : (old : Moment) (file : Option (List ℕ)) (now : ℕ) (d : Denied) → has_main old.session.modules ≡ true → InputDenied old.held file old.faults now d → RunDenied old file now d
+input_denied : (old : Moment) (file : Option (List ℕ)) (now : ℕ) (d : Denied) → has_main (texts old.session.modules) ≡ true → InputDenied old.held file old.faults now d → RunDenied old file now d
 input_denied old None now d main p = absurd p
 input_denied old (Some file) now (denied.NoFile f) main p = (main, p)
 input_denied old (Some file) now (denied.TooLong f) main p = (main, p)
@@ -329,11 +331,11 @@ input_denied old (Some file) now (denied.Space a) main p = absurd p
 input_denied old (Some file) now (denied.NotVisible name) main p = absurd p
 input_denied old (Some file) now (denied.NoStop k) main p = absurd p
 
-pub run_denied : (sink : Option (List ℕ)) (old : Moment) (file : Option (List ℕ)) (now : ℕ) (held : Option FileMap) (d : Denied) → has_main old.session.modules ≡ true → held ≡ old.held → InputDenied old.held file old.faults now d
+pub run_denied : (sink : Option (List ℕ)) (old : Moment) (file : Option (List ℕ)) (now : ℕ) (held : Option FileMap) (d : Denied) → has_main (texts old.session.modules) ≡ true → held ≡ old.held → InputDenied old.held file old.faults now d
     → RunsOut sink sink old file (Ok (answer.Refused d)) (moment old.session held now)
 run_denied sink old file now held d main same p = ([], appends_none sink, (refl, (refl, same), input_denied old file now d main p))
 
-pub run_without_main : (sink : Option (List ℕ)) (old : Moment) (file : Option (List ℕ)) (v : Plain) → v ≡ old.session → has_main old.session.modules ≡ false → RunsOut sink sink old file (Ok (answer.Refused denied.NoMain)) (moment v old.held old.faults)
+pub run_without_main : (sink : Option (List ℕ)) (old : Moment) (file : Option (List ℕ)) (v : Plain) → v ≡ old.session → has_main (texts old.session.modules) ≡ false → RunsOut sink sink old file (Ok (answer.Refused denied.NoMain)) (moment v old.held old.faults)
 run_without_main sink old file v is none = ([], appends_none sink, (refl, (is, refl), none))
 
 pub no_main : (b : Bool) (modules there : List Text) → b ≡ has_main modules → b ≡ false → modules ≡ there → has_main there ≡ false
@@ -382,6 +384,7 @@ writes_first old command.BadArguments front p = p
 writes_first old (command.Load name) front p = p
 writes_first old (command.Unload name) front p = p
 writes_first old (command.Edit name file) front p = p
+writes_first old (command.Compile name) front p = p
 writes_first old (command.Stop place) front p = p
 writes_first old (command.Delete k) front p = p
 writes_first old command.Frames front p = p
@@ -398,6 +401,7 @@ quiet_so old command.BadArguments said new p = absurd p
 quiet_so old (command.Load name) said new p = (refl, p)
 quiet_so old (command.Unload name) said new p = (refl, p)
 quiet_so old (command.Edit name file) said new p = (refl, p)
+quiet_so old (command.Compile name) said new p = (refl, p)
 quiet_so old (command.Run file) said new p = absurd p
 quiet_so old (command.Stop place) said new p = (refl, p)
 quiet_so old (command.Delete k) said new p = (refl, p)
@@ -437,7 +441,7 @@ module _ (old : Moment) (c : Command) (mid : Plain) (r : Option Denied) (is : mi
     pub carried_so : (sink : Option (List ℕ)) (said : Answer) → Does (moment mid old.held old.faults) c said new → Speaks sink sink old c said new
     carried_so sink said does = ([], appends_none sink, (answers_so [] said (quiet_so (moment mid old.held old.faults) c said new does), λ quiet. refl))
 
-    pub goes_so : (sink gained : Option (List ℕ)) (out : Result Answer Unsent) → is_go c ≡ true → GoesOut sink gained (moment mid old.held old.faults) c out new
-        → MatchResult out (λ said. Speaks sink gained old c said new) (λ _. BreaksOff sink gained old c)
-    goes_so sink gained (Ok said) goes (front, gains, q) = (front, gains, (answers_so front said q, not_quiet (is_go c) front goes))
-    goes_so sink gained (Err e) goes (front, gains, p) = (front, gains, go_first front p)
+    pub goes_so : (sink gained : Option (List ℕ)) (out : Result Answer Unsent) → is_go c ≡ true → new.held ≡ old.held → GoesOut sink gained (moment mid old.held old.faults) c out new
+        → MatchResult out (λ said. Speaks sink gained old c said new) (λ _. BreaksOff sink gained old c new.held)
+    goes_so sink gained (Ok said) goes same (front, gains, q) = (front, gains, (answers_so front said q, not_quiet (is_go c) front goes))
+    goes_so sink gained (Err e) goes same (front, gains, p) = (same, (front, gains, go_first front p))

@@ -36,6 +36,7 @@ use Rattle.sc_session.specs.declared.input.Input.{Input}
 use Rattle.sc_session.specs.declared.input.Input.TheVariants as input
 use Rattle.sc_session.specs.declared.state.State.{State}
 use Rattle.sc_session.specs.declared.state.State.TheVariants as state
+use Rattle.sc_session.specs.Modules.{texts}
 use Rattle.sc_session.specs.Plain.{Plain}
 use Rattle.sc_session.specs.Stopping.{places}
 
@@ -208,11 +209,11 @@ IsGoing state.Ended = ⊥
 -- one go of a session from a run, with the text that answers it behind what went out, and the session behind it
 abbrev pub GoesOn : Plain → Walk → Option Standing → List ℕ → List ℕ → Plain → Type 0
 GoesOn session how r front text new =
-    (s : State) × Went session.modules (places session.stops) how session.limits.turns r front text s × (new ≡ in_state s session)
+    (s : State) × Went (texts session.modules) (places session.stops) how session.limits.turns r front text s × (new ≡ in_state s session)
 
 -- the first bytes that the program writes as a session's run goes on so
 abbrev pub WalkFirst : Plain → Walk → List ℕ → Type 0
-WalkFirst session how front = (r : Option Standing) × RunsIn session.state r × IsFirstOf session.modules (places session.stops) how session.limits.turns r front
+WalkFirst session how front = (r : Option Standing) × RunsIn session.state r × IsFirstOf (texts session.modules) (places session.stops) how session.limits.turns r front
 
 -- the answers to `step`, `next` and `cont` behind these bytes, which went out
 abbrev pub Walks : Plain → Walk → List ℕ → Answer → Plain → Type 0
@@ -227,17 +228,17 @@ WalksOut sink gained session how (Err e) new = Gains sink gained (λ front. Walk
 
 -- the run of a session's program from its start on
 abbrev pub run_of : Plain → List ℕ → Option Standing
-run_of session bytes = Some (started session.modules session.limits.stack session.limits.heap bytes)
+run_of session bytes = Some (started (texts session.modules) session.limits.stack session.limits.heap bytes)
 
 -- a run with this input goes from its start on: it is one of the program that the modules are
 abbrev pub Begins : Plain → List ℕ → List ℕ → List ℕ → Plain → Type 0
 Begins session bytes front text new =
-    IsRunOf (start_of session.modules session.limits.stack session.limits.heap bytes) session.modules (run_of session bytes)
+    IsRunOf (start_of (texts session.modules) session.limits.stack session.limits.heap bytes) (texts session.modules) (run_of session bytes)
     × GoesOn session walk.Cont (run_of session bytes) front text new
 
 -- the first bytes that it writes there
 abbrev pub BeginFirst : Plain → List ℕ → List ℕ → Type 0
-BeginFirst session bytes front = IsFirstOf session.modules (places session.stops) walk.Cont session.limits.turns (run_of session bytes) front
+BeginFirst session bytes front = IsFirstOf (texts session.modules) (places session.stops) walk.Cont session.limits.turns (run_of session bytes) front
 
 -- what is answered as it goes from its start on
 abbrev pub BeginsSo : Plain → List ℕ → List ℕ → Answer → Plain → Type 0

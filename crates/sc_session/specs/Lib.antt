@@ -1,8 +1,10 @@
 -- Inside: plumbing, a representation, an invariant or a promise beside the claim (docs/TRUST.md).
+pub mod Modules
 pub mod Plain
 pub mod States
 pub mod Loading
 pub mod Stopping
 pub mod Showing
 pub mod Going
+pub mod Compiling
 pub mod Transcript

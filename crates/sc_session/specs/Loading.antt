@@ -4,18 +4,17 @@ use Rattle.std.specs.Prelude.{◌≡◌, ℕ, not, if◌then◌else◌, List, []
 use Rattle.std.specs.List.{filter}
 use Rattle.std.specs.Str.{bytes_eq}
 use Rattle.sc_base.specs.declared.key.Key.{Key}
-use Rattle.sc_base.specs.declared.memory.Form.TheVariants.{Source}
-use Rattle.sc_build.specs.declared.building.Built.{Built}
 use Rattle.sc_core.specs.declared.module.Core.{Core}
 use Rattle.sc_meaning.specs.Versions.{Text}
 use Rattle.sc_session_conflicts.specs.Clashes.{Named, doubled, clashing, is_other}
 use Rattle.sc_session_conflicts.specs.Spaces.{over_limit, modules_with, statics_with}
-use Rattle.sc_core_names.specs.declared.table.ModuleScopes.{ModuleScopes}
 use Rattle.sc_core_held.specs.Numbers.{mentioned}
 use Rattle.sc_words.specs.declared.denied.Area.{Area}
 use Rattle.sc_words.specs.declared.denied.Denied.{Denied}
 use Rattle.sc_words.specs.declared.denied.Denied.TheVariants as denied
+use Rattle.sc_session.specs.Modules.{texts}
 use Rattle.sc_session.specs.States.{or_else}
+use Rattle.sc_session.specs.declared.present.Present.{Present}
 use Rattle.sc_session.specs.declared.joining.Taken.{Taken}
 use Rattle.sc_session.specs.declared.joining.Taken.TheVariants as taken
 
@@ -55,37 +54,18 @@ name_conflict modules core = if_doubled (doubled modules core) (if_clashing (cla
 abbrev pub conflict : List Text → List Key → Core → Option Denied
 conflict modules numbers core = or_else (name_conflict modules core) (full modules numbers core)
 
--- the modules with one more, which is interpreted; each gets a number of its own
-abbrev pub with_module : List Text → ℕ → Core → List Text
-with_module modules loaded core = modules ++ record { number = loaded; core = core; form = Source } ∷ []
+-- the modules with one more
+abbrev pub with_module : List Present → Present → List Present
+with_module modules new = modules ++ new ∷ []
 
--- the modules where one is translated anew, which keeps its number
-abbrev pub anew : Text → Core → Text
-anew t core = record { number = t.number; core = core; form = Source }
-
-abbrev pub in_place : List Text → Core → List Text
-in_place [] core = []
-in_place (t ∷ ts) core = if is_other core t then t ∷ in_place ts core else anew t core ∷ ts
+-- the modules where one is translated anew, and stands in the place of the old one
+abbrev pub in_place : List Present → Present → List Present
+in_place [] new = []
+in_place (p ∷ ps) new = if is_other new.text.core p.text then p ∷ in_place ps new else new ∷ ps
 
 -- the modules without one
-abbrev pub without : List ℕ → List Text → List Text
-without name modules = filter (λ t. not (bytes_eq t.core.name name)) modules
-
--- ---- the scopes of the modules, which go with them
-
-abbrev pub scopes_in : Built → ModuleScopes
-scopes_in built = record { «module» = built.core.name; scopes = built.scopes }
-
-abbrev pub with_scopes : List ModuleScopes → ModuleScopes → List ModuleScopes
-with_scopes scopes new = scopes ++ new ∷ []
-
--- where a module is translated anew, its new scopes take the place of the old ones
-abbrev pub scopes_in_place : List ModuleScopes → ModuleScopes → List ModuleScopes
-scopes_in_place [] new = []
-scopes_in_place (m ∷ ms) new = if bytes_eq m.«module» new.«module» then new ∷ ms else m ∷ scopes_in_place ms new
-
-abbrev pub scopes_without : List ℕ → List ModuleScopes → List ModuleScopes
-scopes_without name scopes = filter (λ m. not (bytes_eq m.«module» name)) scopes
+abbrev pub without : List ℕ → List Present → List Present
+without name modules = filter (λ p. not (bytes_eq p.text.core.name name)) modules
 
 -- ---- what the code finds
 
@@ -104,21 +84,14 @@ Judges modules numbers core (Some d) new = (conflict modules numbers core ≡ So
 
 -- What becomes of a module that was translated, and of the modules and the numbers. Where it goes with the others, the modules are
 -- those that are placed so.
-abbrev pub Takes : List Text → List Key → Core → List Text → Taken → List Text → List Key → Type 0
-Takes modules numbers core placed taken.Joined after new =
-    (conflict modules numbers core ≡ None) × (after ≡ placed) × (new ≡ numbers_with numbers core)
-Takes modules numbers core placed (taken.Denied d) after new =
-    (conflict modules numbers core ≡ Some d) × (after ≡ modules) × (new ≡ numbers)
-Takes modules numbers core placed taken.NoMemory after new = (after ≡ modules) × (new ≡ numbers)
+abbrev pub Takes : List Present → List Key → Present → List Present → Taken → List Present → List Key → Type 0
+Takes modules numbers new placed taken.Joined after now =
+    (conflict (texts modules) numbers new.text.core ≡ None) × (after ≡ placed) × (now ≡ numbers_with numbers new.text.core)
+Takes modules numbers new placed (taken.Denied d) after now =
+    (conflict (texts modules) numbers new.text.core ≡ Some d) × (after ≡ modules) × (now ≡ numbers)
+Takes modules numbers new placed taken.NoMemory after now = (after ≡ modules) × (now ≡ numbers)
 
 -- the place of the module that has a module's name
-pub record IsPlace (modules : List Text) (core : Core) (i : ℕ) : Type 0 where
+pub record IsPlace (modules : List Present) (new : Present) (i : ℕ) : Type 0 where
   pub inside : i < length modules
-  pub old : Text
-  pub stands : slice_get modules i ≡ Some old
-  pub placed : in_place modules core ≡ slice_set modules i (anew old core)
-
--- the place of the scopes of a module
-pub record IsScopesPlace (scopes : List ModuleScopes) (new : ModuleScopes) (i : ℕ) : Type 0 where
-  pub inside : i < length scopes
-  pub placed : scopes_in_place scopes new ≡ slice_set scopes i new
+  pub placed : in_place modules new ≡ slice_set modules i new

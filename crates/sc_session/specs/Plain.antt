@@ -2,19 +2,17 @@
 -- A session as contracts see it.
 use Rattle.std.specs.Prelude.{ℕ, Bool, List}
 use Rattle.sc_base.specs.declared.key.Key.{Key}
-use Rattle.sc_meaning.specs.Versions.{Text}
-use Rattle.sc_core_names.specs.declared.table.ModuleScopes.{ModuleScopes}
 use Rattle.sc_session.specs.declared.limits.Limits.{Limits}
+use Rattle.sc_session.specs.declared.present.Present.{Present}
 use Rattle.sc_session.specs.declared.state.State.{State}
 use Rattle.sc_session.specs.declared.stops.Stop.{Stop}
 
 pub record Plain : Type 0 where
   pub limits : Limits
-  -- the modules that are present, in the order in which they were loaded, and how many were loaded in all
-  pub modules : List Text
+  -- the modules that are present, in the order in which they were loaded
+  pub modules : List Present
+  -- how many texts were loaded, by `edit` too: the number of the next one
   pub loaded : ℕ
-  -- what each of their scopes declares
-  pub scopes : List ModuleScopes
   -- the functions that have a number behind the library's, in the order of their numbers
   pub numbers : List Key
   -- the stops that are set, and the number of the last one that was

@@ -4,7 +4,7 @@ use Rattle.std.specs.Prelude.{◌≡◌, ℕ, List, [], ◌∷◌, ◌++◌, Opt
 use Rattle.sc_base.specs.declared.key.Key.{Key}
 use Rattle.sc_meaning.specs.Versions.{Text}
 use Rattle.sc_meaning.specs.World.{World}
-use Rattle.sc_core_names.specs.declared.table.ModuleScopes.{ModuleScopes}
+use Rattle.sc_core_names.specs.declared.table.Scopes.{Scopes}
 use Rattle.sc_session_show.specs.Frames.{where_lines}
 use Rattle.sc_session_show.specs.Listings.{module_lines, fun_lines}
 use Rattle.sc_session_show.specs.Visible.{print_line}
@@ -17,6 +17,7 @@ use Rattle.sc_world.specs.Standing.{Standing}
 use Rattle.sc_session.specs.declared.state.State.{State}
 use Rattle.sc_session.specs.declared.state.State.TheVariants as state
 use Rattle.sc_session.specs.declared.stops.Stop.{Stop}
+use Rattle.sc_session.specs.Modules.{texts, scopes_at}
 use Rattle.sc_session.specs.Plain.{Plain}
 use Rattle.sc_session.specs.Going.{IsWorldOf, RunsIn}
 
@@ -38,7 +39,7 @@ abbrev pub listing : List Text → List Key → List Stop → State → List ℕ
 listing modules numbers stops s = module_lines modules ++ fun_lines modules numbers ++ stop_lines stops ++ state_line s
 
 abbrev pub list_text : Plain → List ℕ
-list_text session = listing session.modules session.numbers session.stops session.state
+list_text session = listing (texts session.modules) session.numbers session.stops session.state
 
 -- the answers to `list`
 abbrev pub Lists : Plain → Answer → Type 0
@@ -53,11 +54,12 @@ TellsCalls modules w answer.NoMemory = Unit {0}
 TellsCalls modules w _ = ⊥
 
 -- what the name stands for that `print` asks for
-abbrev pub value_line : List Text → List ModuleScopes → Option ℕ → World → List ℕ → Option (List ℕ)
-value_line modules scopes declaring w name = print_line modules modules [] scopes declaring w name
+abbrev pub value_line : List Text → Option Scopes → Option ℕ → World → List ℕ → Option (List ℕ)
+value_line modules None declaring w name = None
+value_line modules (Some scopes) declaring w name = print_line modules modules [] scopes declaring w name
 
 -- the answers to `print`
-abbrev pub TellsValue : List Text → List ModuleScopes → Option ℕ → World → List ℕ → Answer → Type 0
+abbrev pub TellsValue : List Text → Option Scopes → Option ℕ → World → List ℕ → Answer → Type 0
 TellsValue modules scopes declaring w name (answer.Shown line) = value_line modules scopes declaring w name ≡ Some line
 TellsValue modules scopes declaring w name (answer.Refused d) = (d ≡ denied.NotVisible name) × (value_line modules scopes declaring w name ≡ None)
 TellsValue modules scopes declaring w name answer.NoMemory = Unit {0}
@@ -68,7 +70,7 @@ abbrev pub InWorld : Plain → (World → Type 0) → Type 0
 InWorld session P = (r : Option Standing) × RunsIn session.state r × ((w : World) × IsWorldOf r w × P w)
 
 abbrev pub ShowsCalls : Plain → Answer → Type 0
-ShowsCalls session said = InWorld session (λ w. TellsCalls session.modules w said)
+ShowsCalls session said = InWorld session (λ w. TellsCalls (texts session.modules) w said)
 
 -- the object of the innermost call that is being initialised where the run stands, if one is
 abbrev pub IsDeclaring : Option Standing → Option ℕ → Type 0
@@ -82,4 +84,4 @@ pub record ShowsValue (session : Plain) (name : List ℕ) (said : Answer) : Type
   pub stands : IsWorldOf run world
   pub declaring : Option ℕ
   pub declares : IsDeclaring run declaring
-  pub tells : TellsValue session.modules session.scopes declaring world name said
+  pub tells : TellsValue (texts session.modules) (scopes_at session.modules world.frames) declaring world name said

@@ -14,6 +14,7 @@ use Rattle.sc_words.specs.declared.stop.StopAt.TheVariants as place
 use Rattle.sc_session.specs.declared.state.State.{State}
 use Rattle.sc_session.specs.declared.state.State.TheVariants as state
 use Rattle.sc_session.specs.declared.stops.Stop.{Stop}
+use Rattle.sc_session.specs.Modules.{texts}
 use Rattle.sc_session.specs.Plain.{Plain}
 
 -- why the modules cannot be changed
@@ -78,11 +79,12 @@ abbrev pub refusal_of : Plain → Command → Option Denied
 refusal_of session command.Nothing = None
 refusal_of session command.Unknown = Some denied.UnknownCommand
 refusal_of session command.BadArguments = Some denied.BadArguments
-refusal_of session (command.Load name) = or_else (changing session.state) (if_present name session.modules)
-refusal_of session (command.Unload name) = or_else (changing session.state) (if_absent name session.modules)
-refusal_of session (command.Edit name file) = or_else (changing session.state) (if_absent name session.modules)
+refusal_of session (command.Load name) = or_else (changing session.state) (if_present name (texts session.modules))
+refusal_of session (command.Unload name) = or_else (changing session.state) (if_absent name (texts session.modules))
+refusal_of session (command.Edit name file) = or_else (changing session.state) (if_absent name (texts session.modules))
+refusal_of session (command.Compile name) = if_absent name (texts session.modules)
 refusal_of session (command.Run file) = starting session.state
-refusal_of session (command.Stop p) = or_else (marking session.state) (if_nowhere p session.modules)
+refusal_of session (command.Stop p) = or_else (marking session.state) (if_nowhere p (texts session.modules))
 refusal_of session (command.Delete k) = or_else (marking session.state) (if_unset k session.stops)
 refusal_of session command.Step = stepping session.state
 refusal_of session command.Next = stepping session.state

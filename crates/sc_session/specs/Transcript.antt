@@ -19,11 +19,13 @@ use Rattle.sc_session.specs.declared.joining.Taken.TheVariants as taken
 use Rattle.sc_session.specs.declared.limits.Limits.{Limits}
 use Rattle.sc_session.specs.declared.state.State.{State}
 use Rattle.sc_session.specs.declared.state.State.TheVariants as state
+use Rattle.sc_session.specs.Modules.{texts, present_of}
 use Rattle.sc_session.specs.Plain.{Plain}
 use Rattle.sc_session.specs.States.{refusal_of}
-use Rattle.sc_session.specs.Loading.{file_of, file_or, conflict, numbers_with, with_module, in_place, without, scopes_in, with_scopes, scopes_in_place, scopes_without}
+use Rattle.sc_session.specs.Loading.{file_of, file_or, conflict, numbers_with, with_module, in_place, without}
 use Rattle.sc_session.specs.Stopping.{Sets, without_stop}
 use Rattle.sc_session.specs.Showing.{Lists, ShowsCalls, ShowsValue}
+use Rattle.sc_session.specs.Compiling.{Compiles}
 use Rattle.sc_session.specs.Going.{in_state, has_main, IsInput, InputDenied, IsCutOff, Gains, Walks, WalkFirst, Begins, BeginFirst}
 
 -- A session between two commands, what the files hold then where they tell it, and how often they have failed.
@@ -45,7 +47,6 @@ empty limits = record {
   limits = limits;
   modules = [];
   loaded = 0;
-  scopes = [];
   numbers = [];
   stops = [];
   last = 0;
@@ -74,7 +75,7 @@ Unbuilt held before now file name (Some d) = NotBuilt held before now file name 
 -- why the module of a file does not go with the others
 abbrev pub Clashes : Moment → List ℕ → List ℕ → Denied → Type 0
 Clashes old file name d =
-    (built : Built) × Builds old.held file name built × (conflict old.session.modules old.session.numbers built.core ≡ Some d)
+    (built : Built) × Builds old.held file name built × (conflict (texts old.session.modules) old.session.numbers built.core ≡ Some d)
 
 abbrev pub FileDenied : Moment → List ℕ → List ℕ → ℕ → Denied → Type 0
 FileDenied old file name now d = NotBuilt old.held old.faults now file name d ⊎ Clashes old file name d
@@ -82,22 +83,21 @@ FileDenied old file name now d = NotBuilt old.held old.faults now file name d �
 -- the module of a file, which goes with the others
 pub record Fits (old : Moment) (file name : List ℕ) (built : Built) : Type 0 where
   pub builds : Builds old.held file name built
-  pub goes : conflict old.session.modules old.session.numbers built.core ≡ None
+  pub goes : conflict (texts old.session.modules) old.session.numbers built.core ≡ None
 
 -- the session with one module more, with one translated anew, and with one less
 abbrev pub joined : Plain → Built → Plain
 joined session built = record session {
-  modules = with_module session.modules session.loaded built.core;
+  modules = with_module session.modules (present_of session.loaded built);
   loaded = session.loaded + 1;
-  scopes = with_scopes session.scopes (scopes_in built);
   numbers = numbers_with session.numbers built.core;
   state = state.Idle;
 }
 
 abbrev pub replaced : Plain → Built → Plain
 replaced session built = record session {
-  modules = in_place session.modules built.core;
-  scopes = scopes_in_place session.scopes (scopes_in built);
+  modules = in_place session.modules (present_of session.loaded built);
+  loaded = session.loaded + 1;
   numbers = numbers_with session.numbers built.core;
   state = state.Idle;
 }
@@ -105,7 +105,6 @@ replaced session built = record session {
 abbrev pub unloaded : Plain → List ℕ → Plain
 unloaded session name = record session {
   modules = without name session.modules;
-  scopes = scopes_without name session.scopes;
   state = state.Idle;
 }
 
@@ -127,28 +126,28 @@ Edits old name file _ new = ⊥
 
 -- what became of a module that was translated
 abbrev pub Joins : Plain → Built → Taken → Plain → Type 0
-Joins old built taken.Joined new = (conflict old.modules old.numbers built.core ≡ None) × (new ≡ joined old built)
-Joins old built (taken.Denied d) new = (conflict old.modules old.numbers built.core ≡ Some d) × (new ≡ old)
+Joins old built taken.Joined new = (conflict (texts old.modules) old.numbers built.core ≡ None) × (new ≡ joined old built)
+Joins old built (taken.Denied d) new = (conflict (texts old.modules) old.numbers built.core ≡ Some d) × (new ≡ old)
 Joins old built taken.NoMemory new = new ≡ old
 
 -- and of one that was translated anew
 abbrev pub TakesPlace : Plain → Built → Taken → Plain → Type 0
-TakesPlace old built taken.Joined new = (conflict old.modules old.numbers built.core ≡ None) × (new ≡ replaced old built)
-TakesPlace old built (taken.Denied d) new = (conflict old.modules old.numbers built.core ≡ Some d) × (new ≡ old)
+TakesPlace old built taken.Joined new = (conflict (texts old.modules) old.numbers built.core ≡ None) × (new ≡ replaced old built)
+TakesPlace old built (taken.Denied d) new = (conflict (texts old.modules) old.numbers built.core ≡ Some d) × (new ≡ old)
 TakesPlace old built taken.NoMemory new = new ≡ old
 
 -- why `run` is refused
 abbrev pub RunDenied : Moment → Option (List ℕ) → ℕ → Denied → Type 0
-RunDenied old file faults denied.NoMain = has_main old.session.modules ≡ false
-RunDenied old file faults d = (has_main old.session.modules ≡ true) × InputDenied old.held file old.faults faults d
+RunDenied old file faults denied.NoMain = has_main (texts old.session.modules) ≡ false
+RunDenied old file faults d = (has_main (texts old.session.modules) ≡ true) × InputDenied old.held file old.faults faults d
 
 -- the first bytes that the program writes as it is run so
 abbrev pub RunFirst : Moment → Option (List ℕ) → List ℕ → Type 0
-RunFirst old file front = (has_main old.session.modules ≡ true) × ((bytes : List ℕ) × IsInput old.held file bytes × BeginFirst old.session bytes front)
+RunFirst old file front = (has_main (texts old.session.modules) ≡ true) × ((bytes : List ℕ) × IsInput old.held file bytes × BeginFirst old.session bytes front)
 
 -- the answers to `run` behind these bytes, which went out
 abbrev pub Runs : Moment → Option (List ℕ) → List ℕ → Answer → Moment → Type 0
-Runs old file front (answer.Ran text) new = (new.held ≡ old.held) × (has_main old.session.modules ≡ true)
+Runs old file front (answer.Ran text) new = (new.held ≡ old.held) × (has_main (texts old.session.modules) ≡ true)
     × ((bytes : List ℕ) × IsInput old.held file bytes × Begins old.session bytes front text new.session)
 Runs old file front (answer.Refused d) new = (front ≡ []) × Leaves old new old.session × RunDenied old file new.faults d
 Runs old file front answer.NoMemory new = (new.held ≡ old.held) × IsCutOff (RunFirst old file) old.session front new.session
@@ -169,6 +168,7 @@ Does old command.Nothing said new = (said ≡ answer.Silent) × (new ≡ old)
 Does old (command.Load name) said new = Loads old name (file_of name) said new
 Does old (command.Unload name) said new = (said ≡ answer.Unloaded name) × (new.session ≡ unloaded old.session name) × SameFiles old new
 Does old (command.Edit name file) said new = Edits old name (file_or name file) said new
+Does old (command.Compile name) said new = (new.session ≡ old.session) × Compiles old.session old.held old.faults name said new.held new.faults
 Does old (command.Stop p) said new = Sets old.session p said new.session × SameFiles old new
 Does old (command.Delete k) said new = (said ≡ answer.Deleted k) × (new.session ≡ without_stop k old.session) × SameFiles old new
 Does old command.Frames said new = ShowsCalls old.session said × (new ≡ old)
@@ -235,9 +235,9 @@ GoFirst old c front = (refusal_of (asked c old.session) c ≡ None) × WritesFir
 abbrev pub Speaks : Option (List ℕ) → Option (List ℕ) → Moment → Command → Answer → Moment → Type 0
 Speaks sink gained old c said new = Gains sink gained (λ front. AnswersTo old c front said new × (is_go c ≡ false → front ≡ []))
 
--- The program's bytes could not be written: the sink has the first of them.
-abbrev pub BreaksOff : Option (List ℕ) → Option (List ℕ) → Moment → Command → Type 0
-BreaksOff sink gained old c = Gains sink gained (λ front. GoFirst old c front)
+-- The program's bytes could not be written: the sink has the first of them, and the files hold what they held.
+abbrev pub BreaksOff : Option (List ℕ) → Option (List ℕ) → Moment → Command → Option FileMap → Type 0
+BreaksOff sink gained old c held = (held ≡ old.held) × Gains sink gained (λ front. GoFirst old c front)
 
 -- nothing is answered
 abbrev pub is_silent : Answer → Bool

@@ -6,9 +6,11 @@ ghost use Rattle.sc_outside.specs.Causes.{Rose};
 ghost use Rattle.sc_session_texts.specs.Ends as ends;
 ghost use Rattle.sc_session_texts.specs.Words.{key_text};
 ghost use Rattle.sc_session.specs.Going as spec;
+ghost use Rattle.sc_session.specs.Modules.{texts};
 ghost use Rattle.sc_session.specs.declared.going.Lost.TheVariants as lost;
 ghost use Rattle.sc_world.specs.declared.post.Unsent.TheVariants as unsent;
 
+use crate::present::{Present, texts_of};
 use crate::state::State;
 use sc_base::{Bytes, Key, Name, NoMemory};
 use sc_core_held::{Callee, Text, callee_of};
@@ -37,11 +39,12 @@ fn main_key(alloc: Global) -> Result<Key, NoMemory>
 }
 
 /// Whether a module defines `main`, with external linkage.
-pub fn has_main(alloc: Global, texts: &[Text]) -> Result<bool, NoMemory>
-    ensures { IfOk result (λ yes. yes ≡ spec.has_main texts.now) }
+pub fn has_main(alloc: Global, modules: &[Present]) -> Result<bool, NoMemory>
+    ensures { IfOk result (λ yes. yes ≡ spec.has_main (texts modules.now)) }
 {
+    let texts = texts_of(alloc, modules)?;
     let key = main_key(alloc)?;
-    Ok(is_found(texts, &key))
+    Ok(is_found(texts.as_slice(), &key))
 }
 
 fn is_found(texts: &[Text], key: &Key) -> bool

@@ -1,7 +1,7 @@
 // The input of a run.
 ghost use Rattle.std.specs.Prelude.{◌≡◌, ◌≤◌, Some, true, IfOk};
 ghost use Rattle.sc_words.specs.Commands.{IsFile};
-ghost use Rattle.sc_words.specs.Parts.{is_file_name};
+ghost use Rattle.sc_words.specs.Parts.{is_file_name, is_module_name};
 ghost use Rattle.sc_session.specs.Going as spec;
 
 use sc_base::{Bytes, Items, Name, NoMemory};
@@ -20,6 +20,17 @@ pub enum Input {
 /// A file's name as text: its bytes are letters, digits, underscores, periods and hyphens.
 pub fn file_text(name: &Name) -> &str
     requires { is_file_name name.now ≡ true }
+    ensures { result.now ≡ name.now }
+{
+    match std::str::from_utf8(name.as_slice()) {
+        Ok(text) => text,
+        Err(_) => unreachable!(),
+    }
+}
+
+/// A module's name as text: its bytes are letters, digits and underscores.
+pub fn name_text(name: &Name) -> &str
+    requires { is_module_name name.now ≡ true }
     ensures { result.now ≡ name.now }
 {
     match std::str::from_utf8(name.as_slice()) {

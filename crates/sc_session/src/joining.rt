@@ -1,11 +1,13 @@
 // The modules of a session change.
 ghost use Rattle.std.specs.Prelude.{◌≡◌, Some, None, IfOk, OnOk, OnErr, MatchOption, MatchResult};
-ghost use Rattle.std.specs.Str.{bytes_eq};
+ghost use Rattle.sc_session_conflicts.specs.Clashes.{is_other};
 ghost use Rattle.sc_session.specs.Loading as spec;
+ghost use Rattle.sc_session.specs.Modules.{texts};
 
-use sc_base::{Duplicate, Form, Name, NoMemory};
+use crate::present::{Present, is_named, texts_of};
+use sc_base::{Duplicate, Name, NoMemory};
 use sc_core::Core;
-use sc_core_held::{Module, Numbers, Text};
+use sc_core_held::{Numbers, Text};
 use sc_session_conflicts::{Named, clashing, doubled, is_other, over_limit, statics_with};
 use sc_words::Denied;
 use std::alloc::Global;
@@ -68,7 +70,7 @@ fn make_room(
     }
 }
 
-// Whether a module goes with the others. Its functions have their numbers then.
+// Whether a module goes with texts. Its functions have their numbers then.
 fn judged(
     alloc: Global,
     texts: &[Text],
@@ -84,51 +86,71 @@ fn judged(
     }
 }
 
-fn push_text(texts: &mut Vec<Text>, number: u32, core: Module) -> Result<(), NoMemory>
-    ensures ok { OnOk result (texts.new.items ≡ spec.with_module texts.old.items number core) }
-    ensures err { OnErr result (texts.new.items ≡ texts.old.items) }
+// Whether a module goes with the others.
+fn judged_among(
+    alloc: Global,
+    modules: &[Present],
+    numbers: &mut Numbers,
+    core: &Core,
+) -> Result<Option<Denied>, NoMemory>
+    ensures { MatchResult result (λ d. spec.Judges (texts modules.now) numbers.old core.now d numbers.new) (λ _. numbers.new ≡ numbers.old) }
 {
-    texts.push(Text {
-        number,
-        core,
-        form: Form::Source,
-    })?;
+    match texts_of(alloc, modules) {
+        Ok(texts) => judged(alloc, texts.as_slice(), numbers, core),
+        Err(e) => Err(e),
+    }
+}
+
+fn push_module(modules: &mut Vec<Present>, new: Present) -> Result<(), NoMemory>
+    ensures ok { OnOk result (modules.new.items ≡ spec.with_module modules.old.items new) }
+    ensures err { OnErr result (modules.new.items ≡ modules.old.items) }
+{
+    modules.push(new)?;
     Ok(())
 }
 
-/// A module that was translated is put behind the others, where it goes with them.
+/// A module is put behind the others, where it goes with them.
 pub fn take_new(
     alloc: Global,
-    texts: &mut Vec<Text>,
-    number: u32,
+    modules: &mut Vec<Present>,
     numbers: &mut Numbers,
-    core: Core,
+    new: Present,
 ) -> Taken
-    ensures { spec.Takes texts.old.items numbers.old core (spec.with_module texts.old.items number core) result texts.new.items numbers.new }
+    ensures { spec.Takes modules.old.items numbers.old new (spec.with_module modules.old.items new) result modules.new.items numbers.new }
 {
-    let Ok(core) = Module::new(alloc, core) else {
-        return Taken::NoMemory;
-    };
     let before = numbers.len();
-    match judged(alloc, texts.as_slice(), numbers, core.get()) {
-        Ok(None) => match push_text(texts, number, core) {
+    match judged_among(alloc, modules.as_slice(), numbers, new.text.core.get()) {
+        Ok(None) => match push_module(modules, new) {
             Ok(()) => Taken::Joined,
             Err(_) => {
                 numbers.truncate(before);
                 Taken::NoMemory
             }
         },
-        Ok(Some(denied)) => Taken::Denied(denied),
-        Err(_) => Taken::NoMemory,
+        Ok(Some(denied)) => {
+            drop(new);
+            Taken::Denied(denied)
+        }
+        Err(_) => {
+            drop(new);
+            Taken::NoMemory
+        }
     }
 }
 
-// The place of the module that has a module's name, behind others.
-fn place_of(core: &Core, texts: &[Text]) -> Option<usize>
-    ensures { MatchOption result (spec.in_place texts.now core.now ≡ texts.now) (λ i. spec.IsPlace texts.now core.now i) }
+// Whether a module has another name than one that is present.
+fn is_beside(new: &Present, p: &Present) -> bool
+    ensures { result ≡ is_other new.now.text.core p.now.text }
 {
-    for i in 0..texts.len() {
-        if !is_other(core, &texts[i]) {
+    is_other(new.text.core.get(), &p.text)
+}
+
+// The place of the module that has a module's name, behind others.
+fn place_of(new: &Present, modules: &[Present]) -> Option<usize>
+    ensures { MatchOption result (spec.in_place modules.now new.now ≡ modules.now) (λ i. spec.IsPlace modules.now new.now i) }
+{
+    for i in 0..modules.len() {
+        if !is_beside(new, &modules[i]) {
             return Some(i);
         }
     }
@@ -136,45 +158,43 @@ fn place_of(core: &Core, texts: &[Text]) -> Option<usize>
 }
 
 // A module takes the place of the one that has its name.
-fn put_in_place(texts: &mut Vec<Text>, core: Module)
-    ensures { texts.new.items ≡ spec.in_place texts.old.items core }
+fn put_in_place(modules: &mut Vec<Present>, new: Present)
+    ensures { modules.new.items ≡ spec.in_place modules.old.items new }
 {
-    if let Some(i) = place_of(core.get(), texts.as_slice()) {
-        let number = texts[i].number;
-        texts[i] = Text {
-            number,
-            core,
-            form: Form::Source,
-        };
+    match place_of(&new, modules.as_slice()) {
+        Some(i) => modules[i] = new,
+        None => drop(new),
     }
 }
 
-/// A module that was translated takes the place of the one that has its name, where it goes with the others.
-pub fn take_anew(alloc: Global, texts: &mut Vec<Text>, numbers: &mut Numbers, core: Core) -> Taken
-    ensures { spec.Takes texts.old.items numbers.old core (spec.in_place texts.old.items core) result texts.new.items numbers.new }
+/// A module takes the place of the one that has its name, where it goes with the others.
+pub fn take_anew(
+    alloc: Global,
+    modules: &mut Vec<Present>,
+    numbers: &mut Numbers,
+    new: Present,
+) -> Taken
+    ensures { spec.Takes modules.old.items numbers.old new (spec.in_place modules.old.items new) result modules.new.items numbers.new }
 {
-    let Ok(core) = Module::new(alloc, core) else {
-        return Taken::NoMemory;
-    };
-    match judged(alloc, texts.as_slice(), numbers, core.get()) {
+    match judged_among(alloc, modules.as_slice(), numbers, new.text.core.get()) {
         Ok(None) => {
-            put_in_place(texts, core);
+            put_in_place(modules, new);
             Taken::Joined
         }
-        Ok(Some(denied)) => Taken::Denied(denied),
-        Err(_) => Taken::NoMemory,
+        Ok(Some(denied)) => {
+            drop(new);
+            Taken::Denied(denied)
+        }
+        Err(_) => {
+            drop(new);
+            Taken::NoMemory
+        }
     }
-}
-
-fn is_named(name: &Name, t: &Text) -> bool
-    ensures { result ≡ bytes_eq t.now.core.name name.now }
-{
-    t.core.get().name == *name
 }
 
 /// The module with this name is taken away.
-pub fn take_away(texts: &mut Vec<Text>, name: &Name)
-    ensures { texts.new.items ≡ spec.without name.now texts.old.items }
+pub fn take_away(modules: &mut Vec<Present>, name: &Name)
+    ensures { modules.new.items ≡ spec.without name.now modules.old.items }
 {
-    texts.retain(|t| !is_named(name, t));
+    modules.retain(|p| !is_named(name, p));
 }

@@ -1,12 +1,12 @@
 // What a session lists and shows.
-ghost use Rattle.std.specs.Prelude.{◌≡◌, ◌++◌, IfOk, OnOk};
+ghost use Rattle.std.specs.Prelude.{◌≡◌, ◌++◌, Some, IfOk, OnOk};
 ghost use Rattle.sc_session.specs.Showing as spec;
 
 use crate::state::State;
 use crate::stops::Stop;
 use sc_base::{Bytes, Duplicate, Name, NoMemory};
 use sc_core_held::{Numbers, Text};
-use sc_core_names::ModuleScopes;
+use sc_core_names::Scopes;
 use sc_interp_world::World;
 use sc_session_show::{fun_lines, module_lines, print_line, where_lines};
 use sc_session_texts::put;
@@ -63,16 +63,17 @@ pub fn calls_told(alloc: Global, texts: &[Text], world: &World) -> Answer
     }
 }
 
-/// The answer to `print`, where this object of the innermost call is being initialised, if one is.
+/// The answer to `print`, by what the text declares that the innermost call runs, where this object of the call is being initialised,
+/// if one is.
 pub fn value_told(
     alloc: Global,
     texts: &[Text],
-    scopes: &[ModuleScopes],
+    scopes: &Scopes,
     declaring: Option<u32>,
     world: &World,
     name: &Name,
 ) -> Answer
-    ensures { spec.TellsValue texts.now scopes.now declaring world.now name.now result }
+    ensures { spec.TellsValue texts.now (Some scopes.now) declaring world.now name.now result }
 {
     match print_line(alloc, texts, texts, &[], scopes, declaring, world, name) {
         Ok(Some(line)) => Answer::Shown(line),

@@ -1,12 +1,12 @@
 // Which commands are refused before they are carried out.
 ghost use Rattle.std.specs.Prelude.{◌≡◌};
+ghost use Rattle.sc_session.specs.Modules.{texts};
 ghost use Rattle.sc_session.specs.States as spec;
 
+use crate::present::{Present, is_present};
 use crate::state::State;
 use crate::stops::{Stop, has_stop};
 use sc_base::Name;
-use sc_core_held::Text;
-use sc_session_conflicts::is_present;
 use sc_words::{Denied, StopAt};
 
 /// Why the modules cannot be changed.
@@ -69,20 +69,21 @@ pub fn continuing(state: &State) -> Option<Denied>
     }
 }
 
-fn if_present(name: &Name, texts: &[Text]) -> Option<Denied>
-    ensures { result ≡ spec.if_present name.now texts.now }
+fn if_present(name: &Name, modules: &[Present]) -> Option<Denied>
+    ensures { result ≡ spec.if_present name.now (texts modules.now) }
 {
-    if is_present(name, texts) {
+    if is_present(name, modules) {
         Some(Denied::ModuleThere)
     } else {
         None
     }
 }
 
-fn if_absent(name: &Name, texts: &[Text]) -> Option<Denied>
-    ensures { result ≡ spec.if_absent name.now texts.now }
+/// Whether a module that has to be there is absent.
+pub fn if_absent(name: &Name, modules: &[Present]) -> Option<Denied>
+    ensures { result ≡ spec.if_absent name.now (texts modules.now) }
 {
-    if is_present(name, texts) {
+    if is_present(name, modules) {
         None
     } else {
         Some(Denied::NoModule)
@@ -90,13 +91,13 @@ fn if_absent(name: &Name, texts: &[Text]) -> Option<Denied>
 }
 
 // A place may name a module.
-fn if_nowhere(place: &StopAt, texts: &[Text]) -> Option<Denied>
-    ensures { result ≡ spec.if_nowhere place.now texts.now }
+fn if_nowhere(place: &StopAt, modules: &[Present]) -> Option<Denied>
+    ensures { result ≡ spec.if_nowhere place.now (texts modules.now) }
 {
     match place {
         StopAt::InFun(None, _) => None,
-        StopAt::InFun(Some(home), _) => if_absent(home, texts),
-        StopAt::AtLine(home, _) => if_absent(home, texts),
+        StopAt::InFun(Some(home), _) => if_absent(home, modules),
+        StopAt::AtLine(home, _) => if_absent(home, modules),
     }
 }
 
@@ -111,32 +112,32 @@ fn if_unset(k: u32, stops: &[Stop]) -> Option<Denied>
 }
 
 /// Why `load` is refused.
-pub fn loading(state: &State, name: &Name, texts: &[Text]) -> Option<Denied>
-    ensures { result ≡ spec.or_else (spec.changing state.now) (spec.if_present name.now texts.now) }
+pub fn loading(state: &State, name: &Name, modules: &[Present]) -> Option<Denied>
+    ensures { result ≡ spec.or_else (spec.changing state.now) (spec.if_present name.now (texts modules.now)) }
 {
     match changing(state) {
         Some(denied) => Some(denied),
-        None => if_present(name, texts),
+        None => if_present(name, modules),
     }
 }
 
 /// Why `unload` and `edit` are refused.
-pub fn replacing(state: &State, name: &Name, texts: &[Text]) -> Option<Denied>
-    ensures { result ≡ spec.or_else (spec.changing state.now) (spec.if_absent name.now texts.now) }
+pub fn replacing(state: &State, name: &Name, modules: &[Present]) -> Option<Denied>
+    ensures { result ≡ spec.or_else (spec.changing state.now) (spec.if_absent name.now (texts modules.now)) }
 {
     match changing(state) {
         Some(denied) => Some(denied),
-        None => if_absent(name, texts),
+        None => if_absent(name, modules),
     }
 }
 
 /// Why `stop` is refused.
-pub fn setting(state: &State, place: &StopAt, texts: &[Text]) -> Option<Denied>
-    ensures { result ≡ spec.or_else (spec.marking state.now) (spec.if_nowhere place.now texts.now) }
+pub fn setting(state: &State, place: &StopAt, modules: &[Present]) -> Option<Denied>
+    ensures { result ≡ spec.or_else (spec.marking state.now) (spec.if_nowhere place.now (texts modules.now)) }
 {
     match marking(state) {
         Some(denied) => Some(denied),
-        None => if_nowhere(place, texts),
+        None => if_nowhere(place, modules),
     }
 }
 

@@ -6,29 +6,33 @@ ghost use Rattle.sc_outside.specs.Stored.{FileMap};
 ghost use Rattle.sc_words.specs.Commands.{IsNamed, IsFile};
 ghost use Rattle.sc_words.specs.Parts.{is_module_name};
 ghost use Rattle.sc_words.specs.declared.command.Command.TheVariants as command;
+ghost use Rattle.sc_session.specs.Compiling as compiling;
 ghost use Rattle.sc_session.specs.Going as going;
 ghost use Rattle.sc_session.specs.Loading as loading;
+ghost use Rattle.sc_session.specs.Modules.{texts};
 ghost use Rattle.sc_session.specs.Plain.{Plain};
 ghost use Rattle.sc_session.specs.Showing as showing;
-ghost use Rattle.sc_session.specs.States.{refusal_of};
+ghost use Rattle.sc_session.specs.States.{if_absent, refusal_of};
 ghost use Rattle.sc_session.specs.Stopping as stopping;
 ghost use Rattle.sc_session.specs.Transcript as spec;
 ghost use Rattle.sc_session.specs.Transcript.{moment, BreaksOff, Does, Speaks};
 ghost use Rattle.sc_world.specs.declared.post.Unsent.TheVariants as unsent;
 
 use crate::going::{Lost, gone, has_main, run_in, run_out_of};
-use crate::input::{Input, file_text, input_of};
+use crate::compiling::write_compiled;
+use crate::input::{Input, file_text, input_of, name_text};
 use crate::joining::{Taken, take_anew, take_away, take_new};
 use crate::limits::Limits;
 use crate::listing::{calls_told, list_text, value_told};
-use crate::refusal::{continuing, deleting, loading, replacing, setting, starting, stepping};
-use crate::scopes::{put_scopes, replace_scopes, scopes_with, take_scopes};
+use crate::present::{Present, object_named, present_of, scopes_at, texts_of};
+use crate::refusal::{
+    continuing, deleting, if_absent, loading, replacing, setting, starting, stepping,
+};
 use crate::state::{State, put_state};
 use crate::stops::{Stop, delete_stop, places, put_stop};
 use sc_base::{Bytes, Duplicate, Items, Name, NoMemory};
 use sc_build::{BuildFault, Built, build};
-use sc_core_held::{Numbers, Text};
-use sc_core_names::ModuleScopes;
+use sc_core_held::Numbers;
 use sc_outside::{Files, Sink};
 use sc_words::{Answer, Command, Denied, Options, StopAt, Walk};
 use sc_world::{Run, Unsent};
@@ -36,14 +40,13 @@ use std::alloc::Global;
 use std::marker::Model;
 use std::mem;
 
-/// The modules that are present, in the order in which they were loaded; what their scopes declare; the functions that have numbers; the stops; and how a
-/// run stands.
+/// The modules that are present, in the order in which they were loaded; how many texts were loaded; the functions that have numbers; the
+/// stops; and how a run stands.
 #[derive(Drop)]
 pub struct Session {
     limits: Limits,
-    texts: Vec<Text>,
+    modules: Vec<Present>,
     loaded: u32,
-    scopes: Vec<ModuleScopes>,
     numbers: Numbers,
     stops: Vec<Stop>,
     last: u32,
@@ -64,7 +67,7 @@ impl Model for Session {
 
     ghost coded = { Prim.hlevel (codes, types.the_row.coded, signatures.the_row.coded, expressions.the_row.coded, statements.the_row.coded) };
 
-    ghost view = { λ s. record { limits = s.limits; modules = s.texts.items; loaded = s.loaded; scopes = s.scopes.items; numbers = s.numbers; stops = s.stops.items; last = s.last; state = s.state; in_line = s.in_line; over = s.over } };
+    ghost view = { λ s. record { limits = s.limits; modules = s.modules.items; loaded = s.loaded; numbers = s.numbers; stops = s.stops.items; last = s.last; state = s.state; in_line = s.in_line; over = s.over } };
 }
 
 impl Session {
@@ -78,9 +81,8 @@ impl Session {
                 heap: options.heap,
                 turns: options.turns,
             },
-            texts: Vec::new(alloc),
+            modules: Vec::new(alloc),
             loaded: 0,
-            scopes: Vec::new(alloc),
             numbers: Numbers::new(alloc),
             stops: Vec::new(alloc),
             last: 0,
@@ -132,11 +134,11 @@ impl Session {
         requires named { IsNamed command }
         requires running { self.old.over ≡ false }
         ensures step { MatchResult result (λ said. Speaks (K.written out.old) (K.written out.new) (moment self.old (F.held files.old) (F.faults files.old)) command said (moment self.new (F.held files.new) (F.faults files.new)))
-            (λ _. BreaksOff (K.written out.old) (K.written out.new) (moment self.old (F.held files.old) (F.faults files.old)) command) }
+            (λ _. BreaksOff (K.written out.old) (K.written out.new) (moment self.old (F.held files.old) (F.faults files.old)) command (F.held files.new)) }
         ensures out_later { K.faults out.old ≤ K.faults out.new }
         ensures failed { result ≡ Err unsent.Failed → Rose (K.faults out.old) (K.faults out.new) }
         ensures later { F.faults files.old ≤ F.faults files.new }
-        ensures held { F.held files.new ≡ F.held files.old }
+        ensures sources { compiling.KeepsSources (F.held files.old) (F.held files.new) }
     {
         self.ask(&command);
         match self.refusal(&command) {
@@ -179,11 +181,12 @@ impl Session {
             Command::Nothing => None,
             Command::Unknown => Some(Denied::UnknownCommand),
             Command::BadArguments => Some(Denied::BadArguments),
-            Command::Load(name) => loading(&self.state, name, self.texts.as_slice()),
-            Command::Unload(name) => replacing(&self.state, name, self.texts.as_slice()),
-            Command::Edit(name, _) => replacing(&self.state, name, self.texts.as_slice()),
+            Command::Load(name) => loading(&self.state, name, self.modules.as_slice()),
+            Command::Unload(name) => replacing(&self.state, name, self.modules.as_slice()),
+            Command::Edit(name, _) => replacing(&self.state, name, self.modules.as_slice()),
+            Command::Compile(name) => if_absent(name, self.modules.as_slice()),
             Command::Run(_) => starting(&self.state),
-            Command::Stop(place) => setting(&self.state, place, self.texts.as_slice()),
+            Command::Stop(place) => setting(&self.state, place, self.modules.as_slice()),
             Command::Delete(k) => deleting(&self.state, *k, self.stops.as_slice()),
             Command::Step => stepping(&self.state),
             Command::Next => stepping(&self.state),
@@ -203,7 +206,6 @@ impl Session {
         requires quiet { spec.is_go command ≡ false }
         ensures step { Does (moment self.old (F.held files.old) (F.faults files.old)) command result (moment self.new (F.held files.new) (F.faults files.new)) }
         ensures later { F.faults files.old ≤ F.faults files.new }
-        ensures held { F.held files.new ≡ F.held files.old }
     {
         match command {
             Command::Nothing => Answer::Silent,
@@ -212,6 +214,7 @@ impl Session {
             Command::Load(name) => self.load(alloc, name, files),
             Command::Unload(name) => self.unload(name),
             Command::Edit(name, file) => self.edit(alloc, name, file, files),
+            Command::Compile(name) => self.compile(alloc, name, files),
             Command::Run(_) => unreachable!(),
             Command::Stop(place) => self.stop(alloc, place),
             Command::Delete(k) => self.delete(k),
@@ -254,6 +257,7 @@ impl Session {
             Command::Load(_) => unreachable!(),
             Command::Unload(_) => unreachable!(),
             Command::Edit(_, _) => unreachable!(),
+            Command::Compile(_) => unreachable!(),
             Command::Stop(_) => unreachable!(),
             Command::Delete(_) => unreachable!(),
             Command::Frames => unreachable!(),
@@ -264,12 +268,24 @@ impl Session {
         }
     }
 
+    // Writes the object of a module to its file.
+    fn compile<F: Files>(&self, alloc: Global, name: Name, files: &mut F) -> Answer
+        requires named { is_module_name name ≡ true }
+        requires present { if_absent name (texts self.now.modules) ≡ None }
+        ensures compiles { compiling.Compiles self.now (F.held files.old) (F.faults files.old) name result (F.held files.new) (F.faults files.new) }
+        ensures later { F.faults files.old ≤ F.faults files.new }
+    {
+        match object_named(self.modules.as_slice(), &name) {
+            Some(object) => write_compiled(alloc, name, object, files),
+            None => unreachable!(),
+        }
+    }
+
     fn unload(&mut self, name: Name) -> Answer
         ensures answer { result ≡ Answer.Unloaded name }
         ensures session { self.new ≡ spec.unloaded self.old name }
     {
-        take_away(&mut self.texts, &name);
-        take_scopes(&mut self.scopes, &name);
+        take_away(&mut self.modules, &name);
         put_state(&mut self.state, State::Idle);
         Answer::Unloaded(name)
     }
@@ -308,9 +324,12 @@ impl Session {
     fn list(&self, alloc: Global) -> Answer
         ensures { showing.Lists self.now result }
     {
+        let Ok(texts) = texts_of(alloc, self.modules.as_slice()) else {
+            return Answer::NoMemory;
+        };
         match list_text(
             alloc,
-            self.texts.as_slice(),
+            texts.as_slice(),
             &self.numbers,
             self.stops.as_slice(),
             &self.state,
@@ -341,7 +360,11 @@ impl Session {
         ensures { showing.ShowsCalls self.now result }
     {
         let run = run_in(&self.state);
-        calls_told(alloc, self.texts.as_slice(), run.world())
+        let world = run.world();
+        match texts_of(alloc, self.modules.as_slice()) {
+            Ok(texts) => calls_told(alloc, texts.as_slice(), world),
+            Err(_) => Answer::NoMemory,
+        }
     }
 
     fn print(&self, alloc: Global, name: Name) -> Answer
@@ -349,14 +372,15 @@ impl Session {
         ensures { showing.ShowsValue self.now name result }
     {
         let run = run_in(&self.state);
-        value_told(
-            alloc,
-            self.texts.as_slice(),
-            self.scopes.as_slice(),
-            run.declaring(),
-            run.world(),
-            &name,
-        )
+        let world = run.world();
+        let declaring = run.declaring();
+        match scopes_at(self.modules.as_slice(), world) {
+            None => Answer::Refused(Denied::NotVisible(name)),
+            Some(scopes) => match texts_of(alloc, self.modules.as_slice()) {
+                Ok(texts) => value_told(alloc, texts.as_slice(), scopes, declaring, world, &name),
+                Err(_) => Answer::NoMemory,
+            },
+        }
     }
 
     // The run goes on from where it stands.
@@ -366,13 +390,16 @@ impl Session {
         ensures later { K.faults out.old ≤ K.faults out.new }
         ensures failed { result ≡ Err unsent.Failed → Rose (K.faults out.old) (K.faults out.new) }
     {
+        let Ok(texts) = texts_of(alloc, self.modules.as_slice()) else {
+            return Ok(Answer::NoMemory);
+        };
         let Ok(stops) = places(alloc, self.stops.as_slice()) else {
             return Ok(Answer::NoMemory);
         };
         let run = run_out_of(mem::replace(&mut self.state, State::Ended));
         match gone(
             alloc,
-            self.texts.as_slice(),
+            texts.as_slice(),
             stops.as_slice(),
             walk,
             self.limits.turns,
@@ -408,7 +435,7 @@ impl Session {
         ensures later { F.faults files.old ≤ F.faults files.new }
         ensures held { F.held files.new ≡ F.held files.old }
     {
-        match has_main(alloc, self.texts.as_slice()) {
+        match has_main(alloc, self.modules.as_slice()) {
             Ok(true) => self.run_with(alloc, file, out, files),
             Ok(false) => Ok(Answer::Refused(Denied::NoMain)),
             Err(_) => Ok(Answer::NoMemory),
@@ -424,7 +451,7 @@ impl Session {
         files: &mut F,
     ) -> Result<Answer, Unsent>
         requires file { IsFile file }
-        requires main { going.has_main self.old.modules ≡ true }
+        requires main { going.has_main (texts self.old.modules) ≡ true }
         ensures runs { spec.RunsOut (K.written out.old) (K.written out.new) (moment self.old (F.held files.old) (F.faults files.old)) file result (moment self.new (F.held files.new) (F.faults files.new)) }
         ensures out_later { K.faults out.old ≤ K.faults out.new }
         ensures failed { result ≡ Err unsent.Failed → Rose (K.faults out.old) (K.faults out.new) }
@@ -449,18 +476,21 @@ impl Session {
         ensures later { K.faults out.old ≤ K.faults out.new }
         ensures failed { result ≡ Err unsent.Failed → Rose (K.faults out.old) (K.faults out.new) }
     {
+        let Ok(texts) = texts_of(alloc, self.modules.as_slice()) else {
+            return Ok(Answer::NoMemory);
+        };
         let Ok(stops) = places(alloc, self.stops.as_slice()) else {
             return Ok(Answer::NoMemory);
         };
         let stack = u64::from(self.limits.stack);
         let heap = u64::from(self.limits.heap);
-        let Ok(run) = Run::start(alloc, self.texts.as_slice(), stack, heap, input) else {
+        let Ok(run) = Run::start(alloc, texts.as_slice(), stack, heap, input) else {
             return Ok(Answer::NoMemory);
         };
         put_state(&mut self.state, State::Ended);
         match gone(
             alloc,
-            self.texts.as_slice(),
+            texts.as_slice(),
             stops.as_slice(),
             Walk::Cont,
             self.limits.turns,
@@ -523,35 +553,21 @@ impl Session {
     fn take(&mut self, alloc: Global, built: Built) -> Taken
         ensures { spec.Joins self.old built result self.new }
     {
-        let Built { core, scopes } = built;
         let Some(loaded) = self.loaded.checked_add(1) else {
-            drop(scopes);
-            drop(core);
+            drop(built);
             return Taken::NoMemory;
         };
-        let Ok(scopes) = scopes_with(alloc, &core.name, scopes) else {
-            drop(core);
+        let Ok(new) = present_of(alloc, self.loaded, built) else {
             return Taken::NoMemory;
         };
-        let before = self.scopes.len();
-        let Ok(()) = put_scopes(&mut self.scopes, scopes) else {
-            drop(core);
-            return Taken::NoMemory;
-        };
-        match take_new(alloc, &mut self.texts, self.loaded, &mut self.numbers, core) {
+        match take_new(alloc, &mut self.modules, &mut self.numbers, new) {
             Taken::Joined => {
                 self.loaded = loaded;
                 put_state(&mut self.state, State::Idle);
                 Taken::Joined
             }
-            Taken::Denied(denied) => {
-                self.scopes.truncate(before);
-                Taken::Denied(denied)
-            }
-            Taken::NoMemory => {
-                self.scopes.truncate(before);
-                Taken::NoMemory
-            }
+            Taken::Denied(denied) => Taken::Denied(denied),
+            Taken::NoMemory => Taken::NoMemory,
         }
     }
 
@@ -606,25 +622,21 @@ impl Session {
     fn replace(&mut self, alloc: Global, built: Built) -> Taken
         ensures { spec.TakesPlace self.old built result self.new }
     {
-        let Built { core, scopes } = built;
-        let Ok(scopes) = scopes_with(alloc, &core.name, scopes) else {
-            drop(core);
+        let Some(loaded) = self.loaded.checked_add(1) else {
+            drop(built);
             return Taken::NoMemory;
         };
-        match take_anew(alloc, &mut self.texts, &mut self.numbers, core) {
+        let Ok(new) = present_of(alloc, self.loaded, built) else {
+            return Taken::NoMemory;
+        };
+        match take_anew(alloc, &mut self.modules, &mut self.numbers, new) {
             Taken::Joined => {
-                replace_scopes(&mut self.scopes, scopes);
+                self.loaded = loaded;
                 put_state(&mut self.state, State::Idle);
                 Taken::Joined
             }
-            Taken::Denied(denied) => {
-                drop(scopes);
-                Taken::Denied(denied)
-            }
-            Taken::NoMemory => {
-                drop(scopes);
-                Taken::NoMemory
-            }
+            Taken::Denied(denied) => Taken::Denied(denied),
+            Taken::NoMemory => Taken::NoMemory,
         }
     }
 }
@@ -674,16 +686,5 @@ fn unbuilt(alloc: Global, file: &str, fault: BuildFault) -> Option<Denied>
         },
         BuildFault::File(name) => Some(Denied::FileFault(name)),
         BuildFault::NoMemory => None,
-    }
-}
-
-// A module's name as text: its bytes are letters, digits and underscores.
-fn name_text(name: &Name) -> &str
-    requires { is_module_name name.now ≡ true }
-    ensures { result.now ≡ name.now }
-{
-    match std::str::from_utf8(name.as_slice()) {
-        Ok(text) => text,
-        Err(_) => unreachable!(),
     }
 }

@@ -199,15 +199,3 @@ pub fn clashing<'a>(
 {
     least_among(alloc, Test::Disagree, core, texts)
 }
-
-/// Whether a module of this name is present.
-pub fn is_present(name: &Name, texts: &[Text]) -> bool
-    ensures { result ≡ spec.is_present name.now texts.now }
-{
-    for t in texts {
-        if t.core.get().name == *name {
-            return true;
-        }
-    }
-    false
-}

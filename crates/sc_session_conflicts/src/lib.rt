@@ -5,5 +5,5 @@ mod clash;
 mod names;
 mod space;
 
-pub use clash::{Named, clashing, doubled, is_other, is_present};
+pub use clash::{Named, clashing, doubled, is_other};
 pub use space::{over_limit, statics_with};

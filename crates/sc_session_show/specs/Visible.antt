@@ -20,9 +20,8 @@ use Rattle.sc_core_names.specs.declared.table.DeclaredName.{DeclaredName}
 use Rattle.sc_core_names.specs.declared.table.Entity.{Entity}
 use Rattle.sc_core_names.specs.declared.table.Entity.TheVariants as entity
 use Rattle.sc_core_names.specs.declared.table.FunctionScopes.{FunctionScopes}
-use Rattle.sc_core_names.specs.declared.table.ModuleScopes.{ModuleScopes}
 use Rattle.sc_core_names.specs.declared.table.Scopes.{Scopes}
-use Rattle.sc_core_names.specs.Scopes.{entity_in, function_named, scopes_of_module, statics_named}
+use Rattle.sc_core_names.specs.Scopes.{entity_in, function_named, statics_named}
 use Rattle.sc_session_show.specs.Lines.{answer_line}
 use Rattle.sc_session_show.specs.Frames.{text_numbered, function_in}
 use Rattle.sc_session_show.specs.Places.{Place, autos_in, place_in}
@@ -124,28 +123,27 @@ abbrev pub seen_among : List Text → List StaticId → Option ℕ → World →
 seen_among present waiting declaring w name f t g file None = None
 seen_among present waiting declaring w name f t g file (Some s) = seen_at present waiting w name t g file s (place_in s g declaring name None f.blocks)
 
-abbrev pub seen_by : List Text → List StaticId → Option ℕ → World → List ℕ → Frame → Text → Fun → Option Scopes → Option Seen
-seen_by present waiting declaring w name f t g None = None
-seen_by present waiting declaring w name f t g (Some scopes) =
+abbrev pub seen_by : List Text → List StaticId → Option ℕ → World → List ℕ → Frame → Text → Fun → Scopes → Option Seen
+seen_by present waiting declaring w name f t g scopes =
     seen_among present waiting declaring w name f t g scopes.file (function_named scopes.functions f.key.name)
 
-abbrev pub seen_in_function : List Text → List StaticId → List ModuleScopes → Option ℕ → World → List ℕ → Frame → Text → Option Fun → Option Seen
+abbrev pub seen_in_function : List Text → List StaticId → Scopes → Option ℕ → World → List ℕ → Frame → Text → Option Fun → Option Seen
 seen_in_function present waiting scopes declaring w name f t None = None
-seen_in_function present waiting scopes declaring w name f t (Some g) =
-    seen_by present waiting declaring w name f t g (scopes_of_module scopes t.core.name)
+seen_in_function present waiting scopes declaring w name f t (Some g) = seen_by present waiting declaring w name f t g scopes
 
-abbrev pub seen_in_text : List Text → List StaticId → List ModuleScopes → Option ℕ → World → List ℕ → Frame → Option Text → Option Seen
+abbrev pub seen_in_text : List Text → List StaticId → Scopes → Option ℕ → World → List ℕ → Frame → Option Text → Option Seen
 seen_in_text present waiting scopes declaring w name f None = None
 seen_in_text present waiting scopes declaring w name f (Some t) =
     seen_in_function present waiting scopes declaring w name f t (function_in f (Some t))
 
--- what a name stands for in the innermost call, where this object of it is being initialised, if any is
-abbrev pub seen_in : List Text → List Text → List StaticId → List ModuleScopes → Option ℕ → World → List ℕ → List Frame → Option Seen
+-- What a name stands for in the innermost call, by the scopes of the module that it runs; where an object of it is being initialised, it
+-- is given.
+abbrev pub seen_in : List Text → List Text → List StaticId → Scopes → Option ℕ → World → List ℕ → List Frame → Option Seen
 seen_in held present waiting scopes declaring w name [] = None
 seen_in held present waiting scopes declaring w name (f ∷ frames) =
     seen_in_text present waiting scopes declaring w name f (text_numbered held f.text)
 
-abbrev pub visible : List Text → List Text → List StaticId → List ModuleScopes → Option ℕ → World → List ℕ → Option Seen
+abbrev pub visible : List Text → List Text → List StaticId → Scopes → Option ℕ → World → List ℕ → Option Seen
 visible held present waiting scopes declaring w name = seen_in held present waiting scopes declaring w name w.frames
 
 -- `NAME = VALUE`
@@ -153,5 +151,5 @@ abbrev pub print_text : World → List ℕ → Option Seen → Option (List ℕ)
 print_text w name None = None
 print_text w name (Some s) = Some (answer_line (name ++ codes " = " ++ object_text w s.object s.structs s.of))
 
-abbrev pub print_line : List Text → List Text → List StaticId → List ModuleScopes → Option ℕ → World → List ℕ → Option (List ℕ)
+abbrev pub print_line : List Text → List Text → List StaticId → Scopes → Option ℕ → World → List ℕ → Option (List ℕ)
 print_line held present waiting scopes declaring w name = print_text w name (visible held present waiting scopes declaring w name)

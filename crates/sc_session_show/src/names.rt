@@ -13,8 +13,7 @@ use sc_base::{Bytes, Duplicate, Items, Key, Name, NoMemory};
 use sc_core::{Auto, Core, Declared, Fun, StaticObj};
 use sc_core_held::{Definition, Text, object_in};
 use sc_core_names::{
-    DeclaredName, Entity, FunctionScopes, ModuleScopes, Scopes, entity_in, function_named,
-    scopes_of_module, statics_named,
+    DeclaredName, Entity, FunctionScopes, Scopes, entity_in, function_named, statics_named,
 };
 use sc_interp_world::{Born, Frame, World, same_id};
 use sc_program::StaticId;
@@ -383,7 +382,7 @@ fn seen_by<'a>(
     g: &'a Fun,
     scopes: &Scopes,
 ) -> Result<Option<Seen<'a>>, NoMemory>
-    ensures { IfOk result (λ seen. seen ≡ spec.seen_by present.now waiting.now declaring world.now name.now f.now t.now g.now (Some scopes.now)) }
+    ensures { IfOk result (λ seen. seen ≡ spec.seen_by present.now waiting.now declaring world.now name.now f.now t.now g.now scopes.now) }
 {
     let file = scopes.file.as_slice();
     match function_named(scopes.functions.as_slice(), &f.key.name) {
@@ -400,7 +399,7 @@ fn seen_in_text<'a>(
     alloc: Global,
     present: &'a [Text],
     waiting: &[StaticId],
-    scopes: &[ModuleScopes],
+    scopes: &Scopes,
     declaring: Option<u32>,
     world: &World,
     name: &Name,
@@ -411,24 +410,21 @@ fn seen_in_text<'a>(
 {
     match t.core.get().fun(&f.key.name) {
         None => Ok(None),
-        Some(g) => match scopes_of_module(scopes, &t.core.get().name) {
-            None => Ok(None),
-            Some(scopes) => seen_by(
-                alloc, present, waiting, declaring, world, name, f, t, g, scopes,
-            ),
-        },
+        Some(g) => seen_by(
+            alloc, present, waiting, declaring, world, name, f, t, g, scopes,
+        ),
     }
 }
 
 /// What a name stands for in the innermost call. The texts are those of the run by their numbers, and those of the present
-/// version; a name for which an object waits to be born stands for none. The scopes are those of the modules; where an object
-/// of the call is being initialised, it is given, and what its block declares behind it is not in scope yet.
+/// version; a name for which an object waits to be born stands for none. The scopes are those of the module that the call runs;
+/// where an object of the call is being initialised, it is given, and what its block declares behind it is not in scope yet.
 pub fn visible<'a>(
     alloc: Global,
     held: &'a [Text],
     present: &'a [Text],
     waiting: &[StaticId],
-    scopes: &[ModuleScopes],
+    scopes: &Scopes,
     declaring: Option<u32>,
     world: &World,
     name: &Name,
@@ -477,7 +473,7 @@ pub fn print_line(
     held: &[Text],
     present: &[Text],
     waiting: &[StaticId],
-    scopes: &[ModuleScopes],
+    scopes: &Scopes,
     declaring: Option<u32>,
     world: &World,
     name: &Name,

@@ -2,7 +2,7 @@
 use sc_base::{Form, Items, Key, Kind, Name, NoMemory, Rule};
 use sc_interp_access::Stop;
 use sc_interp_parts::set_bytes;
-use sc_interp_world::{Frame, World};
+use sc_interp_world::{Frame, Layout, Names, World};
 use sc_lib::library_call;
 use sc_meaning::{LibFun, Spot};
 use sc_meaning_values::{Answer, Held, Shape, Value};
@@ -36,7 +36,11 @@ fn key(alloc: Global, text: &[u8]) -> Result<Key, NoMemory> {
 
 // A world in which two objects of 16 bytes hold these texts.
 fn world_of(alloc: Global, first: &[u8], second: &[u8]) -> Result<World, NoMemory> {
-    let mut world = World::new(alloc, 64, 64, Items::new(alloc))?;
+    let layout = Layout {
+        functions: Items::new(alloc),
+        places: Names::new(alloc),
+    };
+    let mut world = World::new(alloc, 64, 64, Items::new(alloc), layout)?;
     world.push(Frame {
         key: key(alloc, b"main")?,
         text: 1,

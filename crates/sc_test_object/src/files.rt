@@ -1,6 +1,7 @@
 // A file of an object, made by hand from the tables of the gABI, and what is read from it.
 use sc_base::{Bytes, Items, NoMemory};
-use sc_elf::{ElfFault, Field, read_object, version, write_object};
+use sc_elf_read::{ElfFault, Field, read_object, version};
+use sc_elf_write::write_object;
 use sc_object::{BlockTable, FrameTable, Object, Reloc, Section, SectionKind, Symbol};
 use sc_program::Slot;
 use std::alloc::Global;

@@ -13,6 +13,7 @@ fn answer_to(command: Command) -> Answer {
         Command::Load(name) => Answer::Loaded(name),
         Command::Unload(name) => Answer::Unloaded(name),
         Command::Edit(name, _) => Answer::Edited(name),
+        Command::Compile(name) => Answer::Compiled(name),
         Command::Run(_) => Answer::Refused(Denied::NoMain),
         Command::Stop(stop) => Answer::StopSet(1, stop),
         Command::Delete(number) => Answer::Deleted(number),
@@ -32,7 +33,7 @@ fn answered(alloc: Global, line: &[u8]) -> Result<Bytes, NoMemory> {
 }
 
 // Lines, and how they are answered.
-const LINES: [(&[u8], &[u8]); 30] = [
+const LINES: [(&[u8], &[u8]); 32] = [
     (b"", b""),
     (b" \t\r", b""),
     (b" #load m", b""),
@@ -46,6 +47,8 @@ const LINES: [(&[u8], &[u8]); 30] = [
     (b"edit m", b"> edited m\n"),
     (b"edit m m2.c", b"> edited m\n"),
     (b"edit m .c", b"> refused C2\n"),
+    (b"compile m", b"> compiled m\n"),
+    (b"compile m m.o", b"> refused C2\n"),
     (b"run", b"> refused C13\n"),
     (b"run t.txt", b"> refused C13\n"),
     (b"run -t", b"> refused C2\n"),

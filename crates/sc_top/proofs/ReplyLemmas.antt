@@ -4,6 +4,7 @@ use Rattle.std.proofs.lemmas.List.{append-nil}
 use Rattle.std.specs.Prelude.{◌⊎◌, ◌≤◌}
 use Rattle.std.specs.Io.KnownBytes.{Appends}
 use Rattle.sc_outside.specs.Causes.{Rose}
+use Rattle.sc_outside.specs.Stored.{FileMap}
 use Rattle.sc_outside.specs.Streams.{Writes, AppendsSome}
 use Rattle.sc_outside.specs.declared.sink.Sent.{Sent}
 use Rattle.sc_outside.specs.declared.sink.Sent.TheVariants as sent
@@ -52,6 +53,7 @@ no_go old command.BadArguments front p q = q
 no_go old (command.Load name) front p q = q
 no_go old (command.Unload name) front p q = q
 no_go old (command.Edit name file) front p q = q
+no_go old (command.Compile name) front p q = q
 no_go old (command.Stop place) front p q = q
 no_go old (command.Delete k) front p q = q
 no_go old command.Frames front p q = q
@@ -60,29 +62,29 @@ no_go old command.List front p q = q
 no_go old command.Reset front p q = q
 no_go old command.Quit front p q = q
 
-pub breaks_through : (before : Moment) (line : List ℕ) (c : Command) (old mid new : Option (List ℕ)) (waited waiting : List ℕ) → c ≡ command_of line → waiting ≡ [] → Appends old mid waited → BreaksOff mid new before c → Unreplied before line old new waited waiting
-breaks_through before line c old mid new waited waiting is none p (front, gains, first) =
-    (front, inr (subst (λ c. GoFirst before c front) is first), subst (λ r. IsPartlyOnItsWay old new r (waited ++ front)) (sym none) (partly old new [] (waited ++ front) (through old mid new waited front p gains)))
+pub breaks_through : (before : Moment) (line : List ℕ) (c : Command) (held : Option FileMap) (old mid new : Option (List ℕ)) (waited waiting : List ℕ) → c ≡ command_of line → waiting ≡ [] → Appends old mid waited → BreaksOff mid new before c held → Unreplied before line held old new waited waiting
+breaks_through before line c held old mid new waited waiting is none p (same, (front, gains, first)) =
+    (same, front, inr (subst (λ c. GoFirst before c front) is first), subst (λ r. IsPartlyOnItsWay old new r (waited ++ front)) (sym none) (partly old new [] (waited ++ front) (through old mid new waited front p gains)))
 
-pub breaks_still : (before : Moment) (line : List ℕ) (c : Command) (old new : Option (List ℕ)) (waited waiting : List ℕ) → is_go c ≡ false → BreaksOff old new before c → Unreplied before line old new waited waiting
-breaks_still before line c old new waited waiting still_there (front, gains, first) = absurd (no_go before c front still_there first.1)
+pub breaks_still : (before : Moment) (line : List ℕ) (c : Command) (held : Option FileMap) (old new : Option (List ℕ)) (waited waiting : List ℕ) → is_go c ≡ false → BreaksOff old new before c held → Unreplied before line held old new waited waiting
+breaks_still before line c held old new waited waiting still_there (same, (front, gains, first)) = absurd (no_go before c front still_there first.1)
 
-pub unflushed : (before : Moment) (line : List ℕ) (result : Sent) (old new : Option (List ℕ)) (waited waiting : List ℕ) → waiting ≡ [] → Writes old new result waited → Unreplied before line old new waited waiting
+pub unflushed : (before : Moment) (line : List ℕ) (result : Sent) (old new : Option (List ℕ)) (waited waiting : List ℕ) → waiting ≡ [] → Writes old new result waited → Unreplied before line before.held old new waited waiting
 unflushed before line result old new waited waiting none wrote =
-    ([], inl refl, subst (λ r. IsPartlyOnItsWay old new r (waited ++ [])) (sym none) (partly-writes result old new waited [] wrote))
+    (refl, [], inl refl, subst (λ r. IsPartlyOnItsWay old new r (waited ++ [])) (sym none) (partly-writes result old new waited [] wrote))
 
 -- the answer to a command that was carried out, or none
 pub replies_so : (before after : Moment) (line : List ℕ) (c : Command) (r : Result Answer Unsent) (old new : Option (List ℕ)) (waited : List ℕ) → c ≡ command_of line → before.faults ≤ after.faults → is_go c ≡ false
-    → MatchResult r (λ said. Speaks old new before c said after) (λ _. BreaksOff old new before c)
-    → MatchResult r (λ said. Replied before line said after old new waited waited) (λ _. Unreplied before line old new waited waited)
+    → MatchResult r (λ said. Speaks old new before c said after) (λ _. BreaksOff old new before c after.held)
+    → MatchResult r (λ said. Replied before line said after old new waited waited) (λ _. Unreplied before line after.held old new waited waited)
 replies_so before after line c (Ok said) old new waited is later quiet p = replies_still before after line c said old new waited is later quiet p
-replies_so before after line c (Err e) old new waited is later quiet p = breaks_still before line c old new waited waited quiet p
+replies_so before after line c (Err e) old new waited is later quiet p = breaks_still before line c after.held old new waited waited quiet p
 
 pub replies_behind : (before after : Moment) (line : List ℕ) (c : Command) (r : Result Answer Unsent) (old mid new : Option (List ℕ)) (waited waiting : List ℕ) → c ≡ command_of line → before.faults ≤ after.faults → waiting ≡ [] → Appends old mid waited
-    → MatchResult r (λ said. Speaks mid new before c said after) (λ _. BreaksOff mid new before c)
-    → MatchResult r (λ said. Replied before line said after old new waited waiting) (λ _. Unreplied before line old new waited waiting)
+    → MatchResult r (λ said. Speaks mid new before c said after) (λ _. BreaksOff mid new before c after.held)
+    → MatchResult r (λ said. Replied before line said after old new waited waiting) (λ _. Unreplied before line after.held old new waited waiting)
 replies_behind before after line c (Ok said) old mid new waited waiting is later none p q = replies_through before after line c said old mid new waited waiting is later none p q
-replies_behind before after line c (Err e) old mid new waited waiting is later none p q = breaks_through before line c old mid new waited waiting is none p q
+replies_behind before after line c (Err e) old mid new waited waiting is later none p q = breaks_through before line c after.held old mid new waited waiting is none p q
 
 -- an answer that was sent
 pub posts_behind : (s : Sent) (old mid new : Option (List ℕ)) (waited waiting text more : List ℕ) → IsOnItsWay old mid waited text → Posts mid new waiting s (waited ++ more) → Posts old new waiting s (text ++ more)

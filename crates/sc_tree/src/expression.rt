@@ -1,4 +1,6 @@
 // Expressions, and the types and declarators that stand in them. Each `line` is that of the construct's first token.
+ghost use Rattle.std.specs.Prelude.{◌≡◌};
+ghost use Rattle.sc_tree.specs.Storages as spec;
 
 use crate::operator::{Binary, Postfix, Unary};
 use sc_base::{Bytes, Int, Items, Name, Shared};
@@ -25,6 +27,16 @@ pub enum Storage {
     Static,
     Auto,
     Register,
+}
+
+/// Whether a declaration with this storage class names types (ANSI 3.5.6).
+pub fn is_typedef(class: Option<Storage>) -> bool
+    ensures { result ≡ spec.is_typedef class }
+{
+    match class {
+        Some(Storage::Typedef) => true,
+        _ => false,
+    }
 }
 
 /// An expression (ANSI 3.3), each with its line. Parentheses are none.

@@ -12,7 +12,7 @@ pub use declaration::{Declaration, InitDeclarator, Initializer};
 pub use evaluation::room;
 pub use expression::{
     Constant, Declarator, Derivation, Enumerator, Expr, Identifier, Member, Parameter, Specifiers,
-    Storage, TypeName, TypeWord,
+    Storage, TypeName, TypeWord, is_typedef,
 };
 pub use nodes::node_count;
 pub use operator::{Binary, Postfix, Unary};

@@ -5,3 +5,4 @@ pub mod Compatibility
 pub mod Outcomes
 pub mod Conversions
 pub mod Frames
+pub mod Calls

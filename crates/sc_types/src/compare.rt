@@ -1,5 +1,6 @@
 // Which types are compatible (ANSI 3.1.2.6, 3.5.3, 3.5.4.3).
 ghost use Rattle.std.specs.Prelude.{◌≡◌, ◌<◌, ◌+◌, suc, Some, true, false, length};
+ghost use Rattle.sc_types.specs.Calls as calls;
 ghost use Rattle.sc_types.specs.Compatibility as spec;
 ghost use Rattle.sc_types.specs.Outcomes.{Settles, Reaches};
 
@@ -7,7 +8,8 @@ use crate::layout::sized;
 use crate::{CType, Member, Signature, StructDef, Structs};
 use sc_base::{Int, Name};
 
-fn rank(i: Int) -> u8
+/// The place of an integer type in the order of all.
+pub fn rank(i: Int) -> u8
     ensures { result ≡ spec.rank i }
 {
     match i {
@@ -29,7 +31,15 @@ fn same_const(own: bool, c: bool, d: bool) -> bool
     !own || c == d
 }
 
-fn same_length(n: u32, m: u32) -> bool
+/// Whether two integer types are the same one.
+pub fn same_int(i: Int, j: Int) -> bool
+    ensures { result ≡ spec.same_int i j }
+{
+    i == j
+}
+
+/// Whether arrays of so many elements go together; 0 says that the number is not known (ANSI 3.5.4.2).
+pub fn same_length(n: u32, m: u32) -> bool
     ensures { result ≡ spec.same_length n m }
 {
     n == m || n == 0 || m == 0
@@ -45,6 +55,13 @@ fn same_tag(a: &Option<Name>, b: &Option<Name>) -> bool
         },
         None => b.is_none(),
     }
+}
+
+/// Whether a call of a function of this type may have so many arguments (ANSI 3.3.2.2).
+pub fn fits(f: &Signature, n: usize) -> bool
+    ensures { result ≡ calls.fits f.now n }
+{
+    f.params.len() == n || (f.variadic && f.params.len() < n)
 }
 
 /// Whether two structures or unions go together behind a pointer.

@@ -16,6 +16,7 @@ verb_of word =
     if bytes_eq word (codes "load") then Some verb.Load
     else (if bytes_eq word (codes "unload") then Some verb.Unload
     else (if bytes_eq word (codes "edit") then Some verb.Edit
+    else (if bytes_eq word (codes "compile") then Some verb.Compile
     else (if bytes_eq word (codes "run") then Some verb.Run
     else (if bytes_eq word (codes "stop") then Some verb.Stop
     else (if bytes_eq word (codes "delete") then Some verb.Delete
@@ -26,7 +27,7 @@ verb_of word =
     else (if bytes_eq word (codes "print") then Some verb.Print
     else (if bytes_eq word (codes "list") then Some verb.List
     else (if bytes_eq word (codes "reset") then Some verb.Reset
-    else (if bytes_eq word (codes "quit") then Some verb.Quit else None)))))))))))))
+    else (if bytes_eq word (codes "quit") then Some verb.Quit else None))))))))))))))
 
 -- ---- the further words
 
@@ -48,6 +49,10 @@ edit_of (name ∷ []) = if is_module_name name then command.Edit name None else 
 edit_of (name ∷ file ∷ []) =
     if is_module_name name && is_file_name file then command.Edit name (Some file) else command.BadArguments
 edit_of _ = command.BadArguments
+
+abbrev pub compile_of : List (List ℕ) → Command
+compile_of (name ∷ []) = if is_module_name name then command.Compile name else command.BadArguments
+compile_of _ = command.BadArguments
 
 abbrev pub run_of : List (List ℕ) → Command
 run_of [] = command.Run None
@@ -89,6 +94,7 @@ abbrev pub command_by : Verb → List (List ℕ) → Command
 command_by verb.Load words = load_of words
 command_by verb.Unload words = unload_of words
 command_by verb.Edit words = edit_of words
+command_by verb.Compile words = compile_of words
 command_by verb.Run words = run_of words
 command_by verb.Stop words = stop_of words
 command_by verb.Delete words = delete_of words
@@ -132,6 +138,7 @@ abbrev pub IsNamed : Command → Type 0
 IsNamed (command.Load name) = is_module_name name ≡ true
 IsNamed (command.Unload name) = is_module_name name ≡ true
 IsNamed (command.Edit name file) = (is_module_name name ≡ true) × IsFile file
+IsNamed (command.Compile name) = is_module_name name ≡ true
 IsNamed (command.Run file) = IsFile file
 IsNamed _ = Unit {0}
 

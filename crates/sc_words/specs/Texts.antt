@@ -68,6 +68,7 @@ text_of answer.Silent = []
 text_of (answer.Loaded name) = codes "> loaded " ++ name ++ codes "\n"
 text_of (answer.Unloaded name) = codes "> unloaded " ++ name ++ codes "\n"
 text_of (answer.Edited name) = codes "> edited " ++ name ++ codes "\n"
+text_of (answer.Compiled name) = codes "> compiled " ++ name ++ codes "\n"
 text_of (answer.StopSet number place) = codes "> stop " ++ decimal number ++ stop_text place ++ codes "\n"
 text_of (answer.Deleted number) = codes "> deleted " ++ decimal number ++ codes "\n"
 text_of (answer.Ran text) = text

@@ -15,6 +15,7 @@ pub enum Answer {
     Loaded(Name),
     Unloaded(Name),
     Edited(Name),
+    Compiled(Name),
     /// A stop was set, with its number.
     StopSet(u32, StopAt),
     Deleted(u32),
@@ -213,6 +214,7 @@ pub fn answer_text(alloc: Global, answer: &Answer) -> Result<Bytes, NoMemory>
         Answer::Loaded(name) => line_of(alloc, b"> loaded ", name.as_slice()),
         Answer::Unloaded(name) => line_of(alloc, b"> unloaded ", name.as_slice()),
         Answer::Edited(name) => line_of(alloc, b"> edited ", name.as_slice()),
+        Answer::Compiled(name) => line_of(alloc, b"> compiled ", name.as_slice()),
         Answer::StopSet(number, stop) => stop_line(alloc, *number, stop),
         Answer::Deleted(number) => deleted_line(alloc, *number),
         Answer::Ran(text) => Bytes::from_slice(alloc, text.as_slice()),

@@ -2,7 +2,7 @@
 ghost use Rattle.std.specs.Prelude.{◌≡◌, [], ◌∷◌, IfOk, OnErr, IfSome, IfNone};
 ghost use Rattle.sc_words.specs.Lines.{words_of};
 ghost use Rattle.sc_words.specs.Parts.{parts_of};
-ghost use Rattle.sc_words.specs.Commands.{command_of, command_by, alone, load_of, unload_of, edit_of, run_of, stop_of, in_function, at_line, delete_of, print_of, is_comment, IsNamed, IsAnswered};
+ghost use Rattle.sc_words.specs.Commands.{command_of, command_by, alone, load_of, unload_of, edit_of, compile_of, run_of, stop_of, in_function, at_line, delete_of, print_of, is_comment, IsNamed, IsAnswered};
 
 use crate::line::next_word;
 use crate::part::{
@@ -28,6 +28,8 @@ pub enum Command {
     Unload(Name),
     /// `edit M`, or `edit M FILE`
     Edit(Name, Option<Name>),
+    /// `compile M`
+    Compile(Name),
     /// `run`, or `run FILE`
     Run(Option<Name>),
     /// `stop in F`, `stop in M:F` or `stop at M:N`
@@ -89,6 +91,7 @@ fn command_by(alloc: Global, verb: Verb, rest: &[u8]) -> Result<Command, NoMemor
         Verb::Load => load_of(alloc, rest),
         Verb::Unload => unload_of(alloc, rest),
         Verb::Edit => edit_of(alloc, rest),
+        Verb::Compile => compile_of(alloc, rest),
         Verb::Run => run_of(alloc, rest),
         Verb::Stop => stop_of(alloc, rest),
         Verb::Delete => Ok(delete_of(rest)),
@@ -164,6 +167,21 @@ fn edit_of(alloc: Global, rest: &[u8]) -> Result<Command, NoMemory>
     let name = name_of(alloc, name)?;
     let file = name_of(alloc, file)?;
     Ok(Command::Edit(name, Some(file)))
+}
+
+fn compile_of(alloc: Global, rest: &[u8]) -> Result<Command, NoMemory>
+    ensures command { IfOk result (λ command. command ≡ compile_of (words_of rest.now)) }
+    ensures named { IfOk result IsNamed }
+    ensures no_memory { OnErr result (IsAnswered (compile_of (words_of rest.now))) }
+{
+    let Some((name, rest)) = next_word(rest) else {
+        return Ok(Command::BadArguments);
+    };
+    if next_word(rest).is_some() || !is_module_name(name) {
+        return Ok(Command::BadArguments);
+    }
+    let name = name_of(alloc, name)?;
+    Ok(Command::Compile(name))
 }
 
 fn run_of(alloc: Global, rest: &[u8]) -> Result<Command, NoMemory>

@@ -15,6 +15,7 @@ const COMMANDS: &str = "Commands, one on each line of the standard input:
   load M          translates M.c, and adds it
   unload M        takes the module away
   edit M [FILE]   puts the text of FILE, or of M.c, in the module's place
+  compile M       writes the object of the module to M.o
   run [FILE]      runs main, with the bytes of FILE as input
   stop in F       stops at the entry of a function; F is NAME or M:NAME
   stop at M:N     stops at a line

@@ -41,7 +41,7 @@ pub enum Denied {
     NoMain,
     /// A limit would be exceeded.
     Space(Area),
-    /// The file could not be read.
+    /// The file could not be read or written.
     FileFault(Bytes),
     /// The name stands for nothing that can be shown.
     NotVisible(Name),

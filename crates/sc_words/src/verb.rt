@@ -7,6 +7,7 @@ pub enum Verb {
     Load,
     Unload,
     Edit,
+    Compile,
     Run,
     Stop,
     Delete,
@@ -31,6 +32,9 @@ pub fn verb_of(word: &[u8]) -> Option<Verb>
     }
     if word == b"edit".as_slice() {
         return Some(Verb::Edit);
+    }
+    if word == b"compile".as_slice() {
+        return Some(Verb::Compile);
     }
     if word == b"run".as_slice() {
         return Some(Verb::Run);

@@ -10,8 +10,8 @@ pub returns-clause-step : goal.returns-clause-step
 returns-clause-step c =
     let regs = c.args.regs.now in
     let here : c.pc-pc.result % 4 ≡ 0 = omega arith in
-    carried_out (word_at c.args.image.now) (state_of regs c.args.mem.now.flat) (state_of c.carry_out.new.regs c.carry_out.new.mem.flat) c.carry_out.result c.instruction.result
+    carried_out (word_at c.args.image.now) (state_of regs c.args.mem.now.flat) (state_of c.carry_out-done.new.regs c.carry_out-done.new.mem.flat) c.told.result c.instruction.result
     (λ e. c.if-pc-eq-RETURN.false (c.pc-pc.ensures ∙ e))
     (ap (λ (n : ℕ). n % 4) (sym c.pc-pc.ensures) ∙ here)
     (c.instruction.ensures.value ∙ ap (λ n. option_map instr_of (word_at c.args.image.now n)) c.pc-pc.ensures)
-    c.carry_out.ensures.step
+    (rw c.told.ensures c.carry_out-done.ensures.step)

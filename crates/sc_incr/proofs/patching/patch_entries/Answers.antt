@@ -1,4 +1,4 @@
-use Rattle.std.proofs.Common.{◌≡◌, ◌∙◌, arith, flat_map, length, refl, rules, subst, take}
+use Rattle.std.proofs.Common.{◌≡◌, arith, flat_map, length, refl, rules, subst, take}
 use Rattle.std.proofs.lemmas.Grind.{common_steps}
 use Rattle.std.proofs.lemmas.Option.{slice_get_read}
 use Rattle.sc_link.specs.Steps.{Relocates}

@@ -1,4 +1,4 @@
-use Rattle.std.proofs.Common.{◌≡◌, ℕ, Option, flat_map, take}
+use Rattle.std.proofs.Common.{ℕ, Option, flat_map, take}
 use Rattle.sc_base.specs.declared.key.Key.{Key}
 use Rattle.sc_link.specs.Steps.{Relocates}
 use Rattle.sc_incr.specs.Parts.{AllAddTo, fixes_at_position}

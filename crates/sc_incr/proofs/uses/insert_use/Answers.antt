@@ -1,4 +1,4 @@
-use Rattle.std.proofs.Common.{ap, ◌∙◌, ◌++◌, ◌∷◌, [], List, ℕ}
+use Rattle.std.proofs.Common.{ap, ◌∙◌, ◌++◌, ◌∷◌, []}
 use Rattle.sc_incr.proofs.Relocating.{inserted, lookup-same}
 use Rattle.sc_incr.proofs.uses.insert_use.Goals as goal
 

@@ -1,5 +1,6 @@
 use Rattle.std.proofs.Common.{refl, arith, ◌∙◌, sym}
 use Rattle.sc_outside.specs.declared.sink.Sent.TheVariants as sent
+use Rattle.sc_session.proofs.FileLemmas.{keeps_none}
 use Rattle.sc_session.specs.Transcript.{moment}
 use Rattle.sc_top.proofs.ReplyLemmas.{replies_so, replies_behind, unread, unflushed}
 use Rattle.sc_top.proofs.line.reply.Goals as goal
@@ -30,3 +31,12 @@ pub returns-in-NoMemory-clause-replies : goal.returns-in-NoMemory-clause-replies
 returns-in-NoMemory-clause-replies g c =
     unflushed (moment c.args.session.now (g.F.Files.held c.args.files.now) (g.F.Files.faults c.args.files.now)) c.args.line.now sent.NoMemory (g.K.Sink.written c.args.out.now) (g.K.Sink.written c.flush.new.out) c.args.outbox.now c.flush.new.self
     c.flush.ensures.emptied c.in-NoMemory.ensures.bytes
+
+pub returns-in-Err-clause-sources : goal.returns-in-Err-clause-sources
+returns-in-Err-clause-sources g c = keeps_none (g.F.Files.held c.args.files.now)
+
+pub returns-in-Failed-clause-sources : goal.returns-in-Failed-clause-sources
+returns-in-Failed-clause-sources g c = keeps_none (g.F.Files.held c.args.files.now)
+
+pub returns-in-NoMemory-clause-sources : goal.returns-in-NoMemory-clause-sources
+returns-in-NoMemory-clause-sources g c = keeps_none (g.F.Files.held c.args.files.now)

@@ -1,0 +1,46 @@
+-- Yardstick: to be compared with what it restates (docs/TRUST.md).
+-- Which modules are too large for an object, and what is said of them.
+use Rattle.std.specs.Prelude.{◌≡◌, ◌<◌, ℕ, List, length, Option, Some, None, Result, Ok, Err, codes}
+use Rattle.sc_base.specs.declared.refusal.Refusal.{Refusal}
+use Rattle.sc_base.specs.declared.refusal.X.TheVariants as x
+use Rattle.sc_core.specs.declared.module.Core.{Core}
+use Rattle.sc_core.specs.declared.module.Fun.{Fun}
+use Rattle.sc_core.specs.Modules.{function_of}
+use Rattle.sc_core_names.specs.declared.table.Scopes.{Scopes}
+use Rattle.sc_gen.specs.Limits.{IsObject, first_long}
+use Rattle.sc_gen.specs.Objects.{object_of}
+use Rattle.sc_object.specs.Spelling.{spelled}
+use Rattle.sc_build.specs.declared.building.Built.{Built}
+use Rattle.sc_build.specs.declared.building.BuildFault.{BuildFault}
+use Rattle.sc_build.specs.declared.building.BuildFault.TheVariants as fault
+
+-- a limit is passed on this line
+abbrev pub limit : List ℕ → List ℕ → ℕ → Refusal
+limit file word line = record { kind = x.X10 word; file = file; line = line }
+
+-- The first function whose text has more than 524,288 bytes is refused at the line of its name; where there is none, a file of more than
+-- 8,388,608 bytes at line 1.
+pub data Exceeds (file : List ℕ) (core : Core) : Refusal → Type 0 where
+  text : (f : Fun) → first_long core.funs ≡ Some f.name → function_of f.name core.funs ≡ Some f → Exceeds file core (limit file (codes "text") f.line)
+  object : first_long core.funs ≡ None → 8388608 < length (spelled (object_of core)) → Exceeds file core (limit file (codes "object") 1)
+
+-- a module is refused as too large, or no memory was left
+abbrev pub IsOver : List ℕ → Core → BuildFault → Type 0
+IsOver file core (fault.Refused r) = Exceeds file core r
+IsOver file core fault.Missing = ⊥
+IsOver file core fault.TooLong = ⊥
+IsOver file core (fault.File name) = ⊥
+IsOver file core fault.NoMemory = Unit {0}
+
+-- this limit is passed, or no memory was left
+abbrev pub IsLimit : List ℕ → List ℕ → ℕ → BuildFault → Type 0
+IsLimit file word line (fault.Refused r) = r ≡ limit file word line
+IsLimit file word line fault.Missing = ⊥
+IsLimit file word line fault.TooLong = ⊥
+IsLimit file word line (fault.File name) = ⊥
+IsLimit file word line fault.NoMemory = Unit {0}
+
+-- a module with its scopes and its object, or why it has none
+abbrev pub Compiles : List ℕ → Core → Scopes → Result Built BuildFault → Type 0
+Compiles file core scopes (Ok built) = (built.core ≡ core) × (built.scopes ≡ scopes) × IsObject core built.object
+Compiles file core scopes (Err f) = IsOver file core f

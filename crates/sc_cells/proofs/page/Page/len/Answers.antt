@@ -1,0 +1,10 @@
+use Rattle.std.proofs.Common.{arith}
+use Rattle.sc_cells.proofs.Words.{seen-length}
+use Rattle.sc_cells.proofs.page.Page.len.Goals as goal
+
+pub returns : goal.returns
+returns c =
+    let n = seen-length c.self.inside.words.items c.self.inside.cells.items c.args.self.now c.self.view_is in
+    let fits = c.self.invariant in
+    let count = c.len.ensures in
+    omega arith

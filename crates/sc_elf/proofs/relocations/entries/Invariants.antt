@@ -1,6 +1,0 @@
-use Rattle.std.proofs.Common.{◌≡◌, take}
-use Rattle.sc_object.specs.Parts.{entries}
-use Rattle.sc_elf.proofs.relocations.entries.Given as goal
-
-abbrev pub invariant-loop-reloc : goal.invariant-loop-reloc
-invariant-loop-reloc l = l.bytes.items ≡ entries (take l.reloc-index l.relocs)

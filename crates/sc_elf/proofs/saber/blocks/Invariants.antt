@@ -1,6 +1,0 @@
-use Rattle.std.proofs.Common.{◌≡◌, [], ◌-◌}
-use Rattle.sc_elf.specs.Tables.{many, block_in}
-use Rattle.sc_elf.proofs.saber.blocks.Given as goal
-
-abbrev pub invariant-loop-turn : goal.invariant-loop-turn
-invariant-loop-turn l = many (block_in l.version) (l.count - l.turn) l.all l.rest ≡ many (block_in l.version) l.count [] l.bytes

@@ -1,6 +1,0 @@
-use Rattle.std.proofs.Common.{◌≡◌, [], ◌-◌}
-use Rattle.sc_elf.specs.Tables.{many, frame_in}
-use Rattle.sc_elf.proofs.saber.frames.Given as goal
-
-abbrev pub invariant-loop-turn : goal.invariant-loop-turn
-invariant-loop-turn l = many (frame_in l.version) (l.count - l.turn) l.all l.rest ≡ many (frame_in l.version) l.count [] l.bytes

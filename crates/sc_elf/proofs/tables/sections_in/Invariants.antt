@@ -1,6 +1,0 @@
-use Rattle.std.proofs.Common.{◌≡◌, [], drop}
-use Rattle.sc_elf.specs.Tables.{sections_in}
-use Rattle.sc_elf.proofs.tables.sections_in.Given as goal
-
-abbrev pub invariant-loop-piece : goal.invariant-loop-piece
-invariant-loop-piece l = sections_in l.all (drop l.piece-index l.pieces) l.rest ≡ sections_in [] l.pieces l.names

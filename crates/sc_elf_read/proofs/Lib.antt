@@ -1,0 +1,14 @@
+pub mod Words
+pub mod FramesRead
+pub mod Texts
+pub mod Laying
+pub mod SectionsRead
+pub mod SymbolsRead
+pub mod Relocs
+pub mod Files
+pub mod Whole
+pub mod Loops
+pub mod Headers
+pub mod Finding
+pub mod Clauses
+pub mod Numbers

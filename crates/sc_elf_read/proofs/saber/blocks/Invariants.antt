@@ -1,0 +1,6 @@
+use Rattle.std.proofs.Common.{◌≡◌, [], ◌-◌}
+use Rattle.sc_elf_read.specs.Tables.{many, block_in}
+use Rattle.sc_elf_read.proofs.saber.blocks.Given as goal
+
+abbrev pub invariant-loop-turn : goal.invariant-loop-turn
+invariant-loop-turn l = many (block_in l.version) (l.count - l.turn) l.all l.rest ≡ many (block_in l.version) l.count [] l.bytes

@@ -1,0 +1,5 @@
+pub mod Patches
+pub mod Rows
+pub mod Steps
+pub mod Cases
+pub mod Arms

@@ -1,0 +1,10 @@
+//! The code of statements and functions, over that of their expressions.
+#![tactic(auto)]
+
+mod functions;
+mod initializers;
+mod jumps;
+mod statements;
+
+pub use functions::function;
+pub use jumps::{Exits, LabelPlace, Place, Text};

@@ -1,0 +1,185 @@
+// The objects of a run, and the one memory that has their bytes at addresses.
+ghost use Rattle.std.specs.Prelude.{◌≡◌, ◌∷◌, ◌++◌, [], IfOk};
+ghost use Rattle.sc_meaning.specs.Values as value;
+ghost use Rattle.sc_meaning.specs.World as spec;
+
+use crate::cells::{copy_cells, unwritten};
+use crate::object::{Object, cells_at};
+use sc_base::{Items, Key, Kind, NoMemory, Shared};
+use sc_meaning_values::Value;
+use sc_mem_store::{Cell, Store};
+use std::alloc::Global;
+use std::marker::Model;
+
+/// All objects that were born, the first with number 1, and the memory that holds them. `whole` says that no change was
+/// given up half done for want of memory. Behind such a change the two may differ, and no further one is made.
+#[derive(Drop)]
+pub struct Held {
+    alloc: Global,
+    objects: Vec<Object>,
+    memory: Store,
+    whole: bool,
+}
+
+impl Model for Held {
+    ghost use Rattle.std.specs.Prelude.{◌≡◌, List, true};
+    ghost use Rattle.sc_meaning.specs.World as spec;
+
+    ghost Value = { List spec.Object };
+
+    ghost view = { λ h. h.objects.items };
+
+    ghost invariant = { λ h. h.whole ≡ true → h.memory ≡ h.objects.items };
+}
+
+impl Held {
+    /// No object is born. The stack and the heap have these bytes, and the functions the numbers of their places in the list.
+    pub fn new(
+        alloc: Global,
+        stack: u64,
+        heap: u64,
+        functions: Items<Shared<Key>>,
+    ) -> Result<Held, NoMemory>
+        ensures { IfOk result (λ h. h ≡ []) }
+    {
+        let memory = Store::new(alloc, stack, heap, functions)?;
+        Ok(Held {
+            alloc,
+            objects: Vec::new(alloc),
+            memory,
+            whole: true,
+        })
+    }
+
+    /// The objects.
+    pub fn as_slice(&self) -> &[Object]
+        ensures { result.now ≡ self.now }
+    {
+        self.objects.as_slice()
+    }
+
+    /// An object outside the heap is born at an address, its bytes unwritten.
+    pub fn birth(&mut self, size: u32, kind: Kind, base: u32) -> Result<(), NoMemory>
+        ensures { IfOk result (λ _. self.new ≡ self.old ++ spec.fresh size kind ∷ []) }
+    {
+        if !self.whole {
+            return Err(NoMemory);
+        }
+        self.whole = false;
+        self.memory.birth(size, kind, base)?;
+        let cells = unwritten(self.alloc, size)?;
+        self.objects.push(Object::living(size, kind, cells))?;
+        self.whole = true;
+        Ok(())
+    }
+
+    /// An object of the heap is born in a block of its own, its bytes unwritten.
+    pub fn allocate(&mut self, size: u32) -> Result<(), NoMemory>
+        ensures { IfOk result (λ _. self.new ≡ self.old ++ spec.fresh size Kind.Heap ∷ []) }
+    {
+        if !self.whole {
+            return Err(NoMemory);
+        }
+        self.whole = false;
+        self.memory.allocate(size)?;
+        let cells = unwritten(self.alloc, size)?;
+        self.objects.push(Object::living(size, Kind::Heap, cells))?;
+        self.whole = true;
+        Ok(())
+    }
+
+    /// An object dies.
+    pub fn death(&mut self, id: u32) -> Result<(), NoMemory>
+        ensures { IfOk result (λ _. self.new ≡ spec.ended self.old id (spec.object_at self.old id)) }
+    {
+        if !self.whole {
+            return Err(NoMemory);
+        }
+        self.whole = false;
+        self.memory.death(id)?;
+        end_object(self.alloc, &mut self.objects, id);
+        self.whole = true;
+        Ok(())
+    }
+
+    /// Bytes are written into an object from an offset on.
+    pub fn put(&mut self, id: u32, at: u32, new: Items<Cell>) -> Result<(), NoMemory>
+        ensures { IfOk result (λ _. self.new ≡ spec.written self.old id at new (spec.object_at self.old id)) }
+    {
+        if !self.whole {
+            return Err(NoMemory);
+        }
+        self.whole = false;
+        self.memory.put(id, at, new.as_slice())?;
+        write_object(self.alloc, &mut self.objects, id, at, new)?;
+        self.whole = true;
+        Ok(())
+    }
+
+    /// A value is stored as `n` bytes of an object from an offset on.
+    pub fn store(&mut self, id: u32, at: u32, n: u32, v: &Value) -> Result<(), NoMemory>
+        ensures { IfOk result (λ _. self.new ≡ spec.written self.old id at (value.cells_of n v.now) (spec.object_at self.old id)) }
+    {
+        if !self.whole {
+            return Err(NoMemory);
+        }
+        self.whole = false;
+        self.memory.store(id, at, n, v)?;
+        store_in(self.alloc, &mut self.objects, id, at, n, v)?;
+        self.whole = true;
+        Ok(())
+    }
+
+    /// So many bytes go to an object and offset from an object and offset.
+    pub fn copy(&mut self, to: u32, at: u32, from: u32, off: u32, n: u32) -> Result<(), NoMemory>
+        ensures { IfOk result (λ _. self.new ≡ spec.written self.old to at (spec.cells_at self.old from off n) (spec.object_at self.old to)) }
+    {
+        let Some(cells) = cells_at(self.objects.as_slice(), from, u64::from(off), n) else {
+            return Err(NoMemory)
+        };
+        let moved = copy_cells(self.alloc, cells)?;
+        self.put(to, at, moved)
+    }
+}
+
+// An object dies.
+fn end_object(alloc: Global, objects: &mut Vec<Object>, id: u32)
+    ensures { objects.new.items ≡ spec.ended objects.old.items id (spec.object_at objects.old.items id) }
+{
+    if id != 0 && id as usize <= objects.len() {
+        objects[id as usize - 1].end(alloc);
+    }
+}
+
+// Bytes of an object are written.
+fn write_object(
+    alloc: Global,
+    objects: &mut Vec<Object>,
+    id: u32,
+    at: u32,
+    new: Items<Cell>,
+) -> Result<(), NoMemory>
+    ensures { IfOk result (λ _. objects.new.items ≡ spec.written objects.old.items id at new (spec.object_at objects.old.items id)) }
+{
+    if id == 0 || objects.len() < id as usize {
+        return Ok(());
+    }
+    objects[id as usize - 1].write(alloc, at, new)
+}
+
+// A value is stored in an object.
+fn store_in(
+    alloc: Global,
+    objects: &mut Vec<Object>,
+    id: u32,
+    at: u32,
+    n: u32,
+    v: &Value,
+) -> Result<(), NoMemory>
+    ensures { IfOk result (λ _. objects.new.items ≡ spec.written objects.old.items id at (value.cells_of n v.now) (spec.object_at objects.old.items id)) }
+{
+    if id == 0 || objects.len() < id as usize {
+        return Ok(());
+    }
+    objects[id as usize - 1].store(alloc, at, n, v)
+}

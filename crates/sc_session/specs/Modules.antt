@@ -1,0 +1,39 @@
+-- Yardstick: to be compared with what it restates (docs/TRUST.md).
+-- The modules that are present.
+use Rattle.std.specs.Prelude.{ℕ, ◌==◌, if◌then◌else◌, List, [], ◌∷◌, Option, Some, None}
+use Rattle.std.specs.Str.{bytes_eq}
+use Rattle.sc_base.specs.declared.memory.Form.TheVariants.{Source}
+use Rattle.sc_build.specs.declared.building.Built.{Built}
+use Rattle.sc_core_names.specs.declared.table.Scopes.{Scopes}
+use Rattle.sc_object.specs.declared.object.Object.{Object}
+use Rattle.sc_meaning.specs.Versions.{Text}
+use Rattle.sc_meaning.specs.World.{Frame}
+use Rattle.sc_session.specs.declared.present.Present.{Present}
+
+-- a module that was translated is interpreted; its text gets this number
+abbrev pub present_of : ℕ → Built → Present
+present_of number built = record {
+  text = record { number = number; core = built.core; form = Source };
+  scopes = built.scopes;
+  object = built.object;
+}
+
+-- the texts of modules, in their order
+abbrev pub texts : List Present → List Text
+texts [] = []
+texts (p ∷ ps) = p.text ∷ texts ps
+
+-- what the text with a number declares
+abbrev pub scopes_numbered : List Present → ℕ → Option Scopes
+scopes_numbered [] n = None
+scopes_numbered (p ∷ ps) n = if p.text.number == n then Some p.scopes else scopes_numbered ps n
+
+-- what the text declares that the innermost call runs
+abbrev pub scopes_at : List Present → List Frame → Option Scopes
+scopes_at modules [] = None
+scopes_at modules (f ∷ frames) = scopes_numbered modules f.text
+
+-- the object of the module with a name
+abbrev pub object_named : List Present → List ℕ → Option Object
+object_named [] name = None
+object_named (p ∷ ps) name = if bytes_eq p.text.core.name name then Some p.object else object_named ps name

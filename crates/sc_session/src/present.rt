@@ -1,0 +1,108 @@
+// The modules that are present.
+ghost use Rattle.std.specs.Prelude.{◌≡◌, IfOk, MatchOption, None, Some};
+ghost use Rattle.std.specs.Str.{bytes_eq};
+ghost use Rattle.sc_session_conflicts.specs.Clashes.{is_present};
+ghost use Rattle.sc_session.specs.Modules as spec;
+
+use sc_base::{Duplicate, Form, Items, Name, NoMemory};
+use sc_build::Built;
+use sc_core_held::Text;
+use sc_core_names::Scopes;
+use sc_interp_world::World;
+use sc_object::Object;
+use std::alloc::Global;
+
+/// A module that is present: its text, what its scopes declare, and its object.
+#[derive(Drop)]
+pub struct Present {
+    pub text: Text,
+    pub scopes: Scopes,
+    pub object: Object,
+}
+
+/// A module that was translated. Its text gets this number.
+pub fn present_of(alloc: Global, number: u32, built: Built) -> Result<Present, NoMemory>
+    ensures { IfOk result (λ p. p ≡ spec.present_of number built) }
+{
+    let Built {
+        core,
+        scopes,
+        object,
+    } = built;
+    match Text::new(alloc, number, Form::Source, core) {
+        Ok(text) => Ok(Present {
+            text,
+            scopes,
+            object,
+        }),
+        Err(_) => {
+            drop(scopes);
+            drop(object);
+            Err(NoMemory)
+        }
+    }
+}
+
+/// The texts of modules, in their order. They are shared, and not copied.
+pub fn texts_of(alloc: Global, modules: &[Present]) -> Result<Items<Text>, NoMemory>
+    ensures { IfOk result (λ texts. texts ≡ spec.texts modules.now) }
+{
+    let mut texts = Items::new(alloc);
+    for p in modules {
+        texts.push(p.text.copy(alloc)?)?;
+    }
+    Ok(texts)
+}
+
+/// Whether a module has this name.
+pub fn is_named(name: &Name, p: &Present) -> bool
+    ensures { result ≡ bytes_eq p.now.text.core.name name.now }
+{
+    p.text.core.get().name == *name
+}
+
+/// Whether a module of this name is present.
+pub fn is_present(name: &Name, modules: &[Present]) -> bool
+    ensures { result ≡ is_present name.now (spec.texts modules.now) }
+{
+    for p in modules {
+        if is_named(name, p) {
+            return true;
+        }
+    }
+    false
+}
+
+// What the text with a number declares.
+fn scopes_numbered(modules: &[Present], n: u32) -> Option<&Scopes>
+    ensures { MatchOption result (spec.scopes_numbered modules.now n ≡ None) (λ s. spec.scopes_numbered modules.now n ≡ Some s.now) }
+{
+    for p in modules {
+        if p.text.number == n {
+            return Some(&p.scopes);
+        }
+    }
+    None
+}
+
+/// What the text declares that the innermost call runs.
+pub fn scopes_at<'a>(modules: &'a [Present], world: &World) -> Option<&'a Scopes>
+    ensures { MatchOption result (spec.scopes_at modules.now world.now.frames ≡ None) (λ s. spec.scopes_at modules.now world.now.frames ≡ Some s.now) }
+{
+    match world.innermost() {
+        None => None,
+        Some(f) => scopes_numbered(modules, f.text),
+    }
+}
+
+/// The object of the module with a name.
+pub fn object_named<'a>(modules: &'a [Present], name: &Name) -> Option<&'a Object>
+    ensures { MatchOption result (spec.object_named modules.now name.now ≡ None) (λ o. spec.object_named modules.now name.now ≡ Some o.now) }
+{
+    for p in modules {
+        if is_named(name, p) {
+            return Some(&p.object);
+        }
+    }
+    None
+}

@@ -1,0 +1,233 @@
+-- What the answers to commands tell of a session's run.
+use Rattle.std.proofs.Common.{◌≡◌, inl, inr, ℕ, Bool, true, false, if◌then◌else◌, List, [], ◌∷◌, refl, sym, ap, subst, Option, Some, None}
+use Rattle.std.specs.List.{filter}
+use Rattle.sc_core_formed.specs.Modules.{formed}
+use Rattle.sc_meaning.specs.Versions.{Text}
+use Rattle.sc_interp.specs.Ends.{start_of}
+use Rattle.sc_words.specs.declared.answer.Answer.{Answer}
+use Rattle.sc_words.specs.declared.answer.Answer.TheVariants as answer
+use Rattle.sc_words.specs.declared.command.Command.{Command}
+use Rattle.sc_words.specs.declared.command.Command.TheVariants as command
+use Rattle.sc_words.specs.declared.denied.Denied.{Denied}
+use Rattle.sc_words.specs.declared.stop.StopAt.{StopAt}
+use Rattle.sc_words.specs.declared.stop.Walk.{Walk}
+use Rattle.sc_words.specs.declared.stop.Walk.TheVariants as walk
+use Rattle.sc_world.specs.Goes.{started}
+use Rattle.sc_world.specs.Standing.{Standing}
+use Rattle.sc_world_laws.specs.Formed.{AreFormed}
+use Rattle.sc_world_laws.proofs.LeanFormed.{formed_lean}
+use Rattle.sc_world_laws.proofs.Pausing.{starts_lean}
+use Rattle.sc_session_conflicts.specs.Clashes.{is_other}
+use Rattle.sc_session.specs.declared.limits.Limits.{Limits}
+use Rattle.sc_session.specs.declared.state.State.{State}
+use Rattle.sc_session.specs.declared.state.State.TheVariants as state
+use Rattle.sc_session.specs.Plain.{Plain}
+use Rattle.sc_session.specs.States.{refusal_of}
+use Rattle.sc_session.specs.Loading.{in_place, with_module, file_of, file_or}
+use Rattle.sc_session.specs.Modules.{texts, present_of}
+use Rattle.sc_session.specs.declared.present.Present.{Present}
+use Rattle.sc_session.specs.Stopping.{Sets, places, with_stop, without_stop}
+use Rattle.sc_session.specs.Going as going
+use Rattle.sc_session.specs.Going.{in_state, IsCutOff, cut_off, RunsIn, Went}
+use Rattle.sc_session.specs.Transcript.{Moment, moment, empty, Loads, Edits, joined, replaced, unloaded, unended, asked, RunFirst, Runs, Carried, Decides, AnswersTo}
+use Rattle.sc_session_laws.specs.Courses.{Begins, Course, Stays, Stands, StandsIn, RunTells, WalkTells, Tells, IsTold}
+use Rattle.sc_session_laws.specs.Follows.{course_of, Follows, FollowsIn, Keeps}
+use Rattle.sc_session_laws.proofs.Going.{begins, went}
+use Rattle.sc_session_laws.proofs.Starting.{starts_fresh}
+use Rattle.sc_session_laws.proofs.Working.{starts_earned}
+
+-- ---- the modules stay checked
+
+with_formed : (ps : List Present) (new : Present) → AreFormed (texts ps) → formed new.text.core ≡ true → AreFormed (texts (with_module ps new))
+with_formed [] new p e = (e, tt)
+with_formed (q ∷ qs) new p e = (p.0, with_formed qs new p.1 e)
+
+either_formed : (b : Bool) (q new : Present) (ps later : List Present) → AreFormed (texts (q ∷ later)) → AreFormed (texts (new ∷ ps)) → AreFormed (texts (if b then q ∷ later else new ∷ ps))
+either_formed true q new ps later h g = h
+either_formed false q new ps later h g = g
+
+in_formed : (ps : List Present) (new : Present) → AreFormed (texts ps) → formed new.text.core ≡ true → AreFormed (texts (in_place ps new))
+in_formed [] new p e = tt
+in_formed (q ∷ qs) new p e = either_formed (is_other new.text.core q.text) q new qs (in_place qs new) (p.0, in_formed qs new p.1 e) (e, p.1)
+
+one_formed : (b : Bool) (q : Present) (ps : List Present) → AreFormed (texts (q ∷ ps)) → AreFormed (texts (if b then q ∷ ps else ps))
+one_formed true q ps p = p
+one_formed false q ps p = p.1
+
+kept_formed : (keep : Present → Bool) (ps : List Present) → AreFormed (texts ps) → AreFormed (texts (filter keep ps))
+kept_formed keep [] p = tt
+kept_formed keep (q ∷ qs) p = one_formed (keep q) q (filter keep qs) (p.0, kept_formed keep qs p.1)
+
+-- ---- the run stays where it is, or is there no more
+
+-- an answer that tells nothing of a go, and the session behind it
+abbrev pub Tells_on : Moment → Option Course → Command → List ℕ → Answer → Plain → Type 0
+Tells_on old run c front said session = (after : Option Course) × Tells old run c front said after × Keeps session after
+
+same_run : (run : Option Course) → Stays run run
+same_run run = inl refl
+
+no_run : (run : Option Course) → Stays run None
+no_run run = inr refl
+
+moved : (session new : Plain) (run : Option Course) → new ≡ session → Keeps session run → Keeps new run
+moved session new run e k = subst (λ s. Keeps s run) (sym e) k
+
+-- a command that is refused leaves the run
+refused : (old : Moment) (run : Option Course) (c : Command) (front : List ℕ) (d : Denied) → Tells old run c front (answer.Refused d) run
+refused old run (command.Run file) front d = same_run run
+refused old run command.Step front d = same_run run
+refused old run command.Next front d = same_run run
+refused old run command.Cont front d = same_run run
+refused old run _ front d = same_run run
+
+-- nor does want of memory before it was carried out
+pub tells_nothing : (old : Moment) (run : Option Course) (c : Command) (front : List ℕ) → Tells old run c front answer.NoMemory run
+tells_nothing old run (command.Run file) front = same_run run
+tells_nothing old run command.Step front = same_run run
+tells_nothing old run command.Next front = same_run run
+tells_nothing old run command.Cont front = same_run run
+tells_nothing old run _ front = same_run run
+
+-- a run that ended is forgotten
+unended_follows : (modules : List Text) (s : State) (run : Option Course) → FollowsIn modules s run → FollowsIn modules (unended s) run
+unended_follows modules state.Idle run f = f
+unended_follows modules (state.Stopped r) run f = f
+unended_follows modules (state.Paused r) run f = f
+unended_follows modules state.Ended run f = f
+
+asked_keeps : (c : Command) (session : Plain) (run : Option Course) → Keeps session run → Keeps (asked c session) run
+asked_keeps (command.Run file) session run k = (k.0, unended_follows (texts session.modules) session.state run k.1)
+asked_keeps _ session run k = k
+
+-- ---- a go
+
+-- where no memory was left, before it or in it
+cut_keeps : (First : List ℕ → Type 0) (session new : Plain) (front : List ℕ) (run : Option Course) → Keeps session run → IsCutOff First session front new → (after : Option Course) × Stays run after × Keeps new after
+cut_keeps First session new front run k (inl (none, e)) = (run, same_run run, moved session new run e k)
+cut_keeps First session new front run k (inr (first, e)) = (None, no_run run, moved (cut_off front session) new None e (k.0, refl))
+
+-- the run that goes on in a state
+going_run : (modules : List Text) (s : State) (r : Option Standing) (run : Option Course) → RunsIn s r → FollowsIn modules s run → Follows modules r run
+going_run modules state.Idle r run p f = absurd p
+going_run modules (state.Stopped q) r run p f = subst (λ x. Follows modules x run) (sym p) f
+going_run modules (state.Paused q) r run p f = subst (λ x. Follows modules x run) (sym p) f
+going_run modules state.Ended r run p f = absurd p
+
+-- one go of a run that follows
+abbrev pub Onward : Plain → Walk → Option Course → List ℕ → List ℕ → State → Type 0
+Onward session how run front text s =
+    (c : Course) × (run ≡ Some c) × ((after : Option Course) × IsTold (places session.stops) how session.limits.turns c front text after × FollowsIn (texts session.modules) s after)
+
+goes_on : (session : Plain) (how : Walk) (r : Option Standing) (run : Option Course) (front text : List ℕ) (s : State) → AreFormed (texts session.modules) → Follows (texts session.modules) r run → Went (texts session.modules) (places session.stops) how session.limits.turns r front text s → Onward session how run front text s
+goes_on session how r run front text s formed f w =
+    let here = subst (λ x. Went (texts session.modules) (places session.stops) how session.limits.turns x front text s) f.known w in
+    (course_of f.start f.place f.old, f.same, went f.start (texts session.modules) (places session.stops) how session.limits.turns formed f.place f.old f.of f.among f.lean f.earned front text s here)
+
+module _ (old : Moment) (run : Option Course) (k : Keeps old.session run) where
+  walk_tells : (how : Walk) (front : List ℕ) (said : Answer) (new : Plain) → going.Walks old.session how front said new → (after : Option Course) × WalkTells old run how front said after × Keeps new after
+  walk_tells how front (answer.Ran text) new (r, runs, (s, w, e)) =
+      let o = goes_on old.session how r run front text s k.0 (going_run (texts old.session.modules) old.session.state r run runs k.1) w in
+      (o.2.0, (o.0, o.1, o.2.1), moved (in_state s old.session) new o.2.0 e (k.0, o.2.2))
+  walk_tells how front answer.NoMemory new p = cut_keeps (going.WalkFirst old.session how) old.session new front run k p
+  walk_tells how front _ new p = absurd p
+
+  -- the commands that let no program go on
+  loads : (name file : List ℕ) (said : Answer) (new : Moment) → Loads old name file said new → (after : Option Course) × Stays run after × Keeps new.session after
+  loads name file (answer.Loaded m) new (is, (built, fits, leaves)) =
+      (None, no_run run, moved (joined old.session built) new.session None leaves.0 (with_formed old.session.modules (present_of old.session.loaded built) k.0 fits.builds.formed, refl))
+  loads name file (answer.Refused d) new (leaves, why) = (run, same_run run, moved old.session new.session run leaves.0 k)
+  loads name file answer.NoMemory new leaves = (run, same_run run, moved old.session new.session run leaves.0 k)
+  loads name file _ new p = absurd p
+
+  edits : (name file : List ℕ) (said : Answer) (new : Moment) → Edits old name file said new → (after : Option Course) × Stays run after × Keeps new.session after
+  edits name file (answer.Edited m) new (is, (built, fits, leaves)) =
+      (None, no_run run, moved (replaced old.session built) new.session None leaves.0 (in_formed old.session.modules (present_of old.session.loaded built) k.0 fits.builds.formed, refl))
+  edits name file (answer.Refused d) new (leaves, why) = (run, same_run run, moved old.session new.session run leaves.0 k)
+  edits name file answer.NoMemory new leaves = (run, same_run run, moved old.session new.session run leaves.0 k)
+  edits name file _ new p = absurd p
+
+  sets : (place : StopAt) (said : Answer) (new : Plain) → Sets old.session place said new → Keeps new run
+  sets place (answer.StopSet n q) new (number, same, e) = moved (with_stop old.session place) new run e k
+  sets place answer.NoMemory new e = moved old.session new run e k
+  sets place _ new p = absurd p
+
+  same_session : (new : Moment) → new ≡ old → (after : Option Course) × Stays run after × Keeps new.session after
+  same_session new e = (run, same_run run, moved old.session new.session run (ap (λ m. m.session) e) k)
+
+-- ---- the start of a run
+
+starts : (session : Plain) (bytes front text : List ℕ) (new : Plain) → AreFormed (texts session.modules) → going.Begins session bytes front text new
+    → (c : Course) × Begins (start_of (texts session.modules) session.limits.stack session.limits.heap bytes) c
+    × ((after : Option Course) × IsTold (places session.stops) walk.Cont session.limits.turns c front text after × Keeps new after)
+starts session bytes front text new formed (of, (s, w, e)) =
+    let modules : List Text = texts session.modules in
+    let stack : ℕ = session.limits.stack in
+    let heap : ℕ = session.limits.heap in
+    let lean = formed_lean modules formed in
+    let went_on = went (start_of modules stack heap bytes) modules (places session.stops) walk.Cont session.limits.turns formed (started modules stack heap bytes) [] of (starts_fresh modules stack heap bytes).0 (starts_lean modules stack heap bytes lean) (starts_earned modules stack heap bytes lean) front text s w in (
+      course_of (start_of modules stack heap bytes) (started modules stack heap bytes) [],
+      begins modules stack heap bytes of,
+      (went_on.0, went_on.1, moved (in_state s session) new went_on.0 e (formed, went_on.2)),
+    )
+
+run_tells : (old : Moment) (run : Option Course) → Keeps (asked (command.Run None) old.session) run → (file : Option (List ℕ)) (front : List ℕ) (said : Answer) (new : Moment)
+    → Runs (moment (in_state (unended old.session.state) old.session) old.held old.faults) file front said new → (after : Option Course) × RunTells old run file front said after × Keeps new.session after
+run_tells old run k file front (answer.Ran text) new (held, main, (bytes, input, b)) =
+    let p = starts (in_state (unended old.session.state) old.session) bytes front text new.session k.0 b in
+    (p.2.0, (bytes, input, (p.0, p.1, p.2.1)), p.2.2)
+run_tells old run k file front (answer.Refused d) new (none, leaves, why) = (run, same_run run, moved (in_state (unended old.session.state) old.session) new.session run leaves.0 k)
+run_tells old run k file front answer.NoMemory new (held, cut) =
+    cut_keeps (RunFirst (moment (in_state (unended old.session.state) old.session) old.held old.faults) file) (in_state (unended old.session.state) old.session) new.session front run k cut
+run_tells old run k file front _ new p = absurd p
+
+-- ---- each command
+
+carried : (old : Moment) (run : Option Course) → Keeps old.session run → (c : Command) (front : List ℕ) (said : Answer) (new : Moment) → Keeps (asked c old.session) run
+    → Carried (moment (asked c old.session) old.held old.faults) c front said new → Tells_on old run c front said new.session
+carried old run k command.Nothing front said new a (none, p) = same_session old run k new p.1
+carried old run k (command.Load name) front said new a (none, p) = loads old run k name (file_of name) said new p
+carried old run k (command.Unload name) front said new a (none, p) =
+    (None, no_run run, moved (unloaded old.session name) new.session None p.1 (kept_formed _ old.session.modules k.0, refl))
+carried old run k (command.Edit name file) front said new a (none, p) = edits old run k name (file_or name file) said new p
+carried old run k (command.Run file) front said new a p = run_tells old run a file front said new p
+carried old run k (command.Stop place) front said new a (none, p) = (run, same_run run, sets old run k place said new.session p.0)
+carried old run k (command.Delete n) front said new a (none, p) = (run, same_run run, moved (without_stop n old.session) new.session run p.1 k)
+carried old run k (command.Compile name) front said new a (none, p) = (run, same_run run, moved old.session new.session run p.0 k)
+carried old run k command.Step front said new a p = walk_tells old run k walk.Step front said new.session p.0
+carried old run k command.Next front said new a p = walk_tells old run k walk.Next front said new.session p.0
+carried old run k command.Cont front said new a p = walk_tells old run k walk.Cont front said new.session p.0
+carried old run k command.Frames front said new a (none, p) = same_session old run k new p.1
+carried old run k (command.Print name) front said new a (none, p) = same_session old run k new p.1
+carried old run k command.List front said new a (none, p) = same_session old run k new p.1
+carried old run k command.Reset front said new a (none, p) = (None, no_run run, moved (in_state state.Idle old.session) new.session None p.1 (k.0, refl))
+carried old run k command.Quit front said new a (none, p) = (run, same_run run, moved (record old.session { over = true }) new.session run p.1 k)
+carried old run k command.Unknown front said new a (none, p) = absurd p
+carried old run k command.BadArguments front said new a (none, p) = absurd p
+
+decided : (o : Option Denied) (old : Moment) (run : Option Course) → Keeps old.session run → (c : Command) (front : List ℕ) (said : Answer) (new : Moment)
+    → Decides o (moment (asked c old.session) old.held old.faults) c front said new → Tells_on old run c front said new.session
+decided (Some d) old run k c front said new (none, is, same) = (
+  run,
+  subst (λ a. Tells old run c front a run) (sym is) (refused old run c front d),
+  moved (asked c old.session) new.session run (ap (λ m. m.session) same) (asked_keeps c old.session run k),
+)
+decided None old run k c front said new p = carried old run k c front said new (asked_keeps c old.session run k) p
+
+pub answers_tell : (old : Moment) (run : Option Course) (c : Command) (front : List ℕ) (said : Answer) (new : Moment) → Keeps old.session run → AnswersTo old c front said new → (after : Option Course) × Tells old run c front said after × Keeps new.session after
+answers_tell old run c front said new k p = decided (refusal_of (asked c old.session) c) old run k c front said new p
+
+-- ---- the start of a session, and where it stands
+
+pub nothing_yet : (limits : Limits) → Keeps (empty limits) None
+nothing_yet limits = (tt, refl)
+
+follows_stands : (modules : List Text) (r : Option Standing) (run : Option Course) → Follows modules r run → StandsIn r run
+follows_stands modules r run f =
+    subst (StandsIn r) (sym f.same) (subst (λ x. StandsIn x (Some (course_of f.start f.place f.old))) (sym f.known) refl)
+
+pub session_stands : (modules : List Text) (s : State) (run : Option Course) → FollowsIn modules s run → Stands s run
+session_stands modules state.Idle run f = f
+session_stands modules (state.Stopped r) run f = follows_stands modules r run f
+session_stands modules (state.Paused r) run f = follows_stands modules r run f
+session_stands modules state.Ended run f = f

@@ -1,0 +1,5 @@
+pub mod Ending
+pub mod Starting
+pub mod Working
+pub mod Going
+pub mod Answering

@@ -1,0 +1,154 @@
+-- Yardstick: to be compared with what it restates (docs/TRUST.md).
+-- A session's run as the meaning of C has it, and what an answer tells of it.
+use Rattle.std.specs.Prelude.{◌≡◌, ◌<◌, ◌≤◌, ◌⊎◌, ℕ, ◌+◌, ◌-◌, ◌*◌, List, [], ◌++◌, length, drop, Option, Some, None}
+use Rattle.sc_meaning.specs.World.{World, Event, events}
+use Rattle.sc_meaning.specs.Outcomes.{world_at}
+use Rattle.sc_meaning.specs.Behaviour.{Start, ending, events_upto}
+use Rattle.sc_meaning.specs.Laws.{Leads}
+use Rattle.sc_interp.specs.Ends.{start_of, end_of}
+use Rattle.sc_interp_access.specs.declared.ended.Ended.{Ended}
+use Rattle.sc_interp_access.specs.declared.ended.Ended.TheVariants as ended
+use Rattle.sc_interp_world.specs.Outputs.{output}
+use Rattle.sc_session_texts.specs.Ends.{stop_text, on_new_line}
+use Rattle.sc_words.specs.declared.answer.Answer.{Answer}
+use Rattle.sc_words.specs.declared.answer.Answer.TheVariants as answer
+use Rattle.sc_words.specs.declared.command.Command.{Command}
+use Rattle.sc_words.specs.declared.command.Command.TheVariants as command
+use Rattle.sc_words.specs.declared.stop.StopAt.{StopAt}
+use Rattle.sc_words.specs.declared.stop.Walk.{Walk}
+use Rattle.sc_words.specs.declared.stop.Walk.TheVariants as walk
+use Rattle.sc_world.specs.declared.halt.Halt.{Halt}
+use Rattle.sc_world.specs.declared.halt.Halt.TheVariants as halt
+use Rattle.sc_world.specs.Standing.{Standing, world_in}
+use Rattle.sc_world_laws.specs.Told.{selects, HaltsAt, PassedEach}
+use Rattle.sc_session.specs.declared.state.State.{State}
+use Rattle.sc_session.specs.declared.state.State.TheVariants as state
+use Rattle.sc_session.specs.Modules.{texts}
+use Rattle.sc_session.specs.Going.{IsInput, entered_text, line_text, end_text}
+use Rattle.sc_session.specs.Stopping.{places}
+use Rattle.sc_session.specs.Transcript.{Moment}
+
+-- A run of a program: how it started; how many steps were done since the call of `main` went out, and how many turns they took;
+-- the world behind them, with all that has happened; and the events that were passed, which a go looked at.
+pub record Course : Type 0 where
+  pub start : Start
+  pub steps : ℕ
+  pub turns : ℕ
+  pub world : World
+  pub passed : List Event
+
+-- What has happened is the beginning of all that the meaning gives, at every bound that is greater than the steps. Eight times the
+-- turns and one more, for each node of the program and once more, is such a bound.
+pub record IsMeant (c : Course) : Type 0 where
+  pub happens : (b : ℕ) → c.steps < b → Leads c.world (world_at (ending b c.start))
+  pub enough : (nodes : ℕ) → c.steps < 8 * (c.turns + 1) * (nodes + 1)
+
+-- A run that goes from its start on: no turn was taken, no event was passed, and no byte was written.
+pub record Begins (s : Start) (c : Course) : Type 0 where
+  pub start : c.start ≡ s
+  pub meant : IsMeant c
+  pub untaken : c.turns ≡ 0
+  pub unpassed : c.passed ≡ []
+  pub unwritten : output c.world.trail ≡ []
+
+-- ---- a go
+
+-- the meaning's end of a run is this one, at every such bound
+abbrev pub EndsSo : Course → Ended → Type 0
+EndsSo d e = (b : ℕ) → d.steps < b → end_of e d.world ≡ Some (ending b d.start)
+
+-- A pause: so many turns were taken in the go, and no fewer than it may take; and of all that the meaning gives, each event before
+-- which the go's work is less than a 64th of them was passed. So was each before which the run's work is less than a 64th of all
+-- its turns.
+pub record IsPause (turns : ℕ) (c d : Course) (t : ℕ) : Type 0 where
+  pub took : t ≡ d.turns - c.turns
+  pub enough : turns ≤ t
+  pub late : (b : ℕ) → d.steps < b → PassedEach t c.world.trail d.world.trail (world_at (ending b d.start)).trail
+  pub late_in_all : (b : ℕ) → d.steps < b → PassedEach d.turns [] d.world.trail (world_at (ending b d.start)).trail
+
+abbrev pub PausesSo : ℕ → Course → Course → Halt → Type 0
+PausesSo turns c d halt.Entered = Unit {0}
+PausesSo turns c d halt.AtLine = Unit {0}
+PausesSo turns c d halt.Ended = Unit {0}
+PausesSo turns c d (halt.Paused t) = IsPause turns c d t
+
+-- A go from one place of a run to another. Of the events that the meaning gives it passed those up to the first that a stop or the walk
+-- selects, behind the old place; or all of them, where none is selected; or some, where it paused before one is.
+pub record Passes (stops : List StopAt) (how : Walk) (turns : ℕ) (c : Course) (h : Halt) (d : Course) : Type 0 where
+  pub same : d.start ≡ c.start
+  pub meant : IsMeant d
+  pub passed : d.passed ≡ events d.world.trail
+  pub halts : (b : ℕ) → d.steps < b → HaltsAt (selects stops how c.world.enters) h c.passed (events_upto b d.start) d.passed
+  pub pauses : PausesSo turns c d h
+
+-- ---- what is told of it
+
+-- what is said of where a run halted: of an undefined step, its report
+abbrev pub Says : Halt → Course → List ℕ → Type 0
+Says halt.Entered d said = said ≡ entered_text d.world.frames
+Says halt.AtLine d said = said ≡ line_text d.world.frames
+Says halt.Ended d said = (e : Ended) × EndsSo d e × (Some said ≡ end_text e d.world)
+Says (halt.Paused t) d said = Some said ≡ stop_text t ended.OutOfSteps d.world
+
+-- a run that is over goes on no more
+abbrev pub left_by : Halt → Course → Option Course
+left_by halt.Entered d = Some d
+left_by halt.AtLine d = Some d
+left_by halt.Ended d = None
+left_by (halt.Paused t) d = Some d
+
+-- One go is told with these bytes, of which the first went out while it went on: what the program wrote in it, and on a line of its own
+-- where the run halted.
+pub record IsTold (stops : List StopAt) (how : Walk) (turns : ℕ) (c : Course) (front text : List ℕ) (after : Option Course) : Type 0 where
+  pub h : Halt
+  pub new : Course
+  pub passes : Passes stops how turns c h new
+  pub said : List ℕ
+  pub says : Says h new said
+  pub whole : front ++ text ≡ on_new_line (drop (length (output c.world.trail)) (output new.world.trail)) said
+  pub left : after ≡ left_by h new
+
+-- ---- the answers to commands
+
+-- A run of the session's program with this input goes from its start on.
+abbrev pub RunsSo : Moment → Option (List ℕ) → List ℕ → List ℕ → Option Course → Type 0
+RunsSo old file front text after =
+    (bytes : List ℕ) × IsInput old.held file bytes
+    × ((c : Course) × Begins (start_of (texts old.session.modules) old.session.limits.stack old.session.limits.heap bytes) c
+    × IsTold (places old.session.stops) walk.Cont old.session.limits.turns c front text after)
+
+-- The run goes on from where it stands.
+abbrev pub WalksSo : Moment → Option Course → Walk → List ℕ → List ℕ → Option Course → Type 0
+WalksSo old run how front text after =
+    (c : Course) × (run ≡ Some c) × IsTold (places old.session.stops) how old.session.limits.turns c front text after
+
+-- The run stays where it is, or there is none any more.
+abbrev pub Stays : Option Course → Option Course → Type 0
+Stays run after = (after ≡ run) ⊎ (after ≡ None)
+
+abbrev pub RunTells : Moment → Option Course → Option (List ℕ) → List ℕ → Answer → Option Course → Type 0
+RunTells old run file front (answer.Ran text) after = RunsSo old file front text after
+RunTells old run file front _ after = Stays run after
+
+abbrev pub WalkTells : Moment → Option Course → Walk → List ℕ → Answer → Option Course → Type 0
+WalkTells old run how front (answer.Ran text) after = WalksSo old run how front text after
+WalkTells old run how front _ after = Stays run after
+
+-- What an answer tells of a session's run, behind these bytes, which went out; and where the run stands behind it.
+abbrev pub Tells : Moment → Option Course → Command → List ℕ → Answer → Option Course → Type 0
+Tells old run (command.Run file) front said after = RunTells old run file front said after
+Tells old run command.Step front said after = WalkTells old run walk.Step front said after
+Tells old run command.Next front said after = WalkTells old run walk.Next front said after
+Tells old run command.Cont front said after = WalkTells old run walk.Cont front said after
+Tells old run _ front said after = Stays run after
+
+-- The run that goes on in a session stands in this world, in which `where` and `print` are answered.
+abbrev pub StandsIn : Option Standing → Option Course → Type 0
+StandsIn r None = ⊥
+StandsIn r (Some c) = world_in r ≡ Some c.world
+
+abbrev pub Stands : State → Option Course → Type 0
+Stands state.Idle run = run ≡ None
+Stands (state.Stopped r) run = StandsIn r run
+Stands (state.Paused r) run = StandsIn r run
+Stands state.Ended run = run ≡ None

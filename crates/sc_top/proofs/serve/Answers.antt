@@ -1,0 +1,8 @@
+use Rattle.sc_session.specs.Transcript.{limits_of}
+use Rattle.sc_top.proofs.MeaningLemmas.{as_meant}
+use Rattle.sc_top.proofs.serve.Goals as goal
+
+pub returns-clause-meaning : goal.returns-clause-meaning
+returns-clause-meaning g c =
+    let ended = rw c.new-session.ensures at c.answer_all-status.ensures.ended in
+    as_meant (limits_of c.args.options.now) _ _ _ _ _ _ _ ended
