@@ -51,12 +51,7 @@ fn over(alloc: Global, file: &str, core: &Core, fault: GenFault) -> BuildFault
 }
 
 /// A module with its scopes and its object.
-pub fn compiled(
-    alloc: Global,
-    file: &str,
-    core: Core,
-    scopes: Scopes,
-) -> Result<Built, BuildFault>
+pub fn compiled(alloc: Global, file: &str, core: Core, scopes: Scopes) -> Result<Built, BuildFault>
     ensures { Compiles file.now core scopes result }
 {
     match generate(alloc, &core) {

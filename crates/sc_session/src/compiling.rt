@@ -68,12 +68,7 @@ fn put_object<F: Files>(
 }
 
 /// Writes the object of the module with this name to its file.
-pub fn write_compiled<F: Files>(
-    alloc: Global,
-    name: Name,
-    object: &Object,
-    files: &mut F,
-) -> Answer
+pub fn write_compiled<F: Files>(alloc: Global, name: Name, object: &Object, files: &mut F) -> Answer
     requires { is_module_name name ≡ true }
     ensures writes { spec.Writes (F.held files.old) (F.faults files.old) name object.now result (F.held files.new) (F.faults files.new) }
     ensures later { F.faults files.old ≤ F.faults files.new }

@@ -18,8 +18,8 @@ ghost use Rattle.sc_session.specs.Transcript as spec;
 ghost use Rattle.sc_session.specs.Transcript.{moment, BreaksOff, Does, Speaks};
 ghost use Rattle.sc_world.specs.declared.post.Unsent.TheVariants as unsent;
 
-use crate::going::{Lost, gone, has_main, run_in, run_out_of};
 use crate::compiling::write_compiled;
+use crate::going::{Lost, gone, has_main, run_in, run_out_of};
 use crate::input::{Input, file_text, input_of, name_text};
 use crate::joining::{Taken, take_anew, take_away, take_new};
 use crate::limits::Limits;
