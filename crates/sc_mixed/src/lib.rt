@@ -1,0 +1,9 @@
+//! A run of a program whose modules have both forms: interpreted calls go by the meaning's steps, calls of compiled modules by
+//! instructions over the same world, and the bridge leads from each to the other.
+#![tactic(auto)]
+
+mod ended;
+mod run;
+
+pub use ended::MixedEnd;
+pub use run::MixedRun;
