@@ -11,28 +11,41 @@ use sc_mem_store::{Cell, Store};
 use std::alloc::Global;
 use std::marker::Model;
 
-/// All objects that were born, the first with number 1, and the memory that holds them. `whole` says that no change was
-/// given up half done for want of memory. Behind such a change the two may differ, and no further one is made.
+/// All objects that were born, the first with number 1, and the memory that holds them at addresses, where compiled code
+/// looks at it. `whole` says that no change was given up half done for want of memory. Behind such a change the two may
+/// differ, and no further one is made.
 #[derive(Drop)]
 pub struct Held {
     alloc: Global,
     objects: Vec<Object>,
-    memory: Store,
+    memory: Option<Store>,
     whole: bool,
 }
 
 impl Model for Held {
-    ghost use Rattle.std.specs.Prelude.{◌≡◌, List, true};
+    ghost use Rattle.std.specs.Prelude.{◌≡◌, List, true, IfSome};
     ghost use Rattle.sc_meaning.specs.World as spec;
 
     ghost Value = { List spec.Object };
 
     ghost view = { λ h. h.objects.items };
 
-    ghost invariant = { λ h. h.whole ≡ true → h.memory ≡ h.objects.items };
+    ghost invariant = { λ h. h.whole ≡ true → IfSome h.memory (λ m. m ≡ h.objects.items) };
 }
 
 impl Held {
+    /// No object is born, and none will have an address.
+    pub fn nowhere(alloc: Global) -> Held
+        ensures { result ≡ [] }
+    {
+        Held {
+            alloc,
+            objects: Vec::new(alloc),
+            memory: None,
+            whole: true,
+        }
+    }
+
     /// No object is born. The stack and the heap have these bytes, and the functions the numbers of their places in the list.
     pub fn new(
         alloc: Global,
@@ -46,7 +59,7 @@ impl Held {
         Ok(Held {
             alloc,
             objects: Vec::new(alloc),
-            memory,
+            memory: Some(memory),
             whole: true,
         })
     }
@@ -58,7 +71,12 @@ impl Held {
         self.objects.as_slice()
     }
 
-    /// An object outside the heap is born at an address, its bytes unwritten.
+    /// Whether the objects have addresses.
+    pub fn has_memory(&self) -> bool {
+        self.memory.is_some()
+    }
+
+    /// An object outside the heap is born at an address, its bytes unwritten. Without a memory the address is not looked at.
     pub fn birth(&mut self, size: u32, kind: Kind, base: u32) -> Result<(), NoMemory>
         ensures { IfOk result (λ _. self.new ≡ self.old ++ spec.fresh size kind ∷ []) }
     {
@@ -66,7 +84,9 @@ impl Held {
             return Err(NoMemory);
         }
         self.whole = false;
-        self.memory.birth(size, kind, base)?;
+        if let Some(memory) = &mut self.memory {
+            memory.birth(size, kind, base)?;
+        }
         let cells = unwritten(self.alloc, size)?;
         self.objects.push(Object::living(size, kind, cells))?;
         self.whole = true;
@@ -81,7 +101,9 @@ impl Held {
             return Err(NoMemory);
         }
         self.whole = false;
-        self.memory.allocate(size)?;
+        if let Some(memory) = &mut self.memory {
+            memory.allocate(size)?;
+        }
         let cells = unwritten(self.alloc, size)?;
         self.objects.push(Object::living(size, Kind::Heap, cells))?;
         self.whole = true;
@@ -96,7 +118,9 @@ impl Held {
             return Err(NoMemory);
         }
         self.whole = false;
-        self.memory.death(id)?;
+        if let Some(memory) = &mut self.memory {
+            memory.death(id)?;
+        }
         end_object(self.alloc, &mut self.objects, id);
         self.whole = true;
         Ok(())
@@ -110,7 +134,9 @@ impl Held {
             return Err(NoMemory);
         }
         self.whole = false;
-        self.memory.put(id, at, new.as_slice())?;
+        if let Some(memory) = &mut self.memory {
+            memory.put(id, at, new.as_slice())?;
+        }
         write_object(self.alloc, &mut self.objects, id, at, new)?;
         self.whole = true;
         Ok(())
@@ -124,7 +150,9 @@ impl Held {
             return Err(NoMemory);
         }
         self.whole = false;
-        self.memory.store(id, at, n, v)?;
+        if let Some(memory) = &mut self.memory {
+            memory.store(id, at, n, v)?;
+        }
         store_in(self.alloc, &mut self.objects, id, at, n, v)?;
         self.whole = true;
         Ok(())
