@@ -1,5 +1,5 @@
 -- Which bytes of memory belong to live objects, and what is held where the others are written.
-use Rattle.std.proofs.Common.{◌≡◌, ◌≢◌, ◌⊎◌, inl, inr, ℕ, zero, suc, ◌+◌, ◌-◌, ◌%◌, ◌<◌, ◌≤◌, ◌==◌, ◌&&◌, Bool, true, false, cond, List, [], ◌∷◌, length, map, take, refl, sym, ap, subst, ◌∙◌, Option, Some, None, Result, Ok, Err, arith}
+use Rattle.std.proofs.Common.{◌≡◌, ◌⊎◌, inl, inr, ℕ, zero, suc, ◌+◌, ◌-◌, ◌%◌, ◌<◌, ◌≤◌, ◌==◌, ◌&&◌, Bool, true, false, cond, List, [], ◌∷◌, length, map, take, refl, sym, ap, subst, ◌∙◌, Option, Some, None, Result, Ok, Err, arith}
 use Rattle.std.specs.List.{slice_get}
 use Rattle.std.specs.Option.{IsSome}
 use Rattle.std.specs.Prelude.{MatchOption, MatchResult}
@@ -15,7 +15,7 @@ use Rattle.sc_mem.specs.Flat.{Flat, place, aligned_place, cell_at, written_at, p
 use Rattle.sc_mem.specs.Safe.{Store, IsSafe}
 use Rattle.sc_mem.specs.Words.{IsSize, bytes_of, pieces_of, cells_of}
 use Rattle.sc_meaning.specs.World.{Object, object_at}
-use Rattle.sc_mem_store.specs.Holding.{IsHeld, AreHeld, Holds, IsTag, IsTagged}
+use Rattle.sc_mem_store.specs.Holding.{AreHeld, Holds, IsTag, IsTagged}
 use Rattle.sc_mem_store.specs.Living.{IsBare, IsByteOf, IsLiving, IsLiveAt}
 use Rattle.sc_mem_store.proofs.Cells.{written-other, written-here}
 use Rattle.sc_mem_store.proofs.Meant.{Keeps}
