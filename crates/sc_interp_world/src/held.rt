@@ -178,10 +178,12 @@ impl Held {
     pub fn base(&self, id: u32) -> Option<u32>
         ensures { IfSome result (λ _. IsLiving self.now id) }
     {
-        if self.whole {
-            self.memory.base(id)
-        } else {
-            None
+        if !self.whole {
+            return None;
+        }
+        match &self.memory {
+            Some(memory) => memory.base(id),
+            None => None,
         }
     }
 
@@ -190,10 +192,12 @@ impl Held {
     pub fn live_at(&self, address: u32) -> Option<Place>
         ensures { IfSome result (λ p. IsLiveAt self.now p.id p.offset) }
     {
-        if self.whole {
-            self.memory.live_at(address)
-        } else {
-            None
+        if !self.whole {
+            return None;
+        }
+        match &self.memory {
+            Some(memory) => memory.live_at(address),
+            None => None,
         }
     }
 
@@ -201,17 +205,26 @@ impl Held {
     pub fn load(&self, at: u32, size: u8) -> Option<Word>
         requires { IsSize size }
     {
-        self.memory.load(at, size)
+        match &self.memory {
+            Some(memory) => memory.load(at, size),
+            None => None,
+        }
     }
 
     /// The value of a word.
     pub fn value(&self, w: Word) -> Result<Value, NoMemory> {
-        self.memory.value(w)
+        match &self.memory {
+            Some(memory) => memory.value(w),
+            None => Err(NoMemory),
+        }
     }
 
     /// The word of a value.
     pub fn word(&self, v: &Value) -> Result<Word, NoMemory> {
-        self.memory.word(v)
+        match &self.memory {
+            Some(memory) => memory.word(v),
+            None => Err(NoMemory),
+        }
     }
 
     /// Writes a word to the `size` bytes at an address that belong to no live object, where there are such bytes.
@@ -222,7 +235,10 @@ impl Held {
         if !self.whole {
             return Err(NoMemory);
         }
-        self.memory.keep(at, size, w)
+        match &mut self.memory {
+            Some(memory) => memory.keep(at, size, w),
+            None => Ok(None),
+        }
     }
 }
 
