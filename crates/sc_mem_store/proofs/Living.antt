@@ -1,7 +1,8 @@
 -- Which bytes of memory belong to live objects, and what is held where the others are written.
-use Rattle.std.proofs.Common.{◌≡◌, ◌≢◌, ◌⊎◌, inl, inr, ℕ, zero, suc, ◌+◌, ◌-◌, ◌%◌, ◌<◌, ◌≤◌, ◌==◌, ◌&&◌, Bool, true, false, cond, List, [], ◌∷◌, length, map, take, refl, sym, ap, subst, ◌∙◌, Option, Some, None, arith}
+use Rattle.std.proofs.Common.{◌≡◌, ◌⊎◌, inl, inr, ℕ, zero, suc, ◌+◌, ◌-◌, ◌%◌, ◌<◌, ◌≤◌, ◌==◌, ◌&&◌, Bool, true, false, cond, List, [], ◌∷◌, length, map, take, refl, sym, ap, subst, ◌∙◌, Option, Some, None, Result, Ok, Err, arith}
 use Rattle.std.specs.List.{slice_get}
 use Rattle.std.specs.Option.{IsSome}
+use Rattle.std.specs.Prelude.{MatchOption, MatchResult}
 use Rattle.std.proofs.lemmas.Bool.{cases_lt}
 use Rattle.std.proofs.lemmas.Bool.Decides.{nat_tests}
 use Rattle.sc_base.specs.declared.key.Key.{Key}
@@ -14,7 +15,7 @@ use Rattle.sc_mem.specs.Flat.{Flat, place, aligned_place, cell_at, written_at, p
 use Rattle.sc_mem.specs.Safe.{Store, IsSafe}
 use Rattle.sc_mem.specs.Words.{IsSize, bytes_of, pieces_of, cells_of}
 use Rattle.sc_meaning.specs.World.{Object, object_at}
-use Rattle.sc_mem_store.specs.Holding.{IsHeld, AreHeld, Holds, IsTag, IsTagged}
+use Rattle.sc_mem_store.specs.Holding.{AreHeld, Holds, IsTag, IsTagged}
 use Rattle.sc_mem_store.specs.Living.{IsBare, IsByteOf, IsLiving, IsLiveAt}
 use Rattle.sc_mem_store.proofs.Cells.{written-other, written-here}
 use Rattle.sc_mem_store.proofs.Meant.{Keeps}
@@ -177,3 +178,9 @@ holds_kept os s m' fs at n w safe h size bare tag area is =
     (λ id p l. subst (λ k. (at + k ≤ p.base) ⊎ (p.base + p.size ≤ at)) (sym long) (bare-whole os m fs at n h size whole bare id p l))
     (λ k c e. word-tagged m.objects n w k c tag e)
     (is ∙ ap (λ k. written_at m (place m at k) part) (sym long))
+
+-- the same by what the store of a word answers
+pub holds_stored : {A E : Type 0} (os : List Object) (s now : Store) (fs : List Key) (at n : ℕ) (w : Word) (result : Result (Option A) E) → IsSafe s → Holds os s.flat fs → IsSize n → IsBare s.flat.objects at → IsTag s.flat.objects w.tag → MatchResult result (λ done. MatchOption done ((aligned_place s.flat at n ≡ None) × (now ≡ s)) (λ _. IsSome (aligned_place s.flat at n) × (now.flat ≡ put s.flat at n w) × (now.blocks ≡ s.blocks))) (λ _. IsSome (aligned_place s.flat at n) × (now ≡ s)) → Holds os now.flat fs
+holds_stored os s now fs at n w (Ok None) safe h size bare tag r = subst (λ (x : Store). Holds os x.flat fs) (sym r.1) h
+holds_stored os s now fs at n w (Ok (Some done)) safe h size bare tag r = holds_kept os s now.flat fs at n w safe h size bare tag r.0 r.1
+holds_stored os s now fs at n w (Err fault) safe h size bare tag r = subst (λ (x : Store). Holds os x.flat fs) (sym r.1) h
