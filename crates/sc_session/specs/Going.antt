@@ -177,17 +177,21 @@ Loses old new First before (lost.Unsent e) = Gains old new First
 abbrev pub IsFirstOf : List Text → List StopAt → Walk → ℕ → Option Standing → List ℕ → Type 0
 IsFirstOf modules stops how turns r front = SendsSome (Some []) (Some front) modules stops how turns r
 
--- the run that goes on in a state
+-- the run of interpreted modules that goes on in a state
 abbrev pub RunsIn : State → Option Standing → Type 0
 RunsIn state.Idle r = ⊥
 RunsIn (state.Stopped s) r = r ≡ s
 RunsIn (state.Paused s) r = r ≡ s
+RunsIn (state.StoppedMixed w) r = ⊥
+RunsIn (state.PausedMixed w) r = ⊥
 RunsIn state.Ended r = ⊥
 
 abbrev pub IsGoing : State → Type 0
 IsGoing state.Idle = ⊥
 IsGoing (state.Stopped r) = Unit {0}
 IsGoing (state.Paused r) = Unit {0}
+IsGoing (state.StoppedMixed w) = ⊥
+IsGoing (state.PausedMixed w) = ⊥
 IsGoing state.Ended = ⊥
 
 -- one go of a session from a run, with the text that answers it behind what went out, and the session behind it

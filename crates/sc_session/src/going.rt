@@ -238,7 +238,7 @@ pub fn gone<K: Sink>(
     }
 }
 
-/// The run that goes on in a state.
+/// The run of interpreted modules that goes on in a state.
 pub fn run_in(state: &State) -> &Run
     requires { spec.IsGoing state.now }
     ensures { spec.RunsIn state.now result.now }
@@ -247,11 +247,13 @@ pub fn run_in(state: &State) -> &Run
         State::Idle => unreachable!(),
         State::Stopped(run) => run,
         State::Paused(run) => run,
+        State::StoppedMixed(_) => unreachable!(),
+        State::PausedMixed(_) => unreachable!(),
         State::Ended => unreachable!(),
     }
 }
 
-/// The run that goes on in a state, taken out of it.
+/// The run of interpreted modules that goes on in a state, taken out of it.
 pub fn run_out_of(state: State) -> Run
     requires { spec.IsGoing state }
     ensures { spec.RunsIn state result }
@@ -260,6 +262,8 @@ pub fn run_out_of(state: State) -> Run
         State::Idle => unreachable!(),
         State::Stopped(run) => run,
         State::Paused(run) => run,
+        State::StoppedMixed(_) => unreachable!(),
+        State::PausedMixed(_) => unreachable!(),
         State::Ended => unreachable!(),
     }
 }
