@@ -2,3 +2,4 @@
 pub mod Operations
 pub mod Registers
 pub mod Machine
+pub mod Beginning

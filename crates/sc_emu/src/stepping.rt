@@ -16,7 +16,7 @@ use sc_isa_image::Image;
 use sc_mem::Memory;
 
 /// Where calls from outside return to. No text and no stub is there.
-const RETURN: u32 = 0xf000;
+pub const RETURN: u32 = 0xf000;
 
 /// One step: the instruction at the next address is carried out on the registers and the memory.
 #[inline(always)]
@@ -127,7 +127,7 @@ fn act(regs: &mut Regs, mem: &mut Memory, i: Instr) -> Done
 
 // The next instruction is the one behind.
 #[inline(always)]
-fn go_on(regs: &mut Regs)
+pub fn go_on(regs: &mut Regs)
     ensures { regs.new ≡ record { pc = sum regs.old.pc 4; words = regs.old.words } }
 {
     let next = regs.pc().wrapping_add(4);
@@ -136,7 +136,7 @@ fn go_on(regs: &mut Regs)
 
 // A register gets a word, and the next instruction is the one behind.
 #[inline(always)]
-fn put(regs: &mut Regs, rd: u8, w: Word) -> Done
+pub fn put(regs: &mut Regs, rd: u8, w: Word) -> Done
     requires { rd < 32 }
     ensures regs { regs.new ≡ record { pc = sum regs.old.pc 4; words = with_word regs.old.words rd w } }
     ensures went { result ≡ Done.Finished }
@@ -148,7 +148,7 @@ fn put(regs: &mut Regs, rd: u8, w: Word) -> Done
 
 // A register gets the address of the instruction behind, and the next one is at another address.
 #[inline(always)]
-fn jump(regs: &mut Regs, rd: u8, to: u32) -> Done
+pub fn jump(regs: &mut Regs, rd: u8, to: u32) -> Done
     requires { rd < 32 }
     ensures regs { regs.new ≡ record { pc = to; words = with_word regs.old.words rd (plain_of (sum regs.old.pc 4)) } }
     ensures went { result ≡ Done.Finished }
@@ -161,7 +161,7 @@ fn jump(regs: &mut Regs, rd: u8, to: u32) -> Done
 
 // The address of a load, a store or a jump by a register.
 #[inline(always)]
-fn address(regs: &Regs, base: u8, offset: i32) -> u32
+pub fn address(regs: &Regs, base: u8, offset: i32) -> u32
     requires { base < 32 }
     ensures { result ≡ sum (register regs.now base).bits (bits_of offset) }
 {

@@ -9,6 +9,7 @@ mod running;
 mod step;
 mod stepped;
 
+pub use calls::key_next;
 pub use going::{Active, Caller, Going};
 pub use running::{Finished, Limits, call_main, run, status_of};
 pub use step::step_run;

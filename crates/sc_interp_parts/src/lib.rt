@@ -20,4 +20,4 @@ pub use names::{automatic_in, call_breach, literal_of, static_place, undefined_n
 pub use operations::{
     assigned_structure, compounded, difference, moved_by, offset_by, stepped, unary,
 };
-pub use statics::statics_born;
+pub use statics::{births_of, statics_born};

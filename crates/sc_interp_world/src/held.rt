@@ -1,13 +1,15 @@
 // The objects of a run, and the one memory that has their bytes at addresses.
-ghost use Rattle.std.specs.Prelude.{◌≡◌, ◌∷◌, ◌++◌, [], IfOk};
+ghost use Rattle.std.specs.Prelude.{◌≡◌, ◌∷◌, ◌++◌, [], IfOk, IfSome};
 ghost use Rattle.sc_meaning.specs.Values as value;
 ghost use Rattle.sc_meaning.specs.World as spec;
+ghost use Rattle.sc_mem.specs.Words.{IsSize};
+ghost use Rattle.sc_mem_store.specs.Living.{IsLiveAt, IsLiving};
 
 use crate::cells::{copy_cells, unwritten};
 use crate::object::{Object, cells_at};
-use sc_base::{Items, Key, Kind, NoMemory, Shared};
+use sc_base::{Items, Key, Kind, NoMemory, Shared, Word};
 use sc_meaning_values::Value;
-use sc_mem_store::{Cell, Store};
+use sc_mem_store::{Cell, Place, Store};
 use std::alloc::Global;
 use std::marker::Model;
 
@@ -139,6 +141,60 @@ impl Held {
         };
         let moved = copy_cells(self.alloc, cells)?;
         self.put(to, at, moved)
+    }
+}
+
+impl Held {
+    /// The address of a live object's first byte: `None` where no live object has this number, and behind a change that was
+    /// given up half done.
+    pub fn base(&self, id: u32) -> Option<u32>
+        ensures { IfSome result (λ _. IsLiving self.now id) }
+    {
+        if self.whole {
+            self.memory.base(id)
+        } else {
+            None
+        }
+    }
+
+    /// The byte of a live object that stands at an address: `None` where the byte there belongs to no live object, and behind
+    /// a change that was given up half done.
+    pub fn live_at(&self, address: u32) -> Option<Place>
+        ensures { IfSome result (λ p. IsLiveAt self.now p.id p.offset) }
+    {
+        if self.whole {
+            self.memory.live_at(address)
+        } else {
+            None
+        }
+    }
+
+    /// What the `size` bytes at an address hold, without a test.
+    pub fn load(&self, at: u32, size: u8) -> Option<Word>
+        requires { IsSize size }
+    {
+        self.memory.load(at, size)
+    }
+
+    /// The value of a word.
+    pub fn value(&self, w: Word) -> Result<Value, NoMemory> {
+        self.memory.value(w)
+    }
+
+    /// The word of a value.
+    pub fn word(&self, v: &Value) -> Result<Word, NoMemory> {
+        self.memory.word(v)
+    }
+
+    /// Writes a word to the `size` bytes at an address that belong to no live object, where there are such bytes.
+    pub fn keep(&mut self, at: u32, size: u8, w: Word) -> Result<Option<()>, NoMemory>
+        requires { IsSize size }
+        ensures { self.new ≡ self.old }
+    {
+        if !self.whole {
+            return Err(NoMemory);
+        }
+        self.memory.keep(at, size, w)
     }
 }
 

@@ -18,5 +18,5 @@ pub use event::{Change, Event, Item, Showing};
 pub use names::{Named, Names, Roll, same_id};
 pub use object::{Born, Frame, Object, cells_at, copy_numbers, object_at};
 pub use past::{Past, Trail};
-pub use sc_mem_store::{Cell, Content};
+pub use sc_mem_store::{Cell, Content, Place};
 pub use world::{Layout, World};

@@ -1,8 +1,10 @@
 // The world of a run, and the single changes to it.
-ghost use Rattle.std.specs.Prelude.{◌≡◌, true, false, not, ℕ, ◌+◌, ◌-◌, ◌∷◌, ◌++◌, [], List, length, reverse, IfOk, MatchOption, None, Some, slice_index, slice_set, replicate};
+ghost use Rattle.std.specs.Prelude.{◌≡◌, true, false, not, ℕ, ◌+◌, ◌-◌, ◌∷◌, ◌++◌, [], List, length, reverse, IfOk, IfSome, MatchOption, None, Some, slice_index, slice_set, replicate};
 ghost use Rattle.sc_meaning.specs.Beside.{nothing_beside};
 ghost use Rattle.sc_meaning.specs.Values as value;
 ghost use Rattle.sc_meaning.specs.World as spec;
+ghost use Rattle.sc_mem.specs.Words.{IsSize};
+ghost use Rattle.sc_mem_store.specs.Living.{IsLiveAt, IsLiving};
 ghost use Rattle.sc_interp_world.specs.Happenings.{item_of};
 ghost use Rattle.sc_interp_world.specs.Addresses.{address};
 ghost use Rattle.sc_interp_world.specs.Outputs.{bytes_moved, output};
@@ -13,10 +15,10 @@ use crate::held::Held;
 use crate::names::Names;
 use crate::object::{Born, Frame, Object};
 use crate::past::Past;
-use sc_base::{Bytes, Duplicate, Items, Key, Kind, Name, NoMemory, Shared, Stack};
+use sc_base::{Bytes, Duplicate, Items, Key, Kind, Name, NoMemory, Shared, Stack, Word};
 use sc_meaning::Spot;
 use sc_meaning_values::Value;
-use sc_mem_store::Cell;
+use sc_mem_store::{Cell, Place};
 use sc_program::StaticId;
 use std::alloc::Global;
 use std::marker::Model;
@@ -336,7 +338,7 @@ impl World {
 
     // The trail keeps what happened.
     #[inline(always)]
-    fn keep(&mut self, change: Change) -> Result<(), NoMemory>
+    fn note(&mut self, change: Change) -> Result<(), NoMemory>
         ensures { IfOk result (λ _. self.new ≡ record self.old { trail = self.old.trail ++ item_of change ∷ [] }) }
     {
         let item = Item { change };
@@ -364,7 +366,7 @@ impl World {
         ensures { IfOk result (λ _. self.new ≡ spec.pass spec.Begin self.old) }
     {
         self.begun = more(self.begun)?;
-        self.keep(Change::Begin)
+        self.note(Change::Begin)
     }
 
     /// A statement ends.
@@ -372,28 +374,28 @@ impl World {
         ensures { IfOk result (λ _. self.new ≡ spec.pass spec.End self.old) }
     {
         self.begun = self.begun.saturating_sub(1);
-        self.keep(Change::End)
+        self.note(Change::End)
     }
 
     /// A call goes out of a text, which is work.
     pub fn goes_out(&mut self) -> Result<(), NoMemory>
         ensures { IfOk result (λ _. self.new ≡ spec.pass spec.GoesOut self.old) }
     {
-        self.keep(Change::GoesOut)
+        self.note(Change::GoesOut)
     }
 
     /// A call comes back to a text, which is work.
     pub fn comes_back(&mut self) -> Result<(), NoMemory>
         ensures { IfOk result (λ _. self.new ≡ spec.pass spec.ComesBack self.old) }
     {
-        self.keep(Change::ComesBack)
+        self.note(Change::ComesBack)
     }
 
     /// The line that is reached next is that of this object's declarator, the initialiser of which comes behind it.
     pub fn declares(&mut self, id: u32) -> Result<(), NoMemory>
         ensures { IfOk result (λ _. self.new ≡ spec.pass (spec.Declares id) self.old) }
     {
-        self.keep(Change::Declares(id))
+        self.note(Change::Declares(id))
     }
 
     /// An event passes.
@@ -407,7 +409,7 @@ impl World {
             Showing::Leave => (),
             Showing::Out(_) => (),
         }
-        self.keep(Change::Happens(event))
+        self.note(Change::Happens(event))
     }
 
     // Memory and the objects get one more.
@@ -428,7 +430,7 @@ impl World {
         ensures { IfOk result (λ _. self.new ≡ spec.pass (spec.Birth size kind spot.now) self.old) }
     {
         self.bear(size, kind, spot)?;
-        self.keep(Change::Birth(size, kind, Snapshot::of(spot)))
+        self.note(Change::Birth(size, kind, Snapshot::of(spot)))
     }
 
     /// An object dies.
@@ -436,14 +438,14 @@ impl World {
         ensures { IfOk result (λ _. self.new ≡ spec.pass (spec.Death id) self.old) }
     {
         self.objects.death(id)?;
-        self.keep(Change::Death(id))
+        self.note(Change::Death(id))
     }
 
     /// Bytes are written into an object from an offset on.
     pub fn put(&mut self, id: u32, at: u32, new: Items<Cell>) -> Result<(), NoMemory>
         ensures { IfOk result (λ _. self.new ≡ spec.pass (spec.Put id at new) self.old) }
     {
-        self.keep(Change::Put(id, at, Snapshot::of(&new)))?;
+        self.note(Change::Put(id, at, Snapshot::of(&new)))?;
         self.objects.put(id, at, new)
     }
 
@@ -451,7 +453,7 @@ impl World {
     pub fn store(&mut self, id: u32, at: u32, n: u32, v: &Value) -> Result<(), NoMemory>
         ensures { IfOk result (λ _. self.new ≡ spec.pass (spec.Put id at (value.cells_of n v.now)) self.old) }
     {
-        self.keep(Change::Store(id, at, n, Snapshot::of(v)))?;
+        self.note(Change::Store(id, at, n, Snapshot::of(v)))?;
         self.objects.store(id, at, n, v)
     }
 
@@ -460,7 +462,7 @@ impl World {
         ensures { IfOk result (λ _. self.new ≡ spec.pass (spec.Copy to at from off n) self.old) }
     {
         self.objects.copy(to, at, from, off, n)?;
-        self.keep(Change::Copy(to, at, from, off, n))
+        self.note(Change::Copy(to, at, from, off, n))
     }
 
     /// A free heap block of a class is taken.
@@ -469,7 +471,7 @@ impl World {
     {
         let left = self.free_of(k).saturating_sub(1);
         put_free(&mut self.free, k, left);
-        self.keep(Change::TakeFree(k))
+        self.note(Change::TakeFree(k))
     }
 
     /// A heap block of this size is made and taken.
@@ -480,7 +482,7 @@ impl World {
             return Err(NoMemory)
         };
         self.made = made;
-        self.keep(Change::TakeNew(size))
+        self.note(Change::TakeNew(size))
     }
 
     /// A heap block of a class is given back.
@@ -489,7 +491,7 @@ impl World {
     {
         let left = more(self.free_of(k))?;
         put_free(&mut self.free, k, left);
-        self.keep(Change::Give(k))
+        self.note(Change::Give(k))
     }
 
     /// So many bytes of the stack are used from here on.
@@ -497,7 +499,7 @@ impl World {
         ensures { IfOk result (λ _. self.new ≡ spec.pass (spec.Stack n) self.old) }
     {
         self.used = n;
-        self.keep(Change::Stack(n))
+        self.note(Change::Stack(n))
     }
 
     /// A byte of the input is read.
@@ -505,7 +507,7 @@ impl World {
         ensures { IfOk result (λ _. self.new ≡ spec.pass spec.Read self.old) }
     {
         let _ = self.input.pop();
-        self.keep(Change::Read)
+        self.note(Change::Read)
     }
 
     /// The next random number comes from this one.
@@ -513,14 +515,14 @@ impl World {
         ensures { IfOk result (λ _. self.new ≡ spec.pass (spec.Seed n) self.old) }
     {
         self.seed = n;
-        self.keep(Change::Seed(n))
+        self.note(Change::Seed(n))
     }
 
     /// A call becomes active.
     pub fn push(&mut self, frame: Frame) -> Result<(), NoMemory>
         ensures { IfOk result (λ _. self.new ≡ spec.pass (spec.Push frame) self.old) }
     {
-        self.keep(Change::Push(Snapshot::of(&frame)))?;
+        self.note(Change::Push(Snapshot::of(&frame)))?;
         self.frames.push(frame)
     }
 
@@ -529,14 +531,14 @@ impl World {
         ensures { IfOk result (λ _. self.new ≡ spec.pass spec.Pop self.old) }
     {
         drop(self.frames.pop());
-        self.keep(Change::Pop)
+        self.note(Change::Pop)
     }
 
     /// A block is entered in the innermost call.
     pub fn open_block(&mut self, born: Born) -> Result<(), NoMemory>
         ensures { IfOk result (λ _. self.new ≡ spec.pass (spec.OpenBlock born) self.old) }
     {
-        self.keep(Change::OpenBlock(Snapshot::of(&born)))?;
+        self.note(Change::OpenBlock(Snapshot::of(&born)))?;
         put_block(&mut self.frames, born)
     }
 
@@ -545,7 +547,7 @@ impl World {
         ensures { IfOk result (λ _. self.new ≡ spec.pass spec.CloseBlock self.old) }
     {
         drop_block(&mut self.frames)?;
-        self.keep(Change::CloseBlock)
+        self.note(Change::CloseBlock)
     }
 
     /// An object has this name from here on.
@@ -553,7 +555,7 @@ impl World {
         ensures { IfOk result (λ _. self.new ≡ spec.pass (spec.Name id object) self.old) }
     {
         self.names.put(id.copy(self.alloc)?, object)?;
-        self.keep(Change::Name(id, object))
+        self.note(Change::Name(id, object))
     }
 
     /// No object has this name from here on.
@@ -561,6 +563,58 @@ impl World {
         ensures { IfOk result (λ _. self.new ≡ spec.pass (spec.Unname id) self.old) }
     {
         self.names.take(&id);
-        self.keep(Change::Unname(id))
+        self.note(Change::Unname(id))
+    }
+}
+
+impl World {
+    /// The address of a live object's first byte: `None` where no live object has this number. It stays until the object
+    /// dies. Also `None` behind a change that was given up for want of memory.
+    pub fn base(&self, id: u32) -> Option<u32>
+        ensures { IfSome result (λ _. IsLiving self.now.objects id) }
+    {
+        self.objects.base(id)
+    }
+
+    /// The byte of a live object that stands at an address: `None` where the byte there belongs to no live object, as just
+    /// behind the last byte of one. Also `None` behind a change that was given up for want of memory.
+    pub fn live_at(&self, address: u32) -> Option<Place>
+        ensures { IfSome result (λ p. IsLiveAt self.now.objects p.id p.offset) }
+    {
+        self.objects.live_at(address)
+    }
+
+    /// What the `size` bytes at an address hold, whether or not they are an object's: `None` exactly outside the static area,
+    /// the heap and the stack, and where the address is no multiple of the size. An unwritten byte reads as 0, and only four
+    /// bytes that are one pointer have a tag.
+    pub fn load(&self, at: u32, size: u8) -> Option<Word>
+        requires { IsSize size }
+    {
+        self.objects.load(at, size)
+    }
+
+    /// The value of a word: a number, the function whose stub begins there, or a place in the object that its tag names.
+    pub fn value(&self, w: Word) -> Result<Value, NoMemory> {
+        self.objects.value(w)
+    }
+
+    /// The word of a value: of a place in an object its address, with the object's number as the tag.
+    ///
+    /// # Errors
+    ///
+    /// `NoMemory` for a function that has no stub and for a place in an object that was not born, which no run has.
+    pub fn word(&self, v: &Value) -> Result<Word, NoMemory> {
+        self.objects.word(v)
+    }
+
+    /// Writes a word to the `size` bytes at an address that belong to no live object, as compiled code does with what it
+    /// saves on the stack. No object changes, and the trail keeps nothing of it. `None`, where nothing is written, if the first
+    /// byte is a live object's, outside the static area, the heap and the stack, at no multiple of the size, or if the word
+    /// has the tag of an object that was not born.
+    pub fn keep(&mut self, at: u32, size: u8, w: Word) -> Result<Option<()>, NoMemory>
+        requires { IsSize size }
+        ensures { self.new ≡ self.old }
+    {
+        self.objects.keep(at, size, w)
     }
 }

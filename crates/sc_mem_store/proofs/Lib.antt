@@ -9,3 +9,4 @@ pub mod Writing
 pub mod Words
 pub mod ValueBytes
 pub mod Apart
+pub mod Living

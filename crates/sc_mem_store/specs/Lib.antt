@@ -3,3 +3,4 @@ pub mod Apart
 pub mod Cells
 pub mod Changes
 pub mod Holding
+pub mod Living

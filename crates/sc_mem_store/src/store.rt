@@ -1,9 +1,10 @@
 // The objects of a run.
-ghost use Rattle.std.specs.Prelude.{◌≡◌, ◌+◌, ◌<◌, ◌∷◌, ◌++◌, [], length, IfOk, IsSome, MatchOption, MatchResult, None, Some};
+ghost use Rattle.std.specs.Prelude.{◌≡◌, ◌+◌, ◌<◌, ◌∷◌, ◌++◌, [], length, IfOk, IfSome, IsSome, MatchOption, MatchResult, None, Some};
 ghost use Rattle.sc_objects.specs.declared.objects.Obj.{Obj};
 ghost use Rattle.sc_objects.specs.Numbered.{IsLive};
 ghost use Rattle.sc_mem.specs.Flat.{place, with_death, written_at};
 ghost use Rattle.sc_mem.specs.Safe.{IsSafe};
+ghost use Rattle.sc_mem.specs.Words.{IsSize};
 ghost use Rattle.sc_mem_store.specs.Changes.{changed, item_of};
 ghost use Rattle.sc_meaning.specs.Values.{cells_of};
 ghost use Rattle.sc_meaning.specs.World.{Object, cells_at, ended, fresh, object_at, written};
@@ -12,9 +13,11 @@ use crate::bytes::{bytes_at, cell_of};
 use crate::cell::Cell;
 use crate::few::{Few, few_at};
 use crate::history::{Change, History, Item};
+use crate::machine::{Place, is_tag, place_at};
+use crate::pointers::{value_of, word_of};
 use crate::span::span_of;
 use crate::values::value_byte;
-use sc_base::{Cell as Stored, Items, Key, Kind, NoMemory, Shared};
+use sc_base::{Cell as Stored, Items, Key, Kind, NoMemory, Shared, Word};
 use sc_meaning_values::Value;
 use sc_mem::Memory;
 use sc_objects::Obj;
@@ -228,6 +231,72 @@ impl Store {
     {
         let cells = self.cells(from, u64::from(off), n)?;
         self.put(to, at, cells.as_slice())
+    }
+}
+
+impl Store {
+    ghost use Rattle.sc_mem_store.specs.Living.{IsLiveAt, IsLiving};
+
+    /// The address of a live object's first byte: `None` exactly where no live object has this number.
+    #[tactic(auto, using(crate::proofs::Living::living))]
+    pub fn base(&self, id: u32) -> Option<u32>
+        ensures { IfSome result (λ _. IsLiving self.now id) }
+    {
+        match self.memory.find(id) {
+            None => None,
+            Some(object) => { if object.live { Some(object.base) } else { None } }
+        }
+    }
+
+    /// The byte of a live object that stands at an address: `None` exactly where the byte there belongs to no live object.
+    #[tactic(auto, using(crate::proofs::Living::live_at))]
+    pub fn live_at(&self, address: u32) -> Option<Place>
+        ensures { IfSome result (λ p. IsLiveAt self.now p.id p.offset) }
+    {
+        place_at(&self.memory, address)
+    }
+
+    /// What the `size` bytes at an address hold, without a test: `None` exactly outside the areas and where the address is
+    /// no multiple of the size. An unwritten byte reads as 0, and only the four pieces of one pointer have a tag.
+    pub fn load(&self, at: u32, size: u8) -> Option<Word>
+        requires { IsSize size }
+    {
+        self.memory.raw_load(at, size)
+    }
+
+    /// The value of a word: a number, the function whose stub begins there, or a place in the object that its tag names.
+    pub fn value(&self, w: Word) -> Result<Value, NoMemory> {
+        value_of(self.functions.as_slice(), &self.memory, w.tag, w.bits)
+    }
+
+    /// The word of a value.
+    ///
+    /// # Errors
+    ///
+    /// `NoMemory` for a function without a number and for a place in an object that was not born, which no run has.
+    pub fn word(&self, v: &Value) -> Result<Word, NoMemory> {
+        word_of(self.functions.as_slice(), &self.memory, v)
+    }
+
+    /// Writes a word to the `size` bytes at an address that belong to no live object: the objects stay as they are. `None`,
+    /// where nothing is changed, if they are a live object's, outside the areas, or at no multiple of the size, or if the
+    /// word has the tag of an object that was not born.
+    #[tactic(auto, using(crate::proofs::Living::holds_kept))]
+    pub fn keep(&mut self, at: u32, size: u8, w: Word) -> Result<Option<()>, NoMemory>
+        requires { IsSize size }
+        ensures { self.new ≡ self.old }
+    {
+        match place_at(&self.memory, at) {
+            Some(_) => Ok(None),
+            None => {
+                // A word with the tag of an object to come would be that object's place once it is born.
+                if is_tag(&self.memory, w.tag) {
+                    self.memory.raw_store(at, size, w)
+                } else {
+                    Ok(None)
+                }
+            }
+        }
     }
 }
 

@@ -2,8 +2,16 @@
 //! instructions over the same world, and the bridge leads from each to the other.
 #![tactic(auto)]
 
+mod begin;
+mod bridge;
+mod broken;
+mod calls;
 mod ended;
+mod execute;
+mod layout;
+mod moves;
 mod run;
+mod serve;
 
 pub use ended::MixedEnd;
 pub use run::MixedRun;

@@ -1,0 +1,189 @@
+// From interpreted calls to compiled code, and back.
+
+use crate::broken::Break;
+use crate::calls::{Calls, Lower, Next};
+use sc_base::{Form, Items, Key, NoMemory, Stack, Word};
+use sc_core_held::{Callee, Text, callee_of};
+use sc_emu::{Crash, Regs};
+use sc_interp::{Caller, Going};
+use sc_interp_parts::value_rule;
+use sc_interp_world::World;
+use sc_isa_image::Image;
+use sc_meaning_values::{Answer, Shape, Value};
+use sc_services::{put_arguments, result_word, stack_top};
+use sc_types::CType;
+use std::alloc::Global;
+use std::mem;
+
+/// Where calls of compiled code from outside return to.
+pub const RETURN: u32 = 0xf000;
+
+/// The registers of a return address, of the stack pointer, and of a result.
+const RA: u8 = 1;
+
+const SP: u8 = 2;
+
+const RESULT: u8 = 10;
+
+/// Whether a key names a function of compiled code.
+pub fn is_in_code(texts: &[Text], key: &Key) -> bool {
+    match callee_of(texts, key) {
+        Callee::Missing => false,
+        Callee::InLibrary(_) => false,
+        Callee::InText(t, _) => match t.form {
+            Form::Source => false,
+            Form::Object => true,
+        },
+    }
+}
+
+/// Whether a call that breaks no rule goes to compiled code.
+pub fn goes_to_code(
+    alloc: Global,
+    texts: &[Text],
+    t: &CType,
+    v: &Value,
+    caller: &Caller,
+) -> Result<bool, NoMemory> {
+    let Shape::FunctionAt(key) = &v.shape else {
+        return Ok(false);
+    };
+    if !is_in_code(texts, key.get()) {
+        return Ok(false);
+    }
+    let rule = value_rule(alloc, texts, &caller.env.text, t, v)?;
+    Ok(rule.is_none())
+}
+
+/// Compiled code is called: its arguments are where it finds them, and the next instruction is that of the function's stub. The
+/// interpreted callers wait for it.
+pub fn call_code(
+    key: &Key,
+    vs: &[Value],
+    image: &Image,
+    calls: &mut Calls,
+    world: &mut World,
+) -> Result<(), NoMemory> {
+    let Some(stub) = image.value(key) else {
+        return Err(NoMemory);
+    };
+    let sp = stack_top(world);
+    put_arguments(vs, &mut calls.regs, world)?;
+    let callers = mem::replace(&mut calls.callers, Stack::new(world.alloc()));
+    let depth = world.frames().len();
+    calls.lower.push(Lower::InBodies { callers, sp, depth })?;
+    calls.given = None;
+    calls.regs.set(SP, Word { bits: sp, tag: 0 });
+    calls.regs.set(
+        RA,
+        Word {
+            bits: RETURN,
+            tag: 0,
+        },
+    );
+    calls.regs.set_pc(stub);
+    Ok(())
+}
+
+// A call of this value goes to compiled code.
+fn call_value(
+    v: &Value,
+    vs: &[Value],
+    image: &Image,
+    calls: &mut Calls,
+    world: &mut World,
+) -> Result<(), NoMemory> {
+    match &v.shape {
+        Shape::FunctionAt(key) => call_code(key.get(), vs, image, calls, world),
+        Shape::Number(_) | Shape::Pointer(_, _) => Err(NoMemory),
+    }
+}
+
+/// The call that is to be made goes to compiled code.
+pub fn make_in_code(
+    going: Going,
+    image: &Image,
+    calls: &mut Calls,
+    world: &mut World,
+) -> Result<(), NoMemory> {
+    match going {
+        Going::Makes(t, v, vs, caller) => {
+            drop(t);
+            calls.callers.push(caller)?;
+            call_value(&v, vs.as_slice(), image, calls, world)
+        }
+        other => {
+            drop(other);
+            Err(NoMemory)
+        }
+    }
+}
+
+// Compiled code goes on behind its call: all of its registers are as it called, but a0 holds the result.
+fn resume_code(
+    a: &Answer,
+    regs: Regs,
+    given: Option<Answer>,
+    calls: &mut Calls,
+    world: &World,
+) -> Result<Next, NoMemory> {
+    let word = result_word(a, world)?;
+    let back = regs.get(RA).bits;
+    drop(mem::replace(&mut calls.regs, regs));
+    drop(mem::replace(&mut calls.given, given));
+    calls.regs.set(RESULT, word);
+    calls.regs.set_pc(back);
+    Ok(Next::Executes)
+}
+
+/// The answer of the last interpreted call goes to what waits below. Where nothing does it is the run's.
+pub fn give_back(a: Answer, calls: &mut Calls, world: &World) -> Result<Next, NoMemory> {
+    match calls.lower.pop() {
+        None => Ok(Next::Steps(Going::Answers(a))),
+        Some(Lower::InBodies { callers, .. }) => {
+            drop(mem::replace(&mut calls.callers, callers));
+            Ok(Next::Steps(Going::Answers(a)))
+        }
+        Some(Lower::InCode { regs, given }) => resume_code(&a, regs, given, calls, world),
+    }
+}
+
+// A return at which the test fails.
+fn unreturned() -> Break {
+    Break::Crashed(RETURN, Crash::Service)
+}
+
+// Compiled code returns to interpreted calls: its call has left, and the stack is as it was.
+fn return_to(
+    a: Answer,
+    callers: Stack<Caller>,
+    sp: u32,
+    depth: usize,
+    calls: &mut Calls,
+    world: &World,
+) -> Result<Next, Break> {
+    if calls.regs.get(SP).bits != sp || world.frames().len() != depth {
+        drop(a);
+        drop(callers);
+        return Err(unreturned());
+    }
+    drop(mem::replace(&mut calls.callers, callers));
+    Ok(Next::Steps(Going::Answers(a)))
+}
+
+/// Compiled code returns to where its caller stands.
+pub fn return_code(calls: &mut Calls, world: &World) -> Result<Next, Break> {
+    let Some(a) = calls.given.take() else {
+        return Err(unreturned());
+    };
+    match calls.lower.pop() {
+        Some(Lower::InBodies { callers, sp, depth }) => {
+            return_to(a, callers, sp, depth, calls, world)
+        }
+        other => {
+            drop(other);
+            drop(a);
+            Err(unreturned())
+        }
+    }
+}

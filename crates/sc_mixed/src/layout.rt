@@ -1,0 +1,54 @@
+// Where a program stands in memory: where its image has it.
+
+use sc_base::{Duplicate, Items, Key, NoMemory, Shared};
+use sc_core_held::Text;
+use sc_interp_parts::births_of;
+use sc_interp_world::{Layout, Names};
+use sc_isa_image::Image;
+use sc_program::StaticId;
+use std::alloc::Global;
+
+/// Where the stubs of functions begin, each of eight bytes.
+const STUBS: u32 = 0x0001_0000;
+
+/// The most functions that have stubs.
+const MOST: u32 = 65_536;
+
+// The functions by their numbers.
+fn functions_of(alloc: Global, image: &Image) -> Result<Items<Shared<Key>>, NoMemory> {
+    let mut keys = Items::new(alloc);
+    for number in 0..MOST {
+        match image.key_of(STUBS + 8 * number) {
+            None => return Ok(keys),
+            Some(key) => keys.push(Shared::new(alloc, key.copy(alloc)?)?)?,
+        }
+    }
+    Ok(keys)
+}
+
+// The address of an object or a literal.
+fn address_of(image: &Image, id: &StaticId) -> Option<u32> {
+    match id {
+        StaticId::Named(key) => image.value(key),
+        StaticId::Literal(home, bytes) => image.literal(home, bytes.as_slice()),
+    }
+}
+
+// The addresses of these objects and literals.
+fn places_of(alloc: Global, image: &Image, ids: &[StaticId]) -> Result<Names, NoMemory> {
+    let mut places = Names::new(alloc);
+    for id in ids {
+        if let Some(at) = address_of(image, id) {
+            places.put(id.copy(alloc)?, at)?;
+        }
+    }
+    Ok(places)
+}
+
+/// Where the functions and the static objects of these texts stand, by their image.
+pub fn layout_of(alloc: Global, texts: &[Text], image: &Image) -> Result<Layout, NoMemory> {
+    let functions = functions_of(alloc, image)?;
+    let ids = births_of(alloc, texts)?;
+    let places = places_of(alloc, image, ids.as_slice())?;
+    Ok(Layout { functions, places })
+}

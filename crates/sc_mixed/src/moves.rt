@@ -1,0 +1,132 @@
+// One move of a run of both forms.
+
+use crate::bridge::{give_back, goes_to_code, make_in_code, return_code};
+use crate::broken::Break;
+use crate::calls::{Calls, Moved, Next};
+use crate::execute::{Went, execute};
+use crate::serve::serve;
+use sc_base::NoMemory;
+use sc_core_held::Text;
+use sc_interp::{Going, step_run};
+use sc_interp_world::World;
+use sc_isa_image::Image;
+use sc_meaning_values::Answer;
+use sc_world::{noted, touched_on};
+use std::mem;
+
+// Where a step of interpreted calls leads.
+#[derive(Clone, Copy)]
+enum Way {
+    Stays,
+    ToCode,
+    Back,
+}
+
+fn way_of(texts: &[Text], going: &Going, calls: &Calls, world: &World) -> Result<Way, NoMemory> {
+    match going {
+        Going::Runs(_, _, _, _) => Ok(Way::Stays),
+        Going::Makes(t, v, _, caller) => {
+            if goes_to_code(world.alloc(), texts, t, v, caller)? {
+                Ok(Way::ToCode)
+            } else {
+                Ok(Way::Stays)
+            }
+        }
+        Going::Answers(_) => {
+            if calls.callers.is_empty() {
+                Ok(Way::Back)
+            } else {
+                Ok(Way::Stays)
+            }
+        }
+    }
+}
+
+// A step of the interpreted calls.
+fn step(
+    texts: &[Text],
+    going: &mut Going,
+    calls: &mut Calls,
+    world: &mut World,
+) -> Result<Moved, Break> {
+    let before = noted(going, world);
+    let shown = step_run(texts, going, &mut calls.callers, world)?;
+    Ok(Moved {
+        shown,
+        bytes: touched_on(before, going, world),
+    })
+}
+
+// How the interpreted calls go on is taken, and an answer without a value is left in its place.
+fn taken(going: &mut Going) -> Going {
+    mem::replace(going, Going::Answers(Answer::nothing()))
+}
+
+// The answer of the last interpreted call goes to what waits below.
+fn back(going: Going, calls: &mut Calls, world: &World) -> Result<Next, NoMemory> {
+    match going {
+        Going::Answers(a) => give_back(a, calls, world),
+        other => Ok(Next::Steps(other)),
+    }
+}
+
+// A move that leads from interpreted calls to compiled code, or to what waits for them.
+fn cross(
+    way: Way,
+    going: Going,
+    image: &Image,
+    calls: &mut Calls,
+    world: &mut World,
+) -> Result<Next, NoMemory> {
+    match way {
+        Way::Stays => Ok(Next::Steps(going)),
+        Way::ToCode => {
+            make_in_code(going, image, calls, world)?;
+            Ok(Next::Executes)
+        }
+        Way::Back => back(going, calls, world),
+    }
+}
+
+fn execute_one(
+    image: &Image,
+    next: &mut Next,
+    calls: &mut Calls,
+    world: &mut World,
+) -> Result<Moved, Break> {
+    match execute(image, &mut calls.regs, world)? {
+        Went::On => (),
+        Went::Asks(n) => drop(mem::replace(next, Next::Serves(n))),
+        Went::Returned => {
+            let back = return_code(calls, world)?;
+            drop(mem::replace(next, back));
+        }
+    }
+    Ok(Moved::quietly())
+}
+
+/// One move: a step of interpreted calls, a crossing of the bridge, an instruction or a service.
+pub fn move_on(
+    texts: &[Text],
+    image: &Image,
+    next: &mut Next,
+    calls: &mut Calls,
+    world: &mut World,
+) -> Result<Moved, Break> {
+    match next {
+        Next::Executes => execute_one(image, next, calls, world),
+        Next::Serves(n) => {
+            let n = *n;
+            serve(n, texts, image, next, calls, world)
+        }
+        Next::Steps(going) => match way_of(texts, going, calls, world)? {
+            Way::Stays => step(texts, going, calls, world),
+            way => {
+                let going = taken(going);
+                let crossed = cross(way, going, image, calls, world)?;
+                drop(mem::replace(next, crossed));
+                Ok(Moved::quietly())
+            }
+        },
+    }
+}

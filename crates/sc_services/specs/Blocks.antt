@@ -1,0 +1,73 @@
+-- Yardstick: to be compared with what it restates (docs/TRUST.md).
+-- Calls and blocks of compiled code: their objects are born in the slots of the frame's table, and die.
+use Rattle.std.specs.Prelude.{ℕ, ◌+◌, ◌-◌, ◌==◌, nat_lt, if◌then◌else◌, List, [], ◌∷◌, ◌++◌, slice_index_or}
+use Rattle.sc_base.specs.declared.key.Key.{Key}
+use Rattle.sc_program.specs.declared.frame.FrameTable.{FrameTable}
+use Rattle.sc_program.specs.declared.frame.Slot.{Slot}
+use Rattle.sc_meaning.specs.declared.spot.Spot.TheVariants as spot
+use Rattle.sc_meaning.specs.Values.{Value, Pointer}
+use Rattle.sc_meaning.specs.World.{World, Born, Enter, Leave, Happens, Push, Pop, Stack, OpenBlock, CloseBlock, pass}
+use Rattle.sc_meaning.specs.Outcomes.{Outcome, Step, Done, Over, StackFull, and_then, went}
+use Rattle.sc_meaning.specs.Accesses.{set_at}
+use Rattle.sc_meaning.specs.Versions.{Text}
+use Rattle.sc_meaning.specs.Changes.{born}
+use Rattle.sc_meaning.specs.Statements.{all_dead, auto_kind}
+use Rattle.sc_meaning.specs.Calls.{frame_of}
+
+-- an object is born in its slot
+abbrev pub slot_born : Slot → World → Outcome ℕ
+slot_born s w = born s.size (auto_kind s.constant) (spot.Slot s.offset) w
+
+-- objects of slots are born, in order
+abbrev pub slots_born : List Slot → List ℕ → World → Outcome (List ℕ)
+slots_born [] ids w = Done ids w
+slots_born (s ∷ rest) ids w = and_then (slot_born s w) (λ id v. slots_born rest (ids ++ id ∷ []) v)
+
+-- a parameter is born in its slot, and set
+abbrev pub slot_set : Slot → Value → World → Outcome ℕ
+slot_set s x w = and_then (slot_born s w) (λ id v. Done id (set_at (Pointer id 0) 0 s.size x v))
+
+abbrev pub slots_set : List Slot → List Value → List ℕ → World → Outcome (List ℕ)
+slots_set [] xs ids w = Done ids w
+slots_set (s ∷ rest) [] ids w = Done ids w
+slots_set (s ∷ rest) (x ∷ xs) ids w = and_then (slot_set s x w) (λ id v. slots_set rest xs (ids ++ id ∷ []) v)
+
+abbrev pub slots_of : FrameTable → ℕ → List Slot
+slots_of t block = slice_index_or t.blocks block []
+
+abbrev pub opened : ℕ → List ℕ → World → World
+opened block ids w = pass (OpenBlock (record { block = block; ids = ids })) w
+
+-- a block is entered
+abbrev pub block_entered : ℕ → FrameTable → Step
+block_entered block t w = and_then (slots_born (slots_of t block) [] w) (λ ids v. went (opened block ids v))
+
+-- the frame of a call takes its room on the stack
+abbrev pub with_call : Key → Text → ℕ → World → World
+with_call key t cost w = pass (Push (frame_of key t w)) (pass (Stack (w.used + cost)) w)
+
+abbrev pub entered : Key → Text → List ℕ → World → World
+entered key t ids w = pass (Happens (Enter key t.core.name)) (opened 0 ids w)
+
+-- a call is entered, for which the stack has room
+abbrev pub call_entered : Key → Text → FrameTable → List Value → Step
+call_entered key t table xs w =
+    and_then (slots_set (slots_of table 0) xs [] (with_call key t table.cost w)) (λ ids v. went (entered key t ids v))
+
+-- the objects of open blocks die, those of the innermost block first, up to this one; the block of the parameters stays open
+abbrev pub closed_upto : ℕ → List Born → World → World
+closed_upto block [] w = w
+closed_upto block (o ∷ os) w =
+    let dead : World = all_dead o.ids w in
+    if o.block == 0 then dead
+    else if o.block == block then pass CloseBlock dead
+    else closed_upto block os (pass CloseBlock dead)
+
+-- the innermost call is left, whose frame costs so much
+abbrev pub left_by : ℕ → World → World
+left_by cost w = pass (Happens Leave) (pass (Stack (w.used - cost)) (pass Pop w))
+
+-- a call is entered where the stack has room for it
+abbrev pub call_entered_if_room : Key → Text → FrameTable → List Value → Step
+call_entered_if_room key t table xs w =
+    if nat_lt w.stack (w.used + table.cost) then Over (StackFull key w) else call_entered key t table xs w

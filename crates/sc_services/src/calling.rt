@@ -1,0 +1,110 @@
+// Service 1: compiled code calls interpreted code, or the library.
+use crate::arguments::arguments;
+use crate::frames::{is_in_code, is_on_stack};
+use sc_base::{Duplicate, Form, Items, Key, NoMemory};
+use sc_core::Fun;
+use sc_core_held::{Callee, Text, callee_of};
+use sc_emu::Regs;
+use sc_interp_world::World;
+use sc_isa_image::Image;
+use sc_meaning::LibFun;
+use sc_meaning_values::Value;
+
+/// The register that holds the number of `printf`'s arguments.
+const COUNT: u8 = 7;
+
+/// What compiled code calls: a function, with its arguments; or its test failed.
+#[derive(Drop)]
+pub enum Asked {
+    Call(Key, Items<Value>),
+    Refused,
+}
+
+// How many arguments a function of the library takes.
+fn arity(f: LibFun, regs: &Regs) -> u32 {
+    match f {
+        LibFun::Printf => regs.get(COUNT).bits,
+        LibFun::Getchar | LibFun::Rand => 0,
+        LibFun::Calloc
+        | LibFun::Realloc
+        | LibFun::Strcpy
+        | LibFun::Strcat
+        | LibFun::Strcmp
+        | LibFun::Strchr
+        | LibFun::Strrchr => 2,
+        LibFun::Memcpy
+        | LibFun::Memmove
+        | LibFun::Memset
+        | LibFun::Memcmp
+        | LibFun::Strncpy
+        | LibFun::Strncmp
+        | LibFun::AssertFail => 3,
+        LibFun::Putchar
+        | LibFun::Puts
+        | LibFun::Malloc
+        | LibFun::Free
+        | LibFun::Strlen
+        | LibFun::Atoi
+        | LibFun::Abs
+        | LibFun::Srand
+        | LibFun::Exit
+        | LibFun::Isalnum
+        | LibFun::Isalpha
+        | LibFun::Iscntrl
+        | LibFun::Isdigit
+        | LibFun::Isgraph
+        | LibFun::Islower
+        | LibFun::Isprint
+        | LibFun::Ispunct
+        | LibFun::Isspace
+        | LibFun::Isupper
+        | LibFun::Isxdigit
+        | LibFun::Tolower
+        | LibFun::Toupper => 1,
+    }
+}
+
+// How many parameters a function has.
+fn parameter_count(f: &Fun) -> u32 {
+    match f.blocks.as_slice().get(0) {
+        None => 0,
+        Some(autos) => u32::try_from(autos.len()).unwrap_or(u32::MAX),
+    }
+}
+
+// How many arguments go to what is called: none to what is missing, which has no answer; `None` for compiled code, which is not called so.
+fn argument_count(callee: Callee, regs: &Regs) -> Option<u32> {
+    match callee {
+        Callee::Missing => Some(0),
+        Callee::InLibrary(f) => Some(arity(f, regs)),
+        Callee::InText(t, f) => match t.form {
+            Form::Source => Some(parameter_count(f.get())),
+            Form::Object => None,
+        },
+    }
+}
+
+/// Service 1: what is called. The registers stand behind the `ecall`, which is the second word of the stub of the function.
+///
+/// It is refused where no function's stub is there, or a compiled function's; where the innermost call is not of compiled code; where the stack pointer is not at the low
+/// end of the stack that is used; and where an argument is outside the stack.
+pub fn called(
+    texts: &[Text],
+    regs: &Regs,
+    image: &Image,
+    world: &World,
+) -> Result<Asked, NoMemory> {
+    let Some(key) = image.key_of(regs.pc().wrapping_sub(8)) else {
+        return Ok(Asked::Refused);
+    };
+    if !is_in_code(world) || !is_on_stack(regs, world) {
+        return Ok(Asked::Refused);
+    }
+    let Some(count) = argument_count(callee_of(texts, key), regs) else {
+        return Ok(Asked::Refused);
+    };
+    match arguments(count, regs, world)? {
+        None => Ok(Asked::Refused),
+        Some(values) => Ok(Asked::Call(key.copy(world.alloc())?, values)),
+    }
+}

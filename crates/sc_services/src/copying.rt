@@ -1,0 +1,111 @@
+// Service 5: bytes are copied.
+use crate::arguments::FIRST;
+use crate::bytes::{cell_at, whole_pointer};
+use crate::store::{has_bytes, keep, put_cell};
+use sc_base::{Duplicate, Items, NoMemory};
+use sc_emu::Regs;
+use sc_interp_world::{Cell, Place, World};
+
+/// Where the static area begins, and its bytes.
+const STATIC: u64 = 0x0800_0000;
+
+const STATIC_BYTES: u64 = 1_048_576;
+
+/// Where the heap begins.
+const HEAP: u64 = 0x1000_0000;
+
+/// Where the stack ends.
+const STACK_END: u64 = 0x2000_0000;
+
+/// What a copy comes to: so many bytes were copied; or its test failed, and nothing was done.
+#[derive(Clone, Copy, Debug, PartialEq, Eq)]
+pub enum Copied {
+    Bytes(u32),
+    Refused,
+}
+
+// Whether the bytes from an address on are all inside one area.
+fn is_range(at: u32, n: u32, world: &World) -> bool {
+    let first = u64::from(at);
+    let end = first + u64::from(n);
+    let in_static = STATIC <= first && end <= STATIC + STATIC_BYTES;
+    let in_heap = HEAP <= first && end <= HEAP.saturating_add(world.heap());
+    let in_stack = STACK_END.saturating_sub(world.stack()) <= first && end <= STACK_END;
+    in_static || in_heap || in_stack
+}
+
+// The bytes from an address on, which are inside an area.
+fn cells_from(from: u32, n: u32, world: &World) -> Result<Items<Cell>, NoMemory> {
+    let mut cells = Items::new(world.alloc());
+    for k in 0..n {
+        let Some(at) = from.checked_add(k) else {
+            return Err(NoMemory);
+        };
+        cells.push(cell_at(at, world)?)?;
+    }
+    Ok(cells)
+}
+
+// Bytes are put one by one from an address on.
+fn put_cells(to: u32, cells: &[Cell], world: &mut World) -> Result<(), NoMemory> {
+    let mut at = to;
+    for cell in cells {
+        put_cell(at, cell.copy(world.alloc())?, world)?;
+        at = at.wrapping_add(1);
+    }
+    Ok(())
+}
+
+// Whole pointers that stand beside all objects get their tags.
+fn put_pointers(to: u32, cells: &[Cell], world: &mut World) -> Result<(), NoMemory> {
+    for k in 0..cells.len() {
+        let at = to.wrapping_add(k as u32);
+        if at % 4 == 0 && world.live_at(at).is_none() {
+            if let Some(v) = whole_pointer(&cells[k..]) {
+                let word = world.word(v)?;
+                keep(at, 4, word, world)?;
+            }
+        }
+    }
+    Ok(())
+}
+
+// Bytes that are not all of one object go to an address.
+fn copy_bytes(to: u32, from: u32, n: u32, world: &mut World) -> Result<(), NoMemory> {
+    let cells = cells_from(from, n, world)?;
+    put_cells(to, cells.as_slice(), world)?;
+    put_pointers(to, cells.as_slice(), world)
+}
+
+// The byte of a live object at an address, from which on so many bytes are the object's.
+fn place_of(at: u32, n: u32, world: &World) -> Option<Place> {
+    let place = world.live_at(at)?;
+    if has_bytes(place, n, world) {
+        Some(place)
+    } else {
+        None
+    }
+}
+
+// Bytes inside the areas go to an address.
+fn copy_inside(to: u32, from: u32, n: u32, world: &mut World) -> Result<(), NoMemory> {
+    match (place_of(to, n, world), place_of(from, n, world)) {
+        (Some(target), Some(source)) => {
+            world.copy(target.id, target.offset, source.id, source.offset, n)
+        }
+        _ => copy_bytes(to, from, n, world),
+    }
+}
+
+/// Service 5: the bytes from a1 on, a2 of them, are copied to a0, as if by way of another place. It is refused where one of the two ranges is
+/// not inside an area.
+pub fn copy(regs: &Regs, world: &mut World) -> Result<Copied, NoMemory> {
+    let to = regs.get(FIRST).bits;
+    let from = regs.get(FIRST + 1).bits;
+    let n = regs.get(FIRST + 2).bits;
+    if !is_range(to, n, world) || !is_range(from, n, world) {
+        return Ok(Copied::Refused);
+    }
+    copy_inside(to, from, n, world)?;
+    Ok(Copied::Bytes(n))
+}

@@ -1,0 +1,177 @@
+// Service 2: a call of compiled code is entered, or a block of it.
+ghost use Rattle.std.specs.Prelude.{◌≡◌, ◌+◌, [], IfOk};
+ghost use Rattle.sc_interp_access.specs.Gives.{Gives};
+ghost use Rattle.sc_meaning.specs.Calls.{frame_of as frame_of_call};
+ghost use Rattle.sc_meaning.specs.World as worlds;
+ghost use Rattle.sc_services.specs.Blocks as spec;
+
+use crate::arguments::arguments;
+use crate::blocks::{enter_block, set_slots, slots_of};
+use crate::frames::{is_call_of, is_on_stack, is_open};
+use sc_base::{Duplicate, Items, Key, NoMemory, Shared};
+use sc_core_held::{Callee, Text, callee_of};
+use sc_emu::Regs;
+use sc_interp_access::Stop;
+use sc_interp_world::{Born, Event, Frame, World};
+use sc_isa_image::{Image, TextAt};
+use sc_meaning_values::Value;
+use sc_program::FrameTable;
+
+/// What service 2 comes to: a call is entered, or another block; or its test failed, and nothing was done.
+#[derive(Clone, Copy, Debug, PartialEq, Eq)]
+pub enum Entered {
+    Call,
+    Block,
+    Refused,
+}
+
+/// The register that holds the number of a block.
+const BLOCK: u8 = 6;
+
+// The frame of a call.
+fn frame_of(key: &Key, t: &Text, world: &World) -> Result<Frame, NoMemory>
+    ensures { IfOk result (λ f. f ≡ frame_of_call key.now t.now world.now) }
+{
+    let alloc = world.alloc();
+    let key = key.copy(alloc)?;
+    let home = t.core.get().name.copy(alloc)?;
+    let Some(enter) = world.enters().checked_add(1) else {
+        return Err(NoMemory)
+    };
+    Ok(Frame {
+        key,
+        text: t.number,
+        home,
+        form: t.form,
+        enter,
+        line: 0,
+        blocks: Items::new(alloc),
+    })
+}
+
+// The event of a call.
+fn enter_event(key: &Key, t: &Text, world: &World) -> Result<Event, NoMemory>
+    ensures { IfOk result (λ e. e ≡ worlds.Enter key.now t.now.core.name) }
+{
+    let alloc = world.alloc();
+    let key = key.copy(alloc)?;
+    let home = t.core.get().name.copy(alloc)?;
+    Ok(Event::enter(key, home))
+}
+
+// The frame of a call is pushed, and takes its room on the stack.
+fn push_frame(key: &Key, t: &Text, used: u64, world: &mut World) -> Result<(), NoMemory>
+    ensures { IfOk result (λ _. world.new ≡ worlds.pass (worlds.Push (frame_of_call key.now t.now world.old)) (worlds.pass (worlds.Stack used) world.old)) }
+{
+    let frame = frame_of(key, t, world)?;
+    world.use_stack(used)?;
+    world.push(frame)
+}
+
+// A call is entered for which the stack has room.
+fn enter_call(
+    key: &Key,
+    t: &Text,
+    table: &FrameTable,
+    used: u64,
+    vs: &[Value],
+    world: &mut World,
+) -> Result<(), Stop>
+    requires { used ≡ world.old.used + table.now.cost }
+    ensures { Gives (spec.call_entered key.now t.now table.now vs.now world.old) result world.new }
+{
+    push_frame(key, t, used, world)?;
+    let ids = set_slots(slots_of(table, 0), vs, world)?;
+    world.open_block(Born { block: 0, ids })?;
+    let event = enter_event(key, t, world)?;
+    world.happens(event)?;
+    Ok(())
+}
+
+// The call that a text begins with is entered, where the stack has room for it.
+fn enter_if_room(at: &TextAt, t: &Text, vs: &[Value], world: &mut World) -> Result<(), Stop>
+    ensures { Gives (spec.call_entered_if_room at.now.fun t.now at.now.frame vs.now world.old) result world.new }
+{
+    let Some(used) = world.used().checked_add(u64::from(at.frame.cost)) else {
+        return Err(Stop::NoRoom)
+    };
+    if world.stack() < used {
+        let key = at.fun.copy(world.alloc())?;
+        return Err(Stop::StackFull(Shared::new(world.alloc(), key)?));
+    }
+    enter_call(&at.fun, t, &at.frame, used, vs, world)
+}
+
+// Whether the call of a service ends here with the third word of a text to which its function's stub leads.
+fn is_first(regs: &Regs, image: &Image, at: &TextAt) -> bool {
+    let Some(begun) = at.start.checked_add(12) else {
+        return false;
+    };
+    let leads_here = match image.target(&at.fun) {
+        None => false,
+        Some(start) => start == at.start,
+    };
+    begun == regs.pc() && leads_here
+}
+
+// The block of the parameters: a call begins.
+fn enter_text(
+    texts: &[Text],
+    at: &TextAt,
+    regs: &Regs,
+    image: &Image,
+    world: &mut World,
+) -> Result<Entered, Stop> {
+    let Callee::InText(t, _) = callee_of(texts, &at.fun) else {
+        return Ok(Entered::Refused);
+    };
+    if !is_first(regs, image, at) {
+        return Ok(Entered::Refused);
+    }
+    let Ok(count) = u32::try_from(slots_of(&at.frame, 0).len()) else {
+        return Ok(Entered::Refused);
+    };
+    let Some(vs) = arguments(count, regs, world)? else {
+        return Ok(Entered::Refused);
+    };
+    enter_if_room(at, t, vs.as_slice(), world)?;
+    Ok(Entered::Call)
+}
+
+// Another block of the innermost call.
+fn enter_inner(block: u32, at: &TextAt, world: &mut World) -> Result<Entered, Stop> {
+    let is_there = (block as usize) < at.frame.blocks.len();
+    if !is_there || !is_call_of(&at.fun, world) || is_open(block, world) {
+        return Ok(Entered::Refused);
+    }
+    enter_block(block, &at.frame, world)?;
+    Ok(Entered::Block)
+}
+
+/// Service 2, for the block in t1. Block 0 begins a call: the stack is tested, the parameters are born and set to the arguments,
+/// and the call is entered. Another block's objects are born. The registers stand behind the `ecall`.
+///
+/// It is refused where the stack pointer is not at the low end of the stack that is used; for block 0 where the `ecall` is not the
+/// third word of a text that its function's stub leads to, or an argument is outside the stack; else where the text is not the
+/// innermost call's, or the block not in its table, or open.
+///
+/// # Errors
+///
+/// `StackFull` and `BirthLimit`.
+pub fn enter(
+    texts: &[Text],
+    regs: &Regs,
+    image: &Image,
+    world: &mut World,
+) -> Result<Entered, Stop> {
+    if !is_on_stack(regs, world) {
+        return Ok(Entered::Refused);
+    }
+    let Some(at) = image.text_at(regs.pc().wrapping_sub(4)) else {
+        return Ok(Entered::Refused);
+    };
+    match regs.get(BLOCK).bits {
+        0 => enter_text(texts, at, regs, image, world),
+        block => enter_inner(block, at, world),
+    }
+}

@@ -1,0 +1,35 @@
+// Service 4: a number gets the tag of what stands there.
+use crate::arguments::FIRST;
+use crate::served::Served;
+use sc_base::Word;
+use sc_emu::Regs;
+use sc_interp_world::World;
+
+/// Where the stubs of functions begin, each of eight bytes.
+const STUBS: u32 = 0x0001_0000;
+
+/// Where the area of stubs ends.
+const STUBS_END: u32 = STUBS + 8 * 65_536;
+
+// The tag of what stands at an address: of the live object that holds it, or of functions.
+fn tag_at(at: u32, world: &World) -> Option<u32> {
+    if STUBS <= at && at < STUBS_END && at % 8 == 0 {
+        return Some(Word::FUNCTION);
+    }
+    match world.live_at(at) {
+        None => None,
+        Some(place) => Some(place.id),
+    }
+}
+
+/// Service 4: a0 gets the tag of the live object there, or that of functions at a stub. It is refused where there is neither.
+pub fn tag(regs: &mut Regs, world: &World) -> Served {
+    let bits = regs.get(FIRST).bits;
+    match tag_at(bits, world) {
+        None => Served::Refused,
+        Some(tag) => {
+            regs.set(FIRST, Word { bits, tag });
+            Served::Done
+        }
+    }
+}
