@@ -49,12 +49,7 @@ fn linkings(alloc: Global, modules: &[Present]) -> Result<Items<Linking>, NoMemo
 }
 
 // A module as it is linked where the one with a name has a form.
-fn linking_formed(
-    alloc: Global,
-    name: &Name,
-    form: Form,
-    p: &Present,
-) -> Result<Linking, NoMemory>
+fn linking_formed(alloc: Global, name: &Name, form: Form, p: &Present) -> Result<Linking, NoMemory>
     ensures { IfOk result (λ l. l ≡ spec.linking_of (spec.formed name.now form p.now)) }
 {
     if is_named(name, p) {
