@@ -59,10 +59,10 @@ fn copied(alloc: Global, file: &str) -> Result<Bytes, NoMemory>
 }
 
 // What was read beside an object's file.
-fn compared_got(alloc: Global, file: &str, got: FileGot, object: &Object) -> Compared
-    ensures { (held : Option FileMap) (before now : ℕ) → FindsTold held file.now got → (got ≡ got.Failed → Rose before now) → spec.Compares held file.now object.now before now result }
+fn compared_got(alloc: Global, file: &str, read: FileGot, object: &Object) -> Compared
+    ensures { (held : Option FileMap) (before now : ℕ) → FindsTold held file.now read → (read ≡ got.Failed → Rose before now) → spec.Compares held file.now object.now before now result }
 {
-    match got {
+    match read {
         FileGot::Bytes(bytes) => compared_bytes(alloc, bytes.as_slice(), object),
         FileGot::Missing => match copied(alloc, file) {
             Ok(file) => Compared::Denied(Denied::NoFile(file)),
@@ -89,8 +89,8 @@ pub fn compared<F: Files>(alloc: Global, name: &Name, object: &Object, files: &m
 {
     match object_file(alloc, name) {
         Ok(file) => {
-            let got = files.read(file.as_str());
-            compared_got(alloc, file.as_str(), got, object)
+            let read = files.read(file.as_str());
+            compared_got(alloc, file.as_str(), read, object)
         }
         Err(_) => Compared::NoMemory,
     }
