@@ -25,6 +25,17 @@ pub enum Compared {
     NoMemory,
 }
 
+// Whether bytes are an object's file of the first version.
+fn is_first(alloc: Global, bytes: &[u8]) -> Result<bool, NoMemory>
+    ensures { IfOk result (λ first. spec.IsFirst bytes.now first) }
+{
+    match version(alloc, bytes) {
+        Ok(Some(v)) => Ok(v == 1),
+        Ok(None) => Ok(false),
+        Err(e) => Err(e),
+    }
+}
+
 // Bytes that differ from the object's file at a place.
 fn not_ours(alloc: Global, at: usize, bytes: &[u8]) -> Compared
     ensures { spec.NotOursSaid bytes.now at result }
@@ -32,9 +43,8 @@ fn not_ours(alloc: Global, at: usize, bytes: &[u8]) -> Compared
     let Ok(at) = u32::try_from(at) else {
         return Compared::NoMemory;
     };
-    match version(alloc, bytes) {
-        Ok(Some(1)) => Compared::Denied(Denied::NotOurs(at, true)),
-        Ok(_) => Compared::Denied(Denied::NotOurs(at, false)),
+    match is_first(alloc, bytes) {
+        Ok(first) => Compared::Denied(Denied::NotOurs(at, first)),
         Err(_) => Compared::NoMemory,
     }
 }
