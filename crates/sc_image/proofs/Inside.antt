@@ -19,7 +19,7 @@ use Rattle.sc_link.specs.Relocation.{words}
 use Rattle.sc_link.specs.Symbols.{is_text, key_of}
 use Rattle.sc_places.specs.Layout.{behind_static, behind_text, places_from, static_end, text_end}
 use Rattle.sc_places.proofs.Growing.{Kept, gets, keeps, static-within, text-within}
-use Rattle.sc_image.specs.declared.placing.Linking.{Linking}
+use Rattle.sc_image.specs.declared.module.Linking.{Linking}
 use Rattle.sc_image.specs.Placing.{Fits, entry_at, placed_from, placed_modules, static_behind, statics_behind, text_behind, texts_behind}
 use Rattle.sc_image.specs.Refused.{IsShort}
 use Rattle.sc_image.proofs.Rooms.{static-grows-one, statics-grow, text-grows-one, texts-grow}

@@ -3,7 +3,7 @@ use Rattle.std.proofs.Common.{◌≡◌, ℕ, ◌<◌, ◌≤◌, List, [], ◌�
 use Rattle.std.specs.List.{slice_get}
 use Rattle.sc_link.specs.Entries.{is_object}
 use Rattle.sc_places.proofs.Growing.{static-grows, text-grows}
-use Rattle.sc_image.specs.declared.placing.Linking.{Linking}
+use Rattle.sc_image.specs.declared.module.Linking.{Linking}
 use Rattle.sc_image.specs.Placing.{static_behind, statics_behind, text_behind, texts_behind}
 
 none-some : {A : Type 0} (r : Option A) (x : A) → r ≡ None → r ≡ Some x → ⊥

@@ -6,7 +6,8 @@ ghost use Rattle.sc_image.specs.Placing as spec;
 ghost use Rattle.sc_image.specs.Refused.{IsShort};
 
 use crate::checking::are_linkable;
-use crate::placing::{Linking, place_modules};
+use crate::module::Linking;
+use crate::placing::place_modules;
 use crate::room::full_area;
 use sc_base::Key;
 use sc_isa_image::Image;

@@ -2,7 +2,7 @@
 ghost use Rattle.std.specs.Prelude.{◌≡◌, ◌≤◌, ◌<◌, MatchBool, MatchOption};
 ghost use Rattle.sc_image.specs.Placing as spec;
 
-use crate::placing::{Linking, is_object};
+use crate::module::{Linking, is_object};
 use sc_base::Key;
 use sc_link::{Area, MOST_FUNCTIONS, STATICS, STATICS_END, TEXTS, TEXTS_END};
 use sc_places::{static_end, text_end};
