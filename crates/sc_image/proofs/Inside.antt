@@ -7,6 +7,7 @@ use Rattle.sc_base.specs.declared.key.Key.{Key}
 use Rattle.sc_object.specs.declared.object.FrameTable.{FrameTable}
 use Rattle.sc_object.specs.declared.object.Section.{Section}
 use Rattle.sc_object.specs.declared.object.Symbol.{Symbol}
+use Rattle.sc_isa_image.specs.declared.image.Image.{Image}
 use Rattle.sc_isa_image.specs.declared.text.Text.{Text}
 use Rattle.sc_isa_image.specs.Texts.{end_of}
 use Rattle.sc_link.specs.declared.placed.Placed.{Placed}
@@ -15,6 +16,7 @@ use Rattle.sc_link.specs.declared.placed.LinkFault.TheVariants as fault
 use Rattle.sc_link.specs.declared.placed.Area.TheVariants as area
 use Rattle.sc_link.specs.Areas.{IsRefused, are_statics_inside, in_statics, in_text, inside_at, is_inside}
 use Rattle.sc_link.specs.Entries.{each, is_object, text_at, text_by, text_of, texts_if, texts_in, texts_of}
+use Rattle.sc_link.specs.Linked.{IsLinked}
 use Rattle.sc_link.specs.Relocation.{words}
 use Rattle.sc_link.specs.Symbols.{is_text, key_of}
 use Rattle.sc_places.specs.Layout.{behind_static, behind_text, places_from, static_end, text_end}
@@ -166,8 +168,11 @@ statics-inside text statics (m ∷ ms) low high =
     and-true (list_all (is_inside (entry_at text statics m)) m.object.symbols) (are_statics_inside (placed_from (text_behind text m) (static_behind statics m) ms)) (all-every (is_inside (entry_at text statics m)) m.object.symbols (object-inside (entry_at text statics m) (is_object m.form) text statics refl low k)) (statics-inside (text_behind text m) (static_behind statics m) ms l high)
 
 -- where all modules fit, linking refuses them for want of memory alone
-pub refused-short : (ms : List Linking) (funs : List Key) (es : List Placed) (f : LinkFault) → es ≡ placed_modules ms → Fits ms funs → IsRefused es funs f → IsShort ms funs f
-refused-short ms funs es (fault.Space area.Stubs) same fits r = r
-refused-short ms funs es (fault.Space area.Text) same fits r = absurd (true≢false (sym (texts-inside 0x00100000 0x08000000 ms (omega arith) fits.texts) ∙ (ap (λ (ds : List Placed). list_all in_text (texts_in ds)) (sym same) ∙ r)))
-refused-short ms funs es (fault.Space area.Static) same fits r = absurd (true≢false (sym (statics-inside 0x00100000 0x08000000 ms (omega arith) fits.statics) ∙ (ap are_statics_inside (sym same) ∙ r)))
-refused-short ms funs es fault.NoMemory same fits r = r
+pub refused_short : (ms : List Linking) (funs : List Key) (es : List Placed) (f : LinkFault) → es ≡ placed_modules ms → Fits ms funs → IsRefused es funs f → IsShort ms funs f
+refused_short ms funs es (fault.Space area.Stubs) same fits r = r
+refused_short ms funs es (fault.Space area.Text) same fits r = absurd (true≢false (sym (texts-inside 0x00100000 0x08000000 ms (omega arith) fits.texts) ∙ (ap (λ (ds : List Placed). list_all in_text (texts_in ds)) (sym same) ∙ r)))
+refused_short ms funs es (fault.Space area.Static) same fits r = absurd (true≢false (sym (statics-inside 0x00100000 0x08000000 ms (omega arith) fits.statics) ∙ (ap are_statics_inside (sym same) ∙ r)))
+refused_short ms funs es fault.NoMemory same fits r = r
+
+pub linked_as : (ms : List Linking) (funs : List Key) (es : List Placed) (i : Image) → es ≡ placed_modules ms → IsLinked es funs i → IsLinked (placed_modules ms) funs i
+linked_as ms funs es i same l = subst (λ ds. IsLinked ds funs i) same l

@@ -19,22 +19,17 @@ pub fn place_modules(alloc: Global, modules: &[Linking]) -> Result<Items<Placed>
     let mut text = TEXTS;
     let mut statics = STATICS;
     let mut left = modules;
-    'placing: while let [module, rest @ ..] = left {
-        placed.push(entry_at(alloc, text, statics, module)?)?;
-        text = text_behind(text, module);
-        statics = static_behind(statics, module);
+    'placing: while let [first, rest @ ..] = left {
+        placed.push(entry_at(alloc, text, statics, first)?)?;
+        text = text_behind(text, first);
+        statics = static_behind(statics, first);
         left = rest;
     }
     Ok(placed)
 }
 
 // The entry of a module that is placed from two addresses on, where it fits.
-fn entry_at(
-    alloc: Global,
-    text: u32,
-    statics: u32,
-    module: &Linking,
-) -> Result<Placed, NoMemory>
+fn entry_at(alloc: Global, text: u32, statics: u32, module: &Linking) -> Result<Placed, NoMemory>
     requires texts { spec.text_behind text «module».now ≤ TEXTS_END }
     requires statics { spec.static_behind statics «module».now ≤ STATICS_END }
     ensures { IfOk result (λ e. e ≡ spec.entry_at text statics «module».now) }
