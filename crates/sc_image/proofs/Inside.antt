@@ -1,5 +1,5 @@
 -- Where all modules fit, all that is placed is inside its area.
-use Rattle.std.proofs.Common.{◌≡◌, ℕ, zero, suc, ◌+◌, ◌*◌, ◌/◌, ◌<◌, ◌≤◌, ◌&&◌, ◌||◌, Bool, true, false, cond, List, [], ◌∷◌, ◌++◌, length, refl, sym, ap, ◌∙◌, Option, Some, None, arith, subst, true≢false}
+use Rattle.std.proofs.Common.{◌≡◌, ℕ, ◌+◌, ◌*◌, ◌/◌, ◌≤◌, ◌&&◌, ◌||◌, Bool, true, false, cond, List, [], ◌∷◌, ◌++◌, length, refl, sym, ap, ◌∙◌, Option, Some, None, arith, subst, true≢false}
 use Rattle.std.proofs.lemmas.Bool.Decides.{nat_tests}
 use Rattle.std.specs.Prelude.{nat_le, option_and_then, option_to_list}
 use Rattle.std.specs.List.{list_all, slice_get}
@@ -9,7 +9,6 @@ use Rattle.sc_object.specs.declared.object.Section.{Section}
 use Rattle.sc_object.specs.declared.object.Symbol.{Symbol}
 use Rattle.sc_isa_image.specs.declared.image.Image.{Image}
 use Rattle.sc_isa_image.specs.declared.text.Text.{Text}
-use Rattle.sc_isa_image.specs.Texts.{end_of}
 use Rattle.sc_link.specs.declared.placed.Placed.{Placed}
 use Rattle.sc_link.specs.declared.placed.LinkFault.{LinkFault}
 use Rattle.sc_link.specs.declared.placed.LinkFault.TheVariants as fault
@@ -19,7 +18,7 @@ use Rattle.sc_link.specs.Entries.{each, is_object, text_at, text_by, text_of, te
 use Rattle.sc_link.specs.Linked.{IsLinked}
 use Rattle.sc_link.specs.Relocation.{words}
 use Rattle.sc_link.specs.Symbols.{is_text, key_of}
-use Rattle.sc_places.specs.Layout.{behind_static, behind_text, places_from, static_end, text_end}
+use Rattle.sc_places.specs.Layout.{behind_static, places_from, static_end, text_end}
 use Rattle.sc_places.proofs.Growing.{Kept, gets, keeps, static-within, text-within}
 use Rattle.sc_image.specs.declared.module.Linking.{Linking}
 use Rattle.sc_image.specs.Placing.{Fits, entry_at, placed_from, placed_modules, static_behind, statics_behind, text_behind, texts_behind}

@@ -1,5 +1,5 @@
 -- The addresses behind modules.
-use Rattle.std.proofs.Common.{◌≡◌, ℕ, ◌<◌, ◌≤◌, List, [], ◌∷◌, ◌++◌, refl, sym, ◌∙◌, Option, Some, None, arith, subst}
+use Rattle.std.proofs.Common.{◌≡◌, ℕ, ◌<◌, ◌≤◌, List, [], ◌∷◌, refl, sym, ◌∙◌, Option, Some, None, arith, subst}
 use Rattle.std.specs.List.{slice_get}
 use Rattle.sc_link.specs.Entries.{is_object}
 use Rattle.sc_places.proofs.Growing.{static-grows, text-grows}
