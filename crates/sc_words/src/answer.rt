@@ -243,7 +243,11 @@ pub fn answer_text(alloc: Global, answer: &Answer) -> Result<Bytes, NoMemory>
         Answer::Silent => Ok(Bytes::from_vec(Vec::new(alloc))),
         Answer::Loaded(name) => line_of(alloc, b"> loaded ", name.as_slice()),
         Answer::Unloaded(name) => line_of(alloc, b"> unloaded ", name.as_slice()),
-        Answer::Swapped(name, form) => line_of(alloc, b"> ", swapped_text(alloc, name, *form)?.as_slice()),
+        Answer::Swapped(name, form) => line_of(
+            alloc,
+            b"> ",
+            swapped_text(alloc, name, *form)?.as_slice(),
+        ),
         Answer::Edited(name) => line_of(alloc, b"> edited ", name.as_slice()),
         Answer::Compiled(name) => line_of(alloc, b"> compiled ", name.as_slice()),
         Answer::StopSet(number, stop) => stop_line(alloc, *number, stop),

@@ -152,11 +152,13 @@ fn unload_of(alloc: Global, rest: &[u8]) -> Result<Command, NoMemory>
 fn form_of(word: &[u8]) -> Option<Form>
     ensures { result ≡ form_of word.now }
 {
-    match word {
-        b"source" => Some(Form::Source),
-        b"object" => Some(Form::Object),
-        _ => None,
+    if word == b"source".as_slice() {
+        return Some(Form::Source);
     }
+    if word == b"object".as_slice() {
+        return Some(Form::Object);
+    }
+    None
 }
 
 fn swap_of(alloc: Global, rest: &[u8]) -> Result<Command, NoMemory>
