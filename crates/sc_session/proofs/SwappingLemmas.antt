@@ -1,14 +1,18 @@
 -- The answers to `swap`, of what was found of the file.
-use Rattle.std.proofs.Common.{◌≡◌, ℕ, List, Option, Some, None, refl, subst}
+use Rattle.std.proofs.Common.{◌≡◌, ◌==◌, ◌↔◌, ℕ, true, false, List, Option, Some, None, refl, ap, sym, subst, ◌∙◌, arith}
+use Rattle.std.proofs.lemmas.Bool.Decides.{nat_tests}
 use Rattle.sc_base.specs.declared.memory.Form.TheVariants as form
+use Rattle.sc_object.specs.Spelling.{spelled}
 use Rattle.sc_object.specs.declared.object.Object.{Object}
-use Rattle.sc_outside.specs.Stored.{FileMap}
+use Rattle.sc_outside.specs.declared.files.FileGot.TheVariants as got
+use Rattle.sc_outside.specs.Stored.{FileMap, FindsTold}
+use Rattle.sc_session_forms.specs.Differences.{difference}
 use Rattle.sc_session.specs.declared.swapping.Compared.{Compared}
 use Rattle.sc_session.specs.declared.swapping.Compared.TheVariants as compared
 use Rattle.sc_session.specs.Compiling.{object_file}
 use Rattle.sc_session.specs.Modules.{object_named}
 use Rattle.sc_session.specs.Plain.{Plain}
-use Rattle.sc_session.specs.Swapping.{Compares}
+use Rattle.sc_session.specs.Swapping.{Compares, ComparesBytes, DiffersSo, HasBytes, IsFirst, NotOursSaid}
 use Rattle.sc_session.specs.Transcript.{IsKept, Moment, Reforms, Swaps, moment}
 use Rattle.sc_words.specs.declared.answer.Answer.{Answer}
 use Rattle.sc_words.specs.declared.answer.Answer.TheVariants as answer
@@ -37,3 +41,39 @@ module _ (old : Moment) (name : List ℕ) (object : Object) (held : Option FileM
 
 pub swap_none : (old : Moment) (name : List ℕ) (held : Option FileMap) (now : ℕ) (new : Plain) → held ≡ old.held → new ≡ old.session → Swaps old name form.Object answer.NoMemory (moment new held now)
 swap_none old name held now new same stays = (stays, same)
+
+-- ---- the file
+
+same_number : (x y : ℕ) → (x == y) ≡ true → x ≡ y
+same_number x y e = grind (arith, nat_tests)
+
+number_same : (x y : ℕ) → x ≡ y → (x == y) ≡ true
+number_same x y e = grind (arith, nat_tests)
+
+the_same : (x y : ℕ) → Some x ≡ Some y → x ≡ y
+the_same x y e = cc
+
+no_one : {P : Type 0} (n : ℕ) → None ≡ Some n → P
+no_one n e = absurd (cc)
+
+not_true : {P : Type 0} → false ≡ true → P
+not_true e = absurd (cc)
+
+pub first_some : (bytes : List ℕ) (v : ℕ) (P : Type 0) → ((Some v ≡ Some 1) ↔ P) → ((v == 1) ≡ true) ↔ P
+first_some bytes v P h = (λ e. h.0 (ap Some (same_number v 1 e)), λ p. number_same v 1 (the_same v 1 (h.1 p)))
+
+pub first_none : (P : Type 0) → ((None ≡ Some 1) ↔ P) → (false ≡ true) ↔ P
+first_none P h = (λ e. not_true e, λ p. no_one 1 (h.1 p))
+
+pub bytes_compared : (held : Option FileMap) (file : List ℕ) (object : Object) (before now : ℕ) (bytes : List ℕ) (c : Compared) → HasBytes held file bytes → ComparesBytes bytes object c → Compares held file object before now c
+bytes_compared held file object before now bytes compared.Same has is = subst (HasBytes held file) is has
+bytes_compared held file object before now bytes (compared.Denied (denied.NotOurs at first)) has differs = (bytes, has, differs)
+bytes_compared held file object before now bytes (compared.Denied d) has differs = absurd differs
+bytes_compared held file object before now bytes compared.NoMemory has said = tt
+
+pub not_ours_so : (bytes kept : List ℕ) (object : Object) (at : ℕ) (c : Compared) → difference bytes kept ≡ Some at → kept ≡ spelled object → NotOursSaid bytes at c → ComparesBytes bytes object c
+not_ours_so bytes kept object at compared.Same differs is said = absurd said
+not_ours_so bytes kept object at (compared.Denied (denied.NotOurs place first)) differs is said =
+    (subst (λ k. difference bytes k ≡ Some place) is (differs ∙ ap Some (sym said.0)), said.1)
+not_ours_so bytes kept object at (compared.Denied d) differs is said = absurd said
+not_ours_so bytes kept object at compared.NoMemory differs is said = tt

@@ -161,7 +161,13 @@ impl Session {
     }
 
     // The module with a name gets a form.
-    pub(crate) fn swap<F: Files>(&mut self, alloc: Global, name: Name, form: Form, files: &mut F) -> Answer
+    pub(crate) fn swap<F: Files>(
+        &mut self,
+        alloc: Global,
+        name: Name,
+        form: Form,
+        files: &mut F,
+    ) -> Answer
         requires named { is_module_name name ≡ true }
         requires present { if_absent name (texts self.old.modules) ≡ None }
         ensures answer { spec.Swaps (moment self.old (F.held files.old) (F.faults files.old)) name form result (moment self.new (F.held files.new) (F.faults files.new)) }

@@ -9,9 +9,9 @@ use sc_base::{Duplicate, Form, Items, Name, NoMemory};
 use sc_core_held::Numbers;
 use sc_image::{Linking, full_area, image_of};
 use sc_isa_image::Image;
-use sc_link::LinkFault;
+use sc_link::{Area as Place, LinkFault};
 use sc_session_forms::functions_by;
-use sc_words::{Area, Denied};
+use sc_words::Area;
 use std::alloc::Global;
 
 /// The module with a name gets a form.
@@ -49,12 +49,7 @@ fn linkings(alloc: Global, modules: &[Present]) -> Result<Items<Linking>, NoMemo
 }
 
 // A module as it is linked where the one with a name has a form.
-fn linking_formed(
-    alloc: Global,
-    name: &Name,
-    form: Form,
-    p: &Present,
-) -> Result<Linking, NoMemory>
+fn linking_formed(alloc: Global, name: &Name, form: Form, p: &Present) -> Result<Linking, NoMemory>
     ensures { IfOk result (λ l. l ≡ spec.linking_of (spec.formed name.now form p.now)) }
 {
     if is_named(name, p) {
@@ -80,13 +75,13 @@ fn linkings_formed(
     Ok(all)
 }
 
-fn area_of(area: sc_link::Area) -> Area
+fn area_of(area: Place) -> Area
     ensures { result ≡ spec.area_of area }
 {
     match area {
-        sc_link::Area::Stubs => Area::Stubs,
-        sc_link::Area::Text => Area::Text,
-        sc_link::Area::Static => Area::Static,
+        Place::Stubs => Area::Stubs,
+        Place::Text => Area::Text,
+        Place::Static => Area::Static,
     }
 }
 

@@ -22,12 +22,7 @@ pub struct Present {
 }
 
 // A module with its object, which is shared.
-fn present(
-    alloc: Global,
-    text: Text,
-    scopes: Scopes,
-    object: Object,
-) -> Result<Present, NoMemory>
+fn present(alloc: Global, text: Text, scopes: Scopes, object: Object) -> Result<Present, NoMemory>
     ensures { IfOk result (λ p. p ≡ record { text = text; scopes = scopes; object = object }) }
 {
     match Shared::new(alloc, object) {

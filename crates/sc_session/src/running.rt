@@ -31,7 +31,12 @@ use std::mem;
 
 impl Session {
     // The run goes on from where it stands.
-    pub(crate) fn walk<K: Sink>(&mut self, alloc: Global, walk: Walk, out: &mut K) -> Result<Answer, Unsent>
+    pub(crate) fn walk<K: Sink>(
+        &mut self,
+        alloc: Global,
+        walk: Walk,
+        out: &mut K,
+    ) -> Result<Answer, Unsent>
         requires { mixing.IsActive self.old.state }
         ensures walks { spec.WalksOutBy (mixing.is_mixed self.old.state) (K.written out.old) (K.written out.new) self.old walk result self.new }
         ensures later { K.faults out.old ≤ K.faults out.new }

@@ -392,7 +392,13 @@ impl Session {
     {
         let run = mixed_in(&self.state);
         let declaring = run.declaring();
-        mixed_value_told(alloc, self.modules.as_slice(), declaring, run.world(), &name)
+        mixed_value_told(
+            alloc,
+            self.modules.as_slice(),
+            declaring,
+            run.world(),
+            &name,
+        )
     }
 
     fn source_value(&self, alloc: Global, name: Name) -> Answer

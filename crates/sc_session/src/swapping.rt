@@ -25,6 +25,17 @@ pub enum Compared {
     NoMemory,
 }
 
+// Whether bytes are an object's file of the first version.
+fn is_first(alloc: Global, bytes: &[u8]) -> Result<bool, NoMemory>
+    ensures { IfOk result (λ first. spec.IsFirst bytes.now first) }
+{
+    match version(alloc, bytes) {
+        Ok(Some(v)) => Ok(v == 1),
+        Ok(None) => Ok(false),
+        Err(e) => Err(e),
+    }
+}
+
 // Bytes that differ from the object's file at a place.
 fn not_ours(alloc: Global, at: usize, bytes: &[u8]) -> Compared
     ensures { spec.NotOursSaid bytes.now at result }
@@ -32,9 +43,8 @@ fn not_ours(alloc: Global, at: usize, bytes: &[u8]) -> Compared
     let Ok(at) = u32::try_from(at) else {
         return Compared::NoMemory;
     };
-    match version(alloc, bytes) {
-        Ok(Some(1)) => Compared::Denied(Denied::NotOurs(at, true)),
-        Ok(_) => Compared::Denied(Denied::NotOurs(at, false)),
+    match is_first(alloc, bytes) {
+        Ok(first) => Compared::Denied(Denied::NotOurs(at, first)),
         Err(_) => Compared::NoMemory,
     }
 }
@@ -59,10 +69,10 @@ fn copied(alloc: Global, file: &str) -> Result<Bytes, NoMemory>
 }
 
 // What was read beside an object's file.
-fn compared_got(alloc: Global, file: &str, got: FileGot, object: &Object) -> Compared
-    ensures { (held : Option FileMap) (before now : ℕ) → FindsTold held file.now got → (got ≡ got.Failed → Rose before now) → spec.Compares held file.now object.now before now result }
+fn compared_got(alloc: Global, file: &str, read: FileGot, object: &Object) -> Compared
+    ensures { (held : Option FileMap) (before now : ℕ) → FindsTold held file.now read → (read ≡ got.Failed → Rose before now) → spec.Compares held file.now object.now before now result }
 {
-    match got {
+    match read {
         FileGot::Bytes(bytes) => compared_bytes(alloc, bytes.as_slice(), object),
         FileGot::Missing => match copied(alloc, file) {
             Ok(file) => Compared::Denied(Denied::NoFile(file)),
@@ -81,12 +91,7 @@ fn compared_got(alloc: Global, file: &str, got: FileGot, object: &Object) -> Com
 }
 
 /// The file of a module's object beside the object that is kept.
-pub fn compared<F: Files>(
-    alloc: Global,
-    name: &Name,
-    object: &Object,
-    files: &mut F,
-) -> Compared
+pub fn compared<F: Files>(alloc: Global, name: &Name, object: &Object, files: &mut F) -> Compared
     requires { is_module_name name.now ≡ true }
     ensures compares { spec.Compares (F.held files.old) (file_of_object name.now) object.now (F.faults files.old) (F.faults files.new) result }
     ensures later { F.faults files.old ≤ F.faults files.new }
@@ -94,8 +99,8 @@ pub fn compared<F: Files>(
 {
     match object_file(alloc, name) {
         Ok(file) => {
-            let got = files.read(file.as_str());
-            compared_got(alloc, file.as_str(), got, object)
+            let read = files.read(file.as_str());
+            compared_got(alloc, file.as_str(), read, object)
         }
         Err(_) => Compared::NoMemory,
     }

@@ -1,5 +1,5 @@
 // The active calls of a run of both forms.
-ghost use Rattle.std.specs.Prelude.{◌≡◌, ◌++◌, ◌∷◌, [], List, None, Some, IfOk, MatchOption, slice_get};
+ghost use Rattle.std.specs.Prelude.{◌≡◌, ◌∷◌, [], List, None, Some, IfOk, MatchOption, slice_get};
 ghost use Rattle.sc_meaning.specs.World as worlds;
 ghost use Rattle.sc_session_forms.specs.Calls as spec;
 

@@ -1,5 +1,5 @@
 // What is said of where a run of both forms halted.
-ghost use Rattle.std.specs.Prelude.{◌≡◌, ◌<◌, ◌++◌, Some, IfOk, codes, drop, length};
+ghost use Rattle.std.specs.Prelude.{◌≡◌, ◌<◌, ◌++◌, Some, IfOk, OnOk, codes, length};
 ghost use Rattle.sc_interp_world.specs.Outputs.{output};
 ghost use Rattle.sc_session_forms.specs.Halts as spec;
 

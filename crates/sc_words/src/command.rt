@@ -1,7 +1,7 @@
 // What a line asks for.
 ghost use Rattle.std.specs.Prelude.{◌≡◌, true, [], ◌∷◌, IfOk, OnErr, IfSome, IfNone};
 ghost use Rattle.sc_words.specs.Lines.{words_of};
-ghost use Rattle.sc_words.specs.Parts.{parts_of};
+ghost use Rattle.sc_words.specs.Parts.{is_module_name, parts_of};
 ghost use Rattle.sc_words.specs.Commands.{command_of, command_by, alone, load_of, unload_of, swap_of, swap_to, form_of, edit_of, compile_of, run_of, stop_of, in_function, at_line, delete_of, print_of, is_comment, IsNamed, IsAnswered};
 
 use crate::line::next_word;
