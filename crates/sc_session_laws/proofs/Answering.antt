@@ -1,6 +1,8 @@
 -- What the answers to commands tell of a session's run.
 use Rattle.std.proofs.Common.{◌≡◌, inl, inr, ℕ, Bool, true, false, if◌then◌else◌, List, [], ◌∷◌, refl, sym, ap, subst, Option, Some, None}
 use Rattle.std.specs.List.{filter}
+use Rattle.std.specs.Str.{bytes_eq}
+use Rattle.sc_base.specs.declared.memory.Form.{Form}
 use Rattle.sc_core_formed.specs.Modules.{formed}
 use Rattle.sc_meaning.specs.Versions.{Text}
 use Rattle.sc_interp.specs.Ends.{start_of}
@@ -9,6 +11,7 @@ use Rattle.sc_words.specs.declared.answer.Answer.TheVariants as answer
 use Rattle.sc_words.specs.declared.command.Command.{Command}
 use Rattle.sc_words.specs.declared.command.Command.TheVariants as command
 use Rattle.sc_words.specs.declared.denied.Denied.{Denied}
+use Rattle.sc_words.specs.declared.denied.Denied.TheVariants as denied
 use Rattle.sc_words.specs.declared.stop.StopAt.{StopAt}
 use Rattle.sc_words.specs.declared.stop.Walk.{Walk}
 use Rattle.sc_words.specs.declared.stop.Walk.TheVariants as walk
@@ -17,7 +20,11 @@ use Rattle.sc_world.specs.Standing.{Standing}
 use Rattle.sc_world_laws.specs.Formed.{AreFormed}
 use Rattle.sc_world_laws.proofs.LeanFormed.{formed_lean}
 use Rattle.sc_world_laws.proofs.Pausing.{starts_lean}
+use Rattle.sc_world.specs.declared.halt.Halt.{Halt}
+use Rattle.sc_world.specs.declared.halt.Halt.TheVariants as halt
+use Rattle.sc_meaning.specs.World.{World}
 use Rattle.sc_session_conflicts.specs.Clashes.{is_other}
+use Rattle.sc_session_forms.specs.Forms.{are_sources}
 use Rattle.sc_session.specs.declared.limits.Limits.{Limits}
 use Rattle.sc_session.specs.declared.state.State.{State}
 use Rattle.sc_session.specs.declared.state.State.TheVariants as state
@@ -27,10 +34,12 @@ use Rattle.sc_session.specs.Loading.{in_place, with_module, file_of, file_or}
 use Rattle.sc_session.specs.Modules.{texts, present_of}
 use Rattle.sc_session.specs.declared.present.Present.{Present}
 use Rattle.sc_session.specs.Stopping.{Sets, places, with_stop, without_stop}
+use Rattle.sc_session.specs.Linking.{with_form}
+use Rattle.sc_session.specs.Mixing.{is_mixed, mixed_state, IsGivenUp, MixedWalks, MixedWent, WalksBy}
 use Rattle.sc_session.specs.Going as going
 use Rattle.sc_session.specs.Going.{in_state, IsCutOff, cut_off, RunsIn, Went}
-use Rattle.sc_session.specs.Transcript.{Moment, moment, empty, Loads, Edits, joined, replaced, unloaded, unended, asked, RunFirst, Runs, Carried, Decides, AnswersTo}
-use Rattle.sc_session_laws.specs.Courses.{Begins, Course, Stays, Stands, StandsIn, RunTells, WalkTells, Tells, IsTold}
+use Rattle.sc_session.specs.Transcript.{Moment, moment, empty, Loads, Edits, Swaps, joined, replaced, unloaded, swapped, unended, asked, RunFirst, Runs, MixedRuns, RunsBy, Carried, Decides, AnswersTo}
+use Rattle.sc_session_laws.specs.Courses.{Begins, Course, Stays, Stands, StandsIn, RunsSoBy, WalksSoBy, RunTells, WalkTells, Tells, IsTold}
 use Rattle.sc_session_laws.specs.Follows.{course_of, Follows, FollowsIn, Keeps}
 use Rattle.sc_session_laws.proofs.Going.{begins, went}
 use Rattle.sc_session_laws.proofs.Starting.{starts_fresh}
@@ -57,6 +66,15 @@ one_formed false q ps p = p.1
 kept_formed : (keep : Present → Bool) (ps : List Present) → AreFormed (texts ps) → AreFormed (texts (filter keep ps))
 kept_formed keep [] p = tt
 kept_formed keep (q ∷ qs) p = one_formed (keep q) q (filter keep qs) (p.0, kept_formed keep qs p.1)
+
+-- a form of a module leaves what it was checked to be
+present_formed : (b : Bool) (f : Form) (p : Present) (ps : List Present) → formed p.text.core ≡ true → AreFormed (texts ps) → AreFormed (texts ((if b then record p { text = record p.text { form = f } } else p) ∷ ps))
+present_formed true f p ps e h = (e, h)
+present_formed false f p ps e h = (e, h)
+
+swapped_formed : (name : List ℕ) (f : Form) (ps : List Present) → AreFormed (texts ps) → AreFormed (texts (with_form name f ps))
+swapped_formed name f [] p = tt
+swapped_formed name f (q ∷ qs) p = present_formed (bytes_eq q.text.core.name name) f q (with_form name f qs) p.0 (swapped_formed name f qs p.1)
 
 -- ---- the run stays where it is, or is there no more
 
@@ -94,6 +112,8 @@ unended_follows : (modules : List Text) (s : State) (run : Option Course) → Fo
 unended_follows modules state.Idle run f = f
 unended_follows modules (state.Stopped r) run f = f
 unended_follows modules (state.Paused r) run f = f
+unended_follows modules (state.StoppedMixed w) run f = f
+unended_follows modules (state.PausedMixed w) run f = f
 unended_follows modules state.Ended run f = f
 
 asked_keeps : (c : Command) (session : Plain) (run : Option Course) → Keeps session run → Keeps (asked c session) run
@@ -112,6 +132,8 @@ going_run : (modules : List Text) (s : State) (r : Option Standing) (run : Optio
 going_run modules state.Idle r run p f = absurd p
 going_run modules (state.Stopped q) r run p f = subst (λ x. Follows modules x run) (sym p) f
 going_run modules (state.Paused q) r run p f = subst (λ x. Follows modules x run) (sym p) f
+going_run modules (state.StoppedMixed w) r run p f = absurd p
+going_run modules (state.PausedMixed w) r run p f = absurd p
 going_run modules state.Ended r run p f = absurd p
 
 -- one go of a run that follows
@@ -124,13 +146,54 @@ goes_on session how r run front text s formed f w =
     let here = subst (λ x. Went (texts session.modules) (places session.stops) how session.limits.turns x front text s) f.known w in
     (course_of f.start f.place f.old, f.same, went f.start (texts session.modules) (places session.stops) how session.limits.turns formed f.place f.old f.of f.among f.lean f.earned front text s here)
 
+-- ---- a go of a run of both forms
+
+mixed_follows : (modules : List Text) (h : Halt) (w : World) → FollowsIn modules (mixed_state h w) None
+mixed_follows modules halt.Entered w = refl
+mixed_follows modules halt.AtLine w = refl
+mixed_follows modules halt.Ended w = refl
+mixed_follows modules (halt.Paused turns) w = refl
+
+-- none of the meaning's goes on behind it
+mixed_keeps : (session new : Plain) (w : World) (text : List ℕ) → AreFormed (texts session.modules) → MixedWent session w text new → Keeps new None
+mixed_keeps session new w text formed went =
+    moved (in_state (mixed_state went.halts went.world) session) new None went.follows (formed, mixed_follows (texts session.modules) went.halts went.world)
+
+given_up_keeps : (session new : Plain) (run : Option Course) → Keeps session run → IsGivenUp session new → (after : Option Course) × Stays run after × Keeps new after
+given_up_keeps session new run k (inl e) = (run, same_run run, moved session new run e k)
+given_up_keeps session new run k (inr e) = (None, no_run run, moved (in_state state.Ended session) new None e (k.0, refl))
+
 module _ (old : Moment) (run : Option Course) (k : Keeps old.session run) where
-  walk_tells : (how : Walk) (front : List ℕ) (said : Answer) (new : Plain) → going.Walks old.session how front said new → (after : Option Course) × WalkTells old run how front said after × Keeps new after
+  -- what an answer to a go tells, by whether the run is one of both forms
+  abbrev pub WalkTellsBy : Bool → Walk → List ℕ → Answer → Option Course → Type 0
+  WalkTellsBy b how front (answer.Ran text) after = WalksSoBy b old run how front text after
+  WalkTellsBy b how front _ after = Stays run after
+
+  walk_tells : (how : Walk) (front : List ℕ) (said : Answer) (new : Plain) → going.Walks old.session how front said new → (after : Option Course) × WalkTellsBy false how front said after × Keeps new after
   walk_tells how front (answer.Ran text) new (r, runs, (s, w, e)) =
       let o = goes_on old.session how r run front text s k.0 (going_run (texts old.session.modules) old.session.state r run runs k.1) w in
       (o.2.0, (o.0, o.1, o.2.1), moved (in_state s old.session) new o.2.0 e (k.0, o.2.2))
   walk_tells how front answer.NoMemory new p = cut_keeps (going.WalkFirst old.session how) old.session new front run k p
   walk_tells how front _ new p = absurd p
+
+  mixed_walk_tells : (how : Walk) (front : List ℕ) (said : Answer) (new : Plain) → MixedWalks old.session said new → (after : Option Course) × WalkTellsBy true how front said after × Keeps new after
+  mixed_walk_tells how front (answer.Ran text) new (w, stood, went) = (None, refl, mixed_keeps old.session new w text k.0 went)
+  mixed_walk_tells how front answer.NoMemory new p = given_up_keeps old.session new run k p
+  mixed_walk_tells how front _ new p = absurd p
+
+  walk_tells_by : (b : Bool) (how : Walk) (front : List ℕ) (said : Answer) (new : Plain) → WalksBy b old.session how front said new → (after : Option Course) × WalkTellsBy b how front said after × Keeps new after
+  walk_tells_by false how front said new p = walk_tells how front said new p
+  walk_tells_by true how front said new p = mixed_walk_tells how front said new p.1
+
+  -- the same as the law has it
+  walk_told : (how : Walk) (front : List ℕ) (said : Answer) (after : Option Course) → WalkTellsBy (is_mixed old.session.state) how front said after → WalkTells old run how front said after
+  walk_told how front (answer.Ran text) after p = p
+  walk_told how front _ after p = p
+
+  walks : (how : Walk) (front : List ℕ) (said : Answer) (new : Plain) → WalksBy (is_mixed old.session.state) old.session how front said new → (after : Option Course) × WalkTells old run how front said after × Keeps new after
+  walks how front said new p =
+      let t = walk_tells_by (is_mixed old.session.state) how front said new p in
+      (t.0, walk_told how front said t.0 t.1, t.2)
 
   -- the commands that let no program go on
   loads : (name file : List ℕ) (said : Answer) (new : Moment) → Loads old name file said new → (after : Option Course) × Stays run after × Keeps new.session after
@@ -146,6 +209,13 @@ module _ (old : Moment) (run : Option Course) (k : Keeps old.session run) where
   edits name file (answer.Refused d) new (leaves, why) = (run, same_run run, moved old.session new.session run leaves.0 k)
   edits name file answer.NoMemory new leaves = (run, same_run run, moved old.session new.session run leaves.0 k)
   edits name file _ new p = absurd p
+
+  swaps : (name : List ℕ) (f : Form) (said : Answer) (new : Moment) → Swaps old name f said new → (after : Option Course) × Stays run after × Keeps new.session after
+  swaps name f (answer.Swapped m g) new (is, same, may, leaves) =
+      (None, no_run run, moved (swapped old.session name f) new.session None leaves.0 (swapped_formed name f old.session.modules k.0, refl))
+  swaps name f (answer.Refused d) new (is, leaves, why) = (run, same_run run, moved old.session new.session run leaves.0 k)
+  swaps name f answer.NoMemory new leaves = (run, same_run run, moved old.session new.session run leaves.0 k)
+  swaps name f _ new p = absurd p
 
   sets : (place : StopAt) (said : Answer) (new : Plain) → Sets old.session place said new → Keeps new run
   sets place (answer.StopSet n q) new (number, same, e) = moved (with_stop old.session place) new run e k
@@ -171,15 +241,44 @@ starts session bytes front text new formed (of, (s, w, e)) =
       (went_on.0, went_on.1, moved (in_state s session) new went_on.0 e (formed, went_on.2)),
     )
 
-run_tells : (old : Moment) (run : Option Course) → Keeps (asked (command.Run None) old.session) run → (file : Option (List ℕ)) (front : List ℕ) (said : Answer) (new : Moment)
-    → Runs (moment (in_state (unended old.session.state) old.session) old.held old.faults) file front said new → (after : Option Course) × RunTells old run file front said after × Keeps new.session after
-run_tells old run k file front (answer.Ran text) new (held, main, (bytes, input, b)) =
-    let p = starts (in_state (unended old.session.state) old.session) bytes front text new.session k.0 b in
-    (p.2.0, (bytes, input, (p.0, p.1, p.2.1)), p.2.2)
-run_tells old run k file front (answer.Refused d) new (none, leaves, why) = (run, same_run run, moved (in_state (unended old.session.state) old.session) new.session run leaves.0 k)
-run_tells old run k file front answer.NoMemory new (held, cut) =
-    cut_keeps (RunFirst (moment (in_state (unended old.session.state) old.session) old.held old.faults) file) (in_state (unended old.session.state) old.session) new.session front run k cut
-run_tells old run k file front _ new p = absurd p
+-- the session in which a run that ended is forgotten, as another is asked for
+abbrev pub anew : Moment → Moment
+anew old = moment (in_state (unended old.session.state) old.session) old.held old.faults
+
+module _ (old : Moment) (run : Option Course) (k : Keeps (asked (command.Run None) old.session) run) where
+  -- what an answer to `run` tells, by whether all modules are interpreted
+  abbrev pub RunTellsBy : Bool → Option (List ℕ) → List ℕ → Answer → Option Course → Type 0
+  RunTellsBy b file front (answer.Ran text) after = RunsSoBy b old file front text after
+  RunTellsBy b file front _ after = Stays run after
+
+  run_tells : (file : Option (List ℕ)) (front : List ℕ) (said : Answer) (new : Moment) → Runs (anew old) file front said new → (after : Option Course) × RunTellsBy true file front said after × Keeps new.session after
+  run_tells file front (answer.Ran text) new (held, main, (bytes, input, b)) =
+      let p = starts (anew old).session bytes front text new.session k.0 b in
+      (p.2.0, (bytes, input, (p.0, p.1, p.2.1)), p.2.2)
+  run_tells file front (answer.Refused d) new (none, leaves, why) = (run, same_run run, moved (anew old).session new.session run leaves.0 k)
+  run_tells file front answer.NoMemory new (held, cut) = cut_keeps (RunFirst (anew old) file) (anew old).session new.session front run k cut
+  run_tells file front _ new p = absurd p
+
+  mixed_run_tells : (file : Option (List ℕ)) (front : List ℕ) (said : Answer) (new : Moment) → MixedRuns (anew old) file said new → (after : Option Course) × RunTellsBy false file front said after × Keeps new.session after
+  mixed_run_tells file front (answer.Ran text) new (held, main, (bytes, input, (w, went))) = (None, refl, mixed_keeps (anew old).session new.session w text k.0 went)
+  mixed_run_tells file front (answer.Refused (denied.Space a)) new p = (run, same_run run, moved (anew old).session new.session run p.0.0 k)
+  mixed_run_tells file front (answer.Refused _) new p = (run, same_run run, moved (anew old).session new.session run p.0.0 k)
+  mixed_run_tells file front answer.NoMemory new (held, up) = given_up_keeps (anew old).session new.session run k up
+  mixed_run_tells file front _ new p = absurd p
+
+  run_tells_by : (b : Bool) (file : Option (List ℕ)) (front : List ℕ) (said : Answer) (new : Moment) → RunsBy b (anew old) file front said new → (after : Option Course) × RunTellsBy b file front said after × Keeps new.session after
+  run_tells_by true file front said new p = run_tells file front said new p
+  run_tells_by false file front said new p = mixed_run_tells file front said new p.1
+
+  -- the same as the law has it
+  run_told : (file : Option (List ℕ)) (front : List ℕ) (said : Answer) (after : Option Course) → RunTellsBy (are_sources (texts old.session.modules)) file front said after → RunTells old run file front said after
+  run_told file front (answer.Ran text) after p = p
+  run_told file front _ after p = p
+
+  runs : (file : Option (List ℕ)) (front : List ℕ) (said : Answer) (new : Moment) → RunsBy (are_sources (texts old.session.modules)) (anew old) file front said new → (after : Option Course) × RunTells old run file front said after × Keeps new.session after
+  runs file front said new p =
+      let t = run_tells_by (are_sources (texts old.session.modules)) file front said new p in
+      (t.0, run_told file front said t.0 t.1, t.2)
 
 -- ---- each command
 
@@ -189,14 +288,15 @@ carried old run k command.Nothing front said new a (none, p) = same_session old 
 carried old run k (command.Load name) front said new a (none, p) = loads old run k name (file_of name) said new p
 carried old run k (command.Unload name) front said new a (none, p) =
     (None, no_run run, moved (unloaded old.session name) new.session None p.1 (kept_formed _ old.session.modules k.0, refl))
+carried old run k (command.Swap name form) front said new a (none, p) = swaps old run k name form said new p
 carried old run k (command.Edit name file) front said new a (none, p) = edits old run k name (file_or name file) said new p
-carried old run k (command.Run file) front said new a p = run_tells old run a file front said new p
+carried old run k (command.Run file) front said new a p = runs old run a file front said new p
 carried old run k (command.Stop place) front said new a (none, p) = (run, same_run run, sets old run k place said new.session p.0)
 carried old run k (command.Delete n) front said new a (none, p) = (run, same_run run, moved (without_stop n old.session) new.session run p.1 k)
 carried old run k (command.Compile name) front said new a (none, p) = (run, same_run run, moved old.session new.session run p.0 k)
-carried old run k command.Step front said new a p = walk_tells old run k walk.Step front said new.session p.0
-carried old run k command.Next front said new a p = walk_tells old run k walk.Next front said new.session p.0
-carried old run k command.Cont front said new a p = walk_tells old run k walk.Cont front said new.session p.0
+carried old run k command.Step front said new a p = walks old run k walk.Step front said new.session p.0
+carried old run k command.Next front said new a p = walks old run k walk.Next front said new.session p.0
+carried old run k command.Cont front said new a p = walks old run k walk.Cont front said new.session p.0
 carried old run k command.Frames front said new a (none, p) = same_session old run k new p.1
 carried old run k (command.Print name) front said new a (none, p) = same_session old run k new p.1
 carried old run k command.List front said new a (none, p) = same_session old run k new p.1
@@ -230,4 +330,6 @@ pub session_stands : (modules : List Text) (s : State) (run : Option Course) →
 session_stands modules state.Idle run f = f
 session_stands modules (state.Stopped r) run f = follows_stands modules r run f
 session_stands modules (state.Paused r) run f = follows_stands modules r run f
+session_stands modules (state.StoppedMixed w) run f = f
+session_stands modules (state.PausedMixed w) run f = f
 session_stands modules state.Ended run f = f

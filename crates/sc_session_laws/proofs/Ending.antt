@@ -8,7 +8,7 @@ use Rattle.sc_interp.specs.Ends.{end_of}
 use Rattle.sc_interp_access.specs.declared.ended.Ended.{Ended}
 use Rattle.sc_interp_access.specs.declared.ended.Ended.TheVariants as ended
 use Rattle.sc_interp_machine.specs.Runs.{Ends}
-use Rattle.sc_session.specs.Going.{end_text}
+use Rattle.sc_session_texts.specs.Ends.{end_text}
 use Rattle.sc_world.specs.declared.count.Count.{Count}
 use Rattle.sc_world.specs.Meant.{Stands}
 use Rattle.sc_world.specs.Standing.{Standing, ended_so, world_of}

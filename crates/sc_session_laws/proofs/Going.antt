@@ -8,7 +8,7 @@ use Rattle.sc_interp.specs.Ends.{start_of}
 use Rattle.sc_interp_access.specs.declared.ended.Ended.TheVariants as ended
 use Rattle.sc_interp_laws.specs.Lean.{IsLean}
 use Rattle.sc_interp_world.specs.Outputs.{output}
-use Rattle.sc_session_texts.specs.Ends.{stop_text, on_new_line}
+use Rattle.sc_session_texts.specs.Ends.{entered_text, line_text, end_text, stop_text, on_new_line}
 use Rattle.sc_words.specs.declared.stop.StopAt.{StopAt}
 use Rattle.sc_words.specs.declared.stop.Walk.{Walk}
 use Rattle.sc_world.specs.declared.halt.Halt.{Halt}
@@ -117,10 +117,10 @@ module _ (s : Start) (texts : List Text) (stops : List StopAt) (how : Walk) (tur
   follows_in (halt.Paused t) n f = f
 
   says : (h : Halt) (n : Standing) (w : World) (said : List ℕ) → w ≡ world_of n.state → IsRunOf s texts (Some n) → going.Says h (Some n) w said → Says h (there n) said
-  says halt.Entered n w said is now p = p ∙ ap (λ v. going.entered_text v.frames) is
-  says halt.AtLine n w said is now p = p ∙ ap (λ v. going.line_text v.frames) is
+  says halt.Entered n w said is now p = p ∙ ap (λ v. entered_text v.frames) is
+  says halt.AtLine n w said is now p = p ∙ ap (λ v. line_text v.frames) is
   says halt.Ended n w said is now (e, (v, count, end), text) =
-      (e, (λ b lt. ends_so s texts n e v count end now.1 b lt), text ∙ ap (λ u. going.end_text e u) is)
+      (e, (λ b lt. ends_so s texts n e v count end now.1 b lt), text ∙ ap (λ u. end_text e u) is)
   says (halt.Paused t) n w said is now p = p ∙ ap (λ v. stop_text t ended.OutOfSteps v) is
 
   -- what a go that halted leads to

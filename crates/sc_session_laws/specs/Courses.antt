@@ -1,6 +1,9 @@
 -- Yardstick: to be compared with what it restates (docs/TRUST.md).
--- A session's run as the meaning of C has it, and what an answer tells of it.
-use Rattle.std.specs.Prelude.{◌≡◌, ◌<◌, ◌≤◌, ◌⊎◌, ℕ, ◌+◌, ◌-◌, ◌*◌, List, [], ◌++◌, length, drop, Option, Some, None}
+-- A session's run as the meaning of C has it, and what an answer tells of it. The meaning is that of a program whose modules are all
+-- interpreted: of such a run all that is told is what the meaning gives, from its start on. Of a run in which some modules are in
+-- object form nothing is claimed here: it is no run of the meaning's, so it is `None`, and so is what is behind each of its goes.
+-- What its answers tell is what holds of the world in which it stands (Mixing), and not that this world is one of the meaning's.
+use Rattle.std.specs.Prelude.{◌≡◌, ◌<◌, ◌≤◌, ◌⊎◌, ℕ, ◌+◌, ◌-◌, ◌*◌, Bool, true, false, List, [], ◌++◌, length, drop, Option, Some, None}
 use Rattle.sc_meaning.specs.World.{World, Event, events}
 use Rattle.sc_meaning.specs.Outcomes.{world_at}
 use Rattle.sc_meaning.specs.Behaviour.{Start, ending, events_upto}
@@ -9,7 +12,8 @@ use Rattle.sc_interp.specs.Ends.{start_of, end_of}
 use Rattle.sc_interp_access.specs.declared.ended.Ended.{Ended}
 use Rattle.sc_interp_access.specs.declared.ended.Ended.TheVariants as ended
 use Rattle.sc_interp_world.specs.Outputs.{output}
-use Rattle.sc_session_texts.specs.Ends.{stop_text, on_new_line}
+use Rattle.sc_session_forms.specs.Forms.{are_sources}
+use Rattle.sc_session_texts.specs.Ends.{entered_text, line_text, end_text, stop_text, on_new_line}
 use Rattle.sc_words.specs.declared.answer.Answer.{Answer}
 use Rattle.sc_words.specs.declared.answer.Answer.TheVariants as answer
 use Rattle.sc_words.specs.declared.command.Command.{Command}
@@ -24,7 +28,8 @@ use Rattle.sc_world_laws.specs.Told.{selects, HaltsAt, PassedEach}
 use Rattle.sc_session.specs.declared.state.State.{State}
 use Rattle.sc_session.specs.declared.state.State.TheVariants as state
 use Rattle.sc_session.specs.Modules.{texts}
-use Rattle.sc_session.specs.Going.{IsInput, entered_text, line_text, end_text}
+use Rattle.sc_session.specs.Going.{IsInput}
+use Rattle.sc_session.specs.Mixing.{is_mixed}
 use Rattle.sc_session.specs.Stopping.{places}
 use Rattle.sc_session.specs.Transcript.{Moment}
 
@@ -122,16 +127,26 @@ abbrev pub WalksSo : Moment → Option Course → Walk → List ℕ → List ℕ
 WalksSo old run how front text after =
     (c : Course) × (run ≡ Some c) × IsTold (places old.session.stops) how old.session.limits.turns c front text after
 
+-- The same by whether all modules are interpreted. Where some are not, it is a run of both forms, of which nothing is told here.
+abbrev pub RunsSoBy : Bool → Moment → Option (List ℕ) → List ℕ → List ℕ → Option Course → Type 0
+RunsSoBy true old file front text after = RunsSo old file front text after
+RunsSoBy false old file front text after = after ≡ None
+
+-- The same by whether a run of both forms goes on in the session.
+abbrev pub WalksSoBy : Bool → Moment → Option Course → Walk → List ℕ → List ℕ → Option Course → Type 0
+WalksSoBy false old run how front text after = WalksSo old run how front text after
+WalksSoBy true old run how front text after = after ≡ None
+
 -- The run stays where it is, or there is none any more.
 abbrev pub Stays : Option Course → Option Course → Type 0
 Stays run after = (after ≡ run) ⊎ (after ≡ None)
 
 abbrev pub RunTells : Moment → Option Course → Option (List ℕ) → List ℕ → Answer → Option Course → Type 0
-RunTells old run file front (answer.Ran text) after = RunsSo old file front text after
+RunTells old run file front (answer.Ran text) after = RunsSoBy (are_sources (texts old.session.modules)) old file front text after
 RunTells old run file front _ after = Stays run after
 
 abbrev pub WalkTells : Moment → Option Course → Walk → List ℕ → Answer → Option Course → Type 0
-WalkTells old run how front (answer.Ran text) after = WalksSo old run how front text after
+WalkTells old run how front (answer.Ran text) after = WalksSoBy (is_mixed old.session.state) old run how front text after
 WalkTells old run how front _ after = Stays run after
 
 -- What an answer tells of a session's run, behind these bytes, which went out; and where the run stands behind it.
@@ -142,13 +157,16 @@ Tells old run command.Next front said after = WalkTells old run walk.Next front 
 Tells old run command.Cont front said after = WalkTells old run walk.Cont front said after
 Tells old run _ front said after = Stays run after
 
--- The run that goes on in a session stands in this world, in which `where` and `print` are answered.
+-- The run of interpreted modules that goes on in a session stands in this world, in which `where` and `print` are answered.
 abbrev pub StandsIn : Option Standing → Option Course → Type 0
 StandsIn r None = ⊥
 StandsIn r (Some c) = world_in r ≡ Some c.world
 
+-- Where such a run goes on there is one of the meaning's. Where none does, or one of both forms, there is none.
 abbrev pub Stands : State → Option Course → Type 0
 Stands state.Idle run = run ≡ None
 Stands (state.Stopped r) run = StandsIn r run
 Stands (state.Paused r) run = StandsIn r run
+Stands (state.StoppedMixed w) run = run ≡ None
+Stands (state.PausedMixed w) run = run ≡ None
 Stands state.Ended run = run ≡ None

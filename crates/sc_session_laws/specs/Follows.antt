@@ -37,12 +37,15 @@ pub record Follows (modules : List Text) (r : Option Standing) (run : Option Cou
   pub lean : IsLean place.state
   pub earned : Earned place
 
+-- so does each run of interpreted modules that goes on in a session; one of both forms is none of the meaning's
 abbrev pub FollowsIn : List Text → State → Option Course → Type 0
 FollowsIn modules state.Idle run = run ≡ None
 FollowsIn modules (state.Stopped r) run = Follows modules r run
 FollowsIn modules (state.Paused r) run = Follows modules r run
+FollowsIn modules (state.StoppedMixed w) run = run ≡ None
+FollowsIn modules (state.PausedMixed w) run = run ≡ None
 FollowsIn modules state.Ended run = run ≡ None
 
--- its modules are checked, and the run that goes on, if there is one, is one of them
+-- its modules are checked, and the run that goes on, if there is one of interpreted modules, is one of them
 abbrev pub Keeps : Plain → Option Course → Type 0
 Keeps session run = AreFormed (texts session.modules) × FollowsIn (texts session.modules) session.state run

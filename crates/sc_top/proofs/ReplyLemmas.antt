@@ -52,6 +52,7 @@ no_go old command.Unknown front p q = q
 no_go old command.BadArguments front p q = q
 no_go old (command.Load name) front p q = q
 no_go old (command.Unload name) front p q = q
+no_go old (command.Swap name form) front p q = q
 no_go old (command.Edit name file) front p q = q
 no_go old (command.Compile name) front p q = q
 no_go old (command.Stop place) front p q = q
