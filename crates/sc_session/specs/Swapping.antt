@@ -11,7 +11,10 @@ use Rattle.sc_words.specs.declared.denied.Denied.{Denied}
 use Rattle.sc_words.specs.declared.denied.Denied.TheVariants as denied
 use Rattle.sc_session.specs.declared.swapping.Compared.{Compared}
 use Rattle.sc_session.specs.declared.swapping.Compared.TheVariants as compared
+use Rattle.sc_session.specs.Compiling.{object_file}
 use Rattle.sc_session.specs.Going.{AreBytes, Unread}
+use Rattle.sc_session.specs.Modules.{object_named}
+use Rattle.sc_session.specs.Plain.{Plain}
 
 -- the file has these bytes
 abbrev pub HasBytes : Option FileMap → List ℕ → List ℕ → Type 0
@@ -35,6 +38,11 @@ abbrev pub Compares : Option FileMap → List ℕ → Object → ℕ → ℕ →
 Compares held file object before now compared.Same = HasBytes held file (spelled object)
 Compares held file object before now (compared.Denied d) = NotKept held file object before now d
 Compares held file object before now compared.NoMemory = Unit {0}
+
+-- the same with the object that the session keeps of a module
+abbrev pub ComparesKept : Plain → Option FileMap → List ℕ → ℕ → ℕ → Compared → Type 0
+ComparesKept session held name before now found =
+    (object : Object) × (object_named session.modules name ≡ Some object) × Compares held (object_file name) object before now found
 
 abbrev pub ComparesBytes : List ℕ → Object → Compared → Type 0
 ComparesBytes bytes object compared.Same = bytes ≡ spelled object

@@ -5,6 +5,7 @@ ghost use Rattle.sc_words.specs.Parts.{is_module_name};
 ghost use Rattle.sc_session.specs.Loading as loading;
 ghost use Rattle.sc_session.specs.Modules.{texts};
 ghost use Rattle.sc_session.specs.States.{if_absent};
+ghost use Rattle.sc_session.specs.Swapping as swapping;
 ghost use Rattle.sc_session.specs.Transcript as spec;
 ghost use Rattle.sc_session.specs.Transcript.{moment};
 
@@ -198,11 +199,7 @@ impl Session {
         ensures later { F.faults files.old ≤ F.faults files.new }
         ensures held { F.held files.new ≡ F.held files.old }
     {
-        let found = match object_named(self.modules.as_slice(), &name) {
-            Some(object) => compared(alloc, &name, object, files),
-            None => unreachable!(),
-        };
-        match found {
+        match self.compare(alloc, &name, files) {
             Compared::Same => self.swap_kept(alloc, name),
             Compared::Denied(denied) => {
                 drop(name);
@@ -212,6 +209,20 @@ impl Session {
                 drop(name);
                 Answer::NoMemory
             }
+        }
+    }
+
+    // The file of a module's object beside the object.
+    fn compare<F: Files>(&self, alloc: Global, name: &Name, files: &mut F) -> Compared
+        requires named { is_module_name name.now ≡ true }
+        requires present { if_absent name.now (texts self.now.modules) ≡ None }
+        ensures compares { swapping.ComparesKept self.now (F.held files.old) name.now (F.faults files.old) (F.faults files.new) result }
+        ensures later { F.faults files.old ≤ F.faults files.new }
+        ensures held { F.held files.new ≡ F.held files.old }
+    {
+        match object_named(self.modules.as_slice(), name) {
+            Some(object) => compared(alloc, name, object, files),
+            None => unreachable!(),
         }
     }
 

@@ -487,29 +487,6 @@ fn printed<'a>(
     Ok(Bytes::from_vec(text))
 }
 
-fn printed_if<'a>(
-    alloc: Global,
-    world: &'a World,
-    name: &Name,
-    seen: Option<Seen<'a>>,
-) -> Result<Option<Bytes>, NoMemory>
-    ensures { IfOk result (λ line. line ≡ spec.print_text world.now name.now seen) }
-{
-    match seen {
-        None => Ok(None),
-        Some(
-            Seen {
-                object,
-                of,
-                structs,
-            },
-        ) => {
-            let line = printed(alloc, world, name, object, of, structs)?;
-            Ok(Some(line))
-        }
-    }
-}
-
 /// The line that shows what a name stands for in a call, by the scopes of the module that it runs, where it is visible there.
 pub fn print_line_in(
     alloc: Global,
@@ -524,10 +501,21 @@ pub fn print_line_in(
 ) -> Result<Option<Bytes>, NoMemory>
     ensures { IfOk result (λ line. line ≡ spec.print_line_in held.now present.now waiting.now scopes.now declaring world.now name.now f.now) }
 {
-    let seen = visible_in(
+    match visible_in(
         alloc, held, present, waiting, scopes, declaring, world, name, f,
-    )?;
-    printed_if(alloc, world, name, seen)
+    )? {
+        None => Ok(None),
+        Some(
+            Seen {
+                object,
+                of,
+                structs,
+            },
+        ) => {
+            let line = printed(alloc, world, name, object, of, structs)?;
+            Ok(Some(line))
+        }
+    }
 }
 
 /// The line that shows what a name stands for in the innermost call, where it is visible there.
