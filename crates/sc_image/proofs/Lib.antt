@@ -2,4 +2,5 @@
 mod Rooms
 mod Single
 mod Behind
+mod Linkables
 mod Inside

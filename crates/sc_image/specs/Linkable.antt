@@ -1,6 +1,6 @@
 -- Inside: plumbing, a representation, an invariant or a promise beside the claim (docs/TRUST.md).
 -- What linking asks of entries and functions.
-use Rattle.std.specs.Prelude.{List}
+use Rattle.std.specs.Prelude.{Bool, true, false, List}
 use Rattle.sc_base.specs.declared.key.Key.{Key}
 use Rattle.sc_link.specs.declared.placed.Placed.{Placed}
 use Rattle.sc_link.specs.Entries.{literals_in, texts_in}
@@ -11,3 +11,8 @@ pub record IsLinkable (es : List Placed) (funs : List Key) : Type 0 where
   pub functions : AreDistinct funs
   pub texts : AreApart (texts_in es)
   pub literals : AreOnePlaced (literals_in es)
+
+-- what an answer says of them: `false` says nothing
+abbrev pub Tells : List Placed → List Key → Bool → Type 0
+Tells es funs true = IsLinkable es funs
+Tells es funs false = Unit {0}

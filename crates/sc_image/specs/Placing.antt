@@ -7,7 +7,7 @@ use Rattle.sc_link.specs.declared.placed.Area.{Area}
 use Rattle.sc_link.specs.declared.placed.Area.TheVariants as area
 use Rattle.sc_link.specs.Entries.{is_object}
 use Rattle.sc_places.specs.Layout.{places_from, static_end, text_end}
-use Rattle.sc_image.specs.declared.placing.Linking.{Linking}
+use Rattle.sc_image.specs.declared.module.Linking.{Linking}
 
 -- the addresses behind a module that is placed from an address on; no section keeps a place
 abbrev pub text_behind : ℕ → Linking → ℕ

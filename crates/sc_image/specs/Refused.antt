@@ -4,7 +4,7 @@ use Rattle.std.specs.Prelude.{List}
 use Rattle.sc_base.specs.declared.key.Key.{Key}
 use Rattle.sc_link.specs.declared.placed.LinkFault.{LinkFault}
 use Rattle.sc_link.specs.declared.placed.LinkFault.TheVariants as fault
-use Rattle.sc_image.specs.declared.placing.Linking.{Linking}
+use Rattle.sc_image.specs.declared.module.Linking.{Linking}
 use Rattle.sc_image.specs.Placing.{IsFull}
 
 -- an area has no room for what is placed in it; want of memory says nothing

@@ -5,10 +5,12 @@
 mod checking;
 mod distinct;
 mod linking;
+mod module;
 mod ordered;
 mod placing;
 mod room;
 
 pub use linking::image_of;
-pub use placing::{Linking, place_modules};
+pub use module::Linking;
+pub use placing::place_modules;
 pub use room::full_area;

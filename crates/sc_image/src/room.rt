@@ -2,7 +2,7 @@
 ghost use Rattle.std.specs.Prelude.{◌≡◌, ◌≤◌, ◌<◌, MatchBool, MatchOption};
 ghost use Rattle.sc_image.specs.Placing as spec;
 
-use crate::placing::{Linking, is_object};
+use crate::module::{Linking, is_object};
 use sc_base::Key;
 use sc_link::{Area, MOST_FUNCTIONS, STATICS, STATICS_END, TEXTS, TEXTS_END};
 use sc_places::{static_end, text_end};
@@ -30,8 +30,8 @@ fn have_texts_room(modules: &[Linking]) -> bool
 {
     let mut text = TEXTS;
     let mut left = modules;
-    'placing: while let [module, rest @ ..] = left {
-        match texts_behind_one(text, module) {
+    'placing: while let [first, rest @ ..] = left {
+        match texts_behind_one(text, first) {
             Some(end) => text = end,
             None => return false,
         }
@@ -46,8 +46,8 @@ fn have_statics_room(modules: &[Linking]) -> bool
 {
     let mut statics = STATICS;
     let mut left = modules;
-    'placing: while let [module, rest @ ..] = left {
-        match statics_behind_one(statics, module) {
+    'placing: while let [first, rest @ ..] = left {
+        match statics_behind_one(statics, first) {
             Some(end) => statics = end,
             None => return false,
         }
