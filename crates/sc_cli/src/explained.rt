@@ -10,16 +10,17 @@ Refusals, as `> refused C8 m.c`. A refused command leaves the session as it was.
   C6    another module, which is named, defines the same external name
   C7    another module, which is named, declares the external name with another type
   C8    there is no such file
+  C9    the object's file is not the module's object; the offset follows at which they differ
   C10   a run has stopped or paused: end it, or forget it by reset
   C11   nothing runs
   C12   the run is not at a stop: it has paused or ended
   C13   no module defines main
-  C14   too many modules, functions (stubs) or bytes of static objects
+  C14   too many modules, functions (stubs), bytes of compiled code (text) or of static objects
   C15   reading or writing the file failed
   C16   the name stands for no object here
   C18   there is no such stop
   C19   the file has more than 8388608 bytes
-(C9 and C17 belong to runs of compiled modules and to probes, which this version does not have.)
+(C17 belongs to probes, which this version does not have.)
 `> no memory` may answer any command.
 
 Kinds of refused texts, as `> refused C5 X6 m.c:3`. docs/LANGUAGE.md has the rules.
@@ -53,4 +54,12 @@ Undefined steps, as `> violation U2 in f at m:7 object 3 offset 4 size 4`. docs/
   U16   an argument of a library function is out of its range
   U17   no module defines what is used
   U18   source and target overlap
+
+Causes for which compiled code cannot go on, as `> crashed at 00010000 cause 5`. The address is that of the instruction.
+  1     there is no instruction at the address
+  2     the address is no multiple of 4
+  3     the word at the address is no instruction
+  4     a load or store at no multiple of its size
+  5     a load or store outside of the memory
+  6     a service is called that cannot be given
 ";
