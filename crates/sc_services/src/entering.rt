@@ -4,6 +4,8 @@ ghost use Rattle.sc_interp_access.specs.Gives.{Gives};
 ghost use Rattle.sc_meaning.specs.Calls.{frame_of as frame_of_call};
 ghost use Rattle.sc_meaning.specs.World as worlds;
 ghost use Rattle.sc_services.specs.Blocks as spec;
+ghost use Rattle.sc_services.specs.Entering as entering;
+ghost use Rattle.sc_services.specs.declared.entering.Entered.TheVariants.{Block};
 
 use crate::arguments::arguments;
 use crate::blocks::{enter_block, set_slots, slots_of};
@@ -15,7 +17,7 @@ use sc_interp_access::Stop;
 use sc_interp_world::{Born, Event, Frame, World};
 use sc_isa_image::{Image, TextAt};
 use sc_meaning_values::Value;
-use sc_program::FrameTable;
+use sc_object::FrameTable;
 
 /// What service 2 comes to: a call is entered, or another block; or its test failed, and nothing was done.
 #[derive(Clone, Copy, Debug, PartialEq, Eq)]
@@ -121,7 +123,9 @@ fn enter_text(
     regs: &Regs,
     image: &Image,
     world: &mut World,
-) -> Result<Entered, Stop> {
+) -> Result<Entered, Stop>
+    ensures { entering.EntersCall texts.now at.now world.old result world.new }
+{
     let Callee::InText(t, _) = callee_of(texts, &at.fun) else {
         return Ok(Entered::Refused);
     };
@@ -138,10 +142,19 @@ fn enter_text(
     Ok(Entered::Call)
 }
 
-// Another block of the innermost call.
-fn enter_inner(block: u32, at: &TextAt, world: &mut World) -> Result<Entered, Stop> {
+// Whether a block of a text may be entered: it is in the text's table, the innermost call is of this text, and the block is not open.
+fn may_enter(block: u32, at: &TextAt, world: &World) -> bool
+    ensures { result ≡ entering.may_enter block at.now world.now.frames }
+{
     let is_there = (block as usize) < at.frame.blocks.len();
-    if !is_there || !is_call_of(&at.fun, world) || is_open(block, world) {
+    is_there && is_call_of(&at.fun, world) && !is_open(block, world)
+}
+
+// Another block of the innermost call.
+fn enter_inner(block: u32, at: &TextAt, world: &mut World) -> Result<Entered, Stop>
+    ensures { entering.Enters (entering.may_enter block at.now world.old.frames) (spec.block_entered block at.now.frame world.old) Block world.old result world.new }
+{
+    if !may_enter(block, at, world) {
         return Ok(Entered::Refused);
     }
     enter_block(block, &at.frame, world)?;
