@@ -13,28 +13,41 @@ use sc_mem_store::{Cell, Place, Store};
 use std::alloc::Global;
 use std::marker::Model;
 
-/// All objects that were born, the first with number 1, and the memory that holds them. `whole` says that no change was
-/// given up half done for want of memory. Behind such a change the two may differ, and no further one is made.
+/// All objects that were born, the first with number 1, and the memory that holds them at addresses, where compiled code
+/// looks at it. `whole` says that no change was given up half done for want of memory. Behind such a change the two may
+/// differ, and no further one is made.
 #[derive(Drop)]
 pub struct Held {
     alloc: Global,
     objects: Vec<Object>,
-    memory: Store,
+    memory: Option<Store>,
     whole: bool,
 }
 
 impl Model for Held {
-    ghost use Rattle.std.specs.Prelude.{◌≡◌, List, true};
+    ghost use Rattle.std.specs.Prelude.{◌≡◌, List, true, IfSome};
     ghost use Rattle.sc_meaning.specs.World as spec;
 
     ghost Value = { List spec.Object };
 
     ghost view = { λ h. h.objects.items };
 
-    ghost invariant = { λ h. h.whole ≡ true → h.memory ≡ h.objects.items };
+    ghost invariant = { λ h. h.whole ≡ true → IfSome h.memory (λ m. m ≡ h.objects.items) };
 }
 
 impl Held {
+    /// No object is born, and none will have an address.
+    pub fn nowhere(alloc: Global) -> Held
+        ensures { result ≡ [] }
+    {
+        Held {
+            alloc,
+            objects: Vec::new(alloc),
+            memory: None,
+            whole: true,
+        }
+    }
+
     /// No object is born. The stack and the heap have these bytes, and the functions the numbers of their places in the list.
     pub fn new(
         alloc: Global,
@@ -48,7 +61,7 @@ impl Held {
         Ok(Held {
             alloc,
             objects: Vec::new(alloc),
-            memory,
+            memory: Some(memory),
             whole: true,
         })
     }
@@ -60,7 +73,12 @@ impl Held {
         self.objects.as_slice()
     }
 
-    /// An object outside the heap is born at an address, its bytes unwritten.
+    /// Whether the objects have addresses.
+    pub fn has_memory(&self) -> bool {
+        self.memory.is_some()
+    }
+
+    /// An object outside the heap is born at an address, its bytes unwritten. Without a memory the address is not looked at.
     pub fn birth(&mut self, size: u32, kind: Kind, base: u32) -> Result<(), NoMemory>
         ensures { IfOk result (λ _. self.new ≡ self.old ++ spec.fresh size kind ∷ []) }
     {
@@ -68,7 +86,9 @@ impl Held {
             return Err(NoMemory);
         }
         self.whole = false;
-        self.memory.birth(size, kind, base)?;
+        if let Some(memory) = &mut self.memory {
+            memory.birth(size, kind, base)?;
+        }
         let cells = unwritten(self.alloc, size)?;
         self.objects.push(Object::living(size, kind, cells))?;
         self.whole = true;
@@ -83,7 +103,9 @@ impl Held {
             return Err(NoMemory);
         }
         self.whole = false;
-        self.memory.allocate(size)?;
+        if let Some(memory) = &mut self.memory {
+            memory.allocate(size)?;
+        }
         let cells = unwritten(self.alloc, size)?;
         self.objects.push(Object::living(size, Kind::Heap, cells))?;
         self.whole = true;
@@ -98,7 +120,9 @@ impl Held {
             return Err(NoMemory);
         }
         self.whole = false;
-        self.memory.death(id)?;
+        if let Some(memory) = &mut self.memory {
+            memory.death(id)?;
+        }
         end_object(self.alloc, &mut self.objects, id);
         self.whole = true;
         Ok(())
@@ -112,7 +136,9 @@ impl Held {
             return Err(NoMemory);
         }
         self.whole = false;
-        self.memory.put(id, at, new.as_slice())?;
+        if let Some(memory) = &mut self.memory {
+            memory.put(id, at, new.as_slice())?;
+        }
         write_object(self.alloc, &mut self.objects, id, at, new)?;
         self.whole = true;
         Ok(())
@@ -126,7 +152,9 @@ impl Held {
             return Err(NoMemory);
         }
         self.whole = false;
-        self.memory.store(id, at, n, v)?;
+        if let Some(memory) = &mut self.memory {
+            memory.store(id, at, n, v)?;
+        }
         store_in(self.alloc, &mut self.objects, id, at, n, v)?;
         self.whole = true;
         Ok(())
@@ -150,10 +178,12 @@ impl Held {
     pub fn base(&self, id: u32) -> Option<u32>
         ensures { IfSome result (λ _. IsLiving self.now id) }
     {
-        if self.whole {
-            self.memory.base(id)
-        } else {
-            None
+        if !self.whole {
+            return None;
+        }
+        match &self.memory {
+            Some(memory) => memory.base(id),
+            None => None,
         }
     }
 
@@ -162,10 +192,12 @@ impl Held {
     pub fn live_at(&self, address: u32) -> Option<Place>
         ensures { IfSome result (λ p. IsLiveAt self.now p.id p.offset) }
     {
-        if self.whole {
-            self.memory.live_at(address)
-        } else {
-            None
+        if !self.whole {
+            return None;
+        }
+        match &self.memory {
+            Some(memory) => memory.live_at(address),
+            None => None,
         }
     }
 
@@ -173,17 +205,26 @@ impl Held {
     pub fn load(&self, at: u32, size: u8) -> Option<Word>
         requires { IsSize size }
     {
-        self.memory.load(at, size)
+        match &self.memory {
+            Some(memory) => memory.load(at, size),
+            None => None,
+        }
     }
 
     /// The value of a word.
     pub fn value(&self, w: Word) -> Result<Value, NoMemory> {
-        self.memory.value(w)
+        match &self.memory {
+            Some(memory) => memory.value(w),
+            None => Err(NoMemory),
+        }
     }
 
     /// The word of a value.
     pub fn word(&self, v: &Value) -> Result<Word, NoMemory> {
-        self.memory.word(v)
+        match &self.memory {
+            Some(memory) => memory.word(v),
+            None => Err(NoMemory),
+        }
     }
 
     /// Writes a word to the `size` bytes at an address that belong to no live object, where there are such bytes.
@@ -194,7 +235,10 @@ impl Held {
         if !self.whole {
             return Err(NoMemory);
         }
-        self.memory.keep(at, size, w)
+        match &mut self.memory {
+            Some(memory) => memory.keep(at, size, w),
+            None => Ok(None),
+        }
     }
 }
 

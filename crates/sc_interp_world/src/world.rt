@@ -157,7 +157,19 @@ fn no_block(alloc: Global) -> Result<Items<u64>, NoMemory>
 }
 
 impl World {
-    /// A world in which nothing is there yet.
+    /// A world in which nothing is there yet, and nothing will have an address: that of a run without compiled code.
+    pub fn nowhere(
+        alloc: Global,
+        stack: u64,
+        heap: u64,
+        input: Items<u8>,
+    ) -> Result<World, NoMemory>
+        ensures { IfOk result (λ w. w ≡ record { stack = stack; heap = heap; objects = []; used = 0; free = replicate 29 0; made = 0; input = input; seed = 1; frames = []; names = []; enters = 0; count = 0; begun = 0; trail = []; beside = nothing_beside }) }
+    {
+        World::with(alloc, stack, heap, input, Held::nowhere(alloc), Names::new(alloc))
+    }
+
+    /// A world in which nothing is there yet, and objects will stand at addresses.
     pub fn new(
         alloc: Global,
         stack: u64,
@@ -167,8 +179,22 @@ impl World {
     ) -> Result<World, NoMemory>
         ensures { IfOk result (λ w. w ≡ record { stack = stack; heap = heap; objects = []; used = 0; free = replicate 29 0; made = 0; input = input; seed = 1; frames = []; names = []; enters = 0; count = 0; begun = 0; trail = []; beside = nothing_beside }) }
     {
-        let free = no_block(alloc)?;
         let objects = Held::new(alloc, stack, heap, layout.functions)?;
+        World::with(alloc, stack, heap, input, objects, layout.places)
+    }
+
+    // A world in which only these objects are there.
+    fn with(
+        alloc: Global,
+        stack: u64,
+        heap: u64,
+        input: Items<u8>,
+        objects: Held,
+        places: Names,
+    ) -> Result<World, NoMemory>
+        ensures { IfOk result (λ w. w ≡ record { stack = stack; heap = heap; objects = objects; used = 0; free = replicate 29 0; made = 0; input = input; seed = 1; frames = []; names = []; enters = 0; count = 0; begun = 0; trail = []; beside = nothing_beside }) }
+    {
+        let free = no_block(alloc)?;
         let mut left = Stack::new(alloc);
         left.push_all(input)?;
         Ok(World {
@@ -176,7 +202,7 @@ impl World {
             stack,
             heap,
             objects,
-            places: layout.places,
+            places,
             used: 0,
             free,
             made: 0,
@@ -412,6 +438,14 @@ impl World {
         self.note(Change::Happens(event))
     }
 
+    // Where an object outside the heap will stand; without a memory anywhere.
+    fn base_for(&self, spot: &Spot) -> Result<u32, NoMemory> {
+        if !self.objects.has_memory() {
+            return Ok(0);
+        }
+        address_of(&self.places, self.used, spot)
+    }
+
     // Memory and the objects get one more.
     fn bear(&mut self, size: u32, kind: Kind, spot: &Spot) -> Result<(), NoMemory>
         ensures { IfOk result (λ _. self.new ≡ record self.old { objects = self.old.objects ++ spec.fresh size kind ∷ [] }) }
@@ -419,7 +453,7 @@ impl World {
         match kind {
             Kind::Heap => self.objects.allocate(size),
             Kind::Static | Kind::Const | Kind::Literal | Kind::Auto => {
-                let base = address_of(&self.places, self.used, spot)?;
+                let base = self.base_for(spot)?;
                 self.objects.birth(size, kind, base)
             }
         }

@@ -1,6 +1,7 @@
 -- The files behind a command: which of them it writes, and where an object is found.
 use Rattle.std.proofs.Common.{◌≡◌, ℕ, Bool, true, false, if◌then◌else◌, List, [], ◌∷◌, Option, Some, None, refl, ap, sym, subst, ◌∙◌}
 use Rattle.std.specs.Str.{bytes_eq}
+use Rattle.sc_base.specs.declared.memory.Form.{Form}
 use Rattle.sc_object.specs.declared.object.Object.{Object}
 use Rattle.sc_object.specs.Spelling.{spelled}
 use Rattle.sc_outside.specs.Causes.{Rose}
@@ -21,7 +22,7 @@ use Rattle.sc_session.specs.Compiling.{IsFailed, KeepsSources, Spoilt, Tells, Wr
 use Rattle.sc_session.specs.Modules.{object_named, texts}
 use Rattle.sc_session.specs.Plain.{Plain}
 use Rattle.sc_session.specs.States.{if_absent}
-use Rattle.sc_session.specs.Transcript.{Moment, Does, Edits, Loads}
+use Rattle.sc_session.specs.Transcript.{Moment, Does, Edits, Loads, Swaps}
 
 pub keeps_none : (held : Option FileMap) → KeepsSources held held
 keeps_none None = tt
@@ -60,11 +61,18 @@ edits_held old new name file (answer.Refused d) ((session, held), denied) = held
 edits_held old new name file answer.NoMemory (session, held) = held
 edits_held old new name file _ p = absurd p
 
+swaps_held : (old new : Moment) (name : List ℕ) (f : Form) (said : Answer) → Swaps old name f said new → new.held ≡ old.held
+swaps_held old new name f (answer.Swapped m g) p = p.3.1
+swaps_held old new name f (answer.Refused d) p = p.1.1
+swaps_held old new name f answer.NoMemory p = p.1
+swaps_held old new name f _ p = absurd p
+
 -- a command that lets no program go on changes files of objects alone
 pub does_keep : (old new : Moment) (c : Command) (said : Answer) → IsNamed c → Does old c said new → KeepsSources old.held new.held
 does_keep old new command.Nothing said named p = keeps_same old.held new.held (ap (λ (m : Moment). m.held) p.1)
 does_keep old new (command.Load name) said named p = keeps_same old.held new.held (loads_held old new name _ said p)
 does_keep old new (command.Unload name) said named p = keeps_same old.held new.held p.2.0
+does_keep old new (command.Swap name form) said named p = keeps_same old.held new.held (swaps_held old new name form said p)
 does_keep old new (command.Edit name file) said named p = keeps_same old.held new.held (edits_held old new name _ said p)
 does_keep old new (command.Compile name) said named (same, (object, there, puts)) = writes_keep old.held new.held old.faults new.faults name object said named puts
 does_keep old new (command.Stop place) said named p = keeps_same old.held new.held p.1.0

@@ -5,3 +5,6 @@ pub mod FileLemmas
 pub mod GoingLemmas
 pub mod TakenLemmas
 pub mod SendingLemmas
+pub mod LoadingLemmas
+pub mod SwappingLemmas
+pub mod MixingLemmas

@@ -33,14 +33,16 @@ use Rattle.sc_session.specs.declared.going.Lost.TheVariants as lost
 use Rattle.sc_session.specs.declared.state.State.{State}
 use Rattle.sc_session.specs.declared.state.State.TheVariants as state
 use Rattle.sc_outside.specs.Stored.{FileMap}
+use Rattle.sc_session_forms.specs.Forms.{are_sources}
 use Rattle.sc_world.specs.declared.post.Unsent.{Unsent}
 use Rattle.sc_world.specs.declared.post.Unsent.TheVariants as unsent
 use Rattle.sc_session.specs.Going.{IsWorldOf, Says, Told, ToldBehind, KeepsFew, Went, Gains, stays_in_line, is_told, IsKnown, cut_off, IsCutOff, IsUntold, Loses, IsFirstOf, RunsIn, Walks, WalkFirst, WalksOut, Begins, BeginFirst, BeginsSo, BeginsOut, state_after, run_of, in_state, has_main, IsInput, InputDenied}
+use Rattle.sc_session.specs.Mixing.{WalksBy, is_mixed}
 use Rattle.sc_session.specs.Modules.{texts}
 use Rattle.sc_session.specs.Plain.{Plain}
 use Rattle.sc_session.specs.Stopping.{places}
 use Rattle.sc_session.specs.States.{refusal_of}
-use Rattle.sc_session.specs.Transcript.{Moment, moment, asked, is_go, AnswersTo, BreaksOff, Carried, Decides, Does, GoesOut, GoFirst, RunDenied, RunFirst, Runs, RunsOut, Speaks, WritesFirst}
+use Rattle.sc_session.specs.Transcript.{Moment, moment, asked, is_go, AnswersTo, BreaksOff, Carried, Decides, Does, GoesOut, GoFirst, RunDenied, RunFirst, Runs, RunsOut, RunsOutBy, Speaks, WalksOutBy, WritesFirst}
 use Rattle.sc_session.proofs.GoingLemmas.{walked, begins}
 
 -- nothing is said of the end of a run of which nothing is known
@@ -296,6 +298,7 @@ begun_answers old file bytes front now held new main input same answer.NoMemory 
 begun_answers old file bytes front now held new main input same answer.Silent p = absurd p
 begun_answers old file bytes front now held new main input same (answer.Loaded name) p = absurd p
 begun_answers old file bytes front now held new main input same (answer.Unloaded name) p = absurd p
+begun_answers old file bytes front now held new main input same (answer.Swapped name form) p = absurd p
 begun_answers old file bytes front now held new main input same (answer.Edited name) p = absurd p
 begun_answers old file bytes front now held new main input same (answer.Compiled name) p = absurd p
 begun_answers old file bytes front now held new main input same (answer.StopSet k place) p = absurd p
@@ -311,7 +314,7 @@ begun_so sink gained old file bytes now held new (Ok said) main input same (fron
 begun_so sink gained old file bytes now held new (Err e) main input same (front, gains, p) = (front, gains, (main, (bytes, input, p)))
 
 -- no program is run
-input_denied : (old : Moment) (file : Option (List ℕ)) (now : ℕ) (d : Denied) → has_main (texts old.session.modules) ≡ true → InputDenied old.held file old.faults now d → RunDenied old file now d
+pub input_denied : (old : Moment) (file : Option (List ℕ)) (now : ℕ) (d : Denied) → has_main (texts old.session.modules) ≡ true → InputDenied old.held file old.faults now d → RunDenied old file now d
 input_denied old None now d main p = absurd p
 input_denied old (Some file) now (denied.NoFile f) main p = (main, p)
 input_denied old (Some file) now (denied.TooLong f) main p = (main, p)
@@ -323,6 +326,7 @@ input_denied old (Some file) now denied.ModuleThere main p = absurd p
 input_denied old (Some file) now (denied.Translation r) main p = absurd p
 input_denied old (Some file) now (denied.Doubled name home) main p = absurd p
 input_denied old (Some file) now (denied.Clash name home) main p = absurd p
+input_denied old (Some file) now (denied.NotOurs at first) main p = absurd p
 input_denied old (Some file) now denied.RunActive main p = absurd p
 input_denied old (Some file) now denied.NoRun main p = absurd p
 input_denied old (Some file) now denied.NotAtStop main p = absurd p
@@ -345,30 +349,30 @@ pub run_unbegun : (sink : Option (List ℕ)) (old : Moment) (file : Option (List
 run_unbegun sink old file v now held is same = ([], appends_none sink, (same, inl (refl, is)))
 
 -- what comes of a go is what comes of its command
-pub runs_so : (sink gained : Option (List ℕ)) (old new : Moment) (file : Option (List ℕ)) (c : Command) (r : Result Answer Unsent) → c ≡ command.Run file → RunsOut sink gained old file r new → GoesOut sink gained old c r new
+pub runs_so : (sink gained : Option (List ℕ)) (old new : Moment) (file : Option (List ℕ)) (c : Command) (r : Result Answer Unsent) → c ≡ command.Run file → RunsOutBy (are_sources (texts old.session.modules)) sink gained old file r new → GoesOut sink gained old c r new
 runs_so sink gained old new file c (Ok said) is p = subst (λ c. GoesOut sink gained old c (Ok said) new) (sym is) p
 runs_so sink gained old new file c (Err e) is p = subst (λ c. GoesOut sink gained old c (Err e) new) (sym is) p
 
 module _ (sink gained : Option (List ℕ)) (old new : Plain) (held : Option FileMap) (faults : ℕ) (how : Walk) where
   -- the files are not looked at
   abbrev WalksOutThere : Result Answer Unsent → Type 0
-  WalksOutThere (Ok said) = Gains sink gained (λ front. Walks old how front said new × ((held ≡ held) × (faults ≡ faults)))
+  WalksOutThere (Ok said) = Gains sink gained (λ front. WalksBy (is_mixed old.state) old how front said new × ((held ≡ held) × (faults ≡ faults)))
   WalksOutThere (Err e) = Gains sink gained (λ front. WalkFirst old how front)
 
-  walks_there : (r : Result Answer Unsent) → WalksOut sink gained old how r new → WalksOutThere r
+  walks_there : (r : Result Answer Unsent) → WalksOutBy (is_mixed old.state) sink gained old how r new → WalksOutThere r
   walks_there (Ok said) (front, gains, p) = (front, gains, (p, (refl, refl)))
   walks_there (Err e) p = p
 
 module _ (sink gained : Option (List ℕ)) (old new : Plain) (held : Option FileMap) (faults : ℕ) (c : Command) where
-  pub steps_so : (r : Result Answer Unsent) → c ≡ command.Step → WalksOut sink gained old walk.Step r new → GoesOut sink gained (moment old held faults) c r (moment new held faults)
+  pub steps_so : (r : Result Answer Unsent) → c ≡ command.Step → WalksOutBy (is_mixed old.state) sink gained old walk.Step r new → GoesOut sink gained (moment old held faults) c r (moment new held faults)
   steps_so (Ok said) is p = subst (λ c. GoesOut sink gained (moment old held faults) c (Ok said) (moment new held faults)) (sym is) (walks_there sink gained old new held faults walk.Step (Ok said) p)
   steps_so (Err e) is p = subst (λ c. GoesOut sink gained (moment old held faults) c (Err e) (moment new held faults)) (sym is) p
 
-  pub nexts_so : (r : Result Answer Unsent) → c ≡ command.Next → WalksOut sink gained old walk.Next r new → GoesOut sink gained (moment old held faults) c r (moment new held faults)
+  pub nexts_so : (r : Result Answer Unsent) → c ≡ command.Next → WalksOutBy (is_mixed old.state) sink gained old walk.Next r new → GoesOut sink gained (moment old held faults) c r (moment new held faults)
   nexts_so (Ok said) is p = subst (λ c. GoesOut sink gained (moment old held faults) c (Ok said) (moment new held faults)) (sym is) (walks_there sink gained old new held faults walk.Next (Ok said) p)
   nexts_so (Err e) is p = subst (λ c. GoesOut sink gained (moment old held faults) c (Err e) (moment new held faults)) (sym is) p
 
-  pub conts_so : (r : Result Answer Unsent) → c ≡ command.Cont → WalksOut sink gained old walk.Cont r new → GoesOut sink gained (moment old held faults) c r (moment new held faults)
+  pub conts_so : (r : Result Answer Unsent) → c ≡ command.Cont → WalksOutBy (is_mixed old.state) sink gained old walk.Cont r new → GoesOut sink gained (moment old held faults) c r (moment new held faults)
   conts_so (Ok said) is p = subst (λ c. GoesOut sink gained (moment old held faults) c (Ok said) (moment new held faults)) (sym is) (walks_there sink gained old new held faults walk.Cont (Ok said) p)
   conts_so (Err e) is p = subst (λ c. GoesOut sink gained (moment old held faults) c (Err e) (moment new held faults)) (sym is) p
 
@@ -383,6 +387,7 @@ writes_first old command.Unknown front p = p
 writes_first old command.BadArguments front p = p
 writes_first old (command.Load name) front p = p
 writes_first old (command.Unload name) front p = p
+writes_first old (command.Swap name form) front p = p
 writes_first old (command.Edit name file) front p = p
 writes_first old (command.Compile name) front p = p
 writes_first old (command.Stop place) front p = p
@@ -400,6 +405,7 @@ quiet_so old command.Unknown said new p = absurd p
 quiet_so old command.BadArguments said new p = absurd p
 quiet_so old (command.Load name) said new p = (refl, p)
 quiet_so old (command.Unload name) said new p = (refl, p)
+quiet_so old (command.Swap name form) said new p = (refl, p)
 quiet_so old (command.Edit name file) said new p = (refl, p)
 quiet_so old (command.Compile name) said new p = (refl, p)
 quiet_so old (command.Run file) said new p = absurd p

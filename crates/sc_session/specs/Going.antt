@@ -1,10 +1,10 @@
 -- Yardstick: to be compared with what it restates (docs/TRUST.md).
 -- What a run answers that begins or goes on, and how the session stands behind it.
 use Rattle.std.specs.Io.KnownBytes.{Appends}
-use Rattle.std.specs.Prelude.{◌≡◌, ◌≢◌, ◌<◌, ◌≤◌, ◌⊎◌, ℕ, ◌+◌, ◌-◌, ◌==◌, not, Bool, true, false, List, [], ◌∷◌, ◌++◌, length, take, drop, slice_get, Option, Some, None, Result, Ok, Err, codes, decimal}
+use Rattle.std.specs.Prelude.{◌≡◌, ◌≢◌, ◌<◌, ◌≤◌, ◌⊎◌, ℕ, ◌+◌, ◌-◌, ◌==◌, not, Bool, true, false, List, [], ◌∷◌, ◌++◌, length, take, drop, slice_get, Option, Some, None, Result, Ok, Err}
 use Rattle.sc_meaning.specs.Behaviour.{Start, main_key}
 use Rattle.sc_meaning.specs.Versions.{Text, Callee, callee_of, Missing}
-use Rattle.sc_meaning.specs.World.{World, Frame}
+use Rattle.sc_meaning.specs.World.{World}
 use Rattle.sc_outside.specs.Causes.{Rose}
 use Rattle.sc_outside.specs.Stored.{FileMap, FindsTold}
 use Rattle.sc_outside.specs.declared.files.FileGot.{FileGot}
@@ -13,8 +13,7 @@ use Rattle.sc_interp.specs.Ends.{start_of}
 use Rattle.sc_interp_access.specs.declared.ended.Ended.{Ended}
 use Rattle.sc_interp_access.specs.declared.ended.Ended.TheVariants as ended
 use Rattle.sc_interp_world.specs.Outputs.{output}
-use Rattle.sc_session_texts.specs.Ends.{stop_text, on_new_line}
-use Rattle.sc_session_texts.specs.Words.{key_text}
+use Rattle.sc_session_texts.specs.Ends.{entered_text, line_text, end_text, stop_text, on_new_line}
 use Rattle.sc_words.specs.declared.answer.Answer.{Answer}
 use Rattle.sc_words.specs.declared.answer.Answer.TheVariants as answer
 use Rattle.sc_words.specs.declared.denied.Denied.{Denied}
@@ -81,21 +80,6 @@ Finds held file before now input.NoMemory = Unit {0}
 -- the world in which a run stands
 abbrev pub IsWorldOf : Option Standing → World → Type 0
 IsWorldOf r w = (v : World) → world_in r ≡ Some v → w ≡ v
-
--- the function that was entered, and the line that was reached, in the innermost call
-abbrev pub entered_text : List Frame → List ℕ
-entered_text [] = codes "entered "
-entered_text (f ∷ frames) = codes "entered " ++ key_text f.key
-
-abbrev pub line_text : List Frame → List ℕ
-line_text [] = codes "at "
-line_text (f ∷ frames) = codes "at " ++ f.home ++ codes ":" ++ decimal f.line
-
--- what is said of the end of a run
-abbrev pub end_text : Ended → World → Option (List ℕ)
-end_text ended.OutOfSteps w = None
-end_text ended.NoRoom w = None
-end_text e w = stop_text 0 e w
 
 -- what is said of where a run halted
 abbrev pub Says : Halt → Option Standing → World → List ℕ → Type 0
@@ -193,17 +177,21 @@ Loses old new First before (lost.Unsent e) = Gains old new First
 abbrev pub IsFirstOf : List Text → List StopAt → Walk → ℕ → Option Standing → List ℕ → Type 0
 IsFirstOf modules stops how turns r front = SendsSome (Some []) (Some front) modules stops how turns r
 
--- the run that goes on in a state
+-- the run of interpreted modules that goes on in a state
 abbrev pub RunsIn : State → Option Standing → Type 0
 RunsIn state.Idle r = ⊥
 RunsIn (state.Stopped s) r = r ≡ s
 RunsIn (state.Paused s) r = r ≡ s
+RunsIn (state.StoppedMixed w) r = ⊥
+RunsIn (state.PausedMixed w) r = ⊥
 RunsIn state.Ended r = ⊥
 
 abbrev pub IsGoing : State → Type 0
 IsGoing state.Idle = ⊥
 IsGoing (state.Stopped r) = Unit {0}
 IsGoing (state.Paused r) = Unit {0}
+IsGoing (state.StoppedMixed w) = ⊥
+IsGoing (state.PausedMixed w) = ⊥
 IsGoing state.Ended = ⊥
 
 -- one go of a session from a run, with the text that answers it behind what went out, and the session behind it

@@ -7,4 +7,7 @@ pub mod Stopping
 pub mod Showing
 pub mod Going
 pub mod Compiling
+pub mod Linking
+pub mod Swapping
+pub mod Mixing
 pub mod Transcript

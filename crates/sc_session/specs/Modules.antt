@@ -8,6 +8,7 @@ use Rattle.sc_core_names.specs.declared.table.Scopes.{Scopes}
 use Rattle.sc_object.specs.declared.object.Object.{Object}
 use Rattle.sc_meaning.specs.Versions.{Text}
 use Rattle.sc_meaning.specs.World.{Frame}
+use Rattle.sc_session_forms.specs.declared.calls.Compiled.{Compiled}
 use Rattle.sc_session.specs.declared.present.Present.{Present}
 
 -- a module that was translated is interpreted; its text gets this number
@@ -37,3 +38,8 @@ scopes_at modules (f ∷ frames) = scopes_numbered modules f.text
 abbrev pub object_named : List Present → List ℕ → Option Object
 object_named [] name = None
 object_named (p ∷ ps) name = if bytes_eq p.text.core.name name then Some p.object else object_named ps name
+
+-- the objects of modules by the numbers of their texts
+abbrev pub compiled : List Present → List Compiled
+compiled [] = []
+compiled (p ∷ ps) = record { number = p.text.number; object = p.object } ∷ compiled ps

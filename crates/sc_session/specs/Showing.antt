@@ -32,6 +32,8 @@ abbrev pub state_line : State → List ℕ
 state_line state.Idle = codes "> idle\n"
 state_line (state.Stopped r) = codes "> stopped\n"
 state_line (state.Paused r) = codes "> paused\n"
+state_line (state.StoppedMixed w) = codes "> stopped\n"
+state_line (state.PausedMixed w) = codes "> paused\n"
 state_line state.Ended = codes "> ended\n"
 
 -- the modules, the functions that they define, the stops, and the state

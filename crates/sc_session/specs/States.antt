@@ -22,6 +22,8 @@ abbrev pub changing : State → Option Denied
 changing state.Idle = None
 changing (state.Stopped r) = Some denied.RunActive
 changing (state.Paused r) = Some denied.NotAtStop
+changing (state.StoppedMixed w) = Some denied.RunActive
+changing (state.PausedMixed w) = Some denied.NotAtStop
 changing state.Ended = None
 
 -- why no run can begin
@@ -29,6 +31,8 @@ abbrev pub starting : State → Option Denied
 starting state.Idle = None
 starting (state.Stopped r) = Some denied.RunActive
 starting (state.Paused r) = Some denied.RunActive
+starting (state.StoppedMixed w) = Some denied.RunActive
+starting (state.PausedMixed w) = Some denied.RunActive
 starting state.Ended = None
 
 -- why no stop can be set or taken away
@@ -36,6 +40,8 @@ abbrev pub marking : State → Option Denied
 marking state.Idle = None
 marking (state.Stopped r) = None
 marking (state.Paused r) = Some denied.NotAtStop
+marking (state.StoppedMixed w) = None
+marking (state.PausedMixed w) = Some denied.NotAtStop
 marking state.Ended = None
 
 -- why a run can neither go to a line nor be looked at
@@ -43,6 +49,8 @@ abbrev pub stepping : State → Option Denied
 stepping state.Idle = Some denied.NoRun
 stepping (state.Stopped r) = None
 stepping (state.Paused r) = Some denied.NotAtStop
+stepping (state.StoppedMixed w) = None
+stepping (state.PausedMixed w) = Some denied.NotAtStop
 stepping state.Ended = Some denied.NotAtStop
 
 -- why a run cannot go on
@@ -50,6 +58,8 @@ abbrev pub continuing : State → Option Denied
 continuing state.Idle = Some denied.NoRun
 continuing (state.Stopped r) = None
 continuing (state.Paused r) = None
+continuing (state.StoppedMixed w) = None
+continuing (state.PausedMixed w) = None
 continuing state.Ended = Some denied.NotAtStop
 
 abbrev pub or_else : Option Denied → Option Denied → Option Denied
@@ -81,6 +91,7 @@ refusal_of session command.Unknown = Some denied.UnknownCommand
 refusal_of session command.BadArguments = Some denied.BadArguments
 refusal_of session (command.Load name) = or_else (changing session.state) (if_present name (texts session.modules))
 refusal_of session (command.Unload name) = or_else (changing session.state) (if_absent name (texts session.modules))
+refusal_of session (command.Swap name form) = or_else (changing session.state) (if_absent name (texts session.modules))
 refusal_of session (command.Edit name file) = or_else (changing session.state) (if_absent name (texts session.modules))
 refusal_of session (command.Compile name) = if_absent name (texts session.modules)
 refusal_of session (command.Run file) = starting session.state

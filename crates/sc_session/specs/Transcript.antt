@@ -1,9 +1,14 @@
 -- Yardstick: to be compared with what it restates (docs/TRUST.md).
 -- What a session answers to each command, and the session behind it.
 use Rattle.std.specs.Prelude.{◌≡◌, ◌⊎◌, ℕ, ◌+◌, ◌&&◌, Bool, true, false, List, [], ◌++◌, Option, Some, None, Result, Ok, Err}
+use Rattle.sc_base.specs.declared.memory.Form.{Form}
+use Rattle.sc_base.specs.declared.memory.Form.TheVariants as form
 use Rattle.sc_build.specs.Builds.{Builds, Refuses, IsMissing, IsTooLong, Asks}
 use Rattle.sc_build.specs.declared.building.Built.{Built}
+use Rattle.sc_object.specs.Spelling.{spelled}
+use Rattle.sc_object.specs.declared.object.Object.{Object}
 use Rattle.sc_outside.specs.Causes.{Rose}
+use Rattle.sc_session_forms.specs.Forms.{are_sources}
 use Rattle.sc_outside.specs.Stored.{FileMap}
 use Rattle.sc_words.specs.declared.command.Command.{Command}
 use Rattle.sc_words.specs.declared.command.Command.TheVariants as command
@@ -12,6 +17,7 @@ use Rattle.sc_words.specs.declared.answer.Answer.TheVariants as answer
 use Rattle.sc_words.specs.declared.denied.Denied.{Denied}
 use Rattle.sc_words.specs.declared.denied.Denied.TheVariants as denied
 use Rattle.sc_words.specs.declared.options.Options.{Options}
+use Rattle.sc_words.specs.declared.stop.Walk.{Walk}
 use Rattle.sc_words.specs.declared.stop.Walk.TheVariants as walk
 use Rattle.sc_world.specs.declared.post.Unsent.{Unsent}
 use Rattle.sc_session.specs.declared.joining.Taken.{Taken}
@@ -19,14 +25,17 @@ use Rattle.sc_session.specs.declared.joining.Taken.TheVariants as taken
 use Rattle.sc_session.specs.declared.limits.Limits.{Limits}
 use Rattle.sc_session.specs.declared.state.State.{State}
 use Rattle.sc_session.specs.declared.state.State.TheVariants as state
-use Rattle.sc_session.specs.Modules.{texts, present_of}
+use Rattle.sc_session.specs.Modules.{texts, object_named, present_of}
 use Rattle.sc_session.specs.Plain.{Plain}
 use Rattle.sc_session.specs.States.{refusal_of}
 use Rattle.sc_session.specs.Loading.{file_of, file_or, conflict, numbers_with, with_module, in_place, without}
 use Rattle.sc_session.specs.Stopping.{Sets, without_stop}
-use Rattle.sc_session.specs.Showing.{Lists, ShowsCalls, ShowsValue}
-use Rattle.sc_session.specs.Compiling.{Compiles}
-use Rattle.sc_session.specs.Going.{in_state, has_main, IsInput, InputDenied, IsCutOff, Gains, Walks, WalkFirst, Begins, BeginFirst}
+use Rattle.sc_session.specs.Showing.{Lists}
+use Rattle.sc_session.specs.Compiling.{Compiles, object_file}
+use Rattle.sc_session.specs.Going.{in_state, has_main, IsInput, InputDenied, IsCutOff, Gains, WalkFirst, Begins, BeginFirst}
+use Rattle.sc_session.specs.Linking.{HasRoom, LacksRoom, with_form}
+use Rattle.sc_session.specs.Mixing.{is_mixed, IsGivenUp, MixedBegins, ShowsCallsBy, ShowsValueBy, WalksBy}
+use Rattle.sc_session.specs.Swapping.{HasBytes, NotKept}
 
 -- A session between two commands, what the files hold then where they tell it, and how often they have failed.
 pub record Moment : Type 0 where
@@ -108,6 +117,40 @@ unloaded session name = record session {
   state = state.Idle;
 }
 
+-- the session in which a module has a form
+abbrev pub swapped : Plain → List ℕ → Form → Plain
+swapped session name f = record session { modules = with_form name f session.modules; state = state.Idle }
+
+-- the file of the module's object is the object that the session keeps
+abbrev pub IsKept : Moment → List ℕ → Type 0
+IsKept old name = (object : Object) × (object_named old.session.modules name ≡ Some object) × HasBytes old.held (object_file name) (spelled object)
+
+-- a module may have a form: any may be interpreted; the object of one that is not has to be in its file, and to have room
+abbrev pub Allows : Moment → List ℕ → Form → Type 0
+Allows old name form.Source = Unit {0}
+Allows old name form.Object = IsKept old name × HasRoom (with_form name form.Object old.session.modules) old.session.numbers
+
+-- why it may not
+abbrev pub SwapDenied : Moment → List ℕ → ℕ → Denied → Type 0
+SwapDenied old name now (denied.Space a) = IsKept old name × LacksRoom (with_form name form.Object old.session.modules) old.session.numbers a
+SwapDenied old name now d =
+    (object : Object) × (object_named old.session.modules name ≡ Some object) × NotKept old.held (object_file name) object old.faults now d
+
+-- the answers to `swap`
+abbrev pub Swaps : Moment → List ℕ → Form → Answer → Moment → Type 0
+Swaps old name f (answer.Swapped m g) new = (m ≡ name) × (g ≡ f) × Allows old name f × Leaves old new (swapped old.session name f)
+Swaps old name f (answer.Refused d) new = (f ≡ form.Object) × Leaves old new old.session × SwapDenied old name new.faults d
+Swaps old name f answer.NoMemory new = Leaves old new old.session
+Swaps old name f _ new = ⊥
+
+-- the same of a module whose file is its object
+abbrev pub Reforms : Plain → List ℕ → Answer → Plain → Type 0
+Reforms session name (answer.Swapped m g) new =
+    (m ≡ name) × (g ≡ form.Object) × HasRoom (with_form name form.Object session.modules) session.numbers × (new ≡ swapped session name form.Object)
+Reforms session name (answer.Refused (denied.Space a)) new = (new ≡ session) × LacksRoom (with_form name form.Object session.modules) session.numbers a
+Reforms session name answer.NoMemory new = new ≡ session
+Reforms session name _ new = ⊥
+
 -- the answers to `load`, of a module in this file
 abbrev pub Loads : Moment → List ℕ → List ℕ → Answer → Moment → Type 0
 Loads old name file (answer.Loaded m) new =
@@ -158,6 +201,31 @@ abbrev pub RunsOut : Option (List ℕ) → Option (List ℕ) → Moment → Opti
 RunsOut sink gained old file (Ok said) new = Gains sink gained (λ front. Runs old file front said new)
 RunsOut sink gained old file (Err e) new = Gains sink gained (λ front. RunFirst old file front)
 
+-- the answers to `run` of a program that has modules in object form
+abbrev pub MixedRuns : Moment → Option (List ℕ) → Answer → Moment → Type 0
+MixedRuns old file (answer.Ran text) new = (new.held ≡ old.held) × (has_main (texts old.session.modules) ≡ true)
+    × ((bytes : List ℕ) × IsInput old.held file bytes × MixedBegins old.session (answer.Ran text) new.session)
+MixedRuns old file (answer.Refused (denied.Space a)) new = Leaves old new old.session × (has_main (texts old.session.modules) ≡ true)
+    × ((bytes : List ℕ) × IsInput old.held file bytes) × LacksRoom old.session.modules old.session.numbers a
+MixedRuns old file (answer.Refused d) new = Leaves old new old.session × RunDenied old file new.faults d
+MixedRuns old file answer.NoMemory new = (new.held ≡ old.held) × IsGivenUp old.session new.session
+MixedRuns old file _ new = ⊥
+
+-- the same by whether all modules are interpreted
+abbrev pub RunsBy : Bool → Moment → Option (List ℕ) → List ℕ → Answer → Moment → Type 0
+RunsBy true old file front said new = Runs old file front said new
+RunsBy false old file front said new = (front ≡ []) × MixedRuns old file said new
+
+-- and what comes of it
+abbrev pub RunsOutBy : Bool → Option (List ℕ) → Option (List ℕ) → Moment → Option (List ℕ) → Result Answer Unsent → Moment → Type 0
+RunsOutBy b sink gained old file (Ok said) new = Gains sink gained (λ front. RunsBy b old file front said new)
+RunsOutBy b sink gained old file (Err e) new = Gains sink gained (λ front. RunFirst old file front)
+
+-- what comes of a go of a session's run: an answer behind what went out, or a write that failed
+abbrev pub WalksOutBy : Bool → Option (List ℕ) → Option (List ℕ) → Plain → Walk → Result Answer Unsent → Plain → Type 0
+WalksOutBy b sink gained session how (Ok said) new = Gains sink gained (λ front. WalksBy b session how front said new)
+WalksOutBy b sink gained session how (Err e) new = Gains sink gained (λ front. WalkFirst session how front)
+
 -- a command that looks at no file
 abbrev pub SameFiles : Moment → Moment → Type 0
 SameFiles old new = (new.held ≡ old.held) × (new.faults ≡ old.faults)
@@ -167,12 +235,13 @@ abbrev pub Does : Moment → Command → Answer → Moment → Type 0
 Does old command.Nothing said new = (said ≡ answer.Silent) × (new ≡ old)
 Does old (command.Load name) said new = Loads old name (file_of name) said new
 Does old (command.Unload name) said new = (said ≡ answer.Unloaded name) × (new.session ≡ unloaded old.session name) × SameFiles old new
+Does old (command.Swap name form) said new = Swaps old name form said new
 Does old (command.Edit name file) said new = Edits old name (file_or name file) said new
 Does old (command.Compile name) said new = (new.session ≡ old.session) × Compiles old.session old.held old.faults name said new.held new.faults
 Does old (command.Stop p) said new = Sets old.session p said new.session × SameFiles old new
 Does old (command.Delete k) said new = (said ≡ answer.Deleted k) × (new.session ≡ without_stop k old.session) × SameFiles old new
-Does old command.Frames said new = ShowsCalls old.session said × (new ≡ old)
-Does old (command.Print name) said new = ShowsValue old.session name said × (new ≡ old)
+Does old command.Frames said new = ShowsCallsBy (is_mixed old.session.state) old.session said × (new ≡ old)
+Does old (command.Print name) said new = ShowsValueBy (is_mixed old.session.state) old.session name said × (new ≡ old)
 Does old command.List said new = Lists old.session said × (new ≡ old)
 Does old command.Reset said new = (said ≡ answer.Reset) × (new.session ≡ in_state state.Idle old.session) × SameFiles old new
 Does old command.Quit said new = (said ≡ answer.Bye) × (new.session ≡ record old.session { over = true }) × SameFiles old new
@@ -181,10 +250,10 @@ Does old _ said new = ⊥
 -- The answer to a command that is not refused before it is carried out, behind the bytes of the program that went out meanwhile, and
 -- the session after it.
 abbrev pub Carried : Moment → Command → List ℕ → Answer → Moment → Type 0
-Carried old (command.Run file) front said new = Runs old file front said new
-Carried old command.Step front said new = Walks old.session walk.Step front said new.session × SameFiles old new
-Carried old command.Next front said new = Walks old.session walk.Next front said new.session × SameFiles old new
-Carried old command.Cont front said new = Walks old.session walk.Cont front said new.session × SameFiles old new
+Carried old (command.Run file) front said new = RunsBy (are_sources (texts old.session.modules)) old file front said new
+Carried old command.Step front said new = WalksBy (is_mixed old.session.state) old.session walk.Step front said new.session × SameFiles old new
+Carried old command.Next front said new = WalksBy (is_mixed old.session.state) old.session walk.Next front said new.session × SameFiles old new
+Carried old command.Cont front said new = WalksBy (is_mixed old.session.state) old.session walk.Cont front said new.session × SameFiles old new
 Carried old c front said new = (front ≡ []) × Does old c said new
 
 -- a run that ended is forgotten as another is asked for

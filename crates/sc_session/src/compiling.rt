@@ -11,8 +11,8 @@ use sc_outside::{FilePut, Files};
 use sc_words::{Answer, Denied};
 use std::alloc::Global;
 
-// The file of a module's object.
-fn object_file(alloc: Global, name: &Name) -> Result<String, NoMemory>
+/// The file of a module's object.
+pub fn object_file(alloc: Global, name: &Name) -> Result<String, NoMemory>
     requires { is_module_name name.now ≡ true }
     ensures { IfOk result (λ file. string_bytes file ≡ spec.object_file name.now) }
 {

@@ -1,10 +1,9 @@
 // A run of a session goes on.
-ghost use Rattle.std.specs.Prelude.{◌≡◌, ◌≤◌, ◌++◌, ℕ, List, drop, take, true, Err, Some, IfErr, IfOk, codes, decimal};
+ghost use Rattle.std.specs.Prelude.{◌≡◌, ◌≤◌, ◌++◌, ℕ, List, drop, take, true, Err, Some, IfErr, IfOk};
 ghost use Rattle.sc_meaning.specs.Behaviour.{main_key};
 ghost use Rattle.sc_meaning.specs.Versions.{callee_of};
 ghost use Rattle.sc_outside.specs.Causes.{Rose};
 ghost use Rattle.sc_session_texts.specs.Ends as ends;
-ghost use Rattle.sc_session_texts.specs.Words.{key_text};
 ghost use Rattle.sc_session.specs.Going as spec;
 ghost use Rattle.sc_session.specs.Modules.{texts};
 ghost use Rattle.sc_session.specs.declared.going.Lost.TheVariants as lost;
@@ -15,9 +14,9 @@ use crate::state::State;
 use sc_base::{Bytes, Key, Name, NoMemory};
 use sc_core_held::{Callee, Text, callee_of};
 use sc_interp_access::Ended;
-use sc_interp_world::{Frame, World};
+use sc_interp_world::World;
 use sc_outside::Sink;
-use sc_session_texts::{put, put_decimal, put_key, stop_text};
+use sc_session_texts::{end_text, entered_text, line_text, put, stop_text};
 use sc_words::{StopAt, Walk};
 use sc_world::{Halt, Halted, Run, Unsent, behind};
 use std::alloc::Global;
@@ -54,66 +53,6 @@ fn is_found(texts: &[Text], key: &Key) -> bool
         Callee::Missing => false,
         Callee::InLibrary(_) => true,
         Callee::InText(_, _) => true,
-    }
-}
-
-fn words(alloc: Global, bytes: &[u8]) -> Result<Vec<u8>, NoMemory>
-    ensures { IfOk result (λ text. text.items ≡ bytes.now) }
-{
-    let text = Vec::from_slice(alloc, bytes)?;
-    Ok(text)
-}
-
-fn entered(alloc: Global, f: &Frame) -> Result<Vec<u8>, NoMemory>
-    ensures { IfOk result (λ text. text.items ≡ codes "entered " ++ key_text f.now.key) }
-{
-    let mut text = Vec::new(alloc);
-    put(&mut text, b"entered ")?;
-    put_key(&mut text, alloc, &f.key)?;
-    Ok(text)
-}
-
-fn at_line(alloc: Global, f: &Frame) -> Result<Vec<u8>, NoMemory>
-    ensures { IfOk result (λ text. text.items ≡ codes "at " ++ f.now.home ++ codes ":" ++ decimal f.now.line) }
-{
-    let mut text = Vec::new(alloc);
-    put(&mut text, b"at ")?;
-    put(&mut text, f.home.as_slice())?;
-    put(&mut text, b":")?;
-    put_decimal(&mut text, alloc, f.line)?;
-    Ok(text)
-}
-
-// The function that was entered.
-fn entered_text(alloc: Global, world: &World) -> Result<Vec<u8>, NoMemory>
-    ensures { IfOk result (λ text. text.items ≡ spec.entered_text world.now.frames) }
-{
-    match world.innermost() {
-        Some(f) => entered(alloc, f),
-        None => words(alloc, b"entered "),
-    }
-}
-
-// The line that was reached.
-fn line_text(alloc: Global, world: &World) -> Result<Vec<u8>, NoMemory>
-    ensures { IfOk result (λ text. text.items ≡ spec.line_text world.now.frames) }
-{
-    match world.innermost() {
-        Some(f) => at_line(alloc, f),
-        None => words(alloc, b"at "),
-    }
-}
-
-fn end_text(alloc: Global, ended: &Ended, world: &World) -> Result<Vec<u8>, NoMemory>
-    ensures { IfOk result (λ text. Some text.items ≡ spec.end_text ended.now world.now) }
-{
-    match ended {
-        Ended::OutOfSteps => Err(NoMemory),
-        Ended::NoRoom => Err(NoMemory),
-        Ended::Exit(_) => stop_text(alloc, 0, ended, world),
-        Ended::Undefined(_) => stop_text(alloc, 0, ended, world),
-        Ended::StackFull(_) => stop_text(alloc, 0, ended, world),
-        Ended::BirthLimit => stop_text(alloc, 0, ended, world),
     }
 }
 
@@ -299,7 +238,7 @@ pub fn gone<K: Sink>(
     }
 }
 
-/// The run that goes on in a state.
+/// The run of interpreted modules that goes on in a state.
 pub fn run_in(state: &State) -> &Run
     requires { spec.IsGoing state.now }
     ensures { spec.RunsIn state.now result.now }
@@ -308,11 +247,13 @@ pub fn run_in(state: &State) -> &Run
         State::Idle => unreachable!(),
         State::Stopped(run) => run,
         State::Paused(run) => run,
+        State::StoppedMixed(_) => unreachable!(),
+        State::PausedMixed(_) => unreachable!(),
         State::Ended => unreachable!(),
     }
 }
 
-/// The run that goes on in a state, taken out of it.
+/// The run of interpreted modules that goes on in a state, taken out of it.
 pub fn run_out_of(state: State) -> Run
     requires { spec.IsGoing state }
     ensures { spec.RunsIn state result }
@@ -321,6 +262,8 @@ pub fn run_out_of(state: State) -> Run
         State::Idle => unreachable!(),
         State::Stopped(run) => run,
         State::Paused(run) => run,
+        State::StoppedMixed(_) => unreachable!(),
+        State::PausedMixed(_) => unreachable!(),
         State::Ended => unreachable!(),
     }
 }

@@ -1,17 +1,23 @@
 //! A session of the workspace: modules that are loaded, edited and unloaded, stops, and a run that stops and goes on.
 #![tactic(auto)]
 
+mod changing;
 mod compiling;
 mod going;
 mod input;
 mod joining;
 mod limits;
+mod linking;
 mod listing;
+mod mixing;
 mod present;
 mod refusal;
+mod running;
 mod session;
+mod sources;
 mod state;
 mod stops;
+mod swapping;
 
 pub use sc_world::Unsent;
 pub use session::{Session, is_go, is_silent};

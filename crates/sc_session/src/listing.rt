@@ -20,6 +20,8 @@ fn state_line(state: &State) -> &'static [u8]
         State::Idle => b"> idle\n",
         State::Stopped(_) => b"> stopped\n",
         State::Paused(_) => b"> paused\n",
+        State::StoppedMixed(_) => b"> stopped\n",
+        State::PausedMixed(_) => b"> paused\n",
         State::Ended => b"> ended\n",
     }
 }

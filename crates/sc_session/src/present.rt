@@ -4,12 +4,13 @@ ghost use Rattle.std.specs.Str.{bytes_eq};
 ghost use Rattle.sc_session_conflicts.specs.Clashes.{is_present};
 ghost use Rattle.sc_session.specs.Modules as spec;
 
-use sc_base::{Duplicate, Form, Items, Name, NoMemory};
+use sc_base::{Duplicate, Form, Items, Name, NoMemory, Shared};
 use sc_build::Built;
 use sc_core_held::Text;
 use sc_core_names::Scopes;
 use sc_interp_world::World;
 use sc_object::Object;
+use sc_session_forms::Compiled;
 use std::alloc::Global;
 
 /// A module that is present: its text, what its scopes declare, and its object.
@@ -17,7 +18,25 @@ use std::alloc::Global;
 pub struct Present {
     pub text: Text,
     pub scopes: Scopes,
-    pub object: Object,
+    pub object: Shared<Object>,
+}
+
+// A module with its object, which is shared.
+fn present(alloc: Global, text: Text, scopes: Scopes, object: Object) -> Result<Present, NoMemory>
+    ensures { IfOk result (λ p. p ≡ record { text = text; scopes = scopes; object = object }) }
+{
+    match Shared::new(alloc, object) {
+        Ok(object) => Ok(Present {
+            text,
+            scopes,
+            object,
+        }),
+        Err(_) => {
+            drop(text);
+            drop(scopes);
+            Err(NoMemory)
+        }
+    }
 }
 
 /// A module that was translated. Its text gets this number.
@@ -30,11 +49,7 @@ pub fn present_of(alloc: Global, number: u32, built: Built) -> Result<Present, N
         object,
     } = built;
     match Text::new(alloc, number, Form::Source, core) {
-        Ok(text) => Ok(Present {
-            text,
-            scopes,
-            object,
-        }),
+        Ok(text) => present(alloc, text, scopes, object),
         Err(_) => {
             drop(scopes);
             drop(object);
@@ -73,8 +88,8 @@ pub fn is_present(name: &Name, modules: &[Present]) -> bool
     false
 }
 
-// What the text with a number declares.
-fn scopes_numbered(modules: &[Present], n: u32) -> Option<&Scopes>
+/// What the text with a number declares.
+pub fn scopes_numbered(modules: &[Present], n: u32) -> Option<&Scopes>
     ensures { MatchOption result (spec.scopes_numbered modules.now n ≡ None) (λ s. spec.scopes_numbered modules.now n ≡ Some s.now) }
 {
     for p in modules {
@@ -101,8 +116,22 @@ pub fn object_named<'a>(modules: &'a [Present], name: &Name) -> Option<&'a Objec
 {
     for p in modules {
         if is_named(name, p) {
-            return Some(&p.object);
+            return Some(p.object.get());
         }
     }
     None
+}
+
+/// The objects of modules by the numbers of their texts. They are shared, and not copied.
+pub fn compiled_of(alloc: Global, modules: &[Present]) -> Result<Items<Compiled>, NoMemory>
+    ensures { IfOk result (λ compiled. compiled ≡ spec.compiled modules.now) }
+{
+    let mut compiled = Items::new(alloc);
+    for p in modules {
+        compiled.push(Compiled {
+            number: p.text.number,
+            object: p.object.share()?,
+        })?;
+    }
+    Ok(compiled)
 }

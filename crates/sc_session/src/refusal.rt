@@ -17,6 +17,8 @@ fn changing(state: &State) -> Option<Denied>
         State::Idle => None,
         State::Stopped(_) => Some(Denied::RunActive),
         State::Paused(_) => Some(Denied::NotAtStop),
+        State::StoppedMixed(_) => Some(Denied::RunActive),
+        State::PausedMixed(_) => Some(Denied::NotAtStop),
         State::Ended => None,
     }
 }
@@ -29,6 +31,8 @@ pub fn starting(state: &State) -> Option<Denied>
         State::Idle => None,
         State::Stopped(_) => Some(Denied::RunActive),
         State::Paused(_) => Some(Denied::RunActive),
+        State::StoppedMixed(_) => Some(Denied::RunActive),
+        State::PausedMixed(_) => Some(Denied::RunActive),
         State::Ended => None,
     }
 }
@@ -41,6 +45,8 @@ fn marking(state: &State) -> Option<Denied>
         State::Idle => None,
         State::Stopped(_) => None,
         State::Paused(_) => Some(Denied::NotAtStop),
+        State::StoppedMixed(_) => None,
+        State::PausedMixed(_) => Some(Denied::NotAtStop),
         State::Ended => None,
     }
 }
@@ -53,6 +59,8 @@ pub fn stepping(state: &State) -> Option<Denied>
         State::Idle => Some(Denied::NoRun),
         State::Stopped(_) => None,
         State::Paused(_) => Some(Denied::NotAtStop),
+        State::StoppedMixed(_) => None,
+        State::PausedMixed(_) => Some(Denied::NotAtStop),
         State::Ended => Some(Denied::NotAtStop),
     }
 }
@@ -65,6 +73,8 @@ pub fn continuing(state: &State) -> Option<Denied>
         State::Idle => Some(Denied::NoRun),
         State::Stopped(_) => None,
         State::Paused(_) => None,
+        State::StoppedMixed(_) => None,
+        State::PausedMixed(_) => None,
         State::Ended => Some(Denied::NotAtStop),
     }
 }
@@ -121,7 +131,7 @@ pub fn loading(state: &State, name: &Name, modules: &[Present]) -> Option<Denied
     }
 }
 
-/// Why `unload` and `edit` are refused.
+/// Why `unload`, `swap` and `edit` are refused before a file is looked at.
 pub fn replacing(state: &State, name: &Name, modules: &[Present]) -> Option<Denied>
     ensures { result ≡ spec.or_else (spec.changing state.now) (spec.if_absent name.now (texts modules.now)) }
 {

@@ -1,14 +1,12 @@
 // A session: the modules that are present, the stops, a run, and the commands that change them.
-ghost use Rattle.std.specs.Prelude.{◌≡◌, ◌≤◌, ℕ, List, Option, true, false, None, Err, IfOk, MatchResult, string_bytes};
-ghost use Rattle.sc_build.specs.Builds.{Answers};
+ghost use Rattle.std.specs.Prelude.{◌≡◌, ◌≤◌, true, false, None, Err, MatchResult};
 ghost use Rattle.sc_outside.specs.Causes.{Rose};
-ghost use Rattle.sc_outside.specs.Stored.{FileMap};
-ghost use Rattle.sc_words.specs.Commands.{IsNamed, IsFile};
+ghost use Rattle.sc_words.specs.Commands.{IsNamed};
 ghost use Rattle.sc_words.specs.Parts.{is_module_name};
 ghost use Rattle.sc_words.specs.declared.command.Command.TheVariants as command;
 ghost use Rattle.sc_session.specs.Compiling as compiling;
 ghost use Rattle.sc_session.specs.Going as going;
-ghost use Rattle.sc_session.specs.Loading as loading;
+ghost use Rattle.sc_session.specs.Mixing as mixing;
 ghost use Rattle.sc_session.specs.Modules.{texts};
 ghost use Rattle.sc_session.specs.Plain.{Plain};
 ghost use Rattle.sc_session.specs.Showing as showing;
@@ -19,40 +17,37 @@ ghost use Rattle.sc_session.specs.Transcript.{moment, BreaksOff, Does, Speaks};
 ghost use Rattle.sc_world.specs.declared.post.Unsent.TheVariants as unsent;
 
 use crate::compiling::write_compiled;
-use crate::going::{Lost, gone, has_main, run_in, run_out_of};
-use crate::input::{Input, file_text, input_of, name_text};
-use crate::joining::{Taken, take_anew, take_away, take_new};
+use crate::going::run_in;
 use crate::limits::Limits;
 use crate::listing::{calls_told, list_text, value_told};
-use crate::present::{Present, object_named, present_of, scopes_at, texts_of};
+use crate::mixing::{is_mixed, mixed_calls_told, mixed_in, mixed_value_told};
+use crate::present::{Present, object_named, scopes_at, texts_of};
 use crate::refusal::{
     continuing, deleting, if_absent, loading, replacing, setting, starting, stepping,
 };
 use crate::state::{State, put_state};
-use crate::stops::{Stop, delete_stop, places, put_stop};
-use sc_base::{Bytes, Duplicate, Items, Name, NoMemory};
-use sc_build::{BuildFault, Built, build};
+use crate::stops::{Stop, delete_stop, put_stop};
+use sc_base::{Duplicate, Name};
 use sc_core_held::Numbers;
 use sc_outside::{Files, Sink};
 use sc_words::{Answer, Command, Denied, Options, StopAt, Walk};
-use sc_world::{Run, Unsent};
+use sc_world::Unsent;
 use std::alloc::Global;
 use std::marker::Model;
-use std::mem;
 
 /// The modules that are present, in the order in which they were loaded; how many texts were loaded; the functions that have numbers; the
 /// stops; and how a run stands.
 #[derive(Drop)]
 pub struct Session {
-    limits: Limits,
-    modules: Vec<Present>,
-    loaded: u32,
-    numbers: Numbers,
-    stops: Vec<Stop>,
-    last: u32,
-    state: State,
-    in_line: bool,
-    over: bool,
+    pub(crate) limits: Limits,
+    pub(crate) modules: Vec<Present>,
+    pub(crate) loaded: u32,
+    pub(crate) numbers: Numbers,
+    pub(crate) stops: Vec<Stop>,
+    pub(crate) last: u32,
+    pub(crate) state: State,
+    pub(crate) in_line: bool,
+    pub(crate) over: bool,
 }
 
 impl Model for Session {
@@ -183,6 +178,7 @@ impl Session {
             Command::BadArguments => Some(Denied::BadArguments),
             Command::Load(name) => loading(&self.state, name, self.modules.as_slice()),
             Command::Unload(name) => replacing(&self.state, name, self.modules.as_slice()),
+            Command::Swap(name, _) => replacing(&self.state, name, self.modules.as_slice()),
             Command::Edit(name, _) => replacing(&self.state, name, self.modules.as_slice()),
             Command::Compile(name) => if_absent(name, self.modules.as_slice()),
             Command::Run(_) => starting(&self.state),
@@ -213,6 +209,7 @@ impl Session {
             Command::BadArguments => unreachable!(),
             Command::Load(name) => self.load(alloc, name, files),
             Command::Unload(name) => self.unload(name),
+            Command::Swap(name, form) => self.swap(alloc, name, form, files),
             Command::Edit(name, file) => self.edit(alloc, name, file, files),
             Command::Compile(name) => self.compile(alloc, name, files),
             Command::Run(_) => unreachable!(),
@@ -256,6 +253,7 @@ impl Session {
             Command::BadArguments => unreachable!(),
             Command::Load(_) => unreachable!(),
             Command::Unload(_) => unreachable!(),
+            Command::Swap(_, _) => unreachable!(),
             Command::Edit(_, _) => unreachable!(),
             Command::Compile(_) => unreachable!(),
             Command::Stop(_) => unreachable!(),
@@ -279,15 +277,6 @@ impl Session {
             Some(object) => write_compiled(alloc, name, object, files),
             None => unreachable!(),
         }
-    }
-
-    fn unload(&mut self, name: Name) -> Answer
-        ensures answer { result ≡ Answer.Unloaded name }
-        ensures session { self.new ≡ spec.unloaded self.old name }
-    {
-        take_away(&mut self.modules, &name);
-        put_state(&mut self.state, State::Idle);
-        Answer::Unloaded(name)
     }
 
     fn stop(&mut self, alloc: Global, place: StopAt) -> Answer
@@ -356,6 +345,25 @@ impl Session {
     }
 
     fn frames(&self, alloc: Global) -> Answer
+        requires { mixing.IsActive self.now.state }
+        ensures { mixing.ShowsCallsBy (mixing.is_mixed self.now.state) self.now result }
+    {
+        if is_mixed(&self.state) {
+            self.mixed_frames(alloc)
+        } else {
+            self.source_frames(alloc)
+        }
+    }
+
+    fn mixed_frames(&self, alloc: Global) -> Answer
+        requires { mixing.is_mixed self.now.state ≡ true }
+        ensures { mixing.MixedShowsCalls self.now result }
+    {
+        let run = mixed_in(&self.state);
+        mixed_calls_told(alloc, self.modules.as_slice(), run.world())
+    }
+
+    fn source_frames(&self, alloc: Global) -> Answer
         requires { going.IsGoing self.now.state }
         ensures { showing.ShowsCalls self.now result }
     {
@@ -368,6 +376,32 @@ impl Session {
     }
 
     fn print(&self, alloc: Global, name: Name) -> Answer
+        requires { mixing.IsActive self.now.state }
+        ensures { mixing.ShowsValueBy (mixing.is_mixed self.now.state) self.now name result }
+    {
+        if is_mixed(&self.state) {
+            self.mixed_value(alloc, name)
+        } else {
+            self.source_value(alloc, name)
+        }
+    }
+
+    fn mixed_value(&self, alloc: Global, name: Name) -> Answer
+        requires { mixing.is_mixed self.now.state ≡ true }
+        ensures { mixing.MixedShowsValue self.now name result }
+    {
+        let run = mixed_in(&self.state);
+        let declaring = run.declaring();
+        mixed_value_told(
+            alloc,
+            self.modules.as_slice(),
+            declaring,
+            run.world(),
+            &name,
+        )
+    }
+
+    fn source_value(&self, alloc: Global, name: Name) -> Answer
         requires { going.IsGoing self.now.state }
         ensures { showing.ShowsValue self.now name result }
     {
@@ -380,263 +414,6 @@ impl Session {
                 Ok(texts) => value_told(alloc, texts.as_slice(), scopes, declaring, world, &name),
                 Err(_) => Answer::NoMemory,
             },
-        }
-    }
-
-    // The run goes on from where it stands.
-    fn walk<K: Sink>(&mut self, alloc: Global, walk: Walk, out: &mut K) -> Result<Answer, Unsent>
-        requires { going.IsGoing self.old.state }
-        ensures walks { going.WalksOut (K.written out.old) (K.written out.new) self.old walk result self.new }
-        ensures later { K.faults out.old ≤ K.faults out.new }
-        ensures failed { result ≡ Err unsent.Failed → Rose (K.faults out.old) (K.faults out.new) }
-    {
-        let Ok(texts) = texts_of(alloc, self.modules.as_slice()) else {
-            return Ok(Answer::NoMemory);
-        };
-        let Ok(stops) = places(alloc, self.stops.as_slice()) else {
-            return Ok(Answer::NoMemory);
-        };
-        let run = run_out_of(mem::replace(&mut self.state, State::Ended));
-        match gone(
-            alloc,
-            texts.as_slice(),
-            stops.as_slice(),
-            walk,
-            self.limits.turns,
-            self.in_line,
-            run,
-            out,
-        ) {
-            Ok(told) => {
-                put_state(&mut self.state, told.state);
-                Ok(Answer::Ran(told.text))
-            }
-            Err(lost) => match lost {
-                Lost::NoMemory(within) => {
-                    self.in_line = within;
-                    Ok(Answer::NoMemory)
-                }
-                Lost::Unsent(unsent) => Err(unsent),
-            },
-        }
-    }
-
-    fn run<K: Sink, F: Files>(
-        &mut self,
-        alloc: Global,
-        file: Option<Name>,
-        out: &mut K,
-        files: &mut F,
-    ) -> Result<Answer, Unsent>
-        requires { IsFile file }
-        ensures runs { spec.RunsOut (K.written out.old) (K.written out.new) (moment self.old (F.held files.old) (F.faults files.old)) file result (moment self.new (F.held files.new) (F.faults files.new)) }
-        ensures out_later { K.faults out.old ≤ K.faults out.new }
-        ensures failed { result ≡ Err unsent.Failed → Rose (K.faults out.old) (K.faults out.new) }
-        ensures later { F.faults files.old ≤ F.faults files.new }
-        ensures held { F.held files.new ≡ F.held files.old }
-    {
-        match has_main(alloc, self.modules.as_slice()) {
-            Ok(true) => self.run_with(alloc, file, out, files),
-            Ok(false) => Ok(Answer::Refused(Denied::NoMain)),
-            Err(_) => Ok(Answer::NoMemory),
-        }
-    }
-
-    // Runs a program that has a `main`.
-    fn run_with<K: Sink, F: Files>(
-        &mut self,
-        alloc: Global,
-        file: Option<Name>,
-        out: &mut K,
-        files: &mut F,
-    ) -> Result<Answer, Unsent>
-        requires file { IsFile file }
-        requires main { going.has_main (texts self.old.modules) ≡ true }
-        ensures runs { spec.RunsOut (K.written out.old) (K.written out.new) (moment self.old (F.held files.old) (F.faults files.old)) file result (moment self.new (F.held files.new) (F.faults files.new)) }
-        ensures out_later { K.faults out.old ≤ K.faults out.new }
-        ensures failed { result ≡ Err unsent.Failed → Rose (K.faults out.old) (K.faults out.new) }
-        ensures later { F.faults files.old ≤ F.faults files.new }
-        ensures held { F.held files.new ≡ F.held files.old }
-    {
-        match input_of(alloc, &file, files) {
-            Input::Bytes(bytes) => self.start(alloc, bytes, out),
-            Input::Denied(denied) => Ok(Answer::Refused(denied)),
-            Input::NoMemory => Ok(Answer::NoMemory),
-        }
-    }
-
-    // The run of the program goes from its start on.
-    fn start<K: Sink>(
-        &mut self,
-        alloc: Global,
-        input: Items<u8>,
-        out: &mut K,
-    ) -> Result<Answer, Unsent>
-        ensures begins { going.BeginsOut (K.written out.old) (K.written out.new) self.old input result self.new }
-        ensures later { K.faults out.old ≤ K.faults out.new }
-        ensures failed { result ≡ Err unsent.Failed → Rose (K.faults out.old) (K.faults out.new) }
-    {
-        let Ok(texts) = texts_of(alloc, self.modules.as_slice()) else {
-            return Ok(Answer::NoMemory);
-        };
-        let Ok(stops) = places(alloc, self.stops.as_slice()) else {
-            return Ok(Answer::NoMemory);
-        };
-        let stack = u64::from(self.limits.stack);
-        let heap = u64::from(self.limits.heap);
-        let Ok(run) = Run::start(alloc, texts.as_slice(), stack, heap, input) else {
-            return Ok(Answer::NoMemory);
-        };
-        put_state(&mut self.state, State::Ended);
-        match gone(
-            alloc,
-            texts.as_slice(),
-            stops.as_slice(),
-            Walk::Cont,
-            self.limits.turns,
-            self.in_line,
-            run,
-            out,
-        ) {
-            Ok(told) => {
-                put_state(&mut self.state, told.state);
-                Ok(Answer::Ran(told.text))
-            }
-            Err(lost) => match lost {
-                Lost::NoMemory(within) => {
-                    self.in_line = within;
-                    Ok(Answer::NoMemory)
-                }
-                Lost::Unsent(unsent) => Err(unsent),
-            },
-        }
-    }
-
-    fn load<F: Files>(&mut self, alloc: Global, name: Name, files: &mut F) -> Answer
-        requires { is_module_name name ≡ true }
-        ensures answer { spec.Loads (moment self.old (F.held files.old) (F.faults files.old)) name (loading.file_of name) result (moment self.new (F.held files.new) (F.faults files.new)) }
-        ensures later { F.faults files.old ≤ F.faults files.new }
-        ensures held { F.held files.new ≡ F.held files.old }
-    {
-        match file_of(alloc, &name) {
-            Ok(file) => self.load_from(alloc, name, file.as_str(), files),
-            Err(_) => Answer::NoMemory,
-        }
-    }
-
-    // Loads a module from its file.
-    fn load_from<F: Files>(
-        &mut self,
-        alloc: Global,
-        name: Name,
-        file: &str,
-        files: &mut F,
-    ) -> Answer
-        ensures answer { spec.Loads (moment self.old (F.held files.old) (F.faults files.old)) name file.now result (moment self.new (F.held files.new) (F.faults files.new)) }
-        ensures later { F.faults files.old ≤ F.faults files.new }
-        ensures held { F.held files.new ≡ F.held files.old }
-    {
-        match build(alloc, &name, file, files) {
-            Ok(built) => match self.take(alloc, built) {
-                Taken::Joined => Answer::Loaded(name),
-                Taken::Denied(denied) => Answer::Refused(denied),
-                Taken::NoMemory => Answer::NoMemory,
-            },
-            Err(fault) => match unbuilt(alloc, file, fault) {
-                Some(denied) => Answer::Refused(denied),
-                None => Answer::NoMemory,
-            },
-        }
-    }
-
-    // A module that was translated is put behind the others, where it goes with them.
-    fn take(&mut self, alloc: Global, built: Built) -> Taken
-        ensures { spec.Joins self.old built result self.new }
-    {
-        let Some(loaded) = self.loaded.checked_add(1) else {
-            drop(built);
-            return Taken::NoMemory;
-        };
-        let Ok(new) = present_of(alloc, self.loaded, built) else {
-            return Taken::NoMemory;
-        };
-        match take_new(alloc, &mut self.modules, &mut self.numbers, new) {
-            Taken::Joined => {
-                self.loaded = loaded;
-                put_state(&mut self.state, State::Idle);
-                Taken::Joined
-            }
-            Taken::Denied(denied) => Taken::Denied(denied),
-            Taken::NoMemory => Taken::NoMemory,
-        }
-    }
-
-    fn edit<F: Files>(
-        &mut self,
-        alloc: Global,
-        name: Name,
-        file: Option<Name>,
-        files: &mut F,
-    ) -> Answer
-        requires named { is_module_name name ≡ true }
-        requires file { IsFile file }
-        ensures answer { spec.Edits (moment self.old (F.held files.old) (F.faults files.old)) name (loading.file_or name file) result (moment self.new (F.held files.new) (F.faults files.new)) }
-        ensures later { F.faults files.old ≤ F.faults files.new }
-        ensures held { F.held files.new ≡ F.held files.old }
-    {
-        match file {
-            Some(file) => self.edit_from(alloc, name, file_text(&file), files),
-            None => match file_of(alloc, &name) {
-                Ok(file) => self.edit_from(alloc, name, file.as_str(), files),
-                Err(_) => Answer::NoMemory,
-            },
-        }
-    }
-
-    // Translates a module anew from a file.
-    fn edit_from<F: Files>(
-        &mut self,
-        alloc: Global,
-        name: Name,
-        file: &str,
-        files: &mut F,
-    ) -> Answer
-        ensures answer { spec.Edits (moment self.old (F.held files.old) (F.faults files.old)) name file.now result (moment self.new (F.held files.new) (F.faults files.new)) }
-        ensures later { F.faults files.old ≤ F.faults files.new }
-        ensures held { F.held files.new ≡ F.held files.old }
-    {
-        match build(alloc, &name, file, files) {
-            Ok(built) => match self.replace(alloc, built) {
-                Taken::Joined => Answer::Edited(name),
-                Taken::Denied(denied) => Answer::Refused(denied),
-                Taken::NoMemory => Answer::NoMemory,
-            },
-            Err(fault) => match unbuilt(alloc, file, fault) {
-                Some(denied) => Answer::Refused(denied),
-                None => Answer::NoMemory,
-            },
-        }
-    }
-
-    // A module that was translated takes the place of the one that has its name, where it goes with the others.
-    fn replace(&mut self, alloc: Global, built: Built) -> Taken
-        ensures { spec.TakesPlace self.old built result self.new }
-    {
-        let Some(loaded) = self.loaded.checked_add(1) else {
-            drop(built);
-            return Taken::NoMemory;
-        };
-        let Ok(new) = present_of(alloc, self.loaded, built) else {
-            return Taken::NoMemory;
-        };
-        match take_anew(alloc, &mut self.modules, &mut self.numbers, new) {
-            Taken::Joined => {
-                self.loaded = loaded;
-                put_state(&mut self.state, State::Idle);
-                Taken::Joined
-            }
-            Taken::Denied(denied) => Taken::Denied(denied),
-            Taken::NoMemory => Taken::NoMemory,
         }
     }
 }
@@ -656,35 +433,4 @@ pub fn is_silent(said: &Answer) -> bool
     ensures { result ≡ spec.is_silent said.now }
 {
     matches!(said, Answer::Silent)
-}
-
-// The file of a module.
-fn file_of(alloc: Global, name: &Name) -> Result<String, NoMemory>
-    requires { is_module_name name.now ≡ true }
-    ensures { IfOk result (λ file. string_bytes file ≡ loading.file_of name.now) }
-{
-    let text = name_text(name);
-    match format!(in alloc; "{text}.c") {
-        Ok(file) => Ok(file),
-        Err(_) => Err(NoMemory),
-    }
-}
-
-// Why there is no module; none where no memory was left.
-fn unbuilt(alloc: Global, file: &str, fault: BuildFault) -> Option<Denied>
-    ensures { (held : Option FileMap) (before now : ℕ) (name : List ℕ) → Answers held before now file.now name (Err fault) → spec.Unbuilt held before now file.now name result }
-{
-    match fault {
-        BuildFault::Refused(refusal) => Some(Denied::Translation(refusal)),
-        BuildFault::Missing => match Bytes::from_slice(alloc, file.as_bytes()) {
-            Ok(file) => Some(Denied::NoFile(file)),
-            Err(_) => None,
-        },
-        BuildFault::TooLong => match Bytes::from_slice(alloc, file.as_bytes()) {
-            Ok(file) => Some(Denied::TooLong(file)),
-            Err(_) => None,
-        },
-        BuildFault::File(name) => Some(Denied::FileFault(name)),
-        BuildFault::NoMemory => None,
-    }
 }

@@ -153,3 +153,8 @@ print_text w name (Some s) = Some (answer_line (name ++ codes " = " ++ object_te
 
 abbrev pub print_line : List Text → List Text → List StaticId → Scopes → Option ℕ → World → List ℕ → Option (List ℕ)
 print_line held present waiting scopes declaring w name = print_text w name (visible held present waiting scopes declaring w name)
+
+-- the same in a call
+abbrev pub print_line_in : List Text → List Text → List StaticId → Scopes → Option ℕ → World → List ℕ → Frame → Option (List ℕ)
+print_line_in held present waiting scopes declaring w name f =
+    print_text w name (seen_in_text present waiting scopes declaring w name f (text_numbered held f.text))

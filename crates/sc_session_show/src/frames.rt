@@ -46,7 +46,7 @@ pub(crate) fn line_at(held: &[Text], f: &Frame) -> u32
 }
 
 /// Puts an answer's line behind a text.
-pub(crate) fn put_line(text: &mut Vec<u8>, said: &[u8]) -> Result<(), NoMemory>
+pub fn put_line(text: &mut Vec<u8>, said: &[u8]) -> Result<(), NoMemory>
     ensures { OnOk result (text.new.items ≡ text.old.items ++ answer_line said.now) }
 {
     put(text, b"> ")?;
@@ -55,7 +55,8 @@ pub(crate) fn put_line(text: &mut Vec<u8>, said: &[u8]) -> Result<(), NoMemory>
     Ok(())
 }
 
-fn where_line(alloc: Global, held: &[Text], f: &Frame) -> Result<Vec<u8>, NoMemory>
+/// A line for an interpreted call: its function, its module, and the line at which it stands.
+pub fn where_line(alloc: Global, held: &[Text], f: &Frame) -> Result<Vec<u8>, NoMemory>
     ensures { IfOk result (λ text. text.items ≡ spec.where_line held.now f.now) }
 {
     let mut said = Vec::new(alloc);

@@ -9,6 +9,6 @@ mod names;
 mod places;
 mod tasks;
 
-pub use frames::where_lines;
+pub use frames::{put_line, where_line, where_lines};
 pub use listing::{fun_lines, module_lines};
-pub use names::{Seen, print_line, visible};
+pub use names::{Seen, print_line, print_line_in, visible};

@@ -1,5 +1,6 @@
 // What a name stands for where a run stopped.
 ghost use Rattle.std.specs.Prelude.{◌≡◌, ◌==◌, IfOk, MatchOption, None, Some, take};
+ghost use Rattle.sc_session_show.specs.Frames.{text_numbered as at_number};
 ghost use Rattle.sc_session_show.specs.Visible as spec;
 ghost use Rattle.sc_meaning.specs.Versions.{object_in as defined_in};
 ghost use Rattle.sc_types.specs.Compatibility.{compatible as compatible_types};
@@ -433,12 +434,31 @@ pub fn visible<'a>(
 {
     match world.innermost() {
         None => Ok(None),
-        Some(f) => match text_numbered(held, f.text) {
-            None => Ok(None),
-            Some(t) => seen_in_text(
-                alloc, present, waiting, scopes, declaring, world, name, f, t,
-            ),
-        },
+        Some(f) => visible_in(
+            alloc, held, present, waiting, scopes, declaring, world, name, f,
+        ),
+    }
+}
+
+// What a name stands for in a call.
+fn visible_in<'a>(
+    alloc: Global,
+    held: &'a [Text],
+    present: &'a [Text],
+    waiting: &[StaticId],
+    scopes: &Scopes,
+    declaring: Option<u32>,
+    world: &World,
+    name: &Name,
+    f: &Frame,
+) -> Result<Option<Seen<'a>>, NoMemory>
+    ensures { IfOk result (λ s. s ≡ spec.seen_in_text present.now waiting.now scopes.now declaring world.now name.now f.now (at_number held.now f.now.text)) }
+{
+    match text_numbered(held, f.text) {
+        None => Ok(None),
+        Some(t) => seen_in_text(
+            alloc, present, waiting, scopes, declaring, world, name, f, t,
+        ),
     }
 }
 
@@ -465,6 +485,49 @@ fn printed<'a>(
     let mut text = Vec::new(alloc);
     put_line(&mut text, said.as_slice())?;
     Ok(Bytes::from_vec(text))
+}
+
+fn printed_if<'a>(
+    alloc: Global,
+    world: &'a World,
+    name: &Name,
+    seen: Option<Seen<'a>>,
+) -> Result<Option<Bytes>, NoMemory>
+    ensures { IfOk result (λ line. line ≡ spec.print_text world.now name.now seen) }
+{
+    match seen {
+        None => Ok(None),
+        Some(
+            Seen {
+                object,
+                of,
+                structs,
+            },
+        ) => {
+            let line = printed(alloc, world, name, object, of, structs)?;
+            Ok(Some(line))
+        }
+    }
+}
+
+/// The line that shows what a name stands for in a call, by the scopes of the module that it runs, where it is visible there.
+pub fn print_line_in(
+    alloc: Global,
+    held: &[Text],
+    present: &[Text],
+    waiting: &[StaticId],
+    scopes: &Scopes,
+    declaring: Option<u32>,
+    world: &World,
+    name: &Name,
+    f: &Frame,
+) -> Result<Option<Bytes>, NoMemory>
+    ensures { IfOk result (λ line. line ≡ spec.print_line_in held.now present.now waiting.now scopes.now declaring world.now name.now f.now) }
+{
+    let seen = visible_in(
+        alloc, held, present, waiting, scopes, declaring, world, name, f,
+    )?;
+    printed_if(alloc, world, name, seen)
 }
 
 /// The line that shows what a name stands for in the innermost call, where it is visible there.

@@ -4,7 +4,7 @@ use Rattle.std.specs.Prelude.{ℕ, ◌++◌, ◌==◌, ◌-◌, if◌then◌else
 use Rattle.std.specs.Fmt.{signed_decimal}
 use Rattle.sc_base.specs.declared.integer.Int.TheVariants.{Int as PlainInt}
 use Rattle.sc_ops.specs.Numbers.{number_of}
-use Rattle.sc_meaning.specs.World.{World}
+use Rattle.sc_meaning.specs.World.{World, Frame}
 use Rattle.sc_interp_access.specs.declared.ended.Ended.{Ended}
 use Rattle.sc_interp_access.specs.declared.ended.Ended.TheVariants as ended
 use Rattle.sc_session_texts.specs.Words.{key_text}
@@ -30,3 +30,18 @@ line_end_after bytes = line_end_behind (slice_get bytes (length bytes - 1))
 -- an answer behind bytes of a program
 abbrev pub on_new_line : List ℕ → List ℕ → List ℕ
 on_new_line bytes said = bytes ++ line_end_after bytes ++ codes "> " ++ said ++ codes "\n"
+
+-- the function that was entered, and the line that was reached, in the innermost call
+abbrev pub entered_text : List Frame → List ℕ
+entered_text [] = codes "entered "
+entered_text (f ∷ frames) = codes "entered " ++ key_text f.key
+
+abbrev pub line_text : List Frame → List ℕ
+line_text [] = codes "at "
+line_text (f ∷ frames) = codes "at " ++ f.home ++ codes ":" ++ decimal f.line
+
+-- what is said of the end of a run
+abbrev pub end_text : Ended → World → Option (List ℕ)
+end_text ended.OutOfSteps w = None
+end_text ended.NoRoom w = None
+end_text e w = stop_text 0 e w

@@ -42,7 +42,8 @@ fn paused_text(alloc: Global, turns: u64) -> Result<Vec<u8>, NoMemory>
     Ok(text)
 }
 
-fn words(alloc: Global, bytes: &[u8]) -> Result<Vec<u8>, NoMemory>
+/// Words as they are.
+pub(crate) fn words(alloc: Global, bytes: &[u8]) -> Result<Vec<u8>, NoMemory>
     ensures { IfOk result (λ text. text.items ≡ bytes.now) }
 {
     let text = Vec::from_slice(alloc, bytes)?;

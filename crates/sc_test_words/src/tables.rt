@@ -12,6 +12,7 @@ fn answer_to(command: Command) -> Answer {
         Command::Nothing => Answer::Silent,
         Command::Load(name) => Answer::Loaded(name),
         Command::Unload(name) => Answer::Unloaded(name),
+        Command::Swap(name, form) => Answer::Swapped(name, form),
         Command::Edit(name, _) => Answer::Edited(name),
         Command::Compile(name) => Answer::Compiled(name),
         Command::Run(_) => Answer::Refused(Denied::NoMain),
@@ -33,12 +34,15 @@ fn answered(alloc: Global, line: &[u8]) -> Result<Bytes, NoMemory> {
 }
 
 // Lines, and how they are answered.
-const LINES: [(&[u8], &[u8]); 32] = [
+const LINES: [(&[u8], &[u8]); 35] = [
     (b"", b""),
     (b" \t\r", b""),
     (b" #load m", b""),
     (b"lode m", b"> refused C1\n"),
-    (b"swap m source", b"> refused C1\n"),
+    (b"swap m source", b"> m source\n"),
+    (b"swap m object", b"> m object\n"),
+    (b"swap m", b"> refused C2\n"),
+    (b"swap m fast", b"> refused C2\n"),
     (b"load", b"> refused C2\n"),
     (b"load m n", b"> refused C2\n"),
     (b"load 1m", b"> refused C2\n"),

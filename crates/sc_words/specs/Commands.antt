@@ -2,6 +2,8 @@
 -- What a line asks for.
 use Rattle.std.specs.Prelude.{◌≡◌, ℕ, Bool, true, false, ◌&&◌, List, [], ◌∷◌, length, if◌then◌else◌, ◌==◌, nat_le, codes, Option, Some, None}
 use Rattle.std.specs.Str.{bytes_eq}
+use Rattle.sc_base.specs.declared.memory.Form.{Form}
+use Rattle.sc_base.specs.declared.memory.Form.TheVariants as form
 use Rattle.sc_words.specs.Lines.{words_of}
 use Rattle.sc_words.specs.Parts.{is_module_name, is_identifier, is_file_name, is_numeral, number_of, parts_of}
 use Rattle.sc_words.specs.declared.stop.StopAt.TheVariants.{InFun, AtLine}
@@ -15,6 +17,7 @@ abbrev pub verb_of : List ℕ → Option Verb
 verb_of word =
     if bytes_eq word (codes "load") then Some verb.Load
     else (if bytes_eq word (codes "unload") then Some verb.Unload
+    else (if bytes_eq word (codes "swap") then Some verb.Swap
     else (if bytes_eq word (codes "edit") then Some verb.Edit
     else (if bytes_eq word (codes "compile") then Some verb.Compile
     else (if bytes_eq word (codes "run") then Some verb.Run
@@ -27,7 +30,7 @@ verb_of word =
     else (if bytes_eq word (codes "print") then Some verb.Print
     else (if bytes_eq word (codes "list") then Some verb.List
     else (if bytes_eq word (codes "reset") then Some verb.Reset
-    else (if bytes_eq word (codes "quit") then Some verb.Quit else None))))))))))))))
+    else (if bytes_eq word (codes "quit") then Some verb.Quit else None)))))))))))))))
 
 -- ---- the further words
 
@@ -43,6 +46,18 @@ load_of _ = command.BadArguments
 abbrev pub unload_of : List (List ℕ) → Command
 unload_of (name ∷ []) = if is_module_name name then command.Unload name else command.BadArguments
 unload_of _ = command.BadArguments
+
+-- the form that a word names
+abbrev pub form_of : List ℕ → Option Form
+form_of word = if bytes_eq word (codes "source") then Some form.Source else (if bytes_eq word (codes "object") then Some form.Object else None)
+
+abbrev pub swap_to : List ℕ → Option Form → Command
+swap_to name None = command.BadArguments
+swap_to name (Some form) = command.Swap name form
+
+abbrev pub swap_of : List (List ℕ) → Command
+swap_of (name ∷ word ∷ []) = if is_module_name name then swap_to name (form_of word) else command.BadArguments
+swap_of _ = command.BadArguments
 
 abbrev pub edit_of : List (List ℕ) → Command
 edit_of (name ∷ []) = if is_module_name name then command.Edit name None else command.BadArguments
@@ -93,6 +108,7 @@ print_of _ = command.BadArguments
 abbrev pub command_by : Verb → List (List ℕ) → Command
 command_by verb.Load words = load_of words
 command_by verb.Unload words = unload_of words
+command_by verb.Swap words = swap_of words
 command_by verb.Edit words = edit_of words
 command_by verb.Compile words = compile_of words
 command_by verb.Run words = run_of words
@@ -137,6 +153,7 @@ IsFile (Some file) = is_file_name file ≡ true
 abbrev pub IsNamed : Command → Type 0
 IsNamed (command.Load name) = is_module_name name ≡ true
 IsNamed (command.Unload name) = is_module_name name ≡ true
+IsNamed (command.Swap name form) = is_module_name name ≡ true
 IsNamed (command.Edit name file) = (is_module_name name ≡ true) × IsFile file
 IsNamed (command.Compile name) = is_module_name name ≡ true
 IsNamed (command.Run file) = IsFile file

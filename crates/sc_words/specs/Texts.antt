@@ -1,6 +1,8 @@
 -- Yardstick: to be compared with what it restates (docs/TRUST.md).
 -- The texts of answers.
-use Rattle.std.specs.Prelude.{ℕ, List, [], ◌++◌, codes, decimal, Option, Some, None}
+use Rattle.std.specs.Prelude.{ℕ, Bool, true, false, List, [], ◌++◌, codes, decimal, Option, Some, None}
+use Rattle.sc_base.specs.declared.memory.Form.{Form}
+use Rattle.sc_base.specs.declared.memory.Form.TheVariants as form
 use Rattle.sc_base.specs.declared.refusal.X.{X}
 use Rattle.sc_base.specs.declared.refusal.X.TheVariants as x
 use Rattle.sc_base.specs.declared.refusal.Refusal.{Refusal}
@@ -32,7 +34,13 @@ refusal_text r = codes "C5 " ++ kind_text r.kind ++ codes " " ++ r.file ++ codes
 abbrev pub area_text : Area → List ℕ
 area_text area.Modules = codes "C14 modules"
 area_text area.Stubs = codes "C14 stubs"
+area_text area.Text = codes "C14 text"
 area_text area.Static = codes "C14 static"
+
+-- a file that is an object of the first version
+abbrev pub version_text : Bool → List ℕ
+version_text true = codes " version 1"
+version_text false = []
 
 abbrev pub denied_text : Denied → List ℕ
 denied_text denied.UnknownCommand = codes "C1"
@@ -43,6 +51,7 @@ denied_text (denied.Translation r) = refusal_text r
 denied_text (denied.Doubled name other) = codes "C6 " ++ name ++ codes " " ++ other
 denied_text (denied.Clash name other) = codes "C7 " ++ name ++ codes " " ++ other
 denied_text (denied.NoFile file) = codes "C8 " ++ file
+denied_text (denied.NotOurs at first) = codes "C9 " ++ decimal at ++ version_text first
 denied_text denied.RunActive = codes "C10"
 denied_text denied.NoRun = codes "C11"
 denied_text denied.NotAtStop = codes "C12"
@@ -52,6 +61,10 @@ denied_text (denied.FileFault file) = codes "C15 " ++ file
 denied_text (denied.NotVisible name) = codes "C16 " ++ name
 denied_text (denied.NoStop number) = codes "C18 " ++ decimal number
 denied_text (denied.TooLong file) = codes "C19 " ++ file
+
+abbrev pub form_text : Form → List ℕ
+form_text form.Source = codes " source"
+form_text form.Object = codes " object"
 
 -- a function, behind the module that defines it where one is named
 abbrev pub fun_text : Option (List ℕ) → List ℕ → List ℕ
@@ -67,6 +80,7 @@ abbrev pub text_of : Answer → List ℕ
 text_of answer.Silent = []
 text_of (answer.Loaded name) = codes "> loaded " ++ name ++ codes "\n"
 text_of (answer.Unloaded name) = codes "> unloaded " ++ name ++ codes "\n"
+text_of (answer.Swapped name form) = codes "> " ++ (name ++ form_text form) ++ codes "\n"
 text_of (answer.Edited name) = codes "> edited " ++ name ++ codes "\n"
 text_of (answer.Compiled name) = codes "> compiled " ++ name ++ codes "\n"
 text_of (answer.StopSet number place) = codes "> stop " ++ decimal number ++ stop_text place ++ codes "\n"

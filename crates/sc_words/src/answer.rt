@@ -4,7 +4,7 @@ ghost use Rattle.sc_words.specs.Texts as spec;
 
 use crate::denied::{Area, Denied};
 use crate::stop::StopAt;
-use sc_base::{Bytes, Name, NoMemory, Refusal, X};
+use sc_base::{Bytes, Form, Name, NoMemory, Refusal, X};
 use std::alloc::Global;
 
 /// What a command is answered.
@@ -14,6 +14,7 @@ pub enum Answer {
     Silent,
     Loaded(Name),
     Unloaded(Name),
+    Swapped(Name, Form),
     Edited(Name),
     Compiled(Name),
     /// A stop was set, with its number.
@@ -112,8 +113,20 @@ fn area_text(area: Area) -> &'static [u8]
     match area {
         Area::Modules => b"C14 modules",
         Area::Stubs => b"C14 stubs",
+        Area::Text => b"C14 text",
         Area::Static => b"C14 static",
     }
+}
+
+// Where a file is not the kept object, and that it is one of the first version, where it is.
+fn not_ours_text(alloc: Global, at: u32, first: bool) -> Result<Vec<u8>, NoMemory>
+    ensures { IfOk result (λ text. text.items ≡ codes "C9 " ++ decimal at ++ spec.version_text first) }
+{
+    let mut text = with_number(alloc, b"C9 ", at)?;
+    if first {
+        put(&mut text, b" version 1")?;
+    }
+    Ok(text)
 }
 
 fn denied_text(alloc: Global, denied: &Denied) -> Result<Vec<u8>, NoMemory>
@@ -128,6 +141,7 @@ fn denied_text(alloc: Global, denied: &Denied) -> Result<Vec<u8>, NoMemory>
         Denied::Doubled(name, other) => with_two(alloc, b"C6 ", name, other),
         Denied::Clash(name, other) => with_two(alloc, b"C7 ", name, other),
         Denied::NoFile(file) => with_word(alloc, b"C8 ", file.as_slice()),
+        Denied::NotOurs(at, first) => not_ours_text(alloc, *at, *first),
         Denied::RunActive => words(alloc, b"C10"),
         Denied::NoRun => words(alloc, b"C11"),
         Denied::NotAtStop => words(alloc, b"C12"),
@@ -137,6 +151,22 @@ fn denied_text(alloc: Global, denied: &Denied) -> Result<Vec<u8>, NoMemory>
         Denied::NotVisible(name) => with_word(alloc, b"C16 ", name.as_slice()),
         Denied::NoStop(number) => with_number(alloc, b"C18 ", *number),
         Denied::TooLong(file) => with_word(alloc, b"C19 ", file.as_slice()),
+    }
+}
+
+// A module, and its form.
+fn swapped_text(alloc: Global, name: &Name, form: Form) -> Result<Vec<u8>, NoMemory>
+    ensures { IfOk result (λ text. text.items ≡ name.now ++ spec.form_text form) }
+{
+    with_word(alloc, name.as_slice(), form_text(form))
+}
+
+fn form_text(form: Form) -> &'static [u8]
+    ensures { result.now ≡ spec.form_text form }
+{
+    match form {
+        Form::Source => b" source",
+        Form::Object => b" object",
     }
 }
 
@@ -213,6 +243,11 @@ pub fn answer_text(alloc: Global, answer: &Answer) -> Result<Bytes, NoMemory>
         Answer::Silent => Ok(Bytes::from_vec(Vec::new(alloc))),
         Answer::Loaded(name) => line_of(alloc, b"> loaded ", name.as_slice()),
         Answer::Unloaded(name) => line_of(alloc, b"> unloaded ", name.as_slice()),
+        Answer::Swapped(name, form) => line_of(
+            alloc,
+            b"> ",
+            swapped_text(alloc, name, *form)?.as_slice(),
+        ),
         Answer::Edited(name) => line_of(alloc, b"> edited ", name.as_slice()),
         Answer::Compiled(name) => line_of(alloc, b"> compiled ", name.as_slice()),
         Answer::StopSet(number, stop) => stop_line(alloc, *number, stop),

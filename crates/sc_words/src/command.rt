@@ -1,8 +1,8 @@
 // What a line asks for.
-ghost use Rattle.std.specs.Prelude.{◌≡◌, [], ◌∷◌, IfOk, OnErr, IfSome, IfNone};
+ghost use Rattle.std.specs.Prelude.{◌≡◌, true, [], ◌∷◌, IfOk, OnErr, IfSome, IfNone};
 ghost use Rattle.sc_words.specs.Lines.{words_of};
-ghost use Rattle.sc_words.specs.Parts.{parts_of};
-ghost use Rattle.sc_words.specs.Commands.{command_of, command_by, alone, load_of, unload_of, edit_of, compile_of, run_of, stop_of, in_function, at_line, delete_of, print_of, is_comment, IsNamed, IsAnswered};
+ghost use Rattle.sc_words.specs.Parts.{is_module_name, parts_of};
+ghost use Rattle.sc_words.specs.Commands.{command_of, command_by, alone, load_of, unload_of, swap_of, swap_to, form_of, edit_of, compile_of, run_of, stop_of, in_function, at_line, delete_of, print_of, is_comment, IsNamed, IsAnswered};
 
 use crate::line::next_word;
 use crate::part::{
@@ -10,7 +10,7 @@ use crate::part::{
 };
 use crate::stop::StopAt;
 use crate::verb::{Verb, verb_of};
-use sc_base::{Name, NoMemory};
+use sc_base::{Form, Name, NoMemory};
 use std::alloc::Global;
 
 /// The most bytes that a command's line may have.
@@ -26,6 +26,8 @@ pub enum Command {
     Load(Name),
     /// `unload M`
     Unload(Name),
+    /// `swap M source`, or `swap M object`
+    Swap(Name, Form),
     /// `edit M`, or `edit M FILE`
     Edit(Name, Option<Name>),
     /// `compile M`
@@ -90,6 +92,7 @@ fn command_by(alloc: Global, verb: Verb, rest: &[u8]) -> Result<Command, NoMemor
     match verb {
         Verb::Load => load_of(alloc, rest),
         Verb::Unload => unload_of(alloc, rest),
+        Verb::Swap => swap_of(alloc, rest),
         Verb::Edit => edit_of(alloc, rest),
         Verb::Compile => compile_of(alloc, rest),
         Verb::Run => run_of(alloc, rest),
@@ -144,6 +147,49 @@ fn unload_of(alloc: Global, rest: &[u8]) -> Result<Command, NoMemory>
     }
     let name = name_of(alloc, name)?;
     Ok(Command::Unload(name))
+}
+
+fn form_of(word: &[u8]) -> Option<Form>
+    ensures { result ≡ form_of word.now }
+{
+    if word == b"source".as_slice() {
+        return Some(Form::Source);
+    }
+    if word == b"object".as_slice() {
+        return Some(Form::Object);
+    }
+    None
+}
+
+fn swap_of(alloc: Global, rest: &[u8]) -> Result<Command, NoMemory>
+    ensures command { IfOk result (λ command. command ≡ swap_of (words_of rest.now)) }
+    ensures named { IfOk result IsNamed }
+    ensures no_memory { OnErr result (IsAnswered (swap_of (words_of rest.now))) }
+{
+    let Some((name, rest)) = next_word(rest) else {
+        return Ok(Command::BadArguments);
+    };
+    let Some((word, rest)) = next_word(rest) else {
+        return Ok(Command::BadArguments);
+    };
+    if next_word(rest).is_some() || !is_module_name(name) {
+        return Ok(Command::BadArguments);
+    }
+    swap_to(alloc, name, form_of(word))
+}
+
+// A form for the module with a name.
+fn swap_to(alloc: Global, name: &[u8], form: Option<Form>) -> Result<Command, NoMemory>
+    requires { is_module_name name.now ≡ true }
+    ensures command { IfOk result (λ command. command ≡ swap_to name.now form) }
+    ensures named { IfOk result IsNamed }
+    ensures no_memory { OnErr result (IsAnswered (swap_to name.now form)) }
+{
+    let Some(form) = form else {
+        return Ok(Command::BadArguments);
+    };
+    let name = name_of(alloc, name)?;
+    Ok(Command::Swap(name, form))
 }
 
 fn edit_of(alloc: Global, rest: &[u8]) -> Result<Command, NoMemory>

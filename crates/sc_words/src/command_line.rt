@@ -14,6 +14,8 @@ const ABOUT: &str = "Runs C programs module by module, and checks each step.";
 const COMMANDS: &str = "Commands, one on each line of the standard input:
   load M          translates M.c, and adds it
   unload M        takes the module away
+  swap M source   interprets the module
+  swap M object   runs the module as its object in M.o
   edit M [FILE]   puts the text of FILE, or of M.c, in the module's place
   compile M       writes the object of the module to M.o
   run [FILE]      runs main, with the bytes of FILE as input

@@ -8,6 +8,8 @@ pub enum Area {
     Modules,
     /// 65,536 functions in a session.
     Stubs,
+    /// 67,108,864 bytes of text.
+    Text,
     /// 1,048,576 bytes of static objects.
     Static,
 }
@@ -31,6 +33,9 @@ pub enum Denied {
     Clash(Name, Name),
     /// The file is not there.
     NoFile(Bytes),
+    /// The file is not the module's kept object: the first offset at which they differ or the shorter ends, and whether the file is
+    /// an object of the first version.
+    NotOurs(u32, bool),
     /// A run is active, and no other can begin.
     RunActive,
     /// There is no run.

@@ -6,6 +6,7 @@ ghost use Rattle.sc_words.specs.Commands.{verb_of};
 pub enum Verb {
     Load,
     Unload,
+    Swap,
     Edit,
     Compile,
     Run,
@@ -29,6 +30,9 @@ pub fn verb_of(word: &[u8]) -> Option<Verb>
     }
     if word == b"unload".as_slice() {
         return Some(Verb::Unload);
+    }
+    if word == b"swap".as_slice() {
+        return Some(Verb::Swap);
     }
     if word == b"edit".as_slice() {
         return Some(Verb::Edit);

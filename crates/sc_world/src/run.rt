@@ -27,7 +27,6 @@ use sc_base::{Items, NoMemory, Stack};
 use sc_core_held::Text;
 use sc_interp::Caller;
 use sc_interp_access::Ended;
-use sc_interp_parts::layout_of;
 use sc_interp_world::{Frame, World};
 use sc_outside::Sink;
 use sc_words::{StopAt, Walk};
@@ -78,7 +77,7 @@ impl Run {
         ensures starts { IfOk result (λ r. r ≡ Some (started texts.now stack heap input)) }
         ensures meant { IfOk result (λ r. IsRunOf (start_of texts.now stack heap input) texts.now r) }
     {
-        let mut world = World::new(alloc, stack, heap, input, layout_of(alloc, texts)?)?;
+        let mut world = World::nowhere(alloc, stack, heap, input)?;
         let callers = Stack::new(alloc);
         let first = begun(texts, &callers, &mut world);
         let course = course_of(first)?;

@@ -1,0 +1,5 @@
+-- Lemmas on images from nothing.
+mod Rooms
+mod Single
+mod Behind
+mod Inside

@@ -1,0 +1,14 @@
+//! The image of the modules that are present, from nothing: each module is placed behind those before it, and all of them
+//! are linked.
+#![tactic(auto)]
+
+mod checking;
+mod distinct;
+mod linking;
+mod ordered;
+mod placing;
+mod room;
+
+pub use linking::image_of;
+pub use placing::{Linking, place_modules};
+pub use room::full_area;

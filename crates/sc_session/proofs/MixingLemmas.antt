@@ -1,0 +1,132 @@
+-- A run of both forms in a session, and either run.
+use Rattle.std.proofs.Common.{◌≡◌, Bool, true, false, ℕ, List, [], Option, Some, None, Result, Ok, Err, inl, inr, refl, ap, sym, subst, ◌∙◌}
+use Rattle.sc_meaning.specs.World.{World}
+use Rattle.sc_outside.specs.Stored.{FileMap}
+use Rattle.sc_session_forms.specs.Forms.{are_sources}
+use Rattle.sc_words.specs.declared.answer.Answer.{Answer}
+use Rattle.sc_words.specs.declared.answer.Answer.TheVariants as answer
+use Rattle.sc_words.specs.declared.denied.Area.{Area}
+use Rattle.sc_words.specs.declared.denied.Denied.{Denied}
+use Rattle.sc_words.specs.declared.denied.Denied.TheVariants as denied
+use Rattle.sc_words.specs.declared.stop.Walk.{Walk}
+use Rattle.sc_world.proofs.Posting.{appends_none}
+use Rattle.sc_world.specs.declared.post.Unsent.{Unsent}
+use Rattle.sc_session.specs.declared.present.Present.{Present}
+use Rattle.sc_session.specs.declared.state.State.{State}
+use Rattle.sc_session.specs.declared.state.State.TheVariants as state
+use Rattle.sc_session.specs.Going.{Gains, InputDenied, IsGoing, IsInput, WalksOut, has_main, in_state}
+use Rattle.sc_session.specs.Mixing.{IsActive, IsGivenUp, MixedBegins, MixedGoes, MixedIn, MixedShowsCalls, MixedShowsValue, MixedTellsCalls, MixedTellsValue, MixedWalks, MixedWent, ShowsCallsBy, ShowsValueBy, is_mixed, mixed_state}
+use Rattle.sc_session.specs.Modules.{texts}
+use Rattle.sc_session.specs.Plain.{Plain}
+use Rattle.sc_session.specs.Showing.{ShowsCalls, ShowsValue}
+use Rattle.sc_session.specs.Transcript.{Moment, MixedRuns, RunsOut, RunsOutBy, WalksOutBy, moment}
+use Rattle.sc_session.proofs.SendingLemmas.{input_denied}
+
+-- a run that goes on is of interpreted modules or of both forms
+source_by : (s : State) → IsActive s → is_mixed s ≡ false → IsGoing s
+source_by state.Idle active no = absurd active
+source_by (state.Stopped r) active no = tt
+source_by (state.Paused r) active no = tt
+source_by (state.StoppedMixed w) active no = absurd (cc)
+source_by (state.PausedMixed w) active no = absurd (cc)
+source_by state.Ended active no = absurd active
+
+pub source_goes : (v session : Plain) (b : Bool) → v ≡ session → IsActive session.state → b ≡ is_mixed v.state → b ≡ false → IsGoing session.state
+source_goes v session b is active said no = source_by session.state active (sym (ap (λ s. is_mixed s.state) is) ∙ sym said ∙ no)
+
+pub is_by : (v session : Plain) (b c : Bool) → v ≡ session → b ≡ is_mixed v.state → b ≡ c → is_mixed session.state ≡ c
+is_by v session b c is said it = sym (ap (λ s. is_mixed s.state) is) ∙ sym said ∙ it
+
+-- ---- a go
+
+went : (session inside : Plain) (w : World) (text : List ℕ) (new : Plain) → inside ≡ in_state state.Ended session → MixedWent inside w text new → MixedWent session w text new
+went session inside w text new is g = record {
+  halts = g.halts;
+  world = g.world;
+  tells = g.tells;
+  follows = g.follows ∙ ap (in_state (mixed_state g.halts g.world)) is;
+}
+
+pub goes_walks : (session inside : Plain) (w : World) (said : Answer) (new : Plain) → inside ≡ in_state state.Ended session → MixedIn session.state w → MixedGoes inside w said new → MixedWalks session said new
+goes_walks session inside w (answer.Ran text) new is there g = (w, there, went session inside w text new is g)
+goes_walks session inside w answer.NoMemory new is there g = inr (g ∙ is)
+goes_walks session inside w _ new is there g = absurd g
+
+pub goes_begins : (session inside : Plain) (w : World) (said : Answer) (new : Plain) → inside ≡ in_state state.Ended session → MixedGoes inside w said new → MixedBegins session said new
+goes_begins session inside w (answer.Ran text) new is g = (w, went session inside w text new is g)
+goes_begins session inside w answer.NoMemory new is g = inr (g ∙ is)
+goes_begins session inside w _ new is g = absurd g
+
+pub goes_told : (v old : Plain) (w : World) (text : List ℕ) (new : Plain) → v ≡ old → MixedWent v w text new → MixedGoes old w (answer.Ran text) new
+goes_told v old w text new is g = subst (λ s. MixedWent s w text new) is g
+
+-- ---- either run
+
+pub walks_mixed : (sink : Option (List ℕ)) (session : Plain) (how : Walk) (said : Answer) (new : Plain) → is_mixed session.state ≡ true → MixedWalks session said new
+    → WalksOutBy (is_mixed session.state) sink sink session how (Ok said) new
+walks_mixed sink session how said new yes walks =
+    subst (λ b. WalksOutBy b sink sink session how (Ok said) new) (sym yes) ([], appends_none sink, (refl, walks))
+
+pub walks_source : (sink gained : Option (List ℕ)) (session : Plain) (how : Walk) (r : Result Answer Unsent) (new : Plain) → is_mixed session.state ≡ false → WalksOut sink gained session how r new
+    → WalksOutBy (is_mixed session.state) sink gained session how r new
+walks_source sink gained session how (Ok said) new no walks =
+    subst (λ b. WalksOutBy b sink gained session how (Ok said) new) (sym no) walks
+walks_source sink gained session how (Err e) new no walks = walks
+
+pub runs_mixed : (sink : Option (List ℕ)) (b : Bool) (old : Moment) (file : Option (List ℕ)) (said : Answer) (new : Moment) → b ≡ false → MixedRuns old file said new
+    → RunsOutBy b sink sink old file (Ok said) new
+runs_mixed sink b old file said new no runs = subst (λ b. RunsOutBy b sink sink old file (Ok said) new) (sym no) ([], appends_none sink, (refl, runs))
+
+pub runs_source : (sink gained : Option (List ℕ)) (b : Bool) (old : Moment) (file : Option (List ℕ)) (r : Result Answer Unsent) (new : Moment) → b ≡ true → RunsOut sink gained old file r new
+    → RunsOutBy b sink gained old file r new
+runs_source sink gained b old file (Ok said) new yes runs = subst (λ b. RunsOutBy b sink gained old file (Ok said) new) (sym yes) runs
+runs_source sink gained b old file (Err e) new yes runs = runs
+
+-- no memory was left before it was known which
+pub runs_neither : (sink : Option (List ℕ)) (b : Bool) (old : Moment) (file : Option (List ℕ)) (v : Plain) → v ≡ old.session → RunsOutBy b sink sink old file (Ok answer.NoMemory) (moment v old.held old.faults)
+runs_neither sink true old file v is = ([], appends_none sink, (refl, inl (refl, is)))
+runs_neither sink false old file v is = ([], appends_none sink, (refl, (refl, inl is)))
+
+pub are_by : (b c : Bool) (listed : List Present) (v session : Plain) → v ≡ session → listed ≡ v.modules → b ≡ are_sources (texts listed) → b ≡ c → are_sources (texts session.modules) ≡ c
+are_by b c listed v session is same said it = sym (ap (λ m. are_sources (texts m)) (same ∙ ap (λ s. s.modules) is)) ∙ sym said ∙ it
+
+-- ---- a start
+
+pub mixed_begun : (old : Moment) (file : Option (List ℕ)) (bytes : List ℕ) (now : ℕ) (held : Option FileMap) (new : Plain) → has_main (texts old.session.modules) ≡ true → IsInput old.held file bytes → held ≡ old.held
+    → (said : Answer) → MixedBegins old.session said new → MixedRuns old file said (moment new held now)
+mixed_begun old file bytes now held new main input same (answer.Ran text) p = (same, main, (bytes, input, p))
+mixed_begun old file bytes now held new main input same answer.NoMemory p = (same, p)
+mixed_begun old file bytes now held new main input same (answer.Refused (denied.Space a)) p = ((p.0, same), main, (bytes, input), p.1)
+mixed_begun old file bytes now held new main input same _ p = absurd p
+
+no_space : {P : Type 0} (held : Option FileMap) (file : Option (List ℕ)) (before now : ℕ) (d : Denied) → (a : Area) → d ≡ denied.Space a → InputDenied held file before now d → P
+no_space held None before now d a is p = absurd p
+no_space held (Some file) before now d a is p = absurd (subst (InputDenied held (Some file) before now) is p)
+
+pub mixed_denied : (old : Moment) (file : Option (List ℕ)) (now : ℕ) (held : Option FileMap) (d : Denied) → has_main (texts old.session.modules) ≡ true → held ≡ old.held → InputDenied old.held file old.faults now d
+    → MixedRuns old file (answer.Refused d) (moment old.session held now)
+mixed_denied old file now held (denied.Space a) main same p = no_space old.held file old.faults now (denied.Space a) a refl p
+mixed_denied old file now held d main same p = ((refl, same), input_denied old file now d main p)
+
+-- ---- what is shown
+
+pub calls_mixed : (session : Plain) (said : Answer) → is_mixed session.state ≡ true → MixedShowsCalls session said → ShowsCallsBy (is_mixed session.state) session said
+calls_mixed session said yes shows = subst (λ b. ShowsCallsBy b session said) (sym yes) shows
+
+pub calls_source : (session : Plain) (said : Answer) → is_mixed session.state ≡ false → ShowsCalls session said → ShowsCallsBy (is_mixed session.state) session said
+calls_source session said no shows = subst (λ b. ShowsCallsBy b session said) (sym no) shows
+
+pub value_mixed : (session : Plain) (name : List ℕ) (said : Answer) → is_mixed session.state ≡ true → MixedShowsValue session name said → ShowsValueBy (is_mixed session.state) session name said
+value_mixed session name said yes shows = subst (λ b. ShowsValueBy b session name said) (sym yes) shows
+
+pub value_source : (session : Plain) (name : List ℕ) (said : Answer) → is_mixed session.state ≡ false → ShowsValue session name said → ShowsValueBy (is_mixed session.state) session name said
+value_source session name said no shows = subst (λ b. ShowsValueBy b session name said) (sym no) shows
+
+pub shows_mixed : (session inside : Plain) (modules : List Present) (w : World) (said : Answer) → inside ≡ session → modules ≡ inside.modules → MixedIn inside.state w → MixedTellsCalls modules w said → MixedShowsCalls session said
+shows_mixed session inside modules w said is same there tells =
+    (w, subst (λ s. MixedIn s.state w) is there, subst (λ m. MixedTellsCalls m w said) (same ∙ ap (λ s. s.modules) is) tells)
+
+pub shows_mixed_value : (session inside : Plain) (modules : List Present) (w : World) (declaring : Option ℕ) (name : List ℕ) (said : Answer) → inside ≡ session → modules ≡ inside.modules → MixedIn inside.state w
+    → MixedTellsValue modules declaring w name said → MixedShowsValue session name said
+shows_mixed_value session inside modules w declaring name said is same there tells =
+    (w, subst (λ s. MixedIn s.state w) is there, (declaring, subst (λ m. MixedTellsValue m declaring w name said) (same ∙ ap (λ s. s.modules) is) tells))

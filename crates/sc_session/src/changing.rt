@@ -1,0 +1,243 @@
+// Modules are loaded, edited, given another form and taken away.
+ghost use Rattle.std.specs.Prelude.{◌≡◌, ◌≤◌, true, None};
+ghost use Rattle.sc_words.specs.Commands.{IsFile};
+ghost use Rattle.sc_words.specs.Parts.{is_module_name};
+ghost use Rattle.sc_session.specs.Loading as loading;
+ghost use Rattle.sc_session.specs.Modules.{texts};
+ghost use Rattle.sc_session.specs.States.{if_absent};
+ghost use Rattle.sc_session.specs.Transcript as spec;
+ghost use Rattle.sc_session.specs.Transcript.{moment};
+
+use crate::input::file_text;
+use crate::joining::{Taken, take_anew, take_away, take_new};
+use crate::linking::{full_with, put_form};
+use crate::present::{object_named, present_of};
+use crate::session::Session;
+use crate::sources::{file_of, unbuilt};
+use crate::state::{State, put_state};
+use crate::swapping::{Compared, compared};
+use sc_base::{Form, Name};
+use sc_build::{Built, build};
+use sc_outside::Files;
+use sc_words::{Answer, Denied};
+use std::alloc::Global;
+
+impl Session {
+    pub(crate) fn unload(&mut self, name: Name) -> Answer
+        ensures answer { result ≡ Answer.Unloaded name }
+        ensures session { self.new ≡ spec.unloaded self.old name }
+    {
+        take_away(&mut self.modules, &name);
+        put_state(&mut self.state, State::Idle);
+        Answer::Unloaded(name)
+    }
+
+    pub(crate) fn load<F: Files>(&mut self, alloc: Global, name: Name, files: &mut F) -> Answer
+        requires { is_module_name name ≡ true }
+        ensures answer { spec.Loads (moment self.old (F.held files.old) (F.faults files.old)) name (loading.file_of name) result (moment self.new (F.held files.new) (F.faults files.new)) }
+        ensures later { F.faults files.old ≤ F.faults files.new }
+        ensures held { F.held files.new ≡ F.held files.old }
+    {
+        match file_of(alloc, &name) {
+            Ok(file) => self.load_from(alloc, name, file.as_str(), files),
+            Err(_) => Answer::NoMemory,
+        }
+    }
+
+    // Loads a module from its file.
+    fn load_from<F: Files>(
+        &mut self,
+        alloc: Global,
+        name: Name,
+        file: &str,
+        files: &mut F,
+    ) -> Answer
+        ensures answer { spec.Loads (moment self.old (F.held files.old) (F.faults files.old)) name file.now result (moment self.new (F.held files.new) (F.faults files.new)) }
+        ensures later { F.faults files.old ≤ F.faults files.new }
+        ensures held { F.held files.new ≡ F.held files.old }
+    {
+        match build(alloc, &name, file, files) {
+            Ok(built) => match self.take(alloc, built) {
+                Taken::Joined => Answer::Loaded(name),
+                Taken::Denied(denied) => Answer::Refused(denied),
+                Taken::NoMemory => Answer::NoMemory,
+            },
+            Err(fault) => match unbuilt(alloc, file, fault) {
+                Some(denied) => Answer::Refused(denied),
+                None => Answer::NoMemory,
+            },
+        }
+    }
+
+    // A module that was translated is put behind the others, where it goes with them.
+    fn take(&mut self, alloc: Global, built: Built) -> Taken
+        ensures { spec.Joins self.old built result self.new }
+    {
+        let Some(loaded) = self.loaded.checked_add(1) else {
+            drop(built);
+            return Taken::NoMemory;
+        };
+        let Ok(new) = present_of(alloc, self.loaded, built) else {
+            return Taken::NoMemory;
+        };
+        match take_new(alloc, &mut self.modules, &mut self.numbers, new) {
+            Taken::Joined => {
+                self.loaded = loaded;
+                put_state(&mut self.state, State::Idle);
+                Taken::Joined
+            }
+            Taken::Denied(denied) => Taken::Denied(denied),
+            Taken::NoMemory => Taken::NoMemory,
+        }
+    }
+
+    pub(crate) fn edit<F: Files>(
+        &mut self,
+        alloc: Global,
+        name: Name,
+        file: Option<Name>,
+        files: &mut F,
+    ) -> Answer
+        requires named { is_module_name name ≡ true }
+        requires file { IsFile file }
+        ensures answer { spec.Edits (moment self.old (F.held files.old) (F.faults files.old)) name (loading.file_or name file) result (moment self.new (F.held files.new) (F.faults files.new)) }
+        ensures later { F.faults files.old ≤ F.faults files.new }
+        ensures held { F.held files.new ≡ F.held files.old }
+    {
+        match file {
+            Some(file) => self.edit_from(alloc, name, file_text(&file), files),
+            None => match file_of(alloc, &name) {
+                Ok(file) => self.edit_from(alloc, name, file.as_str(), files),
+                Err(_) => Answer::NoMemory,
+            },
+        }
+    }
+
+    // Translates a module anew from a file.
+    fn edit_from<F: Files>(
+        &mut self,
+        alloc: Global,
+        name: Name,
+        file: &str,
+        files: &mut F,
+    ) -> Answer
+        ensures answer { spec.Edits (moment self.old (F.held files.old) (F.faults files.old)) name file.now result (moment self.new (F.held files.new) (F.faults files.new)) }
+        ensures later { F.faults files.old ≤ F.faults files.new }
+        ensures held { F.held files.new ≡ F.held files.old }
+    {
+        match build(alloc, &name, file, files) {
+            Ok(built) => match self.replace(alloc, built) {
+                Taken::Joined => Answer::Edited(name),
+                Taken::Denied(denied) => Answer::Refused(denied),
+                Taken::NoMemory => Answer::NoMemory,
+            },
+            Err(fault) => match unbuilt(alloc, file, fault) {
+                Some(denied) => Answer::Refused(denied),
+                None => Answer::NoMemory,
+            },
+        }
+    }
+
+    // A module that was translated takes the place of the one that has its name, where it goes with the others.
+    fn replace(&mut self, alloc: Global, built: Built) -> Taken
+        ensures { spec.TakesPlace self.old built result self.new }
+    {
+        let Some(loaded) = self.loaded.checked_add(1) else {
+            drop(built);
+            return Taken::NoMemory;
+        };
+        let Ok(new) = present_of(alloc, self.loaded, built) else {
+            return Taken::NoMemory;
+        };
+        match take_anew(alloc, &mut self.modules, &mut self.numbers, new) {
+            Taken::Joined => {
+                self.loaded = loaded;
+                put_state(&mut self.state, State::Idle);
+                Taken::Joined
+            }
+            Taken::Denied(denied) => Taken::Denied(denied),
+            Taken::NoMemory => Taken::NoMemory,
+        }
+    }
+
+    // The module with a name gets a form.
+    pub(crate) fn swap<F: Files>(
+        &mut self,
+        alloc: Global,
+        name: Name,
+        form: Form,
+        files: &mut F,
+    ) -> Answer
+        requires named { is_module_name name ≡ true }
+        requires present { if_absent name (texts self.old.modules) ≡ None }
+        ensures answer { spec.Swaps (moment self.old (F.held files.old) (F.faults files.old)) name form result (moment self.new (F.held files.new) (F.faults files.new)) }
+        ensures later { F.faults files.old ≤ F.faults files.new }
+        ensures held { F.held files.new ≡ F.held files.old }
+    {
+        match form {
+            Form::Source => {
+                self.reform(&name, form);
+                Answer::Swapped(name, form)
+            }
+            Form::Object => self.swap_to_object(alloc, name, files),
+        }
+    }
+
+    fn reform(&mut self, name: &Name, form: Form)
+        ensures { self.new ≡ spec.swapped self.old name.now form }
+    {
+        put_form(&mut self.modules, name, form);
+        put_state(&mut self.state, State::Idle);
+    }
+
+    // The object of a module is to be run, where its file is the object.
+    fn swap_to_object<F: Files>(&mut self, alloc: Global, name: Name, files: &mut F) -> Answer
+        requires named { is_module_name name ≡ true }
+        requires present { if_absent name (texts self.old.modules) ≡ None }
+        ensures answer { spec.Swaps (moment self.old (F.held files.old) (F.faults files.old)) name Form.Object result (moment self.new (F.held files.new) (F.faults files.new)) }
+        ensures later { F.faults files.old ≤ F.faults files.new }
+        ensures held { F.held files.new ≡ F.held files.old }
+    {
+        let found = match object_named(self.modules.as_slice(), &name) {
+            Some(object) => compared(alloc, &name, object, files),
+            None => unreachable!(),
+        };
+        match found {
+            Compared::Same => self.swap_kept(alloc, name),
+            Compared::Denied(denied) => {
+                drop(name);
+                Answer::Refused(denied)
+            }
+            Compared::NoMemory => {
+                drop(name);
+                Answer::NoMemory
+            }
+        }
+    }
+
+    // The object of a module is to be run, where the image has room for it.
+    fn swap_kept(&mut self, alloc: Global, name: Name) -> Answer
+        ensures { spec.Reforms self.old name result self.new }
+    {
+        match full_with(
+            alloc,
+            &name,
+            Form::Object,
+            self.modules.as_slice(),
+            &self.numbers,
+        ) {
+            Ok(None) => {
+                self.reform(&name, Form::Object);
+                Answer::Swapped(name, Form::Object)
+            }
+            Ok(Some(area)) => {
+                drop(name);
+                Answer::Refused(Denied::Space(area))
+            }
+            Err(_) => {
+                drop(name);
+                Answer::NoMemory
+            }
+        }
+    }
+}

@@ -1,0 +1,136 @@
+// The image of the modules that are present, and their forms.
+ghost use Rattle.std.specs.Prelude.{◌≡◌, map, IfErr, IfOk};
+ghost use Rattle.sc_image.specs.Placing as placing;
+ghost use Rattle.sc_session_forms.specs.Forms as forms;
+ghost use Rattle.sc_session.specs.Linking as spec;
+
+use crate::present::{Present, is_named};
+use sc_base::{Duplicate, Form, Items, Name, NoMemory};
+use sc_core_held::Numbers;
+use sc_image::{Linking, full_area, image_of};
+use sc_isa_image::Image;
+use sc_link::LinkFault;
+use sc_session_forms::functions_by;
+use sc_words::{Area, Denied};
+use std::alloc::Global;
+
+/// The module with a name gets a form.
+pub fn put_form(modules: &mut Vec<Present>, name: &Name, form: Form)
+    ensures { modules.new.items ≡ spec.with_form name.now form modules.old.items }
+{
+    for p in modules.iter_mut() {
+        if is_named(name, p) {
+            p.text.form = form;
+        }
+    }
+}
+
+// A module as it is linked in a form.
+fn linking(alloc: Global, p: &Present, form: Form) -> Result<Linking, NoMemory>
+    ensures { IfOk result (λ l. l ≡ record { number = p.now.text.number; name = p.now.text.core.name; form = form; object = p.now.object }) }
+{
+    Ok(Linking {
+        number: p.text.number,
+        name: p.text.core.get().name.copy(alloc)?,
+        form,
+        object: p.object.share()?,
+    })
+}
+
+// Modules as they are linked.
+fn linkings(alloc: Global, modules: &[Present]) -> Result<Items<Linking>, NoMemory>
+    ensures { IfOk result (λ all. all ≡ map spec.linking_of modules.now) }
+{
+    let mut all = Items::new(alloc);
+    for p in modules {
+        all.push(linking(alloc, p, p.text.form)?)?;
+    }
+    Ok(all)
+}
+
+// A module as it is linked where the one with a name has a form.
+fn linking_formed(alloc: Global, name: &Name, form: Form, p: &Present) -> Result<Linking, NoMemory>
+    ensures { IfOk result (λ l. l ≡ spec.linking_of (spec.formed name.now form p.now)) }
+{
+    if is_named(name, p) {
+        linking(alloc, p, form)
+    } else {
+        linking(alloc, p, p.text.form)
+    }
+}
+
+// Modules as they are linked where the one with a name has a form.
+fn linkings_formed(
+    alloc: Global,
+    name: &Name,
+    form: Form,
+    modules: &[Present],
+) -> Result<Items<Linking>, NoMemory>
+    ensures { IfOk result (λ all. all ≡ map spec.linking_of (spec.with_form name.now form modules.now)) }
+{
+    let mut all = Items::new(alloc);
+    for p in modules {
+        all.push(linking_formed(alloc, name, form, p)?)?;
+    }
+    Ok(all)
+}
+
+fn area_of(area: sc_link::Area) -> Area
+    ensures { result ≡ spec.area_of area }
+{
+    match area {
+        sc_link::Area::Stubs => Area::Stubs,
+        sc_link::Area::Text => Area::Text,
+        sc_link::Area::Static => Area::Static,
+    }
+}
+
+/// The area that has no room where the module with a name has a form; none where all have.
+pub fn full_with(
+    alloc: Global,
+    name: &Name,
+    form: Form,
+    modules: &[Present],
+    numbers: &Numbers,
+) -> Result<Option<Area>, NoMemory>
+    ensures { IfOk result (λ full. spec.RoomSaid (spec.with_form name.now form modules.now) numbers.now full) }
+{
+    let all = linkings_formed(alloc, name, form, modules)?;
+    let functions = functions_by(alloc, numbers)?;
+    match full_area(all.as_slice(), functions.as_slice()) {
+        None => Ok(None),
+        Some(area) => Ok(Some(area_of(area))),
+    }
+}
+
+/// Why there is no image: an area has no room, or no memory was left.
+#[derive(Clone, Copy)]
+pub enum ImageFault {
+    Space(Area),
+    NoMemory,
+}
+
+fn image_fault(fault: LinkFault) -> ImageFault
+    ensures { result ≡ spec.image_fault fault }
+{
+    match fault {
+        LinkFault::Space(area) => ImageFault::Space(area_of(area)),
+        LinkFault::NoMemory => ImageFault::NoMemory,
+    }
+}
+
+/// The image of the modules that are present.
+pub fn linked(alloc: Global, modules: &[Present], numbers: &Numbers) -> Result<Image, ImageFault>
+    ensures { IfErr result (spec.FaultSaid modules.now numbers.now) }
+{
+    let Ok(all) = linkings(alloc, modules) else {
+        return Err(ImageFault::NoMemory);
+    };
+    let Ok(functions) = functions_by(alloc, numbers) else {
+        return Err(ImageFault::NoMemory);
+    };
+    match image_of(alloc, all.as_slice(), functions.as_slice()) {
+        Ok(image) => Ok(image),
+        Err(fault) => Err(image_fault(fault)),
+    }
+}

@@ -1,0 +1,313 @@
+// A session's run begins and goes on.
+ghost use Rattle.std.specs.Prelude.{◌≡◌, ◌≤◌, true, Err};
+ghost use Rattle.sc_outside.specs.Causes.{Rose};
+ghost use Rattle.sc_words.specs.Commands.{IsFile};
+ghost use Rattle.sc_session_forms.specs.Forms as forms;
+ghost use Rattle.sc_session.specs.Going as going;
+ghost use Rattle.sc_session.specs.Mixing as mixing;
+ghost use Rattle.sc_session.specs.Modules.{texts};
+ghost use Rattle.sc_session.specs.Transcript as spec;
+ghost use Rattle.sc_session.specs.Transcript.{moment};
+ghost use Rattle.sc_world.specs.declared.post.Unsent.TheVariants as unsent;
+
+use crate::going::{Lost, gone, has_main, run_out_of};
+use crate::input::{Input, input_of};
+use crate::linking::{ImageFault, linked};
+use crate::mixing::{is_mixed, mixed_out_of, mixed_state};
+use crate::present::texts_of;
+use crate::session::Session;
+use crate::state::{State, put_state};
+use crate::stops::places;
+use sc_base::{Items, Name};
+use sc_core_held::Text;
+use sc_isa_image::Image;
+use sc_mixed::MixedRun;
+use sc_outside::{Files, Sink};
+use sc_session_forms::{are_sources, mixed_gone};
+use sc_words::{Answer, Denied, StopAt, Walk};
+use sc_world::{Run, Unsent};
+use std::alloc::Global;
+use std::mem;
+
+impl Session {
+    // The run goes on from where it stands.
+    pub(crate) fn walk<K: Sink>(
+        &mut self,
+        alloc: Global,
+        walk: Walk,
+        out: &mut K,
+    ) -> Result<Answer, Unsent>
+        requires { mixing.IsActive self.old.state }
+        ensures walks { spec.WalksOutBy (mixing.is_mixed self.old.state) (K.written out.old) (K.written out.new) self.old walk result self.new }
+        ensures later { K.faults out.old ≤ K.faults out.new }
+        ensures failed { result ≡ Err unsent.Failed → Rose (K.faults out.old) (K.faults out.new) }
+    {
+        if is_mixed(&self.state) {
+            Ok(self.walk_mixed(alloc, walk))
+        } else {
+            self.walk_source(alloc, walk, out)
+        }
+    }
+
+    fn walk_mixed(&mut self, alloc: Global, walk: Walk) -> Answer
+        requires { mixing.is_mixed self.old.state ≡ true }
+        ensures { mixing.MixedWalks self.old result self.new }
+    {
+        let Ok(texts) = texts_of(alloc, self.modules.as_slice()) else {
+            return Answer::NoMemory;
+        };
+        let Ok(stops) = places(alloc, self.stops.as_slice()) else {
+            return Answer::NoMemory;
+        };
+        let run = mixed_out_of(mem::replace(&mut self.state, State::Ended));
+        self.go_mixed(alloc, texts.as_slice(), stops.as_slice(), walk, run)
+    }
+
+    // A run of both forms goes on.
+    fn go_mixed(
+        &mut self,
+        alloc: Global,
+        texts: &[Text],
+        stops: &[StopAt],
+        walk: Walk,
+        run: MixedRun,
+    ) -> Answer
+        requires { self.old.state ≡ State.Ended }
+        ensures { mixing.MixedGoes self.old run result self.new }
+    {
+        match mixed_gone(alloc, texts, stops, walk, self.limits.turns, run) {
+            Ok(told) => {
+                put_state(&mut self.state, mixed_state(told.halt, told.run));
+                Answer::Ran(told.text)
+            }
+            Err(_) => Answer::NoMemory,
+        }
+    }
+
+    fn walk_source<K: Sink>(
+        &mut self,
+        alloc: Global,
+        walk: Walk,
+        out: &mut K,
+    ) -> Result<Answer, Unsent>
+        requires { going.IsGoing self.old.state }
+        ensures walks { going.WalksOut (K.written out.old) (K.written out.new) self.old walk result self.new }
+        ensures later { K.faults out.old ≤ K.faults out.new }
+        ensures failed { result ≡ Err unsent.Failed → Rose (K.faults out.old) (K.faults out.new) }
+    {
+        let Ok(texts) = texts_of(alloc, self.modules.as_slice()) else {
+            return Ok(Answer::NoMemory);
+        };
+        let Ok(stops) = places(alloc, self.stops.as_slice()) else {
+            return Ok(Answer::NoMemory);
+        };
+        let run = run_out_of(mem::replace(&mut self.state, State::Ended));
+        match gone(
+            alloc,
+            texts.as_slice(),
+            stops.as_slice(),
+            walk,
+            self.limits.turns,
+            self.in_line,
+            run,
+            out,
+        ) {
+            Ok(told) => {
+                put_state(&mut self.state, told.state);
+                Ok(Answer::Ran(told.text))
+            }
+            Err(lost) => match lost {
+                Lost::NoMemory(within) => {
+                    self.in_line = within;
+                    Ok(Answer::NoMemory)
+                }
+                Lost::Unsent(unsent) => Err(unsent),
+            },
+        }
+    }
+
+    pub(crate) fn run<K: Sink, F: Files>(
+        &mut self,
+        alloc: Global,
+        file: Option<Name>,
+        out: &mut K,
+        files: &mut F,
+    ) -> Result<Answer, Unsent>
+        requires { IsFile file }
+        ensures runs { spec.RunsOutBy (forms.are_sources (texts self.old.modules)) (K.written out.old) (K.written out.new) (moment self.old (F.held files.old) (F.faults files.old)) file result (moment self.new (F.held files.new) (F.faults files.new)) }
+        ensures out_later { K.faults out.old ≤ K.faults out.new }
+        ensures failed { result ≡ Err unsent.Failed → Rose (K.faults out.old) (K.faults out.new) }
+        ensures later { F.faults files.old ≤ F.faults files.new }
+        ensures held { F.held files.new ≡ F.held files.old }
+    {
+        let Ok(texts) = texts_of(alloc, self.modules.as_slice()) else {
+            return Ok(Answer::NoMemory);
+        };
+        if are_sources(texts.as_slice()) {
+            self.run_sources(alloc, file, out, files)
+        } else {
+            Ok(self.run_mixed(alloc, file, files))
+        }
+    }
+
+    // Runs a program that has modules in object form.
+    fn run_mixed<F: Files>(&mut self, alloc: Global, file: Option<Name>, files: &mut F) -> Answer
+        requires { IsFile file }
+        ensures runs { spec.MixedRuns (moment self.old (F.held files.old) (F.faults files.old)) file result (moment self.new (F.held files.new) (F.faults files.new)) }
+        ensures later { F.faults files.old ≤ F.faults files.new }
+        ensures held { F.held files.new ≡ F.held files.old }
+    {
+        match has_main(alloc, self.modules.as_slice()) {
+            Ok(true) => self.run_mixed_with(alloc, file, files),
+            Ok(false) => Answer::Refused(Denied::NoMain),
+            Err(_) => Answer::NoMemory,
+        }
+    }
+
+    fn run_mixed_with<F: Files>(
+        &mut self,
+        alloc: Global,
+        file: Option<Name>,
+        files: &mut F,
+    ) -> Answer
+        requires file { IsFile file }
+        requires main { going.has_main (texts self.old.modules) ≡ true }
+        ensures runs { spec.MixedRuns (moment self.old (F.held files.old) (F.faults files.old)) file result (moment self.new (F.held files.new) (F.faults files.new)) }
+        ensures later { F.faults files.old ≤ F.faults files.new }
+        ensures held { F.held files.new ≡ F.held files.old }
+    {
+        match input_of(alloc, &file, files) {
+            Input::Bytes(bytes) => self.start_mixed(alloc, bytes),
+            Input::Denied(denied) => Answer::Refused(denied),
+            Input::NoMemory => Answer::NoMemory,
+        }
+    }
+
+    // The run of a program of both forms goes from its start on.
+    fn start_mixed(&mut self, alloc: Global, input: Items<u8>) -> Answer
+        ensures { mixing.MixedBegins self.old result self.new }
+    {
+        match linked(alloc, self.modules.as_slice(), &self.numbers) {
+            Ok(image) => self.start_in(alloc, image, input),
+            Err(ImageFault::Space(area)) => {
+                drop(input);
+                Answer::Refused(Denied::Space(area))
+            }
+            Err(ImageFault::NoMemory) => {
+                drop(input);
+                Answer::NoMemory
+            }
+        }
+    }
+
+    // The same in an image.
+    fn start_in(&mut self, alloc: Global, image: Image, input: Items<u8>) -> Answer
+        ensures { mixing.MixedBegins self.old result self.new }
+    {
+        let Ok(texts) = texts_of(alloc, self.modules.as_slice()) else {
+            return Answer::NoMemory;
+        };
+        let Ok(stops) = places(alloc, self.stops.as_slice()) else {
+            return Answer::NoMemory;
+        };
+        let stack = u64::from(self.limits.stack);
+        let heap = u64::from(self.limits.heap);
+        let Ok(run) = MixedRun::start(alloc, texts.as_slice(), image, stack, heap, input) else {
+            return Answer::NoMemory;
+        };
+        put_state(&mut self.state, State::Ended);
+        self.go_mixed(alloc, texts.as_slice(), stops.as_slice(), Walk::Cont, run)
+    }
+
+    // Runs a program whose modules are all interpreted.
+    fn run_sources<K: Sink, F: Files>(
+        &mut self,
+        alloc: Global,
+        file: Option<Name>,
+        out: &mut K,
+        files: &mut F,
+    ) -> Result<Answer, Unsent>
+        requires { IsFile file }
+        ensures runs { spec.RunsOut (K.written out.old) (K.written out.new) (moment self.old (F.held files.old) (F.faults files.old)) file result (moment self.new (F.held files.new) (F.faults files.new)) }
+        ensures out_later { K.faults out.old ≤ K.faults out.new }
+        ensures failed { result ≡ Err unsent.Failed → Rose (K.faults out.old) (K.faults out.new) }
+        ensures later { F.faults files.old ≤ F.faults files.new }
+        ensures held { F.held files.new ≡ F.held files.old }
+    {
+        match has_main(alloc, self.modules.as_slice()) {
+            Ok(true) => self.run_with(alloc, file, out, files),
+            Ok(false) => Ok(Answer::Refused(Denied::NoMain)),
+            Err(_) => Ok(Answer::NoMemory),
+        }
+    }
+
+    // Runs a program that has a `main`.
+    fn run_with<K: Sink, F: Files>(
+        &mut self,
+        alloc: Global,
+        file: Option<Name>,
+        out: &mut K,
+        files: &mut F,
+    ) -> Result<Answer, Unsent>
+        requires file { IsFile file }
+        requires main { going.has_main (texts self.old.modules) ≡ true }
+        ensures runs { spec.RunsOut (K.written out.old) (K.written out.new) (moment self.old (F.held files.old) (F.faults files.old)) file result (moment self.new (F.held files.new) (F.faults files.new)) }
+        ensures out_later { K.faults out.old ≤ K.faults out.new }
+        ensures failed { result ≡ Err unsent.Failed → Rose (K.faults out.old) (K.faults out.new) }
+        ensures later { F.faults files.old ≤ F.faults files.new }
+        ensures held { F.held files.new ≡ F.held files.old }
+    {
+        match input_of(alloc, &file, files) {
+            Input::Bytes(bytes) => self.start(alloc, bytes, out),
+            Input::Denied(denied) => Ok(Answer::Refused(denied)),
+            Input::NoMemory => Ok(Answer::NoMemory),
+        }
+    }
+
+    // The run of the program goes from its start on.
+    fn start<K: Sink>(
+        &mut self,
+        alloc: Global,
+        input: Items<u8>,
+        out: &mut K,
+    ) -> Result<Answer, Unsent>
+        ensures begins { going.BeginsOut (K.written out.old) (K.written out.new) self.old input result self.new }
+        ensures later { K.faults out.old ≤ K.faults out.new }
+        ensures failed { result ≡ Err unsent.Failed → Rose (K.faults out.old) (K.faults out.new) }
+    {
+        let Ok(texts) = texts_of(alloc, self.modules.as_slice()) else {
+            return Ok(Answer::NoMemory);
+        };
+        let Ok(stops) = places(alloc, self.stops.as_slice()) else {
+            return Ok(Answer::NoMemory);
+        };
+        let stack = u64::from(self.limits.stack);
+        let heap = u64::from(self.limits.heap);
+        let Ok(run) = Run::start(alloc, texts.as_slice(), stack, heap, input) else {
+            return Ok(Answer::NoMemory);
+        };
+        put_state(&mut self.state, State::Ended);
+        match gone(
+            alloc,
+            texts.as_slice(),
+            stops.as_slice(),
+            Walk::Cont,
+            self.limits.turns,
+            self.in_line,
+            run,
+            out,
+        ) {
+            Ok(told) => {
+                put_state(&mut self.state, told.state);
+                Ok(Answer::Ran(told.text))
+            }
+            Err(lost) => match lost {
+                Lost::NoMemory(within) => {
+                    self.in_line = within;
+                    Ok(Answer::NoMemory)
+                }
+                Lost::Unsent(unsent) => Err(unsent),
+            },
+        }
+    }
+}

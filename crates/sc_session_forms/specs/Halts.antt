@@ -1,0 +1,53 @@
+-- Yardstick: to be compared with what it restates (docs/TRUST.md).
+-- What is said of where a run of both forms halted.
+use Rattle.std.specs.Prelude.{◌≡◌, ℕ, ◌<◌, ◌+◌, ◌*◌, ◌/◌, ◌%◌, nat_lt, if◌then◌else◌, List, [], ◌∷◌, ◌++◌, drop, Option, Some, codes, decimal}
+use Rattle.sc_emu.specs.declared.outcome.Crash.{Crash}
+use Rattle.sc_emu.specs.declared.outcome.Crash.TheVariants as crash
+use Rattle.sc_interp_access.specs.declared.ended.Ended.TheVariants as ended
+use Rattle.sc_interp_world.specs.Outputs.{output}
+use Rattle.sc_meaning.specs.World.{World}
+use Rattle.sc_mixed.specs.declared.ended.MixedEnd.{MixedEnd}
+use Rattle.sc_mixed.specs.declared.ended.MixedEnd.TheVariants as mixed
+use Rattle.sc_session_texts.specs.Ends.{end_text, entered_text, line_text, on_new_line, stop_text}
+use Rattle.sc_world.specs.declared.halt.Halt.{Halt}
+use Rattle.sc_world.specs.declared.halt.Halt.TheVariants as halt
+
+-- a hexadecimal digit, in lower case
+abbrev pub digit : ℕ → ℕ
+digit d = if nat_lt d 10 then 48 + d else 87 + d
+
+abbrev pub digit_of : ℕ → ℕ → ℕ
+digit_of n unit = digit (n / unit % 16)
+
+-- the eight hexadecimal digits of 32 bits
+abbrev pub hexadecimal : ℕ → List ℕ
+hexadecimal n =
+    digit_of n 268435456 ∷ digit_of n 16777216 ∷ digit_of n 1048576 ∷ digit_of n 65536
+    ∷ digit_of n 4096 ∷ digit_of n 256 ∷ digit_of n 16 ∷ digit_of n 1 ∷ []
+
+abbrev pub cause_text : Crash → List ℕ
+cause_text crash.BadFetch = codes " cause 1"
+cause_text crash.Misfetch = codes " cause 2"
+cause_text crash.Illegal = codes " cause 3"
+cause_text crash.Misaligned = codes " cause 4"
+cause_text crash.Outside = codes " cause 5"
+cause_text crash.Service = codes " cause 6"
+
+-- what is said of the end
+abbrev pub mixed_end_text : MixedEnd → World → Option (List ℕ)
+mixed_end_text (mixed.Meant e) w = end_text e w
+mixed_end_text (mixed.Crashed at cause) w = Some (codes "crashed at " ++ hexadecimal at ++ cause_text cause)
+
+-- what is said of where the run halted, in the world in which it stands
+abbrev pub MixedSays : Halt → World → List ℕ → Type 0
+MixedSays halt.Entered w said = said ≡ entered_text w.frames
+MixedSays halt.AtLine w said = said ≡ line_text w.frames
+MixedSays halt.Ended w said = (e : MixedEnd) × (Some said ≡ mixed_end_text e w)
+MixedSays (halt.Paused turns) w said = Some said ≡ stop_text turns ended.OutOfSteps w
+
+-- the text on a go that halted so: what the program wrote in it, behind so many bytes before, and on a line of its own where the
+-- run halted
+pub record MixedTells (before : ℕ) (h : Halt) (w : World) (text : List ℕ) : Type 0 where
+  pub said : List ℕ
+  pub says : MixedSays h w said
+  pub whole : text ≡ on_new_line (drop before (output w.trail)) said

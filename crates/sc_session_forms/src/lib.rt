@@ -1,0 +1,12 @@
+//! What a session shows of modules in object form, and of runs of both forms.
+#![tactic(auto)]
+
+mod calls;
+mod difference;
+mod forms;
+mod halts;
+
+pub use calls::{Compiled, call_lines, innermost_source};
+pub use difference::difference;
+pub use forms::{are_sources, functions_by, is_source};
+pub use halts::{MixedTold, mixed_gone};

@@ -1,0 +1,2 @@
+/* Entries in the order of their words. */
+void print_sorted(void);
