@@ -4,7 +4,7 @@ ghost use Rattle.sc_isa.specs.Table.{IsSound};
 ghost use Rattle.sc_isa_image.specs.Lookups.{word_at};
 ghost use Rattle.sc_mem.specs.Flat.{Flat};
 ghost use Rattle.sc_emu.specs.Beginning.{Begins, IsTakeable};
-ghost use Rattle.sc_emu.specs.Machine.{act as acted, obeys, rv_step, state_of};
+ghost use Rattle.sc_emu.specs.Machine.{act as acted, acts, obeys, rv_step, state_of};
 ghost use Rattle.sc_emu.specs.Operations.{loaded as loaded_of, sum};
 ghost use Rattle.sc_emu.specs.Registers.{with_word};
 
@@ -68,8 +68,20 @@ fn obey(regs: &mut Regs, fetched: Option<Option<Instr>>) -> Need
 {
     match fetched {
         None => Need::Done(Step::Stopped(Crash::BadFetch)),
-        Some(None) => Need::Done(Step::Stopped(Crash::Illegal)),
-        Some(Some(i)) => prepare(regs, i),
+        Some(read) => obey_read(regs, read),
+    }
+}
+
+// A word that was read as an instruction, or is none.
+#[inline(always)]
+fn obey_read(regs: &mut Regs, read: Option<Instr>) -> Need
+    requires { IfSome read (λ i. IsSound i) }
+    ensures step { (memory : Flat) → Begins (acts read (state_of regs.old memory)) regs.old memory regs.new result }
+    ensures register { IsTakeable result }
+{
+    match read {
+        None => Need::Done(Step::Stopped(Crash::Illegal)),
+        Some(i) => prepare(regs, i),
     }
 }
 
