@@ -1,13 +1,13 @@
 -- Yardstick: to be compared with what it restates (docs/TRUST.md).
 -- A call of compiled code is entered, or a block of it.
-use Rattle.std.specs.Prelude.{◌≡◌, ℕ, ◌&&◌, nat_lt, not, Bool, true, false, List, length, Result, Ok, Err}
+use Rattle.std.specs.Prelude.{◌≡◌, ℕ, ◌&&◌, nat_lt, not, Bool, true, false, List, length, Result, Ok, Err, Some}
 use Rattle.sc_isa_image.specs.declared.text.TextAt.{TextAt}
-use Rattle.sc_meaning.specs.Outcomes.{Outcome, Done}
+use Rattle.sc_meaning.specs.Outcomes.{Outcome, Done, Over, Ending}
 use Rattle.sc_meaning.specs.Values.{Value}
 use Rattle.sc_meaning.specs.Versions.{Text}
 use Rattle.sc_meaning.specs.World.{World, Frame}
 use Rattle.sc_interp_access.specs.declared.stop.Stop.{Stop}
-use Rattle.sc_interp_access.specs.Gives.{Stops}
+use Rattle.sc_interp_access.specs.Gives.{Stops, ending_of}
 use Rattle.sc_services.specs.Blocks.{call_entered_if_room}
 use Rattle.sc_services.specs.Frames.{is_call_of, is_open_here}
 use Rattle.sc_services.specs.declared.entering.Entered.{Entered}
@@ -23,8 +23,9 @@ Enters test out now w (Ok Refused) v = (test ≡ false) × (v ≡ w)
 Enters test out now w (Ok entered) v = (test ≡ true) × (entered ≡ now) × (out ≡ Done tt v)
 Enters test out now w (Err stop) v = Stops out stop v
 
--- a call of the function of a text is entered with some values, or the service is refused, and nothing is done
-abbrev pub EntersCall : List Text → TextAt → World → Result Entered Stop → World → Type 0
-EntersCall texts at w (Ok Refused) v = v ≡ w
-EntersCall texts at w (Ok entered) v = (t : Text) × (xs : List Value) × (call_entered_if_room at.fun t at.frame xs w ≡ Done tt v)
-EntersCall texts at w (Err stop) v = (t : Text) × (xs : List Value) × Stops (call_entered_if_room at.fun t at.frame xs w) stop v
+-- A call of the function of a text is entered with some arguments, or the run ends in it; or the service is refused, and nothing is
+-- done.
+abbrev pub EntersCall : TextAt → World → Result Entered Stop → World → Type 0
+EntersCall at w (Ok Refused) v = v ≡ w
+EntersCall at w (Ok entered) v = (t : Text) × (xs : List Value) × (call_entered_if_room at.fun t at.frame xs w ≡ Done tt v)
+EntersCall at w (Err stop) v = (e : Ending) → ending_of stop v ≡ Some e → (t : Text) × (xs : List Value) × (call_entered_if_room at.fun t at.frame xs w ≡ Over e)
