@@ -19,7 +19,7 @@ pub enum Went {
     Returned,
 }
 
-fn went(step: Step, regs: &Regs) -> Result<Went, Break> {
+fn stepped(step: Step, regs: &Regs) -> Result<Went, Break> {
     match step {
         Step::Went => Ok(Went::On),
         Step::Service(n) => Ok(Went::Asks(n)),
@@ -57,7 +57,7 @@ fn store(size: u8, at: u32, word: Word, regs: &mut Regs, world: &mut World) -> R
 #[inline(always)]
 pub fn execute(image: &Image, regs: &mut Regs, world: &mut World) -> Result<Went, Break> {
     match begin(regs, image) {
-        Need::Done(step) => went(step, regs),
+        Need::Done(step) => stepped(step, regs),
         Need::Load { op, rd, at } => load(op, rd, at, regs, world),
         Need::Store { size, at, word } => store(size, at, word, regs, world),
     }

@@ -1,4 +1,11 @@
 // One move of a run of both forms.
+ghost use Rattle.sc_interp.specs.Shows as shows;
+ghost use Rattle.sc_interp.specs.Steady as steady;
+ghost use Rattle.sc_interp.specs.Steps.{Is};
+ghost use Rattle.sc_interp_machine.specs.Runs as runs;
+ghost use Rattle.sc_lib.specs.Quiet.{IsQuiet};
+ghost use Rattle.sc_meaning.specs.Versions as versions;
+ghost use Rattle.sc_mixed.specs.Moves.{StepsOn};
 
 use crate::bridge::{give_back, goes_to_code, make_in_code, return_code};
 use crate::broken::Break;
@@ -42,19 +49,23 @@ fn way_of(texts: &[Text], going: &Going, calls: &Calls, world: &World) -> Result
     }
 }
 
-// A step of the interpreted calls.
+// A step of the interpreted calls: the meaning's, with all that it ends in.
 fn step(
     texts: &[Text],
     going: &mut Going,
     calls: &mut Calls,
     world: &mut World,
-) -> Result<Moved, Break> {
+) -> Result<Moved, Break>
+    ensures { (h : versions.History) → IsQuiet h → (s : runs.State) → Is s going.old calls.old.callers world.old → StepsOn (steady.advance h texts.now s) (shows.shown h texts.now s) result going.new calls.new.callers world.new }
+{
     let before = noted(going, world);
-    let shown = step_run(texts, going, &mut calls.callers, world)?;
-    Ok(Moved {
-        shown,
-        bytes: touched_on(before, going, world),
-    })
+    match step_run(texts, going, &mut calls.callers, world) {
+        Ok(shown) => Ok(Moved {
+            shown,
+            bytes: touched_on(before, going, world),
+        }),
+        Err(stop) => Err(Break::Meant(stop)),
+    }
 }
 
 // How the interpreted calls go on is taken, and an answer without a value is left in its place.
