@@ -53,12 +53,47 @@ fn store(size: u8, at: u32, word: Word, regs: &mut Regs, world: &mut World) -> R
     }
 }
 
-/// The instruction at the next address is carried out.
+// The instruction at the next address is carried out.
 #[inline(always)]
-pub fn execute(image: &Image, regs: &mut Regs, world: &mut World) -> Result<Went, Break> {
+fn execute(image: &Image, regs: &mut Regs, world: &mut World) -> Result<Went, Break> {
     match begin(regs, image) {
         Need::Done(step) => stepped(step, regs),
         Need::Load { op, rd, at } => load(op, rd, at, regs, world),
         Need::Store { size, at, word } => store(size, at, word, regs, world),
     }
+}
+
+/// What instructions came to: how many were carried out, and what the last one came to.
+#[derive(Clone, Copy)]
+pub struct Executed {
+    pub count: u64,
+    pub went: Went,
+}
+
+/// Instructions one after another, so many at most: up to one that asks for a service, or that stands where calls from outside return to.
+/// The loop is tight, since nothing that they do halts a run.
+///
+/// # Errors
+///
+/// A crash, and want of memory.
+pub fn execute_some(
+    image: &Image,
+    most: u64,
+    regs: &mut Regs,
+    world: &mut World,
+) -> Result<Executed, Break> {
+    let mut count: u64 = 0;
+    for _ in 0..most {
+        let went = execute(image, regs, world)?;
+        count = count.saturating_add(1);
+        match went {
+            Went::On => (),
+            Went::Asks(_) => return Ok(Executed { count, went }),
+            Went::Returned => return Ok(Executed { count, went }),
+        }
+    }
+    Ok(Executed {
+        count,
+        went: Went::On,
+    })
 }

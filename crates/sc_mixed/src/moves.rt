@@ -10,7 +10,7 @@ ghost use Rattle.sc_mixed.specs.Moves.{StepsOn};
 use crate::bridge::{give_back, goes_to_code, make_in_code, return_code};
 use crate::broken::Break;
 use crate::calls::{Calls, Moved, Next};
-use crate::execute::{Went, execute};
+use crate::execute::{Went, execute_some};
 use crate::serve::serve;
 use sc_base::NoMemory;
 use sc_core_held::Text;
@@ -62,7 +62,7 @@ fn step(
     match step_run(texts, going, &mut calls.callers, world) {
         Ok(shown) => Ok(Moved {
             shown,
-            bytes: touched_on(before, going, world),
+            turns: touched_on(before, going, world).saturating_add(1),
         }),
         Err(stop) => Err(Break::Meant(stop)),
     }
@@ -99,13 +99,16 @@ fn cross(
     }
 }
 
-fn execute_one(
+// So many instructions at most. Each is a move.
+fn execute_all(
     image: &Image,
+    most: u64,
     next: &mut Next,
     calls: &mut Calls,
     world: &mut World,
 ) -> Result<Moved, Break> {
-    match execute(image, &mut calls.regs, world)? {
+    let done = execute_some(image, most, &mut calls.regs, world)?;
+    match done.went {
         Went::On => (),
         Went::Asks(n) => drop(mem::replace(next, Next::Serves(n))),
         Went::Returned => {
@@ -113,19 +116,23 @@ fn execute_one(
             drop(mem::replace(next, back));
         }
     }
-    Ok(Moved::quietly())
+    Ok(Moved {
+        shown: Shown::Nothing,
+        turns: done.count,
+    })
 }
 
-/// One move: a step of interpreted calls, a crossing of the bridge, an instruction or a service.
+/// A step of interpreted calls, a crossing of the bridge, a service, or so many instructions at most.
 pub fn move_on(
     texts: &[Text],
     image: &Image,
+    most: u64,
     next: &mut Next,
     calls: &mut Calls,
     world: &mut World,
 ) -> Result<Moved, Break> {
     match next {
-        Next::Executes => execute_one(image, next, calls, world),
+        Next::Executes => execute_all(image, most, next, calls, world),
         Next::Serves(n) => {
             let n = *n;
             serve(n, texts, image, next, calls, world)
