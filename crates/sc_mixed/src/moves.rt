@@ -14,7 +14,7 @@ use crate::execute::{Went, execute_some};
 use crate::serve::serve;
 use sc_base::NoMemory;
 use sc_core_held::Text;
-use sc_interp::{Going, step_run};
+use sc_interp::{Going, Shown, step_run};
 use sc_interp_world::World;
 use sc_isa_image::Image;
 use sc_meaning_values::Answer;
