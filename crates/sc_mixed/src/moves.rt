@@ -15,6 +15,7 @@ use crate::serve::serve;
 use sc_base::NoMemory;
 use sc_core_held::Text;
 use sc_interp::{Going, Shown, step_run};
+use sc_interp_access::Stop;
 use sc_interp_world::World;
 use sc_isa_image::Image;
 use sc_meaning_values::Answer;
@@ -107,9 +108,11 @@ fn execute_all(
     calls: &mut Calls,
     world: &mut World,
 ) -> Result<Moved, Break> {
-    let done = execute_some(image, most, &mut calls.regs, world)?;
+    let done = execute_some(image, most, &mut calls.regs, world);
     match done.went {
         Went::On => (),
+        Went::Stopped(crash) => return Err(Break::Crashed(calls.regs.pc(), crash)),
+        Went::NoRoom => return Err(Break::Meant(Stop::NoRoom)),
         Went::Asks(n) => drop(mem::replace(next, Next::Serves(n))),
         Went::Returned => {
             let back = return_code(calls, world)?;
