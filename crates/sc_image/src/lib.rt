@@ -14,3 +14,6 @@ pub use linking::image_of;
 pub use module::Linking;
 pub use placing::place_modules;
 pub use room::full_area;
+
+#[cfg(test)]
+mod tests;
