@@ -2,11 +2,11 @@
 #![tactic(auto)]
 
 mod calls;
-mod difference;
+mod differing;
 mod forms;
 mod halts;
 
 pub use calls::{Compiled, call_lines, innermost_source};
-pub use difference::difference;
+pub use differing::difference;
 pub use forms::{are_sources, functions_by, is_source};
 pub use halts::{MixedTold, mixed_gone};

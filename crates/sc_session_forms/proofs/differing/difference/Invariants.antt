@@ -1,6 +1,6 @@
 use Rattle.std.proofs.Common.{◌≡◌, drop}
 use Rattle.sc_session_forms.specs.Differences as spec
-use Rattle.sc_session_forms.proofs.difference.difference.Given as goal
+use Rattle.sc_session_forms.proofs.differing.difference.Given as goal
 
 -- the bytes before this place are the same
 abbrev pub invariant-loop-i : goal.invariant-loop-i
