@@ -1,5 +1,5 @@
 -- Files without a difference are the same.
-use Rattle.std.proofs.Common.{◌≡◌, ℕ, ◌+◌, ◌==◌, if◌then◌else◌, true, false, Bool, List, [], ◌∷◌, Option, Some, None, refl, ap, ap₂, sym, ◌∙◌, arith}
+use Rattle.std.proofs.Common.{◌≡◌, ◌<◌, ℕ, zero, suc, ◌+◌, ◌==◌, length, drop, if◌then◌else◌, true, false, Bool, List, [], ◌∷◌, Option, Some, None, refl, ap, ap₂, sym, ◌∙◌, arith}
 use Rattle.std.proofs.lemmas.Bool.Decides.{nat_tests}
 use Rattle.sc_session_forms.specs.Differences.{difference, difference_from}
 
@@ -19,3 +19,13 @@ same_from n (x ∷ xs) (y ∷ ys) none = same_step n x y xs ys (x == y) refl non
 
 pub same : (xs ys : List ℕ) → difference xs ys ≡ None → xs ≡ ys
 same xs ys none = same_from 0 xs ys none
+
+-- the right file ends first
+pub ends_first : (n : ℕ) (xs : List ℕ) (i : ℕ) → i < length xs → difference_from n (drop i xs) [] ≡ Some n
+ends_first n [] i inside = absurd (omega arith)
+ends_first n (x ∷ xs) zero inside = refl
+ends_first n (x ∷ xs) (suc i) inside = let less : i < length xs = omega arith in ends_first n xs i less
+
+pub nothing : (xs : List ℕ) → length xs ≡ 0 → [] ≡ xs
+nothing [] none = refl
+nothing (x ∷ xs) none = absurd (omega arith)
