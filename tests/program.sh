@@ -78,7 +78,7 @@ run --help < /dev/null
 cp out help
 grep -c '^Usage: saber' help > out
 expect 'help' 0 1
-for word in C1 C2 C3 C4 C5 C6 C7 C8 C10 C11 C12 C13 C14 C15 C16 C18 C19 X1 X2 X3 X4 X5 X6 X7 X8 X9 X10 \
+for word in C1 C2 C3 C4 C5 C6 C7 C8 C9 C10 C11 C12 C13 C14 C15 C16 C18 C19 X1 X2 X3 X4 X5 X6 X7 X8 X9 X10 \
     U1 U2 U3 U4 U5 U6 U7 U8 U9 U10 U11 U12 U13 U14 U15 U16 U17 U18; do
     grep "^  $word  " help || echo "no line for $word"
 done | grep '^no line' > out

@@ -2,10 +2,9 @@
 ghost use Rattle.std.specs.Prelude.{◌≡◌, ◌<◌, IfSome, Some};
 ghost use Rattle.sc_isa.specs.Table.{IsSound};
 ghost use Rattle.sc_isa_image.specs.Lookups.{word_at};
-ghost use Rattle.sc_isa.specs.declared.instruction.Instr.TheVariants as instr;
 ghost use Rattle.sc_mem.specs.Flat.{Flat};
 ghost use Rattle.sc_emu.specs.Beginning.{Begins, IsTakeable};
-ghost use Rattle.sc_emu.specs.Machine.{act as acted, obeys, rv_step, state_of};
+ghost use Rattle.sc_emu.specs.Machine.{act as acted, acts, obeys, rv_step, state_of};
 ghost use Rattle.sc_emu.specs.Operations.{loaded as loaded_of, sum};
 ghost use Rattle.sc_emu.specs.Registers.{with_word};
 
@@ -14,7 +13,7 @@ use crate::outcome::{Crash, Step};
 use crate::registers::{Regs, plain};
 use crate::stepping::{RETURN, address, go_on, jump, put};
 use sc_base::Word;
-use sc_isa::{BranchOp, Instr, LoadOp, StoreOp};
+use sc_isa::{Instr, LoadOp};
 use sc_isa_image::Image;
 
 /// What a step still needs of memory: nothing, for it is done; a load into a register; or a store of the low bytes of a word, `size`
@@ -69,8 +68,20 @@ fn obey(regs: &mut Regs, fetched: Option<Option<Instr>>) -> Need
 {
     match fetched {
         None => Need::Done(Step::Stopped(Crash::BadFetch)),
-        Some(None) => Need::Done(Step::Stopped(Crash::Illegal)),
-        Some(Some(i)) => prepare(regs, i),
+        Some(read) => obey_read(regs, read),
+    }
+}
+
+// A word that was read as an instruction, or is none.
+#[inline(always)]
+fn obey_read(regs: &mut Regs, read: Option<Instr>) -> Need
+    requires { IfSome read (λ i. IsSound i) }
+    ensures step { (memory : Flat) → Begins (acts read (state_of regs.old memory)) regs.old memory regs.new result }
+    ensures register { IsTakeable result }
+{
+    match read {
+        None => Need::Done(Step::Stopped(Crash::Illegal)),
+        Some(i) => prepare(regs, i),
     }
 }
 
@@ -101,9 +112,31 @@ fn prepare(regs: &mut Regs, i: Instr) -> Need
             jump(regs, rd, to);
             Need::Done(Step::Went)
         }
-        Instr::Branch(op, a, b, offset) => branch(regs, op, a, b, offset),
-        Instr::Load(op, rd, base, offset) => need_load(regs, op, rd, base, offset),
-        Instr::Store(op, value, base, offset) => need_store(regs, op, value, base, offset),
+        Instr::Branch(op, a, b, offset) => {
+            if is_taken(op, regs.get(a).bits, regs.get(b).bits) {
+                let to = regs.pc().wrapping_add(offset.cast_unsigned());
+                regs.set_pc(to);
+            } else {
+                go_on(regs);
+            }
+            Need::Done(Step::Went)
+        }
+        Instr::Load(op, rd, base, offset) => {
+            let at = address(regs, base, offset);
+            if at % u32::from(load_size(op)) != 0 {
+                return Need::Done(Step::Stopped(Crash::Misaligned));
+            }
+            Need::Load { op, rd, at }
+        }
+        Instr::Store(op, value, base, offset) => {
+            let at = address(regs, base, offset);
+            let size = store_size(op);
+            if at % u32::from(size) != 0 {
+                return Need::Done(Step::Stopped(Crash::Misaligned));
+            }
+            let word = regs.get(value);
+            Need::Store { size, at, word }
+        }
         Instr::Imm(op, rd, a, constant) => {
             let w = with_constant(op, regs.get(a), constant.cast_unsigned());
             put(regs, rd, w);
@@ -123,51 +156,5 @@ fn prepare(regs: &mut Regs, i: Instr) -> Need
             go_on(regs);
             Need::Done(Step::Went)
         }
-    }
-}
-
-#[inline(always)]
-fn branch(regs: &mut Regs, op: BranchOp, a: u8, b: u8, offset: i32) -> Need
-    requires { (a < 32) × (b < 32) }
-    ensures step { (memory : Flat) → Begins (acted (instr.Branch op a b offset) (state_of regs.old memory)) regs.old memory regs.new result }
-    ensures register { IsTakeable result }
-{
-    if is_taken(op, regs.get(a).bits, regs.get(b).bits) {
-        let to = regs.pc().wrapping_add(offset.cast_unsigned());
-        regs.set_pc(to);
-    } else {
-        go_on(regs);
-    }
-    Need::Done(Step::Went)
-}
-
-#[inline(always)]
-fn need_load(regs: &Regs, op: LoadOp, rd: u8, base: u8, offset: i32) -> Need
-    requires { (rd < 32) × (base < 32) }
-    ensures step { (memory : Flat) → Begins (acted (instr.Load op rd base offset) (state_of regs.now memory)) regs.now memory regs.now result }
-    ensures register { IsTakeable result }
-{
-    let at = address(regs, base, offset);
-    if at % u32::from(load_size(op)) != 0 {
-        return Need::Done(Step::Stopped(Crash::Misaligned));
-    }
-    Need::Load { op, rd, at }
-}
-
-#[inline(always)]
-fn need_store(regs: &Regs, op: StoreOp, value: u8, base: u8, offset: i32) -> Need
-    requires { (value < 32) × (base < 32) }
-    ensures step { (memory : Flat) → Begins (acted (instr.Store op value base offset) (state_of regs.now memory)) regs.now memory regs.now result }
-    ensures register { IsTakeable result }
-{
-    let at = address(regs, base, offset);
-    let size = store_size(op);
-    if at % u32::from(size) != 0 {
-        return Need::Done(Step::Stopped(Crash::Misaligned));
-    }
-    Need::Store {
-        size,
-        at,
-        word: regs.get(value),
     }
 }

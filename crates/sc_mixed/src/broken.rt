@@ -1,4 +1,7 @@
 // Why a move is not done.
+ghost use Rattle.std.specs.Prelude.{◌≡◌};
+ghost use Rattle.sc_interp_access.specs.declared.stop.Stop.TheVariants as stops;
+ghost use Rattle.sc_mixed.specs.declared.broken.Break.TheVariants as broken;
 
 use crate::ended::MixedEnd;
 use sc_base::NoMemory;
@@ -13,12 +16,16 @@ pub enum Break {
 }
 
 impl From<Stop> for Break {
+    ghost from_gives = { λ s b. b ≡ broken.Meant s };
+
     fn from(stop: Stop) -> Break {
         Break::Meant(stop)
     }
 }
 
 impl From<NoMemory> for Break {
+    ghost from_gives = { λ _ b. b ≡ broken.Meant stops.NoRoom };
+
     fn from(_: NoMemory) -> Break {
         Break::Meant(Stop::NoRoom)
     }

@@ -39,11 +39,11 @@ pub enum Next {
     Serves(u32),
 }
 
-/// What a move shows, and how many bytes it touched.
+/// What a move shows, and how many turns it takes: one, and one more for each byte that it touches.
 #[derive(Clone, Copy)]
 pub struct Moved {
     pub shown: Shown,
-    pub bytes: u64,
+    pub turns: u64,
 }
 
 impl Moved {
@@ -51,7 +51,7 @@ impl Moved {
     pub fn quietly() -> Moved {
         Moved {
             shown: Shown::Nothing,
-            bytes: 0,
+            turns: 1,
         }
     }
 }

@@ -2,63 +2,90 @@
 ghost use Rattle.std.specs.Prelude.{◌<◌};
 ghost use Rattle.sc_mem.specs.Words.{IsSize};
 
-use crate::broken::Break;
 use sc_base::Word;
 use sc_emu::{Crash, Need, Regs, Step, begin, load_size, pass, take};
-use sc_interp_access::Stop;
 use sc_interp_world::World;
 use sc_isa::LoadOp;
 use sc_isa_image::Image;
 use sc_services::store_word;
 
-/// What an instruction came to: it was carried out; it asks for a service; or it stands where calls from outside return to.
+/// What an instruction came to: it was carried out; it asks for a service; it stands where calls from outside return to; there is no
+/// next state, for this cause; or memory ran out. It is small, so that handing it on costs nothing.
 #[derive(Clone, Copy)]
 pub enum Went {
     On,
     Asks(u32),
     Returned,
+    Stopped(Crash),
+    NoRoom,
 }
 
-fn went(step: Step, regs: &Regs) -> Result<Went, Break> {
+fn told(step: Step) -> Went {
     match step {
-        Step::Went => Ok(Went::On),
-        Step::Service(n) => Ok(Went::Asks(n)),
-        Step::AtReturn => Ok(Went::Returned),
-        Step::Stopped(crash) => Err(Break::Crashed(regs.pc(), crash)),
-        Step::NoMemory => Err(Break::Meant(Stop::NoRoom)),
+        Step::Went => Went::On,
+        Step::Service(n) => Went::Asks(n),
+        Step::AtReturn => Went::Returned,
+        Step::Stopped(crash) => Went::Stopped(crash),
+        Step::NoMemory => Went::NoRoom,
     }
 }
 
-fn load(op: LoadOp, rd: u8, at: u32, regs: &mut Regs, world: &World) -> Result<Went, Break>
+#[inline(always)]
+fn load(op: LoadOp, rd: u8, at: u32, regs: &mut Regs, world: &World) -> Went
     requires { rd < 32 }
 {
     match world.load(at, load_size(op)) {
-        None => Err(Break::Crashed(regs.pc(), Crash::Outside)),
+        None => Went::Stopped(Crash::Outside),
         Some(word) => {
             take(regs, op, rd, word);
-            Ok(Went::On)
+            Went::On
         }
     }
 }
 
-fn store(size: u8, at: u32, word: Word, regs: &mut Regs, world: &mut World) -> Result<Went, Break>
+fn store(size: u8, at: u32, word: Word, regs: &mut Regs, world: &mut World) -> Went
     requires { IsSize size }
 {
-    match store_word(at, size, word, world)? {
-        None => Err(Break::Crashed(regs.pc(), Crash::Outside)),
-        Some(()) => {
+    match store_word(at, size, word, world) {
+        Ok(None) => Went::Stopped(Crash::Outside),
+        Ok(Some(())) => {
             pass(regs);
-            Ok(Went::On)
+            Went::On
         }
+        Err(_) => Went::NoRoom,
     }
 }
 
-/// The instruction at the next address is carried out.
+// The instruction at the next address is carried out.
 #[inline(always)]
-pub fn execute(image: &Image, regs: &mut Regs, world: &mut World) -> Result<Went, Break> {
+fn execute(image: &Image, regs: &mut Regs, world: &mut World) -> Went {
     match begin(regs, image) {
-        Need::Done(step) => went(step, regs),
+        Need::Done(step) => told(step),
         Need::Load { op, rd, at } => load(op, rd, at, regs, world),
         Need::Store { size, at, word } => store(size, at, word, regs, world),
+    }
+}
+
+/// What instructions came to: how many were carried out, and what the last one came to.
+#[derive(Clone, Copy)]
+pub struct Executed {
+    pub count: u64,
+    pub went: Went,
+}
+
+/// Instructions one after another, so many at most, up to the first that does not simply go on. The loop is tight, since nothing that
+/// they do halts a run.
+pub fn execute_some(image: &Image, most: u64, regs: &mut Regs, world: &mut World) -> Executed {
+    let mut count: u64 = 0;
+    for _ in 0..most {
+        count = count.saturating_add(1);
+        match execute(image, regs, world) {
+            Went::On => (),
+            other => return Executed { count, went: other },
+        }
+    }
+    Executed {
+        count,
+        went: Went::On,
     }
 }

@@ -1,13 +1,21 @@
 // One move of a run of both forms.
+ghost use Rattle.sc_interp.specs.Shows as shows;
+ghost use Rattle.sc_interp.specs.Steady as steady;
+ghost use Rattle.sc_interp.specs.Steps.{Is};
+ghost use Rattle.sc_interp_machine.specs.Runs as runs;
+ghost use Rattle.sc_lib.specs.Quiet.{IsQuiet};
+ghost use Rattle.sc_meaning.specs.Versions as versions;
+ghost use Rattle.sc_mixed.specs.Moves.{StepsOn};
 
 use crate::bridge::{give_back, goes_to_code, make_in_code, return_code};
 use crate::broken::Break;
 use crate::calls::{Calls, Moved, Next};
-use crate::execute::{Went, execute};
+use crate::execute::{Went, execute_some};
 use crate::serve::serve;
 use sc_base::NoMemory;
 use sc_core_held::Text;
-use sc_interp::{Going, step_run};
+use sc_interp::{Going, Shown, step_run};
+use sc_interp_access::Stop;
 use sc_interp_world::World;
 use sc_isa_image::Image;
 use sc_meaning_values::Answer;
@@ -42,19 +50,23 @@ fn way_of(texts: &[Text], going: &Going, calls: &Calls, world: &World) -> Result
     }
 }
 
-// A step of the interpreted calls.
+// A step of the interpreted calls: the meaning's, with all that it ends in.
 fn step(
     texts: &[Text],
     going: &mut Going,
     calls: &mut Calls,
     world: &mut World,
-) -> Result<Moved, Break> {
+) -> Result<Moved, Break>
+    ensures { (h : versions.History) → IsQuiet h → (s : runs.State) → Is s going.old calls.old.callers world.old → StepsOn (steady.advance h texts.now s) (shows.shown h texts.now s) result going.new calls.new.callers world.new }
+{
     let before = noted(going, world);
-    let shown = step_run(texts, going, &mut calls.callers, world)?;
-    Ok(Moved {
-        shown,
-        bytes: touched_on(before, going, world),
-    })
+    match step_run(texts, going, &mut calls.callers, world) {
+        Ok(shown) => Ok(Moved {
+            shown,
+            turns: touched_on(before, going, world).saturating_add(1),
+        }),
+        Err(stop) => Err(Break::Meant(stop)),
+    }
 }
 
 // How the interpreted calls go on is taken, and an answer without a value is left in its place.
@@ -88,33 +100,42 @@ fn cross(
     }
 }
 
-fn execute_one(
+// So many instructions at most. Each is a move.
+fn execute_all(
     image: &Image,
+    most: u64,
     next: &mut Next,
     calls: &mut Calls,
     world: &mut World,
 ) -> Result<Moved, Break> {
-    match execute(image, &mut calls.regs, world)? {
+    let done = execute_some(image, most, &mut calls.regs, world);
+    match done.went {
         Went::On => (),
+        Went::Stopped(crash) => return Err(Break::Crashed(calls.regs.pc(), crash)),
+        Went::NoRoom => return Err(Break::Meant(Stop::NoRoom)),
         Went::Asks(n) => drop(mem::replace(next, Next::Serves(n))),
         Went::Returned => {
             let back = return_code(calls, world)?;
             drop(mem::replace(next, back));
         }
     }
-    Ok(Moved::quietly())
+    Ok(Moved {
+        shown: Shown::Nothing,
+        turns: done.count,
+    })
 }
 
-/// One move: a step of interpreted calls, a crossing of the bridge, an instruction or a service.
+/// A step of interpreted calls, a crossing of the bridge, a service, or so many instructions at most.
 pub fn move_on(
     texts: &[Text],
     image: &Image,
+    most: u64,
     next: &mut Next,
     calls: &mut Calls,
     world: &mut World,
 ) -> Result<Moved, Break> {
     match next {
-        Next::Executes => execute_one(image, next, calls, world),
+        Next::Executes => execute_all(image, most, next, calls, world),
         Next::Serves(n) => {
             let n = *n;
             serve(n, texts, image, next, calls, world)

@@ -151,7 +151,8 @@ impl MixedRun {
             if let Some(halt) = self.rest(&want, took) {
                 return halt;
             }
-            took = self.turn(texts).saturating_add(took);
+            let left = turns.saturating_sub(took);
+            took = self.moved(texts, left).saturating_add(took);
         }
         self.rest(&want, took).unwrap_or(Halt::Paused(took))
     }
@@ -178,15 +179,22 @@ impl MixedRun {
         halt
     }
 
-    // One move, and how many turns it took.
-    fn turn(&mut self, texts: &[Text]) -> u64 {
+    // One move, or so many instructions at most, and how many turns that took.
+    fn moved(&mut self, texts: &[Text], most: u64) -> u64 {
         let Course::On(next, shown) = &mut self.course else {
             return 1;
         };
-        match move_on(texts, &self.image, next, &mut self.calls, &mut self.world) {
+        match move_on(
+            texts,
+            &self.image,
+            most,
+            next,
+            &mut self.calls,
+            &mut self.world,
+        ) {
             Ok(moved) => {
                 *shown = moved.shown;
-                moved.bytes.saturating_add(1)
+                moved.turns
             }
             Err(broken) => {
                 self.over(end_of(broken));

@@ -52,7 +52,7 @@ fn call_out(
     let going = key_next(texts, key, vs.as_slice(), &calls.callers, world)?;
     let moved = Moved {
         shown: entry(&going),
-        bytes: touched_on(before, &going, world),
+        turns: touched_on(before, &going, world).saturating_add(1),
     };
     drop(mem::replace(next, Next::Steps(going)));
     Ok(moved)
@@ -85,7 +85,7 @@ fn serve_enter(
     };
     Ok(Moved {
         shown,
-        bytes: born_since(moved, world),
+        turns: born_since(moved, world).saturating_add(1),
     })
 }
 
@@ -142,7 +142,7 @@ fn serve_copy(regs: &Regs, world: &mut World) -> Result<Moved, Break> {
     match copy(regs, world)? {
         Copied::Bytes(n) => Ok(Moved {
             shown: Shown::Nothing,
-            bytes: u64::from(n),
+            turns: u64::from(n) + 1,
         }),
         Copied::Refused => Err(refused(regs)),
     }

@@ -1,12 +1,13 @@
 -- Yardstick: to be compared with what it restates (docs/TRUST.md).
 -- Calls and blocks of compiled code: their objects are born in the slots of the frame's table, and die.
-use Rattle.std.specs.Prelude.{ℕ, ◌+◌, ◌-◌, ◌==◌, nat_lt, if◌then◌else◌, List, [], ◌∷◌, ◌++◌, slice_index_or}
+use Rattle.std.specs.Prelude.{ℕ, ◌+◌, ◌-◌, ◌==◌, ◌||◌, nat_lt, Bool, reverse, if◌then◌else◌, List, [], ◌∷◌, ◌++◌, slice_get, Option, Some, None}
 use Rattle.sc_base.specs.declared.key.Key.{Key}
-use Rattle.sc_program.specs.declared.frame.FrameTable.{FrameTable}
+use Rattle.sc_object.specs.declared.object.BlockTable.{BlockTable}
+use Rattle.sc_object.specs.declared.object.FrameTable.{FrameTable}
 use Rattle.sc_program.specs.declared.frame.Slot.{Slot}
 use Rattle.sc_meaning.specs.declared.spot.Spot.TheVariants as spot
 use Rattle.sc_meaning.specs.Values.{Value, Pointer}
-use Rattle.sc_meaning.specs.World.{World, Born, Enter, Leave, Happens, Push, Pop, Stack, OpenBlock, CloseBlock, pass}
+use Rattle.sc_meaning.specs.World.{World, Frame, Born, Enter, Leave, Happens, Push, Pop, Stack, OpenBlock, CloseBlock, pass}
 use Rattle.sc_meaning.specs.Outcomes.{Outcome, Step, Done, Over, StackFull, and_then, went}
 use Rattle.sc_meaning.specs.Accesses.{set_at}
 use Rattle.sc_meaning.specs.Versions.{Text}
@@ -32,8 +33,12 @@ slots_set [] xs ids w = Done ids w
 slots_set (s ∷ rest) [] ids w = Done ids w
 slots_set (s ∷ rest) (x ∷ xs) ids w = and_then (slot_set s x w) (λ id v. slots_set rest xs (ids ++ id ∷ []) v)
 
+abbrev pub slots_in : Option BlockTable → List Slot
+slots_in None = []
+slots_in (Some b) = b.slots
+
 abbrev pub slots_of : FrameTable → ℕ → List Slot
-slots_of t block = slice_index_or t.blocks block []
+slots_of t block = slots_in (slice_get t.blocks block)
 
 abbrev pub opened : ℕ → List ℕ → World → World
 opened block ids w = pass (OpenBlock (record { block = block; ids = ids })) w
@@ -54,14 +59,26 @@ abbrev pub call_entered : Key → Text → FrameTable → List Value → Step
 call_entered key t table xs w =
     and_then (slots_set (slots_of table 0) xs [] (with_call key t table.cost w)) (λ ids v. went (entered key t ids v))
 
--- the objects of open blocks die, those of the innermost block first, up to this one; the block of the parameters stays open
+-- the objects of an open block die, and it is left, but for the block of the parameters
+abbrev pub closed_one : Born → World → World
+closed_one o w = if o.block == 0 then all_dead o.ids w else pass CloseBlock (all_dead o.ids w)
+
+-- the leaving of blocks up to one ends with this one
+abbrev pub ends_with : ℕ → Born → Bool
+ends_with block o = (o.block == 0) || (o.block == block)
+
+-- open blocks are left up to one, of a list that has the innermost first
 abbrev pub closed_upto : ℕ → List Born → World → World
 closed_upto block [] w = w
-closed_upto block (o ∷ os) w =
-    let dead : World = all_dead o.ids w in
-    if o.block == 0 then dead
-    else if o.block == block then pass CloseBlock dead
-    else closed_upto block os (pass CloseBlock dead)
+closed_upto block (o ∷ os) w = if ends_with block o then closed_one o w else closed_upto block os (closed_one o w)
+
+abbrev pub top_blocks : List Frame → List Born
+top_blocks [] = []
+top_blocks (f ∷ fs) = f.blocks
+
+-- the blocks of the innermost call are left up to one
+abbrev pub block_left : ℕ → World → World
+block_left block w = closed_upto block (reverse (top_blocks w.frames)) w
 
 -- the innermost call is left, whose frame costs so much
 abbrev pub left_by : ℕ → World → World

@@ -1,5 +1,5 @@
 // Objects of compiled calls are born in their slots, and die.
-ghost use Rattle.std.specs.Prelude.{◌≡◌, ◌+◌, [], IfOk, slice_index_or};
+ghost use Rattle.std.specs.Prelude.{◌≡◌, [], IfOk};
 ghost use Rattle.sc_interp_access.specs.Gives.{Gives};
 ghost use Rattle.sc_meaning.specs.Statements.{auto_kind as kind_of};
 ghost use Rattle.sc_services.specs.Blocks as spec;
@@ -10,7 +10,8 @@ use sc_interp_parts::born;
 use sc_interp_world::{Born, World};
 use sc_meaning::Spot;
 use sc_meaning_values::Value;
-use sc_program::{FrameTable, Slot};
+use sc_object::FrameTable;
+use sc_program::Slot;
 
 fn auto_kind(constant: bool) -> Kind
     ensures { result ≡ kind_of constant }
@@ -71,7 +72,7 @@ pub fn slots_of(table: &FrameTable, block: u32) -> &[Slot]
     ensures { result.now ≡ spec.slots_of table.now block }
 {
     match table.blocks.as_slice().get(block as usize) {
-        Some(slots) => slots.as_slice(),
+        Some(block) => block.slots.as_slice(),
         None => &[],
     }
 }

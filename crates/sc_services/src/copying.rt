@@ -58,14 +58,15 @@ fn put_cells(to: u32, cells: &[Cell], world: &mut World) -> Result<(), NoMemory>
 
 // Whole pointers that stand beside all objects get their tags.
 fn put_pointers(to: u32, cells: &[Cell], world: &mut World) -> Result<(), NoMemory> {
+    let mut at = to;
     for k in 0..cells.len() {
-        let at = to.wrapping_add(k as u32);
         if at % 4 == 0 && world.live_at(at).is_none() {
             if let Some(v) = whole_pointer(&cells[k..]) {
                 let word = world.word(v)?;
                 keep(at, 4, word, world)?;
             }
         }
+        at = at.wrapping_add(1);
     }
     Ok(())
 }

@@ -1,9 +1,11 @@
 // Service 2: a call of compiled code is entered, or a block of it.
-ghost use Rattle.std.specs.Prelude.{◌≡◌, ◌+◌, [], IfOk};
+ghost use Rattle.std.specs.Prelude.{◌≡◌, ◌+◌, IfOk, true};
 ghost use Rattle.sc_interp_access.specs.Gives.{Gives};
 ghost use Rattle.sc_meaning.specs.Calls.{frame_of as frame_of_call};
 ghost use Rattle.sc_meaning.specs.World as worlds;
 ghost use Rattle.sc_services.specs.Blocks as spec;
+ghost use Rattle.sc_services.specs.Entering as entering;
+ghost use Rattle.sc_services.specs.declared.entering.Entered.TheVariants.{Block, Call};
 
 use crate::arguments::arguments;
 use crate::blocks::{enter_block, set_slots, slots_of};
@@ -15,7 +17,7 @@ use sc_interp_access::Stop;
 use sc_interp_world::{Born, Event, Frame, World};
 use sc_isa_image::{Image, TextAt};
 use sc_meaning_values::Value;
-use sc_program::FrameTable;
+use sc_object::FrameTable;
 
 /// What service 2 comes to: a call is entered, or another block; or its test failed, and nothing was done.
 #[derive(Clone, Copy, Debug, PartialEq, Eq)]
@@ -114,6 +116,31 @@ fn is_first(regs: &Regs, image: &Image, at: &TextAt) -> bool {
     begun == regs.pc() && leads_here
 }
 
+// A call is entered with these arguments.
+fn enter_with(at: &TextAt, t: &Text, vs: &[Value], world: &mut World) -> Result<Entered, Stop>
+    ensures { entering.Enters true (spec.call_entered_if_room at.now.fun t.now at.now.frame vs.now world.old) Call world.old result world.new }
+{
+    match enter_if_room(at, t, vs, world) {
+        Ok(()) => Ok(Entered::Call),
+        Err(stop) => Err(stop),
+    }
+}
+
+// A call of this text is entered with the arguments that are there.
+#[tactic(auto, using(crate::proofs::Slots::entered_with))]
+fn enter_here(at: &TextAt, t: &Text, regs: &Regs, world: &mut World) -> Result<Entered, Stop>
+    ensures { entering.EntersCall at.now world.old result world.new }
+{
+    let Ok(count) = u32::try_from(slots_of(&at.frame, 0).len()) else {
+        return Ok(Entered::Refused);
+    };
+    match arguments(count, regs, world) {
+        Ok(None) => Ok(Entered::Refused),
+        Ok(Some(vs)) => enter_with(at, t, vs.as_slice(), world),
+        Err(_) => Err(Stop::NoRoom),
+    }
+}
+
 // The block of the parameters: a call begins.
 fn enter_text(
     texts: &[Text],
@@ -121,27 +148,35 @@ fn enter_text(
     regs: &Regs,
     image: &Image,
     world: &mut World,
-) -> Result<Entered, Stop> {
-    let Callee::InText(t, _) = callee_of(texts, &at.fun) else {
-        return Ok(Entered::Refused);
-    };
-    if !is_first(regs, image, at) {
-        return Ok(Entered::Refused);
+) -> Result<Entered, Stop>
+    ensures { entering.EntersCall at.now world.old result world.new }
+{
+    match callee_of(texts, &at.fun) {
+        Callee::Missing => Ok(Entered::Refused),
+        Callee::InLibrary(_) => Ok(Entered::Refused),
+        Callee::InText(t, _) => {
+            if is_first(regs, image, at) {
+                enter_here(at, t, regs, world)
+            } else {
+                Ok(Entered::Refused)
+            }
+        }
     }
-    let Ok(count) = u32::try_from(slots_of(&at.frame, 0).len()) else {
-        return Ok(Entered::Refused);
-    };
-    let Some(vs) = arguments(count, regs, world)? else {
-        return Ok(Entered::Refused);
-    };
-    enter_if_room(at, t, vs.as_slice(), world)?;
-    Ok(Entered::Call)
+}
+
+// Whether a block of a text may be entered: it is in the text's table, the innermost call is of this text, and the block is not open.
+fn may_enter(block: u32, at: &TextAt, world: &World) -> bool
+    ensures { result ≡ entering.may_enter block at.now world.now.frames }
+{
+    let is_there = (block as usize) < at.frame.blocks.len();
+    is_there && is_call_of(&at.fun, world) && !is_open(block, world)
 }
 
 // Another block of the innermost call.
-fn enter_inner(block: u32, at: &TextAt, world: &mut World) -> Result<Entered, Stop> {
-    let is_there = (block as usize) < at.frame.blocks.len();
-    if !is_there || !is_call_of(&at.fun, world) || is_open(block, world) {
+fn enter_inner(block: u32, at: &TextAt, world: &mut World) -> Result<Entered, Stop>
+    ensures { entering.Enters (entering.may_enter block at.now world.old.frames) (spec.block_entered block at.now.frame world.old) Block world.old result world.new }
+{
+    if !may_enter(block, at, world) {
         return Ok(Entered::Refused);
     }
     enter_block(block, &at.frame, world)?;

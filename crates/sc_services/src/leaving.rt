@@ -1,12 +1,15 @@
 // Services 3 and 6: blocks of a compiled call are left, and the call itself.
-ghost use Rattle.std.specs.Prelude.{◌≡◌, ◌-◌, IfOk, reverse};
+ghost use Rattle.std.specs.Prelude.{◌≡◌, IfOk};
+ghost use Rattle.sc_emu.specs.Registers.{register};
+ghost use Rattle.sc_isa_image.specs.Lookups.{text_at};
 ghost use Rattle.sc_services.specs.Blocks as spec;
+ghost use Rattle.sc_services.specs.Leaving as leaving;
 
 use crate::frames::{is_in_code, is_open};
-use sc_base::{Items, NoMemory};
+use sc_base::{Duplicate, Items, Key, NoMemory};
 use sc_emu::Regs;
 use sc_interp_parts::all_dead;
-use sc_interp_world::{Born, Event, World, copy_numbers};
+use sc_interp_world::{Born, Event, World};
 use sc_isa_image::Image;
 
 /// The register that holds the number of a block.
@@ -20,60 +23,77 @@ pub enum Left {
     Refused,
 }
 
-// The innermost open block of the innermost call, with its objects.
-fn innermost_block(world: &World) -> Result<Option<Born>, NoMemory> {
-    let Some(frame) = world.innermost() else {
-        return Ok(None);
-    };
-    match frame.blocks.as_slice().last() {
-        None => Ok(None),
-        Some(born) => Ok(Some(Born {
-            block: born.block,
-            ids: copy_numbers(world.alloc(), &born.ids)?,
-        })),
+// The open blocks of the innermost call, outermost first.
+fn open_blocks(world: &World) -> Result<Items<Born>, NoMemory>
+    ensures { IfOk result (λ blocks. blocks ≡ spec.top_blocks world.now.frames) }
+{
+    let alloc = world.alloc();
+    match world.innermost() {
+        None => Ok(Items::new(alloc)),
+        Some(frame) => frame.blocks.copy(alloc),
     }
 }
 
-// The objects of a block die, and it is left, but for the block of the parameters. Whether the leaving ends with it.
-fn close(block: u32, born: &Born, world: &mut World) -> Result<bool, NoMemory> {
+// The objects of a block die, and it is left, but for the block of the parameters.
+fn close(born: &Born, world: &mut World) -> Result<(), NoMemory>
+    ensures { IfOk result (λ _. world.new ≡ spec.closed_one born.now world.old) }
+{
     all_dead(born.ids.as_slice(), world)?;
-    if born.block == 0 {
-        return Ok(true);
+    if born.block != 0 {
+        world.close_block()?;
     }
-    world.close_block()?;
-    Ok(born.block == block)
+    Ok(())
+}
+
+// Whether the leaving of blocks up to one ends with this one.
+fn ends_with(block: u32, born: &Born) -> bool
+    ensures { result ≡ spec.ends_with block born.now }
+{
+    born.block == 0 || born.block == block
 }
 
 // The open blocks are left, the innermost first, up to this one. The block of the parameters stays open.
-fn close_up_to(block: u32, world: &mut World) -> Result<(), NoMemory> {
-    let count = match world.innermost() {
-        None => 0,
-        Some(frame) => frame.blocks.len(),
-    };
-    for _ in 0..count {
-        let Some(born) = innermost_block(world)? else {
-            return Ok(());
-        };
-        let ends = close(block, &born, world)?;
-        drop(born);
-        if ends {
+#[tactic(auto, using(crate::proofs::Closing::closing_more))]
+fn close_up_to(block: u32, world: &mut World) -> Result<(), NoMemory>
+    ensures { IfOk result (λ _. world.new ≡ spec.block_left block world.old) }
+{
+    let mut blocks = open_blocks(world)?;
+    'closing: while let Some(born) = blocks.pop() {
+        close(&born, world)?;
+        if ends_with(block, &born) {
             return Ok(());
         }
     }
     Ok(())
 }
 
-// What the frame of the innermost call costs. A call whose text is gone costs nothing.
-fn cost_of(image: &Image, world: &World) -> u32 {
-    let Some(frame) = world.innermost() else {
-        return 0;
-    };
-    let Some(start) = image.target(&frame.key) else {
-        return 0;
-    };
+// What the frame of the call costs that begins at this address of a text.
+fn cost_at(image: &Image, start: u32) -> u32
+    ensures { result ≡ leaving.cost_at (text_at image.now start) }
+{
     match image.text_at(start) {
         None => 0,
         Some(at) => at.frame.cost,
+    }
+}
+
+// What the frame of a call of a function costs: that of the text to which the function's stub leads.
+fn cost_of(image: &Image, key: &Key) -> u32
+    ensures { result ≡ leaving.cost_of image.now key.now }
+{
+    match image.target(key) {
+        None => 0,
+        Some(start) => cost_at(image, start),
+    }
+}
+
+// What the frame of the innermost call costs.
+fn cost_here(image: &Image, world: &World) -> u32
+    ensures { result ≡ leaving.cost_here image.now world.now.frames }
+{
+    match world.innermost() {
+        None => 0,
+        Some(frame) => cost_of(image, &frame.key),
     }
 }
 
@@ -87,26 +107,34 @@ fn leave_call(cost: u32, world: &mut World) -> Result<(), NoMemory>
     world.happens(Event::leave())
 }
 
-fn leave_to(block: u32, image: &Image, world: &mut World) -> Result<Left, NoMemory> {
+// A block is left, and with that of the parameters the call.
+fn leave_to(block: u32, image: &Image, world: &mut World) -> Result<Left, NoMemory>
+    ensures { IfOk result (λ left. leaving.Leaves block (leaving.cost_here image.now world.old.frames) world.old left world.new) }
+{
     if !is_in_code(world) || !is_open(block, world) {
         return Ok(Left::Refused);
     }
+    let cost = cost_here(image, world);
     close_up_to(block, world)?;
     if block != 0 {
         return Ok(Left::Block);
     }
-    leave_call(cost_of(image, world), world)?;
+    leave_call(cost, world)?;
     Ok(Left::Call)
 }
 
 /// Service 3, for the block in t1: the objects of this block and of those inside it die, the last born first. With block 0 the
 /// call is left, and its stack given back. It is refused where the innermost call is not of compiled code, or the block not open
 /// in it.
-pub fn leave(regs: &Regs, image: &Image, world: &mut World) -> Result<Left, NoMemory> {
+pub fn leave(regs: &Regs, image: &Image, world: &mut World) -> Result<Left, NoMemory>
+    ensures { IfOk result (λ left. leaving.Leaves (register regs.now 6).bits (leaving.cost_here image.now world.old.frames) world.old left world.new) }
+{
     leave_to(regs.get(BLOCK).bits, image, world)
 }
 
 /// Service 6: as service 3 for block 0, of a call that gives no value.
-pub fn fall(image: &Image, world: &mut World) -> Result<Left, NoMemory> {
+pub fn fall(image: &Image, world: &mut World) -> Result<Left, NoMemory>
+    ensures { IfOk result (λ left. leaving.Leaves 0 (leaving.cost_here image.now world.old.frames) world.old left world.new) }
+{
     leave_to(0, image, world)
 }

@@ -76,8 +76,12 @@ fn store_bytes(at: u32, size: u8, word: Word, world: &mut World) -> Result<(), N
 pub fn store_word(at: u32, size: u8, word: Word, world: &mut World) -> Result<Option<()>, NoMemory>
     requires { IsSize size }
 {
+    // Most stores are of temporaries, so they are tried first.
+    if let Some(()) = world.keep(at, size, word)? {
+        return Ok(Some(()));
+    }
     let Some(place) = world.live_at(at) else {
-        return world.keep(at, size, word);
+        return Ok(None);
     };
     if has_bytes(place, u32::from(size), world) {
         store_inside(place, size, word, world)?;

@@ -5,7 +5,7 @@ use Rattle.std.specs.Str.{bytes_eq}
 use Rattle.sc_base.specs.declared.key.Key.{Key}
 use Rattle.sc_base.specs.declared.memory.Form.{Form}
 use Rattle.sc_image.specs.Placing.{Fits, IsFull}
-use Rattle.sc_image.specs.declared.placing.Linking.{Linking}
+use Rattle.sc_image.specs.declared.module.Linking.{Linking}
 use Rattle.sc_link.specs.declared.placed.Area.{Area as Place}
 use Rattle.sc_link.specs.declared.placed.Area.TheVariants as place
 use Rattle.sc_link.specs.declared.placed.LinkFault.{LinkFault}
