@@ -16,7 +16,7 @@ use crate::present::{object_named, present_of};
 use crate::session::Session;
 use crate::sources::{file_of, unbuilt};
 use crate::state::{State, put_state};
-use crate::swapping::{Compared, compared};
+use crate::swapping::{Compared, compare_file};
 use sc_base::{Form, Name};
 use sc_build::{Built, build};
 use sc_outside::Files;
@@ -221,7 +221,7 @@ impl Session {
         ensures held { F.held files.new ≡ F.held files.old }
     {
         match object_named(self.modules.as_slice(), name) {
-            Some(object) => compared(alloc, name, object, files),
+            Some(object) => compare_file(alloc, name, object, files),
             None => unreachable!(),
         }
     }

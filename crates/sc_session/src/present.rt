@@ -22,7 +22,12 @@ pub struct Present {
 }
 
 // A module with its object, which is shared.
-fn present(alloc: Global, text: Text, scopes: Scopes, object: Object) -> Result<Present, NoMemory>
+fn with_object(
+    alloc: Global,
+    text: Text,
+    scopes: Scopes,
+    object: Object,
+) -> Result<Present, NoMemory>
     ensures { IfOk result (λ p. p ≡ record { text = text; scopes = scopes; object = object }) }
 {
     match Shared::new(alloc, object) {
@@ -49,7 +54,7 @@ pub fn present_of(alloc: Global, number: u32, built: Built) -> Result<Present, N
         object,
     } = built;
     match Text::new(alloc, number, Form::Source, core) {
-        Ok(text) => present(alloc, text, scopes, object),
+        Ok(text) => with_object(alloc, text, scopes, object),
         Err(_) => {
             drop(scopes);
             drop(object);

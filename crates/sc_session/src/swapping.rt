@@ -91,7 +91,12 @@ fn compared_got(alloc: Global, file: &str, read: FileGot, object: &Object) -> Co
 }
 
 /// The file of a module's object beside the object that is kept.
-pub fn compared<F: Files>(alloc: Global, name: &Name, object: &Object, files: &mut F) -> Compared
+pub fn compare_file<F: Files>(
+    alloc: Global,
+    name: &Name,
+    object: &Object,
+    files: &mut F,
+) -> Compared
     requires { is_module_name name.now ≡ true }
     ensures compares { spec.Compares (F.held files.old) (file_of_object name.now) object.now (F.faults files.old) (F.faults files.new) result }
     ensures later { F.faults files.old ≤ F.faults files.new }

@@ -5,7 +5,7 @@ pub returns-clause-compares : goal.returns-clause-compares
 returns-clause-compares g c = (
   c.in-Some.object.now,
   object_found _ c.args.self.now c.as_slice.result.now c.args.name.now c.in-Some.object.now c.self.view_is c.as_slice.ensures.value c.in-Some.ensures,
-  c.compared.ensures.compares,
+  c.compare_file.ensures.compares,
 )
 
 pub unreachable-requires : goal.unreachable-requires
