@@ -8,3 +8,4 @@ pub mod SendingLemmas
 pub mod LoadingLemmas
 pub mod SwappingLemmas
 pub mod MixingLemmas
+pub mod FormLemmas

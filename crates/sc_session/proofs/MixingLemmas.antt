@@ -1,8 +1,10 @@
 -- A run of both forms in a session, and either run.
-use Rattle.std.proofs.Common.{◌≡◌, Bool, true, false, ℕ, List, [], Option, Some, None, Result, Ok, Err, inl, inr, refl, ap, sym, subst, ◌∙◌}
+use Rattle.std.proofs.Common.{◌≡◌, Bool, true, false, ℕ, List, [], length, Option, Some, None, Result, Ok, Err, inl, inr, refl, ap, sym, subst, ◌∙◌}
+use Rattle.sc_interp_world.specs.Outputs.{output}
 use Rattle.sc_meaning.specs.World.{World}
 use Rattle.sc_outside.specs.Stored.{FileMap}
 use Rattle.sc_session_forms.specs.Forms.{are_sources}
+use Rattle.sc_session_forms.specs.Halts.{MixedTells}
 use Rattle.sc_words.specs.declared.answer.Answer.{Answer}
 use Rattle.sc_words.specs.declared.answer.Answer.TheVariants as answer
 use Rattle.sc_words.specs.declared.denied.Area.{Area}
@@ -10,6 +12,7 @@ use Rattle.sc_words.specs.declared.denied.Denied.{Denied}
 use Rattle.sc_words.specs.declared.denied.Denied.TheVariants as denied
 use Rattle.sc_words.specs.declared.stop.Walk.{Walk}
 use Rattle.sc_world.proofs.Posting.{appends_none}
+use Rattle.sc_world.specs.declared.halt.Halt.{Halt}
 use Rattle.sc_world.specs.declared.post.Unsent.{Unsent}
 use Rattle.sc_session.specs.declared.present.Present.{Present}
 use Rattle.sc_session.specs.declared.state.State.{State}
@@ -57,8 +60,13 @@ goes_begins session inside w (answer.Ran text) new is g = (w, went session insid
 goes_begins session inside w answer.NoMemory new is g = inr (g ∙ is)
 goes_begins session inside w _ new is g = absurd g
 
-pub goes_told : (v old : Plain) (w : World) (text : List ℕ) (new : Plain) → v ≡ old → MixedWent v w text new → MixedGoes old w (answer.Ran text) new
-goes_told v old w text new is g = subst (λ s. MixedWent s w text new) is g
+-- another state was put into a session
+pub put_so : (v old : Plain) (s t : State) → v ≡ old → s ≡ t → record v { state = s } ≡ in_state t old
+put_so v old s t is same = (λ i. record v { state = same i }) ∙ ap (in_state t) is
+
+pub goes_told : (v old : Plain) (s : State) (w u : World) (h : Halt) (text : List ℕ) → v ≡ old → s ≡ mixed_state h u → MixedTells (length (output w.trail)) h u text
+    → MixedGoes old w (answer.Ran text) (record v { state = s })
+goes_told v old s w u h text is same tells = record { halts = h; world = u; tells = tells; follows = put_so v old s (mixed_state h u) is same }
 
 -- ---- either run
 
@@ -122,11 +130,18 @@ value_mixed session name said yes shows = subst (λ b. ShowsValueBy b session na
 pub value_source : (session : Plain) (name : List ℕ) (said : Answer) → is_mixed session.state ≡ false → ShowsValue session name said → ShowsValueBy (is_mixed session.state) session name said
 value_source session name said no shows = subst (λ b. ShowsValueBy b session name said) (sym no) shows
 
-pub shows_mixed : (session inside : Plain) (modules : List Present) (w : World) (said : Answer) → inside ≡ session → modules ≡ inside.modules → MixedIn inside.state w → MixedTellsCalls modules w said → MixedShowsCalls session said
-shows_mixed session inside modules w said is same there tells =
-    (w, subst (λ s. MixedIn s.state w) is there, subst (λ m. MixedTellsCalls m w said) (same ∙ ap (λ s. s.modules) is) tells)
+pub shows_mixed : (session inside : Plain) (modules : List Present) (run w : World) (said : Answer) → inside ≡ session → modules ≡ inside.modules → MixedIn inside.state run → w ≡ run → MixedTellsCalls modules w said
+    → MixedShowsCalls session said
+shows_mixed session inside modules run w said is same there stands tells = (
+  run,
+  subst (λ s. MixedIn s.state run) is there,
+  subst (λ m. MixedTellsCalls m run said) (same ∙ ap (λ s. s.modules) is) (subst (λ x. MixedTellsCalls modules x said) stands tells),
+)
 
-pub shows_mixed_value : (session inside : Plain) (modules : List Present) (w : World) (declaring : Option ℕ) (name : List ℕ) (said : Answer) → inside ≡ session → modules ≡ inside.modules → MixedIn inside.state w
+pub shows_mixed_value : (session inside : Plain) (modules : List Present) (run w : World) (declaring : Option ℕ) (name : List ℕ) (said : Answer) → inside ≡ session → modules ≡ inside.modules → MixedIn inside.state run → w ≡ run
     → MixedTellsValue modules declaring w name said → MixedShowsValue session name said
-shows_mixed_value session inside modules w declaring name said is same there tells =
-    (w, subst (λ s. MixedIn s.state w) is there, (declaring, subst (λ m. MixedTellsValue m declaring w name said) (same ∙ ap (λ s. s.modules) is) tells))
+shows_mixed_value session inside modules run w declaring name said is same there stands tells = (
+  run,
+  subst (λ s. MixedIn s.state run) is there,
+  (declaring, subst (λ m. MixedTellsValue m declaring run name said) (same ∙ ap (λ s. s.modules) is) (subst (λ x. MixedTellsValue modules declaring x name said) stands tells)),
+)

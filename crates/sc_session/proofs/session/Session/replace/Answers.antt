@@ -1,6 +1,6 @@
 use Rattle.std.proofs.Common.{rules}
 use Rattle.sc_session.proofs.TakenLemmas.{anew_denied, replaced_so}
-use Rattle.sc_session.proofs.changing.Session.replace.Goals as goal
+use Rattle.sc_session.proofs.session.Session.replace.Goals as goal
 
 pub returns-in-Joined : goal.returns-in-Joined
 returns-in-Joined c =

@@ -1,7 +1,7 @@
 use Rattle.std.proofs.Common.{refl}
 use Rattle.sc_session.specs.Transcript.{moment}
 use Rattle.sc_session.proofs.SendingLemmas.{begun_so, run_denied, run_unbegun}
-use Rattle.sc_session.proofs.running.Session.run_with.Goals as goal
+use Rattle.sc_session.proofs.session.Session.run_with.Goals as goal
 
 pub returns-in-Bytes-clause-runs : goal.returns-in-Bytes-clause-runs
 returns-in-Bytes-clause-runs g c =

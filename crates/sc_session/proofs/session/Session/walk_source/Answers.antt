@@ -3,7 +3,7 @@ use Rattle.sc_session.specs.Going.{in_state}
 use Rattle.sc_session.specs.Modules.{texts}
 use Rattle.sc_session.specs.Stopping.{places}
 use Rattle.sc_session.proofs.SendingLemmas.{walk_told, walk_first, walk_lost, walk_unbegun, lost_memory, lost_write}
-use Rattle.sc_session.proofs.running.Session.walk_source.Goals as goal
+use Rattle.sc_session.proofs.session.Session.walk_source.Goals as goal
 
 pub returns-in_default-clause-walks : goal.returns-in_default-clause-walks
 returns-in_default-clause-walks g c = walk_unbegun (g.K.Sink.written c.args.out.now) c.args.self.now c.args.self.now c.args.walk refl

@@ -1,7 +1,7 @@
 use Rattle.std.proofs.Common.{refl}
 use Rattle.sc_session.specs.Transcript.{moment}
-use Rattle.sc_session.proofs.LoadingLemmas.{edit_clashed, edit_joined, edit_none, edit_refused, edit_stuck}
-use Rattle.sc_session.proofs.changing.Session.edit_from.Goals as goal
+use Rattle.sc_session.proofs.LoadingLemmas.{edit_clashed, edit_joined, edit_refused}
+use Rattle.sc_session.proofs.session.Session.edit_from.Goals as goal
 
 pub returns-in-Joined-clause-answer : goal.returns-in-Joined-clause-answer
 returns-in-Joined-clause-answer g c =
@@ -13,18 +13,8 @@ returns-in-Denied-clause-answer g c =
     edit_clashed (moment c.args.self.now (g.F.Files.held c.args.files.now) (g.F.Files.faults c.args.files.now)) c.replace.new.self (g.F.Files.held c.build.new.files) (g.F.Files.faults c.build.new.files)
     c.args.name c.args.file.now c.build.ensures.held c.in-Ok.built c.replace.result c.in-Ok.ensures.answers c.in-Denied.denied c.in-Denied.is c.replace.ensures
 
-pub returns-in-NoMemory-clause-answer : goal.returns-in-NoMemory-clause-answer
-returns-in-NoMemory-clause-answer g c =
-    edit_stuck (moment c.args.self.now (g.F.Files.held c.args.files.now) (g.F.Files.faults c.args.files.now)) c.replace.new.self (g.F.Files.held c.build.new.files) (g.F.Files.faults c.build.new.files)
-    c.args.name c.args.file.now c.build.ensures.held c.in-Ok.built c.replace.result c.in-Ok.ensures.answers c.in-NoMemory.is c.replace.ensures
-
 pub returns-in-Some-clause-answer : goal.returns-in-Some-clause-answer
 returns-in-Some-clause-answer g c =
     edit_refused (moment c.args.self.now (g.F.Files.held c.args.files.now) (g.F.Files.faults c.args.files.now)) c.args.self.now (g.F.Files.held c.build.new.files) (g.F.Files.faults c.build.new.files)
     c.args.name c.args.file.now c.build.ensures.held c.in-Some.denied refl
     (c.in-Some.ensures (g.F.Files.held c.args.files.now) (g.F.Files.faults c.args.files.now) (g.F.Files.faults c.build.new.files) c.args.name c.in-Err.ensures.answers)
-
-pub returns-in-None-clause-answer : goal.returns-in-None-clause-answer
-returns-in-None-clause-answer g c =
-    edit_none (moment c.args.self.now (g.F.Files.held c.args.files.now) (g.F.Files.faults c.args.files.now)) c.args.self.now (g.F.Files.held c.build.new.files) (g.F.Files.faults c.build.new.files)
-    c.args.name c.args.file.now c.build.ensures.held refl

@@ -1,6 +1,6 @@
 use Rattle.std.proofs.Common.{rules}
 use Rattle.sc_session.proofs.TakenLemmas.{joined_so, new_denied}
-use Rattle.sc_session.proofs.changing.Session.take.Goals as goal
+use Rattle.sc_session.proofs.session.Session.take.Goals as goal
 
 pub returns-in-Joined : goal.returns-in-Joined
 returns-in-Joined c =

@@ -1,5 +1,5 @@
 use Rattle.sc_session.proofs.FileLemmas.{object_found, object_missed}
-use Rattle.sc_session.proofs.changing.Session.compare.Goals as goal
+use Rattle.sc_session.proofs.session.Session.compare.Goals as goal
 
 pub returns-clause-compares : goal.returns-clause-compares
 returns-clause-compares g c = (

@@ -2,7 +2,7 @@ use Rattle.std.proofs.Common.{refl, ap, ◌∙◌}
 use Rattle.sc_session.specs.Modules.{texts}
 use Rattle.sc_session.specs.Transcript.{moment}
 use Rattle.sc_session.proofs.SendingLemmas.{no_main, run_unbegun, run_without_main}
-use Rattle.sc_session.proofs.running.Session.run_sources.Goals as goal
+use Rattle.sc_session.proofs.session.Session.run_sources.Goals as goal
 
 pub returns-in-Ok-true-clause-runs : goal.returns-in-Ok-true-clause-runs
 returns-in-Ok-true-clause-runs g c = c.run_with.ensures.runs

@@ -3,7 +3,7 @@ use Rattle.sc_session.specs.Going.{in_state}
 use Rattle.sc_session.specs.Modules.{texts}
 use Rattle.sc_session.specs.Stopping.{places}
 use Rattle.sc_session.proofs.SendingLemmas.{begin_told, begin_first, begin_lost, begin_unbegun, lost_memory, lost_write}
-use Rattle.sc_session.proofs.running.Session.start.Goals as goal
+use Rattle.sc_session.proofs.session.Session.start.Goals as goal
 
 pub returns-in_default-clause-begins : goal.returns-in_default-clause-begins
 returns-in_default-clause-begins g c = begin_unbegun (g.K.Sink.written c.args.out.now) c.args.self.now c.args.self.now c.args.input refl
