@@ -27,15 +27,15 @@ use Rattle.sc_session.proofs.SendingLemmas.{input_denied}
 
 -- a run that goes on is of interpreted modules or of both forms
 source_by : (s : State) → IsActive s → is_mixed s ≡ false → IsGoing s
-source_by state.Idle active no = absurd active
-source_by (state.Stopped r) active no = tt
-source_by (state.Paused r) active no = tt
-source_by (state.StoppedMixed w) active no = absurd (cc)
-source_by (state.PausedMixed w) active no = absurd (cc)
-source_by state.Ended active no = absurd active
+source_by state.Idle active is_not = absurd active
+source_by (state.Stopped r) active is_not = tt
+source_by (state.Paused r) active is_not = tt
+source_by (state.StoppedMixed w) active is_not = absurd (cc)
+source_by (state.PausedMixed w) active is_not = absurd (cc)
+source_by state.Ended active is_not = absurd active
 
 pub source_goes : (v session : Plain) (b : Bool) → v ≡ session → IsActive session.state → b ≡ is_mixed v.state → b ≡ false → IsGoing session.state
-source_goes v session b is active said no = source_by session.state active (sym (ap (λ s. is_mixed s.state) is) ∙ sym said ∙ no)
+source_goes v session b is active said is_not = source_by session.state active (sym (ap (λ s. is_mixed s.state) is) ∙ sym said ∙ is_not)
 
 pub is_by : (v session : Plain) (b c : Bool) → v ≡ session → b ≡ is_mixed v.state → b ≡ c → is_mixed session.state ≡ c
 is_by v session b c is said it = sym (ap (λ s. is_mixed s.state) is) ∙ sym said ∙ it
@@ -72,23 +72,23 @@ goes_told v old s w u h text is same tells = record { halts = h; world = u; tell
 
 pub walks_mixed : (sink : Option (List ℕ)) (session : Plain) (how : Walk) (said : Answer) (new : Plain) → is_mixed session.state ≡ true → MixedWalks session said new
     → WalksOutBy (is_mixed session.state) sink sink session how (Ok said) new
-walks_mixed sink session how said new yes walks =
-    subst (λ b. WalksOutBy b sink sink session how (Ok said) new) (sym yes) ([], appends_none sink, (refl, walks))
+walks_mixed sink session how said new is_so walks =
+    subst (λ b. WalksOutBy b sink sink session how (Ok said) new) (sym is_so) ([], appends_none sink, (refl, walks))
 
 pub walks_source : (sink gained : Option (List ℕ)) (session : Plain) (how : Walk) (r : Result Answer Unsent) (new : Plain) → is_mixed session.state ≡ false → WalksOut sink gained session how r new
     → WalksOutBy (is_mixed session.state) sink gained session how r new
-walks_source sink gained session how (Ok said) new no walks =
-    subst (λ b. WalksOutBy b sink gained session how (Ok said) new) (sym no) walks
-walks_source sink gained session how (Err e) new no walks = walks
+walks_source sink gained session how (Ok said) new is_not walks =
+    subst (λ b. WalksOutBy b sink gained session how (Ok said) new) (sym is_not) walks
+walks_source sink gained session how (Err e) new is_not walks = walks
 
 pub runs_mixed : (sink : Option (List ℕ)) (b : Bool) (old : Moment) (file : Option (List ℕ)) (said : Answer) (new : Moment) → b ≡ false → MixedRuns old file said new
     → RunsOutBy b sink sink old file (Ok said) new
-runs_mixed sink b old file said new no runs = subst (λ b. RunsOutBy b sink sink old file (Ok said) new) (sym no) ([], appends_none sink, (refl, runs))
+runs_mixed sink b old file said new is_not runs = subst (λ b. RunsOutBy b sink sink old file (Ok said) new) (sym is_not) ([], appends_none sink, (refl, runs))
 
 pub runs_source : (sink gained : Option (List ℕ)) (b : Bool) (old : Moment) (file : Option (List ℕ)) (r : Result Answer Unsent) (new : Moment) → b ≡ true → RunsOut sink gained old file r new
     → RunsOutBy b sink gained old file r new
-runs_source sink gained b old file (Ok said) new yes runs = subst (λ b. RunsOutBy b sink gained old file (Ok said) new) (sym yes) runs
-runs_source sink gained b old file (Err e) new yes runs = runs
+runs_source sink gained b old file (Ok said) new is_so runs = subst (λ b. RunsOutBy b sink gained old file (Ok said) new) (sym is_so) runs
+runs_source sink gained b old file (Err e) new is_so runs = runs
 
 -- no memory was left before it was known which
 pub runs_neither : (sink : Option (List ℕ)) (b : Bool) (old : Moment) (file : Option (List ℕ)) (v : Plain) → v ≡ old.session → RunsOutBy b sink sink old file (Ok answer.NoMemory) (moment v old.held old.faults)
@@ -119,16 +119,16 @@ mixed_denied old file now held d main same p = ((refl, same), input_denied old f
 -- ---- what is shown
 
 pub calls_mixed : (session : Plain) (said : Answer) → is_mixed session.state ≡ true → MixedShowsCalls session said → ShowsCallsBy (is_mixed session.state) session said
-calls_mixed session said yes shows = subst (λ b. ShowsCallsBy b session said) (sym yes) shows
+calls_mixed session said is_so shows = subst (λ b. ShowsCallsBy b session said) (sym is_so) shows
 
 pub calls_source : (session : Plain) (said : Answer) → is_mixed session.state ≡ false → ShowsCalls session said → ShowsCallsBy (is_mixed session.state) session said
-calls_source session said no shows = subst (λ b. ShowsCallsBy b session said) (sym no) shows
+calls_source session said is_not shows = subst (λ b. ShowsCallsBy b session said) (sym is_not) shows
 
 pub value_mixed : (session : Plain) (name : List ℕ) (said : Answer) → is_mixed session.state ≡ true → MixedShowsValue session name said → ShowsValueBy (is_mixed session.state) session name said
-value_mixed session name said yes shows = subst (λ b. ShowsValueBy b session name said) (sym yes) shows
+value_mixed session name said is_so shows = subst (λ b. ShowsValueBy b session name said) (sym is_so) shows
 
 pub value_source : (session : Plain) (name : List ℕ) (said : Answer) → is_mixed session.state ≡ false → ShowsValue session name said → ShowsValueBy (is_mixed session.state) session name said
-value_source session name said no shows = subst (λ b. ShowsValueBy b session name said) (sym no) shows
+value_source session name said is_not shows = subst (λ b. ShowsValueBy b session name said) (sym is_not) shows
 
 pub shows_mixed : (session inside : Plain) (modules : List Present) (run w : World) (said : Answer) → inside ≡ session → modules ≡ inside.modules → MixedIn inside.state run → w ≡ run → MixedTellsCalls modules w said
     → MixedShowsCalls session said

@@ -53,7 +53,7 @@ number_same x y e = grind (arith, nat_tests)
 the_same : (x y : ℕ) → Some x ≡ Some y → x ≡ y
 the_same x y e = cc
 
-no_one : {P : Type 0} (n : ℕ) → None ≡ Some n → P
+no_one : {P : Type 0} (n : ℕ) → ◌≡◌ {A = Option ℕ} None (Some n) → P
 no_one n e = absurd (cc)
 
 not_true : {P : Type 0} → false ≡ true → P
@@ -62,7 +62,7 @@ not_true e = absurd (cc)
 pub first_some : (bytes : List ℕ) (v : ℕ) (P : Type 0) → ((Some v ≡ Some 1) ↔ P) → ((v == 1) ≡ true) ↔ P
 first_some bytes v P h = (λ e. h.0 (ap Some (same_number v 1 e)), λ p. number_same v 1 (the_same v 1 (h.1 p)))
 
-pub first_none : (P : Type 0) → ((None ≡ Some 1) ↔ P) → (false ≡ true) ↔ P
+pub first_none : (P : Type 0) → ((◌≡◌ {A = Option ℕ} None (Some 1)) ↔ P) → (false ≡ true) ↔ P
 first_none P h = (λ e. not_true e, λ p. no_one 1 (h.1 p))
 
 pub bytes_compared : (held : Option FileMap) (file : List ℕ) (object : Object) (before now : ℕ) (bytes : List ℕ) (c : Compared) → HasBytes held file bytes → ComparesBytes bytes object c → Compares held file object before now c
