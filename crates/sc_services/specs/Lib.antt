@@ -3,3 +3,4 @@ pub mod Frames
 pub mod Blocks
 pub mod Leaving
 pub mod Entering
+pub mod Tagging
