@@ -4,3 +4,6 @@ pub mod Blocks
 pub mod Leaving
 pub mod Entering
 pub mod Tagging
+pub mod Writing
+pub mod Copying
+pub mod Calling
