@@ -78,7 +78,7 @@ fn parameter_count(f: &Fun) -> u32 {
 
 // How many arguments go to what is called: none to what is missing, which has no answer; `None` for compiled code, which is not called so.
 fn argument_count(callee: Callee, regs: &Regs) -> Option<u32>
-    ensures { IfSome result (λ _. spec.is_compiled (callee_found callee) ≡ false) }
+    ensures { IfSome result (λ _. spec.is_compiled (callee_found callee.entry) ≡ false) }
 {
     match callee {
         Callee::Missing => Some(0),

@@ -107,7 +107,7 @@ fn place_of(at: u32, n: u32, world: &World) -> Option<Place>
 }
 
 // Bytes inside the areas go to an address.
-#[tactic(auto, using(crate::proofs::Ways::in_objects, crate::proofs::Ways::by_bytes))]
+#[tactic(auto, using(crate::proofs::Ways::by_bytes))]
 fn copy_inside(to: u32, from: u32, n: u32, world: &mut World) -> Result<(), NoMemory>
     ensures { IfOk result (λ _. spec.Copies n world.old world.new) }
 {
