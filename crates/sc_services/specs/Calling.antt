@@ -1,10 +1,8 @@
 -- Yardstick: to be compared with what it restates (docs/TRUST.md).
 -- What compiled code calls, and with how many arguments.
-use Rattle.std.specs.Prelude.{◌≡◌, ⊤, ℕ, ◌&&◌, nat_lt, if◌then◌else◌, Bool, true, false, List, [], length, slice_get, Option, Some, None}
-use Rattle.sc_base.specs.declared.key.Key.{Key}
-use Rattle.sc_core.specs.declared.module.Fun.{Fun}
+use Rattle.std.specs.Prelude.{◌≡◌, ⊤, ◌&&◌, Bool, true, false, List, Some}
 use Rattle.sc_emu.specs.Operations.{difference}
-use Rattle.sc_emu.specs.Registers.{Registers, register}
+use Rattle.sc_emu.specs.Registers.{Registers}
 use Rattle.sc_isa_image.specs.declared.image.Image.{Image}
 use Rattle.sc_isa_image.specs.Lookups.{key_of}
 use Rattle.sc_meaning.specs.Versions.{Text, Callee, Missing, InText, InLibrary, callee_of}

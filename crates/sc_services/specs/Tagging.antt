@@ -1,7 +1,6 @@
 -- Yardstick: to be compared with what it restates (docs/TRUST.md).
 -- A number gets the tag of what stands at its address.
 use Rattle.std.specs.Prelude.{◌≡◌, ◌<◌, ℕ, ◌%◌, ◌==◌, ◌&&◌, nat_le, nat_lt, Bool, true, false, List, length, Some}
-use Rattle.sc_base.specs.declared.memory.Word.{Word}
 use Rattle.sc_emu.specs.Registers.{Registers, register, with_word}
 use Rattle.sc_meaning.specs.World.{World, Object, object_at}
 use Rattle.sc_services.specs.declared.served.Served.{Served}

@@ -94,12 +94,7 @@ fn argument_count(callee: Callee, regs: &Regs) -> Option<u32>
 ///
 /// It is refused where no function's stub is there, or a compiled function's; where the innermost call is not of compiled code; where the stack pointer is not at the low
 /// end of the stack that is used; and where an argument is outside the stack.
-pub fn called(
-    texts: &[Text],
-    regs: &Regs,
-    image: &Image,
-    world: &World,
-) -> Result<Asked, NoMemory>
+pub fn called(texts: &[Text], regs: &Regs, image: &Image, world: &World) -> Result<Asked, NoMemory>
     ensures { IfOk result (λ asked. spec.AsksFor image.now texts.now regs.now world.now asked) }
 {
     let Some(key) = image.key_of(regs.pc().wrapping_sub(8)) else {

@@ -197,12 +197,7 @@ fn enter_inner(block: u32, at: &TextAt, world: &mut World) -> Result<Entered, St
 /// # Errors
 ///
 /// `StackFull` and `BirthLimit`.
-pub fn enter(
-    texts: &[Text],
-    regs: &Regs,
-    image: &Image,
-    world: &mut World,
-) -> Result<Entered, Stop>
+pub fn enter(texts: &[Text], regs: &Regs, image: &Image, world: &mut World) -> Result<Entered, Stop>
     ensures { entering.EntersAt (frames.is_on_stack regs.now world.old) (text_at image.now (difference regs.now.pc 4)) (register regs.now 6).bits world.old result world.new }
 {
     if !is_on_stack(regs, world) {
