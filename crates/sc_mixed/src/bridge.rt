@@ -4,6 +4,7 @@ ghost use Rattle.sc_emu.specs.declared.outcome.Crash.TheVariants as crashes;
 ghost use Rattle.sc_isa_image.specs.Lookups.{value_of};
 ghost use Rattle.sc_meaning.specs.Versions as versions;
 ghost use Rattle.sc_mixed.specs.Bridge as spec;
+ghost use Rattle.sc_services.specs.Writing.{Writes};
 ghost use Rattle.sc_mixed.specs.declared.broken.Break.TheVariants as broken;
 
 use crate::broken::Break;
@@ -93,7 +94,8 @@ pub fn call_code(
     calls: &mut Calls,
     world: &mut World,
 ) -> Result<(), NoMemory>
-    ensures { IfOk result (λ _. spec.CallsCode (value_of image.now key.now) calls.old world.new calls.new) }
+    ensures calls { IfOk result (λ _. spec.CallsCode (value_of image.now key.now) calls.old world.new calls.new) }
+    ensures writes { IfOk result (λ _. Writes world.old world.new) }
 {
     let Some(stub) = image.value(key) else {
         return Err(NoMemory);
@@ -109,7 +111,9 @@ fn call_value(
     image: &Image,
     calls: &mut Calls,
     world: &mut World,
-) -> Result<(), NoMemory> {
+) -> Result<(), NoMemory>
+    ensures { IfOk result (λ _. Writes world.old world.new) }
+{
     match &v.shape {
         Shape::FunctionAt(key) => call_code(key.get(), vs, image, calls, world),
         Shape::Number(_) | Shape::Pointer(_, _) => Err(NoMemory),
@@ -122,7 +126,9 @@ pub fn make_in_code(
     image: &Image,
     calls: &mut Calls,
     world: &mut World,
-) -> Result<(), NoMemory> {
+) -> Result<(), NoMemory>
+    ensures { IfOk result (λ _. Writes world.old world.new) }
+{
     match going {
         Going::Makes(t, v, vs, caller) => {
             drop(t);
