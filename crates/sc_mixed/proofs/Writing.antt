@@ -1,5 +1,5 @@
 -- Bytes of live objects that instructions write, one after another.
-use Rattle.std.proofs.Common.{◌≡◌, refl}
+use Rattle.std.proofs.Common.{refl}
 use Rattle.sc_meaning.specs.World.{World}
 use Rattle.sc_services.specs.Writing.{Writes}
 use Rattle.sc_services.proofs.Writing as writing

@@ -3,7 +3,6 @@
 use Rattle.std.specs.Option.{is_some}
 use Rattle.std.specs.Prelude.{◌≡◌, not, ℕ, ◌==◌, ◌&&◌, Bool, true, false, List, [], ◌∷◌, length, Option, Some, None, Result, Ok, Err}
 use Rattle.sc_base.specs.declared.memory.Word.{Word}
-use Rattle.sc_base.specs.declared.key.Key.{Key}
 use Rattle.sc_emu.specs.Machine.{return_address}
 use Rattle.sc_emu.specs.Operations.{plain}
 use Rattle.sc_emu.specs.Registers.{Registers, register, with_word}
