@@ -1,4 +1,11 @@
 // From interpreted calls to compiled code, and back.
+ghost use Rattle.std.specs.Prelude.{◌≡◌, IfOk};
+ghost use Rattle.sc_emu.specs.declared.outcome.Crash.TheVariants as crashes;
+ghost use Rattle.sc_isa_image.specs.Lookups.{value_of};
+ghost use Rattle.sc_meaning.specs.Versions as versions;
+ghost use Rattle.sc_mixed.specs.Bridge as spec;
+ghost use Rattle.sc_services.specs.Writing.{Writes};
+ghost use Rattle.sc_mixed.specs.declared.broken.Break.TheVariants as broken;
 
 use crate::broken::Break;
 use crate::calls::{Calls, Lower, Next};
@@ -26,7 +33,9 @@ const SP: u8 = 2;
 const RESULT: u8 = 10;
 
 /// Whether a key names a function of compiled code.
-pub fn is_in_code(texts: &[Text], key: &Key) -> bool {
+pub fn is_in_code(texts: &[Text], key: &Key) -> bool
+    ensures { result ≡ spec.is_code (versions.callee_of texts.now key.now) }
+{
     match callee_of(texts, key) {
         Callee::Missing => false,
         Callee::InLibrary(_) => false,
@@ -44,7 +53,9 @@ pub fn goes_to_code(
     t: &CType,
     v: &Value,
     caller: &Caller,
-) -> Result<bool, NoMemory> {
+) -> Result<bool, NoMemory>
+    ensures { IfOk result (λ goes. goes ≡ spec.goes_to_code texts.now caller.now.env.text t.now v.now) }
+{
     let Shape::FunctionAt(key) = &v.shape else {
         return Ok(false);
     };
@@ -55,6 +66,25 @@ pub fn goes_to_code(
     Ok(rule.is_none())
 }
 
+// Compiled code is called, whose arguments are where it finds them.
+fn enter_code(stub: u32, calls: &mut Calls, world: &World) -> Result<(), NoMemory>
+    ensures { IfOk result (λ _. calls.new ≡ spec.calling_code stub world.now calls.old) }
+{
+    let sp = stack_top(world);
+    let depth = world.frames().len();
+    let callers = mem::replace(&mut calls.callers, Stack::new(world.alloc()));
+    calls.lower.push(Lower::InBodies { callers, sp, depth })?;
+    drop(mem::replace(&mut calls.given, None));
+    calls.regs.set(SP, Word { bits: sp, tag: 0 });
+    let back = Word {
+        bits: RETURN,
+        tag: 0,
+    };
+    calls.regs.set(RA, back);
+    calls.regs.set_pc(stub);
+    Ok(())
+}
+
 /// Compiled code is called: its arguments are where it finds them, and the next instruction is that of the function's stub. The
 /// interpreted callers wait for it.
 pub fn call_code(
@@ -63,26 +93,15 @@ pub fn call_code(
     image: &Image,
     calls: &mut Calls,
     world: &mut World,
-) -> Result<(), NoMemory> {
+) -> Result<(), NoMemory>
+    ensures calls { IfOk result (λ _. spec.CallsCode (value_of image.now key.now) calls.old world.new calls.new) }
+    ensures writes { IfOk result (λ _. Writes world.old world.new) }
+{
     let Some(stub) = image.value(key) else {
         return Err(NoMemory);
     };
-    let sp = stack_top(world);
     put_arguments(vs, &mut calls.regs, world)?;
-    let callers = mem::replace(&mut calls.callers, Stack::new(world.alloc()));
-    let depth = world.frames().len();
-    calls.lower.push(Lower::InBodies { callers, sp, depth })?;
-    calls.given = None;
-    calls.regs.set(SP, Word { bits: sp, tag: 0 });
-    calls.regs.set(
-        RA,
-        Word {
-            bits: RETURN,
-            tag: 0,
-        },
-    );
-    calls.regs.set_pc(stub);
-    Ok(())
+    enter_code(stub, calls, world)
 }
 
 // A call of this value goes to compiled code.
@@ -92,7 +111,9 @@ fn call_value(
     image: &Image,
     calls: &mut Calls,
     world: &mut World,
-) -> Result<(), NoMemory> {
+) -> Result<(), NoMemory>
+    ensures { IfOk result (λ _. Writes world.old world.new) }
+{
     match &v.shape {
         Shape::FunctionAt(key) => call_code(key.get(), vs, image, calls, world),
         Shape::Number(_) | Shape::Pointer(_, _) => Err(NoMemory),
@@ -105,7 +126,9 @@ pub fn make_in_code(
     image: &Image,
     calls: &mut Calls,
     world: &mut World,
-) -> Result<(), NoMemory> {
+) -> Result<(), NoMemory>
+    ensures { IfOk result (λ _. Writes world.old world.new) }
+{
     match going {
         Going::Makes(t, v, vs, caller) => {
             drop(t);
@@ -126,7 +149,9 @@ fn resume_code(
     given: Option<Answer>,
     calls: &mut Calls,
     world: &World,
-) -> Result<Next, NoMemory> {
+) -> Result<Next, NoMemory>
+    ensures { IfOk result (λ next. spec.Resumes regs given calls.old next calls.new) }
+{
     let word = result_word(a, world)?;
     let back = regs.get(RA).bits;
     drop(mem::replace(&mut calls.regs, regs));
@@ -149,7 +174,9 @@ pub fn give_back(a: Answer, calls: &mut Calls, world: &World) -> Result<Next, No
 }
 
 // A return at which the test fails.
-fn unreturned() -> Break {
+fn unreturned() -> Break
+    ensures { result ≡ broken.Crashed 0xf000 crashes.Service }
+{
     Break::Crashed(RETURN, Crash::Service)
 }
 
@@ -161,7 +188,9 @@ fn return_to(
     depth: usize,
     calls: &mut Calls,
     world: &World,
-) -> Result<Next, Break> {
+) -> Result<Next, Break>
+    ensures { spec.ReturnsTo (spec.is_as_called sp depth calls.old.regs world.now) a callers calls.old result calls.new }
+{
     if calls.regs.get(SP).bits != sp || world.frames().len() != depth {
         drop(a);
         drop(callers);
@@ -172,7 +201,9 @@ fn return_to(
 }
 
 /// Compiled code returns to where its caller stands.
-pub fn return_code(calls: &mut Calls, world: &World) -> Result<Next, Break> {
+pub fn return_code(calls: &mut Calls, world: &World) -> Result<Next, Break>
+    ensures { spec.Returns calls.old.given calls.old.lower calls.old world.now result calls.new }
+{
     let Some(a) = calls.given.take() else {
         return Err(unreturned());
     };

@@ -1,6 +1,7 @@
 // An instruction over the world.
 ghost use Rattle.std.specs.Prelude.{◌<◌};
 ghost use Rattle.sc_mem.specs.Words.{IsSize};
+ghost use Rattle.sc_mixed.specs.Writing.{WritesIfRoom};
 
 use sc_base::Word;
 use sc_emu::{Crash, Need, Regs, Step, begin, load_size, pass, take};
@@ -45,6 +46,7 @@ fn load(op: LoadOp, rd: u8, at: u32, regs: &mut Regs, world: &World) -> Went
 
 fn store(size: u8, at: u32, word: Word, regs: &mut Regs, world: &mut World) -> Went
     requires { IsSize size }
+    ensures { WritesIfRoom result world.old world.new }
 {
     match store_word(at, size, word, world) {
         Ok(None) => Went::Stopped(Crash::Outside),
@@ -57,8 +59,11 @@ fn store(size: u8, at: u32, word: Word, regs: &mut Regs, world: &mut World) -> W
 }
 
 // The instruction at the next address is carried out.
+#[tactic(auto, using(crate::proofs::Writing::nothing))]
 #[inline(always)]
-fn execute(image: &Image, regs: &mut Regs, world: &mut World) -> Went {
+fn execute(image: &Image, regs: &mut Regs, world: &mut World) -> Went
+    ensures { WritesIfRoom result world.old world.new }
+{
     match begin(regs, image) {
         Need::Done(step) => told(step),
         Need::Load { op, rd, at } => load(op, rd, at, regs, world),
@@ -75,7 +80,10 @@ pub struct Executed {
 
 /// Instructions one after another, so many at most, up to the first that does not simply go on. The loop is tight, since nothing that
 /// they do halts a run.
-pub fn execute_some(image: &Image, most: u64, regs: &mut Regs, world: &mut World) -> Executed {
+#[tactic(auto, using(crate::proofs::Writing::nothing, crate::proofs::Writing::one_more, crate::proofs::Writing::the_last))]
+pub fn execute_some(image: &Image, most: u64, regs: &mut Regs, world: &mut World) -> Executed
+    ensures { WritesIfRoom result.went world.old world.new }
+{
     let mut count: u64 = 0;
     for _ in 0..most {
         count = count.saturating_add(1);

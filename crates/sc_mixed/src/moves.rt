@@ -1,4 +1,5 @@
 // One move of a run of both forms.
+ghost use Rattle.std.specs.Prelude.{IfOk};
 ghost use Rattle.sc_interp.specs.Shows as shows;
 ghost use Rattle.sc_interp.specs.Steady as steady;
 ghost use Rattle.sc_interp.specs.Steps.{Is};
@@ -6,6 +7,8 @@ ghost use Rattle.sc_interp_machine.specs.Runs as runs;
 ghost use Rattle.sc_lib.specs.Quiet.{IsQuiet};
 ghost use Rattle.sc_meaning.specs.Versions as versions;
 ghost use Rattle.sc_mixed.specs.Moves.{StepsOn};
+ghost use Rattle.sc_mixed.specs.Writing.{MovesByWriting};
+ghost use Rattle.sc_services.specs.Writing.{Writes};
 
 use crate::bridge::{give_back, goes_to_code, make_in_code, return_code};
 use crate::broken::Break;
@@ -83,13 +86,16 @@ fn back(going: Going, calls: &mut Calls, world: &World) -> Result<Next, NoMemory
 }
 
 // A move that leads from interpreted calls to compiled code, or to what waits for them.
+#[tactic(auto, using(crate::proofs::Writing::stays))]
 fn cross(
     way: Way,
     going: Going,
     image: &Image,
     calls: &mut Calls,
     world: &mut World,
-) -> Result<Next, NoMemory> {
+) -> Result<Next, NoMemory>
+    ensures { IfOk result (λ _. Writes world.old world.new) }
+{
     match way {
         Way::Stays => Ok(Next::Steps(going)),
         Way::ToCode => {
@@ -107,7 +113,9 @@ fn execute_all(
     next: &mut Next,
     calls: &mut Calls,
     world: &mut World,
-) -> Result<Moved, Break> {
+) -> Result<Moved, Break>
+    ensures { MovesByWriting result world.old world.new }
+{
     let done = execute_some(image, most, &mut calls.regs, world);
     match done.went {
         Went::On => (),

@@ -1,4 +1,9 @@
 // The service that an `ecall` asks for.
+ghost use Rattle.std.specs.Prelude.{◌≡◌};
+ghost use Rattle.sc_emu.specs.Operations.{difference};
+ghost use Rattle.sc_emu.specs.declared.outcome.Crash.TheVariants as crashes;
+ghost use Rattle.sc_mixed.specs.Serving as spec;
+ghost use Rattle.sc_mixed.specs.declared.broken.Break.TheVariants as broken;
 
 use crate::broken::Break;
 use crate::calls::{Calls, Lower, Moved, Next};
@@ -17,7 +22,9 @@ use std::mem;
 const RESULT: u8 = 10;
 
 // The test of a service fails: the run stands at its `ecall`.
-fn refused(regs: &Regs) -> Break {
+fn refused(regs: &Regs) -> Break
+    ensures { result ≡ broken.Crashed (difference regs.now.pc 4) crashes.Service }
+{
     Break::Crashed(regs.pc().wrapping_sub(4), Crash::Service)
 }
 
@@ -76,7 +83,9 @@ fn serve_enter(
     image: &Image,
     regs: &Regs,
     world: &mut World,
-) -> Result<Moved, Break> {
+) -> Result<Moved, Break>
+    ensures { spec.ServesEnter image.now regs.now world.old result world.new }
+{
     let moved = world.moved();
     let shown = match enter(texts, regs, image, world)? {
         Entered::Call => Shown::Entered,
@@ -131,14 +140,18 @@ fn serve_fall(image: &Image, calls: &mut Calls, world: &mut World) -> Result<Mov
     left(came, Answer::nothing(), calls, world)
 }
 
-fn serve_tag(regs: &mut Regs, world: &World) -> Result<Moved, Break> {
+fn serve_tag(regs: &mut Regs, world: &World) -> Result<Moved, Break>
+    ensures { spec.ServesTag regs.old world.now result regs.new }
+{
     match tag(regs, world) {
         Served::Done => Ok(Moved::quietly()),
         Served::Refused => Err(refused(regs)),
     }
 }
 
-fn serve_copy(regs: &Regs, world: &mut World) -> Result<Moved, Break> {
+fn serve_copy(regs: &Regs, world: &mut World) -> Result<Moved, Break>
+    ensures { spec.ServesCopy regs.now world.old result world.new }
+{
     match copy(regs, world)? {
         Copied::Bytes(n) => Ok(Moved {
             shown: Shown::Nothing,

@@ -1,2 +1,4 @@
 pub mod Closing
 pub mod Slots
+pub mod Writing
+pub mod Ways

@@ -3,3 +3,7 @@ pub mod Frames
 pub mod Blocks
 pub mod Leaving
 pub mod Entering
+pub mod Tagging
+pub mod Writing
+pub mod Copying
+pub mod Calling

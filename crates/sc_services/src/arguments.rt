@@ -1,5 +1,6 @@
 // Arguments and results as words: eight in registers, the others on the stack.
-ghost use Rattle.std.specs.Prelude.{◌<◌};
+ghost use Rattle.std.specs.Prelude.{◌<◌, IfOk};
+ghost use Rattle.sc_services.specs.Writing.{Writes};
 
 use crate::bytes::load_word;
 use crate::frames::stack_top;
@@ -57,7 +58,10 @@ pub fn arguments(count: u32, regs: &Regs, world: &World) -> Result<Option<Items<
 }
 
 // Argument k goes to its register, or to its place on the stack.
-fn put_argument(k: u32, v: &Value, regs: &mut Regs, world: &mut World) -> Result<(), NoMemory> {
+#[tactic(auto, using(crate::proofs::Writing::kept, crate::proofs::Writing::one_more))]
+fn put_argument(k: u32, v: &Value, regs: &mut Regs, world: &mut World) -> Result<(), NoMemory>
+    ensures { IfOk result (λ _. Writes world.old world.new) }
+{
     let word = world.word(v)?;
     if k < IN_REGISTERS {
         regs.set(FIRST + k as u8, word);
@@ -73,7 +77,10 @@ fn put_argument(k: u32, v: &Value, regs: &mut Regs, world: &mut World) -> Result
 }
 
 /// The arguments of a call that goes to compiled code are put where it finds them.
-pub fn put_arguments(vs: &[Value], regs: &mut Regs, world: &mut World) -> Result<(), NoMemory> {
+#[tactic(auto, using(crate::proofs::Writing::kept, crate::proofs::Writing::one_more))]
+pub fn put_arguments(vs: &[Value], regs: &mut Regs, world: &mut World) -> Result<(), NoMemory>
+    ensures { IfOk result (λ _. Writes world.old world.new) }
+{
     let mut k = 0;
     for v in vs {
         put_argument(k, v, regs, world)?;

@@ -1,4 +1,8 @@
 // Service 1: compiled code calls interpreted code, or the library.
+ghost use Rattle.std.specs.Prelude.{◌≡◌, IfOk, IfSome, false};
+ghost use Rattle.sc_core_held.specs.Found.{callee_found};
+ghost use Rattle.sc_services.specs.Calling as spec;
+
 use crate::arguments::arguments;
 use crate::frames::{is_in_code, is_on_stack};
 use sc_base::{Duplicate, Form, Items, Key, NoMemory};
@@ -73,7 +77,9 @@ fn parameter_count(f: &Fun) -> u32 {
 }
 
 // How many arguments go to what is called: none to what is missing, which has no answer; `None` for compiled code, which is not called so.
-fn argument_count(callee: Callee, regs: &Regs) -> Option<u32> {
+fn argument_count(callee: Callee, regs: &Regs) -> Option<u32>
+    ensures { IfSome result (λ _. spec.is_compiled (callee_found callee.entry) ≡ false) }
+{
     match callee {
         Callee::Missing => Some(0),
         Callee::InLibrary(f) => Some(arity(f, regs)),
@@ -88,12 +94,9 @@ fn argument_count(callee: Callee, regs: &Regs) -> Option<u32> {
 ///
 /// It is refused where no function's stub is there, or a compiled function's; where the innermost call is not of compiled code; where the stack pointer is not at the low
 /// end of the stack that is used; and where an argument is outside the stack.
-pub fn called(
-    texts: &[Text],
-    regs: &Regs,
-    image: &Image,
-    world: &World,
-) -> Result<Asked, NoMemory> {
+pub fn called(texts: &[Text], regs: &Regs, image: &Image, world: &World) -> Result<Asked, NoMemory>
+    ensures { IfOk result (λ asked. spec.AsksFor image.now texts.now regs.now world.now asked) }
+{
     let Some(key) = image.key_of(regs.pc().wrapping_sub(8)) else {
         return Ok(Asked::Refused);
     };

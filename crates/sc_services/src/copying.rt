@@ -1,4 +1,9 @@
 // Service 5: bytes are copied.
+ghost use Rattle.std.specs.Prelude.{◌≡◌, IfOk, IfSome};
+ghost use Rattle.sc_services.specs.Copying as spec;
+ghost use Rattle.sc_services.specs.Tagging.{IsByteOf};
+ghost use Rattle.sc_services.specs.Writing.{Writes};
+
 use crate::arguments::FIRST;
 use crate::bytes::{cell_at, whole_pointer};
 use crate::store::{has_bytes, keep, put_cell};
@@ -25,11 +30,13 @@ pub enum Copied {
 }
 
 // Whether the bytes from an address on are all inside one area.
-fn is_range(at: u32, n: u32, world: &World) -> bool {
+fn is_range(at: u32, n: u32, world: &World) -> bool
+    ensures { result ≡ spec.is_range at n world.now }
+{
     let first = u64::from(at);
     let end = first + u64::from(n);
     let in_static = STATIC <= first && end <= STATIC + STATIC_BYTES;
-    let in_heap = HEAP <= first && end <= HEAP.saturating_add(world.heap());
+    let in_heap = HEAP <= first && end.saturating_sub(HEAP) <= world.heap();
     let in_stack = STACK_END.saturating_sub(world.stack()) <= first && end <= STACK_END;
     in_static || in_heap || in_stack
 }
@@ -47,7 +54,10 @@ fn cells_from(from: u32, n: u32, world: &World) -> Result<Items<Cell>, NoMemory>
 }
 
 // Bytes are put one by one from an address on.
-fn put_cells(to: u32, cells: &[Cell], world: &mut World) -> Result<(), NoMemory> {
+#[tactic(auto, using(crate::proofs::Writing::kept, crate::proofs::Writing::one_more))]
+fn put_cells(to: u32, cells: &[Cell], world: &mut World) -> Result<(), NoMemory>
+    ensures { IfOk result (λ _. Writes world.old world.new) }
+{
     let mut at = to;
     for cell in cells {
         put_cell(at, cell.copy(world.alloc())?, world)?;
@@ -57,7 +67,10 @@ fn put_cells(to: u32, cells: &[Cell], world: &mut World) -> Result<(), NoMemory>
 }
 
 // Whole pointers that stand beside all objects get their tags.
-fn put_pointers(to: u32, cells: &[Cell], world: &mut World) -> Result<(), NoMemory> {
+#[tactic(auto, using(crate::proofs::Writing::kept, crate::proofs::Writing::one_more))]
+fn put_pointers(to: u32, cells: &[Cell], world: &mut World) -> Result<(), NoMemory>
+    ensures { IfOk result (λ _. Writes world.old world.new) }
+{
     let mut at = to;
     for k in 0..cells.len() {
         if at % 4 == 0 && world.live_at(at).is_none() {
@@ -72,14 +85,19 @@ fn put_pointers(to: u32, cells: &[Cell], world: &mut World) -> Result<(), NoMemo
 }
 
 // Bytes that are not all of one object go to an address.
-fn copy_bytes(to: u32, from: u32, n: u32, world: &mut World) -> Result<(), NoMemory> {
+#[tactic(auto, using(crate::proofs::Writing::kept, crate::proofs::Writing::one_more))]
+fn copy_bytes(to: u32, from: u32, n: u32, world: &mut World) -> Result<(), NoMemory>
+    ensures { IfOk result (λ _. Writes world.old world.new) }
+{
     let cells = cells_from(from, n, world)?;
     put_cells(to, cells.as_slice(), world)?;
     put_pointers(to, cells.as_slice(), world)
 }
 
 // The byte of a live object at an address, from which on so many bytes are the object's.
-fn place_of(at: u32, n: u32, world: &World) -> Option<Place> {
+fn place_of(at: u32, n: u32, world: &World) -> Option<Place>
+    ensures { IfSome result (λ p. IsByteOf world.now.objects p.id p.offset) }
+{
     let place = world.live_at(at)?;
     if has_bytes(place, n, world) {
         Some(place)
@@ -89,7 +107,10 @@ fn place_of(at: u32, n: u32, world: &World) -> Option<Place> {
 }
 
 // Bytes inside the areas go to an address.
-fn copy_inside(to: u32, from: u32, n: u32, world: &mut World) -> Result<(), NoMemory> {
+#[tactic(auto, using(crate::proofs::Ways::by_bytes))]
+fn copy_inside(to: u32, from: u32, n: u32, world: &mut World) -> Result<(), NoMemory>
+    ensures { IfOk result (λ _. spec.Copies n world.old world.new) }
+{
     match (place_of(to, n, world), place_of(from, n, world)) {
         (Some(target), Some(source)) => {
             world.copy(target.id, target.offset, source.id, source.offset, n)
@@ -100,7 +121,9 @@ fn copy_inside(to: u32, from: u32, n: u32, world: &mut World) -> Result<(), NoMe
 
 /// Service 5: the bytes from a1 on, a2 of them, are copied to a0, as if by way of another place. It is refused where one of the two ranges is
 /// not inside an area.
-pub fn copy(regs: &Regs, world: &mut World) -> Result<Copied, NoMemory> {
+pub fn copy(regs: &Regs, world: &mut World) -> Result<Copied, NoMemory>
+    ensures { IfOk result (λ copied. spec.CopiesBytes regs.now world.old copied world.new) }
+{
     let to = regs.get(FIRST).bits;
     let from = regs.get(FIRST + 1).bits;
     let n = regs.get(FIRST + 2).bits;

@@ -5,6 +5,10 @@ ghost use Rattle.sc_meaning.specs.Calls.{frame_of as frame_of_call};
 ghost use Rattle.sc_meaning.specs.World as worlds;
 ghost use Rattle.sc_services.specs.Blocks as spec;
 ghost use Rattle.sc_services.specs.Entering as entering;
+ghost use Rattle.sc_services.specs.Frames as frames;
+ghost use Rattle.sc_emu.specs.Operations.{difference};
+ghost use Rattle.sc_emu.specs.Registers.{register};
+ghost use Rattle.sc_isa_image.specs.Lookups.{text_at};
 ghost use Rattle.sc_services.specs.declared.entering.Entered.TheVariants.{Block, Call};
 
 use crate::arguments::arguments;
@@ -193,12 +197,9 @@ fn enter_inner(block: u32, at: &TextAt, world: &mut World) -> Result<Entered, St
 /// # Errors
 ///
 /// `StackFull` and `BirthLimit`.
-pub fn enter(
-    texts: &[Text],
-    regs: &Regs,
-    image: &Image,
-    world: &mut World,
-) -> Result<Entered, Stop> {
+pub fn enter(texts: &[Text], regs: &Regs, image: &Image, world: &mut World) -> Result<Entered, Stop>
+    ensures { entering.EntersAt (frames.is_on_stack regs.now world.old) (text_at image.now (difference regs.now.pc 4)) (register regs.now 6).bits world.old result world.new }
+{
     if !is_on_stack(regs, world) {
         return Ok(Entered::Refused);
     }

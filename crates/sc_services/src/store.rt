@@ -1,5 +1,8 @@
 // Stores of compiled code, which test no rule.
+ghost use Rattle.std.specs.Prelude.{◌≡◌, IfOk};
 ghost use Rattle.sc_mem.specs.Words.{IsSize};
+ghost use Rattle.sc_services.specs.Tagging.{IsByteOf};
+ghost use Rattle.sc_services.specs.Writing.{Writes};
 
 use crate::bytes::{cell_of, number_of};
 use sc_base::{Items, NoMemory, Word};
@@ -23,7 +26,10 @@ pub fn has_bytes(place: Place, n: u32, world: &World) -> bool {
 }
 
 // A word is stored as that many bytes of one object.
-fn store_inside(place: Place, size: u8, word: Word, world: &mut World) -> Result<(), NoMemory> {
+fn store_inside(place: Place, size: u8, word: Word, world: &mut World) -> Result<(), NoMemory>
+    requires { IsByteOf world.old.objects place.id place.offset }
+    ensures { IfOk result (λ _. Writes world.old world.new) }
+{
     let v = if size == 4 {
         world.value(word)?
     } else {
@@ -34,7 +40,10 @@ fn store_inside(place: Place, size: u8, word: Word, world: &mut World) -> Result
 
 /// One byte is put at an address inside the areas, into the live object there or beside all objects. Beside them a piece of a
 /// pointer is the number that it has as a byte.
-pub fn put_cell(at: u32, cell: Cell, world: &mut World) -> Result<(), NoMemory> {
+#[tactic(auto, using(crate::proofs::Writing::kept))]
+pub fn put_cell(at: u32, cell: Cell, world: &mut World) -> Result<(), NoMemory>
+    ensures { IfOk result (λ _. Writes world.old world.new) }
+{
     match world.live_at(at) {
         Some(place) => {
             let mut cells = Items::new(world.alloc());
@@ -52,6 +61,7 @@ pub fn put_cell(at: u32, cell: Cell, world: &mut World) -> Result<(), NoMemory> 
 /// Bytes beside all objects are written. An address outside the areas has none.
 pub fn keep(at: u32, size: u8, word: Word, world: &mut World) -> Result<(), NoMemory>
     requires { IsSize size }
+    ensures { world.new ≡ world.old }
 {
     match world.keep(at, size, word)? {
         Some(()) => Ok(()),
@@ -60,7 +70,10 @@ pub fn keep(at: u32, size: u8, word: Word, world: &mut World) -> Result<(), NoMe
 }
 
 // A word is stored byte by byte, where only its first bytes are an object's.
-fn store_bytes(at: u32, size: u8, word: Word, world: &mut World) -> Result<(), NoMemory> {
+#[tactic(auto, using(crate::proofs::Writing::kept, crate::proofs::Writing::one_more))]
+fn store_bytes(at: u32, size: u8, word: Word, world: &mut World) -> Result<(), NoMemory>
+    ensures { IfOk result (λ _. Writes world.old world.new) }
+{
     for k in 0..u32::from(size) {
         let Some(next) = at.checked_add(k) else {
             return Err(NoMemory);
@@ -73,8 +86,10 @@ fn store_bytes(at: u32, size: u8, word: Word, world: &mut World) -> Result<(), N
 
 /// The low `size` bytes of a word are stored at an address, a multiple of the size, into the live object there or beside all objects;
 /// only a store of four bytes keeps the word's tag. `None` where the address is outside the areas.
+#[tactic(auto, using(crate::proofs::Writing::kept, crate::proofs::Writing::one_more))]
 pub fn store_word(at: u32, size: u8, word: Word, world: &mut World) -> Result<Option<()>, NoMemory>
     requires { IsSize size }
+    ensures { IfOk result (λ _. Writes world.old world.new) }
 {
     // Most stores are of temporaries, so they are tried first.
     if let Some(()) = world.keep(at, size, word)? {

@@ -1,4 +1,7 @@
 // Service 4: a number gets the tag of what stands there.
+ghost use Rattle.std.specs.Prelude.{◌≡◌, MatchOption, false};
+ghost use Rattle.sc_services.specs.Tagging as spec;
+
 use crate::arguments::FIRST;
 use crate::served::Served;
 use sc_base::Word;
@@ -12,7 +15,9 @@ const STUBS: u32 = 0x0001_0000;
 const STUBS_END: u32 = STUBS + 8 * 65_536;
 
 // The tag of what stands at an address: of the live object that holds it, or of functions.
-fn tag_at(at: u32, world: &World) -> Option<u32> {
+fn tag_at(at: u32, world: &World) -> Option<u32>
+    ensures { MatchOption result (spec.is_stub at ≡ false) (λ tag. spec.IsTagAt world.now.objects at tag) }
+{
     if STUBS <= at && at < STUBS_END && at % 8 == 0 {
         return Some(Word::FUNCTION);
     }
@@ -23,7 +28,9 @@ fn tag_at(at: u32, world: &World) -> Option<u32> {
 }
 
 /// Service 4: a0 gets the tag of the live object there, or that of functions at a stub. It is refused where there is neither.
-pub fn tag(regs: &mut Regs, world: &World) -> Served {
+pub fn tag(regs: &mut Regs, world: &World) -> Served
+    ensures { spec.Tags regs.old world.now result regs.new }
+{
     let bits = regs.get(FIRST).bits;
     match tag_at(bits, world) {
         None => Served::Refused,
