@@ -1,33 +1,37 @@
 #!/usr/bin/env python3
-"""Compares the tour of README.md with what the built program answers to examples/queue/commands.
+"""Compares the tours of README.md with what the built program answers to the commands of examples.
 
 usage: tests/tour.py PROGRAM
 
-In the indented blocks of the section "A tour" a command stands before its answer. A line '...' stands for any lines.
+In the indented blocks of a tour's section a command stands before its answer. A line '...' stands for any lines.
 """
 import pathlib
 import re
+import shutil
 import subprocess
 import sys
+import tempfile
 
 ROOT = pathlib.Path(__file__).resolve().parent.parent
-FOLDER = ROOT / "examples" / "queue"
+TOURS = {"A tour": ROOT / "examples" / "queue", "One module suspect, the rest compiled": ROOT / "examples" / "library"}
 
 
-def told():
-    """The lines of the tour's blocks."""
-    section = re.search(r"^## A tour\n(.*?)^## ", (ROOT / "README.md").read_text(), re.M | re.S)
+def told(title):
+    """The lines of a tour's blocks."""
+    section = re.search(rf"^## {title}\n(.*?)^## ", (ROOT / "README.md").read_text(), re.M | re.S)
     lines = [it[4:] for it in section[1].splitlines() if it.startswith("    ")]
     return lines
 
 
-def answered(program):
+def answered(program, folder):
     """Each command with its answer, one after another."""
     lines, before = [], b""
-    commands = [it for it in (FOLDER / "commands").read_text().splitlines() if it and not it.startswith("#")]
+    commands = [it for it in (folder / "commands").read_text().splitlines() if it and not it.startswith("#")]
     for count in range(1, len(commands) + 1):
         text = "".join(it + "\n" for it in commands[:count])
-        after = subprocess.run([program], input=text.encode(), capture_output=True, cwd=FOLDER, timeout=120).stdout
+        with tempfile.TemporaryDirectory() as room:
+            shutil.copytree(folder, room, dirs_exist_ok=True)
+            after = subprocess.run([program], input=text.encode(), capture_output=True, cwd=room, timeout=120).stdout
         lines += [commands[count - 1], *after[len(before):].decode().splitlines()]
         before = after
     return lines
@@ -42,11 +46,12 @@ def agree(tour, lines):
 def main():
     if len(sys.argv) != 2:
         sys.exit(__doc__)
-    holds = agree(told(), answered(pathlib.Path(sys.argv[1]).resolve()))
-    if not holds:
-        print("FAIL: the tour of README.md is not what the program answers")
-    print("1 passed, 0 failed" if holds else "0 passed, 1 failed")
-    return 0 if holds else 1
+    program = pathlib.Path(sys.argv[1]).resolve()
+    failed = [title for title, folder in TOURS.items() if not agree(told(title), answered(program, folder))]
+    for title in failed:
+        print(f"FAIL: README.md, {title}: it is not what the program answers")
+    print(f"{len(TOURS) - len(failed)} passed, {len(failed)} failed")
+    return 1 if failed else 0
 
 
 if __name__ == "__main__":

@@ -1,6 +1,6 @@
 -- Yardstick: to be compared with what it restates (docs/TRUST.md).
 -- What is told of a step before its access of memory, at any memory.
-use Rattle.std.specs.Prelude.{◌≡◌, ◌<◌, ⊤, ℕ}
+use Rattle.std.specs.Prelude.{◌≡◌, ◌<◌, ⊤}
 use Rattle.sc_mem.specs.Flat.{Flat, aligned_place, put, raw_read}
 use Rattle.sc_mem.specs.Words.{IsSize}
 use Rattle.sc_emu.specs.declared.beginning.Need.{Need}

@@ -1,7 +1,7 @@
 -- Yardstick: to be compared with what it restates (docs/TRUST.md).
 -- One step of the machine (RISC-V unprivileged manual, RV32I and M): what an instruction makes of the registers and
 -- of memory.
-use Rattle.std.specs.Prelude.{◌≡◌, ⊤, ℕ, ◌+◌, ◌*◌, ◌/◌, ◌%◌, ◌^◌, ◌==◌, if◌then◌else◌, List, Option, Some, None, ℤ}
+use Rattle.std.specs.Prelude.{◌≡◌, ⊤, ℕ, ◌*◌, ◌/◌, ◌%◌, ◌^◌, ◌==◌, if◌then◌else◌, List, Option, Some, None, ℤ}
 use Rattle.std.specs.Option.{is_some, option_map}
 use Rattle.sc_base.specs.declared.memory.Word.{Word}
 use Rattle.sc_isa.specs.declared.instruction.Instr.{Instr}

@@ -166,7 +166,14 @@ impl World {
     ) -> Result<World, NoMemory>
         ensures { IfOk result (λ w. w ≡ record { stack = stack; heap = heap; objects = []; used = 0; free = replicate 29 0; made = 0; input = input; seed = 1; frames = []; names = []; enters = 0; count = 0; begun = 0; trail = []; beside = nothing_beside }) }
     {
-        World::with(alloc, stack, heap, input, Held::nowhere(alloc), Names::new(alloc))
+        World::with(
+            alloc,
+            stack,
+            heap,
+            input,
+            Held::nowhere(alloc),
+            Names::new(alloc),
+        )
     }
 
     /// A world in which nothing is there yet, and objects will stand at addresses.

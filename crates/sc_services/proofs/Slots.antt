@@ -1,5 +1,5 @@
 -- Parameters without arguments, and calls that are entered with some.
-use Rattle.std.proofs.Common.{◌≡◌, ◌<◌, ℕ, List, [], ◌∷◌, length, refl, true, Result, Ok, Err, Some, arith}
+use Rattle.std.proofs.Common.{◌≡◌, ◌<◌, ℕ, List, [], ◌∷◌, length, refl, true, Result, Ok, Err, arith}
 use Rattle.sc_program.specs.declared.frame.Slot.{Slot}
 use Rattle.sc_isa_image.specs.declared.text.TextAt.{TextAt}
 use Rattle.sc_meaning.specs.Values.{Value}

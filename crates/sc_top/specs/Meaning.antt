@@ -1,5 +1,6 @@
 -- Yardstick: to be compared with what it restates (docs/TRUST.md).
--- A session whose answers are those that the meaning of C gives.
+-- A session whose answers are those that the meaning of C gives its runs of interpreted modules. Of a run in which some module is in
+-- object form nothing is said here (Courses).
 use Rattle.std.specs.Prelude.{◌≡◌, ◌⊎◌, ℕ, false, List, [], ◌∷◌, ◌++◌, Option, None}
 use Rattle.sc_outside.specs.Stored.{FileMap}
 use Rattle.sc_outside.specs.Streams.{AppendsSome}

@@ -1,4 +1,4 @@
-use Rattle.std.proofs.Common.{◌≡◌, ◌<◌, ◌∙◌, length, drop, sym, arith}
+use Rattle.std.proofs.Common.{◌<◌, ◌∙◌, length, drop, sym, arith}
 use Rattle.sc_services.proofs.Slots.{slots_end}
 use Rattle.sc_services.proofs.blocks.set_slots.Goals as goal
 
