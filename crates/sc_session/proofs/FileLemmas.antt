@@ -5,7 +5,7 @@ use Rattle.sc_base.specs.declared.memory.Form.{Form}
 use Rattle.sc_object.specs.declared.object.Object.{Object}
 use Rattle.sc_object.specs.Spelling.{spelled}
 use Rattle.sc_outside.specs.Causes.{Rose}
-use Rattle.sc_outside.specs.Stored.{FileMap, Stores, StoresTold}
+use Rattle.sc_outside.specs.Stored.{FileMap, StoresTold}
 use Rattle.sc_outside.specs.declared.files.FilePut.{FilePut}
 use Rattle.sc_outside.specs.declared.files.FilePut.TheVariants as put
 use Rattle.sc_words.specs.Commands.{IsNamed}
@@ -14,7 +14,6 @@ use Rattle.sc_words.specs.declared.answer.Answer.{Answer}
 use Rattle.sc_words.specs.declared.answer.Answer.TheVariants as answer
 use Rattle.sc_words.specs.declared.command.Command.{Command}
 use Rattle.sc_words.specs.declared.command.Command.TheVariants as command
-use Rattle.sc_words.specs.declared.denied.Denied.{Denied}
 use Rattle.sc_words.specs.declared.denied.Denied.TheVariants as denied
 use Rattle.sc_session_conflicts.specs.Clashes.{is_present}
 use Rattle.sc_session.specs.declared.present.Present.{Present}

@@ -17,8 +17,8 @@ use Rattle.sc_world.specs.declared.post.Unsent.{Unsent}
 use Rattle.sc_session.specs.declared.present.Present.{Present}
 use Rattle.sc_session.specs.declared.state.State.{State}
 use Rattle.sc_session.specs.declared.state.State.TheVariants as state
-use Rattle.sc_session.specs.Going.{Gains, InputDenied, IsGoing, IsInput, WalksOut, has_main, in_state}
-use Rattle.sc_session.specs.Mixing.{IsActive, IsGivenUp, MixedBegins, MixedGoes, MixedIn, MixedShowsCalls, MixedShowsValue, MixedTellsCalls, MixedTellsValue, MixedWalks, MixedWent, ShowsCallsBy, ShowsValueBy, is_mixed, mixed_state}
+use Rattle.sc_session.specs.Going.{InputDenied, IsGoing, IsInput, WalksOut, has_main, in_state}
+use Rattle.sc_session.specs.Mixing.{IsActive, MixedBegins, MixedGoes, MixedIn, MixedShowsCalls, MixedShowsValue, MixedTellsCalls, MixedTellsValue, MixedWalks, MixedWent, ShowsCallsBy, ShowsValueBy, is_mixed, mixed_state}
 use Rattle.sc_session.specs.Modules.{texts}
 use Rattle.sc_session.specs.Plain.{Plain}
 use Rattle.sc_session.specs.Showing.{ShowsCalls, ShowsValue}

@@ -1,8 +1,6 @@
 -- A go that sends while it goes on, as the code comes to it.
 use Rattle.std.proofs.Common.{◌≡◌, ◌≤◌, ◌<◌, ◌+◌, ◌-◌, inl, inr, ℕ, zero, suc, Bool, true, false, List, [], ◌∷◌, ◌++◌, length, length-append, drop, take, Option, Some, None, Result, Ok, Err, MatchResult, refl, ap, sym, subst, ◌∙◌, arith}
 use Rattle.std.proofs.lemmas.List.{append_cancel_right, length-drop, take-append-drop}
-use Rattle.std.specs.Io.KnownBytes.{Appends}
-use Rattle.std.specs.Prelude.{◌⊎◌}
 use Rattle.sc_meaning.specs.Behaviour.{Start}
 use Rattle.sc_meaning.specs.Versions.{Text}
 use Rattle.sc_meaning.specs.World.{World}
@@ -36,7 +34,7 @@ use Rattle.sc_outside.specs.Stored.{FileMap}
 use Rattle.sc_session_forms.specs.Forms.{are_sources}
 use Rattle.sc_world.specs.declared.post.Unsent.{Unsent}
 use Rattle.sc_world.specs.declared.post.Unsent.TheVariants as unsent
-use Rattle.sc_session.specs.Going.{IsWorldOf, Says, Told, ToldBehind, KeepsFew, Went, Gains, stays_in_line, is_told, IsKnown, cut_off, IsCutOff, IsUntold, Loses, IsFirstOf, RunsIn, Walks, WalkFirst, WalksOut, Begins, BeginFirst, BeginsSo, BeginsOut, state_after, run_of, in_state, has_main, IsInput, InputDenied}
+use Rattle.sc_session.specs.Going.{IsWorldOf, Says, Told, ToldBehind, KeepsFew, Went, Gains, stays_in_line, is_told, IsKnown, cut_off, IsCutOff, IsUntold, Loses, IsFirstOf, RunsIn, WalkFirst, WalksOut, BeginFirst, BeginsSo, BeginsOut, state_after, run_of, in_state, has_main, IsInput, InputDenied}
 use Rattle.sc_session.specs.Mixing.{WalksBy, is_mixed}
 use Rattle.sc_session.specs.Modules.{texts}
 use Rattle.sc_session.specs.Plain.{Plain}

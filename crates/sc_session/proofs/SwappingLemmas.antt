@@ -4,19 +4,17 @@ use Rattle.std.proofs.lemmas.Bool.Decides.{nat_tests}
 use Rattle.sc_base.specs.declared.memory.Form.TheVariants as form
 use Rattle.sc_object.specs.Spelling.{spelled}
 use Rattle.sc_object.specs.declared.object.Object.{Object}
-use Rattle.sc_outside.specs.declared.files.FileGot.TheVariants as got
-use Rattle.sc_outside.specs.Stored.{FileMap, FindsTold}
+use Rattle.sc_outside.specs.Stored.{FileMap}
 use Rattle.sc_session_forms.specs.Differences.{difference}
 use Rattle.sc_session.specs.declared.swapping.Compared.{Compared}
 use Rattle.sc_session.specs.declared.swapping.Compared.TheVariants as compared
 use Rattle.sc_session.specs.Compiling.{object_file}
 use Rattle.sc_session.specs.Modules.{object_named}
 use Rattle.sc_session.specs.Plain.{Plain}
-use Rattle.sc_session.specs.Swapping.{Compares, ComparesBytes, DiffersSo, HasBytes, IsFirst, NotOursSaid}
+use Rattle.sc_session.specs.Swapping.{Compares, ComparesBytes, HasBytes, NotOursSaid}
 use Rattle.sc_session.specs.Transcript.{IsKept, Moment, Reforms, Swaps, moment}
 use Rattle.sc_words.specs.declared.answer.Answer.{Answer}
 use Rattle.sc_words.specs.declared.answer.Answer.TheVariants as answer
-use Rattle.sc_words.specs.declared.denied.Area.{Area}
 use Rattle.sc_words.specs.declared.denied.Denied.{Denied}
 use Rattle.sc_words.specs.declared.denied.Denied.TheVariants as denied
 

@@ -10,7 +10,6 @@ use Rattle.sc_outside.specs.declared.files.FilePut.TheVariants as put
 use Rattle.sc_words.specs.Parts.{is_module_name}
 use Rattle.sc_words.specs.declared.answer.Answer.{Answer}
 use Rattle.sc_words.specs.declared.answer.Answer.TheVariants as answer
-use Rattle.sc_words.specs.declared.denied.Denied.{Denied}
 use Rattle.sc_words.specs.declared.denied.Denied.TheVariants as denied
 use Rattle.sc_session.specs.Modules.{object_named}
 use Rattle.sc_session.specs.Plain.{Plain}

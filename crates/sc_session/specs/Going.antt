@@ -1,7 +1,7 @@
 -- Yardstick: to be compared with what it restates (docs/TRUST.md).
 -- What a run answers that begins or goes on, and how the session stands behind it.
 use Rattle.std.specs.Io.KnownBytes.{Appends}
-use Rattle.std.specs.Prelude.{◌≡◌, ◌≢◌, ◌<◌, ◌≤◌, ◌⊎◌, ℕ, ◌+◌, ◌-◌, ◌==◌, not, Bool, true, false, List, [], ◌∷◌, ◌++◌, length, take, drop, slice_get, Option, Some, None, Result, Ok, Err}
+use Rattle.std.specs.Prelude.{◌≡◌, ◌≢◌, ◌<◌, ◌≤◌, ◌⊎◌, ℕ, ◌+◌, ◌-◌, ◌==◌, not, Bool, true, false, List, [], ◌++◌, length, take, drop, slice_get, Option, Some, None, Result, Ok, Err}
 use Rattle.sc_meaning.specs.Behaviour.{Start, main_key}
 use Rattle.sc_meaning.specs.Versions.{Text, Callee, callee_of, Missing}
 use Rattle.sc_meaning.specs.World.{World}

@@ -1,5 +1,5 @@
 -- Files without a difference are the same.
-use Rattle.std.proofs.Common.{◌≡◌, ◌<◌, ℕ, zero, suc, ◌+◌, ◌==◌, length, drop, if◌then◌else◌, true, false, Bool, List, [], ◌∷◌, Option, Some, None, refl, ap, ap₂, sym, ◌∙◌, arith}
+use Rattle.std.proofs.Common.{◌≡◌, ◌<◌, ℕ, zero, suc, ◌+◌, ◌==◌, length, drop, if◌then◌else◌, true, false, Bool, List, [], ◌∷◌, Some, None, refl, ap₂, sym, arith}
 use Rattle.std.proofs.lemmas.Bool.Decides.{nat_tests}
 use Rattle.sc_session_forms.specs.Differences.{difference, difference_from}
 

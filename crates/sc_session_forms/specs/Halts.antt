@@ -1,6 +1,6 @@
 -- Yardstick: to be compared with what it restates (docs/TRUST.md).
 -- What is said of where a run of both forms halted.
-use Rattle.std.specs.Prelude.{◌≡◌, ℕ, ◌<◌, ◌+◌, ◌*◌, ◌/◌, ◌%◌, nat_lt, if◌then◌else◌, List, [], ◌∷◌, ◌++◌, drop, Option, Some, codes, decimal}
+use Rattle.std.specs.Prelude.{◌≡◌, ℕ, ◌+◌, ◌/◌, ◌%◌, nat_lt, if◌then◌else◌, List, [], ◌∷◌, ◌++◌, drop, Option, Some, codes}
 use Rattle.sc_emu.specs.declared.outcome.Crash.{Crash}
 use Rattle.sc_emu.specs.declared.outcome.Crash.TheVariants as crash
 use Rattle.sc_interp_access.specs.declared.ended.Ended.TheVariants as ended

@@ -1,8 +1,8 @@
-use Rattle.std.proofs.Common.{true, false, refl, ap, ◌∙◌}
+use Rattle.std.proofs.Common.{refl}
 use Rattle.sc_session_forms.specs.Forms.{are_sources}
 use Rattle.sc_session.specs.Modules.{texts}
 use Rattle.sc_session.specs.Transcript.{moment}
-use Rattle.sc_session.proofs.MixingLemmas.{runs_mixed, runs_neither, runs_source}
+use Rattle.sc_session.proofs.MixingLemmas.{runs_neither}
 use Rattle.sc_session.proofs.session.Session.run.Goals as goal
 
 pub returns-in_default-clause-runs : goal.returns-in_default-clause-runs
