@@ -55,10 +55,10 @@ goes_walks session inside w (answer.Ran text) new is there g = (w, there, went s
 goes_walks session inside w answer.NoMemory new is there g = inr (g ∙ is)
 goes_walks session inside w _ new is there g = absurd g
 
-pub goes_begins : (session inside : Plain) (w : World) (said : Answer) (new : Plain) → inside ≡ in_state state.Ended session → MixedGoes inside w said new → MixedBegins session said new
-goes_begins session inside w (answer.Ran text) new is g = (w, went session inside w text new is g)
-goes_begins session inside w answer.NoMemory new is g = inr (g ∙ is)
-goes_begins session inside w _ new is g = absurd g
+pub goes_begins : (session inside : Plain) (w : World) (said : Answer) (new : Plain) → inside ≡ in_state state.Ended session → output w.trail ≡ [] → MixedGoes inside w said new → MixedBegins session said new
+goes_begins session inside w (answer.Ran text) new is empty g = (w, empty, went session inside w text new is g)
+goes_begins session inside w answer.NoMemory new is empty g = inr (g ∙ is)
+goes_begins session inside w _ new is empty g = absurd g
 
 -- another state was put into a session
 pub put_so : (v old : Plain) (s t : State) → v ≡ old → s ≡ t → record v { state = s } ≡ in_state t old

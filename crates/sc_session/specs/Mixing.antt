@@ -78,9 +78,9 @@ abbrev pub WalksBy : Bool → Plain → Walk → List ℕ → Answer → Plain �
 WalksBy false session how front said new = Walks session how front said new
 WalksBy true session how front said new = (front ≡ []) × MixedWalks session said new
 
--- a run of both forms goes from its start on; or the image of the modules has no room
+-- a run of both forms goes from its start on, before which nothing was written; or the image of the modules has no room
 abbrev pub MixedBegins : Plain → Answer → Plain → Type 0
-MixedBegins session (answer.Ran text) new = (w : World) × MixedWent session w text new
+MixedBegins session (answer.Ran text) new = (w : World) × (output w.trail ≡ []) × MixedWent session w text new
 MixedBegins session (answer.Refused (denied.Space a)) new = (new ≡ session) × LacksRoom session.modules session.numbers a
 MixedBegins session answer.NoMemory new = IsGivenUp session new
 MixedBegins session _ new = ⊥

@@ -1,5 +1,6 @@
 // A run of both forms in a session.
-ghost use Rattle.std.specs.Prelude.{◌≡◌, true, IfOk};
+ghost use Rattle.std.specs.Prelude.{◌≡◌, true, [], IfOk};
+ghost use Rattle.sc_interp_world.specs.Outputs.{output};
 ghost use Rattle.sc_session_forms.specs.Calls as calls;
 ghost use Rattle.sc_session.specs.Mixing as spec;
 ghost use Rattle.sc_session.specs.Modules as held;
@@ -56,6 +57,16 @@ pub fn mixed_out_of(state: State) -> MixedRun
         State::Stopped(_) => unreachable!(),
         State::Paused(_) => unreachable!(),
         State::Ended => unreachable!(),
+    }
+}
+
+/// Whether the program of a run wrote nothing yet.
+pub fn is_fresh(run: &MixedRun) -> bool
+    ensures { result ≡ true → output run.now.trail ≡ [] }
+{
+    match run.output() {
+        [] => true,
+        [_, ..] => false,
     }
 }
 

@@ -13,7 +13,7 @@ ghost use Rattle.sc_world.specs.declared.post.Unsent.TheVariants as unsent;
 use crate::going::{Lost, gone, has_main, run_out_of};
 use crate::input::{Input, input_of};
 use crate::linking::{ImageFault, linked};
-use crate::mixing::{is_mixed, mixed_out_of, mixed_state};
+use crate::mixing::{is_fresh, is_mixed, mixed_out_of, mixed_state};
 use crate::present::texts_of;
 use crate::session::Session;
 use crate::state::{State, put_state};
@@ -215,6 +215,11 @@ impl Session {
         let Ok(run) = MixedRun::start(alloc, texts.as_slice(), image, stack, heap, input) else {
             return Answer::NoMemory;
         };
+        // No start of a run writes: this cannot be.
+        if !is_fresh(&run) {
+            drop(run);
+            return Answer::NoMemory;
+        }
         put_state(&mut self.state, State::Ended);
         self.go_mixed(alloc, texts.as_slice(), stops.as_slice(), Walk::Cont, run)
     }
