@@ -48,12 +48,7 @@ fn dead_unless_kept(
     }
 }
 
-fn deaths(
-    old: &[Text],
-    new: &[Text],
-    ids: &[StaticId],
-    world: &mut World,
-) -> Result<(), NoMemory>
+fn deaths(old: &[Text], new: &[Text], ids: &[StaticId], world: &mut World) -> Result<(), NoMemory>
     ensures { IfOk result (λ _. world.new ≡ spec.deaths old.now new.now ids.now world.old) }
 {
     for id in ids {

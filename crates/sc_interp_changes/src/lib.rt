@@ -2,11 +2,9 @@
 //! die, and which are born. It does exactly what the definition says. It may be slow.
 #![tactic(auto)]
 
-
 mod contents;
 mod follow;
 mod kept;
-
 
 pub use contents::same_contents;
 pub use follow::change;
