@@ -2,6 +2,7 @@
 #![tactic(auto)]
 
 mod begin;
+mod change;
 mod cost;
 mod count;
 mod course;

@@ -4,6 +4,7 @@ ghost use Rattle.sc_meaning.specs.Behaviour as behaviour;
 ghost use Rattle.sc_meaning.specs.World as worlds;
 ghost use Rattle.sc_interp.specs.Ends.{end_of, start_of};
 ghost use Rattle.sc_interp_world.specs.Outputs.{output};
+ghost use Rattle.sc_world.specs.Changing.{changed_run};
 ghost use Rattle.sc_world.specs.Declaring.{declaring_at};
 ghost use Rattle.sc_world.specs.Goes.{Goes, started, want_of};
 ghost use Rattle.sc_world.specs.Meant.{IsRunOf};
@@ -15,6 +16,7 @@ ghost use Rattle.sc_world.specs.declared.post.Unsent.TheVariants as unsent;
 ghost use Rattle.sc_outside.specs.Causes.{Rose};
 
 use crate::begin::{begun, course_of};
+use crate::change::changed;
 use crate::count::Count;
 use crate::course::Course;
 use crate::declaring::declaring_of;
@@ -144,6 +146,23 @@ impl Run {
             }
             Err(unsent) => Err(unsent),
         }
+    }
+
+    /// The texts of the run become others, while it stands between two goes. Of the static objects those that are not kept die, and new
+    /// ones are born. The run goes on from the same place, or is over as one object too many would be born. Active calls go on in the
+    /// functions that they entered. A run that is over stays as it is.
+    ///
+    /// # Errors
+    ///
+    /// `NoMemory` alone. The run is over then, and nothing is known of it.
+    pub fn change(&mut self, old: &[Text], new: &[Text]) -> Result<(), NoMemory>
+        ensures changes { IfOk result (λ _. self.new ≡ changed_run old.now new.now self.old) }
+        ensures lost { OnErr result (self.new ≡ None) }
+    {
+        let course = mem::replace(&mut self.course, Course::Over(Ended::NoRoom));
+        let next = changed(course, old, new, &mut self.world)?;
+        drop(mem::replace(&mut self.course, next));
+        Ok(())
     }
 
     /// How the run ended, where it is over.
