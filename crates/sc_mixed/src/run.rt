@@ -25,7 +25,7 @@ use std::mem;
 
 /// How a run stands: it goes on, where what was shown is still to be looked at; or it is over.
 #[derive(Drop)]
-enum Course {
+pub(crate) enum Course {
     On(Next, Shown),
     Over(MixedEnd),
 }
@@ -33,10 +33,10 @@ enum Course {
 /// A run of a program of both forms: its world, seen as the meaning's; its image; its calls; and how it goes on, or how it ended.
 #[derive(Drop)]
 pub struct MixedRun {
-    world: World,
-    image: Image,
-    calls: Calls,
-    course: Course,
+    pub(crate) world: World,
+    pub(crate) image: Image,
+    pub(crate) calls: Calls,
+    pub(crate) course: Course,
 }
 
 impl Model for MixedRun {
@@ -204,7 +204,7 @@ impl MixedRun {
     }
 
     // The run is over.
-    fn over(&mut self, end: MixedEnd) {
+    pub(crate) fn over(&mut self, end: MixedEnd) {
         drop(mem::replace(&mut self.course, Course::Over(end)));
     }
 

@@ -136,7 +136,7 @@ fn serve_leave(image: &Image, calls: &mut Calls, world: &mut World) -> Result<Mo
 }
 
 fn serve_fall(image: &Image, calls: &mut Calls, world: &mut World) -> Result<Moved, Break> {
-    let came = fall(image, world)?;
+    let came = fall(&calls.regs, image, world)?;
     left(came, Answer::nothing(), calls, world)
 }
 
