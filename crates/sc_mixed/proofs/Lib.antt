@@ -1,1 +1,5 @@
-pub mod Writing
+pub mod Running
+pub mod Serving
+pub mod Starts
+pub mod Resting
+pub mod Reaching

@@ -6,12 +6,17 @@ mod begin;
 mod bridge;
 mod broken;
 mod calls;
+mod course;
 mod ended;
 mod execute;
+mod going;
 mod layout;
 mod moves;
+mod rest;
 mod run;
 mod serve;
+mod service;
+mod turn;
 
 pub use ended::MixedEnd;
 pub use run::MixedRun;
