@@ -3,3 +3,6 @@ pub mod Serving
 pub mod Starts
 pub mod Resting
 pub mod Reaching
+pub mod Stepping
+pub mod Sources
+pub mod Growing

@@ -11,7 +11,7 @@ use Rattle.sc_meaning.specs.World.{World, ComesBack, pass}
 use Rattle.sc_world.specs.Wants.{Want, else_over, else_paused, halt_if, wanted}
 use Rattle.sc_world.specs.declared.halt.Halt.{Halt}
 use Rattle.sc_world.specs.declared.halt.Halt.TheVariants.{Ended, Paused}
-use Rattle.sc_mixed.specs.Goes.{Goes, Reaches, is_lost, reaches_here, rested, rested_by, rested_in, rests, rests_at, rests_in}
+use Rattle.sc_mixed.specs.Goes.{Goes, Reaches, lost_at, reaches_here, rested, rested_by, rested_in, rests, rests_at, rests_in}
 use Rattle.sc_mixed.specs.Parts.{ClosesSo, Comes, ComesBackSo, else_rests, standing_at}
 use Rattle.sc_mixed.specs.Standing.{Standing, ended_by, standing_on, standing_over, status_at}
 use Rattle.sc_mixed.specs.declared.broken.Break.{Break}
@@ -51,7 +51,7 @@ closes_by (Some status) i c w v next course p = come_back status i c w v next co
 
 left_there : (texts : List Text) (want : Want) (first : Standing) (i : Image) (c : Calls) (w v : World) (next : Next) (now : Shown) (took : ℕ) (halt : Halt) (course : Course) → Reaches texts want first took (standing_on i c w next now) → rests_in want took c w (On next now) ≡ Some halt → (standing_at i c v course ≡ rested_by (status_at next c) i c w next) ⊎ (course ≡ Over (mixed.Meant ended.NoRoom)) → Goes texts want first halt (standing_at i c v course)
 left_there texts want first i c w v next now took halt course reach is (inl p) = rests_at took (standing_on i c w next now) reach is p
-left_there texts want first i c w v next now took halt course reach is (inr p) = is_lost p
+left_there texts want first i c w v next now took halt course reach is (inr p) = lost_at took (standing_on i c w next now) reach is p
 
 -- it rests where something ends its go
 pub rests_so : (texts : List Text) (want : Want) (first : Standing) (i : Image) (c : Calls) (w v : World) (next : Next) (halt : Halt) (course : Course) → ClosesSo (status_at next c) next w course v → Comes texts i want first (turned.Rests halt) next c w → Goes texts want first halt (standing_at i c v course)

@@ -60,11 +60,11 @@ pub data Reaches (texts : List Text) (want : Want) (first : Standing) : ℕ → 
   reaches_here : Reaches texts want first 0 first
   reaches_further : (took turns : ℕ) (m n : Standing) → Reaches texts want first took m → rests want took m ≡ None → Leads texts turns m n → Reaches texts want first (took + turns) n
 
--- A go halts so, and leaves the run there: its moves reach a place that ends it with this halt, and the run rests there. Of a run for which no
--- room was left as it came to rest nothing more is said.
+-- A go halts so, and leaves the run there: its moves reach a place that ends it with this halt, and the run rests there. Where no room was
+-- left for the run as it came to rest, nothing more is said of it.
 pub data Goes (texts : List Text) (want : Want) (first : Standing) (halt : Halt) (last : Standing) : Type 0 where
   rests_at : (took : ℕ) (m : Standing) → Reaches texts want first took m → rests want took m ≡ Some halt → last ≡ rested m → Goes texts want first halt last
-  is_lost : IsLost last → Goes texts want first halt last
+  lost_at : (took : ℕ) (m : Standing) → Reaches texts want first took m → rests want took m ≡ Some halt → IsLost last → Goes texts want first halt last
 
 -- what a go from here halts at, by these stops and this walk, and how many turns it may take
 abbrev pub want_from : List StopAt → Walk → ℕ → Standing → Want

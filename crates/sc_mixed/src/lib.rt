@@ -10,6 +10,7 @@ mod course;
 mod ended;
 mod execute;
 mod going;
+mod laws;
 mod layout;
 mod moves;
 mod rest;
@@ -19,4 +20,5 @@ mod service;
 mod turn;
 
 pub use ended::MixedEnd;
+pub use laws::{interpreted_programs_go_as_before, moves_add_to_what_happened};
 pub use run::MixedRun;

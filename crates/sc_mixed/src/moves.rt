@@ -54,12 +54,12 @@ fn stepped(
     before: Before,
     going: &Going,
     world: &World,
-) -> Result<Moved, Stop>
+) -> Result<Moved, NoMemory>
     ensures { (s t : runs.State) (cs : List Waiting) → IsBefore before s → t ≡ state_of going.now cs world.now → IfOk result (λ moved. (moved.shown ≡ shown) × (moved.turns ≡ cost s t)) }
 {
     match touched_on(before, going, world).checked_add(1) {
         Some(turns) => Ok(Moved { shown, turns }),
-        None => Err(Stop::NoRoom),
+        None => Err(NoMemory),
     }
 }
 
@@ -76,7 +76,7 @@ fn step(
     match step_run(texts, going, &mut calls.callers, world) {
         Ok(shown) => match stepped(shown, before, going, world) {
             Ok(moved) => Ok(moved),
-            Err(stop) => Err(Break::Meant(stop)),
+            Err(_) => Err(Break::Meant(Stop::NoRoom)),
         },
         Err(stop) => Err(Break::Meant(stop)),
     }
