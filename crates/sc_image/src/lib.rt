@@ -18,7 +18,7 @@ pub use linking::image_of;
 pub use module::Linking;
 pub use placing::place_modules;
 pub use room::full_area;
-pub use running::Placing;
+pub use running::Placements;
 
 #[cfg(test)]
 mod tests;

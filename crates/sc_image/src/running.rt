@@ -22,11 +22,11 @@ use std::marker::Model;
 /// Where the modules of a run are placed since its start: all entries in their order, seen as the list of them. Former texts stay
 /// where they are, since calls in progress may still use them; what is new is placed behind all others.
 #[derive(Drop)]
-pub struct Placing {
+pub struct Placements {
     entries: Items<Placed>,
 }
 
-impl Model for Placing {
+impl Model for Placements {
     ghost use Rattle.std.specs.Prelude.{List};
     ghost use Rattle.sc_link.specs.declared.placed.Placed.{Placed};
 
@@ -35,13 +35,13 @@ impl Model for Placing {
     ghost view = { λ p. p.entries };
 }
 
-impl Placing {
+impl Placements {
     /// Modules as a run begins with them: each is placed behind those before it. `Space` names an area that has no room for them.
     pub fn start(
         alloc: Global,
         modules: &[Linking],
         functions: &[Key],
-    ) -> Result<Placing, LinkFault>
+    ) -> Result<Placements, LinkFault>
         ensures placed { IfOk result (λ p. p ≡ placed_modules modules.now) }
         ensures short { IfErr result (IsShort modules.now functions.now) }
     {
@@ -49,7 +49,7 @@ impl Placing {
             return Err(LinkFault::Space(area));
         }
         match place_modules(alloc, modules) {
-            Ok(entries) => Ok(Placing { entries }),
+            Ok(entries) => Ok(Placements { entries }),
             Err(_) => Err(LinkFault::NoMemory),
         }
     }
@@ -62,11 +62,11 @@ impl Placing {
     }
 
     /// The same list.
-    pub fn copy(&self, alloc: Global) -> Result<Placing, NoMemory>
+    pub fn copy(&self, alloc: Global) -> Result<Placements, NoMemory>
         ensures { IfOk result (λ p. p ≡ self.now) }
     {
         let entries = copies(alloc, self.entries.as_slice())?;
-        Ok(Placing { entries })
+        Ok(Placements { entries })
     }
 
     /// A module more, or in the place of the present one of its name, whose entry becomes a former one. It is placed behind all
@@ -81,7 +81,7 @@ impl Placing {
         module: &Linking,
         kept: &[Key],
         functions: &[Key],
-    ) -> Result<Placing, LinkFault>
+    ) -> Result<Placements, LinkFault>
         ensures ok { IfOk result (λ p. p ≡ spec.with_module self.now «module».now kept.now) }
         ensures short { IfErr result (spec.IsShortOf self.now functions.now «module».now (spec.kept_places self.now «module».now kept.now)) }
     {
@@ -104,7 +104,7 @@ impl Placing {
         name: &Name,
         form: Form,
         functions: &[Key],
-    ) -> Result<Placing, LinkFault>
+    ) -> Result<Placements, LinkFault>
         ensures ok { IfOk result (λ p. p ≡ spec.in_form name.now form self.now) }
         ensures short { IfErr result (spec.IsShortIn (spec.present name.now self.now) self.now functions.now form) }
     {
@@ -119,11 +119,11 @@ impl Placing {
     }
 
     /// The present module of a name is gone: its entry becomes a former one.
-    pub fn without(&self, alloc: Global, name: &Name) -> Result<Placing, NoMemory>
+    pub fn without(&self, alloc: Global, name: &Name) -> Result<Placements, NoMemory>
         ensures { IfOk result (λ p. p ≡ spec.without name.now self.now) }
     {
         let entries = without(alloc, self.entries.as_slice(), name)?;
-        Ok(Placing { entries })
+        Ok(Placements { entries })
     }
 
     /// The image of these entries and of the functions by their numbers. `Space` names an area that has no room.
@@ -227,7 +227,7 @@ fn with_entry(
     module: &Linking,
     keeps: &[Option<u32>],
     functions: &[Key],
-) -> Result<Placing, LinkFault>
+) -> Result<Placements, LinkFault>
     ensures ok { IfOk result (λ p. p ≡ spec.with_entry placed.now «module».now keeps.now) }
     ensures short { IfErr result (spec.IsShortOf placed.now functions.now «module».now keeps.now) }
 {
@@ -236,7 +236,7 @@ fn with_entry(
         Err(fault) => return Err(fault),
     };
     match followed(alloc, placed, entry) {
-        Ok(entries) => Ok(Placing { entries }),
+        Ok(entries) => Ok(Placements { entries }),
         Err(_) => Err(LinkFault::NoMemory),
     }
 }
@@ -273,7 +273,7 @@ fn in_form(
     entry: &Placed,
     form: Form,
     functions: &[Key],
-) -> Result<Placing, LinkFault>
+) -> Result<Placements, LinkFault>
     ensures ok { IfOk result (λ p. p ≡ spec.formed_by (Some entry.now) form placed.now) }
     ensures short { IfErr result (spec.IsShortIn (Some entry.now) placed.now functions.now form) }
 {

@@ -1,11 +1,11 @@
 -- Objects whose bytes are written one after another, and what their bytes are not.
-use Rattle.std.proofs.Common.{◌≡◌, ◌⊎◌, ℕ, zero, suc, ◌+◌, ◌-◌, ◌<◌, ◌≤◌, ◌||◌, Bool, true, false, List, [], ◌∷◌, ◌++◌, length, map, set, take, drop, replicate, refl, sym, ap, subst, ◌∙◌, Option, Some, None, arith, true≢false}
+use Rattle.std.proofs.Common.{◌≡◌, ℕ, zero, suc, ◌+◌, ◌||◌, Bool, true, false, List, [], ◌∷◌, ◌++◌, length, map, set, take, drop, replicate, refl, sym, ap, subst, ◌∙◌, Option, Some, arith, true≢false}
 use Rattle.std.specs.List.{slice_get, list_any}
 use Rattle.std.proofs.lemmas.List.{append-nil, append_assoc, length-replicate, drop_all}
 use Rattle.sc_meaning.specs.Values.{Cell, Unwritten}
 use Rattle.sc_meaning.specs.World.{Object, object_at, fresh, written, overwritten}
 use Rattle.sc_mem_store.specs.Stray.{is_stray, HasNoStray}
-use Rattle.sc_interp_world.specs.Blanks.{blank, blank_if, is_stray_if, is_stray_in}
+use Rattle.sc_interp_world.specs.Blanks.{blank, blank_if, filled, filled_if, is_stray_if, is_stray_in}
 
 set-behind : (done : List Object) (o p : Object) (more : List Object) → set (done ++ o ∷ more) (length done) p ≡ done ++ p ∷ more
 set-behind [] o p more = refl
@@ -26,7 +26,7 @@ blank-dead o dead = ap (λ b. blank_if b o) dead
 blank-live : (o : Object) → o.live ≡ true → blank o ≡ fresh o.size o.kind
 blank-live o live = ap (λ b. blank_if b o) live
 
-pub filled_dead : (o : Object) (done more old : List Object) → o.live ≡ false → old ≡ done ++ blank o ∷ more → old ≡ done ++ o ∷ more
+filled_dead : (o : Object) (done more old : List Object) → o.live ≡ false → old ≡ done ++ blank o ∷ more → old ≡ done ++ o ∷ more
 filled_dead o done more old dead e = e ∙ ap (λ (x : Object). done ++ x ∷ more) (blank-dead o dead)
 
 -- a live object whose bytes are written over unwritten ones
@@ -42,7 +42,7 @@ fill-fresh o done more live size =
     ∙ set-behind done (fresh o.size o.kind) (record (fresh o.size o.kind) { cells = o.cells }) more
     ∙ ap (λ (x : Object). done ++ x ∷ more) (full o live)
 
-pub filled_live : (o : Object) (cells : List Cell) (done more old new : List Object) (id : ℕ) → o.live ≡ true → cells ≡ o.cells → length cells ≡ o.size → old ≡ done ++ blank o ∷ more → id ≡ length done + 1 → new ≡ written old id 0 cells (object_at old id) → new ≡ done ++ o ∷ more
+filled_live : (o : Object) (cells : List Cell) (done more old new : List Object) (id : ℕ) → o.live ≡ true → cells ≡ o.cells → length cells ≡ o.size → old ≡ done ++ blank o ∷ more → id ≡ length done + 1 → new ≡ written old id 0 cells (object_at old id) → new ≡ done ++ o ∷ more
 filled_live o cells done more old new id live same size e at n =
     let is : old ≡ done ++ fresh o.size o.kind ∷ more = e ∙ ap (λ (x : Object). done ++ x ∷ more) (blank-live o live) in
     let number : id ≡ suc (length done) = omega arith in
@@ -68,24 +68,29 @@ size-at [] i o g = absurd (cc g)
 size-at (p ∷ os) zero o g = refl
 size-at (p ∷ os) (suc i) o g = ap suc (size-at os i o g)
 
+filled-one : (b : Bool) (o : Object) (done more now new : List Object) (id : ℕ) → o.live ≡ b → now ≡ done ++ blank o ∷ more → id ≡ length done + 1
+    → new ≡ filled_if b o id now → (b ≡ true → length o.cells ≡ o.size) → new ≡ done ++ o ∷ more
+filled-one true o done more now new id live e at n full = filled_live o o.cells done more now new id live refl (full refl) e at n
+filled-one false o done more now new id dead e at n full = n ∙ filled_dead o done more now dead e
+
 more-filled : (os now new : List Object) (i id : ℕ) (o : Object) → now ≡ take i os ++ map blank (drop i os) → slice_get os i ≡ Some o → id ≡ suc i
-    → ((done more : List Object) → now ≡ done ++ blank o ∷ more → id ≡ length done + 1 → new ≡ done ++ o ∷ more)
+    → new ≡ filled o id now → (o.live ≡ true → length o.cells ≡ o.size)
     → new ≡ take (suc i) os ++ map blank (drop (suc i) os)
-more-filled os now new i id o e g at fills =
+more-filled os now new i id o e g at n full =
     let rest : List Object = map blank (drop (suc i) os) in
     let size = size-at os i o g in
     let is : now ≡ take i os ++ blank o ∷ rest = e ∙ ap (λ (xs : List Object). take i os ++ map blank xs) (drop-at os i o g) in
-    fills (take i os) rest is (omega arith)
-    ∙ append_assoc (take i os) (o ∷ []) rest
+    filled-one o.live o (take i os) rest now new id refl is (omega arith) n full
+    ∙ sym (append_assoc (take i os) (o ∷ []) rest)
     ∙ ap (λ (xs : List Object). xs ++ rest) (sym (take-at os i o g))
 
 pub fill_step : (os now new : List Object) (i id next : ℕ) (o : Object) → now ≡ take i os ++ map blank (drop i os) → id ≡ i → slice_get os i ≡ Some o → next ≡ id + 1
-    → ((done more : List Object) → now ≡ done ++ blank o ∷ more → next ≡ length done + 1 → new ≡ done ++ o ∷ more)
+    → new ≡ filled o next now → (o.live ≡ true → length o.cells ≡ o.size)
     → (new ≡ take (i + 1) os ++ map blank (drop (i + 1) os)) × (next ≡ i + 1)
-fill_step os now new i id next o e at g up fills =
+fill_step os now new i id next o e at g up n full =
     let number : next ≡ suc i = omega arith in
     let one : suc i ≡ i + 1 = omega arith in
-    (subst (λ k. new ≡ take k os ++ map blank (drop k os)) one (more-filled os now new i next o e g number fills), omega arith)
+    (subst (λ k. new ≡ take k os ++ map blank (drop k os)) one (more-filled os now new i next o e g number n full), omega arith)
 
 -- no byte is stray where none is found
 or-false : (a b : Bool) → (a || b) ≡ false → (a ≡ false) × (b ≡ false)

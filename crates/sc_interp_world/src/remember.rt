@@ -1,5 +1,5 @@
 // The objects of a run that had no memory get one.
-ghost use Rattle.std.specs.Prelude.{◌≡◌, ◌+◌, ◌∷◌, ◌++◌, [], false, length, List, map, IfOk, IsTrue};
+ghost use Rattle.std.specs.Prelude.{◌≡◌, ◌++◌, ◌∷◌, [], false, length, map, true, IfOk};
 ghost use Rattle.std.specs.List.{list_any};
 ghost use Rattle.sc_meaning.specs.World as spec;
 ghost use Rattle.sc_mem_store.specs.Stray.{HasNoStray, is_stray};
@@ -83,7 +83,8 @@ fn place_all(
 
 // The bytes of an object are written, where it lives.
 fn fill(object: &Object, id: u32, memory: &mut Store) -> Result<(), NoMemory>
-    ensures { IfOk result (λ _. (done more : List spec.Object) → memory.old ≡ done ++ blanks.blank object.now ∷ more → id ≡ length done + 1 → memory.new ≡ done ++ object.now ∷ more) }
+    ensures filled { IfOk result (λ _. memory.new ≡ blanks.filled object.now id memory.old) }
+    ensures full { IfOk result (λ _. object.now.live ≡ true → length object.now.cells ≡ object.now.size) }
 {
     if !object.live {
         return Ok(());
@@ -152,7 +153,6 @@ fn is_stray_in(object: &Object) -> bool
 }
 
 /// Whether one of them does.
-#[tactic(auto, using(crate::proofs::Filling::no_stray))]
 pub fn has_stray(objects: &[Object]) -> bool
     ensures same { result ≡ list_any blanks.is_stray_in objects.now }
     ensures none { result ≡ false → HasNoStray objects.now }

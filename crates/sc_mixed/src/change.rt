@@ -1,14 +1,20 @@
 // A run of both forms goes over to other texts and another image; and a run of interpreted modules alone becomes one of both forms.
+ghost use Rattle.std.specs.Prelude.{◌≡◌, ◌++◌, IfErr, IfOk, OnErr};
+ghost use Rattle.sc_interp_access.specs.Gives.{Gives};
+ghost use Rattle.sc_meaning.specs.Changes.{changed};
+ghost use Rattle.sc_mixed.specs.Changing as spec;
+ghost use Rattle.sc_mixed.specs.Standing.{IsLost};
 
 use crate::bases::bases_of;
 use crate::broken::{Break, end_of};
 use crate::calls::{Calls, Next};
 use crate::ended::MixedEnd;
 use crate::layout::{names_of, placed_ids, shared_behind};
-use crate::run::{Course, MixedRun};
+use crate::course::Course;
+use crate::run::{MixedRun, no_calls};
 use sc_base::{Duplicate, Items, Key, NoMemory, Stack};
 use sc_core_held::Text;
-use sc_emu::Regs;
+use sc_interp::Caller;
 use sc_interp_access::{Ended, Stop};
 use sc_interp_changes::{change, is_kept};
 use sc_interp_parts::births_of;
@@ -27,7 +33,9 @@ fn add_kept(
     new: &[Text],
     id: &StaticId,
     kept: &mut Items<Key>,
-) -> Result<(), NoMemory> {
+) -> Result<(), NoMemory>
+    ensures { IfOk result (λ _. kept.new ≡ kept.old ++ spec.kept_of old.now new.now id.now) }
+{
     match id {
         StaticId::Literal(_, _) => Ok(()),
         StaticId::Named(key) => {
@@ -40,7 +48,9 @@ fn add_kept(
 }
 
 /// The keys of the objects of static storage duration that stay as one version follows another.
-pub fn kept_keys(alloc: Global, old: &[Text], new: &[Text]) -> Result<Items<Key>, NoMemory> {
+pub fn kept_keys(alloc: Global, old: &[Text], new: &[Text]) -> Result<Items<Key>, NoMemory>
+    ensures { IfOk result (λ keys. keys ≡ spec.kept_keys old.now new.now) }
+{
     let ids = births_of(alloc, old)?;
     let mut kept = Items::new(alloc);
     for id in ids.as_slice() {
@@ -50,7 +60,9 @@ pub fn kept_keys(alloc: Global, old: &[Text], new: &[Text]) -> Result<Items<Key>
 }
 
 // What is born from here on stands where it is placed, and the functions have these numbers.
-fn place_anew(placed: &[Placed], functions: &[Key], world: &mut World) -> Result<(), NoMemory> {
+fn place_anew(placed: &[Placed], functions: &[Key], world: &mut World) -> Result<(), NoMemory>
+    ensures { IfOk result (λ _. world.new ≡ world.old) }
+{
     let alloc = world.alloc();
     let ids = placed_ids(alloc, placed)?;
     let places = names_of(alloc, ids.as_slice())?;
@@ -67,7 +79,9 @@ fn changes(
     placed: &[Placed],
     functions: &[Key],
     world: &mut World,
-) -> Result<(), Stop> {
+) -> Result<(), Stop>
+    ensures { Gives (changed old.now new.now world.old) result world.new }
+{
     place_anew(placed, functions, world)?;
     change(old, new, world)
 }
@@ -75,7 +89,7 @@ fn changes(
 impl MixedRun {
     /// The image of the run is another one from here on. Nothing else changes.
     pub fn relink(&mut self, image: Image)
-        ensures { self.new ≡ self.old }
+        ensures { self.new ≡ record self.old { image = image } }
     {
         drop(mem::replace(&mut self.image, image));
     }
@@ -93,7 +107,10 @@ impl MixedRun {
         new: &[Text],
         placed: &[Placed],
         functions: &[Key],
-    ) -> Result<(), NoMemory> {
+    ) -> Result<(), NoMemory>
+        ensures changes { IfOk result (λ _. spec.ChangesIn self.old.course old.now new.now self.old self.new) }
+        ensures lost { OnErr result (IsLost self.new) }
+    {
         match &self.course {
             Course::Over(_) => return Ok(()),
             Course::On(_, _) => (),
@@ -119,7 +136,9 @@ fn remembered(
     held: &[Text],
     placed: &[Placed],
     functions: &[Key],
-) -> Result<(), NoMemory> {
+) -> Result<(), NoMemory>
+    ensures { run.new ≡ run.old }
+{
     let ids = placed_ids(alloc, placed)?;
     let bases = bases_of(alloc, held, ids.as_slice(), run.world())?;
     let places = names_of(alloc, ids.as_slice())?;
@@ -128,10 +147,41 @@ fn remembered(
 }
 
 // How a run goes on that has become one of both forms.
-fn course_of(course: Went) -> Course {
+fn taken_course(course: Went) -> Course
+    ensures { result ≡ spec.taken_course course }
+{
     match course {
         Went::On(going, shown) => Course::On(Next::Steps(going), shown),
         Went::Over(ended) => Course::Over(MixedEnd::Meant(ended)),
+    }
+}
+
+// The callers of a run, and no compiled call.
+fn taken_calls(alloc: Global, callers: Stack<Caller>) -> Calls
+    ensures { result ≡ spec.taken_calls callers }
+{
+    let mut calls = no_calls(alloc);
+    drop(mem::replace(&mut calls.callers, callers));
+    calls
+}
+
+// The parts of a run as one of both forms.
+#[tactic(auto, using(crate::proofs::Changing::is_taken))]
+fn taken(alloc: Global, run: Run, image: Image) -> MixedRun
+    ensures { spec.IsTakenFrom run image result }
+{
+    let Parts {
+        course,
+        callers,
+        world,
+        count,
+    } = run.apart();
+    let _ = count;
+    MixedRun {
+        world,
+        image,
+        calls: taken_calls(alloc, callers),
+        course: taken_course(course),
     }
 }
 
@@ -149,27 +199,14 @@ pub fn take_over(
     image: Image,
     placed: &[Placed],
     functions: &[Key],
-) -> Result<MixedRun, Run> {
+) -> Result<MixedRun, Run>
+    ensures ok { IfOk result (spec.IsTakenFrom run image) }
+    ensures err { IfErr result (λ back. back ≡ run) }
+{
     let mut run = run;
     if remembered(alloc, &mut run, held, placed, functions).is_err() {
         drop(image);
         return Err(run);
     }
-    let Parts {
-        course,
-        callers,
-        world,
-        ..
-    } = run.apart();
-    Ok(MixedRun {
-        world,
-        image,
-        calls: Calls {
-            callers,
-            lower: Stack::new(alloc),
-            given: None,
-            regs: Regs::new(),
-        },
-        course: course_of(course),
-    })
+    Ok(taken(alloc, run, image))
 }
