@@ -10,7 +10,8 @@ use Rattle.sc_world.specs.Goes.{started}
 use Rattle.sc_world.specs.Meant.{IsRunOf}
 use Rattle.sc_world.specs.Standing.{Standing}
 use Rattle.sc_session.specs.declared.state.State.{State}
-use Rattle.sc_session.specs.Going.{Went, RunsIn, Walks, Begins, run_of, in_state}
+use Rattle.sc_session.specs.Changing.{caught_up}
+use Rattle.sc_session.specs.Going.{TakesRun, Went, Walks, Begins, run_of, in_state}
 use Rattle.sc_session.specs.Modules.{texts}
 use Rattle.sc_session.specs.Plain.{Plain}
 use Rattle.sc_session.specs.Stopping.{places}
@@ -22,11 +23,20 @@ went_in old how modules stops turns r front text s m p t went =
     subst (λ x. Went (texts old.modules) (places old.stops) how x r front text s) t
     (subst (λ x. Went (texts old.modules) x how turns r front text s) p (subst (λ x. Went x stops how turns r front text s) m went))
 
-pub walked : (old new : Plain) (how : Walk) (before : State) (modules : List Text) (stops : List StopAt) (turns : ℕ) (r : Option Standing) (front text : List ℕ) (s after : State)
-    → before ≡ old.state → RunsIn before r → modules ≡ texts old.modules → stops ≡ places old.stops → turns ≡ old.limits.turns
-    → Went modules stops how turns r front text s → after ≡ s → new ≡ in_state after old → Walks old how front (answer.Ran text) new
-walked old new how before modules stops turns r front text s after b runs m p t went same is =
-    (r, subst (λ x. RunsIn x r) b runs, (s, went_in old how modules stops turns r front text s m p t went, is ∙ ap (λ x. in_state x old) same))
+-- the run was taken out of the session, and went through the changes that waited
+pub walked : (old mid new : Plain) (how : Walk) (modules : List Text) (stops : List StopAt) (turns : ℕ) (run : Option Standing) (front text : List ℕ) (s after : State)
+    → TakesRun old run mid → modules ≡ texts old.modules → stops ≡ places old.stops → turns ≡ mid.limits.turns
+    → Went modules stops how turns run front text s → after ≡ s → new ≡ in_state after (caught_up mid) → Walks old how front (answer.Ran text) new
+walked old mid new how modules stops turns run front text s after ((r, runs, settles), taken) m p t went same is = (
+  r,
+  runs,
+  (
+    s,
+    subst (λ x. Went (texts old.modules) (places old.stops) how old.limits.turns x front text s) settles
+    (went_in old how modules stops turns run front text s m p (t ∙ ap (λ (x : Plain). x.limits.turns) taken) went),
+    is ∙ ap (λ x. in_state x (caught_up mid)) same ∙ ap (λ x. in_state s (caught_up x)) taken,
+  ),
+)
 
 pub begins : (old new : Plain) (first modules : List Text) (stops : List StopAt) (stack heap turns : ℕ) (input : List ℕ) (r : Option Standing) (front text : List ℕ) (s after : State)
     → first ≡ texts old.modules → modules ≡ texts old.modules → stops ≡ places old.stops → stack ≡ old.limits.stack → heap ≡ old.limits.heap → turns ≡ old.limits.turns

@@ -35,9 +35,9 @@ use Rattle.sc_session.specs.Modules.{texts, present_of}
 use Rattle.sc_session.specs.declared.present.Present.{Present}
 use Rattle.sc_session.specs.Stopping.{Sets, places, with_stop, without_stop}
 use Rattle.sc_session.specs.Linking.{with_form}
-use Rattle.sc_session.specs.Mixing.{is_mixed, mixed_state, IsGivenUp, MixedWalks, MixedWent, WalksBy}
+use Rattle.sc_session.specs.Mixing.{is_mixed, mixed_state, MixedWalks, MixedWent, WalksBy}
 use Rattle.sc_session.specs.Going as going
-use Rattle.sc_session.specs.Going.{in_state, IsCutOff, cut_off, RunsIn, Went}
+use Rattle.sc_session.specs.Going.{in_state, IsCutOff, IsGivenUp, cut_off, RunsIn, Went}
 use Rattle.sc_session.specs.Transcript.{Moment, moment, empty, Loads, Edits, Swaps, joined, replaced, unloaded, swapped, unended, asked, RunFirst, Runs, MixedRuns, RunsBy, Carried, Decides, AnswersTo}
 use Rattle.sc_session_laws.specs.Courses.{Begins, Course, Stays, Stands, StandsIn, RunsSoBy, WalksSoBy, RunTells, WalkTells, Tells, IsTold}
 use Rattle.sc_session_laws.specs.Follows.{course_of, Follows, FollowsIn, Keeps}
