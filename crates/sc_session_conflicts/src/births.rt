@@ -122,7 +122,11 @@ fn id_room(texts: &[Text], id: &StaticId) -> Result<u64, NoMemory>
     match id {
         StaticId::Named(key) => match object_in(texts, key) {
             None => Ok(0),
-            Some(d) => room_for(size_if(&d.object.of, &d.text.core.get().structs)),
+            Some(d) => {
+                let text = d.text;
+                let object = d.object;
+                room_for(size_if(&object.of, &text.core.get().structs))
+            }
         },
         StaticId::Literal(_, bytes) => room_for(bytes.as_slice().len() as u64),
     }
