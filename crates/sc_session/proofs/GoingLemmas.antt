@@ -47,7 +47,7 @@ walked old mid new how modules stops turns run front text s after ((r, runs, set
   (
     s,
     subst (λ x. Went (texts old.modules) (places old.stops) how old.limits.turns x front text s) settles
-    (went_in old how modules stops turns run front text s m p (t ∙ ap (λ (x : Plain). x.limits.turns) taken) went),
+        (went_in old how modules stops turns run front text s m p (t ∙ ap (λ (x : Plain). x.limits.turns) taken) went),
     is ∙ ap (λ x. in_state x (caught_up mid)) same ∙ ap (λ x. in_state s (caught_up x)) taken,
   ),
 )

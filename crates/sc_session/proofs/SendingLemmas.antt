@@ -226,7 +226,7 @@ first_taken old mid how modules stops turns run front ((r, runs, settles), taken
   r,
   runs,
   subst (λ x. IsFirstOf (texts old.modules) (places old.stops) how old.limits.turns x front) settles
-  (first_in old how modules stops turns run front m p (t ∙ ap (λ (x : Plain). x.limits.turns) taken) first),
+      (first_in old how modules stops turns run front m p (t ∙ ap (λ (x : Plain). x.limits.turns) taken) first),
 )
 
 pub walk_first : (sink gained : Option (List ℕ)) (old mid : Plain) (how : Walk) (modules : List Text) (stops : List StopAt) (turns : ℕ) (run : Option Standing)

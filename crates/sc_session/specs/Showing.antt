@@ -73,7 +73,6 @@ TellsValue sight scopes declaring w name _ = ⊥
 abbrev pub sight_of : Plain → Sight
 sight_of session = record { held = texts_held session.past session.modules; present = texts session.modules; waiting = waiting session }
 
-
 -- so does a session of the run that goes on in it
 abbrev pub InWorld : Plain → (World → Type 0) → Type 0
 InWorld session P = (r : Option Standing) × RunsIn session.state r × ((w : World) × IsWorldOf r w × P w)

@@ -127,7 +127,13 @@ impl Session {
             drop(new);
             return Taken::NoMemory;
         }
-        let taken = take_new(alloc, versions.as_slice(), &mut self.modules, &mut self.numbers, new);
+        let taken = take_new(
+            alloc,
+            versions.as_slice(),
+            &mut self.modules,
+            &mut self.numbers,
+            new,
+        );
         self.conclude(before, stayed, loaded, taken)
     }
 
@@ -226,7 +232,13 @@ impl Session {
             drop(new);
             return Taken::NoMemory;
         }
-        let taken = take_anew(alloc, versions.as_slice(), &mut self.modules, &mut self.numbers, new);
+        let taken = take_anew(
+            alloc,
+            versions.as_slice(),
+            &mut self.modules,
+            &mut self.numbers,
+            new,
+        );
         self.conclude(before, stayed, loaded, taken)
     }
 

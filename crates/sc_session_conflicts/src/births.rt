@@ -143,12 +143,7 @@ fn ids_room(texts: &[Text], ids: &[StaticId]) -> Result<u64, NoMemory>
 }
 
 // What one version bears behind another.
-fn step_room(
-    alloc: Global,
-    ever: &[StaticId],
-    old: &[Text],
-    new: &[Text],
-) -> Result<u64, NoMemory>
+fn step_room(alloc: Global, ever: &[StaticId], old: &[Text], new: &[Text]) -> Result<u64, NoMemory>
     ensures { IfOk result (λ n. n ≡ spec.step_room ever.now old.now new.now) }
 {
     let objects = borne(alloc, old, new)?;
@@ -158,11 +153,7 @@ fn step_room(
 }
 
 // What some versions bear, and one more behind them.
-fn room_through(
-    alloc: Global,
-    versions: &[Items<Text>],
-    last: &[Text],
-) -> Result<u64, NoMemory>
+fn room_through(alloc: Global, versions: &[Items<Text>], last: &[Text]) -> Result<u64, NoMemory>
     ensures { IfOk result (λ n. n ≡ spec.room_through [] [] versions.now last.now) }
 {
     let mut ever = Items::new(alloc);

@@ -120,17 +120,17 @@ changed_follows true (ps ∷ past) before modules s = refl
 changed_follows false past before modules s = refl
 
 -- a run that ended is forgotten
-over_follows : (past : List (List Present)) (modules : List Text) (s : State) (run : Option Course) → FollowsIn modules s run ≡ (run ≡ None) → FollowsBy past modules s run → run ≡ None
-over_follows [] modules s run is f = subst (λ (A : Type 0). A) is f
+over_follows : (past : List (List Present)) (modules : List Text) (s : State) (run : Option Course) → (FollowsIn modules s run → run ≡ None) → FollowsBy past modules s run → run ≡ None
+over_follows [] modules s run is f = is f
 over_follows (before ∷ past) modules s run is f = f
 
 unended_follows : (past : List (List Present)) (modules : List Text) (s : State) (run : Option Course) → FollowsBy past modules s run → FollowsBy (past_going (is_over s) past) modules (unended s) run
-unended_follows past modules state.Idle run f = over_follows past modules state.Idle run refl f
+unended_follows past modules state.Idle run f = over_follows past modules state.Idle run (λ p. p) f
 unended_follows past modules (state.Stopped r) run f = f
 unended_follows past modules (state.Paused r) run f = f
 unended_follows past modules (state.StoppedMixed w) run f = f
 unended_follows past modules (state.PausedMixed w) run f = f
-unended_follows past modules state.Ended run f = over_follows past modules state.Ended run refl f
+unended_follows past modules state.Ended run f = over_follows past modules state.Ended run (λ p. p) f
 
 asked_keeps : (c : Command) (session : Plain) (run : Option Course) → Keeps session run → Keeps (asked c session) run
 asked_keeps (command.Run file) session run k = (k.0, unended_follows session.past (texts session.modules) session.state run k.1)
@@ -214,8 +214,7 @@ module _ (old : Moment) (run : Option Course) (k : Keeps old.session run) where
       → (how : Walk) (front : List ℕ) (said : Answer) (new : Plain) → going.Walks old.session how front said new → (after : Option Course) × WalkTellsBy false how front said after × Keeps new after
   walk_tells none follows how front (answer.Ran text) new (r, runs, (s, w, e)) =
       let went_on = subst (λ x. Went (texts old.session.modules) (places old.session.stops) how old.session.limits.turns x front text s) (settled_same old.session r none) w in
-      let o = goes_on old.session how r run front text s k.0 (going_run (texts old.session.modules) old.session.state r run runs follows) went_on in
-      (
+      let o = goes_on old.session how r run front text s k.0 (going_run (texts old.session.modules) old.session.state r run runs follows) went_on in (
         o.2.0,
         (o.0, o.1, o.2.1),
         moved (in_state s (caught_up old.session)) new o.2.0 e (k.0, subst (λ past. FollowsBy past (texts old.session.modules) s o.2.0) (sym none) o.2.2),
@@ -268,12 +267,11 @@ module _ (old : Moment) (run : Option Course) (k : Keeps old.session run) where
   changes session new e past s formed = (
     None,
     no_run run,
-    moved session new None e
-    (
+    moved session new None e (
       formed,
       subst (λ x. FollowsBy session.past (texts session.modules) x None) (sym s)
-      (subst (λ x. FollowsBy x (texts session.modules) (state_with (stays old.session.state) old.session.state) None) (sym past)
-      (changed_follows (stays old.session.state) old.session.past old.session.modules (texts session.modules) old.session.state)),
+          (subst (λ x. FollowsBy x (texts session.modules) (state_with (stays old.session.state) old.session.state) None) (sym past)
+          (changed_follows (stays old.session.state) old.session.past old.session.modules (texts session.modules) old.session.state)),
     ),
   )
 

@@ -9,5 +9,5 @@ returns-in-Ok c = (
   refl,
   refl,
   modules_changed c.args.self.now c.keep.new.self c.settle.new.self c.stays-stayed.result (with_form c.args.name c.args.form) c.put_form.new.modules.items (search rules)
-  (c.stays-stayed.ensures ∙ ap (λ p. stays p.state) c.self.view_is) c.put_form.ensures c.settle.ensures,
+      (c.stays-stayed.ensures ∙ ap (λ p. stays p.state) c.self.view_is) c.put_form.ensures c.settle.ensures,
 )
