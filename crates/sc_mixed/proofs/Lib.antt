@@ -6,3 +6,4 @@ pub mod Reaching
 pub mod Stepping
 pub mod Sources
 pub mod Growing
+mod Changing

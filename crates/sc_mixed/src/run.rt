@@ -66,7 +66,7 @@ fn course_of(first: Result<(Next, Shown), Break>) -> Result<Course, NoMemory>
 }
 
 // No call is there yet.
-fn no_calls(alloc: Global) -> Calls
+pub(crate) fn no_calls(alloc: Global) -> Calls
     ensures { result ≡ starting.no_calls }
 {
     Calls {

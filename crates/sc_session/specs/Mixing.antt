@@ -1,7 +1,7 @@
 -- Yardstick: to be compared with what it restates (docs/TRUST.md).
 -- What a session answers as a run of both forms goes on, and what it shows of one. How such a run goes on is said where it is defined
 -- (sc_mixed): here is said what is told of the world in which it stands.
-use Rattle.std.specs.Prelude.{◌≡◌, ◌⊎◌, ℕ, Bool, true, false, List, [], ◌∷◌, length, Option, Some, None}
+use Rattle.std.specs.Prelude.{◌≡◌, ℕ, Bool, true, false, List, [], ◌∷◌, length, Option, Some, None}
 use Rattle.sc_core_names.specs.declared.table.Scopes.{Scopes}
 use Rattle.sc_interp_world.specs.Outputs.{output}
 use Rattle.sc_meaning.specs.Versions.{Text}
@@ -18,7 +18,7 @@ use Rattle.sc_world.specs.declared.halt.Halt.TheVariants as halt
 use Rattle.sc_session.specs.declared.present.Present.{Present}
 use Rattle.sc_session.specs.declared.state.State.{State}
 use Rattle.sc_session.specs.declared.state.State.TheVariants as state
-use Rattle.sc_session.specs.Going.{Walks, in_state}
+use Rattle.sc_session.specs.Going.{IsGivenUp, Walks, in_state}
 use Rattle.sc_session.specs.Linking.{LacksRoom}
 use Rattle.sc_session.specs.Modules.{compiled, scopes_numbered, texts}
 use Rattle.sc_session.specs.Plain.{Plain}
@@ -56,10 +56,6 @@ pub record MixedWent (session : Plain) (old : World) (text : List ℕ) (new : Pl
   pub world : World
   pub tells : MixedTells (length (output old.trail)) halts world text
   pub follows : new ≡ in_state (mixed_state halts world) session
-
--- no memory was left: before the go, and all is as before; or in it, and the run is over
-abbrev pub IsGivenUp : Plain → Plain → Type 0
-IsGivenUp session new = (new ≡ session) ⊎ (new ≡ in_state state.Ended session)
 
 -- the answer to a go of a session whose run of both forms, which stood in this world, was taken out of it
 abbrev pub MixedGoes : Plain → World → Answer → Plain → Type 0

@@ -1,7 +1,8 @@
 // Modules are loaded, edited, given another form and taken away.
-ghost use Rattle.std.specs.Prelude.{◌≡◌, ◌≤◌, true, None};
+ghost use Rattle.std.specs.Prelude.{◌≡◌, ◌≤◌, true, None, OnErr, OnOk};
 ghost use Rattle.sc_words.specs.Commands.{IsFile};
 ghost use Rattle.sc_words.specs.Parts.{is_module_name};
+ghost use Rattle.sc_session.specs.Changing as changing;
 ghost use Rattle.sc_session.specs.Loading as loading;
 ghost use Rattle.sc_session.specs.Modules.{texts};
 ghost use Rattle.sc_session.specs.States.{if_absent};
@@ -12,25 +13,54 @@ ghost use Rattle.sc_session.specs.Transcript.{moment};
 use crate::input::file_text;
 use crate::joining::{Taken, take_anew, take_away, take_new};
 use crate::linking::{full_with, put_form};
-use crate::present::{object_named, present_of};
+use crate::present::{Present, modules_copied, object_named, present_of};
 use crate::session::Session;
 use crate::sources::{file_of, unbuilt};
-use crate::state::{State, put_state};
 use crate::swapping::{Compared, compare_file};
-use sc_base::{Form, Name};
+use crate::versions::{put_version, stays};
+use sc_base::{Form, Name, NoMemory};
 use sc_build::{Built, build};
 use sc_outside::Files;
 use sc_words::{Answer, Denied};
 use std::alloc::Global;
 
 impl Session {
-    pub(crate) fn unload(&mut self, name: Name) -> Answer
-        ensures answer { result ≡ Answer.Unloaded name }
-        ensures session { self.new ≡ spec.unloaded self.old name }
+    // Before the modules change: what they are is kept for a run that stays.
+    fn keep(&mut self, alloc: Global, stayed: bool) -> Result<(), NoMemory>
+        ensures ok { OnOk result (self.new ≡ changing.kept stayed self.old) }
+        ensures err { OnErr result (self.new ≡ self.old) }
     {
-        take_away(&mut self.modules, &name);
-        put_state(&mut self.state, State::Idle);
-        Answer::Unloaded(name)
+        if stayed {
+            let modules = modules_copied(alloc, self.modules.as_slice())?;
+            put_version(&mut self.past, modules)?;
+        }
+        Ok(())
+    }
+
+    // Behind a change of the modules: where no run stays there is none any more.
+    fn settle(&mut self, stayed: bool)
+        ensures { self.new ≡ changing.settled_down stayed self.old }
+    {
+        if !stayed {
+            self.rest();
+        }
+    }
+
+    pub(crate) fn unload(&mut self, alloc: Global, name: Name) -> Answer
+        ensures { spec.Unloads self.old name result self.new }
+    {
+        let stayed = stays(&self.state);
+        match self.keep(alloc, stayed) {
+            Ok(()) => {
+                take_away(&mut self.modules, &name);
+                self.settle(stayed);
+                Answer::Unloaded(name)
+            }
+            Err(_) => {
+                drop(name);
+                Answer::NoMemory
+            }
+        }
     }
 
     pub(crate) fn load<F: Files>(&mut self, alloc: Global, name: Name, files: &mut F) -> Answer
@@ -81,14 +111,50 @@ impl Session {
         let Ok(new) = present_of(alloc, self.loaded, built) else {
             return Taken::NoMemory;
         };
-        match take_new(alloc, &mut self.modules, &mut self.numbers, new) {
+        self.add(alloc, loaded, new)
+    }
+
+    fn add(&mut self, alloc: Global, loaded: u32, new: Present) -> Taken
+        ensures { spec.Changes self.old loaded new (loading.with_module self.old.modules new) result self.new }
+    {
+        let Ok(versions) = self.versions(alloc) else {
+            drop(new);
+            return Taken::NoMemory;
+        };
+        let before = self.past.len();
+        let stayed = stays(&self.state);
+        if self.keep(alloc, stayed).is_err() {
+            drop(new);
+            return Taken::NoMemory;
+        }
+        let taken = take_new(
+            alloc,
+            versions.as_slice(),
+            &mut self.modules,
+            &mut self.numbers,
+            new,
+        );
+        self.conclude(before, stayed, loaded, taken)
+    }
+
+    // The session behind a change that was made or not.
+    fn conclude(&mut self, before: usize, stayed: bool, loaded: u32, taken: Taken) -> Taken
+        ensures { spec.Closes self.old before stayed loaded taken result self.new }
+    {
+        match taken {
             Taken::Joined => {
                 self.loaded = loaded;
-                put_state(&mut self.state, State::Idle);
+                self.settle(stayed);
                 Taken::Joined
             }
-            Taken::Denied(denied) => Taken::Denied(denied),
-            Taken::NoMemory => Taken::NoMemory,
+            Taken::Denied(denied) => {
+                self.past.truncate(before);
+                Taken::Denied(denied)
+            }
+            Taken::NoMemory => {
+                self.past.truncate(before);
+                Taken::NoMemory
+            }
         }
     }
 
@@ -150,15 +216,30 @@ impl Session {
         let Ok(new) = present_of(alloc, self.loaded, built) else {
             return Taken::NoMemory;
         };
-        match take_anew(alloc, &mut self.modules, &mut self.numbers, new) {
-            Taken::Joined => {
-                self.loaded = loaded;
-                put_state(&mut self.state, State::Idle);
-                Taken::Joined
-            }
-            Taken::Denied(denied) => Taken::Denied(denied),
-            Taken::NoMemory => Taken::NoMemory,
+        self.put(alloc, loaded, new)
+    }
+
+    fn put(&mut self, alloc: Global, loaded: u32, new: Present) -> Taken
+        ensures { spec.Changes self.old loaded new (loading.in_place self.old.modules new) result self.new }
+    {
+        let Ok(versions) = self.versions(alloc) else {
+            drop(new);
+            return Taken::NoMemory;
+        };
+        let before = self.past.len();
+        let stayed = stays(&self.state);
+        if self.keep(alloc, stayed).is_err() {
+            drop(new);
+            return Taken::NoMemory;
         }
+        let taken = take_anew(
+            alloc,
+            versions.as_slice(),
+            &mut self.modules,
+            &mut self.numbers,
+            new,
+        );
+        self.conclude(before, stayed, loaded, taken)
     }
 
     // The module with a name gets a form.
@@ -176,19 +257,26 @@ impl Session {
         ensures held { F.held files.new ≡ F.held files.old }
     {
         match form {
-            Form::Source => {
-                self.reform(&name, form);
-                Answer::Swapped(name, form)
-            }
+            Form::Source => self.reform(alloc, name, form),
             Form::Object => self.swap_to_object(alloc, name, files),
         }
     }
 
-    fn reform(&mut self, name: &Name, form: Form)
-        ensures { self.new ≡ spec.swapped self.old name.now form }
+    fn reform(&mut self, alloc: Global, name: Name, form: Form) -> Answer
+        ensures { spec.Forms self.old name form result self.new }
     {
-        put_form(&mut self.modules, name, form);
-        put_state(&mut self.state, State::Idle);
+        let stayed = stays(&self.state);
+        match self.keep(alloc, stayed) {
+            Ok(()) => {
+                put_form(&mut self.modules, &name, form);
+                self.settle(stayed);
+                Answer::Swapped(name, form)
+            }
+            Err(_) => {
+                drop(name);
+                Answer::NoMemory
+            }
+        }
     }
 
     // The object of a module is to be run, where its file is the object.
@@ -237,10 +325,7 @@ impl Session {
             self.modules.as_slice(),
             &self.numbers,
         ) {
-            Ok(None) => {
-                self.reform(&name, Form::Object);
-                Answer::Swapped(name, Form::Object)
-            }
+            Ok(None) => self.reform(alloc, name, Form::Object),
             Ok(Some(area)) => {
                 drop(name);
                 Answer::Refused(Denied::Space(area))

@@ -1,6 +1,7 @@
 //! A session of the workspace: modules that are loaded, edited and unloaded, stops, and a run that stops and goes on.
 #![tactic(auto)]
 
+mod asking;
 mod changing;
 mod compiling;
 mod going;
@@ -18,6 +19,7 @@ mod sources;
 mod state;
 mod stops;
 mod swapping;
+mod versions;
 
 pub use sc_world::Unsent;
 pub use session::{Session, is_go, is_silent};

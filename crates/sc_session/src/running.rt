@@ -1,5 +1,5 @@
 // A session's run begins and goes on.
-ghost use Rattle.std.specs.Prelude.{◌≡◌, ◌≤◌, true, Err};
+ghost use Rattle.std.specs.Prelude.{◌≡◌, ◌≤◌, true, Err, MatchOption};
 ghost use Rattle.sc_outside.specs.Causes.{Rose};
 ghost use Rattle.sc_words.specs.Commands.{IsFile};
 ghost use Rattle.sc_session_forms.specs.Forms as forms;
@@ -18,6 +18,7 @@ use crate::present::texts_of;
 use crate::session::Session;
 use crate::state::{State, put_state};
 use crate::stops::places;
+use crate::versions::{go_through, versions_from};
 use sc_base::{Items, Name};
 use sc_core_held::Text;
 use sc_isa_image::Image;
@@ -101,7 +102,9 @@ impl Session {
         let Ok(stops) = places(alloc, self.stops.as_slice()) else {
             return Ok(Answer::NoMemory);
         };
-        let run = run_out_of(mem::replace(&mut self.state, State::Ended));
+        let Some(run) = self.take_run(alloc) else {
+            return Ok(Answer::NoMemory);
+        };
         match gone(
             alloc,
             texts.as_slice(),
@@ -114,6 +117,7 @@ impl Session {
         ) {
             Ok(told) => {
                 put_state(&mut self.state, told.state);
+                self.come = self.past.len();
                 Ok(Answer::Ran(told.text))
             }
             Err(lost) => match lost {
@@ -123,6 +127,25 @@ impl Session {
                 }
                 Lost::Unsent(unsent) => Err(unsent),
             },
+        }
+    }
+
+    // The run is taken out of the session, and goes through the changes that wait for it. Where no memory is left it is over, or all
+    // stays.
+    fn take_run(&mut self, alloc: Global) -> Option<Run>
+        requires { going.IsGoing self.old.state }
+        ensures { MatchOption result (going.IsGivenUp self.old self.new) (λ run. going.TakesRun self.old run self.new) }
+    {
+        let Ok(versions) = self.versions(alloc) else {
+            return None;
+        };
+        let mut run = run_out_of(mem::replace(&mut self.state, State::Ended));
+        match go_through(&mut run, versions_from(versions.as_slice(), self.come)) {
+            Ok(()) => Some(run),
+            Err(_) => {
+                drop(run);
+                None
+            }
         }
     }
 
