@@ -1,5 +1,6 @@
 -- What happened is kept: each move adds to it.
 use Rattle.std.proofs.Common.{◌≡◌, ◌⊎◌, inl, inr, ◌+◌, ◌-◌, ◌==◌, ℕ, zero, suc, Bool, true, false, if◌then◌else◌, List, [], ◌∷◌, ◌++◌, reverse, Result, Ok, Err, Option, Some, None, refl, ap, sym, subst, ◌∙◌}
+use Rattle.std.specs.Prelude.{nat_lt}
 use Rattle.sc_base.specs.declared.key.Key.{Key}
 use Rattle.sc_emu.specs.Registers.{Registers, register}
 use Rattle.sc_emu.specs.declared.outcome.Crash.{Crash}
@@ -27,7 +28,7 @@ use Rattle.sc_meaning.specs.Accesses.{set_at}
 use Rattle.sc_meaning.specs.Changes.{born}
 use Rattle.sc_meaning.specs.Calls.{frame_of}
 use Rattle.sc_meaning.specs.Laws.{Leads as Happen}
-use Rattle.sc_meaning.specs.Outcomes.{Outcome, Done, Over, Ending, and_then, went, world_after, world_at}
+use Rattle.sc_meaning.specs.Outcomes.{Outcome, Done, Over, Ending, StackFull, and_then, went, world_after, world_at}
 use Rattle.sc_meaning.specs.Statements.{all_dead, auto_kind}
 use Rattle.sc_meaning.specs.Values.{Value, Number, FunctionAt, Pointer}
 use Rattle.sc_meaning.specs.Versions.{Text, Callee, Missing, InText, InLibrary, callee_of}
@@ -82,10 +83,10 @@ same w v is = ([], is)
 
 -- the world of an outcome that is this one
 done_at : {A : Type 0} (w v : World) (r : Outcome A) (a : A) → r ≡ Done a v → Happen w (world_after r) → Happen w v
-done_at w v r a is l = subst (λ (x : Outcome A). Happen w (world_after x)) is l
+done_at {A = A} w v r a is l = subst (λ (x : Outcome A). Happen w (world_after x)) is l
 
 over_at : {A : Type 0} (w : World) (r : Outcome A) (e : Ending) → r ≡ Over e → Happen w (world_after r) → Happen w (world_at e)
-over_at w r e is l = subst (λ (x : Outcome A). Happen w (world_after x)) is l
+over_at {A = A} w r e is l = subst (λ (x : Outcome A). Happen w (world_after x)) is l
 
 -- ---- what the services do
 
@@ -131,7 +132,7 @@ if_room true w e r is l = same w (world_at e) is
 if_room false w e r is l = l
 
 call_if_room_lead : (key : Key) (t : Text) (table : FrameTable) (xs : List Value) (w : World) → Happen w (world_after (call_entered_if_room key t table xs w))
-call_if_room_lead key t table xs w = if_room _ w _ (call_entered key t table xs w) refl (call_lead key t table xs w)
+call_if_room_lead key t table xs w = if_room (nat_lt w.stack (w.used + table.cost)) w (StackFull key w) (call_entered key t table xs w) refl (call_lead key t table xs w)
 
 if_closed : (b : Bool) (w v u : World) → Happen w v → Happen w u → Happen w (if b then v else u)
 if_closed true w v u p q = p

@@ -62,7 +62,7 @@ module _ (texts : List Text) (i : Image) (want : Want) (first : Standing) where
   one_further took c r s w v at instr few = record {
     now = Nothing;
     reaches = reaches_further took 1 (standing_on i (with_registers r c) w Executes at.now) (standing_on i (with_registers s c) v Executes Nothing) at.reaches at.free
-        (leads_on i (with_registers r c) (with_registers s c) w v Executes Executes at.now quiet (refl, (went.On, s, instr, refl, refl)));
+        (leads_on i (with_registers r c) (with_registers s c) w v Executes Executes at.now quiet (refl, (went.On, s, instr, (refl, refl))));
     free = not_paused want.turns (took + 1) (Paused (took + 1)) few;
   }
 

@@ -97,9 +97,9 @@ module _ (i : Image) (k : ℕ) (c : Calls) (q : Registers) (u : World) (count : 
   so_many moved p = p ∙ ap (λ (n : ℕ). record { shown = shows.Nothing; turns = n }) is
 
   pub last_moves : (how : Went) (result : Result Moved Break) → Instruction i q u how s v → AfterLast how count (with_registers s c) v result next d → LastMoves k i (with_registers q c) u result next d v
-  last_moves went.On (Ok moved) instr p = (quiet, so_many moved p.0, (refl, (went.On, s, instr, p.1, p.2)))
+  last_moves went.On (Ok moved) instr p = (quiet, so_many moved p.0, (refl, (went.On, s, instr, (p.1, p.2))))
   last_moves went.On (Err broken) instr p = absurd p
-  last_moves (went.Asks n) (Ok moved) instr p = (quiet, so_many moved p.0, (refl, (went.Asks n, s, instr, p.1, p.2)))
+  last_moves (went.Asks n) (Ok moved) instr p = (quiet, so_many moved p.0, (refl, (went.Asks n, s, instr, (p.1, p.2))))
   last_moves (went.Asks n) (Err broken) instr p = absurd p
   last_moves went.Returned (Ok moved) instr p = (quiet, so_many moved p.0, (refl, (went.Returned, s, instr, p.1)))
   last_moves went.Returned (Err (Crashed pc cause)) instr p = (went.Returned, s, instr, p)
@@ -108,7 +108,7 @@ module _ (i : Image) (k : ℕ) (c : Calls) (q : Registers) (u : World) (count : 
   last_moves (went.Stopped cause) (Err (Crashed pc crash)) instr p =
       let at : pc ≡ s.pc = cc in
       let so : crash ≡ cause = cc in
-      (went.Stopped cause, s, instr, at ∙ ap (λ (r : Registers). r.pc) (stays i q s u v cause instr), so)
+      (went.Stopped cause, s, instr, (at ∙ ap (λ (r : Registers). r.pc) (stays i q s u v cause instr), so))
   last_moves (went.Stopped cause) (Err (Meant stopped)) instr p = absurd (cc)
   last_moves went.NoRoom (Ok moved) instr p = absurd p
   last_moves went.NoRoom (Err (Crashed pc crash)) instr p = absurd (cc)

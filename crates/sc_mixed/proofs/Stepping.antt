@@ -36,7 +36,7 @@ module _ (texts : List Text) (g : Going) (c : Calls) (w : World) (r : Result Sho
       let t : State = advance (alone texts) texts s in
       let p : StepsShowing t (shown (alone texts) texts s) (Ok now) next cs v = subst (λ (x : Result Shown Stop). StepsShowing t (shown (alone texts) texts s) x next cs v) is there in
       let to : t ≡ state_of next cs v = state_is t next cs v p.0 in
-      let q : IfOk {A = Moved} {E = E} (Ok moved) (λ m. (m.shown ≡ now) × (m.turns ≡ cost s t)) = subst (λ (x : Result Moved E). IfOk x (λ m. (m.shown ≡ now) × (m.turns ≡ cost s t))) so (costs s t cs at to) in
+      let q : (moved.shown ≡ now) × (moved.turns ≡ cost s t) = subst (λ (x : Result Moved E). IfOk x (λ m. (m.shown ≡ now) × (m.turns ≡ cost s t))) so (costs s t cs at to) in
       record { going = next; goes = refl; state = to; below = refl; shown = q.0 ∙ p.1; turns = q.1 }
 
   pub step_ends : (stopped : Stop) → r ≡ Err stopped → StepsFrom texts (state_of g c.callers w) c (Err (Meant stopped)) (Steps next) (with_callers cs c) v

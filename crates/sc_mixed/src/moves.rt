@@ -125,24 +125,44 @@ fn crossed(given: Result<Next, NoMemory>, next: &mut Next) -> Result<Moved, Brea
     }
 }
 
+// So many moves that show nothing: what comes next takes its place.
+fn so_many(there: Next, count: u64, next: &mut Next) -> Moved
+    ensures moved { result ≡ record { shown = Shown.Nothing; turns = count } }
+    ensures next { next.new ≡ there }
+{
+    drop(mem::replace(next, there));
+    Moved {
+        shown: Shown::Nothing,
+        turns: count,
+    }
+}
+
+// Compiled code returned, as the last of so many instructions.
+fn after_return(
+    count: u64,
+    next: &mut Next,
+    calls: &mut Calls,
+    world: &World,
+) -> Result<Moved, Break>
+    ensures { parts.AfterLast Went.Returned count calls.old world.now result next.new calls.new }
+{
+    match return_code(calls, world) {
+        Ok(back) => Ok(so_many(back, count, next)),
+        Err(broken) => Err(broken),
+    }
+}
+
 // What the instructions came to, where the last of them stands.
 fn after(done: Executed, next: &mut Next, calls: &mut Calls, world: &World) -> Result<Moved, Break>
     ensures { parts.AfterLast done.went done.count calls.old world.now result next.new calls.new }
 {
     match done.went {
-        Went::On => drop(mem::replace(next, Next::Executes)),
-        Went::Stopped(crash) => return Err(Break::Crashed(calls.regs.pc(), crash)),
-        Went::NoRoom => return Err(Break::Meant(Stop::NoRoom)),
-        Went::Asks(n) => drop(mem::replace(next, Next::Serves(n))),
-        Went::Returned => match return_code(calls, world) {
-            Ok(back) => drop(mem::replace(next, back)),
-            Err(broken) => return Err(broken),
-        },
+        Went::On => Ok(so_many(Next::Executes, done.count, next)),
+        Went::Asks(n) => Ok(so_many(Next::Serves(n), done.count, next)),
+        Went::Returned => after_return(done.count, next, calls, world),
+        Went::Stopped(crash) => Err(Break::Crashed(calls.regs.pc(), crash)),
+        Went::NoRoom => Err(Break::Meant(Stop::NoRoom)),
     }
-    Ok(Moved {
-        shown: Shown::Nothing,
-        turns: done.count,
-    })
 }
 
 // So many instructions at most. Each is a move.
