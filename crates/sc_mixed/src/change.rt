@@ -1,9 +1,10 @@
 // A run of both forms goes over to other texts and another image; and a run of interpreted modules alone becomes one of both forms.
-ghost use Rattle.std.specs.Prelude.{◌≡◌, ◌++◌, IfErr, IfOk, OnErr};
+ghost use Rattle.std.specs.Prelude.{◌≡◌, ◌++◌, false, IfErr, IfOk, OnErr};
 ghost use Rattle.sc_interp_access.specs.Gives.{Gives};
 ghost use Rattle.sc_meaning.specs.Changes.{changed};
 ghost use Rattle.sc_mixed.specs.Changing as spec;
-ghost use Rattle.sc_mixed.specs.Standing.{IsLost};
+ghost use Rattle.sc_mixed.specs.Standing.{IsLost, ended_by, standing_over};
+ghost use Rattle.sc_mixed.specs.declared.broken.Break.TheVariants as broken;
 
 use crate::bases::bases_of;
 use crate::broken::{Break, end_of};
@@ -86,6 +87,29 @@ fn changes(
     change(old, new, world)
 }
 
+// Whether a run goes on.
+fn goes_on(course: &Course) -> bool
+    ensures { result ≡ spec.goes_on course.now }
+{
+    match course {
+        Course::On(_, _) => true,
+        Course::Over(_) => false,
+    }
+}
+
+// Whether no memory was left.
+fn is_short(stop: &Stop) -> bool
+    ensures { result ≡ spec.is_short stop.now }
+{
+    match stop {
+        Stop::NoRoom => true,
+        Stop::Undefined(_) => false,
+        Stop::Exit(_) => false,
+        Stop::StackFull(_) => false,
+        Stop::BirthLimit => false,
+    }
+}
+
 impl MixedRun {
     /// The image of the run is another one from here on. Nothing else changes.
     pub fn relink(&mut self, image: Image)
@@ -101,6 +125,7 @@ impl MixedRun {
     /// # Errors
     ///
     /// `NoMemory` alone. The run is over then, and nothing is known of it.
+    #[tactic(auto, using(crate::proofs::Changing::change_done, crate::proofs::Changing::change_over))]
     pub fn change(
         &mut self,
         old: &[Text],
@@ -108,24 +133,31 @@ impl MixedRun {
         placed: &[Placed],
         functions: &[Key],
     ) -> Result<(), NoMemory>
-        ensures changes { IfOk result (λ _. spec.ChangesIn self.old.course old.now new.now self.old self.new) }
+        ensures changes { IfOk result (λ _. spec.Changes old.now new.now self.old self.new) }
         ensures lost { OnErr result (IsLost self.new) }
     {
-        match &self.course {
-            Course::Over(_) => return Ok(()),
-            Course::On(_, _) => (),
+        if !goes_on(&self.course) {
+            return Ok(());
         }
         match changes(old, new, placed, functions, &mut self.world) {
             Ok(()) => Ok(()),
-            Err(Stop::NoRoom) => {
-                self.over(MixedEnd::Meant(Ended::NoRoom));
-                Err(NoMemory)
-            }
-            Err(stop) => {
-                self.over(end_of(Break::Meant(stop)));
-                Ok(())
-            }
+            Err(stop) => self.stopped(stop),
         }
+    }
+
+    // The run is over, as its change ended it.
+    fn stopped(&mut self, stop: Stop) -> Result<(), NoMemory>
+        ensures short { IfOk result (λ _. spec.is_short stop ≡ false) }
+        ensures ends { IfOk result (λ _. self.new ≡ standing_over self.old.image self.old.calls self.old.world (ended_by (broken.Meant stop))) }
+        ensures lost { OnErr result (IsLost self.new) }
+    {
+        if is_short(&stop) {
+            drop(stop);
+            self.over(MixedEnd::Meant(Ended::NoRoom));
+            return Err(NoMemory);
+        }
+        self.over(end_of(Break::Meant(stop)));
+        Ok(())
     }
 }
 
