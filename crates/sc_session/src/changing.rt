@@ -30,11 +30,11 @@ impl Session {
         ensures ok { OnOk result (self.new ≡ changing.kept stayed self.old) }
         ensures err { OnErr result (self.new ≡ self.old) }
     {
-        if stayed {
-            let modules = modules_copied(alloc, self.modules.as_slice())?;
-            put_version(&mut self.past, modules)?;
+        if !stayed {
+            return Ok(());
         }
-        Ok(())
+        let modules = modules_copied(alloc, self.modules.as_slice())?;
+        put_version(&mut self.past, modules)
     }
 
     // Behind a change of the modules: where no run stays there is none any more.
@@ -123,18 +123,18 @@ impl Session {
         };
         let before = self.past.len();
         let stayed = stays(&self.state);
-        if self.keep(alloc, stayed).is_err() {
-            drop(new);
-            return Taken::NoMemory;
+        match self.keep(alloc, stayed) {
+            Ok(()) => {
+                let versions = versions.as_slice();
+                let modules = &mut self.modules;
+                let taken = take_new(alloc, versions, modules, &mut self.numbers, new);
+                self.conclude(before, stayed, loaded, taken)
+            }
+            Err(_) => {
+                drop(new);
+                Taken::NoMemory
+            }
         }
-        let taken = take_new(
-            alloc,
-            versions.as_slice(),
-            &mut self.modules,
-            &mut self.numbers,
-            new,
-        );
-        self.conclude(before, stayed, loaded, taken)
     }
 
     // The session behind a change that was made or not.
@@ -228,18 +228,18 @@ impl Session {
         };
         let before = self.past.len();
         let stayed = stays(&self.state);
-        if self.keep(alloc, stayed).is_err() {
-            drop(new);
-            return Taken::NoMemory;
+        match self.keep(alloc, stayed) {
+            Ok(()) => {
+                let versions = versions.as_slice();
+                let modules = &mut self.modules;
+                let taken = take_anew(alloc, versions, modules, &mut self.numbers, new);
+                self.conclude(before, stayed, loaded, taken)
+            }
+            Err(_) => {
+                drop(new);
+                Taken::NoMemory
+            }
         }
-        let taken = take_anew(
-            alloc,
-            versions.as_slice(),
-            &mut self.modules,
-            &mut self.numbers,
-            new,
-        );
-        self.conclude(before, stayed, loaded, taken)
     }
 
     // The module with a name gets a form.
