@@ -9,6 +9,7 @@ use Rattle.sc_meaning.specs.Versions.{Text}
 use Rattle.sc_meaning.specs.World.{World, Frame}
 use Rattle.sc_mixed.specs.Changing.{ChangesIn, IsTakenFrom}
 use Rattle.sc_mixed.specs.Standing.{Standing, declaring_at}
+use Rattle.sc_mixed.specs.Starting.{Starts}
 use Rattle.sc_session_forms.specs.Calls.{call_lines, source_calls}
 use Rattle.sc_session_forms.specs.Forms.{are_sources}
 use Rattle.sc_session_forms.specs.Halts.{MixedGone}
@@ -30,7 +31,7 @@ use Rattle.sc_session.specs.declared.state.State.{State}
 use Rattle.sc_session.specs.declared.state.State.TheVariants as state
 use Rattle.sc_session.specs.Changing.{at_rest, caught_up, compiled_held, scopes_held, texts_held, versions_left}
 use Rattle.sc_session.specs.Going.{IsGivenUp, Walks, in_state}
-use Rattle.sc_session.specs.Linking.{LacksRoom}
+use Rattle.sc_session.specs.Linking.{IsImage, LacksRoom}
 use Rattle.sc_session.specs.Modules.{texts}
 use Rattle.sc_session.specs.Plain.{Plain}
 use Rattle.sc_session.specs.Showing.{ShowsCalls, ShowsValue, sight_of}
@@ -127,23 +128,25 @@ mixed_state halt.AtLine m = state.StoppedMixed m
 mixed_state halt.Ended m = state.Ended
 mixed_state (halt.Paused turns) m = state.PausedMixed m
 
--- A go of a session's run of both forms, with the text that answers it, and the session behind it. Nothing goes out before the answer.
-pub record MixedWent (modules : List Text) (stops : List StopAt) (session : Plain) (how : Walk) (old : Standing) (text : List ℕ) (new : Plain) : Type 0 where
+-- A go of a session's run of both forms by a walk, from where it stands, with the text that answers it, and the session behind it: the
+-- machine of such runs halts there and so. Nothing goes out before the answer.
+pub record MixedWent (session : Plain) (how : Walk) (old : Standing) (text : List ℕ) (new : Plain) : Type 0 where
   pub halts : Halt
-  pub run : Standing
-  pub gone : MixedGone modules stops how session.limits.turns old halts run text
-  pub follows : new ≡ in_state (mixed_state halts run) session
+  pub stands : Standing
+  pub gone : MixedGone (texts session.modules) (places session.stops) how session.limits.turns old halts stands text
+  pub follows : new ≡ in_state (mixed_state halts stands) session
 
--- the answer to a go of a session whose run of both forms was taken out of it
-abbrev pub MixedGoes : List Text → List StopAt → Plain → Walk → Standing → Answer → Plain → Type 0
-MixedGoes modules stops session how m (answer.Ran text) new = MixedWent modules stops session how m text new
-MixedGoes modules stops session how m answer.NoMemory new = new ≡ session
-MixedGoes modules stops session how m _ new = ⊥
+-- the answer to a go of a session whose run of both forms, which stood there, was taken out of it, by these texts and stops
+abbrev pub MixedGoes : Plain → List Text → List StopAt → Walk → Standing → Answer → Plain → Type 0
+MixedGoes session modules stops how m (answer.Ran text) new =
+    (h : Halt) × (n : Standing) × MixedGone modules stops how session.limits.turns m h n text × (new ≡ in_state (mixed_state h n) session)
+MixedGoes session modules stops how m answer.NoMemory new = new ≡ session
+MixedGoes session modules stops how m _ new = ⊥
 
 -- the answers to `step`, `next` and `cont` of a run of both forms: it goes through the changes that wait for it, and on from there
 abbrev pub MixedWalks : Plain → Walk → Answer → Plain → Type 0
 MixedWalks session how (answer.Ran text) new = (m : Standing) × MixedIn session.state m
-    × ((n : Standing) × MixedGoneThrough (versions_left session) m n × MixedWent (texts session.modules) (places session.stops) (caught_up session) how n text new)
+    × ((n : Standing) × MixedGoneThrough (versions_left session) m n × MixedWent (caught_up session) how n text new)
 MixedWalks session how answer.NoMemory new = IsGivenUp session new
 MixedWalks session how _ new = ⊥
 
@@ -152,12 +155,19 @@ abbrev pub WalksBy : Bool → Plain → Walk → List ℕ → Answer → Plain �
 WalksBy false session how front said new = Walks session how front said new
 WalksBy true session how front said new = (front ≡ []) × MixedWalks session how said new
 
--- a run of both forms goes from its start on, before which nothing was written; or the image of the modules has no room
-abbrev pub MixedBegins : Plain → Answer → Plain → Type 0
-MixedBegins session (answer.Ran text) new = (m : Standing) × (output m.world.trail ≡ []) × MixedWent (texts session.modules) (places session.stops) session walk.Cont m text new
-MixedBegins session (answer.Refused (denied.Space a)) new = (new ≡ session) × LacksRoom session.modules session.numbers a
-MixedBegins session answer.NoMemory new = IsGivenUp session new
-MixedBegins session _ new = ⊥
+-- a run of both forms with this input, at its start, in the image of the modules, before which nothing was written
+pub record MixedStarts (session : Plain) (bytes : List ℕ) (m : Standing) : Type 0 where
+  pub image : Image
+  pub links : IsImage session.modules session.numbers image
+  pub starts : Starts (texts session.modules) image session.limits.stack session.limits.heap bytes m
+  pub empty : output m.world.trail ≡ []
+
+-- it goes from its start on; or the image of the modules has no room
+abbrev pub MixedBegins : Plain → List ℕ → Answer → Plain → Type 0
+MixedBegins session bytes (answer.Ran text) new = (m : Standing) × MixedStarts session bytes m × MixedWent session walk.Cont m text new
+MixedBegins session bytes (answer.Refused (denied.Space a)) new = (new ≡ session) × LacksRoom session.modules session.numbers a
+MixedBegins session bytes answer.NoMemory new = IsGivenUp session new
+MixedBegins session bytes _ new = ⊥
 
 -- ---- what is shown
 

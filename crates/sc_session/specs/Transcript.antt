@@ -278,7 +278,7 @@ RunsOut sink gained old file (Err e) new = Gains sink gained (λ front. RunFirst
 -- the answers to `run` of a program that has modules in object form
 abbrev pub MixedRuns : Moment → Option (List ℕ) → Answer → Moment → Type 0
 MixedRuns old file (answer.Ran text) new = (new.held ≡ old.held) × (has_main (texts old.session.modules) ≡ true)
-    × ((bytes : List ℕ) × IsInput old.held file bytes × MixedBegins old.session (answer.Ran text) new.session)
+    × ((bytes : List ℕ) × IsInput old.held file bytes × MixedBegins old.session bytes (answer.Ran text) new.session)
 MixedRuns old file (answer.Refused (denied.Space a)) new = Leaves old new old.session × (has_main (texts old.session.modules) ≡ true)
     × ((bytes : List ℕ) × IsInput old.held file bytes) × LacksRoom old.session.modules old.session.numbers a
 MixedRuns old file (answer.Refused d) new = Leaves old new old.session × RunDenied old file new.faults d

@@ -121,7 +121,8 @@ pub(crate) fn image_fault(fault: LinkFault) -> ImageFault
 
 /// The image of the modules that are present.
 pub fn linked(alloc: Global, modules: &[Present], numbers: &Numbers) -> Result<Image, ImageFault>
-    ensures { IfErr result (spec.FaultSaid modules.now numbers.now) }
+    ensures image { IfOk result (spec.IsImage modules.now numbers.now) }
+    ensures short { IfErr result (spec.FaultSaid modules.now numbers.now) }
 {
     let Ok(all) = linkings(alloc, modules) else {
         return Err(ImageFault::NoMemory);

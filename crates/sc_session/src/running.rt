@@ -4,6 +4,7 @@ ghost use Rattle.sc_outside.specs.Causes.{Rose};
 ghost use Rattle.sc_words.specs.Commands.{IsFile};
 ghost use Rattle.sc_session_forms.specs.Forms as forms;
 ghost use Rattle.sc_session.specs.Going as going;
+ghost use Rattle.sc_session.specs.Linking as linking;
 ghost use Rattle.sc_session.specs.Mixing as mixing;
 ghost use Rattle.sc_session.specs.Modules.{texts};
 ghost use Rattle.sc_session.specs.Transcript as spec;
@@ -107,7 +108,7 @@ impl Session {
         run: MixedRun,
     ) -> Answer
         requires { self.old.state ≡ State.Ended }
-        ensures { mixing.MixedGoes texts.now stops.now self.old walk run result self.new }
+        ensures { mixing.MixedGoes self.old texts.now stops.now walk run result self.new }
     {
         match mixed_gone(alloc, texts, stops, walk, self.limits.turns, run) {
             Ok(told) => {
@@ -241,7 +242,7 @@ impl Session {
 
     // The run of a program of both forms goes from its start on.
     fn start_mixed(&mut self, alloc: Global, input: Items<u8>) -> Answer
-        ensures { mixing.MixedBegins self.old result self.new }
+        ensures { mixing.MixedBegins self.old input result self.new }
     {
         match linked(alloc, self.modules.as_slice(), &self.numbers) {
             Ok(image) => self.start_in(alloc, image, input),
@@ -258,7 +259,8 @@ impl Session {
 
     // The same in an image.
     fn start_in(&mut self, alloc: Global, image: Image, input: Items<u8>) -> Answer
-        ensures { mixing.MixedBegins self.old result self.new }
+        requires { linking.IsImage self.old.modules self.old.numbers image }
+        ensures { mixing.MixedBegins self.old input result self.new }
     {
         let Ok(texts) = texts_of(alloc, self.modules.as_slice()) else {
             return Answer::NoMemory;
