@@ -25,7 +25,7 @@ fn literal_at(literals: &[LiteralAt], home: &Name, bytes: &[u8]) -> Option<u32>
     ensures { result ≡ literal_place literals.now (literal_of home.now bytes.now) }
 {
     let mut left = literals;
-    'looking: while let [rest @ .., last] = left {
+    'looking: while let Some((last, rest)) = left.split_last() {
         if is_same(home, bytes, last) {
             return Some(last.at);
         }
@@ -62,7 +62,7 @@ fn static_at(statics: &[(Key, u32)], key: &Key) -> Option<u32>
 
 // The place that a literal keeps.
 fn literal_kept(literals: &[LiteralAt], home: &Name, section: Option<&Section>) -> Option<u32>
-    ensures { result ≡ spec.literal_kept literals.now home.now (option_copied section) }
+    ensures { result ≡ spec.literal_kept literals.now home.now (option_copied section.entry) }
 {
     match section {
         None => None,

@@ -2,7 +2,7 @@
 //! are linked; and where the modules of a run are placed that change while it goes on.
 #![tactic(auto)]
 
-mod behind;
+mod adding;
 mod checking;
 mod distinct;
 mod keeping;

@@ -7,7 +7,7 @@ ghost use Rattle.sc_image.specs.Placing.{placed_modules};
 ghost use Rattle.sc_image.specs.Refused.{IsShort};
 ghost use Rattle.sc_image.specs.Running as spec;
 
-use crate::behind::entry_behind;
+use crate::adding::entry_behind;
 use crate::checking::may_be_linked;
 use crate::keeping::kept_places;
 use crate::module::Linking;

@@ -1,7 +1,7 @@
 use Rattle.std.proofs.Common.{◌<◌, arith, rules}
 use Rattle.sc_places.specs.Layout.{behind_statics}
 use Rattle.sc_places.proofs.Growing.{static-grows}
-use Rattle.sc_image.proofs.behind.static_start.Goals as goal
+use Rattle.sc_image.proofs.adding.static_start.Goals as goal
 
 pub returns-then-statics-from : goal.returns-then-statics-from
 returns-then-statics-from c =

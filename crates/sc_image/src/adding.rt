@@ -1,5 +1,5 @@
 // A module is placed behind all that a list has placed.
-ghost use Rattle.std.specs.Prelude.{◌≡◌, ◌≤◌, ◌<◌, IfErr, IfOk, MatchOption};
+ghost use Rattle.std.specs.Prelude.{◌≡◌, ◌≤◌, ◌<◌, false, IfErr, IfOk, MatchOption};
 ghost use Rattle.sc_link.specs.Entries.{is_object};
 ghost use Rattle.sc_places.specs.Layout as layout;
 ghost use Rattle.sc_image.specs.Running as spec;
@@ -96,7 +96,14 @@ fn entry_at(
     ensures { IfOk result (λ e. e ≡ record { number = «module».now.number; home = «module».now.name; form = «module».now.form; object = «module».now.object; places = layout.places_from (is_object «module».now.form) text statics «module».now.object.sections keeps.now; retired = false }) }
 {
     let sections = module.object.get().sections.as_slice();
-    let places = place_sections(alloc, is_object(module.form), text, statics, sections, keeps)?;
+    let places = place_sections(
+        alloc,
+        is_object(module.form),
+        text,
+        statics,
+        sections,
+        keeps,
+    )?;
     entry_of(alloc, module, places)
 }
 

@@ -2,7 +2,7 @@ use Rattle.std.proofs.Common.{◌<◌, arith, rules}
 use Rattle.sc_link.specs.Entries.{is_object}
 use Rattle.sc_places.specs.Layout.{behind_texts}
 use Rattle.sc_places.proofs.Growing.{text-grows}
-use Rattle.sc_image.proofs.behind.text_start.Goals as goal
+use Rattle.sc_image.proofs.adding.text_start.Goals as goal
 
 pub returns-then-text-from : goal.returns-then-text-from
 returns-then-text-from c =
