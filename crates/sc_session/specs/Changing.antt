@@ -1,5 +1,5 @@
 -- Yardstick: to be compared with what it restates (docs/TRUST.md).
--- The modules change. A run of interpreted modules that stands at a stop stays: it keeps what the modules were, and goes through each change
+-- The modules change. A run that stands at a stop stays: it keeps what the modules were, and goes through each change
 -- as it next goes on. Active calls go on in the texts that they entered; what is looked up from then on is found in the present ones.
 use Rattle.std.specs.Prelude.{ℕ, ◌==◌, Bool, true, false, if◌then◌else◌, List, [], ◌∷◌, ◌++◌, length, drop, Option, Some, None}
 use Rattle.sc_core_names.specs.declared.table.Scopes.{Scopes}
@@ -12,12 +12,14 @@ use Rattle.sc_world.specs.Standing.{Standing}
 use Rattle.sc_session.specs.declared.present.Present.{Present}
 use Rattle.sc_session.specs.declared.state.State.{State}
 use Rattle.sc_session.specs.declared.state.State.TheVariants as state
-use Rattle.sc_session.specs.Modules.{scopes_numbered, texts}
+use Rattle.sc_session_forms.specs.declared.calls.Compiled.{Compiled}
+use Rattle.sc_session.specs.Modules.{compiled, scopes_numbered, texts}
 use Rattle.sc_session.specs.Plain.{Plain}
 
 -- a run that stands so stays as the modules change
 abbrev pub stays : State → Bool
 stays (state.Stopped r) = true
+stays (state.StoppedMixed m) = true
 stays _ = false
 
 -- It keeps what they were behind what they were before its earlier changes. Where none stays nothing is kept, and no run is there.
@@ -46,14 +48,10 @@ with_modules modules session = record session {
 abbrev pub at_rest : Plain → Plain
 at_rest session = record session { past = []; come = 0; state = state.Idle }
 
--- before such a change, and behind it
+-- before such a change
 abbrev pub kept : Bool → Plain → Plain
 kept true session = record session { past = session.past ++ session.modules ∷ [] }
 kept false session = session
-
-abbrev pub settled_down : Bool → Plain → Plain
-settled_down true session = session
-settled_down false session = at_rest session
 
 -- no run goes on
 abbrev pub is_over : State → Bool
@@ -105,6 +103,10 @@ waiting session = waits (versions_left session)
 abbrev pub texts_held : List (List Present) → List Present → List Text
 texts_held [] modules = texts modules
 texts_held (before ∷ past) modules = texts before ++ texts_held past modules
+
+abbrev pub compiled_held : List (List Present) → List Present → List Compiled
+compiled_held [] modules = compiled modules
+compiled_held (before ∷ past) modules = compiled before ++ compiled_held past modules
 
 abbrev pub or_later : Option Scopes → Option Scopes → Option Scopes
 or_later None later = later

@@ -3,8 +3,6 @@
 -- that are set.
 use Rattle.std.specs.Prelude.{ℕ, Bool, ◌==◌, if◌then◌else◌, List, Option, Some, None}
 use Rattle.std.specs.List.{list_any}
-use Rattle.sc_base.specs.declared.memory.Form.{Form}
-use Rattle.sc_base.specs.declared.memory.Form.TheVariants as form
 use Rattle.sc_meaning.specs.Versions.{Text}
 use Rattle.sc_session_conflicts.specs.Clashes.{is_present}
 use Rattle.sc_words.specs.declared.command.Command.{Command}
@@ -19,27 +17,14 @@ use Rattle.sc_session.specs.declared.stops.Stop.{Stop}
 use Rattle.sc_session.specs.Modules.{texts}
 use Rattle.sc_session.specs.Plain.{Plain}
 
--- why the modules cannot be changed: a run of interpreted modules at a stop does not prevent it
+-- why the modules cannot be changed: a run at a stop does not prevent it
 abbrev pub changing : State → Option Denied
 changing state.Idle = None
 changing (state.Stopped r) = None
 changing (state.Paused r) = Some denied.NotAtStop
-changing (state.StoppedMixed w) = Some denied.RunActive
+changing (state.StoppedMixed w) = None
 changing (state.PausedMixed w) = Some denied.NotAtStop
 changing state.Ended = None
-
--- why no module can get object form: each run that goes on prevents it
-abbrev pub compiling : State → Option Denied
-compiling state.Idle = None
-compiling (state.Stopped r) = Some denied.RunActive
-compiling (state.Paused r) = Some denied.NotAtStop
-compiling (state.StoppedMixed w) = Some denied.RunActive
-compiling (state.PausedMixed w) = Some denied.NotAtStop
-compiling state.Ended = None
-
-abbrev pub forming : Form → State → Option Denied
-forming form.Source s = changing s
-forming form.Object s = compiling s
 
 -- why no run can begin
 abbrev pub starting : State → Option Denied
@@ -106,7 +91,7 @@ refusal_of session command.Unknown = Some denied.UnknownCommand
 refusal_of session command.BadArguments = Some denied.BadArguments
 refusal_of session (command.Load name) = or_else (changing session.state) (if_present name (texts session.modules))
 refusal_of session (command.Unload name) = or_else (changing session.state) (if_absent name (texts session.modules))
-refusal_of session (command.Swap name form) = or_else (forming form session.state) (if_absent name (texts session.modules))
+refusal_of session (command.Swap name form) = or_else (changing session.state) (if_absent name (texts session.modules))
 refusal_of session (command.Edit name file) = or_else (changing session.state) (if_absent name (texts session.modules))
 refusal_of session (command.Compile name) = if_absent name (texts session.modules)
 refusal_of session (command.Run file) = starting session.state

@@ -1,9 +1,10 @@
 // Modules are loaded, edited, given another form and taken away.
-ghost use Rattle.std.specs.Prelude.{◌≡◌, ◌≤◌, true, None, OnErr, OnOk};
+ghost use Rattle.std.specs.Prelude.{◌≡◌, ◌≤◌, true, None, MatchResult};
 ghost use Rattle.sc_words.specs.Commands.{IsFile};
 ghost use Rattle.sc_words.specs.Parts.{is_module_name};
 ghost use Rattle.sc_session.specs.Changing as changing;
 ghost use Rattle.sc_session.specs.Loading as loading;
+ghost use Rattle.sc_session.specs.Mixing as mixing;
 ghost use Rattle.sc_session.specs.Modules.{texts};
 ghost use Rattle.sc_session.specs.States.{if_absent};
 ghost use Rattle.sc_session.specs.Swapping as swapping;
@@ -12,37 +13,76 @@ ghost use Rattle.sc_session.specs.Transcript.{moment};
 
 use crate::input::file_text;
 use crate::joining::{Taken, take_anew, take_away, take_new};
-use crate::linking::{full_with, put_form};
+use crate::linking::{ImageFault, full_with, put_form};
 use crate::present::{Present, modules_copied, object_named, present_of};
 use crate::session::Session;
 use crate::sources::{file_of, unbuilt};
 use crate::swapping::{Compared, compare_file};
 use crate::versions::{put_version, stays};
-use sc_base::{Form, Name, NoMemory};
+use sc_base::{Form, Items, Name, NoMemory};
 use sc_build::{Built, build};
 use sc_outside::Files;
 use sc_words::{Answer, Denied};
 use std::alloc::Global;
+use std::mem;
 
 impl Session {
-    // Before the modules change: what they are is kept for a run that stays.
-    fn keep(&mut self, alloc: Global, stayed: bool) -> Result<(), NoMemory>
-        ensures ok { OnOk result (self.new ≡ changing.kept stayed self.old) }
-        ensures err { OnErr result (self.new ≡ self.old) }
-    {
-        if stayed {
-            let modules = modules_copied(alloc, self.modules.as_slice())?;
-            put_version(&mut self.past, modules)?;
-        }
-        Ok(())
-    }
-
-    // Behind a change of the modules: where no run stays there is none any more.
-    fn settle(&mut self, stayed: bool)
-        ensures { self.new ≡ changing.settled_down stayed self.old }
+    // Before the modules change: what they are is kept for a run that stays, and given too, so that it can be put back.
+    fn keep(&mut self, alloc: Global, stayed: bool) -> Result<Items<Present>, NoMemory>
+        ensures { MatchResult result (λ back. (stayed ≡ true → back ≡ self.old.modules) × (self.new ≡ changing.kept stayed self.old)) (λ _. self.new ≡ self.old) }
     {
         if !stayed {
+            return Ok(Items::new(alloc));
+        }
+        let back = modules_copied(alloc, self.modules.as_slice())?;
+        let modules = modules_copied(alloc, self.modules.as_slice())?;
+        match put_version(&mut self.past, modules) {
+            Ok(()) => Ok(back),
+            Err(e) => Err(e),
+        }
+    }
+
+    // Behind a change of the modules: where no run stays there is none any more, and one that needs an image has another one.
+    fn settle(&mut self, alloc: Global, stayed: bool) -> Result<(), ImageFault>
+        ensures { MatchResult result (λ _. mixing.Settles stayed self.old self.new) (λ f. mixing.Unsettled stayed self.old f × (self.new ≡ self.old)) }
+    {
+        if stayed {
+            self.relink(alloc)
+        } else {
             self.rest();
+            Ok(())
+        }
+    }
+
+    // The modules are those that were kept, and so are the numbers.
+    fn put_back(&mut self, back: Items<Present>, before: usize, numbers: usize)
+        ensures { self.new ≡ mixing.returned back before numbers self.old }
+    {
+        drop(mem::replace(&mut self.modules, back.into_vec()));
+        self.past.truncate(before);
+        self.numbers.truncate(numbers);
+    }
+
+    // Behind a change of the modules; or all is as it was kept.
+    fn finish(
+        &mut self,
+        alloc: Global,
+        back: Items<Present>,
+        before: usize,
+        numbers: usize,
+        stayed: bool,
+    ) -> Result<(), ImageFault>
+        ensures { spec.Finishes self.old back before numbers stayed result self.new }
+    {
+        match self.settle(alloc, stayed) {
+            Ok(()) => {
+                drop(back);
+                Ok(())
+            }
+            Err(fault) => {
+                self.put_back(back, before, numbers);
+                Err(fault)
+            }
         }
     }
 
@@ -50,11 +90,18 @@ impl Session {
         ensures { spec.Unloads self.old name result self.new }
     {
         let stayed = stays(&self.state);
+        let before = self.past.len();
+        let numbers = self.numbers.len();
         match self.keep(alloc, stayed) {
-            Ok(()) => {
+            Ok(back) => {
                 take_away(&mut self.modules, &name);
-                self.settle(stayed);
-                Answer::Unloaded(name)
+                match self.finish(alloc, back, before, numbers, stayed) {
+                    Ok(()) => Answer::Unloaded(name),
+                    Err(_) => {
+                        drop(name);
+                        Answer::NoMemory
+                    }
+                }
             }
             Err(_) => {
                 drop(name);
@@ -121,37 +168,52 @@ impl Session {
             drop(new);
             return Taken::NoMemory;
         };
-        let before = self.past.len();
         let stayed = stays(&self.state);
-        if self.keep(alloc, stayed).is_err() {
-            drop(new);
-            return Taken::NoMemory;
+        let before = self.past.len();
+        let numbers = self.numbers.len();
+        match self.keep(alloc, stayed) {
+            Ok(back) => {
+                let versions = versions.as_slice();
+                let modules = &mut self.modules;
+                let taken = take_new(alloc, versions, modules, &mut self.numbers, new);
+                self.conclude(alloc, back, before, numbers, stayed, loaded, taken)
+            }
+            Err(_) => {
+                drop(new);
+                Taken::NoMemory
+            }
         }
-        let taken = take_new(
-            alloc,
-            versions.as_slice(),
-            &mut self.modules,
-            &mut self.numbers,
-            new,
-        );
-        self.conclude(before, stayed, loaded, taken)
     }
 
     // The session behind a change that was made or not.
-    fn conclude(&mut self, before: usize, stayed: bool, loaded: u32, taken: Taken) -> Taken
-        ensures { spec.Closes self.old before stayed loaded taken result self.new }
+    fn conclude(
+        &mut self,
+        alloc: Global,
+        back: Items<Present>,
+        before: usize,
+        numbers: usize,
+        stayed: bool,
+        loaded: u32,
+        taken: Taken,
+    ) -> Taken
+        ensures { spec.Closes self.old back before numbers stayed loaded taken result self.new }
     {
         match taken {
-            Taken::Joined => {
-                self.loaded = loaded;
-                self.settle(stayed);
-                Taken::Joined
-            }
+            Taken::Joined => match self.finish(alloc, back, before, numbers, stayed) {
+                Ok(()) => {
+                    self.loaded = loaded;
+                    Taken::Joined
+                }
+                Err(ImageFault::Space(area)) => Taken::Denied(Denied::Space(area)),
+                Err(ImageFault::NoMemory) => Taken::NoMemory,
+            },
             Taken::Denied(denied) => {
+                drop(back);
                 self.past.truncate(before);
                 Taken::Denied(denied)
             }
             Taken::NoMemory => {
+                drop(back);
                 self.past.truncate(before);
                 Taken::NoMemory
             }
@@ -226,20 +288,21 @@ impl Session {
             drop(new);
             return Taken::NoMemory;
         };
-        let before = self.past.len();
         let stayed = stays(&self.state);
-        if self.keep(alloc, stayed).is_err() {
-            drop(new);
-            return Taken::NoMemory;
+        let before = self.past.len();
+        let numbers = self.numbers.len();
+        match self.keep(alloc, stayed) {
+            Ok(back) => {
+                let versions = versions.as_slice();
+                let modules = &mut self.modules;
+                let taken = take_anew(alloc, versions, modules, &mut self.numbers, new);
+                self.conclude(alloc, back, before, numbers, stayed, loaded, taken)
+            }
+            Err(_) => {
+                drop(new);
+                Taken::NoMemory
+            }
         }
-        let taken = take_anew(
-            alloc,
-            versions.as_slice(),
-            &mut self.modules,
-            &mut self.numbers,
-            new,
-        );
-        self.conclude(before, stayed, loaded, taken)
     }
 
     // The module with a name gets a form.
@@ -266,11 +329,18 @@ impl Session {
         ensures { spec.Forms self.old name form result self.new }
     {
         let stayed = stays(&self.state);
+        let before = self.past.len();
+        let numbers = self.numbers.len();
         match self.keep(alloc, stayed) {
-            Ok(()) => {
+            Ok(back) => {
                 put_form(&mut self.modules, &name, form);
-                self.settle(stayed);
-                Answer::Swapped(name, form)
+                match self.finish(alloc, back, before, numbers, stayed) {
+                    Ok(()) => Answer::Swapped(name, form),
+                    Err(fault) => {
+                        drop(name);
+                        unformed(form, fault)
+                    }
+                }
             }
             Err(_) => {
                 drop(name);
@@ -318,6 +388,9 @@ impl Session {
     fn swap_kept(&mut self, alloc: Global, name: Name) -> Answer
         ensures { spec.Reforms self.old name result self.new }
     {
+        if stays(&self.state) {
+            return self.reform(alloc, name, Form::Object);
+        }
         match full_with(
             alloc,
             &name,
@@ -335,5 +408,18 @@ impl Session {
                 Answer::NoMemory
             }
         }
+    }
+}
+
+// Why a module does not get a form. One that is interpreted takes no room.
+fn unformed(form: Form, fault: ImageFault) -> Answer
+    ensures { result ≡ spec.unformed form fault }
+{
+    match form {
+        Form::Source => Answer::NoMemory,
+        Form::Object => match fault {
+            ImageFault::Space(area) => Answer::Refused(Denied::Space(area)),
+            ImageFault::NoMemory => Answer::NoMemory,
+        },
     }
 }

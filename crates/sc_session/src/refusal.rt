@@ -6,7 +6,7 @@ ghost use Rattle.sc_session.specs.States as spec;
 use crate::present::{Present, is_present};
 use crate::state::State;
 use crate::stops::{Stop, has_stop};
-use sc_base::{Form, Name};
+use sc_base::Name;
 use sc_words::{Denied, StopAt};
 
 /// Why the modules cannot be changed.
@@ -17,33 +17,9 @@ fn changing(state: &State) -> Option<Denied>
         State::Idle => None,
         State::Stopped(_) => None,
         State::Paused(_) => Some(Denied::NotAtStop),
-        State::StoppedMixed(_) => Some(Denied::RunActive),
+        State::StoppedMixed(_) => None,
         State::PausedMixed(_) => Some(Denied::NotAtStop),
         State::Ended => None,
-    }
-}
-
-// Why the form of no module can become object form.
-fn compiling(state: &State) -> Option<Denied>
-    ensures { result ≡ spec.compiling state.now }
-{
-    match state {
-        State::Idle => None,
-        State::Stopped(_) => Some(Denied::RunActive),
-        State::Paused(_) => Some(Denied::NotAtStop),
-        State::StoppedMixed(_) => Some(Denied::RunActive),
-        State::PausedMixed(_) => Some(Denied::NotAtStop),
-        State::Ended => None,
-    }
-}
-
-// Why no module can get a form.
-fn forming(state: &State, form: Form) -> Option<Denied>
-    ensures { result ≡ spec.forming form state.now }
-{
-    match form {
-        Form::Source => changing(state),
-        Form::Object => compiling(state),
     }
 }
 
@@ -155,17 +131,7 @@ pub fn loading(state: &State, name: &Name, modules: &[Present]) -> Option<Denied
     }
 }
 
-/// Why `swap` is refused before a file is looked at.
-pub fn reforming(state: &State, form: Form, name: &Name, modules: &[Present]) -> Option<Denied>
-    ensures { result ≡ spec.or_else (spec.forming form state.now) (spec.if_absent name.now (texts modules.now)) }
-{
-    match forming(state, form) {
-        Some(denied) => Some(denied),
-        None => if_absent(name, modules),
-    }
-}
-
-/// Why `unload` and `edit` are refused before a file is looked at.
+/// Why `unload`, `swap` and `edit` are refused before a file is looked at.
 pub fn replacing(state: &State, name: &Name, modules: &[Present]) -> Option<Denied>
     ensures { result ≡ spec.or_else (spec.changing state.now) (spec.if_absent name.now (texts modules.now)) }
 {

@@ -25,7 +25,7 @@ use crate::listing::{Sight, calls_told, list_text, value_told};
 use crate::mixing::{is_mixed, mixed_calls_told, mixed_in, mixed_value_told};
 use crate::present::{Present, object_named, texts_of};
 use crate::refusal::{
-    continuing, deleting, if_absent, loading, reforming, replacing, setting, starting, stepping,
+    continuing, deleting, if_absent, loading, replacing, setting, starting, stepping,
 };
 use crate::state::{State, is_over, put_state};
 use crate::stops::{Stop, delete_stop, put_stop};
@@ -270,9 +270,7 @@ impl Session {
             Deed::Nothing => None,
             Deed::Load(name) => loading(&self.state, name, self.modules.as_slice()),
             Deed::Unload(name) => replacing(&self.state, name, self.modules.as_slice()),
-            Deed::Swap(name, form) => {
-                reforming(&self.state, *form, name, self.modules.as_slice())
-            }
+            Deed::Swap(name, _) => replacing(&self.state, name, self.modules.as_slice()),
             Deed::Edit(name, _) => replacing(&self.state, name, self.modules.as_slice()),
             Deed::Compile(name) => if_absent(name, self.modules.as_slice()),
             Deed::Stop(place) => setting(&self.state, place, self.modules.as_slice()),
@@ -403,7 +401,8 @@ impl Session {
         ensures { mixing.MixedShowsCalls self.now result }
     {
         let run = mixed_in(&self.state);
-        mixed_calls_told(alloc, self.modules.as_slice(), run.world())
+        let past = self.past.as_slice();
+        mixed_calls_told(alloc, past, self.modules.as_slice(), run.world())
     }
 
     fn source_frames(&self, alloc: Global) -> Answer
@@ -433,12 +432,27 @@ impl Session {
         requires { mixing.is_mixed self.now.state ≡ true }
         ensures { mixing.MixedShowsValue self.now name result }
     {
+        match self.sight(alloc) {
+            Ok(sight) => self.mixed_value_in(alloc, &sight, name),
+            Err(_) => {
+                drop(name);
+                Answer::NoMemory
+            }
+        }
+    }
+
+    fn mixed_value_in(&self, alloc: Global, sight: &Sight, name: Name) -> Answer
+        requires mixed { mixing.is_mixed self.now.state ≡ true }
+        requires sight { sight.now ≡ showing.sight_of self.now }
+        ensures { mixing.MixedShowsValue self.now name result }
+    {
         let run = mixed_in(&self.state);
-        let declaring = run.declaring();
         mixed_value_told(
             alloc,
+            sight,
+            self.past.as_slice(),
             self.modules.as_slice(),
-            declaring,
+            run.declaring(),
             run.world(),
             &name,
         )

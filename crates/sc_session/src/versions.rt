@@ -2,12 +2,13 @@
 ghost use Rattle.std.specs.Prelude.{◌≡◌, ◌++◌, ◌∷◌, [], drop, IfOk, MatchOption, None, OnErr, OnOk, Some};
 ghost use Rattle.sc_session.specs.Changing as spec;
 
-use crate::present::{Present, scopes_numbered, texts_of};
+use crate::present::{Present, compiled_of, scopes_numbered, texts_of};
 use crate::state::State;
 use sc_base::{Items, NoMemory};
 use sc_core_held::Text;
 use sc_core_names::Scopes;
 use sc_interp_world::World;
+use sc_session_forms::Compiled;
 use sc_world::Run;
 use std::alloc::Global;
 
@@ -17,9 +18,9 @@ pub fn stays(state: &State) -> bool
 {
     match state {
         State::Stopped(_) => true,
+        State::StoppedMixed(_) => true,
         State::Idle => false,
         State::Paused(_) => false,
-        State::StoppedMixed(_) => false,
         State::PausedMixed(_) => false,
         State::Ended => false,
     }
@@ -113,8 +114,28 @@ pub fn texts_held(
     Ok(texts)
 }
 
-// What the text with a number declares.
-fn scopes_held<'a>(past: &'a [Items<Present>], modules: &'a [Present], n: u32) -> Option<&'a Scopes>
+/// The objects of these texts, by the numbers of the texts.
+pub fn compiled_held(
+    alloc: Global,
+    past: &[Items<Present>],
+    modules: &[Present],
+) -> Result<Items<Compiled>, NoMemory>
+    ensures { IfOk result (λ objects. objects ≡ spec.compiled_held past.now modules.now) }
+{
+    let mut objects = Items::new(alloc);
+    for before in past {
+        objects.append(compiled_of(alloc, before.as_slice())?)?;
+    }
+    objects.append(compiled_of(alloc, modules)?)?;
+    Ok(objects)
+}
+
+/// What the text with a number declares.
+pub fn scopes_held<'a>(
+    past: &'a [Items<Present>],
+    modules: &'a [Present],
+    n: u32,
+) -> Option<&'a Scopes>
     ensures { MatchOption result (spec.scopes_held past.now modules.now n ≡ None) (λ s. spec.scopes_held past.now modules.now n ≡ Some s.now) }
 {
     for before in past {

@@ -13,6 +13,7 @@ use Rattle.sc_words.specs.declared.command.Command.TheVariants as command
 use Rattle.sc_words.specs.declared.denied.Denied.{Denied}
 use Rattle.sc_words.specs.declared.denied.Denied.TheVariants as denied
 use Rattle.sc_words.specs.declared.stop.StopAt.{StopAt}
+use Rattle.sc_mixed.specs.Standing.{Standing}
 use Rattle.sc_words.specs.declared.stop.Walk.{Walk}
 use Rattle.sc_words.specs.declared.stop.Walk.TheVariants as walk
 use Rattle.sc_world.specs.Goes.{started}
@@ -174,17 +175,17 @@ goes_on session how r run front text s formed f w =
 
 -- ---- a go of a run of both forms
 
-mixed_follows : (modules : List Text) (h : Halt) (w : World) → FollowsIn modules (mixed_state h w) None
+mixed_follows : (modules : List Text) (h : Halt) (w : Standing) → FollowsIn modules (mixed_state h w) None
 mixed_follows modules halt.Entered w = refl
 mixed_follows modules halt.AtLine w = refl
 mixed_follows modules halt.Ended w = refl
 mixed_follows modules (halt.Paused turns) w = refl
 
 -- none of the meaning's goes on behind it
-mixed_keeps : (session new : Plain) (w : World) (text : List ℕ) → AreFormed (texts session.modules) → MixedWent session w text new → Keeps new None
-mixed_keeps session new w text formed went =
-    moved (in_state (mixed_state went.halts went.world) session) new None went.follows
-    (formed, none_follows session.past (texts session.modules) (mixed_state went.halts went.world) (mixed_follows (texts session.modules) went.halts went.world))
+mixed_keeps : (session new : Plain) (how : Walk) (m : Standing) (text : List ℕ) → AreFormed (texts session.modules) → MixedWent session how m text new → Keeps new None
+mixed_keeps session new how m text formed went =
+    moved (in_state (mixed_state went.halts went.stands) session) new None went.follows
+    (formed, none_follows session.past (texts session.modules) (mixed_state went.halts went.stands) (mixed_follows (texts session.modules) went.halts went.stands))
 
 given_up_keeps : (session new : Plain) (run : Option Course) → Keeps session run → IsGivenUp session new → (after : Option Course) × Stays run after × Keeps new after
 given_up_keeps session new run k (inl e) = (run, same_run run, moved session new run e k)
@@ -222,8 +223,8 @@ module _ (old : Moment) (run : Option Course) (k : Keeps old.session run) where
   walk_tells none follows how front answer.NoMemory new p = cut_keeps (going.WalkFirst old.session how) old.session new front run k p
   walk_tells none follows how front _ new p = absurd p
 
-  mixed_walk_tells : (how : Walk) (front : List ℕ) (said : Answer) (new : Plain) → MixedWalks old.session said new → (after : Option Course) × WalkTellsBy true how front said after × Keeps new after
-  mixed_walk_tells how front (answer.Ran text) new (w, stood, went) = (None, refl, mixed_keeps old.session new w text k.0 went)
+  mixed_walk_tells : (how : Walk) (front : List ℕ) (said : Answer) (new : Plain) → MixedWalks old.session how said new → (after : Option Course) × WalkTellsBy true how front said after × Keeps new after
+  mixed_walk_tells how front (answer.Ran text) new (w, stood, went) = (None, refl, mixed_keeps old.session new how w text k.0 went)
   mixed_walk_tells how front answer.NoMemory new p = given_up_keeps old.session new run k p
   mixed_walk_tells how front _ new p = absurd p
 
@@ -345,7 +346,7 @@ module _ (old : Moment) (run : Option Course) (k : Keeps (forgotten old.session)
   run_tells file front _ new p = absurd p
 
   mixed_run_tells : (file : Option (List ℕ)) (front : List ℕ) (said : Answer) (new : Moment) → MixedRuns (anew old) file said new → (after : Option Course) × RunTellsBy false file front said after × Keeps new.session after
-  mixed_run_tells file front (answer.Ran text) new (held, main, (bytes, input, (w, empty, went))) = (None, refl, mixed_keeps (anew old).session new.session w text k.0 went)
+  mixed_run_tells file front (answer.Ran text) new (held, main, (bytes, input, (w, empty, went))) = (None, refl, mixed_keeps (anew old).session new.session walk.Cont w text k.0 went)
   mixed_run_tells file front (answer.Refused (denied.Space a)) new p = (run, same_run run, moved (anew old).session new.session run p.0.0 k)
   mixed_run_tells file front (answer.Refused _) new p = (run, same_run run, moved (anew old).session new.session run p.0.0 k)
   mixed_run_tells file front answer.NoMemory new (held, up) = given_up_keeps (anew old).session new.session run k up

@@ -1,19 +1,23 @@
 -- A run that goes through the versions of its history: as it begins, in each step, in each go, and as its texts change.
 use Rattle.std.proofs.Common.{◌≡◌, ℕ, zero, suc, ◌+◌, ◌<◌, ◌≤◌, nat_le, Bool, true, false, if◌then◌else◌, List, [], ◌∷◌, ◌++◌, refl, ap, sym, subst, ◌∙◌, arith, add-one, Option, Some, None}
-use Rattle.sc_meaning.specs.World.{World, Event, Frame, Happens, GoesOut, ComesBack, pass}
-use Rattle.sc_meaning.specs.Outcomes.{Outcome, Done, Over, Ending, Exit, and_then, world_after, went}
+use Rattle.sc_meaning.specs.World.{World, Event, Frame, Happens, GoesOut, ComesBack, events, pass}
+use Rattle.sc_meaning.specs.Outcomes.{Outcome, Done, Over, Ending, Exit, and_then, world_after, world_at, went}
 use Rattle.sc_meaning.specs.Versions.{Text, Version, History, callee_of, version_at}
 use Rattle.sc_meaning.specs.Changes.{changed, happened, settled, statics_born}
 use Rattle.sc_meaning.specs.Expressions.{Answer}
 use Rattle.sc_meaning.specs.Calls.{call}
-use Rattle.sc_meaning.specs.Behaviour.{Start, first_world, main_key, main_called, started as begun, ending, ending_of, status_of}
-use Rattle.sc_meaning.specs.Laws.{with_history}
+use Rattle.sc_meaning.specs.Behaviour.{Start, first_world, main_key, main_called, started as begun, ending, ending_of, events_upto, status_of}
+use Rattle.sc_meaning.specs.Laws.{Leads, with_history}
+use Rattle.sc_meaning.proofs.Steps.{here, one_more}
+use Rattle.sc_meaning.proofs.Deeper.{ending_world}
 use Rattle.sc_meaning.proofs.Changing.{settled_goes}
-use Rattle.sc_meaning.proofs.Growing.{Going}
+use Rattle.sc_meaning.proofs.Growing.{Going, leads_then}
 use Rattle.sc_interp_machine.specs.Runs as runs
 use Rattle.sc_interp_machine.specs.Runs.{Caller, State, Runs, Makes, Answers, Ends, then_goes, advance}
 use Rattle.sc_interp_machine.proofs.RunFollows.{answers_meaning, ends_meaning}
 use Rattle.sc_interp_laws.specs.Worlds.{world_of}
+use Rattle.sc_interp_laws.specs.Events.{IsPrefix}
+use Rattle.sc_interp_laws.proofs.RunMeans.{leads_prefix, reached_leads}
 use Rattle.sc_interp_laws.proofs.RunSteps.{advance_leads}
 use Rattle.sc_interp.specs.declared.stepped.Shown.{Shown}
 use Rattle.sc_interp.specs.declared.stepped.Shown.TheVariants as now
@@ -346,3 +350,29 @@ pub begins_through : (texts : List Text) (stack heap : ℕ) (input : List ℕ) �
 begins_through texts stack heap input =
     let s : Start = start_of texts stack heap input in
     first_through s texts (statics_born texts (first_world s)) refl
+
+-- ---- what has happened
+
+module _ (s : Start) (h : History) (texts : List Text) where
+  at_leads : (k : ℕ) (st : State) → IsAt s h texts k st → (n : ℕ) → k < n → Leads (world_of st) (world_at (ending n (with_history s h)))
+  at_leads k st p n lt =
+      let c : Outcome Answer = call n h main_key [] (pass GoesOut p.born) in
+      let back : Answer → World → Outcome Answer = λ a w. Done a (pass ComesBack w) in
+      let called : Leads (world_of st) (world_after c) = subst (λ t. Leads (world_of t) (world_after c)) (from_first h p.born k ∙ p.stands) (reached_leads h k n main_key [] (pass GoesOut p.born) lt) in
+      let over : Leads (world_of st) (world_after (and_then c back)) = leads_then (world_of st) c back called (λ a v. one_more ComesBack v) in
+      subst (λ e. Leads (world_of st) (world_at e)) (sym (comes s h n p.born c p.births refl)) (subst (Leads (world_of st)) (sym (ending_world (and_then c back))) over)
+
+  stands_leads : (k : ℕ) (st : State) → StandsIn s h texts k st → (n : ℕ) → k < n → Leads (world_of st) (world_at (ending n (with_history s h)))
+  stands_leads k (Runs doing ss env a cs w) p n lt = at_leads k (Runs doing ss env a cs w) p n lt
+  stands_leads k (Makes t v vs c cs w) p n lt = at_leads k (Makes t v vs c cs w) p n lt
+  stands_leads k (Answers a cs w) p n lt = at_leads k (Answers a cs w) p n lt
+  stands_leads k (Ends e) p n lt = subst (λ x. Leads (world_at e) (world_at x)) (sym (p n lt)) (here (world_at e))
+
+  pub first_events : (m : Standing) → IsRunThrough s h texts (Some m) → (n : ℕ) → m.steps < n → IsPrefix (events (world_of m.state).trail) (events_upto n (with_history s h))
+  first_events m p n lt = leads_prefix (world_of m.state) (world_at (ending n (with_history s h))) (stands_leads m.steps m.state p.0 n lt)
+
+  over_there : (k : ℕ) (st : State) (e : Ending) → StandsIn s h texts k st → st ≡ Ends e → (n : ℕ) → k < n → ending n (with_history s h) ≡ e
+  over_there k st e p q = subst (λ t. StandsIn s h texts k t) q p
+
+  pub ends_as_meant : (m : Standing) (e : Ending) → IsRunThrough s h texts (Some m) → m.state ≡ Ends e → (n : ℕ) → m.steps < n → ending n (with_history s h) ≡ e
+  ends_as_meant m e p q n lt = over_there m.steps m.state e p.0 q n lt

@@ -3,4 +3,4 @@
 
 mod laws;
 
-pub use laws::runs_go_through_their_history;
+pub use laws::{runs_go_through_their_history, runs_show_what_their_history_gives};
