@@ -1,6 +1,6 @@
 -- Yardstick: to be compared with what it restates (docs/TRUST.md).
 -- A run of both forms whose texts become others; and a run of interpreted modules that becomes one of both forms.
-use Rattle.std.specs.Prelude.{◌≡◌, ⊥, if◌then◌else◌, Bool, true, false, List, [], ◌∷◌, flat_map, Result, Ok, Err, Option}
+use Rattle.std.specs.Prelude.{◌≡◌, if◌then◌else◌, Bool, true, false, List, [], ◌∷◌, flat_map, Result, Ok, Err, Option}
 use Rattle.sc_base.specs.declared.key.Key.{Key}
 use Rattle.sc_interp_access.specs.Gives.{Gives}
 use Rattle.sc_interp_access.specs.declared.ended.Ended.{Ended}
