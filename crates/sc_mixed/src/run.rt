@@ -41,6 +41,7 @@ pub struct MixedRun {
 
 impl Model for MixedRun {
     ghost use Rattle.std.specs.Coded.{codes};
+    ghost use Rattle.sc_isa_image.specs.contracts.image.Image as images;
     ghost use Rattle.sc_types.specs.contracts.ctype.CType as types;
     ghost use Rattle.sc_types.specs.contracts.ctype.Signature as signatures;
     ghost use Rattle.sc_core.specs.contracts.expression.CoreExpr as expressions;
@@ -49,7 +50,7 @@ impl Model for MixedRun {
 
     ghost Value = { spec.Standing };
 
-    ghost coded = { Prim.hlevel (codes, types.the_row.coded, signatures.the_row.coded, expressions.the_row.coded, statements.the_row.coded) };
+    ghost coded = { Prim.hlevel (codes, images.the_row.coded, types.the_row.coded, signatures.the_row.coded, expressions.the_row.coded, statements.the_row.coded) };
 
     ghost view = { λ r. record { world = r.world; image = r.image; calls = r.calls; course = r.course } };
 }
