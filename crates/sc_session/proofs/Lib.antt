@@ -10,3 +10,4 @@ pub mod SwappingLemmas
 pub mod MixingLemmas
 pub mod FormLemmas
 pub mod AskingLemmas
+pub mod RelinkingLemmas

@@ -88,7 +88,7 @@ Judges versions modules numbers new (Some d) now = (conflict versions modules nu
 -- those that are placed so.
 abbrev pub Takes : List (List Text) → List Present → List Key → Present → List Present → Taken → List Present → List Key → Type 0
 Takes versions modules numbers new placed taken.Joined after now =
-    (conflict versions (texts modules) numbers new.text ≡ None) × (after ≡ placed) × (now ≡ numbers_with numbers new.text.core)
+    (conflict versions (texts modules) numbers new.text ≡ None) × (after ≡ placed) × Numbered numbers new.text.core now
 Takes versions modules numbers new placed (taken.Denied d) after now =
     (conflict versions (texts modules) numbers new.text ≡ Some d) × (after ≡ modules) × (now ≡ numbers)
 Takes versions modules numbers new placed taken.NoMemory after now = (after ≡ modules) × (now ≡ numbers)

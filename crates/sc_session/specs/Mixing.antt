@@ -134,19 +134,19 @@ pub record MixedWent (session : Plain) (how : Walk) (old : Standing) (text : Lis
   pub halts : Halt
   pub stands : Standing
   pub gone : MixedGone (texts session.modules) (places session.stops) how session.limits.turns old halts stands text
-  pub follows : new ≡ in_state (mixed_state halts stands) session
+  pub follows : new ≡ in_state (mixed_state halts stands) (caught_up session)
 
 -- the answer to a go of a session whose run of both forms, which stood there, was taken out of it, by these texts and stops
 abbrev pub MixedGoes : Plain → List Text → List StopAt → Walk → Standing → Answer → Plain → Type 0
 MixedGoes session modules stops how m (answer.Ran text) new =
-    (h : Halt) × (n : Standing) × MixedGone modules stops how session.limits.turns m h n text × (new ≡ in_state (mixed_state h n) session)
+    (h : Halt) × (n : Standing) × MixedGone modules stops how session.limits.turns m h n text × (new ≡ in_state (mixed_state h n) (caught_up session))
 MixedGoes session modules stops how m answer.NoMemory new = new ≡ session
 MixedGoes session modules stops how m _ new = ⊥
 
 -- the answers to `step`, `next` and `cont` of a run of both forms: it goes through the changes that wait for it, and on from there
 abbrev pub MixedWalks : Plain → Walk → Answer → Plain → Type 0
 MixedWalks session how (answer.Ran text) new = (m : Standing) × MixedIn session.state m
-    × ((n : Standing) × MixedGoneThrough (versions_left session) m n × MixedWent (caught_up session) how n text new)
+    × ((n : Standing) × MixedGoneThrough (versions_left session) m n × MixedWent session how n text new)
 MixedWalks session how answer.NoMemory new = IsGivenUp session new
 MixedWalks session how _ new = ⊥
 

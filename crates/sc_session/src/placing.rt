@@ -38,8 +38,8 @@ fn kept_between(alloc: Global, old: &[Present], new: &[Present]) -> Result<Items
     kept_keys(alloc, old.as_slice(), new.as_slice())
 }
 
-fn fault(result: Result<Placements, LinkFault>) -> Result<Placements, ImageFault> {
-    match result {
+fn fault(placed: Result<Placements, LinkFault>) -> Result<Placements, ImageFault> {
+    match placed {
         Ok(placed) => Ok(placed),
         Err(fault) => Err(image_fault(fault)),
     }

@@ -63,10 +63,7 @@ impl Session {
             return Answer::NoMemory;
         };
         match self.take_mixed(alloc) {
-            Some(run) => {
-                self.come = self.past.len();
-                self.go_mixed(alloc, texts.as_slice(), stops.as_slice(), walk, run)
-            }
+            Some(run) => self.go_mixed(alloc, texts.as_slice(), stops.as_slice(), walk, run),
             None => Answer::NoMemory,
         }
     }
@@ -113,6 +110,7 @@ impl Session {
         match mixed_gone(alloc, texts, stops, walk, self.limits.turns, run) {
             Ok(told) => {
                 put_state(&mut self.state, mixed_state(told.halt, told.run));
+                self.come = self.past.len();
                 Answer::Ran(told.text)
             }
             Err(_) => Answer::NoMemory,

@@ -1,11 +1,12 @@
 // What the versions of a program bear in a run that goes through them (ANSI 3.1.2.4).
-ghost use Rattle.std.specs.Prelude.{◌≡◌, ◌++◌, ◌∷◌, [], not, IfOk};
+ghost use Rattle.std.specs.Prelude.{◌≡◌, ◌++◌, ◌∷◌, [], not, IfOk, Some};
+ghost use Rattle.sc_meaning.specs.Versions.{object_in as object_by_key};
 ghost use Rattle.sc_session_conflicts.specs.Births as spec;
 
 use crate::clash::is_other;
 use crate::space::{room_for, size_if, statics_with, sum};
-use sc_base::{Duplicate, Items, NoMemory};
-use sc_core_held::{Text, object_in};
+use sc_base::{Duplicate, Items, Key, NoMemory};
+use sc_core_held::{Definition, Text, object_in};
 use sc_interp_changes::is_kept;
 use sc_interp_parts::births_of;
 use sc_interp_world::same_id;
@@ -115,19 +116,30 @@ pub fn waits(alloc: Global, versions: &[Items<Text>]) -> Result<Items<StaticId>,
     }
 }
 
+// The bytes of static storage that an object takes.
+fn object_room(d: &Definition) -> Result<u64, NoMemory>
+    ensures { IfOk result (λ n. n ≡ spec.defined_room (Some d.now)) }
+{
+    let text = d.text;
+    let object = d.object;
+    room_for(size_if(&object.of, &text.core.get().structs))
+}
+
+fn named_room(texts: &[Text], key: &Key) -> Result<u64, NoMemory>
+    ensures { IfOk result (λ n. n ≡ spec.defined_room (object_by_key texts.now key.now)) }
+{
+    match object_in(texts, key) {
+        None => Ok(0),
+        Some(d) => object_room(&d),
+    }
+}
+
 // The bytes of static storage that the object or literal with a name takes.
 fn id_room(texts: &[Text], id: &StaticId) -> Result<u64, NoMemory>
     ensures { IfOk result (λ n. n ≡ spec.id_room texts.now id.now) }
 {
     match id {
-        StaticId::Named(key) => match object_in(texts, key) {
-            None => Ok(0),
-            Some(d) => {
-                let text = d.text;
-                let object = d.object;
-                room_for(size_if(&object.of, &text.core.get().structs))
-            }
-        },
+        StaticId::Named(key) => named_room(texts, key),
         StaticId::Literal(_, bytes) => room_for(bytes.as_slice().len() as u64),
     }
 }

@@ -13,7 +13,7 @@ use Rattle.sc_words.specs.declared.command.Command.TheVariants as command
 use Rattle.sc_words.specs.declared.denied.Denied.{Denied}
 use Rattle.sc_words.specs.declared.denied.Denied.TheVariants as denied
 use Rattle.sc_words.specs.declared.stop.StopAt.{StopAt}
-use Rattle.sc_mixed.specs.Standing.{Standing}
+use Rattle.sc_mixed.specs.Standing.{Standing as Mixed}
 use Rattle.sc_words.specs.declared.stop.Walk.{Walk}
 use Rattle.sc_words.specs.declared.stop.Walk.TheVariants as walk
 use Rattle.sc_world.specs.Goes.{started}
@@ -37,7 +37,7 @@ use Rattle.sc_session.specs.Modules.{texts, present_of}
 use Rattle.sc_session.specs.declared.present.Present.{Present}
 use Rattle.sc_session.specs.Stopping.{Sets, places, with_stop, without_stop}
 use Rattle.sc_session.specs.Linking.{with_form}
-use Rattle.sc_session.specs.Mixing.{is_mixed, mixed_state, MixedWalks, MixedWent, WalksBy}
+use Rattle.sc_session.specs.Mixing.{is_mixed, mixed_state, Becomes, MixedWalks, MixedWent, Relinks, WalksBy}
 use Rattle.sc_session.specs.Going as going
 use Rattle.sc_session.specs.Going.{in_state, IsCutOff, IsGivenUp, cut_off, RunsIn, Went}
 use Rattle.sc_session.specs.Transcript.{Moment, moment, empty, Loads, Edits, Swaps, joined, replaced, unloaded, swapped, forgotten, past_going, unended, asked, Unloads, RunFirst, Runs, MixedRuns, RunsBy, Carried, Decides, AnswersTo}
@@ -115,10 +115,10 @@ none_follows [] modules s f = f
 none_follows (before ∷ past) modules s f = refl
 
 -- where the modules changed there is none, or none of which something is told
-changed_follows : (b : Bool) (past : List (List Present)) (before : List Present) (modules : List Text) (s : State) → FollowsBy (past_with b past before) modules (state_with b s) None
-changed_follows true [] before modules s = refl
-changed_follows true (ps ∷ past) before modules s = refl
-changed_follows false past before modules s = refl
+relinked_follows : (b c : Bool) (past : List (List Present)) (before : List Present) (modules : List Text) (old s : State) → Relinks c (state_with b old) s → FollowsBy (past_with b past before) modules s None
+relinked_follows true c [] before modules old s p = refl
+relinked_follows true c (ps ∷ past) before modules old s p = refl
+relinked_follows false c past before modules old s p = subst (λ x. FollowsIn modules x None) (sym p) refl
 
 -- a run that ended is forgotten
 over_follows : (past : List (List Present)) (modules : List Text) (s : State) (run : Option Course) → (FollowsIn modules s run → run ≡ None) → FollowsBy past modules s run → run ≡ None
@@ -175,16 +175,16 @@ goes_on session how r run front text s formed f w =
 
 -- ---- a go of a run of both forms
 
-mixed_follows : (modules : List Text) (h : Halt) (w : Standing) → FollowsIn modules (mixed_state h w) None
+mixed_follows : (modules : List Text) (h : Halt) (w : Mixed) → FollowsIn modules (mixed_state h w) None
 mixed_follows modules halt.Entered w = refl
 mixed_follows modules halt.AtLine w = refl
 mixed_follows modules halt.Ended w = refl
 mixed_follows modules (halt.Paused turns) w = refl
 
 -- none of the meaning's goes on behind it
-mixed_keeps : (session new : Plain) (how : Walk) (m : Standing) (text : List ℕ) → AreFormed (texts session.modules) → MixedWent session how m text new → Keeps new None
+mixed_keeps : (session new : Plain) (how : Walk) (m : Mixed) (text : List ℕ) → AreFormed (texts session.modules) → MixedWent session how m text new → Keeps new None
 mixed_keeps session new how m text formed went =
-    moved (in_state (mixed_state went.halts went.stands) session) new None went.follows
+    moved (in_state (mixed_state went.halts went.stands) (caught_up session)) new None went.follows
     (formed, none_follows session.past (texts session.modules) (mixed_state went.halts went.stands) (mixed_follows (texts session.modules) went.halts went.stands))
 
 given_up_keeps : (session new : Plain) (run : Option Course) → Keeps session run → IsGivenUp session new → (after : Option Course) × Stays run after × Keeps new after
@@ -224,7 +224,7 @@ module _ (old : Moment) (run : Option Course) (k : Keeps old.session run) where
   walk_tells none follows how front _ new p = absurd p
 
   mixed_walk_tells : (how : Walk) (front : List ℕ) (said : Answer) (new : Plain) → MixedWalks old.session how said new → (after : Option Course) × WalkTellsBy true how front said after × Keeps new after
-  mixed_walk_tells how front (answer.Ran text) new (w, stood, went) = (None, refl, mixed_keeps old.session new how w text k.0 went)
+  mixed_walk_tells how front (answer.Ran text) new (m, stood, (n, through, went)) = (None, refl, mixed_keeps old.session new how n text k.0 went)
   mixed_walk_tells how front answer.NoMemory new p = given_up_keeps old.session new run k p
   mixed_walk_tells how front _ new p = absurd p
 
@@ -262,44 +262,44 @@ module _ (old : Moment) (run : Option Course) (k : Keeps old.session run) where
       let t = walks_past old.session.past refl k.1 how front said new p in
       (t.0, walk_told how front said t.0 t.1, t.2)
 
-  -- the modules changed
-  changes : (session new : Plain) → new ≡ session → session.past ≡ past_with (stays old.session.state) old.session.past old.session.modules
+  -- the modules changed, and the run stays or not
+  changes : (session new : Plain) → Becomes session new → session.past ≡ past_with (stays old.session.state) old.session.past old.session.modules
       → session.state ≡ state_with (stays old.session.state) old.session.state → AreFormed (texts session.modules) → (after : Option Course) × Stays run after × Keeps new after
-  changes session new e past s formed = (
+  changes session new (s, relinks, e) past is formed = (
     None,
     no_run run,
-    moved session new None e (
+    moved (in_state s session) new None e
+    (
       formed,
-      subst (λ x. FollowsBy session.past (texts session.modules) x None) (sym s)
-          (subst (λ x. FollowsBy x (texts session.modules) (state_with (stays old.session.state) old.session.state) None) (sym past)
-          (changed_follows (stays old.session.state) old.session.past old.session.modules (texts session.modules) old.session.state)),
+      subst (λ x. FollowsBy x (texts session.modules) s None) (sym past)
+      (relinked_follows (stays old.session.state) (are_sources (texts session.modules)) old.session.past old.session.modules (texts session.modules) old.session.state s (subst (λ x. Relinks (are_sources (texts session.modules)) x s) is relinks)),
     ),
   )
 
   -- the commands that let no program go on
   loads : (name file : List ℕ) (said : Answer) (new : Moment) → Loads old name file said new → (after : Option Course) × Stays run after × Keeps new.session after
-  loads name file (answer.Loaded m) new (is, (built, fits, leaves)) =
-      changes (joined old.session built) new.session leaves.0 refl refl (with_formed old.session.modules (present_of old.session.loaded built) k.0 fits.builds.formed)
+  loads name file (answer.Loaded m) new (is, (built, fits, becomes, held)) =
+      changes (joined old.session built) new.session becomes refl refl (with_formed old.session.modules (present_of old.session.loaded built) k.0 fits.builds.formed)
   loads name file (answer.Refused d) new (leaves, why) = (run, same_run run, moved old.session new.session run leaves.0 k)
   loads name file answer.NoMemory new leaves = (run, same_run run, moved old.session new.session run leaves.0 k)
   loads name file _ new p = absurd p
 
   edits : (name file : List ℕ) (said : Answer) (new : Moment) → Edits old name file said new → (after : Option Course) × Stays run after × Keeps new.session after
-  edits name file (answer.Edited m) new (is, (built, fits, leaves)) =
-      changes (replaced old.session built) new.session leaves.0 refl refl (in_formed old.session.modules (present_of old.session.loaded built) k.0 fits.builds.formed)
+  edits name file (answer.Edited m) new (is, (built, fits, becomes, held)) =
+      changes (replaced old.session built) new.session becomes refl refl (in_formed old.session.modules (present_of old.session.loaded built) k.0 fits.builds.formed)
   edits name file (answer.Refused d) new (leaves, why) = (run, same_run run, moved old.session new.session run leaves.0 k)
   edits name file answer.NoMemory new leaves = (run, same_run run, moved old.session new.session run leaves.0 k)
   edits name file _ new p = absurd p
 
   swaps : (name : List ℕ) (f : Form) (said : Answer) (new : Moment) → Swaps old name f said new → (after : Option Course) × Stays run after × Keeps new.session after
-  swaps name f (answer.Swapped m g) new (is, same, may, leaves) =
-      changes (swapped old.session name f) new.session leaves.0 refl refl (swapped_formed name f old.session.modules k.0)
+  swaps name f (answer.Swapped m g) new (is, same, may, becomes, held) =
+      changes (swapped old.session name f) new.session becomes refl refl (swapped_formed name f old.session.modules k.0)
   swaps name f (answer.Refused d) new (is, leaves, why) = (run, same_run run, moved old.session new.session run leaves.0 k)
   swaps name f answer.NoMemory new leaves = (run, same_run run, moved old.session new.session run leaves.0 k)
   swaps name f _ new p = absurd p
 
   unloads : (name : List ℕ) (said : Answer) (new : Plain) → Unloads old.session name said new → (after : Option Course) × Stays run after × Keeps new after
-  unloads name (answer.Unloaded m) new (is, e) = changes (unloaded old.session name) new e refl refl (kept_formed _ old.session.modules k.0)
+  unloads name (answer.Unloaded m) new (is, becomes) = changes (unloaded old.session name) new becomes refl refl (kept_formed _ old.session.modules k.0)
   unloads name answer.NoMemory new e = (run, same_run run, moved old.session new run e k)
   unloads name _ new p = absurd p
 
