@@ -24,7 +24,7 @@ not_less n c le = grind (arith)
 is_less : (n c : ℕ) → n < c → nat_lt n c ≡ true
 is_less n c lt = grind (arith)
 
-at_most : (n c : ℕ) → c ≤ n → nat_le c n ≡ true
+pub at_most : (n c : ℕ) → c ≤ n → nat_le c n ≡ true
 at_most n c le = grind (arith)
 
 not_at_most : (n c : ℕ) → n < c → nat_le c n ≡ false

@@ -4,5 +4,6 @@
 mod laws;
 
 pub use laws::{
-    changes_are_the_next_version, versions_change_nothing_before, versions_change_nothing_behind,
+    a_change_is_a_version_of_the_run, changes_are_the_next_version, present_texts_make_the_steps,
+    versions_change_nothing_before, versions_change_nothing_behind,
 };

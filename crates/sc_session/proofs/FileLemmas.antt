@@ -70,7 +70,7 @@ swaps_held old new name f _ p = absurd p
 pub does_keep : (old new : Moment) (c : Command) (said : Answer) → IsNamed c → Does old c said new → KeepsSources old.held new.held
 does_keep old new command.Nothing said named p = keeps_same old.held new.held (ap (λ (m : Moment). m.held) p.1)
 does_keep old new (command.Load name) said named p = keeps_same old.held new.held (loads_held old new name _ said p)
-does_keep old new (command.Unload name) said named p = keeps_same old.held new.held p.2.0
+does_keep old new (command.Unload name) said named p = keeps_same old.held new.held p.1.0
 does_keep old new (command.Swap name form) said named p = keeps_same old.held new.held (swaps_held old new name form said p)
 does_keep old new (command.Edit name file) said named p = keeps_same old.held new.held (edits_held old new name _ said p)
 does_keep old new (command.Compile name) said named (same, (object, there, puts)) = writes_keep old.held new.held old.faults new.faults name object said named puts

@@ -9,3 +9,4 @@ pub mod LoadingLemmas
 pub mod SwappingLemmas
 pub mod MixingLemmas
 pub mod FormLemmas
+pub mod AskingLemmas

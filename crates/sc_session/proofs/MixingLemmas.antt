@@ -4,13 +4,19 @@ use Rattle.sc_interp_world.specs.Outputs.{output}
 use Rattle.sc_meaning.specs.World.{World}
 use Rattle.sc_outside.specs.Stored.{FileMap}
 use Rattle.sc_session_forms.specs.Forms.{are_sources}
-use Rattle.sc_session_forms.specs.Halts.{MixedTells}
+use Rattle.sc_isa_image.specs.declared.image.Image.{Image}
+use Rattle.sc_meaning.specs.Versions.{Text}
+use Rattle.sc_mixed.specs.Standing.{Standing, declaring_at}
+use Rattle.sc_mixed.specs.Starting.{Starts}
+use Rattle.sc_session_forms.specs.Halts.{MixedGone}
 use Rattle.sc_words.specs.declared.answer.Answer.{Answer}
 use Rattle.sc_words.specs.declared.answer.Answer.TheVariants as answer
 use Rattle.sc_words.specs.declared.denied.Area.{Area}
 use Rattle.sc_words.specs.declared.denied.Denied.{Denied}
 use Rattle.sc_words.specs.declared.denied.Denied.TheVariants as denied
+use Rattle.sc_words.specs.declared.stop.StopAt.{StopAt}
 use Rattle.sc_words.specs.declared.stop.Walk.{Walk}
+use Rattle.sc_words.specs.declared.stop.Walk.TheVariants as walk
 use Rattle.sc_world.proofs.Posting.{appends_none}
 use Rattle.sc_world.specs.declared.halt.Halt.{Halt}
 use Rattle.sc_world.specs.declared.post.Unsent.{Unsent}
@@ -18,8 +24,10 @@ use Rattle.sc_session.specs.declared.present.Present.{Present}
 use Rattle.sc_session.specs.declared.state.State.{State}
 use Rattle.sc_session.specs.declared.state.State.TheVariants as state
 use Rattle.sc_session.specs.Going.{InputDenied, IsGoing, IsInput, WalksOut, has_main, in_state}
-use Rattle.sc_session.specs.Mixing.{IsActive, MixedBegins, MixedGoes, MixedIn, MixedShowsCalls, MixedShowsValue, MixedTellsCalls, MixedTellsValue, MixedWalks, MixedWent, ShowsCallsBy, ShowsValueBy, is_mixed, mixed_state}
+use Rattle.sc_session.specs.Mixing.{IsActive, MixedBegins, MixedGoes, MixedIn, MixedShowsCalls, MixedShowsValue, MixedStarts, MixedTellsCalls, MixedTellsValue, MixedWalks, MixedWent, ShowsCallsBy, ShowsValueBy, is_mixed, mixed_state}
+use Rattle.sc_session.specs.Linking.{IsImage}
 use Rattle.sc_session.specs.Modules.{texts}
+use Rattle.sc_session.specs.Stopping.{places}
 use Rattle.sc_session.specs.Plain.{Plain}
 use Rattle.sc_session.specs.Showing.{ShowsCalls, ShowsValue}
 use Rattle.sc_session.specs.Transcript.{Moment, MixedRuns, RunsOut, RunsOutBy, WalksOutBy, moment}
@@ -42,35 +50,52 @@ is_by v session b c is said it = sym (ap (λ s. is_mixed s.state) is) ∙ sym sa
 
 -- ---- a go
 
-went : (session inside : Plain) (w : World) (text : List ℕ) (new : Plain) → inside ≡ in_state state.Ended session → MixedWent inside w text new → MixedWent session w text new
-went session inside w text new is g = record {
-  halts = g.halts;
-  world = g.world;
-  tells = g.tells;
-  follows = g.follows ∙ ap (in_state (mixed_state g.halts g.world)) is;
+went : (session inside : Plain) (modules : List Text) (stops : List StopAt) (how : Walk) (m : Standing) (text : List ℕ) (new : Plain) → inside ≡ in_state state.Ended session → modules ≡ texts session.modules → stops ≡ places session.stops
+    → MixedGoes inside modules stops how m (answer.Ran text) new → MixedWent session how m text new
+went session inside modules stops how m text new is same at g = record {
+  halts = g.0;
+  stands = g.1;
+  gone = subst (λ (ps : List StopAt). MixedGone (texts session.modules) ps how session.limits.turns m g.0 g.1 text) at
+      (subst (λ (ms : List Text). MixedGone ms stops how session.limits.turns m g.0 g.1 text) same
+      (subst (λ (p : Plain). MixedGone modules stops how p.limits.turns m g.0 g.1 text) is g.2));
+  follows = g.3 ∙ ap (in_state (mixed_state g.0 g.1)) is;
 }
 
-pub goes_walks : (session inside : Plain) (w : World) (said : Answer) (new : Plain) → inside ≡ in_state state.Ended session → MixedIn session.state w → MixedGoes inside w said new → MixedWalks session said new
-goes_walks session inside w (answer.Ran text) new is there g = (w, there, went session inside w text new is g)
-goes_walks session inside w answer.NoMemory new is there g = inr (g ∙ is)
-goes_walks session inside w _ new is there g = absurd g
+pub goes_walks : (session inside : Plain) (modules : List Text) (stops : List StopAt) (how : Walk) (m : Standing) (said : Answer) (new : Plain) → inside ≡ in_state state.Ended session → modules ≡ texts session.modules → stops ≡ places session.stops
+    → MixedIn session.state m → MixedGoes inside modules stops how m said new → MixedWalks session how said new
+goes_walks session inside modules stops how m (answer.Ran text) new is same at there g = (m, there, went session inside modules stops how m text new is same at g)
+goes_walks session inside modules stops how m answer.NoMemory new is same at there g = inr (g ∙ is)
+goes_walks session inside modules stops how m _ new is same at there g = absurd g
 
-pub goes_begins : (session inside : Plain) (w : World) (said : Answer) (new : Plain) → inside ≡ in_state state.Ended session → output w.trail ≡ [] → MixedGoes inside w said new → MixedBegins session said new
-goes_begins session inside w (answer.Ran text) new is empty g = (w, empty, went session inside w text new is g)
-goes_begins session inside w answer.NoMemory new is empty g = inr (g ∙ is)
-goes_begins session inside w _ new is empty g = absurd g
+pub goes_begins : (session inside : Plain) (bytes : List ℕ) (modules : List Text) (stops : List StopAt) (m : Standing) (said : Answer) (new : Plain) → inside ≡ in_state state.Ended session → modules ≡ texts session.modules → stops ≡ places session.stops
+    → MixedStarts session bytes m → MixedGoes inside modules stops walk.Cont m said new → MixedBegins session bytes said new
+goes_begins session inside bytes modules stops m (answer.Ran text) new is same at starts g = (m, starts, went session inside modules stops walk.Cont m text new is same at g)
+goes_begins session inside bytes modules stops m answer.NoMemory new is same at starts g = inr (g ∙ is)
+goes_begins session inside bytes modules stops m _ new is same at starts g = absurd g
+
+-- a run that was started in the image of the modules
+pub started_so : (session v : Plain) (i : Image) (modules : List Text) (stack heap : ℕ) (bytes : List ℕ) (m : Standing) → v ≡ session → modules ≡ texts session.modules → stack ≡ session.limits.stack → heap ≡ session.limits.heap
+    → IsImage session.modules session.numbers i → Starts modules i stack heap bytes m → output m.world.trail ≡ [] → MixedStarts session bytes m
+started_so session v i modules stack heap bytes m is same deep wide links starts empty = record {
+  image = i;
+  links = links;
+  starts = subst (λ (ms : List Text). Starts ms i session.limits.stack session.limits.heap bytes m) same
+      (subst (λ (n : ℕ). Starts modules i n session.limits.heap bytes m) deep (subst (λ (n : ℕ). Starts modules i stack n bytes m) wide starts));
+  empty = empty;
+}
 
 -- another state was put into a session
 pub put_so : (v old : Plain) (s t : State) → v ≡ old → s ≡ t → record v { state = s } ≡ in_state t old
 put_so v old s t is same = (λ i. record v { state = same i }) ∙ ap (in_state t) is
 
-pub goes_told : (v old : Plain) (s : State) (w u : World) (h : Halt) (text : List ℕ) → v ≡ old → s ≡ mixed_state h u → MixedTells (length (output w.trail)) h u text
-    → MixedGoes old w (answer.Ran text) (record v { state = s })
-goes_told v old s w u h text is same tells = record { halts = h; world = u; tells = tells; follows = put_so v old s (mixed_state h u) is same }
+pub goes_told : (v old : Plain) (s : State) (modules : List Text) (stops : List StopAt) (how : Walk) (m n : Standing) (h : Halt) (text : List ℕ) → v ≡ old → s ≡ mixed_state h n → MixedGone modules stops how v.limits.turns m h n text
+    → MixedGoes old modules stops how m (answer.Ran text) (record v { state = s })
+goes_told v old s modules stops how m n h text is same gone =
+    (h, n, subst (λ (p : Plain). MixedGone modules stops how p.limits.turns m h n text) is gone, put_so v old s (mixed_state h n) is same)
 
 -- ---- either run
 
-pub walks_mixed : (sink : Option (List ℕ)) (session : Plain) (how : Walk) (said : Answer) (new : Plain) → is_mixed session.state ≡ true → MixedWalks session said new
+pub walks_mixed : (sink : Option (List ℕ)) (session : Plain) (how : Walk) (said : Answer) (new : Plain) → is_mixed session.state ≡ true → MixedWalks session how said new
     → WalksOutBy (is_mixed session.state) sink sink session how (Ok said) new
 walks_mixed sink session how said new is_so walks =
     subst (λ b. WalksOutBy b sink sink session how (Ok said) new) (sym is_so) ([], appends_none sink, (refl, walks))
@@ -101,7 +126,7 @@ are_by b c listed v session is same said it = sym (ap (λ m. are_sources (texts 
 -- ---- a start
 
 pub mixed_begun : (old : Moment) (file : Option (List ℕ)) (bytes : List ℕ) (now : ℕ) (held : Option FileMap) (new : Plain) → has_main (texts old.session.modules) ≡ true → IsInput old.held file bytes → held ≡ old.held
-    → (said : Answer) → MixedBegins old.session said new → MixedRuns old file said (moment new held now)
+    → (said : Answer) → MixedBegins old.session bytes said new → MixedRuns old file said (moment new held now)
 mixed_begun old file bytes now held new main input same (answer.Ran text) p = (same, main, (bytes, input, p))
 mixed_begun old file bytes now held new main input same answer.NoMemory p = (same, p)
 mixed_begun old file bytes now held new main input same (answer.Refused (denied.Space a)) p = ((p.0, same), main, (bytes, input), p.1)
@@ -130,18 +155,19 @@ value_mixed session name said is_so shows = subst (λ b. ShowsValueBy b session 
 pub value_source : (session : Plain) (name : List ℕ) (said : Answer) → is_mixed session.state ≡ false → ShowsValue session name said → ShowsValueBy (is_mixed session.state) session name said
 value_source session name said is_not shows = subst (λ b. ShowsValueBy b session name said) (sym is_not) shows
 
-pub shows_mixed : (session inside : Plain) (modules : List Present) (run w : World) (said : Answer) → inside ≡ session → modules ≡ inside.modules → MixedIn inside.state run → w ≡ run → MixedTellsCalls modules w said
+pub shows_mixed : (session inside : Plain) (modules : List Present) (run : Standing) (w : World) (said : Answer) → inside ≡ session → modules ≡ inside.modules → MixedIn inside.state run → w ≡ run.world → MixedTellsCalls modules w said
     → MixedShowsCalls session said
 shows_mixed session inside modules run w said is same there stands tells = (
   run,
   subst (λ s. MixedIn s.state run) is there,
-  subst (λ m. MixedTellsCalls m run said) (same ∙ ap (λ s. s.modules) is) (subst (λ x. MixedTellsCalls modules x said) stands tells),
+  subst (λ m. MixedTellsCalls m run.world said) (same ∙ ap (λ s. s.modules) is) (subst (λ x. MixedTellsCalls modules x said) stands tells),
 )
 
-pub shows_mixed_value : (session inside : Plain) (modules : List Present) (run w : World) (declaring : Option ℕ) (name : List ℕ) (said : Answer) → inside ≡ session → modules ≡ inside.modules → MixedIn inside.state run → w ≡ run
+pub shows_mixed_value : (session inside : Plain) (modules : List Present) (run : Standing) (w : World) (declaring : Option ℕ) (name : List ℕ) (said : Answer) → inside ≡ session → modules ≡ inside.modules → MixedIn inside.state run → w ≡ run.world → declaring ≡ declaring_at run.course
     → MixedTellsValue modules declaring w name said → MixedShowsValue session name said
-shows_mixed_value session inside modules run w declaring name said is same there stands tells = (
+shows_mixed_value session inside modules run w declaring name said is same there stands at tells = (
   run,
   subst (λ s. MixedIn s.state run) is there,
-  (declaring, subst (λ m. MixedTellsValue m declaring run name said) (same ∙ ap (λ s. s.modules) is) (subst (λ x. MixedTellsValue modules declaring x name said) stands tells)),
+  subst (λ m. MixedTellsValue m (declaring_at run.course) run.world name said) (same ∙ ap (λ s. s.modules) is)
+      (subst (λ x. MixedTellsValue modules (declaring_at run.course) x name said) stands (subst (λ d. MixedTellsValue modules d w name said) at tells)),
 )

@@ -1,6 +1,7 @@
 -- The answers to `swap`, of what was found of the file.
 use Rattle.std.proofs.Common.{◌≡◌, ◌==◌, ◌↔◌, ℕ, true, false, List, Option, Some, None, refl, ap, sym, subst, ◌∙◌, arith}
 use Rattle.std.proofs.lemmas.Bool.Decides.{nat_tests}
+use Rattle.sc_base.specs.declared.memory.Form.{Form}
 use Rattle.sc_base.specs.declared.memory.Form.TheVariants as form
 use Rattle.sc_object.specs.Spelling.{spelled}
 use Rattle.sc_object.specs.declared.object.Object.{Object}
@@ -9,10 +10,11 @@ use Rattle.sc_session_forms.specs.Differences.{difference}
 use Rattle.sc_session.specs.declared.swapping.Compared.{Compared}
 use Rattle.sc_session.specs.declared.swapping.Compared.TheVariants as compared
 use Rattle.sc_session.specs.Compiling.{object_file}
+use Rattle.sc_session.specs.Linking.{HasRoom, with_form}
 use Rattle.sc_session.specs.Modules.{object_named}
 use Rattle.sc_session.specs.Plain.{Plain}
 use Rattle.sc_session.specs.Swapping.{Compares, ComparesBytes, HasBytes, NotOursSaid}
-use Rattle.sc_session.specs.Transcript.{IsKept, Moment, Reforms, Swaps, moment}
+use Rattle.sc_session.specs.Transcript.{Forms, IsKept, Moment, Reforms, Swaps, moment}
 use Rattle.sc_words.specs.declared.answer.Answer.{Answer}
 use Rattle.sc_words.specs.declared.answer.Answer.TheVariants as answer
 use Rattle.sc_words.specs.declared.denied.Denied.{Denied}
@@ -39,6 +41,22 @@ module _ (old : Moment) (name : List ℕ) (object : Object) (held : Option FileM
 
 pub swap_none : (old : Moment) (name : List ℕ) (held : Option FileMap) (now : ℕ) (new : Plain) → held ≡ old.held → new ≡ old.session → Swaps old name form.Object answer.NoMemory (moment new held now)
 swap_none old name held now new same stays = (stays, same)
+
+-- a module gets a form, where it may
+pub forms_swaps : (old : Moment) (name : List ℕ) (f : Form) (said : Answer) (new : Plain) → f ≡ form.Source → Forms old.session name f said new → Swaps old name f said (moment new old.held old.faults)
+forms_swaps old name f said new is forms = subst (λ g. Swaps old name g said (moment new old.held old.faults)) (sym is) (by said (subst (λ g. Forms old.session name g said new) is forms))
+  where
+    by : (said : Answer) → Forms old.session name form.Source said new → Swaps old name form.Source said (moment new old.held old.faults)
+    by (answer.Swapped m g) p = (p.0, p.1, tt, (p.2, refl))
+    by answer.NoMemory p = (p, refl)
+    by (answer.Refused d) p = absurd p
+    by _ p = absurd p
+
+pub forms_reforms : (session : Plain) (name : List ℕ) (said : Answer) (new : Plain) → HasRoom (with_form name form.Object session.modules) session.numbers → Forms session name form.Object said new → Reforms session name said new
+forms_reforms session name (answer.Swapped m g) new room p = (p.0, p.1, room, p.2)
+forms_reforms session name answer.NoMemory new room p = p
+forms_reforms session name (answer.Refused (denied.Space a)) new room p = absurd p
+forms_reforms session name _ new room p = absurd p
 
 -- ---- the file
 

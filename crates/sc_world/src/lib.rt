@@ -15,9 +15,11 @@ mod rest;
 mod run;
 mod turn;
 
+pub use count::Count;
+pub use course::Course;
 pub use cost::{Before, noted, touched_last, touched_on};
 pub use halt::{Halt, Halted};
 pub use look::{Want, halt_if, wanted};
 pub use marks::Marks;
 pub use post::{MANY, Unsent, behind};
-pub use run::Run;
+pub use run::{Parts, Run};

@@ -29,7 +29,7 @@ use sc_base::{Items, NoMemory, Stack};
 use sc_core_held::Text;
 use sc_interp::Caller;
 use sc_interp_access::Ended;
-use sc_interp_world::{Frame, World};
+use sc_interp_world::{Frame, Layout, World};
 use sc_outside::Sink;
 use sc_words::{StopAt, Walk};
 use std::alloc::Global;
@@ -44,6 +44,15 @@ pub struct Run {
     callers: Stack<Caller>,
     world: World,
     count: Count,
+}
+
+/// What a run is made of.
+#[derive(Drop)]
+pub struct Parts {
+    pub course: Course,
+    pub callers: Stack<Caller>,
+    pub world: World,
+    pub count: Count,
 }
 
 impl Model for Run {
@@ -163,6 +172,36 @@ impl Run {
         let next = changed(course, old, new, &mut self.world)?;
         drop(mem::replace(&mut self.course, next));
         Ok(())
+    }
+
+    /// The objects of the run get addresses: each live one stands at the address that is given by its place in the list, one of the
+    /// heap in a block of its own. Nothing else changes.
+    ///
+    /// # Errors
+    ///
+    /// `NoMemory` also where they have addresses already, and where an object cannot stand at its address. Nothing is changed then.
+    pub fn remember(&mut self, layout: Layout, bases: &[u32]) -> Result<(), NoMemory>
+        ensures { self.new ≡ self.old }
+    {
+        self.world.remember(layout, bases)
+    }
+
+    /// The parts of the run.
+    pub fn apart(self) -> Parts
+        ensures { standing.standing result.course result.callers result.world result.count ≡ self }
+    {
+        let Run {
+            course,
+            callers,
+            world,
+            count,
+        } = self;
+        Parts {
+            course,
+            callers,
+            world,
+            count,
+        }
     }
 
     /// How the run ended, where it is over.
