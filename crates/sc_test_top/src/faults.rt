@@ -36,6 +36,12 @@ fn ended(alloc: Global, words: &[String], outside: &mut Outside) -> Status {
     )
 }
 
+// The same with no words.
+fn ended_plainly(alloc: Global, outside: &mut Outside) -> Status {
+    let words: Vec<String> = Vec::new(alloc);
+    ended(alloc, words.as_slice(), outside)
+}
+
 // Which call of the files fails, and what is written then.
 const FILE_FAULTS: [(u64, &[u8]); 4] = [
     (
@@ -59,7 +65,7 @@ fn each_call_of_the_files_fails_in_turn(rt: HostRuntime) -> Result<(), Fail> {
     for (call, text) in &FILE_FAULTS {
         let mut outside = outside(alloc, SCRIPT)?;
         outside.files.fails.push(*call)?;
-        let status = ended(alloc, &[], &mut outside);
+        let status = ended_plainly(alloc, &mut outside);
         assert_eq!(rt; status, Status::Done);
         assert_eq!(rt; outside.sink.bytes(), *text);
     }
@@ -70,13 +76,13 @@ fn each_call_of_the_files_fails_in_turn(rt: HostRuntime) -> Result<(), Fail> {
 fn each_write_fails_in_turn(rt: HostRuntime) -> Result<(), Fail> {
     let alloc = rt.alloc();
     let mut right = outside(alloc, SCRIPT)?;
-    let status = ended(alloc, &[], &mut right);
+    let status = ended_plainly(alloc, &mut right);
     assert_eq!(rt; status, Status::Done);
     assert_eq!(rt; right.sink.bytes(), WHOLE);
     for call in 0..right.sink.calls {
         let mut outside = outside(alloc, SCRIPT)?;
         outside.sink.fails.push(call)?;
-        let status = ended(alloc, &[], &mut outside);
+        let status = ended_plainly(alloc, &mut outside);
         assert_eq!(rt; status, Status::WriteFault);
         assert!(rt; WHOLE.starts_with(outside.sink.bytes()));
     }
@@ -89,7 +95,7 @@ fn each_read_fails_in_turn(rt: HostRuntime) -> Result<(), Fail> {
     for call in 0..4 {
         let mut outside = outside(alloc, SCRIPT)?;
         outside.source.fails.push(call)?;
-        let status = ended(alloc, &[], &mut outside);
+        let status = ended_plainly(alloc, &mut outside);
         if outside.source.faults == 0 {
             assert_eq!(rt; status, Status::Done);
             assert_eq!(rt; outside.sink.bytes(), WHOLE);
@@ -102,10 +108,10 @@ fn each_read_fails_in_turn(rt: HostRuntime) -> Result<(), Fail> {
 }
 
 fn made_words(alloc: Global, count: &str) -> Result<Vec<String>, AllocError> {
-    vec![in alloc;
-        String::from_str(alloc, "--make")?,
-        String::from_str(alloc, count)?,
-    ]
+    let mut words = Vec::new(alloc);
+    words.push(String::from_str(alloc, "--make")?)?;
+    words.push(String::from_str(alloc, count)?)?;
+    Ok(words)
 }
 
 const MADE: &[u8] = b"> made 1 modules 3 runs 11 lines 98 bytes\n";
