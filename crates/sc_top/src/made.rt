@@ -12,6 +12,7 @@ use sc_workload::{made_commands, made_folder, made_line};
 use std::alloc::Global;
 
 // The answers to the made commands, with the made files.
+#[tactic(auto, using(crate::proofs::MakingLemmas::answered_with))]
 fn answer_made(
     alloc: Global,
     options: &Options,
