@@ -1,5 +1,6 @@
 -- Arguments one after another.
-use Rattle.std.proofs.Common.{◌≡◌, ◌⊎◌, inl, inr, ◌+◌, ◌-◌, ◌<◌, ◌≤◌, ℕ, zero, suc, Bool, true, false, List, [], ◌∷◌, ◌++◌, length, drop, slice_get, Option, Some, None, refl, ap, sym, subst, ◌∙◌, arith}
+use Rattle.std.proofs.Common.{◌≡◌, ◌⊎◌, inl, inr, ◌+◌, ◌-◌, ◌<◌, ◌≤◌, ℕ, zero, suc, Bool, true, false, List, [], ◌∷◌, ◌++◌, length, drop, get_or, slice_get, Option, Some, None, refl, ap, sym, subst, ◌∙◌, arith}
+use Rattle.std.proofs.lemmas.List.{drop_more, length_push}
 use Rattle.sc_base.specs.declared.memory.Word.{Word}
 use Rattle.sc_emu.specs.Registers.{Registers, register}
 use Rattle.sc_meaning.specs.Values.{Value}
@@ -29,9 +30,10 @@ module _ (count : ℕ) (r : Registers) (vs : List Value) (x : Word) (v : Value) 
       (subst (λ (x : Word). stands x v ≡ true) (there (omega (arith, at, few))) is))
 
   pub one_more : AreFirst (count + 1) r (vs ++ v ∷ [])
-  one_more = record { many = let c = first.many in omega (arith, c); each = λ k y p few. each_more k y (got_last vs v y k p) few }
+  one_more = record { many = let c = first.many in length_push vs v ∙ ap (λ (n : ℕ). n + 1) c; each = λ k y p few. each_more k y (got_last vs v y k p) few }
 
 -- an argument is put, and the rest behind it
-pub puts_on : (i : ℕ) (vs : List Value) (v : Value) (first r q : Registers) → drop i vs ≡ v ∷ drop (i + 1) vs → PutsOne i v r q → ((s : Registers) → PutsArguments i (drop i vs) r s → PutsArguments 0 vs first s) → (s : Registers) → PutsArguments (i + 1) (drop (i + 1) vs) q s → PutsArguments 0 vs first s
-puts_on i vs v first r q is one on s p =
+pub puts_on : (i : ℕ) (vs : List Value) (v : Value) (first r q : Registers) → i < length vs → v ≡ get_or vs i v → PutsOne i v r q → ((s : Registers) → PutsArguments i (drop i vs) r s → PutsArguments 0 vs first s) → (s : Registers) → PutsArguments (i + 1) (drop (i + 1) vs) q s → PutsArguments 0 vs first s
+puts_on i vs v first r q inside at one on s p =
+    let is : drop i vs ≡ v ∷ drop (i + 1) vs = drop_more vs i v inside ∙ ap (λ (y : Value). y ∷ drop (i + 1) vs) (sym at) in
     on s (subst (λ (xs : List Value). PutsArguments i xs r s) (sym is) (one.0, one.1, subst (λ (t : Registers). PutsArguments (i + 1) (drop (i + 1) vs) t s) one.2 p))

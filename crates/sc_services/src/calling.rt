@@ -1,8 +1,7 @@
 // Service 1: compiled code calls interpreted code, or the library.
 ghost use Rattle.std.specs.Prelude.{◌≡◌, IfOk};
 ghost use Rattle.sc_core_held.specs.Found.{callee_found};
-ghost use Rattle.sc_emu.specs.Registers.{Registers};
-ghost use Rattle.sc_meaning.specs.Versions.{InText, callee_of as named};
+ghost use Rattle.sc_meaning.specs.Versions.{callee_of as named};
 ghost use Rattle.sc_services.specs.Arguments as counts;
 ghost use Rattle.sc_services.specs.Calling as spec;
 
@@ -86,19 +85,6 @@ fn parameter_count(f: &Fun) -> Result<u32, NoMemory>
     }
 }
 
-// How many arguments go to a function of a text; `None` for compiled code, which is not called so.
-fn text_count(t: &Text, f: &Fun) -> Result<Option<u32>, NoMemory>
-    ensures { IfOk result (λ count. (regs : Registers) → count ≡ counts.argument_count regs (InText t.now f.now)) }
-{
-    match t.form {
-        Form::Source => {
-            let n = parameter_count(f)?;
-            Ok(Some(n))
-        }
-        Form::Object => Ok(None),
-    }
-}
-
 // How many arguments go to what is called: none to what is missing, which has no answer; `None` for compiled code, which is not called so.
 fn argument_count(callee: Callee, regs: &Regs) -> Result<Option<u32>, NoMemory>
     ensures { IfOk result (λ count. count ≡ counts.argument_count regs.now (callee_found callee.entry)) }
@@ -106,7 +92,13 @@ fn argument_count(callee: Callee, regs: &Regs) -> Result<Option<u32>, NoMemory>
     match callee {
         Callee::Missing => Ok(Some(0)),
         Callee::InLibrary(f) => Ok(Some(arity(f, regs))),
-        Callee::InText(t, f) => text_count(t, f.get()),
+        Callee::InText(t, f) => match t.form {
+            Form::Source => {
+                let n = parameter_count(f.get())?;
+                Ok(Some(n))
+            }
+            Form::Object => Ok(None),
+        },
     }
 }
 
