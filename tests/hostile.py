@@ -97,6 +97,33 @@ def vanishing_files(folder):
     check("a file that vanishes", (first, second, third) == (b"> loaded gone\n", b"> refused C8 gone.c\n", b"> exit 0\n"))
 
 
+def object_prefixes(folder):
+    path = os.path.join(folder, "m.o")
+    session = subprocess.Popen([PROGRAM], stdin=subprocess.PIPE, stdout=subprocess.PIPE, cwd=folder)
+
+    def ask(command):
+        session.stdin.write(command + b"\n")
+        session.stdin.flush()
+        return session.stdout.readline()
+
+    ask(b"load m")
+    ask(b"compile m")
+    whole = open(path, "rb").read()
+    wrong = []
+    for length in range(len(whole)):
+        with open(path, "wb") as file:
+            file.write(whole[:length])
+        if ask(b"swap m object") != b"> refused C9 %d\n" % length or ask(b"run") != b"> exit 0\n":
+            wrong.append(length)
+    with open(path, "wb") as file:
+        file.write(whole)
+    last = (ask(b"swap m object"), ask(b"run"))
+    session.communicate(b"quit\n")
+    os.remove(path)
+    check("each front of an object", len(whole) > 52 and not wrong, "%d fronts %s" % (len(whole), wrong[:9]))
+    check("the object itself", last == (b"> m object\n", b"> exit 0\n"))
+
+
 def main():
     with tempfile.TemporaryDirectory() as folder:
         with open(os.path.join(folder, "m.c"), "w") as file:
@@ -106,6 +133,7 @@ def main():
         many_stops(folder)
         prefixes(folder)
         vanishing_files(folder)
+        object_prefixes(folder)
     print("%d passed, %d failed" % (checks - faults, faults))
     sys.exit(1 if faults else 0)
 

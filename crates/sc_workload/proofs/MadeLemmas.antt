@@ -1,5 +1,5 @@
 -- Texts and files with one more.
-use Rattle.std.proofs.Common.{◌≡◌, ◌∙◌, ℕ, suc, ◌+◌, List, [], ◌++◌, Option, Some, cond, refl, sym, ap, ap₂, arith, String, string_bytes}
+use Rattle.std.proofs.Common.{◌≡◌, ◌∙◌, ℕ, suc, ◌+◌, List, [], ◌++◌, Some, cond, refl, sym, ap, ap₂, arith, String, string_bytes}
 use Rattle.std.specs.Str.{bytes_eq}
 use Rattle.std.specs.String.{string_cmp}
 use Rattle.std.specs.BTreeMap.{BTreeMap, get_by_text, Updates}

@@ -1,6 +1,6 @@
 -- Yardstick: to be compared with what it restates (docs/TRUST.md).
 -- A program that is made: its files, the commands that run it, and the line that tells of it.
-use Rattle.std.specs.Prelude.{ℕ, zero, suc, ◌+◌, ◌%◌, Bool, ◌==◌, if◌then◌else◌, List, [], ◌++◌, length, Option, Some, None, codes, decimal}
+use Rattle.std.specs.Prelude.{ℕ, zero, suc, ◌+◌, ◌%◌, Bool, ◌==◌, if◌then◌else◌, List, [], ◌++◌, length, Some, None, codes, decimal}
 use Rattle.std.specs.List.{filter}
 use Rattle.std.specs.Str.{bytes_eq}
 use Rattle.sc_outside.specs.Stored.{FileMap}
