@@ -2,11 +2,11 @@
 use Rattle.std.proofs.Common.{◌≡◌, ℕ, zero, suc, ◌+◌, ◌<◌, ◌≤◌, nat_le, Bool, true, false, if◌then◌else◌, List, [], ◌∷◌, ◌++◌, refl, ap, sym, subst, ◌∙◌, arith, add-one, Option, Some, None}
 use Rattle.sc_meaning.specs.World.{World, Event, Frame, Happens, GoesOut, ComesBack, events, pass}
 use Rattle.sc_meaning.specs.Outcomes.{Outcome, Done, Over, Ending, Exit, and_then, world_after, world_at, went}
-use Rattle.sc_meaning.specs.Versions.{Text, Version, History, callee_of, version_at}
+use Rattle.sc_meaning.specs.Versions.{Text, Version, History, version_at}
 use Rattle.sc_meaning.specs.Changes.{changed, happened, settled, statics_born}
 use Rattle.sc_meaning.specs.Expressions.{Answer}
 use Rattle.sc_meaning.specs.Calls.{call}
-use Rattle.sc_meaning.specs.Behaviour.{Start, first_world, main_key, main_called, started as begun, ending, ending_of, events_upto, status_of}
+use Rattle.sc_meaning.specs.Behaviour.{Start, first_world, main_key, main_called, ending, ending_of, events_upto, status_of}
 use Rattle.sc_meaning.specs.Laws.{Leads, with_history}
 use Rattle.sc_meaning.proofs.Steps.{here, one_more}
 use Rattle.sc_meaning.proofs.Deeper.{ending_world}
@@ -27,7 +27,6 @@ use Rattle.sc_interp.specs.Steady.{alone}
 use Rattle.sc_interp.specs.Ends.{start_of}
 use Rattle.sc_interp.specs.Steps.{is_over}
 use Rattle.sc_interp.proofs.Unchanged.{present}
-use Rattle.sc_interp_change_laws.specs.Coming.{HaveCome}
 use Rattle.sc_interp_change_laws.specs.Following.{changed_state, reached_in, LastShows, Shows}
 use Rattle.sc_interp_change_laws.specs.Showing.{IsEvent}
 use Rattle.sc_interp_change_laws.proofs.Between.{count_grows, event_counts}
@@ -43,18 +42,20 @@ use Rattle.sc_world.specs.declared.halt.Halt.TheVariants.{Entered, AtLine, Ended
 use Rattle.sc_world.specs.Changing.{in_world, changed_to, changed_standing}
 use Rattle.sc_world.specs.Standing as standings
 use Rattle.sc_world.specs.Standing.{Standing}
-use Rattle.sc_world.specs.Wants.{Want, wanted, else_over, halts, halt_or, else_paused, rests, taken}
-use Rattle.sc_world.specs.Goes.{Gone, gone, here_or, seen, stepped, with_status, closed, Leaves, Goes, want_of, main_next, first_from, started}
+use Rattle.sc_world.specs.Wants.{Want, wanted, else_over, halt_or, else_paused, rests, taken}
+use Rattle.sc_world.specs.Goes.{Gone, gone, here_or, stepped, with_status, closed, Leaves, Goes, want_of, main_next, started}
 use Rattle.sc_world_change_laws.specs.Through.{IsAt, StandsIn, IsBehind, IsBehindEvent, IsRunThrough, HaltsBehind}
 
 -- ---- where a run is over
 
-ran_reached : (h : History) (w : World) (j k : ℕ) → runs.ran j h (reached_in h w k) ≡ reached_in h w (j + k)
-ran_reached h w zero k = refl
-ran_reached h w (suc j) k = ran_reached h w j (suc k) ∙ ap (reached_in h w) (omega arith)
+ran_reached : (h : History) (w : World) (j k n : ℕ) → n ≡ j + k → runs.ran j h (reached_in h w k) ≡ reached_in h w n
+ran_reached h w zero k n e =
+    let same : k ≡ n = omega (arith, e) in
+    subst (λ m. reached_in h w k ≡ reached_in h w m) same refl
+ran_reached h w (suc j) k n e = ran_reached h w j (suc k) n (omega (arith, e))
 
 from_first : (h : History) (w : World) (k : ℕ) → runs.ran k h (reached_in h w 0) ≡ reached_in h w k
-from_first h w k = ran_reached h w k 0 ∙ ap (reached_in h w) (omega arith)
+from_first h w k = ran_reached h w k 0 k (omega arith)
 
 comes : (s : Start) (h : History) (n : ℕ) (born : World) (r : Outcome Answer) → settled h (first_world s) ≡ Done tt born → call n h main_key [] (pass GoesOut born) ≡ r → ending n (with_history s h) ≡ ending_of (and_then r (λ a w. Done a (pass ComesBack w)))
 comes s h n born r p q =
@@ -93,7 +94,9 @@ module _ (s : Start) (h : History) (texts : List Text) where
 
     onward : IsAt s h texts (k + 1) (next st)
     onward = record {
-      born = p.born; births = p.births; stands = there;
+      born = p.born;
+      births = p.births;
+      stands = there;
       come = have_later (world_of st).count (world_of (next st)).count h grows p.come;
       present = present_stays (world_of st).count (world_of (next st)).count h grows p.come ∙ p.present;
     }
@@ -107,7 +110,12 @@ module _ (s : Start) (h : History) (texts : List Text) where
 
     behind : IsEvent (shown (alone texts) texts st) → IsBehind s h texts (k + 1) (next st) (world_of (next st)).count
     behind e = record {
-      born = p.born; births = p.births; stands = there; come = onward.come; present = onward.present; shows = last_shows e;
+      born = p.born;
+      births = p.births;
+      stands = there;
+      come = onward.come;
+      present = onward.present;
+      shows = last_shows e;
     }
 
   step_stands : (k : ℕ) (st : State) → StandsIn s h texts k st → StandsIn s h texts (k + 1) (next st)
@@ -166,7 +174,9 @@ module _ (s : Start) (h : History) (texts : List Text) where
   behind_stands k st c p =
       let le : c ≤ (world_of st).count = subst (λ t. c ≤ (world_of t).count) p.stands (last_later h p.born k c p.shows) in
       reached s h texts k st (record {
-        born = p.born; births = p.births; stands = p.stands;
+        born = p.born;
+        births = p.births;
+        stands = p.stands;
         come = have_later c (world_of st).count h le p.come;
         present = present_stays c (world_of st).count h le p.come ∙ p.present;
       })
@@ -324,19 +334,27 @@ module _ (s : Start) (texts : List Text) where
 
   first_behind : (born : World) → statics_born texts (first_world s) ≡ Done tt born → IsEvent (entry_shown (main_next texts [] born)) → (count : ℕ) × IsBehind s (alone texts) texts 0 (main_next texts [] born) count
   first_behind born p e =
-      let c : ℕ = (world_of (main_next texts [] born)).count in
-      (c, record {
-        born = born; births = settles ∙ p; stands = first_steady texts born;
-        come = (omega arith, tt); present = present texts c;
-        shows = subst (λ ts. Shows born.count ts c (λ g. reached_in g born 0)) (sym (present texts born.count)) (first_shows (alone texts) texts born e);
-      })
+      let c : ℕ = (world_of (main_next texts [] born)).count in (
+        c,
+        record {
+          born = born;
+          births = settles ∙ p;
+          stands = first_steady texts born;
+          come = (omega arith, tt);
+          present = present texts c;
+          shows = subst (λ ts. Shows born.count ts c (λ g. reached_in g born 0)) (sym (present texts born.count)) (first_shows (alone texts) texts born e);
+        },
+      )
 
   first_at : (born : World) → statics_born texts (first_world s) ≡ Done tt born → StandsIn s (alone texts) texts 0 (main_next texts [] born)
   first_at born p =
       let st : State = main_next texts [] born in
       reached s (alone texts) texts 0 st (record {
-        born = born; births = settles ∙ p; stands = first_steady texts born;
-        come = (omega arith, tt); present = present texts (world_of st).count;
+        born = born;
+        births = settles ∙ p;
+        stands = first_steady texts born;
+        come = (omega arith, tt);
+        present = present texts (world_of st).count;
       })
 
   births_over : (e : Ending) → statics_born texts (first_world s) ≡ Over e → (n : ℕ) → ending n (with_history s (alone texts)) ≡ e
