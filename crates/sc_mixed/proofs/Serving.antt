@@ -1,5 +1,5 @@
 -- Services, from what they say of the world to what they say of the run.
-use Rattle.std.proofs.Common.{◌≡◌, ◌+◌, ◌-◌, ℕ, List, Result, Ok, Err, Option, Some, None, refl, ap, sym, subst, ◌∙◌}
+use Rattle.std.proofs.Common.{◌≡◌, ◌+◌, ◌-◌, ℕ, Bool, List, Result, Ok, Err, Option, Some, None, refl, ap, sym, subst, ◌∙◌}
 use Rattle.std.specs.Prelude.{IfOk}
 use Rattle.sc_base.specs.declared.key.Key.{Key}
 use Rattle.sc_emu.specs.Registers.{Registers, register}
@@ -27,7 +27,8 @@ use Rattle.sc_services.specs.declared.calling.Asked.TheVariants as asked
 use Rattle.sc_services.specs.declared.entering.Entered.{Entered}
 use Rattle.sc_services.specs.declared.leaving.Left.{Left}
 use Rattle.sc_world.specs.Standing.{state_of}
-use Rattle.sc_world.proofs.Courses.{state_is}
+use Rattle.sc_world.specs.Costs.{is_back, touched}
+use Rattle.sc_world.proofs.Courses.{is_state, state_is}
 use Rattle.sc_mixed.specs.Machine.{CallsOut, IsCallMoved, LeavesWith, ServesCall, ServesEnter, called_state}
 use Rattle.sc_mixed.specs.Parts.{CallGoes, CallsKey, CallsKeyOut, EnteredSo, LeftSo}
 use Rattle.sc_mixed.specs.declared.broken.Break.{Break}
@@ -70,3 +71,10 @@ pub left_so : (block : ℕ) (a : Answer) (i : Image) (c d : Calls) (w v : World)
 left_so block a i c d w v how (Ok moved) p q = (q.0, (how, p, q.1, q.2))
 left_so block a i c d w v how (Err (Meant stopped)) p q = absurd q
 left_so block a i c d w v how (Err (Crashed pc cause)) p q = (subst (λ (x : Left). Leaves block (cost_here i c.regs) w x v) q.0 p, q.1)
+
+-- what a call shows that goes on so, and its turns
+pub call_moved : (g : Going) (cs : List Caller) (w v : World) (s : State) (shown : Shown) (turns bytes : ℕ) (b : Bool) → s ≡ state_of g cs v → ((s : State) (cs : List Caller) (w : World) → Is s g cs w → shown ≡ entry_shown s) → turns ≡ 1 + bytes → bytes ≡ touched b w 0 v → ((cs : List Caller) (u : World) → b ≡ is_back (state_of g cs u)) → IsCallMoved s w (record { shown = shown; turns = turns }) v
+call_moved g cs w v s shown turns bytes b at shows many costs back = record {
+  shown = shows s cs v (subst (λ (x : State). Is x g cs v) (sym at) (is_state g cs v));
+  turns = many ∙ ap (λ (k : ℕ). 1 + k) (costs ∙ ap (λ (x : Bool). touched x w 0 v) (back cs v ∙ ap is_back (sym at)));
+}
