@@ -109,9 +109,11 @@ module _ (texts : List Text) (i : Image) (want : Want) (first : Standing) where
       (took + 1, reaches_further took 1 (standing_on i c w next now) (standing_over i d v (ended_by broken)) reach free (leads_over i c d w v next after now broken p))
 
   pub is_lost_at : (took : ℕ) (next after : Next) (c d : Calls) (w v : World) (now : Shown) (broken : Break) → Reaches texts want first took (standing_on i c w next now) → rests_in want took c w (On next now) ≡ None → broken ≡ Meant stop.NoRoom → Comes texts i want first (turned.Over broken) after d v
-  is_lost_at took next after c d w v now broken reach free is =
-      (took + 1, reaches_further took 1 (standing_on i c w next now) (standing_over i d v (ended_by broken)) reach free
-      (subst (λ (b : Break). Leads texts 1 (standing_on i c w next now) (standing_over i d v (ended_by b))) (sym is) (leads_lost i c d w v next now)))
+  is_lost_at took next after c d w v now broken reach free is = (
+    took + 1,
+    reaches_further took 1 (standing_on i c w next now) (standing_over i d v (ended_by broken)) reach free
+        (subst (λ (b : Break). Leads texts 1 (standing_on i c w next now) (standing_over i d v (ended_by b))) (sym is) (leads_lost i c d w v next now)),
+  )
 
   last_over : (k took : ℕ) (c d : Calls) (w v : World) (after : Next) (broken : Break) → Executing (took + k) c w → LastMoves k i c w (Err broken) after d v → Comes texts i want first (turned.Over broken) after d v
   last_over k took c d w v after broken at p = ends_at (took + k) Executes c d w v after at.now broken at.reaches at.free p
