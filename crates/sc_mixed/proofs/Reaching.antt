@@ -14,7 +14,7 @@ use Rattle.sc_world.specs.Wants.{Want, else_paused, halt_if}
 use Rattle.sc_world.specs.declared.halt.Halt.{Halt}
 use Rattle.sc_world.specs.declared.halt.Halt.TheVariants.{Paused}
 use Rattle.sc_mixed.specs.Bridge.{with_registers}
-use Rattle.sc_mixed.specs.Goes.{Leads, Reaches, leads_lost, leads_on, leads_over, reaches_further, reaches_here, rests_in}
+use Rattle.sc_mixed.specs.Goes.{Leads, Reaches, halts_in, leads_lost, leads_on, leads_over, reaches_further, reaches_here, rests_in}
 use Rattle.sc_mixed.specs.Instructions.{Instruction, Ran, ran_further, ran_none}
 use Rattle.sc_mixed.specs.Machine.{Executed, Moves, quiet}
 use Rattle.sc_mixed.specs.Parts.{Comes, ExecutesUpto, LastMoves, MovedUpto, MovesUpto, later}
@@ -109,9 +109,11 @@ module _ (texts : List Text) (i : Image) (want : Want) (first : Standing) where
       (took + 1, reaches_further took 1 (standing_on i c w next now) (standing_over i d v (ended_by broken)) reach free (leads_over i c d w v next after now broken p))
 
   pub is_lost_at : (took : ℕ) (next after : Next) (c d : Calls) (w v : World) (now : Shown) (broken : Break) → Reaches texts want first took (standing_on i c w next now) → rests_in want took c w (On next now) ≡ None → broken ≡ Meant stop.NoRoom → Comes texts i want first (turned.Over broken) after d v
-  is_lost_at took next after c d w v now broken reach free is =
-      (took + 1, reaches_further took 1 (standing_on i c w next now) (standing_over i d v (ended_by broken)) reach free
-      (subst (λ (b : Break). Leads texts 1 (standing_on i c w next now) (standing_over i d v (ended_by b))) (sym is) (leads_lost i c d w v next now)))
+  is_lost_at took next after c d w v now broken reach free is = (
+    took + 1,
+    reaches_further took 1 (standing_on i c w next now) (standing_over i d v (ended_by broken)) reach free
+        (subst (λ (b : Break). Leads texts 1 (standing_on i c w next now) (standing_over i d v (ended_by b))) (sym is) (leads_lost i c d w v next now)),
+  )
 
   last_over : (k took : ℕ) (c d : Calls) (w v : World) (after : Next) (broken : Break) → Executing (took + k) c w → LastMoves k i c w (Err broken) after d v → Comes texts i want first (turned.Over broken) after d v
   last_over k took c d w v after broken at p = ends_at (took + k) Executes c d w v after at.now broken at.reaches at.free p
@@ -125,3 +127,21 @@ module _ (texts : List Text) (i : Image) (want : Want) (first : Standing) where
   pub comes_over : (took : ℕ) (now : Shown) (next : Next) (c d : Calls) (w v : World) (after : Next) (broken : Break) → Reaches texts want first took (standing_on i c w next now) → rests_in want took c w (On next now) ≡ None → (broken ≡ Meant stop.NoRoom) ⊎ MovesUpto texts i (want.turns - took) next c w (Err broken) after d v → Comes texts i want first (turned.Over broken) after d v
   comes_over took now next c d w v after broken reach free (inl p) = is_lost_at took next after c d w v now broken reach free p
   comes_over took now next c d w v after broken reach free (inr p) = over_by took now next c d w v after broken reach free p
+
+  -- ---- the same from what a call told
+
+  left_at : (n took : ℕ) (c : Calls) (w : World) (next : Next) (now : Shown) → n ≡ want.turns → rests_in want took c w (On next now) ≡ None → took < n
+  left_at n took c w next now same free = subst (λ (k : ℕ). took < k) (sym same) (turns_left (halts_in want c w (On next now)) want.turns took free)
+
+  moved_there : (n took : ℕ) (now : Shown) (next : Next) (c d : Calls) (w v : World) (after : Next) (result : Result Shown Break) (then : ℕ) → n ≡ want.turns → rests_in want took c w (On next now) ≡ None → (took < n → MovedUpto texts i (n - took) next c w took result after d v then) → MovedUpto texts i (want.turns - took) next c w took result after d v then
+  moved_there n took now next c d w v after result then same free p = subst (λ (k : ℕ). MovedUpto texts i (k - took) next c w took result after d v then) same (p (left_at n took c w next now same free))
+
+  pub further_by : (n took : ℕ) (now : Shown) (next : Next) (c d : Calls) (w v : World) (after : Next) (result : Result Shown Break) (shown : Shown) (then : ℕ) → n ≡ want.turns → Reaches texts want first took (standing_on i c w next now) → rests_in want took c w (On next now) ≡ None → (took < n → MovedUpto texts i (n - took) next c w took result after d v then) → result ≡ Ok shown → Reaches texts want first then (standing_on i d v after shown)
+  further_by n took now next c d w v after result shown then same reach free p is =
+      moves_on took now next c d w v after shown then reach free
+      (subst (λ (r : Result Shown Break). MovedUpto texts i (want.turns - took) next c w took r after d v then) is (moved_there n took now next c d w v after result then same free p))
+
+  pub over_at : (n took : ℕ) (now : Shown) (next : Next) (c d : Calls) (w v : World) (after : Next) (result : Result Shown Break) (broken : Break) (then : ℕ) → n ≡ want.turns → Reaches texts want first took (standing_on i c w next now) → rests_in want took c w (On next now) ≡ None → (took < n → MovedUpto texts i (n - took) next c w took result after d v then) → result ≡ Err broken → Comes texts i want first (turned.Over broken) after d v
+  over_at n took now next c d w v after result broken then same reach free p is =
+      comes_over took now next c d w v after broken reach free
+      (subst (λ (r : Result Shown Break). MovedUpto texts i (want.turns - took) next c w took r after d v then) is (moved_there n took now next c d w v after result then same free p))

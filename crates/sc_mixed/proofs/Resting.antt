@@ -8,10 +8,12 @@ use Rattle.sc_interp_access.specs.declared.ended.Ended.TheVariants as ended
 use Rattle.sc_isa_image.specs.declared.image.Image.{Image}
 use Rattle.sc_meaning.specs.Versions.{Text}
 use Rattle.sc_meaning.specs.World.{World, ComesBack, pass}
+use Rattle.sc_words.specs.declared.stop.StopAt.{StopAt}
+use Rattle.sc_words.specs.declared.stop.Walk.{Walk}
 use Rattle.sc_world.specs.Wants.{Want, else_over, else_paused, halt_if, wanted}
 use Rattle.sc_world.specs.declared.halt.Halt.{Halt}
 use Rattle.sc_world.specs.declared.halt.Halt.TheVariants.{Ended, Paused}
-use Rattle.sc_mixed.specs.Goes.{Goes, Reaches, lost_at, reaches_here, rested, rested_by, rested_in, rests, rests_at, rests_in}
+use Rattle.sc_mixed.specs.Goes.{Goes, GoesTo, Reaches, want_from, lost_at, reaches_here, rested, rested_by, rested_in, rests, rests_at, rests_in}
 use Rattle.sc_mixed.specs.Parts.{ClosesSo, Comes, ComesBackSo, else_rests, standing_at}
 use Rattle.sc_mixed.specs.Standing.{Standing, ended_by, standing_on, standing_over, status_at}
 use Rattle.sc_mixed.specs.declared.broken.Break.{Break}
@@ -67,3 +69,14 @@ ends_so texts want first i c w next broken end is p =
 pub over_stays : (texts : List Text) (want : Want) (i : Image) (c : Calls) (w : World) (course : Course) (end : MixedEnd) → course ≡ Over end → Goes texts want (standing_at i c w course) Ended (standing_at i c w (Over end))
 over_stays texts want i c w course end is =
     subst (λ (x : Course). Goes texts want (standing_at i c w x) Ended (standing_at i c w (Over end))) (sym is) (rests_at 0 (standing_over i c w end) reaches_here refl refl)
+
+-- a go by what the code has of it
+abbrev want_by : List StopAt → Walk → ℕ → ℕ → Want
+want_by stops walk since turns = record { stops = stops; walk = walk; since = since; turns = turns; before = 0 }
+
+pub go_so : (texts : List Text) (stops marks : List StopAt) (walk : Walk) (turns since : ℕ) (old first last new : Standing) (halt : Halt) → marks ≡ stops → since ≡ old.world.enters → first ≡ old → last ≡ new → Goes texts (want_by marks walk since turns) first halt last → GoesTo texts stops walk turns old halt new
+go_so texts stops marks walk turns since old first last new halt same at is so p =
+    subst (λ (m : Standing). Goes texts (want_from stops walk turns old) old halt m) so
+    (subst (λ (m : Standing). Goes texts (want_from stops walk turns old) m halt last) is
+    (subst (λ (n : ℕ). Goes texts (want_by stops walk n turns) first halt last) at
+    (subst (λ (xs : List StopAt). Goes texts (want_by xs walk since turns) first halt last) same p)))

@@ -92,7 +92,10 @@ pub fn execute_some(image: &Image, most: u64, regs: &mut Regs, world: &mut World
     for k in 0..most {
         match execute(image, regs, world) {
             Went::On => (),
-            other => return Executed { count: k + 1, went: other },
+            other => return Executed {
+                count: k + 1,
+                went: other,
+            },
         }
     }
     Executed {

@@ -49,12 +49,7 @@ fn way_of(texts: &[Text], going: &Going, calls: &Calls, world: &World) -> Result
 }
 
 // A step behind which the run goes on, with its turns: one, and one more for each byte that it touched.
-fn stepped(
-    shown: Shown,
-    before: Before,
-    going: &Going,
-    world: &World,
-) -> Result<Moved, NoMemory>
+fn stepped(shown: Shown, before: Before, going: &Going, world: &World) -> Result<Moved, NoMemory>
     ensures { (s t : runs.State) (cs : List Waiting) → IsBefore before s → t ≡ state_of going.now cs world.now → IfOk result (λ moved. (moved.shown ≡ shown) × (moved.turns ≡ cost s t)) }
 {
     match touched_on(before, going, world).checked_add(1) {

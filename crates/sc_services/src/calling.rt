@@ -103,12 +103,7 @@ fn argument_count(callee: Callee, regs: &Regs) -> Result<Option<u32>, NoMemory>
 }
 
 // A function is called with so many arguments.
-fn called_with(
-    key: &Key,
-    count: u32,
-    regs: &Regs,
-    world: &World,
-) -> Result<Asked, NoMemory>
+fn called_with(key: &Key, count: u32, regs: &Regs, world: &World) -> Result<Asked, NoMemory>
     ensures { IfOk result (λ asked. spec.CallsWith key.now count regs.now world.now asked) }
 {
     match arguments(count, regs, world)? {
@@ -121,12 +116,7 @@ fn called_with(
 }
 
 // A function is called, where it may be.
-fn called_by(
-    key: &Key,
-    texts: &[Text],
-    regs: &Regs,
-    world: &World,
-) -> Result<Asked, NoMemory>
+fn called_by(key: &Key, texts: &[Text], regs: &Regs, world: &World) -> Result<Asked, NoMemory>
     ensures { IfOk result (λ asked. spec.CallsBy key.now (counts.argument_count regs.now (named texts.now key.now)) regs.now world.now asked) }
 {
     match argument_count(callee_of(texts, key), regs)? {

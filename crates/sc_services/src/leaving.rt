@@ -88,12 +88,7 @@ fn leave_call(cost: u32, world: &mut World) -> Result<(), NoMemory>
 }
 
 // A block is left, and with that of the parameters the call.
-fn leave_to(
-    block: u32,
-    regs: &Regs,
-    image: &Image,
-    world: &mut World,
-) -> Result<Left, NoMemory>
+fn leave_to(block: u32, regs: &Regs, image: &Image, world: &mut World) -> Result<Left, NoMemory>
     ensures { IfOk result (λ left. leaving.Leaves block (leaving.cost_here image.now regs.now) world.old left world.new) }
 {
     if !is_in_code(world) || !is_open(block, world) {
