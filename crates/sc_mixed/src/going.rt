@@ -1,10 +1,12 @@
 // Where a go leaves a run.
-ghost use Rattle.std.specs.Prelude.{◌≡◌};
+ghost use Rattle.std.specs.Prelude.{◌≡◌, ◌≤◌, Err, IfOk};
 ghost use Rattle.sc_mixed.specs.Goes.{Goes};
 ghost use Rattle.sc_mixed.specs.Parts as parts;
 ghost use Rattle.sc_mixed.specs.Standing as spec;
-ghost use Rattle.sc_mixed.specs.declared.course.Course.TheVariants.{Over};
-ghost use Rattle.sc_mixed.specs.declared.ended.MixedEnd as ends;
+ghost use Rattle.sc_meaning.specs.World as worlds;
+ghost use Rattle.sc_outside.specs.Causes.{Rose};
+ghost use Rattle.sc_world.specs.Wants as wants;
+ghost use Rattle.sc_world.specs.declared.post.Unsent.TheVariants as unsent;
 
 use crate::broken::end_of;
 use crate::calls::{Calls, Next};
@@ -15,7 +17,8 @@ use sc_core_held::Text;
 use sc_interp::Shown;
 use sc_interp_world::World;
 use sc_isa_image::Image;
-use sc_world::{Halt, Want};
+use sc_outside::Sink;
+use sc_world::{Halt, Unsent, Want};
 
 /// Why a go halted, and how the run goes on from there, or ended.
 #[derive(Drop)]
@@ -26,15 +29,7 @@ pub struct Rested {
 
 // What the turns of a go came to.
 #[tactic(auto, using(crate::proofs::Resting::rests_so, crate::proofs::Resting::ends_so))]
-fn left_by(
-    texts: &[Text],
-    image: &Image,
-    want: &Want,
-    turned: Turned,
-    next: Next,
-    calls: &Calls,
-    world: &mut World,
-) -> Rested
+fn left_by(texts: &[Text], image: &Image, want: &Want, turned: Turned, next: Next, calls: &Calls, world: &mut World) -> Rested
     ensures { (first : spec.Standing) → parts.Comes texts.now image.now want.now first turned next calls.now world.old → Goes texts.now want.now first result.halt (parts.standing_at image.now calls.now world.new result.course) }
 {
     match turned {
@@ -53,7 +48,7 @@ fn left_by(
 }
 
 // A go of a run that goes on.
-fn goes_on(
+fn goes_on<K: Sink>(
     texts: &[Text],
     image: &Image,
     want: &Want,
@@ -61,31 +56,49 @@ fn goes_on(
     mut next: Next,
     calls: &mut Calls,
     world: &mut World,
-) -> Rested
-    ensures { Goes texts.now want.now (spec.standing_on image.now calls.old world.old next shown) result.halt (parts.standing_at image.now calls.new world.new result.course) }
+    sent: &mut usize,
+    out: &mut K,
+) -> Result<Rested, Unsent>
+    ensures goes { IfOk result (λ r. Goes texts.now want.now (spec.standing_on image.now calls.old world.old next shown) r.halt (parts.standing_at image.now calls.new world.new r.course)) }
+    ensures later { K.faults out.old ≤ K.faults out.new }
+    ensures failed { result ≡ Err unsent.Failed → Rose (K.faults out.old) (K.faults out.new) }
 {
-    let turned = turns_taken(texts, image, want, shown, &mut next, calls, world);
-    left_by(texts, image, want, turned, next, calls, world)
+    match turns_taken(texts, image, want, shown, &mut next, calls, world, sent, out) {
+        Ok(turned) => Ok(left_by(texts, image, want, turned, next, calls, world)),
+        Err(unsent) => {
+            drop(next);
+            Err(unsent)
+        }
+    }
 }
 
 /// A go of a run. One that is over stays so.
+///
+/// # Errors
+///
+/// `Unsent` where what the program wrote could not be written.
 #[tactic(auto, using(crate::proofs::Resting::over_stays))]
-pub fn goes_from(
+pub fn goes_from<K: Sink>(
     course: Course,
     texts: &[Text],
     image: &Image,
     want: &Want,
     calls: &mut Calls,
     world: &mut World,
-) -> Rested
-    ensures goes { Goes texts.now want.now (parts.standing_at image.now calls.old world.old course) result.halt (parts.standing_at image.now calls.new world.new result.course) }
-    ensures over { (end : ends.MixedEnd) → course ≡ Over end → (result.course ≡ Over end) × (calls.new ≡ calls.old) × (world.new ≡ world.old) }
+    sent: &mut usize,
+    out: &mut K,
+) -> Result<Rested, Unsent>
+    ensures goes { IfOk result (λ r. Goes texts.now want.now (parts.standing_at image.now calls.old world.old course) r.halt (parts.standing_at image.now calls.new world.new r.course)) }
+    ensures later { K.faults out.old ≤ K.faults out.new }
+    ensures failed { result ≡ Err unsent.Failed → Rose (K.faults out.old) (K.faults out.new) }
 {
     match course {
-        Course::Over(end) => Rested {
+        Course::Over(end) => Ok(Rested {
             halt: Halt::Ended,
             course: Course::Over(end),
-        },
-        Course::On(next, shown) => goes_on(texts, image, want, shown, next, calls, world),
+        }),
+        Course::On(next, shown) => {
+            goes_on(texts, image, want, shown, next, calls, world, sent, out)
+        }
     }
 }

@@ -1,12 +1,12 @@
 // A run of both forms that is kept between goes.
-ghost use Rattle.std.specs.Prelude.{◌≡◌, ◌⊎◌, IfOk, MatchOption, None, Some, reverse};
+ghost use Rattle.std.specs.Prelude.{◌≡◌, ◌≤◌, Err, IfOk, MatchOption, None, OnErr, Some, reverse};
 ghost use Rattle.sc_interp_world.specs.Outputs.{output};
-ghost use Rattle.sc_meaning.specs.Laws.{Leads};
 ghost use Rattle.sc_mixed.specs.Goes.{GoesTo};
-ghost use Rattle.sc_mixed.specs.declared.ended.MixedEnd as ends;
 ghost use Rattle.sc_mixed.specs.Standing as spec;
 ghost use Rattle.sc_mixed.specs.Starting as starting;
+ghost use Rattle.sc_outside.specs.Causes.{Rose};
 ghost use Rattle.sc_world.specs.Declaring as objects;
+ghost use Rattle.sc_world.specs.declared.post.Unsent.TheVariants as unsent;
 
 use crate::begin::begun;
 use crate::broken::{Break, end_of};
@@ -24,8 +24,9 @@ use sc_interp_machine::Doing;
 use sc_interp_parts::id_of;
 use sc_interp_world::{Frame, World};
 use sc_isa_image::Image;
+use sc_outside::Sink;
 use sc_words::{StopAt, Walk};
-use sc_world::{Halt, Marks, Want};
+use sc_world::{Halted, Marks, Unsent, Want};
 use std::alloc::Global;
 use std::marker::Model;
 use std::mem;
@@ -41,7 +42,6 @@ pub struct MixedRun {
 
 impl Model for MixedRun {
     ghost use Rattle.std.specs.Coded.{codes};
-    ghost use Rattle.sc_isa_image.specs.contracts.image.Image as images;
     ghost use Rattle.sc_types.specs.contracts.ctype.CType as types;
     ghost use Rattle.sc_types.specs.contracts.ctype.Signature as signatures;
     ghost use Rattle.sc_core.specs.contracts.expression.CoreExpr as expressions;
@@ -50,7 +50,7 @@ impl Model for MixedRun {
 
     ghost Value = { spec.Standing };
 
-    ghost coded = { Prim.hlevel (codes, images.the_row.coded, types.the_row.coded, signatures.the_row.coded, expressions.the_row.coded, statements.the_row.coded) };
+    ghost coded = { Prim.hlevel (codes, types.the_row.coded, signatures.the_row.coded, expressions.the_row.coded, statements.the_row.coded) };
 
     ghost view = { λ r. record { world = r.world; image = r.image; calls = r.calls; course = r.course } };
 }
@@ -67,7 +67,7 @@ fn course_of(first: Result<(Next, Shown), Break>) -> Result<Course, NoMemory>
 }
 
 // No call is there yet.
-pub(crate) fn no_calls(alloc: Global) -> Calls
+fn no_calls(alloc: Global) -> Calls
     ensures { result ≡ starting.no_calls }
 {
     Calls {
@@ -148,13 +148,24 @@ impl MixedRun {
     }
 
     /// The run goes on, up to the first place that halts it, or where it has taken the turns that are given: `Halt` says which. Each move
-    /// is one turn, and one more for each byte that it touches. A run that is over stays as it is. What the program writes is kept, and
-    /// left to the caller.
-    #[tactic(auto, using(crate::proofs::Growing::goes_lead))]
-    pub fn go(&mut self, texts: &[Text], stops: &[StopAt], walk: Walk, turns: u64) -> Halt
-        ensures goes { GoesTo texts.now stops.now walk turns self.old result self.new }
-        ensures adds { spec.IsLost self.new ⊎ Leads self.old.world self.new.world }
-        ensures over { (end : ends.MixedEnd) → spec.end_of self.old ≡ Some end → self.new ≡ self.old }
+    /// is one turn, and one more for each byte that it touches. A run that is over stays as it is. What the program writes goes out while
+    /// the run goes on, whenever 4,096 bytes wait; what still waits where it halts is left to the caller.
+    ///
+    /// # Errors
+    ///
+    /// `Unsent` where it could not be written. The run is over then, and nothing is known of it.
+    pub fn go<K: Sink>(
+        &mut self,
+        texts: &[Text],
+        stops: &[StopAt],
+        walk: Walk,
+        turns: u64,
+        out: &mut K,
+    ) -> Result<Halted, Unsent>
+        ensures goes { IfOk result (λ h. GoesTo texts.now stops.now walk turns self.old h.halt self.new) }
+        ensures lost { OnErr result (spec.IsLost self.new) }
+        ensures later { K.faults out.old ≤ K.faults out.new }
+        ensures failed { result ≡ Err unsent.Failed → Rose (K.faults out.old) (K.faults out.new) }
     {
         let want = Want {
             stops: Marks::new(self.world.alloc(), stops),
@@ -163,18 +174,28 @@ impl MixedRun {
             turns,
             before: 0,
         };
+        let mut sent = self.world.output().len();
         let over = Course::Over(MixedEnd::Meant(Ended::NoRoom));
         let course = mem::replace(&mut self.course, over);
-        let rested = goes_from(
+        match goes_from(
             course,
             texts,
             &self.image,
             &want,
             &mut self.calls,
             &mut self.world,
-        );
-        drop(mem::replace(&mut self.course, rested.course));
-        rested.halt
+            &mut sent,
+            out,
+        ) {
+            Ok(rested) => {
+                drop(mem::replace(&mut self.course, rested.course));
+                Ok(Halted {
+                    halt: rested.halt,
+                    sent,
+                })
+            }
+            Err(unsent) => Err(unsent),
+        }
     }
 
     // The run is over.

@@ -1,7 +1,11 @@
 // Moves one after another, up to a place where a go ends.
-ghost use Rattle.std.specs.Prelude.{◌<◌, ◌-◌};
+ghost use Rattle.std.specs.Prelude.{◌≡◌, ◌<◌, ◌≤◌, Err, IfOk, length};
+ghost use Rattle.sc_interp_world.specs.Outputs.{output};
+ghost use Rattle.sc_mixed.specs.Goes as goes;
 ghost use Rattle.sc_mixed.specs.Parts as parts;
 ghost use Rattle.sc_mixed.specs.Standing.{standing_on};
+ghost use Rattle.sc_outside.specs.Causes.{Rose};
+ghost use Rattle.sc_world.specs.declared.post.Unsent.TheVariants as unsent;
 
 use crate::broken::Break;
 use crate::calls::{Calls, Next};
@@ -12,7 +16,8 @@ use sc_interp::Shown;
 use sc_interp_access::Stop;
 use sc_interp_world::World;
 use sc_isa_image::Image;
-use sc_world::{Halt, Want};
+use sc_outside::Sink;
+use sc_world::{Halt, Unsent, Want, post};
 
 // One move, or instructions up to where the turns are taken: what it shows.
 fn moved(
@@ -76,8 +81,13 @@ pub enum Turned {
     Over(Break),
 }
 
-/// Moves one after another, up to a place that halts the run, or where the turns were taken.
-pub fn turns_taken(
+/// Moves one after another, up to a place that halts the run, or where the turns were taken. Behind each what the program wrote is
+/// posted where it is much.
+///
+/// # Errors
+///
+/// `Unsent` where it could not be written.
+pub fn turns_taken<K: Sink>(
     texts: &[Text],
     image: &Image,
     want: &Want,
@@ -85,22 +95,29 @@ pub fn turns_taken(
     next: &mut Next,
     calls: &mut Calls,
     world: &mut World,
-) -> Turned
-    ensures { parts.Comes texts.now image.now want.now (standing_on image.now calls.old world.old next.old first) result next.new calls.new world.new }
+    sent: &mut usize,
+    out: &mut K,
+) -> Result<Turned, Unsent>
+    ensures comes { IfOk result (λ turned. parts.Comes texts.now image.now want.now (standing_on image.now calls.old world.old next.old first) turned next.new calls.new world.new) }
+    ensures later { K.faults out.old ≤ K.faults out.new }
+    ensures failed { result ≡ Err unsent.Failed → Rose (K.faults out.old) (K.faults out.new) }
 {
     let mut shown = first;
     let mut took: u64 = 0;
     for _ in 0..want.turns {
         match rests(want, took, next, shown, calls, world) {
-            Some(halt) => return Turned::Rests(halt),
+            Some(halt) => return Ok(Turned::Rests(halt)),
             None => match moved_on(texts, image, want.turns, next, calls, world, &mut took) {
-                Ok(now) => shown = now,
-                Err(broken) => return Turned::Over(broken),
+                Ok(now) => match post(world.output(), sent, out) {
+                    Ok(()) => shown = now,
+                    Err(unsent) => return Err(unsent),
+                },
+                Err(broken) => return Ok(Turned::Over(broken)),
             },
         }
     }
     match rests(want, took, next, shown, calls, world) {
-        Some(halt) => Turned::Rests(halt),
-        None => Turned::Over(Break::Meant(Stop::NoRoom)),
+        Some(halt) => Ok(Turned::Rests(halt)),
+        None => Ok(Turned::Over(Break::Meant(Stop::NoRoom))),
     }
 }
