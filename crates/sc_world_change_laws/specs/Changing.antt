@@ -1,6 +1,6 @@
 -- Yardstick: to be compared with what it restates (docs/TRUST.md).
 -- A run whose texts become others while it stands.
-use Rattle.std.specs.Prelude.{if◌then◌else◌, List, Option, Some, None}
+use Rattle.std.specs.Prelude.{if◌then◌else◌, List}
 use Rattle.sc_meaning.specs.World.{World}
 use Rattle.sc_meaning.specs.Outcomes.{Outcome, Done, Over}
 use Rattle.sc_meaning.specs.Versions.{Text}
@@ -24,7 +24,3 @@ changed_to m (Over e) = record m { state = Ends e; shown = Nothing }
 -- a run that is over stays as it is
 abbrev pub changed_standing : List Text → List Text → Standing → Standing
 changed_standing old new m = if has_ended m.state then m else changed_to m (changed old new (world_of m.state))
-
-abbrev pub changed_run : List Text → List Text → Option Standing → Option Standing
-changed_run old new None = None
-changed_run old new (Some m) = Some (changed_standing old new m)
