@@ -3,8 +3,8 @@ _saber() {
     local word=${COMP_WORDS[COMP_CWORD]} before=${COMP_WORDS[COMP_CWORD - 1]}
     case $before in
         --dir) mapfile -t COMPREPLY < <(compgen -d -- "$word") ;;
-        --stack | --heap | --turns) COMPREPLY=() ;;
-        *) mapfile -t COMPREPLY < <(compgen -W '--stack --heap --turns --dir --help --version' -- "$word") ;;
+        --stack | --heap | --turns | --make) COMPREPLY=() ;;
+        *) mapfile -t COMPREPLY < <(compgen -W '--stack --heap --turns --dir --make --help --version' -- "$word") ;;
     esac
 }
 complete -F _saber saber

@@ -61,7 +61,14 @@ expect 'a full disk' 4 ''
 yes run | head -n 200000 | { "$program" 2> err; echo $? > code; } | head -n 1 > out
 code=$(cat code)
 expect 'a closed pipe' 4 '> refused C13'
-for words in '--turns 0' '--heap=32' '--stack -4096' '--stack 4097' '--turns' '--dir'; do
+printf 'load m\n' | { run --make 4 --dir nowhere; echo "$code" > code; }
+code=$(cat code)
+expect 'made modules' 0 '> made 4 modules 6 runs 27 lines 266 bytes'
+printf '' | { "$program" --make 1 > /dev/full 2> err; echo $? > code; }
+code=$(cat code)
+: > out
+expect 'made modules and a full disk' 4 ''
+for words in '--turns 0' '--heap=32' '--stack -4096' '--stack 4097' '--turns' '--dir' '--make 0' '--make 65' '--make -1'; do
     # shellcheck disable=SC2086
     run $words < /dev/null
     expect "bad words: $words" 2 ''

@@ -1,5 +1,5 @@
 #!/usr/bin/env python3
-"""Compares the tours of README.md with what the built program answers to the commands of examples.
+"""Compares the tours of README.md and docs/COMMANDS.md with what the built program answers to the commands of examples.
 
 usage: tests/tour.py PROGRAM
 
@@ -13,12 +13,17 @@ import sys
 import tempfile
 
 ROOT = pathlib.Path(__file__).resolve().parent.parent
-TOURS = {"A tour": ROOT / "examples" / "queue", "One module suspect, the rest compiled": ROOT / "examples" / "library"}
+TOURS = {
+    ("README.md", "A tour"): ROOT / "examples" / "queue",
+    ("README.md", "One module suspect, the rest compiled"): ROOT / "examples" / "library",
+    ("docs/COMMANDS.md", "Mending a program while it runs"): ROOT / "examples" / "service",
+}
 
 
-def told(title):
+def told(place):
     """The lines of a tour's blocks."""
-    section = re.search(rf"^## {title}\n(.*?)^## ", (ROOT / "README.md").read_text(), re.M | re.S)
+    file, title = place
+    section = re.search(rf"^## {title}\n(.*?)^## ", (ROOT / file).read_text(), re.M | re.S)
     lines = [it[4:] for it in section[1].splitlines() if it.startswith("    ")]
     return lines
 
@@ -47,9 +52,9 @@ def main():
     if len(sys.argv) != 2:
         sys.exit(__doc__)
     program = pathlib.Path(sys.argv[1]).resolve()
-    failed = [title for title, folder in TOURS.items() if not agree(told(title), answered(program, folder))]
-    for title in failed:
-        print(f"FAIL: README.md, {title}: it is not what the program answers")
+    failed = [place for place, folder in TOURS.items() if not agree(told(place), answered(program, folder))]
+    for file, title in failed:
+        print(f"FAIL: {file}, {title}: it is not what the program answers")
     print(f"{len(TOURS) - len(failed)} passed, {len(failed)} failed")
     return 1 if failed else 0
 

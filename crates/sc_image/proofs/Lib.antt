@@ -2,5 +2,6 @@
 mod Rooms
 mod Single
 mod Behind
+mod OnePlaces
 mod Linkables
 mod Inside

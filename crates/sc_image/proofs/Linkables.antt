@@ -12,6 +12,8 @@ use Rattle.sc_image.specs.Distinct.{distinct}
 use Rattle.sc_image.specs.Linkable.{IsLinkable}
 use Rattle.sc_image.specs.Ordered.{are_ordered}
 use Rattle.sc_image.proofs.Behind.{ordered-apart}
+use Rattle.sc_image.specs.OnePlace.{all_agree}
+use Rattle.sc_image.proofs.OnePlaces.{places-agree}
 use Rattle.sc_image.proofs.Single.{keys-distinct, places-distinct}
 
 pub linkable : (es : List Placed) (funs : List Key) (ts : List Text) (ls : List LiteralAt) → distinct key_eq funs ≡ true → ts ≡ texts_in es → are_ordered 0 ts ≡ true → ls ≡ literals_in es → distinct nat_eq (map (λ (x : LiteralAt). x.at) ls) ≡ true → IsLinkable es funs
@@ -19,4 +21,11 @@ linkable es funs ts ls one same ordered equal single = record {
   functions = keys-distinct funs one;
   texts = subst AreApart same (ordered-apart 0 ts ordered);
   literals = subst AreOnePlaced equal (places-distinct ls single);
+}
+
+pub linkable_again : (es : List Placed) (funs : List Key) (ts : List Text) (ls : List LiteralAt) → distinct key_eq funs ≡ true → ts ≡ texts_in es → are_ordered 0 ts ≡ true → ls ≡ literals_in es → all_agree ls ≡ true → IsLinkable es funs
+linkable_again es funs ts ls one same ordered equal agrees = record {
+  functions = keys-distinct funs one;
+  texts = subst AreApart same (ordered-apart 0 ts ordered);
+  literals = subst AreOnePlaced equal (places-agree ls agrees);
 }

@@ -4,3 +4,5 @@ pub mod Distinct
 pub mod Ordered
 pub mod Linkable
 pub mod Refused
+pub mod Running
+pub mod OnePlace

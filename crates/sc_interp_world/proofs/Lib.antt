@@ -2,3 +2,4 @@ pub mod Overwriting
 pub mod Outputs
 pub mod Naming
 pub mod Storing
+pub mod Filling

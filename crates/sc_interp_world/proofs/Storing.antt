@@ -1,5 +1,5 @@
 -- A value that is stored as bytes of an object, one byte after another.
-use Rattle.std.proofs.Common.{◌≡◌, ℕ, zero, suc, ◌+◌, ◌<◌, ◌≤◌, List, [], ◌∷◌, ◌++◌, length, take, drop, set, get_or, refl, sym, ap, ◌∙◌, arith}
+use Rattle.std.proofs.Common.{◌≡◌, ℕ, ◌+◌, ◌<◌, ◌≤◌, List, [], ◌∷◌, ◌++◌, length, take, drop, set, get_or, refl, sym, ap, ◌∙◌, arith}
 use Rattle.std.proofs.lemmas.List.{drop_more, length-take, length-append, length_push, length-drop, set_at, append_assoc}
 use Rattle.sc_meaning.specs.Values.{Value, Cell, cells_of}
 use Rattle.sc_meaning.specs.World.{overwritten}

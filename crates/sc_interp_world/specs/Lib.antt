@@ -4,3 +4,4 @@ pub mod Happenings
 pub mod Outputs
 pub mod Naming
 pub mod Addresses
+pub mod Blanks

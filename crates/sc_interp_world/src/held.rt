@@ -7,6 +7,7 @@ ghost use Rattle.sc_mem_store.specs.Living.{IsLiveAt, IsLiving};
 
 use crate::cells::{copy_cells, unwritten};
 use crate::object::{Object, cells_at};
+use crate::remember::{has_stray, memory_of};
 use sc_base::{Items, Key, Kind, NoMemory, Shared, Word};
 use sc_meaning_values::Value;
 use sc_mem_store::{Cell, Place, Store};
@@ -76,6 +77,63 @@ impl Held {
     /// Whether the objects have addresses.
     pub fn has_memory(&self) -> bool {
         self.memory.is_some()
+    }
+
+    /// The objects get a memory: each live one stands at the address that is given by its place in the list, one of the heap in
+    /// a block of its own. Nothing of the objects changes.
+    ///
+    /// # Errors
+    ///
+    /// `NoMemory` also where there is a memory already, and where an object cannot stand at its address.
+    pub fn remember(
+        &mut self,
+        bases: &[u32],
+        stack: u64,
+        heap: u64,
+        functions: Items<Shared<Key>>,
+    ) -> Result<(), NoMemory>
+        ensures { self.new ≡ self.old }
+    {
+        if !self.whole || self.memory.is_some() {
+            drop(functions);
+            return Err(NoMemory);
+        }
+        let memory = memory_of(
+            self.alloc,
+            self.objects.as_slice(),
+            bases,
+            stack,
+            heap,
+            functions,
+        )?;
+        self.memory = Some(memory);
+        Ok(())
+    }
+
+    /// How many functions have numbers.
+    pub fn functions(&self) -> usize {
+        match &self.memory {
+            None => 0,
+            Some(memory) => memory.functions(),
+        }
+    }
+
+    /// More functions get the next numbers. Nothing of the objects changes.
+    ///
+    /// # Errors
+    ///
+    /// `NoMemory` also where a live object holds a word with the functions' tag that leads to no function, which only compiled
+    /// code can have stored in an undefined step: it may be one of these functions now.
+    pub fn number(&mut self, more: &[Shared<Key>]) -> Result<(), NoMemory>
+        ensures { self.new ≡ self.old }
+    {
+        if !self.whole || has_stray(self.objects.as_slice()) {
+            return Err(NoMemory);
+        }
+        match &mut self.memory {
+            None => Ok(()),
+            Some(memory) => memory.number(more),
+        }
     }
 
     /// An object outside the heap is born at an address, its bytes unwritten. Without a memory the address is not looked at.

@@ -58,6 +58,13 @@ impl Object {
         }
     }
 
+    /// The bytes that it had, where it is dead. Only proofs read them.
+    pub fn last(&self) -> &Snapshot<Items<Cell>>
+        ensures { self.now.live ≡ false → result.now.value ≡ self.now.cells }
+    {
+        &self.last
+    }
+
     /// It dies.
     pub fn end(&mut self, alloc: Global)
         ensures { self.new ≡ record self.old { live = false } }

@@ -225,6 +225,45 @@ impl World {
         })
     }
 
+    /// The world of a run without memory gets one: each live object stands at the address that is given by its place in the
+    /// list, one of the heap in a block of its own. Nothing else changes.
+    ///
+    /// # Errors
+    ///
+    /// `NoMemory` also where there is a memory already, and where an object cannot stand at its address. Nothing is changed then.
+    pub fn remember(&mut self, layout: Layout, bases: &[u32]) -> Result<(), NoMemory>
+        ensures { self.new ≡ self.old }
+    {
+        let Layout { functions, places } = layout;
+        self.objects
+            .remember(bases, self.stack, self.heap, functions)?;
+        self.places = places;
+        Ok(())
+    }
+
+    /// How many functions have numbers, where the world has a memory.
+    pub fn functions(&self) -> usize {
+        self.objects.functions()
+    }
+
+    /// More functions get the next numbers. Nothing else changes.
+    ///
+    /// # Errors
+    ///
+    /// `NoMemory` also where a live object holds a word with the functions' tag that leads to no function.
+    pub fn number(&mut self, more: &[Shared<Key>]) -> Result<(), NoMemory>
+        ensures { self.new ≡ self.old }
+    {
+        self.objects.number(more)
+    }
+
+    /// Static objects and literals that are born from here on stand at these addresses. Nothing else changes.
+    pub fn set_places(&mut self, places: Names)
+        ensures { self.new ≡ self.old }
+    {
+        self.places = places;
+    }
+
     /// The allocator of the run.
     pub fn alloc(&self) -> Global {
         self.alloc

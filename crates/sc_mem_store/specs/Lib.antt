@@ -4,3 +4,4 @@ pub mod Cells
 pub mod Changes
 pub mod Holding
 pub mod Living
+pub mod Stray

@@ -2,10 +2,10 @@
 ghost use Rattle.std.specs.Prelude.{◌≡◌, List, []};
 ghost use Rattle.std.specs.Borrow.{ftrue};
 ghost use Rattle.sc_meaning.specs.World as spec;
-ghost use Rattle.sc_mem_store.specs.Changes.{changed};
+ghost use Rattle.sc_mem_store.specs.Changes.{changed, remembered};
 
 use crate::cell::Cell;
-use sc_base::Kind;
+use sc_base::{Items, Kind};
 use std::marker::Model;
 use std::snapshot::Snapshot;
 
@@ -32,6 +32,21 @@ impl Model for Item {
     ghost view = { λ i. item_of i.change };
 }
 
+/// The bytes that a dead object had.
+#[derive(Drop)]
+pub struct Last {
+    pub cells: Snapshot<Snapshot<Items<Cell>>>,
+}
+
+impl Model for Last {
+    ghost use Rattle.std.specs.Prelude.{List};
+    ghost use Rattle.sc_meaning.specs.Values as spec;
+
+    ghost Value = { List spec.Cell };
+
+    ghost view = { λ l. l.cells.value.value };
+}
+
 /// All objects that were born, the dead ones with the bytes that they had. It takes no room, and its functions do nothing
 /// while a program runs.
 #[derive(Drop)]
@@ -54,6 +69,13 @@ impl History {
     /// The objects after a change.
     pub fn with(_before: &History, _item: &Item) -> History
         ensures { result.objects ≡ changed _before.now.objects _item.now }
+    {
+        History {}
+    }
+
+    /// The same objects, the last of which has these bytes.
+    pub fn remembering(_before: &History, _last: &Last) -> History
+        ensures { result.objects ≡ remembered _before.now.objects _last.now }
     {
         History {}
     }

@@ -10,6 +10,7 @@ mod machine;
 mod pointers;
 mod span;
 mod store;
+mod stray;
 mod values;
 
 pub use cell::{Cell, Content};
@@ -17,4 +18,5 @@ pub use few::Few;
 pub use laws::{held_objects_agree, words_have_values_of_their_own};
 pub use machine::Place;
 pub use store::{Facts, Store};
+pub use stray::are_stray;
 pub use values::value_byte;

@@ -1,18 +1,19 @@
 // The objects of a run.
-ghost use Rattle.std.specs.Prelude.{◌≡◌, ◌+◌, ◌<◌, ◌∷◌, ◌++◌, [], length, IfOk, IfSome, IsSome, MatchOption, MatchResult, None, Some};
+ghost use Rattle.std.specs.Prelude.{◌≡◌, ◌+◌, ◌<◌, ◌∷◌, ◌++◌, [], length, OnErr, IfOk, IfSome, IsSome, MatchOption, MatchResult, None, Some};
 ghost use Rattle.sc_objects.specs.declared.objects.Obj.{Obj};
 ghost use Rattle.sc_objects.specs.Numbered.{IsLive};
 ghost use Rattle.sc_mem.specs.Flat.{place, with_death, written_at};
 ghost use Rattle.sc_mem.specs.Safe.{IsSafe};
 ghost use Rattle.sc_mem.specs.Words.{IsSize};
-ghost use Rattle.sc_mem_store.specs.Changes.{changed, item_of};
+ghost use Rattle.sc_mem_store.specs.Changes.{buried, changed, item_of, remembered};
+ghost use Rattle.sc_mem_store.specs.Stray.{HasNoStray};
 ghost use Rattle.sc_meaning.specs.Values.{cells_of};
 ghost use Rattle.sc_meaning.specs.World.{Object, cells_at, ended, fresh, object_at, written};
 
 use crate::bytes::{bytes_at, cell_of};
 use crate::cell::Cell;
 use crate::few::{Few, few_at};
-use crate::history::{Change, History, Item};
+use crate::history::{Change, History, Item, Last};
 use crate::machine::{Place, is_tag, place_at};
 use crate::pointers::{value_of, word_of};
 use crate::span::span_of;
@@ -135,7 +136,8 @@ impl Store {
     /// An object outside the heap is born at an address, its bytes unwritten.
     #[tactic(auto, using(crate::proofs::Holding::holds_born))]
     pub fn birth(&mut self, size: u32, kind: Kind, base: u32) -> Result<(), NoMemory>
-        ensures { IfOk result (λ _. self.new ≡ self.old ++ fresh size kind ∷ []) }
+        ensures ok { IfOk result (λ _. self.new ≡ self.old ++ fresh size kind ∷ []) }
+        ensures err { OnErr result (self.new ≡ self.old) }
     {
         self.memory.settle(size, kind, base)?;
         self.history = after(&self.history, Change::Birth(size, kind));
@@ -235,6 +237,76 @@ impl Store {
 }
 
 impl Store {
+    // An object is born at the first of two addresses at which it can stand, or in a block of its own.
+    fn birth_somewhere(
+        &mut self,
+        size: u32,
+        kind: Kind,
+        base: u32,
+        other: u32,
+    ) -> Result<(), NoMemory>
+        ensures { IfOk result (λ _. self.new ≡ self.old ++ fresh size kind ∷ []) }
+    {
+        match kind {
+            Kind::Heap => self.allocate(size),
+            Kind::Static | Kind::Const | Kind::Literal | Kind::Auto => {
+                match self.birth(size, kind, base) {
+                    Ok(()) => Ok(()),
+                    Err(_) => self.birth(size, kind, other),
+                }
+            }
+        }
+    }
+
+    /// The next number is that of an object that is dead, with the bytes that it had. Where it stood is not known: two
+    /// addresses are tried at which it may have stood.
+    #[tactic(auto, using(crate::proofs::Burying::holds_remembered, crate::proofs::Burying::is_buried))]
+    pub fn bury(
+        &mut self,
+        size: u32,
+        kind: Kind,
+        base: u32,
+        other: u32,
+        last: &Snapshot<Items<Cell>>,
+    ) -> Result<(), NoMemory>
+        ensures { IfOk result (λ _. self.new ≡ self.old ++ buried size kind last.now.value ∷ []) }
+    {
+        self.birth_somewhere(size, kind, base, other)?;
+        let id = self.len();
+        self.death(id)?;
+        self.history = remembering(&self.history, last);
+        Ok(())
+    }
+
+    /// How many functions have numbers.
+    pub fn functions(&self) -> usize {
+        self.functions.len()
+    }
+
+    // One more function gets the next number.
+    #[tactic(auto, using(crate::proofs::Numbering::holds_numbered))]
+    fn number_one(&mut self, key: Shared<Key>) -> Result<(), NoMemory>
+        requires { HasNoStray self.old }
+        ensures { self.new ≡ self.old }
+    {
+        self.functions.push(key)?;
+        Ok(())
+    }
+
+    /// More functions get the next numbers. The words that were values of these functions before they had numbers
+    /// are in no live object.
+    pub fn number(&mut self, more: &[Shared<Key>]) -> Result<(), NoMemory>
+        requires { HasNoStray self.old }
+        ensures { self.new ≡ self.old }
+    {
+        for key in more {
+            self.number_one(key.share()?)?;
+        }
+        Ok(())
+    }
+}
+
+impl Store {
     ghost use Rattle.sc_mem_store.specs.Living.{IsLiveAt, IsLiving};
 
     /// The address of a live object's first byte: `None` exactly where no live object has this number.
@@ -308,6 +380,18 @@ fn after(history: &History, change: Change) -> History
     let changed = History::with(history, &item);
     drop(item);
     changed
+}
+
+// The same objects, the last of which has these bytes.
+fn remembering(history: &History, last: &Snapshot<Items<Cell>>) -> History
+    ensures { result.objects ≡ remembered history.now.objects last.now.value }
+{
+    let last = Last {
+        cells: Snapshot::of(last),
+    };
+    let told = History::remembering(history, &last);
+    drop(last);
+    told
 }
 
 // Another cell is put at an address.

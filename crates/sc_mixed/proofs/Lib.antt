@@ -1,1 +1,9 @@
-pub mod Writing
+pub mod Running
+pub mod Serving
+pub mod Starts
+pub mod Resting
+pub mod Reaching
+pub mod Stepping
+pub mod Sources
+pub mod Growing
+mod Changing

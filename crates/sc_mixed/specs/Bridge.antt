@@ -1,19 +1,24 @@
 -- Yardstick: to be compared with what it restates (docs/TRUST.md).
 -- From interpreted calls to compiled code, and back: what becomes of the calls and of the registers.
 use Rattle.std.specs.Option.{is_some}
-use Rattle.std.specs.Prelude.{◌≡◌, not, ℕ, ◌==◌, ◌&&◌, Bool, true, false, List, [], ◌∷◌, length, Option, Some, None, Result, Ok, Err}
+use Rattle.std.specs.Prelude.{◌≡◌, not, ℕ, ◌==◌, ◌&&◌, ◌≤◌, Bool, true, false, List, [], ◌∷◌, length, replicate, Option, Some, None, Result, Ok, Err}
 use Rattle.sc_base.specs.declared.memory.Word.{Word}
 use Rattle.sc_emu.specs.Machine.{return_address}
 use Rattle.sc_emu.specs.Operations.{plain}
 use Rattle.sc_emu.specs.Registers.{Registers, register, with_word}
 use Rattle.sc_emu.specs.declared.outcome.Crash.TheVariants as crash
+use Rattle.sc_base.specs.declared.key.Key.{Key}
 use Rattle.sc_interp.specs.declared.going.Going.TheVariants.{Answers}
 use Rattle.sc_interp_machine.specs.Runs.{Caller}
+use Rattle.sc_isa_image.specs.Lookups.{value_of}
+use Rattle.sc_isa_image.specs.declared.image.Image.{Image}
 use Rattle.sc_meaning.specs.Expressions.{Answer, value_rule}
 use Rattle.sc_meaning.specs.Values.{Value, Number, Pointer, FunctionAt}
 use Rattle.sc_meaning.specs.Versions.{Text, Callee, Missing, InText, InLibrary, callee_of}
 use Rattle.sc_meaning.specs.World.{World}
+use Rattle.sc_services.specs.Arguments.{IsResult, PutsArguments}
 use Rattle.sc_services.specs.Frames.{is_object, stack_top}
+use Rattle.sc_services.specs.Writing.{Writes}
 use Rattle.sc_types.specs.declared.ctype.CType.{CType}
 use Rattle.sc_mixed.specs.declared.broken.Break.{Break}
 use Rattle.sc_mixed.specs.declared.broken.Break.TheVariants.{Crashed}
@@ -55,11 +60,6 @@ behind_call x r = at_address (register r 1).bits (with_register 10 x r)
 abbrev pub at_stub : ℕ → ℕ → Registers → Registers
 at_stub stub sp r = at_address stub (with_register 1 (plain return_address) (with_register 2 (plain sp) r))
 
--- compiled code is behind its call, and what its outermost call gave is as it was
-abbrev pub Resumes : Registers → Option Answer → Calls → Next → Calls → Type 0
-Resumes r given old next new =
-    (x : Word) × (next ≡ Executes) × (new ≡ record { callers = old.callers; lower = old.lower; given = given; regs = behind_call x r })
-
 -- Compiled code is called, where the arguments are in these registers: the callers wait below, with the stack pointer and the number of
 -- active calls, and nothing is given yet.
 abbrev pub calling_code : ℕ → World → Calls → Calls
@@ -69,10 +69,16 @@ calling_code stub w c = record { callers = []; lower = InBodies c.callers (stack
 abbrev pub with_registers : Registers → Calls → Calls
 with_registers r c = record { callers = c.callers; lower = c.lower; given = c.given; regs = r }
 
--- compiled code is called at this stub, with some arguments in the registers
-abbrev pub CallsCode : Option ℕ → Calls → World → Calls → Type 0
-CallsCode None old w new = ⊥
-CallsCode (Some stub) old w new = (r : Registers) × (new ≡ calling_code stub w (with_registers r old))
+-- Compiled code is called at the stub of a function, with the words of the arguments in a0 to a7 and on the stack. An instruction is next.
+pub record Calling (i : Image) (key : Key) (xs : List Value) (c : Calls) (w : World) (next : Next) (d : Calls) (v : World) : Type 0 where
+  pub stub : ℕ
+  pub stands : value_of i key ≡ Some stub
+  pub regs : Registers
+  pub puts : PutsArguments 0 xs c.regs regs
+  pub calls : d ≡ calling_code stub v (with_registers regs c)
+  pub goes : next ≡ Executes
+  pub writes : Writes w v
+  pub few : length xs ≤ 8 → v ≡ w
 
 -- the stack pointer and the number of active calls are as compiled code was called
 abbrev pub is_as_called : ℕ → ℕ → Registers → World → Bool
@@ -94,3 +100,23 @@ Returns (Some a) (InBodies cs sp depth ∷ ls) old w result new = ReturnsTo (is_
 Returns (Some a) (InCode r given ∷ ls) old w result new = result ≡ Err (Crashed return_address crash.Service)
 Returns (Some a) [] old w result new = result ≡ Err (Crashed return_address crash.Service)
 Returns None ls old w result new = result ≡ Err (Crashed return_address crash.Service)
+
+-- Compiled code waits for a call that it makes, with its registers and what it gave.
+abbrev pub waiting : Calls → Calls
+waiting c = record { callers = c.callers; lower = InCode c.regs c.given ∷ c.lower; given = None; regs = record { pc = 0; words = replicate 32 (plain 0) } }
+
+-- what the outermost call of compiled code gave
+abbrev pub with_given : Option Answer → Calls → Calls
+with_given given c = record { callers = c.callers; lower = c.lower; given = given; regs = c.regs }
+
+-- compiled code is behind its call
+abbrev pub Resumes : Answer → Registers → Option Answer → List Lower → Calls → Next → Calls → Type 0
+Resumes a r given ls c next d =
+    (next ≡ Executes) × ((x : Word) × IsResult a x × (d ≡ record { callers = c.callers; lower = ls; given = given; regs = behind_call x r }))
+
+-- The answer of the last interpreted call goes to what waits below: to interpreted calls, or to compiled code behind its call. Where
+-- nothing waits it is the run's.
+abbrev pub GivesBack : Answer → List Lower → Calls → Next → Calls → Type 0
+GivesBack a [] c next d = (next ≡ Steps (Answers a)) × (d ≡ c)
+GivesBack a (InBodies cs sp depth ∷ ls) c next d = (next ≡ Steps (Answers a)) × (d ≡ record { callers = cs; lower = ls; given = c.given; regs = c.regs })
+GivesBack a (InCode r given ∷ ls) c next d = Resumes a r given ls c next d

@@ -1,10 +1,9 @@
 // From interpreted calls to compiled code, and back.
 ghost use Rattle.std.specs.Prelude.{◌≡◌, IfOk};
 ghost use Rattle.sc_emu.specs.declared.outcome.Crash.TheVariants as crashes;
-ghost use Rattle.sc_isa_image.specs.Lookups.{value_of};
 ghost use Rattle.sc_meaning.specs.Versions as versions;
 ghost use Rattle.sc_mixed.specs.Bridge as spec;
-ghost use Rattle.sc_services.specs.Writing.{Writes};
+ghost use Rattle.sc_mixed.specs.Machine as machine;
 ghost use Rattle.sc_mixed.specs.declared.broken.Break.TheVariants as broken;
 
 use crate::broken::Break;
@@ -93,15 +92,15 @@ pub fn call_code(
     image: &Image,
     calls: &mut Calls,
     world: &mut World,
-) -> Result<(), NoMemory>
-    ensures calls { IfOk result (λ _. spec.CallsCode (value_of image.now key.now) calls.old world.new calls.new) }
-    ensures writes { IfOk result (λ _. Writes world.old world.new) }
+) -> Result<Next, NoMemory>
+    ensures { IfOk result (λ next. spec.Calling image.now key.now vs.now calls.old world.old next calls.new world.new) }
 {
     let Some(stub) = image.value(key) else {
         return Err(NoMemory);
     };
     put_arguments(vs, &mut calls.regs, world)?;
-    enter_code(stub, calls, world)
+    enter_code(stub, calls, world)?;
+    Ok(Next::Executes)
 }
 
 // A call of this value goes to compiled code.
@@ -111,13 +110,29 @@ fn call_value(
     image: &Image,
     calls: &mut Calls,
     world: &mut World,
-) -> Result<(), NoMemory>
-    ensures { IfOk result (λ _. Writes world.old world.new) }
+) -> Result<Next, NoMemory>
+    ensures { IfOk result (λ next. machine.CallsValue image.now v.now vs.now calls.old world.old next calls.new world.new) }
 {
     match &v.shape {
         Shape::FunctionAt(key) => call_code(key.get(), vs, image, calls, world),
-        Shape::Number(_) | Shape::Pointer(_, _) => Err(NoMemory),
+        Shape::Number(_) => Err(NoMemory),
+        Shape::Pointer(_, _) => Err(NoMemory),
     }
+}
+
+// The caller of such a call waits for it.
+fn call_from(
+    v: &Value,
+    vs: &[Value],
+    caller: Caller,
+    image: &Image,
+    calls: &mut Calls,
+    world: &mut World,
+) -> Result<Next, NoMemory>
+    ensures { IfOk result (λ next. machine.CallsValue image.now v.now vs.now (machine.with_caller caller calls.old) world.old next calls.new world.new) }
+{
+    calls.callers.push(caller)?;
+    call_value(v, vs, image, calls, world)
 }
 
 /// The call that is to be made goes to compiled code.
@@ -126,17 +141,23 @@ pub fn make_in_code(
     image: &Image,
     calls: &mut Calls,
     world: &mut World,
-) -> Result<(), NoMemory>
-    ensures { IfOk result (λ _. Writes world.old world.new) }
+) -> Result<Next, NoMemory>
+    ensures { IfOk result (λ next. machine.CallsCode image.now going calls.old world.old next calls.new world.new) }
 {
     match going {
         Going::Makes(t, v, vs, caller) => {
             drop(t);
-            calls.callers.push(caller)?;
-            call_value(&v, vs.as_slice(), image, calls, world)
+            call_from(&v, vs.as_slice(), caller, image, calls, world)
         }
-        other => {
-            drop(other);
+        Going::Runs(doing, stmts, env, active) => {
+            drop(doing);
+            drop(stmts);
+            drop(env);
+            drop(active);
+            Err(NoMemory)
+        }
+        Going::Answers(a) => {
+            drop(a);
             Err(NoMemory)
         }
     }
@@ -150,7 +171,7 @@ fn resume_code(
     calls: &mut Calls,
     world: &World,
 ) -> Result<Next, NoMemory>
-    ensures { IfOk result (λ next. spec.Resumes regs given calls.old next calls.new) }
+    ensures { IfOk result (λ next. spec.Resumes a.now regs given calls.old.lower calls.old next calls.new) }
 {
     let word = result_word(a, world)?;
     let back = regs.get(RA).bits;
@@ -162,7 +183,9 @@ fn resume_code(
 }
 
 /// The answer of the last interpreted call goes to what waits below. Where nothing does it is the run's.
-pub fn give_back(a: Answer, calls: &mut Calls, world: &World) -> Result<Next, NoMemory> {
+pub fn give_back(a: Answer, calls: &mut Calls, world: &World) -> Result<Next, NoMemory>
+    ensures { IfOk result (λ next. spec.GivesBack a calls.old.lower calls.old next calls.new) }
+{
     match calls.lower.pop() {
         None => Ok(Next::Steps(Going::Answers(a))),
         Some(Lower::InBodies { callers, .. }) => {

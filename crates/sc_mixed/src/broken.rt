@@ -1,6 +1,7 @@
 // Why a move is not done.
 ghost use Rattle.std.specs.Prelude.{◌≡◌};
 ghost use Rattle.sc_interp_access.specs.declared.stop.Stop.TheVariants as stops;
+ghost use Rattle.sc_mixed.specs.Standing as spec;
 ghost use Rattle.sc_mixed.specs.declared.broken.Break.TheVariants as broken;
 
 use crate::ended::MixedEnd;
@@ -32,7 +33,9 @@ impl From<NoMemory> for Break {
 }
 
 // How a run ended that stopped so.
-fn ended_by(stop: Stop) -> Ended {
+fn ended_by(stop: Stop) -> Ended
+    ensures { result ≡ spec.stopped_so stop }
+{
     match stop {
         Stop::NoRoom => Ended::NoRoom,
         Stop::Undefined(told) => Ended::Undefined(told),
@@ -43,7 +46,9 @@ fn ended_by(stop: Stop) -> Ended {
 }
 
 /// How a run ended whose move broke off so.
-pub fn end_of(broken: Break) -> MixedEnd {
+pub fn end_of(broken: Break) -> MixedEnd
+    ensures { result ≡ spec.ended_by broken }
+{
     match broken {
         Break::Meant(stop) => MixedEnd::Meant(ended_by(stop)),
         Break::Crashed(pc, crash) => MixedEnd::Crashed(pc, crash),

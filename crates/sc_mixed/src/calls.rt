@@ -1,4 +1,5 @@
 // The calls of a run, of both forms.
+ghost use Rattle.std.specs.Prelude.{◌≡◌};
 
 use sc_base::Stack;
 use sc_emu::Regs;
@@ -48,7 +49,9 @@ pub struct Moved {
 
 impl Moved {
     /// A move that shows nothing and touches no byte.
-    pub fn quietly() -> Moved {
+    pub fn quietly() -> Moved
+        ensures { result ≡ record { shown = Shown.Nothing; turns = 1 } }
+    {
         Moved {
             shown: Shown::Nothing,
             turns: 1,

@@ -1,7 +1,9 @@
 // An instruction over the world.
-ghost use Rattle.std.specs.Prelude.{◌<◌};
+ghost use Rattle.std.specs.Prelude.{◌≡◌, ◌<◌};
+ghost use Rattle.sc_emu.specs.Operations.{loaded, sum};
+ghost use Rattle.sc_emu.specs.Registers.{with_word};
 ghost use Rattle.sc_mem.specs.Words.{IsSize};
-ghost use Rattle.sc_mixed.specs.Writing.{WritesIfRoom};
+ghost use Rattle.sc_mixed.specs.Instructions as spec;
 
 use sc_base::Word;
 use sc_emu::{Crash, Need, Regs, Step, begin, load_size, pass, take};
@@ -21,7 +23,9 @@ pub enum Went {
     NoRoom,
 }
 
-fn told(step: Step) -> Went {
+fn told(step: Step) -> Went
+    ensures { result ≡ spec.told step }
+{
     match step {
         Step::Went => Went::On,
         Step::Service(n) => Went::Asks(n),
@@ -34,6 +38,7 @@ fn told(step: Step) -> Went {
 #[inline(always)]
 fn load(op: LoadOp, rd: u8, at: u32, regs: &mut Regs, world: &World) -> Went
     requires { rd < 32 }
+    ensures { spec.Loads result (λ x. record { pc = sum regs.old.pc 4; words = with_word regs.old.words rd (loaded op x) }) regs.old regs.new world.now world.now }
 {
     match world.load(at, load_size(op)) {
         None => Went::Stopped(Crash::Outside),
@@ -46,7 +51,7 @@ fn load(op: LoadOp, rd: u8, at: u32, regs: &mut Regs, world: &World) -> Went
 
 fn store(size: u8, at: u32, word: Word, regs: &mut Regs, world: &mut World) -> Went
     requires { IsSize size }
-    ensures { WritesIfRoom result world.old world.new }
+    ensures { spec.Stores result regs.old regs.new world.old world.new }
 {
     match store_word(at, size, word, world) {
         Ok(None) => Went::Stopped(Crash::Outside),
@@ -59,10 +64,10 @@ fn store(size: u8, at: u32, word: Word, regs: &mut Regs, world: &mut World) -> W
 }
 
 // The instruction at the next address is carried out.
-#[tactic(auto, using(crate::proofs::Writing::nothing))]
+#[tactic(auto, using(crate::proofs::Running::instruction_done, crate::proofs::Running::instruction_loads, crate::proofs::Running::instruction_stores))]
 #[inline(always)]
 fn execute(image: &Image, regs: &mut Regs, world: &mut World) -> Went
-    ensures { WritesIfRoom result world.old world.new }
+    ensures { spec.Instruction image.now regs.old world.old result regs.new world.new }
 {
     match begin(regs, image) {
         Need::Done(step) => told(step),
@@ -80,20 +85,21 @@ pub struct Executed {
 
 /// Instructions one after another, so many at most, up to the first that does not simply go on. The loop is tight, since nothing that
 /// they do halts a run.
-#[tactic(auto, using(crate::proofs::Writing::nothing, crate::proofs::Writing::one_more, crate::proofs::Writing::the_last))]
+#[tactic(auto, using(crate::proofs::Running::none_yet, crate::proofs::Running::one_more, crate::proofs::Running::went_all, crate::proofs::Running::went_last))]
 pub fn execute_some(image: &Image, most: u64, regs: &mut Regs, world: &mut World) -> Executed
-    ensures { WritesIfRoom result.went world.old world.new }
+    ensures { spec.RanUpto image.now most regs.old world.old result.count result.went regs.new world.new }
 {
-    let mut count: u64 = 0;
-    for _ in 0..most {
-        count = count.saturating_add(1);
+    for k in 0..most {
         match execute(image, regs, world) {
             Went::On => (),
-            other => return Executed { count, went: other },
+            other => return Executed {
+                count: k + 1,
+                went: other,
+            },
         }
     }
     Executed {
-        count,
+        count: most,
         went: Went::On,
     }
 }

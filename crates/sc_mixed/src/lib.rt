@@ -2,16 +2,26 @@
 //! instructions over the same world, and the bridge leads from each to the other.
 #![tactic(auto)]
 
+mod bases;
 mod begin;
 mod bridge;
 mod broken;
 mod calls;
+mod change;
+mod course;
 mod ended;
 mod execute;
+mod going;
+mod laws;
 mod layout;
 mod moves;
+mod rest;
 mod run;
 mod serve;
+mod service;
+mod turn;
 
+pub use change::{kept_keys, take_over};
 pub use ended::MixedEnd;
+pub use laws::{interpreted_programs_go_as_before, moves_add_to_what_happened};
 pub use run::MixedRun;

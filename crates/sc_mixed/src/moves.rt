@@ -1,19 +1,17 @@
 // One move of a run of both forms.
-ghost use Rattle.std.specs.Prelude.{IfOk};
-ghost use Rattle.sc_interp.specs.Shows as shows;
-ghost use Rattle.sc_interp.specs.Steady as steady;
-ghost use Rattle.sc_interp.specs.Steps.{Is};
+ghost use Rattle.std.specs.Prelude.{◌≡◌, ◌<◌, IfOk, List};
 ghost use Rattle.sc_interp_machine.specs.Runs as runs;
-ghost use Rattle.sc_lib.specs.Quiet.{IsQuiet};
-ghost use Rattle.sc_meaning.specs.Versions as versions;
-ghost use Rattle.sc_mixed.specs.Moves.{StepsOn};
-ghost use Rattle.sc_mixed.specs.Writing.{MovesByWriting};
-ghost use Rattle.sc_services.specs.Writing.{Writes};
+ghost use Rattle.sc_interp_machine.specs.Runs.{Caller as Waiting};
+ghost use Rattle.sc_mixed.specs.Machine as spec;
+ghost use Rattle.sc_mixed.specs.Parts as parts;
+ghost use Rattle.sc_world.specs.Costs.{cost};
+ghost use Rattle.sc_world.specs.Standing.{state_of};
+ghost use Rattle.sc_world.specs.Turns.{IsBefore};
 
 use crate::bridge::{give_back, goes_to_code, make_in_code, return_code};
 use crate::broken::Break;
 use crate::calls::{Calls, Moved, Next};
-use crate::execute::{Went, execute_some};
+use crate::execute::{Executed, Went, execute_some};
 use crate::serve::serve;
 use sc_base::NoMemory;
 use sc_core_held::Text;
@@ -22,34 +20,41 @@ use sc_interp_access::Stop;
 use sc_interp_world::World;
 use sc_isa_image::Image;
 use sc_meaning_values::Answer;
-use sc_world::{noted, touched_on};
+use sc_world::{Before, noted, touched_on};
 use std::mem;
 
-// Where a step of interpreted calls leads.
+/// Where a step of interpreted calls leads.
 #[derive(Clone, Copy)]
-enum Way {
+pub enum Way {
     Stays,
     ToCode,
     Back,
 }
 
-fn way_of(texts: &[Text], going: &Going, calls: &Calls, world: &World) -> Result<Way, NoMemory> {
+fn way_of(texts: &[Text], going: &Going, calls: &Calls, world: &World) -> Result<Way, NoMemory>
+    ensures { IfOk result (λ way. way ≡ spec.way texts.now going.now calls.now) }
+{
     match going {
         Going::Runs(_, _, _, _) => Ok(Way::Stays),
-        Going::Makes(t, v, _, caller) => {
-            if goes_to_code(world.alloc(), texts, t, v, caller)? {
-                Ok(Way::ToCode)
-            } else {
-                Ok(Way::Stays)
-            }
-        }
-        Going::Answers(_) => {
-            if calls.callers.is_empty() {
-                Ok(Way::Back)
-            } else {
-                Ok(Way::Stays)
-            }
-        }
+        Going::Makes(t, v, _, caller) => match goes_to_code(world.alloc(), texts, t, v, caller) {
+            Ok(true) => Ok(Way::ToCode),
+            Ok(false) => Ok(Way::Stays),
+            Err(_) => Err(NoMemory),
+        },
+        Going::Answers(_) => match calls.callers.top() {
+            None => Ok(Way::Back),
+            Some(_) => Ok(Way::Stays),
+        },
+    }
+}
+
+// A step behind which the run goes on, with its turns: one, and one more for each byte that it touched.
+fn stepped(shown: Shown, before: Before, going: &Going, world: &World) -> Result<Moved, NoMemory>
+    ensures { (s t : runs.State) (cs : List Waiting) → IsBefore before s → t ≡ state_of going.now cs world.now → IfOk result (λ moved. (moved.shown ≡ shown) × (moved.turns ≡ cost s t)) }
+{
+    match touched_on(before, going, world).checked_add(1) {
+        Some(turns) => Ok(Moved { shown, turns }),
+        None => Err(NoMemory),
     }
 }
 
@@ -60,53 +65,103 @@ fn step(
     calls: &mut Calls,
     world: &mut World,
 ) -> Result<Moved, Break>
-    ensures { (h : versions.History) → IsQuiet h → (s : runs.State) → Is s going.old calls.old.callers world.old → StepsOn (steady.advance h texts.now s) (shows.shown h texts.now s) result going.new calls.new.callers world.new }
+    ensures { spec.StepsFrom texts.now (state_of going.old calls.old.callers world.old) calls.old result (Next.Steps going.new) calls.new world.new }
 {
     let before = noted(going, world);
     match step_run(texts, going, &mut calls.callers, world) {
-        Ok(shown) => Ok(Moved {
-            shown,
-            turns: touched_on(before, going, world).saturating_add(1),
-        }),
+        Ok(shown) => match stepped(shown, before, going, world) {
+            Ok(moved) => Ok(moved),
+            Err(_) => Err(Break::Meant(Stop::NoRoom)),
+        },
         Err(stop) => Err(Break::Meant(stop)),
     }
 }
 
 // How the interpreted calls go on is taken, and an answer without a value is left in its place.
-fn taken(going: &mut Going) -> Going {
+fn taken(going: &mut Going) -> Going
+    ensures { result ≡ going.old }
+{
     mem::replace(going, Going::Answers(Answer::nothing()))
 }
 
 // The answer of the last interpreted call goes to what waits below.
-fn back(going: Going, calls: &mut Calls, world: &World) -> Result<Next, NoMemory> {
+fn back(going: Going, calls: &mut Calls, world: &World) -> Result<Next, NoMemory>
+    ensures { IfOk result (λ next. spec.GivesAnswer going calls.old next calls.new) }
+{
     match going {
         Going::Answers(a) => give_back(a, calls, world),
-        other => Ok(Next::Steps(other)),
+        Going::Runs(doing, stmts, env, active) => {
+            drop(doing);
+            drop(stmts);
+            drop(env);
+            drop(active);
+            Err(NoMemory)
+        }
+        Going::Makes(t, v, vs, caller) => {
+            drop(t);
+            drop(v);
+            drop(vs);
+            drop(caller);
+            Err(NoMemory)
+        }
     }
 }
 
-// A move that leads from interpreted calls to compiled code, or to what waits for them.
-#[tactic(auto, using(crate::proofs::Writing::stays))]
-fn cross(
-    way: Way,
-    going: Going,
-    image: &Image,
-    calls: &mut Calls,
-    world: &mut World,
-) -> Result<Next, NoMemory>
-    ensures { IfOk result (λ _. Writes world.old world.new) }
+// A move that crosses takes its place.
+fn crossed(given: Result<Next, NoMemory>, next: &mut Next) -> Result<Moved, Break>
+    ensures { parts.CrossesTo given result next.new }
 {
-    match way {
-        Way::Stays => Ok(Next::Steps(going)),
-        Way::ToCode => {
-            make_in_code(going, image, calls, world)?;
-            Ok(Next::Executes)
+    match given {
+        Ok(there) => {
+            drop(mem::replace(next, there));
+            Ok(Moved::quietly())
         }
-        Way::Back => back(going, calls, world),
+        Err(_) => Err(Break::Meant(Stop::NoRoom)),
+    }
+}
+
+// So many moves that show nothing: what comes next takes its place.
+fn so_many(there: Next, count: u64, next: &mut Next) -> Moved
+    ensures moved { result ≡ record { shown = Shown.Nothing; turns = count } }
+    ensures next { next.new ≡ there }
+{
+    drop(mem::replace(next, there));
+    Moved {
+        shown: Shown::Nothing,
+        turns: count,
+    }
+}
+
+// Compiled code returned, as the last of so many instructions.
+fn after_return(
+    count: u64,
+    next: &mut Next,
+    calls: &mut Calls,
+    world: &World,
+) -> Result<Moved, Break>
+    ensures { parts.AfterLast Went.Returned count calls.old world.now result next.new calls.new }
+{
+    match return_code(calls, world) {
+        Ok(back) => Ok(so_many(back, count, next)),
+        Err(broken) => Err(broken),
+    }
+}
+
+// What the instructions came to, where the last of them stands.
+fn after(done: Executed, next: &mut Next, calls: &mut Calls, world: &World) -> Result<Moved, Break>
+    ensures { parts.AfterLast done.went done.count calls.old world.now result next.new calls.new }
+{
+    match done.went {
+        Went::On => Ok(so_many(Next::Executes, done.count, next)),
+        Went::Asks(n) => Ok(so_many(Next::Serves(n), done.count, next)),
+        Went::Returned => after_return(done.count, next, calls, world),
+        Went::Stopped(crash) => Err(Break::Crashed(calls.regs.pc(), crash)),
+        Went::NoRoom => Err(Break::Meant(Stop::NoRoom)),
     }
 }
 
 // So many instructions at most. Each is a move.
+#[tactic(auto, using(crate::proofs::Running::executes_upto))]
 fn execute_all(
     image: &Image,
     most: u64,
@@ -114,23 +169,11 @@ fn execute_all(
     calls: &mut Calls,
     world: &mut World,
 ) -> Result<Moved, Break>
-    ensures { MovesByWriting result world.old world.new }
+    requires { 0 < most }
+    ensures { parts.ExecutesUpto image.now most calls.old world.old result next.new calls.new world.new }
 {
     let done = execute_some(image, most, &mut calls.regs, world);
-    match done.went {
-        Went::On => (),
-        Went::Stopped(crash) => return Err(Break::Crashed(calls.regs.pc(), crash)),
-        Went::NoRoom => return Err(Break::Meant(Stop::NoRoom)),
-        Went::Asks(n) => drop(mem::replace(next, Next::Serves(n))),
-        Went::Returned => {
-            let back = return_code(calls, world)?;
-            drop(mem::replace(next, back));
-        }
-    }
-    Ok(Moved {
-        shown: Shown::Nothing,
-        turns: done.count,
-    })
+    after(done, next, calls, world)
 }
 
 /// A step of interpreted calls, a crossing of the bridge, a service, or so many instructions at most.
@@ -141,21 +184,27 @@ pub fn move_on(
     next: &mut Next,
     calls: &mut Calls,
     world: &mut World,
-) -> Result<Moved, Break> {
+) -> Result<Moved, Break>
+    requires { 0 < most }
+    ensures { parts.MovesUpto texts.now image.now most next.old calls.old world.old result next.new calls.new world.new }
+{
     match next {
         Next::Executes => execute_all(image, most, next, calls, world),
         Next::Serves(n) => {
             let n = *n;
             serve(n, texts, image, next, calls, world)
         }
-        Next::Steps(going) => match way_of(texts, going, calls, world)? {
-            Way::Stays => step(texts, going, calls, world),
-            way => {
+        Next::Steps(going) => match way_of(texts, going, calls, world) {
+            Ok(Way::Stays) => step(texts, going, calls, world),
+            Ok(Way::ToCode) => {
                 let going = taken(going);
-                let crossed = cross(way, going, image, calls, world)?;
-                drop(mem::replace(next, crossed));
-                Ok(Moved::quietly())
+                crossed(make_in_code(going, image, calls, world), next)
             }
+            Ok(Way::Back) => {
+                let going = taken(going);
+                crossed(back(going, calls, world), next)
+            }
+            Err(_) => Err(Break::Meant(Stop::NoRoom)),
         },
     }
 }

@@ -1,13 +1,15 @@
 -- Yardstick: to be compared with what it restates (docs/TRUST.md).
--- What compiled code calls, and with how many arguments.
-use Rattle.std.specs.Prelude.{◌≡◌, ⊤, ◌&&◌, Bool, true, false, List, Some}
+-- What compiled code calls, and with which arguments.
+use Rattle.std.specs.Prelude.{◌≡◌, ◌<◌, ℕ, ◌&&◌, Bool, true, false, List, Option, Some, None}
+use Rattle.sc_base.specs.declared.key.Key.{Key}
 use Rattle.sc_emu.specs.Operations.{difference}
 use Rattle.sc_emu.specs.Registers.{Registers}
 use Rattle.sc_isa_image.specs.declared.image.Image.{Image}
 use Rattle.sc_isa_image.specs.Lookups.{key_of}
-use Rattle.sc_meaning.specs.Versions.{Text, Callee, Missing, InText, InLibrary, callee_of}
+use Rattle.sc_meaning.specs.Versions.{Text, callee_of}
 use Rattle.sc_meaning.specs.World.{World}
-use Rattle.sc_services.specs.Frames.{is_in_code, is_object, is_on_stack}
+use Rattle.sc_services.specs.Arguments.{AreArguments, argument_count}
+use Rattle.sc_services.specs.Frames.{is_in_code, is_on_stack}
 use Rattle.sc_services.specs.declared.calling.Asked.{Asked}
 use Rattle.sc_services.specs.declared.calling.Asked.TheVariants.{Call, Refused}
 
@@ -15,14 +17,25 @@ use Rattle.sc_services.specs.declared.calling.Asked.TheVariants.{Call, Refused}
 abbrev pub may_call : Registers → World → Bool
 may_call r w = is_in_code w.frames && is_on_stack r w
 
--- a function of compiled code is not called so
-abbrev pub is_compiled : Callee → Bool
-is_compiled Missing = false
-is_compiled (InText t f) = is_object t.form
-is_compiled (InLibrary f) = false
+-- a function that takes so many arguments is called with them; it is refused only where one past the eighth could not be read
+abbrev pub CallsWith : Key → ℕ → Registers → World → Asked → Type 0
+CallsWith key count r w (Call k xs) = (k ≡ key) × AreArguments count r w xs
+CallsWith key count r w Refused = 8 < count
 
--- What is called is the function whose stub's second word the `ecall` is, where it is not compiled and the call may go out. Where it is
--- refused nothing is said.
+abbrev pub CallsBy : Key → Option ℕ → Registers → World → Asked → Type 0
+CallsBy key None r w asked = asked ≡ Refused
+CallsBy key (Some count) r w asked = CallsWith key count r w asked
+
+-- it is refused where the call may not go out
+abbrev pub CallsIf : Bool → Key → List Text → Registers → World → Asked → Type 0
+CallsIf true key texts r w asked = CallsBy key (argument_count r (callee_of texts key)) r w asked
+CallsIf false key texts r w asked = asked ≡ Refused
+
+-- and where no function's stub is there
+abbrev pub CallsAt : Option Key → List Text → Registers → World → Asked → Type 0
+CallsAt None texts r w asked = asked ≡ Refused
+CallsAt (Some key) texts r w asked = CallsIf (may_call r w) key texts r w asked
+
+-- What is called is the function whose stub's second word the `ecall` is.
 abbrev pub AsksFor : Image → List Text → Registers → World → Asked → Type 0
-AsksFor i texts r w Refused = ⊤
-AsksFor i texts r w (Call key xs) = (key_of i (difference r.pc 8) ≡ Some key) × (may_call r w ≡ true) × (is_compiled (callee_of texts key) ≡ false)
+AsksFor i texts r w asked = CallsAt (key_of i (difference r.pc 8)) texts r w asked

@@ -1,11 +1,12 @@
 -- Yardstick: to be compared with what it restates (docs/TRUST.md).
 -- A block of a compiled call is left, or the call.
-use Rattle.std.specs.Prelude.{◌≡◌, ◌≢◌, ℕ, ◌&&◌, Bool, true, false, List, [], ◌∷◌, Option, Some, None}
-use Rattle.sc_base.specs.declared.key.Key.{Key}
+use Rattle.std.specs.Prelude.{◌≡◌, ◌≢◌, ℕ, ◌&&◌, Bool, true, false, Option, Some, None}
+use Rattle.sc_emu.specs.Operations.{difference}
+use Rattle.sc_emu.specs.Registers.{Registers}
 use Rattle.sc_isa_image.specs.declared.image.Image.{Image}
 use Rattle.sc_isa_image.specs.declared.text.TextAt.{TextAt}
-use Rattle.sc_isa_image.specs.Lookups.{target_of, text_at}
-use Rattle.sc_meaning.specs.World.{World, Frame}
+use Rattle.sc_isa_image.specs.Lookups.{text_at}
+use Rattle.sc_meaning.specs.World.{World}
 use Rattle.sc_services.specs.Blocks.{block_left, left_by}
 use Rattle.sc_services.specs.Frames.{is_in_code, is_open_here}
 use Rattle.sc_services.specs.declared.leaving.Left.{Left}
@@ -15,17 +16,9 @@ abbrev pub cost_at : Option TextAt → ℕ
 cost_at None = 0
 cost_at (Some at) = at.frame.cost
 
-abbrev pub cost_from : Image → Option ℕ → ℕ
-cost_from i None = 0
-cost_from i (Some start) = cost_at (text_at i start)
-
--- what the frame of a call of a function costs, by the text to which its stub leads
-abbrev pub cost_of : Image → Key → ℕ
-cost_of i key = cost_from i (target_of i key)
-
-abbrev pub cost_here : Image → List Frame → ℕ
-cost_here i [] = 0
-cost_here i (f ∷ fs) = cost_of i f.key
+-- what the frame of a call costs that runs the text in which the `ecall` stands; the registers stand behind it
+abbrev pub cost_here : Image → Registers → ℕ
+cost_here i r = cost_at (text_at i (difference r.pc 4))
 
 -- the innermost call is of compiled code, and the block is open in it
 abbrev pub may_leave : ℕ → World → Bool

@@ -7,3 +7,4 @@ pub mod Tagging
 pub mod Writing
 pub mod Copying
 pub mod Calling
+pub mod Arguments

@@ -1,5 +1,7 @@
 // Arguments and results as words: eight in registers, the others on the stack.
-ghost use Rattle.std.specs.Prelude.{◌<◌, IfOk};
+ghost use Rattle.std.specs.Prelude.{◌≡◌, ◌+◌, ◌<◌, ◌≤◌, IfOk, MatchOption, length, true};
+ghost use Rattle.sc_emu.specs.Registers.{register};
+ghost use Rattle.sc_services.specs.Arguments as spec;
 ghost use Rattle.sc_services.specs.Writing.{Writes};
 
 use crate::bytes::load_word;
@@ -8,7 +10,7 @@ use crate::store::store_word;
 use sc_base::{Items, NoMemory, Word};
 use sc_emu::Regs;
 use sc_interp_world::World;
-use sc_meaning_values::{Answer, Held, Value};
+use sc_meaning_values::{Answer, Held, Shape, Value};
 
 /// The register of the first argument and of the result.
 pub const FIRST: u8 = 10;
@@ -19,6 +21,33 @@ pub const IN_REGISTERS: u32 = 8;
 /// Where the stack ends.
 const STACK_END: u64 = 0x2000_0000;
 
+// Whether a word stands for a value, as far as tags tell.
+fn stands(x: Word, v: &Value) -> bool
+    ensures { result ≡ spec.stands x v.now }
+{
+    match &v.shape {
+        Shape::Number(n) => x.tag == 0 && x.bits == *n,
+        Shape::FunctionAt(_) => x.tag == Word::FUNCTION,
+        Shape::Pointer(o, _) => if *o == 0 { x.tag != 0 } else { x.tag == *o },
+    }
+}
+
+/// The value that a word stands for.
+pub fn value_of(x: Word, world: &World) -> Result<Value, NoMemory>
+    ensures { IfOk result (λ v. spec.stands x v ≡ true) }
+{
+    let v = world.value(x)?;
+    if stands(x, &v) { Ok(v) } else { Err(NoMemory) }
+}
+
+// The word that stands for a value.
+fn word_of(v: &Value, world: &World) -> Result<Word, NoMemory>
+    ensures { IfOk result (λ x. spec.stands x v.now ≡ true) }
+{
+    let x = world.word(v)?;
+    if stands(x, v) { Ok(x) } else { Err(NoMemory) }
+}
+
 // The address of an argument past those in registers.
 fn address_of(k: u32, world: &World) -> Option<u32> {
     let beyond = k.checked_sub(IN_REGISTERS)?;
@@ -26,24 +55,35 @@ fn address_of(k: u32, world: &World) -> Option<u32> {
     u32::try_from(at).ok()
 }
 
-// Argument k of a call, where it is in a register or inside the stack.
-fn argument(k: u32, regs: &Regs, world: &World) -> Option<Word> {
-    if k < IN_REGISTERS {
-        return Some(regs.get(FIRST + k as u8));
-    }
+// An argument past those in registers, where it is inside the stack.
+fn argument_beyond(k: u32, world: &World) -> Option<Word> {
     let at = address_of(k, world)?;
     load_word(world, at)
 }
 
+// What is said of argument k where it is there: of one in a register that it holds it.
+fn argument(k: u32, regs: &Regs, world: &World) -> Option<Word>
+    ensures { MatchOption result (8 ≤ k) (λ x. k < 8 → x ≡ register regs.now (10 + k)) }
+{
+    if k < IN_REGISTERS {
+        return Some(regs.get(FIRST + k as u8));
+    }
+    argument_beyond(k, world)
+}
+
 // Whether so many arguments are in registers or inside the stack.
-fn are_inside(count: u32, world: &World) -> bool {
+fn are_inside(count: u32, world: &World) -> bool
+    ensures { result ≡ spec.are_inside count world.now }
+{
     let beyond = u64::from(count.saturating_sub(IN_REGISTERS));
     beyond == 0 || u64::from(stack_top(world)) + 4 * beyond <= STACK_END
 }
 
 /// So many arguments of the call that goes out: the first eight in a0 to a7, the others from the stack pointer up. `None` where one
 /// of them is not inside the stack.
-pub fn arguments(count: u32, regs: &Regs, world: &World) -> Result<Option<Items<Value>>, NoMemory> {
+pub fn arguments(count: u32, regs: &Regs, world: &World) -> Result<Option<Items<Value>>, NoMemory>
+    ensures { IfOk result (λ found. spec.GivesArguments count regs.now world.now found) }
+{
     if !are_inside(count, world) {
         return Ok(None);
     }
@@ -52,21 +92,17 @@ pub fn arguments(count: u32, regs: &Regs, world: &World) -> Result<Option<Items<
         let Some(word) = argument(k, regs, world) else {
             return Ok(None);
         };
-        values.push(world.value(word)?)?;
+        let v = value_of(word, world)?;
+        values.push(v)?;
     }
     Ok(Some(values))
 }
 
-// Argument k goes to its register, or to its place on the stack.
+// A word goes to the place on the stack of an argument past those in registers.
 #[tactic(auto, using(crate::proofs::Writing::kept, crate::proofs::Writing::one_more))]
-fn put_argument(k: u32, v: &Value, regs: &mut Regs, world: &mut World) -> Result<(), NoMemory>
+fn put_beyond(k: u32, word: Word, world: &mut World) -> Result<(), NoMemory>
     ensures { IfOk result (λ _. Writes world.old world.new) }
 {
-    let word = world.word(v)?;
-    if k < IN_REGISTERS {
-        regs.set(FIRST + k as u8, word);
-        return Ok(());
-    }
     let Some(at) = address_of(k, world) else {
         return Err(NoMemory);
     };
@@ -76,23 +112,45 @@ fn put_argument(k: u32, v: &Value, regs: &mut Regs, world: &mut World) -> Result
     }
 }
 
+// Argument k goes to its register, or to its place on the stack.
+#[tactic(auto, using(crate::proofs::Writing::kept))]
+fn put_argument(k: u32, v: &Value, regs: &mut Regs, world: &mut World) -> Result<(), NoMemory>
+    ensures puts { IfOk result (λ _. spec.PutsOne k v.now regs.old regs.new) }
+    ensures writes { IfOk result (λ _. Writes world.old world.new) }
+    ensures few { k < 8 → IfOk result (λ _. world.new ≡ world.old) }
+{
+    let word = word_of(v, world)?;
+    if k < IN_REGISTERS {
+        regs.set(FIRST + k as u8, word);
+        return Ok(());
+    }
+    put_beyond(k, word, world)
+}
+
 /// The arguments of a call that goes to compiled code are put where it finds them.
 #[tactic(auto, using(crate::proofs::Writing::kept, crate::proofs::Writing::one_more))]
 pub fn put_arguments(vs: &[Value], regs: &mut Regs, world: &mut World) -> Result<(), NoMemory>
-    ensures { IfOk result (λ _. Writes world.old world.new) }
+    ensures puts { IfOk result (λ _. spec.PutsArguments 0 vs.now regs.old regs.new) }
+    ensures writes { IfOk result (λ _. Writes world.old world.new) }
+    ensures few { length vs.now ≤ 8 → IfOk result (λ _. world.new ≡ world.old) }
 {
-    let mut k = 0;
-    for v in vs {
+    for (i, v) in vs.iter().enumerate() {
+        let Ok(k) = u32::try_from(i) else {
+            return Err(NoMemory);
+        };
         put_argument(k, v, regs, world)?;
-        k = k.saturating_add(1);
     }
     Ok(())
 }
 
 /// The word of what a call gave: 0 where it gave no value.
-pub fn result_word(a: &Answer, world: &World) -> Result<Word, NoMemory> {
+pub fn result_word(a: &Answer, world: &World) -> Result<Word, NoMemory>
+    ensures { IfOk result (λ x. spec.IsResult a.now x) }
+{
     match &a.held {
-        Held::Plain(v) => world.word(v),
-        Held::Place(_) | Held::Part(_, _) | Held::Nothing => Ok(Word { bits: 0, tag: 0 }),
+        Held::Plain(v) => word_of(v, world),
+        Held::Place(_) => Ok(Word { bits: 0, tag: 0 }),
+        Held::Part(_, _) => Ok(Word { bits: 0, tag: 0 }),
+        Held::Nothing => Ok(Word { bits: 0, tag: 0 }),
     }
 }

@@ -1,6 +1,8 @@
 // Service 1: compiled code calls interpreted code, or the library.
-ghost use Rattle.std.specs.Prelude.{◌≡◌, IfOk, IfSome, false};
+ghost use Rattle.std.specs.Prelude.{◌≡◌, IfOk};
 ghost use Rattle.sc_core_held.specs.Found.{callee_found};
+ghost use Rattle.sc_meaning.specs.Versions.{callee_of as named};
+ghost use Rattle.sc_services.specs.Arguments as counts;
 ghost use Rattle.sc_services.specs.Calling as spec;
 
 use crate::arguments::arguments;
@@ -25,7 +27,9 @@ pub enum Asked {
 }
 
 // How many arguments a function of the library takes.
-fn arity(f: LibFun, regs: &Regs) -> u32 {
+fn arity(f: LibFun, regs: &Regs) -> u32
+    ensures { result ≡ counts.arity f regs.now }
+{
     match f {
         LibFun::Printf => regs.get(COUNT).bits,
         LibFun::Getchar | LibFun::Rand => 0,
@@ -69,24 +73,55 @@ fn arity(f: LibFun, regs: &Regs) -> u32 {
 }
 
 // How many parameters a function has.
-fn parameter_count(f: &Fun) -> u32 {
-    match f.blocks.as_slice().get(0) {
-        None => 0,
-        Some(autos) => u32::try_from(autos.len()).unwrap_or(u32::MAX),
+fn parameter_count(f: &Fun) -> Result<u32, NoMemory>
+    ensures { IfOk result (λ n. n ≡ counts.parameter_count f.now) }
+{
+    let Some(autos) = f.blocks.as_slice().get(0) else {
+        return Ok(0);
+    };
+    match u32::try_from(autos.as_slice().len()) {
+        Ok(n) => Ok(n),
+        Err(_) => Err(NoMemory),
     }
 }
 
 // How many arguments go to what is called: none to what is missing, which has no answer; `None` for compiled code, which is not called so.
-fn argument_count(callee: Callee, regs: &Regs) -> Option<u32>
-    ensures { IfSome result (λ _. spec.is_compiled (callee_found callee.entry) ≡ false) }
+fn argument_count(callee: Callee, regs: &Regs) -> Result<Option<u32>, NoMemory>
+    ensures { IfOk result (λ count. count ≡ counts.argument_count regs.now (callee_found callee.entry)) }
 {
     match callee {
-        Callee::Missing => Some(0),
-        Callee::InLibrary(f) => Some(arity(f, regs)),
+        Callee::Missing => Ok(Some(0)),
+        Callee::InLibrary(f) => Ok(Some(arity(f, regs))),
         Callee::InText(t, f) => match t.form {
-            Form::Source => Some(parameter_count(f.get())),
-            Form::Object => None,
+            Form::Source => {
+                let n = parameter_count(f.get())?;
+                Ok(Some(n))
+            }
+            Form::Object => Ok(None),
         },
+    }
+}
+
+// A function is called with so many arguments.
+fn called_with(key: &Key, count: u32, regs: &Regs, world: &World) -> Result<Asked, NoMemory>
+    ensures { IfOk result (λ asked. spec.CallsWith key.now count regs.now world.now asked) }
+{
+    match arguments(count, regs, world)? {
+        None => Ok(Asked::Refused),
+        Some(values) => {
+            let key = key.copy(world.alloc())?;
+            Ok(Asked::Call(key, values))
+        }
+    }
+}
+
+// A function is called, where it may be.
+fn called_by(key: &Key, texts: &[Text], regs: &Regs, world: &World) -> Result<Asked, NoMemory>
+    ensures { IfOk result (λ asked. spec.CallsBy key.now (counts.argument_count regs.now (named texts.now key.now)) regs.now world.now asked) }
+{
+    match argument_count(callee_of(texts, key), regs)? {
+        None => Ok(Asked::Refused),
+        Some(count) => called_with(key, count, regs, world),
     }
 }
 
@@ -100,14 +135,9 @@ pub fn called(texts: &[Text], regs: &Regs, image: &Image, world: &World) -> Resu
     let Some(key) = image.key_of(regs.pc().wrapping_sub(8)) else {
         return Ok(Asked::Refused);
     };
-    if !is_in_code(world) || !is_on_stack(regs, world) {
-        return Ok(Asked::Refused);
-    }
-    let Some(count) = argument_count(callee_of(texts, key), regs) else {
-        return Ok(Asked::Refused);
-    };
-    match arguments(count, regs, world)? {
-        None => Ok(Asked::Refused),
-        Some(values) => Ok(Asked::Call(key.copy(world.alloc())?, values)),
+    if is_in_code(world) && is_on_stack(regs, world) {
+        called_by(key, texts, regs, world)
+    } else {
+        Ok(Asked::Refused)
     }
 }

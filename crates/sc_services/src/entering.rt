@@ -1,15 +1,13 @@
 // Service 2: a call of compiled code is entered, or a block of it.
-ghost use Rattle.std.specs.Prelude.{◌≡◌, ◌+◌, IfOk, true};
+ghost use Rattle.std.specs.Prelude.{◌≡◌, ◌+◌, IfOk};
 ghost use Rattle.sc_interp_access.specs.Gives.{Gives};
 ghost use Rattle.sc_meaning.specs.Calls.{frame_of as frame_of_call};
 ghost use Rattle.sc_meaning.specs.World as worlds;
 ghost use Rattle.sc_services.specs.Blocks as spec;
 ghost use Rattle.sc_services.specs.Entering as entering;
-ghost use Rattle.sc_services.specs.Frames as frames;
-ghost use Rattle.sc_emu.specs.Operations.{difference};
-ghost use Rattle.sc_emu.specs.Registers.{register};
-ghost use Rattle.sc_isa_image.specs.Lookups.{text_at};
-ghost use Rattle.sc_services.specs.declared.entering.Entered.TheVariants.{Block, Call};
+ghost use Rattle.sc_isa_image.specs.Lookups.{target_of};
+ghost use Rattle.sc_meaning.specs.Versions as versions;
+ghost use Rattle.sc_services.specs.declared.entering.Entered.TheVariants.{Block};
 
 use crate::arguments::arguments;
 use crate::blocks::{enter_block, set_slots, slots_of};
@@ -108,21 +106,26 @@ fn enter_if_room(at: &TextAt, t: &Text, vs: &[Value], world: &mut World) -> Resu
     enter_call(&at.fun, t, &at.frame, used, vs, world)
 }
 
-// Whether the call of a service ends here with the third word of a text to which its function's stub leads.
-fn is_first(regs: &Regs, image: &Image, at: &TextAt) -> bool {
-    let Some(begun) = at.start.checked_add(12) else {
-        return false;
-    };
-    let leads_here = match image.target(&at.fun) {
+// Whether the stub of a function leads to an address.
+fn leads_to(image: &Image, key: &Key, start: u32) -> bool
+    ensures { result ≡ entering.leads_to (target_of image.now key.now) start }
+{
+    match image.target(key) {
         None => false,
-        Some(start) => start == at.start,
-    };
-    begun == regs.pc() && leads_here
+        Some(at) => at == start,
+    }
+}
+
+// Whether the call of a service ends here with the third word of a text to which its function's stub leads.
+fn is_first(regs: &Regs, image: &Image, at: &TextAt) -> bool
+    ensures { result ≡ entering.is_first image.now regs.now at.now }
+{
+    u64::from(at.start) + 12 == u64::from(regs.pc()) && leads_to(image, &at.fun, at.start)
 }
 
 // A call is entered with these arguments.
 fn enter_with(at: &TextAt, t: &Text, vs: &[Value], world: &mut World) -> Result<Entered, Stop>
-    ensures { entering.Enters true (spec.call_entered_if_room at.now.fun t.now at.now.frame vs.now world.old) Call world.old result world.new }
+    ensures { entering.EntersWith at.now t.now vs.now world.old result world.new }
 {
     match enter_if_room(at, t, vs, world) {
         Ok(()) => Ok(Entered::Call),
@@ -133,15 +136,32 @@ fn enter_with(at: &TextAt, t: &Text, vs: &[Value], world: &mut World) -> Result<
 // A call of this text is entered with the arguments that are there.
 #[tactic(auto, using(crate::proofs::Slots::entered_with))]
 fn enter_here(at: &TextAt, t: &Text, regs: &Regs, world: &mut World) -> Result<Entered, Stop>
-    ensures { entering.EntersCall at.now world.old result world.new }
+    ensures { entering.EntersCall at.now t.now regs.now world.old result world.new }
 {
     let Ok(count) = u32::try_from(slots_of(&at.frame, 0).len()) else {
-        return Ok(Entered::Refused);
+        return Err(Stop::NoRoom);
     };
     match arguments(count, regs, world) {
         Ok(None) => Ok(Entered::Refused),
         Ok(Some(vs)) => enter_with(at, t, vs.as_slice(), world),
         Err(_) => Err(Stop::NoRoom),
+    }
+}
+
+// The call of a function of a text begins, where the `ecall` begins it.
+fn enter_first(
+    t: &Text,
+    at: &TextAt,
+    regs: &Regs,
+    image: &Image,
+    world: &mut World,
+) -> Result<Entered, Stop>
+    ensures { entering.EntersFirst (entering.is_first image.now regs.now at.now) at.now t.now regs.now world.old result world.new }
+{
+    if is_first(regs, image, at) {
+        enter_here(at, t, regs, world)
+    } else {
+        Ok(Entered::Refused)
     }
 }
 
@@ -153,18 +173,12 @@ fn enter_text(
     image: &Image,
     world: &mut World,
 ) -> Result<Entered, Stop>
-    ensures { entering.EntersCall at.now world.old result world.new }
+    ensures { entering.EntersText (versions.callee_of texts.now at.now.fun) image.now at.now regs.now world.old result world.new }
 {
     match callee_of(texts, &at.fun) {
         Callee::Missing => Ok(Entered::Refused),
         Callee::InLibrary(_) => Ok(Entered::Refused),
-        Callee::InText(t, _) => {
-            if is_first(regs, image, at) {
-                enter_here(at, t, regs, world)
-            } else {
-                Ok(Entered::Refused)
-            }
-        }
+        Callee::InText(t, _) => enter_first(t, at, regs, image, world),
     }
 }
 
@@ -198,7 +212,7 @@ fn enter_inner(block: u32, at: &TextAt, world: &mut World) -> Result<Entered, St
 ///
 /// `StackFull` and `BirthLimit`.
 pub fn enter(texts: &[Text], regs: &Regs, image: &Image, world: &mut World) -> Result<Entered, Stop>
-    ensures { entering.EntersAt (frames.is_on_stack regs.now world.old) (text_at image.now (difference regs.now.pc 4)) (register regs.now 6).bits world.old result world.new }
+    ensures { entering.EntersAt texts.now image.now regs.now world.old result world.new }
 {
     if !is_on_stack(regs, world) {
         return Ok(Entered::Refused);
@@ -206,8 +220,10 @@ pub fn enter(texts: &[Text], regs: &Regs, image: &Image, world: &mut World) -> R
     let Some(at) = image.text_at(regs.pc().wrapping_sub(4)) else {
         return Ok(Entered::Refused);
     };
-    match regs.get(BLOCK).bits {
-        0 => enter_text(texts, at, regs, image, world),
-        block => enter_inner(block, at, world),
+    let block = regs.get(BLOCK).bits;
+    if block == 0 {
+        enter_text(texts, at, regs, image, world)
+    } else {
+        enter_inner(block, at, world)
     }
 }

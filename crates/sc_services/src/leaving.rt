@@ -6,7 +6,7 @@ ghost use Rattle.sc_services.specs.Blocks as spec;
 ghost use Rattle.sc_services.specs.Leaving as leaving;
 
 use crate::frames::{is_in_code, is_open};
-use sc_base::{Duplicate, Items, Key, NoMemory};
+use sc_base::{Duplicate, Items, NoMemory};
 use sc_emu::Regs;
 use sc_interp_parts::all_dead;
 use sc_interp_world::{Born, Event, World};
@@ -67,33 +67,13 @@ fn close_up_to(block: u32, world: &mut World) -> Result<(), NoMemory>
     Ok(())
 }
 
-// What the frame of the call costs that begins at this address of a text.
-fn cost_at(image: &Image, start: u32) -> u32
-    ensures { result ≡ leaving.cost_at (text_at image.now start) }
+// What the frame of a call costs that runs the text in which the `ecall` stands.
+fn cost_here(regs: &Regs, image: &Image) -> u32
+    ensures { result ≡ leaving.cost_here image.now regs.now }
 {
-    match image.text_at(start) {
+    match image.text_at(regs.pc().wrapping_sub(4)) {
         None => 0,
         Some(at) => at.frame.cost,
-    }
-}
-
-// What the frame of a call of a function costs: that of the text to which the function's stub leads.
-fn cost_of(image: &Image, key: &Key) -> u32
-    ensures { result ≡ leaving.cost_of image.now key.now }
-{
-    match image.target(key) {
-        None => 0,
-        Some(start) => cost_at(image, start),
-    }
-}
-
-// What the frame of the innermost call costs.
-fn cost_here(image: &Image, world: &World) -> u32
-    ensures { result ≡ leaving.cost_here image.now world.now.frames }
-{
-    match world.innermost() {
-        None => 0,
-        Some(frame) => cost_of(image, &frame.key),
     }
 }
 
@@ -108,13 +88,13 @@ fn leave_call(cost: u32, world: &mut World) -> Result<(), NoMemory>
 }
 
 // A block is left, and with that of the parameters the call.
-fn leave_to(block: u32, image: &Image, world: &mut World) -> Result<Left, NoMemory>
-    ensures { IfOk result (λ left. leaving.Leaves block (leaving.cost_here image.now world.old.frames) world.old left world.new) }
+fn leave_to(block: u32, regs: &Regs, image: &Image, world: &mut World) -> Result<Left, NoMemory>
+    ensures { IfOk result (λ left. leaving.Leaves block (leaving.cost_here image.now regs.now) world.old left world.new) }
 {
     if !is_in_code(world) || !is_open(block, world) {
         return Ok(Left::Refused);
     }
-    let cost = cost_here(image, world);
+    let cost = cost_here(regs, image);
     close_up_to(block, world)?;
     if block != 0 {
         return Ok(Left::Block);
@@ -124,17 +104,17 @@ fn leave_to(block: u32, image: &Image, world: &mut World) -> Result<Left, NoMemo
 }
 
 /// Service 3, for the block in t1: the objects of this block and of those inside it die, the last born first. With block 0 the
-/// call is left, and its stack given back. It is refused where the innermost call is not of compiled code, or the block not open
-/// in it.
+/// call is left, and the stack given back that the text's frame costs in which the `ecall` stands. It is refused where the innermost
+/// call is not of compiled code, or the block not open in it. The registers stand behind the `ecall`.
 pub fn leave(regs: &Regs, image: &Image, world: &mut World) -> Result<Left, NoMemory>
-    ensures { IfOk result (λ left. leaving.Leaves (register regs.now 6).bits (leaving.cost_here image.now world.old.frames) world.old left world.new) }
+    ensures { IfOk result (λ left. leaving.Leaves (register regs.now 6).bits (leaving.cost_here image.now regs.now) world.old left world.new) }
 {
-    leave_to(regs.get(BLOCK).bits, image, world)
+    leave_to(regs.get(BLOCK).bits, regs, image, world)
 }
 
 /// Service 6: as service 3 for block 0, of a call that gives no value.
-pub fn fall(image: &Image, world: &mut World) -> Result<Left, NoMemory>
-    ensures { IfOk result (λ left. leaving.Leaves 0 (leaving.cost_here image.now world.old.frames) world.old left world.new) }
+pub fn fall(regs: &Regs, image: &Image, world: &mut World) -> Result<Left, NoMemory>
+    ensures { IfOk result (λ left. leaving.Leaves 0 (leaving.cost_here image.now regs.now) world.old left world.new) }
 {
-    leave_to(0, image, world)
+    leave_to(0, regs, image, world)
 }

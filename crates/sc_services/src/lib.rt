@@ -14,7 +14,7 @@ mod served;
 mod store;
 mod tagging;
 
-pub use arguments::{put_arguments, result_word};
+pub use arguments::{put_arguments, result_word, value_of};
 pub use calling::{Asked, called};
 pub use copying::{Copied, copy};
 pub use entering::{Entered, enter};

@@ -2,7 +2,7 @@
 ghost use Rattle.std.specs.Prelude.{◌≡◌, IfOk};
 ghost use Rattle.sc_mem.specs.Words.{IsSize};
 ghost use Rattle.sc_services.specs.Tagging.{IsByteOf};
-ghost use Rattle.sc_services.specs.Writing.{Writes};
+ghost use Rattle.sc_services.specs.Writing.{Writes, WritesIfThere};
 
 use crate::bytes::{cell_of, number_of};
 use sc_base::{Items, NoMemory, Word};
@@ -89,7 +89,7 @@ fn store_bytes(at: u32, size: u8, word: Word, world: &mut World) -> Result<(), N
 #[tactic(auto, using(crate::proofs::Writing::kept, crate::proofs::Writing::one_more))]
 pub fn store_word(at: u32, size: u8, word: Word, world: &mut World) -> Result<Option<()>, NoMemory>
     requires { IsSize size }
-    ensures { IfOk result (λ _. Writes world.old world.new) }
+    ensures { IfOk result (λ done. WritesIfThere done world.old world.new) }
 {
     // Most stores are of temporaries, so they are tried first.
     if let Some(()) = world.keep(at, size, word)? {

@@ -49,19 +49,19 @@ writes_keep old new before now name object answer.NoMemory named spoilt = keeps_
 writes_keep old new before now name object _ named p = absurd p
 
 loads_held : (old new : Moment) (name file : List ℕ) (said : Answer) → Loads old name file said new → new.held ≡ old.held
-loads_held old new name file (answer.Loaded m) (is, (built, fits, (session, held))) = held
+loads_held old new name file (answer.Loaded m) (is, (built, fits, session, held)) = held
 loads_held old new name file (answer.Refused d) ((session, held), denied) = held
 loads_held old new name file answer.NoMemory (session, held) = held
 loads_held old new name file _ p = absurd p
 
 edits_held : (old new : Moment) (name file : List ℕ) (said : Answer) → Edits old name file said new → new.held ≡ old.held
-edits_held old new name file (answer.Edited m) (is, (built, fits, (session, held))) = held
+edits_held old new name file (answer.Edited m) (is, (built, fits, session, held)) = held
 edits_held old new name file (answer.Refused d) ((session, held), denied) = held
 edits_held old new name file answer.NoMemory (session, held) = held
 edits_held old new name file _ p = absurd p
 
 swaps_held : (old new : Moment) (name : List ℕ) (f : Form) (said : Answer) → Swaps old name f said new → new.held ≡ old.held
-swaps_held old new name f (answer.Swapped m g) p = p.3.1
+swaps_held old new name f (answer.Swapped m g) p = p.4
 swaps_held old new name f (answer.Refused d) p = p.1.1
 swaps_held old new name f answer.NoMemory p = p.1
 swaps_held old new name f _ p = absurd p
@@ -70,7 +70,7 @@ swaps_held old new name f _ p = absurd p
 pub does_keep : (old new : Moment) (c : Command) (said : Answer) → IsNamed c → Does old c said new → KeepsSources old.held new.held
 does_keep old new command.Nothing said named p = keeps_same old.held new.held (ap (λ (m : Moment). m.held) p.1)
 does_keep old new (command.Load name) said named p = keeps_same old.held new.held (loads_held old new name _ said p)
-does_keep old new (command.Unload name) said named p = keeps_same old.held new.held p.2.0
+does_keep old new (command.Unload name) said named p = keeps_same old.held new.held p.1.0
 does_keep old new (command.Swap name form) said named p = keeps_same old.held new.held (swaps_held old new name form said p)
 does_keep old new (command.Edit name file) said named p = keeps_same old.held new.held (edits_held old new name _ said p)
 does_keep old new (command.Compile name) said named (same, (object, there, puts)) = writes_keep old.held new.held old.faults new.faults name object said named puts

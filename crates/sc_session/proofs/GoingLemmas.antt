@@ -1,5 +1,5 @@
 -- A go of a session, as its code comes to it: the modules, the stops and the run are the session's.
-use Rattle.std.proofs.Common.{◌≡◌, ℕ, List, Option, Some, ap, ◌∙◌, subst}
+use Rattle.std.proofs.Common.{◌≡◌, ℕ, List, drop, Option, Some, ap, ◌∙◌, subst}
 use Rattle.sc_meaning.specs.Versions.{Text}
 use Rattle.sc_interp.specs.Ends.{start_of}
 use Rattle.sc_words.specs.declared.answer.Answer.TheVariants as answer
@@ -10,7 +10,9 @@ use Rattle.sc_world.specs.Goes.{started}
 use Rattle.sc_world.specs.Meant.{IsRunOf}
 use Rattle.sc_world.specs.Standing.{Standing}
 use Rattle.sc_session.specs.declared.state.State.{State}
-use Rattle.sc_session.specs.Going.{Went, RunsIn, Walks, Begins, run_of, in_state}
+use Rattle.sc_session.specs.declared.state.State.TheVariants as state
+use Rattle.sc_session.specs.Changing.{caught_up, gone_through, versions}
+use Rattle.sc_session.specs.Going.{RunsIn, TakesRun, Went, Walks, Begins, run_of, in_state}
 use Rattle.sc_session.specs.Modules.{texts}
 use Rattle.sc_session.specs.Plain.{Plain}
 use Rattle.sc_session.specs.Stopping.{places}
@@ -22,11 +24,33 @@ went_in old how modules stops turns r front text s m p t went =
     subst (λ x. Went (texts old.modules) (places old.stops) how x r front text s) t
     (subst (λ x. Went (texts old.modules) x how turns r front text s) p (subst (λ x. Went x stops how turns r front text s) m went))
 
-pub walked : (old new : Plain) (how : Walk) (before : State) (modules : List Text) (stops : List StopAt) (turns : ℕ) (r : Option Standing) (front text : List ℕ) (s after : State)
-    → before ≡ old.state → RunsIn before r → modules ≡ texts old.modules → stops ≡ places old.stops → turns ≡ old.limits.turns
-    → Went modules stops how turns r front text s → after ≡ s → new ≡ in_state after old → Walks old how front (answer.Ran text) new
-walked old new how before modules stops turns r front text s after b runs m p t went same is =
-    (r, subst (λ x. RunsIn x r) b runs, (s, went_in old how modules stops turns r front text s m p t went, is ∙ ap (λ x. in_state x old) same))
+-- another state stands in the session
+pub taken_lost : (old v : Plain) (s : State) → v ≡ old → s ≡ state.Ended → record v { state = s } ≡ in_state state.Ended old
+taken_lost old v s is over = ap (λ x. record v { state = x }) over ∙ ap (in_state state.Ended) is
+
+-- the run is taken out of it, and goes through what waits
+pub taken_out : (old v : Plain) (before s : State) (all left : List (List Text)) (r run : Option Standing)
+    → v ≡ old → before ≡ old.state → s ≡ state.Ended → all ≡ versions old → left ≡ drop old.come all → RunsIn before r → run ≡ gone_through left r
+    → TakesRun old run (record v { state = s })
+taken_out old v before s all left r run is was over are from runs went = (
+  (r, subst (λ x. RunsIn x r) was runs, went ∙ ap (λ vs. gone_through vs r) (from ∙ ap (drop old.come) are)),
+  taken_lost old v s is over,
+)
+
+-- the run was taken out of the session, and went through the changes that waited
+pub walked : (old mid new : Plain) (how : Walk) (modules : List Text) (stops : List StopAt) (turns : ℕ) (run : Option Standing) (front text : List ℕ) (s after : State)
+    → TakesRun old run mid → modules ≡ texts old.modules → stops ≡ places old.stops → turns ≡ mid.limits.turns
+    → Went modules stops how turns run front text s → after ≡ s → new ≡ in_state after (caught_up mid) → Walks old how front (answer.Ran text) new
+walked old mid new how modules stops turns run front text s after ((r, runs, settles), taken) m p t went same is = (
+  r,
+  runs,
+  (
+    s,
+    subst (λ x. Went (texts old.modules) (places old.stops) how old.limits.turns x front text s) settles
+        (went_in old how modules stops turns run front text s m p (t ∙ ap (λ (x : Plain). x.limits.turns) taken) went),
+    is ∙ ap (λ x. in_state x (caught_up mid)) same ∙ ap (λ x. in_state s (caught_up x)) taken,
+  ),
+)
 
 pub begins : (old new : Plain) (first modules : List Text) (stops : List StopAt) (stack heap turns : ℕ) (input : List ℕ) (r : Option Standing) (front text : List ℕ) (s after : State)
     → first ≡ texts old.modules → modules ≡ texts old.modules → stops ≡ places old.stops → stack ≡ old.limits.stack → heap ≡ old.limits.heap → turns ≡ old.limits.turns

@@ -9,3 +9,5 @@ pub mod LoadingLemmas
 pub mod SwappingLemmas
 pub mod MixingLemmas
 pub mod FormLemmas
+pub mod AskingLemmas
+pub mod RelinkingLemmas

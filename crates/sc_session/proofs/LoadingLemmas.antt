@@ -15,7 +15,7 @@ module _ (old : Moment) (new : Plain) (held : Option FileMap) (now : ℕ) (name 
     pub load_joined : t ≡ taken.Joined → Joins old.session built t new → Loads old name file (answer.Loaded name) (moment new held now)
     load_joined is joins =
         let j : Joins old.session built taken.Joined new = subst (λ x. Joins old.session built x new) is joins in
-        (refl, (built, record { builds = builds; goes = j.0 }, (j.1, same)))
+        (refl, (built, record { builds = builds; goes = j.0 }, j.1, same))
 
     pub load_clashed : (d : Denied) → t ≡ taken.Denied d → Joins old.session built t new → Loads old name file (answer.Refused d) (moment new held now)
     load_clashed d is joins =
@@ -28,7 +28,7 @@ module _ (old : Moment) (new : Plain) (held : Option FileMap) (now : ℕ) (name 
     pub edit_joined : t ≡ taken.Joined → TakesPlace old.session built t new → Edits old name file (answer.Edited name) (moment new held now)
     edit_joined is takes =
         let j : TakesPlace old.session built taken.Joined new = subst (λ x. TakesPlace old.session built x new) is takes in
-        (refl, (built, record { builds = builds; goes = j.0 }, (j.1, same)))
+        (refl, (built, record { builds = builds; goes = j.0 }, j.1, same))
 
     pub edit_clashed : (d : Denied) → t ≡ taken.Denied d → TakesPlace old.session built t new → Edits old name file (answer.Refused d) (moment new held now)
     edit_clashed d is takes =

@@ -1,16 +1,22 @@
 -- A run of both forms in a session, and either run.
-use Rattle.std.proofs.Common.{◌≡◌, Bool, true, false, ℕ, List, [], length, Option, Some, None, Result, Ok, Err, inl, inr, refl, ap, sym, subst, ◌∙◌}
+use Rattle.std.proofs.Common.{◌≡◌, Bool, true, false, ℕ, List, [], ◌∷◌, drop, length, Option, Some, None, Result, Ok, Err, inl, inr, refl, ap, sym, subst, ◌∙◌}
 use Rattle.sc_interp_world.specs.Outputs.{output}
 use Rattle.sc_meaning.specs.World.{World}
 use Rattle.sc_outside.specs.Stored.{FileMap}
 use Rattle.sc_session_forms.specs.Forms.{are_sources}
-use Rattle.sc_session_forms.specs.Halts.{MixedTells}
+use Rattle.sc_isa_image.specs.declared.image.Image.{Image}
+use Rattle.sc_meaning.specs.Versions.{Text}
+use Rattle.sc_mixed.specs.Standing.{Standing, declaring_at}
+use Rattle.sc_mixed.specs.Starting.{Starts}
+use Rattle.sc_session_forms.specs.Halts.{MixedGone}
 use Rattle.sc_words.specs.declared.answer.Answer.{Answer}
 use Rattle.sc_words.specs.declared.answer.Answer.TheVariants as answer
 use Rattle.sc_words.specs.declared.denied.Area.{Area}
 use Rattle.sc_words.specs.declared.denied.Denied.{Denied}
 use Rattle.sc_words.specs.declared.denied.Denied.TheVariants as denied
+use Rattle.sc_words.specs.declared.stop.StopAt.{StopAt}
 use Rattle.sc_words.specs.declared.stop.Walk.{Walk}
+use Rattle.sc_words.specs.declared.stop.Walk.TheVariants as walk
 use Rattle.sc_world.proofs.Posting.{appends_none}
 use Rattle.sc_world.specs.declared.halt.Halt.{Halt}
 use Rattle.sc_world.specs.declared.post.Unsent.{Unsent}
@@ -18,10 +24,15 @@ use Rattle.sc_session.specs.declared.present.Present.{Present}
 use Rattle.sc_session.specs.declared.state.State.{State}
 use Rattle.sc_session.specs.declared.state.State.TheVariants as state
 use Rattle.sc_session.specs.Going.{InputDenied, IsGoing, IsInput, WalksOut, has_main, in_state}
-use Rattle.sc_session.specs.Mixing.{IsActive, MixedBegins, MixedGoes, MixedIn, MixedShowsCalls, MixedShowsValue, MixedTellsCalls, MixedTellsValue, MixedWalks, MixedWent, ShowsCallsBy, ShowsValueBy, is_mixed, mixed_state}
+use Rattle.sc_mixed.specs.Changing.{Changes}
+use Rattle.sc_session.specs.declared.listing.Sight.{Sight}
+use Rattle.sc_session.specs.Changing.{caught_up, versions}
+use Rattle.sc_session.specs.Mixing.{MixedGoneThrough, MixedThrough, TakesMixed, IsActive, MixedBegins, MixedGoes, MixedIn, MixedShowsCalls, MixedShowsValue, MixedStarts, MixedTellsCalls, MixedTellsValue, MixedWalks, MixedWent, ShowsCallsBy, ShowsValueBy, is_mixed, mixed_state}
+use Rattle.sc_session.specs.Linking.{IsImage}
 use Rattle.sc_session.specs.Modules.{texts}
+use Rattle.sc_session.specs.Stopping.{places}
 use Rattle.sc_session.specs.Plain.{Plain}
-use Rattle.sc_session.specs.Showing.{ShowsCalls, ShowsValue}
+use Rattle.sc_session.specs.Showing.{ShowsCalls, ShowsValue, sight_of}
 use Rattle.sc_session.specs.Transcript.{Moment, MixedRuns, RunsOut, RunsOutBy, WalksOutBy, moment}
 use Rattle.sc_session.proofs.SendingLemmas.{input_denied}
 
@@ -34,6 +45,15 @@ source_by (state.StoppedMixed w) active is_not = absurd (cc)
 source_by (state.PausedMixed w) active is_not = absurd (cc)
 source_by state.Ended active is_not = absurd active
 
+-- a run of both forms that goes on stands in some place
+pub some_mixed : (s : State) → is_mixed s ≡ true → (m : Standing) × MixedIn s m
+some_mixed state.Idle e = absurd (cc)
+some_mixed (state.Stopped r) e = absurd (cc)
+some_mixed (state.Paused r) e = absurd (cc)
+some_mixed (state.StoppedMixed m) e = (m, refl)
+some_mixed (state.PausedMixed m) e = (m, refl)
+some_mixed state.Ended e = absurd (cc)
+
 pub source_goes : (v session : Plain) (b : Bool) → v ≡ session → IsActive session.state → b ≡ is_mixed v.state → b ≡ false → IsGoing session.state
 source_goes v session b is active said is_not = source_by session.state active (sym (ap (λ s. is_mixed s.state) is) ∙ sym said ∙ is_not)
 
@@ -42,35 +62,72 @@ is_by v session b c is said it = sym (ap (λ s. is_mixed s.state) is) ∙ sym sa
 
 -- ---- a go
 
-went : (session inside : Plain) (w : World) (text : List ℕ) (new : Plain) → inside ≡ in_state state.Ended session → MixedWent inside w text new → MixedWent session w text new
-went session inside w text new is g = record {
-  halts = g.halts;
-  world = g.world;
-  tells = g.tells;
-  follows = g.follows ∙ ap (in_state (mixed_state g.halts g.world)) is;
+went : (session inside : Plain) (modules : List Text) (stops : List StopAt) (how : Walk) (m : Standing) (text : List ℕ) (new : Plain) → inside ≡ in_state state.Ended session → modules ≡ texts session.modules → stops ≡ places session.stops
+    → MixedGoes inside modules stops how m (answer.Ran text) new → MixedWent session how m text new
+went session inside modules stops how m text new is same at g = record {
+  halts = g.0;
+  stands = g.1;
+  gone = subst (λ (ps : List StopAt). MixedGone (texts session.modules) ps how session.limits.turns m g.0 g.1 text) at
+      (subst (λ (ms : List Text). MixedGone ms stops how session.limits.turns m g.0 g.1 text) same
+      (subst (λ (p : Plain). MixedGone modules stops how p.limits.turns m g.0 g.1 text) is g.2));
+  follows = g.3 ∙ ap (λ p. in_state (mixed_state g.0 g.1) (caught_up p)) is;
 }
 
-pub goes_walks : (session inside : Plain) (w : World) (said : Answer) (new : Plain) → inside ≡ in_state state.Ended session → MixedIn session.state w → MixedGoes inside w said new → MixedWalks session said new
-goes_walks session inside w (answer.Ran text) new is there g = (w, there, went session inside w text new is g)
-goes_walks session inside w answer.NoMemory new is there g = inr (g ∙ is)
-goes_walks session inside w _ new is there g = absurd g
+pub goes_walks : (session mid : Plain) (modules : List Text) (stops : List StopAt) (how : Walk) (n : Standing) (said : Answer) (new : Plain) → TakesMixed session n mid → modules ≡ texts session.modules → stops ≡ places session.stops
+    → MixedGoes mid modules stops how n said new → MixedWalks session how said new
+goes_walks session mid modules stops how n (answer.Ran text) new ((m, there, through), taken) same at g = (m, there, (n, through, went session mid modules stops how n text new taken same at g))
+goes_walks session mid modules stops how n answer.NoMemory new ((m, there, through), taken) same at g = inr (g ∙ taken)
+goes_walks session mid modules stops how n _ new takes same at g = absurd g
 
-pub goes_begins : (session inside : Plain) (w : World) (said : Answer) (new : Plain) → inside ≡ in_state state.Ended session → output w.trail ≡ [] → MixedGoes inside w said new → MixedBegins session said new
-goes_begins session inside w (answer.Ran text) new is empty g = (w, empty, went session inside w text new is g)
-goes_begins session inside w answer.NoMemory new is empty g = inr (g ∙ is)
-goes_begins session inside w _ new is empty g = absurd g
+-- another state stands in the session
+pub mixed_lost : (old v : Plain) (s : State) → v ≡ old → s ≡ state.Ended → record v { state = s } ≡ in_state state.Ended old
+mixed_lost old v s is over = ap (λ x. record v { state = x }) over ∙ ap (in_state state.Ended) is
+
+-- the run is taken out of it, and goes through what waits
+pub mixed_out : (old v : Plain) (before s : State) (all left : List (List Text)) (m n : Standing)
+    → v ≡ old → before ≡ old.state → s ≡ state.Ended → all ≡ versions old → left ≡ drop old.come all → MixedIn before m → MixedGoneThrough left m n
+    → TakesMixed old n (record v { state = s })
+mixed_out old v before s all left m n is was over are from there through = (
+  (m, subst (λ x. MixedIn x m) was there, subst (λ vs. MixedGoneThrough vs m n) (from ∙ ap (drop old.come) are) through),
+  mixed_lost old v s is over,
+)
+
+pub over_there : (session n : Plain) (mid : Standing) → TakesMixed session mid n → n.state ≡ state.Ended
+over_there session n mid takes = ap (λ (p : Plain). p.state) takes.1
+
+pub goes_begins : (session inside : Plain) (bytes : List ℕ) (modules : List Text) (stops : List StopAt) (m : Standing) (said : Answer) (new : Plain) → inside ≡ in_state state.Ended session → modules ≡ texts session.modules → stops ≡ places session.stops
+    → MixedStarts session bytes m → MixedGoes inside modules stops walk.Cont m said new → MixedBegins session bytes said new
+goes_begins session inside bytes modules stops m (answer.Ran text) new is same at starts g = (m, starts, went session inside modules stops walk.Cont m text new is same at g)
+goes_begins session inside bytes modules stops m answer.NoMemory new is same at starts g = inr (g ∙ is)
+goes_begins session inside bytes modules stops m _ new is same at starts g = absurd g
+
+-- a run that was started in the image of the modules
+pub started_so : (session v : Plain) (i : Image) (modules : List Text) (stack heap : ℕ) (bytes : List ℕ) (m : Standing) → v ≡ session → modules ≡ texts session.modules → stack ≡ session.limits.stack → heap ≡ session.limits.heap
+    → IsImage session.modules session.numbers i → Starts modules i stack heap bytes m → output m.world.trail ≡ [] → MixedStarts session bytes m
+started_so session v i modules stack heap bytes m is same deep wide links starts empty = record {
+  image = i;
+  links = links;
+  starts = subst (λ (ms : List Text). Starts ms i session.limits.stack session.limits.heap bytes m) same
+      (subst (λ (n : ℕ). Starts modules i n session.limits.heap bytes m) deep (subst (λ (n : ℕ). Starts modules i stack n bytes m) wide starts));
+  empty = empty;
+}
 
 -- another state was put into a session
 pub put_so : (v old : Plain) (s t : State) → v ≡ old → s ≡ t → record v { state = s } ≡ in_state t old
 put_so v old s t is same = (λ i. record v { state = same i }) ∙ ap (in_state t) is
 
-pub goes_told : (v old : Plain) (s : State) (w u : World) (h : Halt) (text : List ℕ) → v ≡ old → s ≡ mixed_state h u → MixedTells (length (output w.trail)) h u text
-    → MixedGoes old w (answer.Ran text) (record v { state = s })
-goes_told v old s w u h text is same tells = record { halts = h; world = u; tells = tells; follows = put_so v old s (mixed_state h u) is same }
+-- and no change waits
+caught_so : (v old : Plain) (s t : State) → v ≡ old → s ≡ t → record v { state = s; come = length v.past } ≡ in_state t (caught_up old)
+caught_so v old s t is same = ap (λ x. record v { state = x; come = length v.past }) same ∙ ap (λ p. in_state t (caught_up p)) is
+
+pub goes_told : (v old new : Plain) (s : State) (modules : List Text) (stops : List StopAt) (how : Walk) (m n : Standing) (h : Halt) (text : List ℕ) → v ≡ old → s ≡ mixed_state h n → MixedGone modules stops how v.limits.turns m h n text
+    → new ≡ caught_up (record v { state = s }) → MixedGoes old modules stops how m (answer.Ran text) new
+goes_told v old new s modules stops how m n h text is same gone caught =
+    (h, n, subst (λ (p : Plain). MixedGone modules stops how p.limits.turns m h n text) is gone, caught ∙ caught_so v old s (mixed_state h n) is same)
 
 -- ---- either run
 
-pub walks_mixed : (sink : Option (List ℕ)) (session : Plain) (how : Walk) (said : Answer) (new : Plain) → is_mixed session.state ≡ true → MixedWalks session said new
+pub walks_mixed : (sink : Option (List ℕ)) (session : Plain) (how : Walk) (said : Answer) (new : Plain) → is_mixed session.state ≡ true → MixedWalks session how said new
     → WalksOutBy (is_mixed session.state) sink sink session how (Ok said) new
 walks_mixed sink session how said new is_so walks =
     subst (λ b. WalksOutBy b sink sink session how (Ok said) new) (sym is_so) ([], appends_none sink, (refl, walks))
@@ -101,7 +158,7 @@ are_by b c listed v session is same said it = sym (ap (λ m. are_sources (texts 
 -- ---- a start
 
 pub mixed_begun : (old : Moment) (file : Option (List ℕ)) (bytes : List ℕ) (now : ℕ) (held : Option FileMap) (new : Plain) → has_main (texts old.session.modules) ≡ true → IsInput old.held file bytes → held ≡ old.held
-    → (said : Answer) → MixedBegins old.session said new → MixedRuns old file said (moment new held now)
+    → (said : Answer) → MixedBegins old.session bytes said new → MixedRuns old file said (moment new held now)
 mixed_begun old file bytes now held new main input same (answer.Ran text) p = (same, main, (bytes, input, p))
 mixed_begun old file bytes now held new main input same answer.NoMemory p = (same, p)
 mixed_begun old file bytes now held new main input same (answer.Refused (denied.Space a)) p = ((p.0, same), main, (bytes, input), p.1)
@@ -130,18 +187,32 @@ value_mixed session name said is_so shows = subst (λ b. ShowsValueBy b session 
 pub value_source : (session : Plain) (name : List ℕ) (said : Answer) → is_mixed session.state ≡ false → ShowsValue session name said → ShowsValueBy (is_mixed session.state) session name said
 value_source session name said is_not shows = subst (λ b. ShowsValueBy b session name said) (sym is_not) shows
 
-pub shows_mixed : (session inside : Plain) (modules : List Present) (run w : World) (said : Answer) → inside ≡ session → modules ≡ inside.modules → MixedIn inside.state run → w ≡ run → MixedTellsCalls modules w said
-    → MixedShowsCalls session said
-shows_mixed session inside modules run w said is same there stands tells = (
+pub shows_mixed : (session inside : Plain) (past : List (List Present)) (modules : List Present) (run : Standing) (w : World) (said : Answer) → inside ≡ session → past ≡ inside.past → modules ≡ inside.modules → MixedIn inside.state run
+    → w ≡ run.world → MixedTellsCalls past modules w said → MixedShowsCalls session said
+shows_mixed session inside past modules run w said is before same there stands tells = (
   run,
   subst (λ s. MixedIn s.state run) is there,
-  subst (λ m. MixedTellsCalls m run said) (same ∙ ap (λ s. s.modules) is) (subst (λ x. MixedTellsCalls modules x said) stands tells),
+  subst (λ s. MixedTellsCalls s.past s.modules run.world said) is
+      (subst (λ x. MixedTellsCalls inside.past inside.modules x said) stands
+      (subst (λ m. MixedTellsCalls inside.past m w said) same (subst (λ p. MixedTellsCalls p modules w said) before tells))),
 )
 
-pub shows_mixed_value : (session inside : Plain) (modules : List Present) (run w : World) (declaring : Option ℕ) (name : List ℕ) (said : Answer) → inside ≡ session → modules ≡ inside.modules → MixedIn inside.state run → w ≡ run
-    → MixedTellsValue modules declaring w name said → MixedShowsValue session name said
-shows_mixed_value session inside modules run w declaring name said is same there stands tells = (
+pub shows_mixed_value : (session inside : Plain) (sight : Sight) (past : List (List Present)) (modules : List Present) (run : Standing) (w : World) (declaring : Option ℕ) (name : List ℕ) (said : Answer) → inside ≡ session
+    → sight ≡ sight_of session → past ≡ inside.past → modules ≡ inside.modules → MixedIn inside.state run → w ≡ run.world → declaring ≡ declaring_at run.course
+    → MixedTellsValue sight past modules declaring w name said → MixedShowsValue session name said
+shows_mixed_value session inside sight past modules run w declaring name said is seen before same there stands at tells = (
   run,
   subst (λ s. MixedIn s.state run) is there,
-  (declaring, subst (λ m. MixedTellsValue m declaring run name said) (same ∙ ap (λ s. s.modules) is) (subst (λ x. MixedTellsValue modules declaring x name said) stands tells)),
+  subst (λ s. MixedTellsValue (sight_of session) s.past s.modules (declaring_at run.course) run.world name said) is
+      (subst (λ x. MixedTellsValue (sight_of session) inside.past inside.modules (declaring_at run.course) x name said) stands
+      (subst (λ d. MixedTellsValue (sight_of session) inside.past inside.modules d w name said) at
+      (subst (λ m. MixedTellsValue (sight_of session) inside.past m declaring w name said) same
+      (subst (λ p. MixedTellsValue (sight_of session) p modules declaring w name said) before
+      (subst (λ x. MixedTellsValue x past modules declaring w name said) seen tells))))),
 )
+
+-- ---- a run that goes through versions
+
+-- one more version
+pub through_more : (old new : List Text) (later : List (List Text)) (m mid : Standing) → Changes old new m mid → ((n : Standing) → MixedThrough new later mid n → MixedThrough old (new ∷ later) m n)
+through_more old new later m mid changes n rest = (mid, changes, rest)

@@ -34,8 +34,10 @@ use Rattle.sc_outside.specs.Stored.{FileMap}
 use Rattle.sc_session_forms.specs.Forms.{are_sources}
 use Rattle.sc_world.specs.declared.post.Unsent.{Unsent}
 use Rattle.sc_world.specs.declared.post.Unsent.TheVariants as unsent
-use Rattle.sc_session.specs.Going.{IsWorldOf, Says, Told, ToldBehind, KeepsFew, Went, Gains, stays_in_line, is_told, IsKnown, cut_off, IsCutOff, IsUntold, Loses, IsFirstOf, RunsIn, WalkFirst, WalksOut, BeginFirst, BeginsSo, BeginsOut, state_after, run_of, in_state, has_main, IsInput, InputDenied}
+use Rattle.sc_session.specs.Going.{IsWorldOf, Says, Told, ToldBehind, KeepsFew, Went, Gains, stays_in_line, is_told, IsKnown, cut_off, IsCutOff, IsUntold, Loses, IsFirstOf, RunsIn, IsGivenUp, IsGoing, TakesRun, WalkFirst, WalksOut, BeginFirst, BeginsSo, BeginsOut, state_after, run_of, in_state, has_main, IsInput, InputDenied}
 use Rattle.sc_session.specs.Mixing.{WalksBy, is_mixed}
+use Rattle.sc_session.specs.Asking.{AsksFor, deed_command, go_command, walk_command}
+use Rattle.sc_session.specs.Changing.{caught_up, settled}
 use Rattle.sc_session.specs.Modules.{texts}
 use Rattle.sc_session.specs.Plain.{Plain}
 use Rattle.sc_session.specs.Stopping.{places}
@@ -209,18 +211,29 @@ first_in old how modules stops turns r front m p t first =
     subst (λ x. IsFirstOf (texts old.modules) (places old.stops) how x r front) t
     (subst (λ x. IsFirstOf (texts old.modules) x how turns r front) p (subst (λ x. IsFirstOf x stops how turns r front) m first))
 
-pub walk_told : (sink gained : Option (List ℕ)) (old new : Plain) (how : Walk) (before : State) (modules : List Text) (stops : List StopAt) (turns : ℕ) (r : Option Standing) (text : List ℕ) (s after : State)
-    → before ≡ old.state → RunsIn before r → modules ≡ texts old.modules → stops ≡ places old.stops → turns ≡ old.limits.turns
-    → Gains sink gained (λ front. Went modules stops how turns r front text s) → after ≡ s → new ≡ in_state after old
+pub walk_told : (sink gained : Option (List ℕ)) (old mid new : Plain) (how : Walk) (modules : List Text) (stops : List StopAt) (turns : ℕ) (run : Option Standing) (text : List ℕ) (s after : State)
+    → TakesRun old run mid → modules ≡ texts old.modules → stops ≡ places old.stops → turns ≡ mid.limits.turns
+    → Gains sink gained (λ front. Went modules stops how turns run front text s) → after ≡ s → new ≡ in_state after (caught_up mid)
     → WalksOut sink gained old how (Ok (answer.Ran text)) new
-walk_told sink gained old new how before modules stops turns r text s after b runs m p t (front, gains, went) same is =
-    (front, gains, walked old new how before modules stops turns r front text s after b runs m p t went same is)
+walk_told sink gained old mid new how modules stops turns run text s after takes m p t (front, gains, went) same is =
+    (front, gains, walked old mid new how modules stops turns run front text s after takes m p t went same is)
 
-pub walk_first : (sink gained : Option (List ℕ)) (old : Plain) (how : Walk) (before : State) (modules : List Text) (stops : List StopAt) (turns : ℕ) (r : Option Standing)
-    → before ≡ old.state → RunsIn before r → modules ≡ texts old.modules → stops ≡ places old.stops → turns ≡ old.limits.turns
-    → Gains sink gained (λ front. IsFirstOf modules stops how turns r front) → Gains sink gained (λ front. WalkFirst old how front)
-walk_first sink gained old how before modules stops turns r b runs m p t (front, gains, first) =
-    (front, gains, (r, subst (λ x. RunsIn x r) b runs, first_in old how modules stops turns r front m p t first))
+-- the first bytes of a go of the run that was taken out
+first_taken : (old mid : Plain) (how : Walk) (modules : List Text) (stops : List StopAt) (turns : ℕ) (run : Option Standing) (front : List ℕ)
+    → TakesRun old run mid → modules ≡ texts old.modules → stops ≡ places old.stops → turns ≡ mid.limits.turns
+    → IsFirstOf modules stops how turns run front → WalkFirst old how front
+first_taken old mid how modules stops turns run front ((r, runs, settles), taken) m p t first = (
+  r,
+  runs,
+  subst (λ x. IsFirstOf (texts old.modules) (places old.stops) how old.limits.turns x front) settles
+      (first_in old how modules stops turns run front m p (t ∙ ap (λ (x : Plain). x.limits.turns) taken) first),
+)
+
+pub walk_first : (sink gained : Option (List ℕ)) (old mid : Plain) (how : Walk) (modules : List Text) (stops : List StopAt) (turns : ℕ) (run : Option Standing)
+    → TakesRun old run mid → modules ≡ texts old.modules → stops ≡ places old.stops → turns ≡ mid.limits.turns
+    → Gains sink gained (λ front. IsFirstOf modules stops how turns run front) → Gains sink gained (λ front. WalkFirst old how front)
+walk_first sink gained old mid how modules stops turns run takes m p t (front, gains, first) =
+    (front, gains, first_taken old mid how modules stops turns run front takes m p t first)
 
 -- why nothing is told
 pub lost_memory : (sink gained : Option (List ℕ)) (First : List ℕ → Type 0) (before now : Bool) (l : Lost) → l ≡ lost.NoMemory now → Loses sink gained First before l → Gains sink gained (λ front. First front × (now ≡ stays_in_line before front))
@@ -233,19 +246,43 @@ lost_write sink gained First before e l is p = subst (Loses sink gained First be
 pub walk_unbegun : (sink : Option (List ℕ)) (old new : Plain) (how : Walk) → new ≡ old → WalksOut sink sink old how (Ok answer.NoMemory) new
 walk_unbegun sink old new how is = ([], appends_none sink, inl (refl, is))
 
+-- a go may have sent nothing
+first_nothing : (modules : List Text) (stops : List StopAt) (how : Walk) (turns : ℕ) (r : Option Standing) → IsFirstOf modules stops how turns r []
+first_nothing modules stops how turns None = appends_none (Some [])
+first_nothing modules stops how turns (Some m) = ([], _, refl, appends_none (Some []))
+
+some_run : (s : State) → IsGoing s → (r : Option Standing) × RunsIn s r
+some_run state.Idle going = absurd going
+some_run (state.Stopped r) going = (r, refl)
+some_run (state.Paused r) going = (r, refl)
+some_run (state.StoppedMixed w) going = absurd going
+some_run (state.PausedMixed w) going = absurd going
+some_run state.Ended going = absurd going
+
+given_up : (old new : Plain) (how : Walk) → IsGoing old.state → IsGivenUp old new → IsCutOff (WalkFirst old how) old [] new
+given_up old new how going (inl is) = inl (refl, is)
+given_up old new how going (inr is) =
+    let run = some_run old.state going in
+    inr ((run.0, run.1, first_nothing (texts old.modules) (places old.stops) how old.limits.turns (settled old run.0)), is)
+
+-- no memory was left as the run was taken out
+pub walk_untaken : (sink : Option (List ℕ)) (old new : Plain) (how : Walk) → IsGoing old.state → IsGivenUp old new → WalksOut sink sink old how (Ok answer.NoMemory) new
+walk_untaken sink old new how going up = ([], appends_none sink, given_up old new how going up)
+
 -- the session whose run was cut off
 cut_there : (old v : Plain) (s : State) (now : Bool) (front : List ℕ) → v ≡ old → s ≡ state.Ended → now ≡ stays_in_line old.in_line front → record v { state = s; in_line = now } ≡ cut_off front old
 cut_there old v s now front is over told =
     ap (λ x. record v { state = x; in_line = now }) over ∙ ap (λ x. record v { state = state.Ended; in_line = x }) told
     ∙ ap (λ (x : Plain). record x { state = state.Ended; in_line = stays_in_line old.in_line front }) is
 
-pub walk_lost : (sink gained : Option (List ℕ)) (old v : Plain) (how : Walk) (before s : State) (modules : List Text) (stops : List StopAt) (turns : ℕ) (r : Option Standing) (within now : Bool)
-    → before ≡ old.state → RunsIn before r → modules ≡ texts old.modules → stops ≡ places old.stops → turns ≡ old.limits.turns → within ≡ old.in_line
-    → v ≡ old → s ≡ state.Ended → Gains sink gained (λ front. IsFirstOf modules stops how turns r front × (now ≡ stays_in_line within front))
-    → WalksOut sink gained old how (Ok answer.NoMemory) (record v { state = s; in_line = now })
-walk_lost sink gained old v how before s modules stops turns r within now b runs m p t o is over (front, gains, (first, told)) =
-    let goes : WalkFirst old how front = (r, subst (λ x. RunsIn x r) b runs, first_in old how modules stops turns r front m p t first) in
-    (front, gains, inr (goes, cut_there old v s now front is over (told ∙ ap (λ x. stays_in_line x front) o)))
+pub walk_lost : (sink gained : Option (List ℕ)) (old mid new : Plain) (how : Walk) (modules : List Text) (stops : List StopAt) (turns : ℕ) (run : Option Standing) (within now : Bool)
+    → TakesRun old run mid → modules ≡ texts old.modules → stops ≡ places old.stops → turns ≡ mid.limits.turns → within ≡ mid.in_line
+    → new ≡ record mid { in_line = now } → Gains sink gained (λ front. IsFirstOf modules stops how turns run front × (now ≡ stays_in_line within front))
+    → WalksOut sink gained old how (Ok answer.NoMemory) new
+walk_lost sink gained old mid new how modules stops turns run within now takes m p t o is (front, gains, (first, told)) =
+    let open_line : now ≡ stays_in_line old.in_line front = told ∙ ap (λ x. stays_in_line x front) (o ∙ ap (λ (x : Plain). x.in_line) takes.1) in
+    let cut : new ≡ cut_off front old = is ∙ ap (λ (x : Plain). record x { in_line = now }) takes.1 ∙ ap (λ b. record old { state = state.Ended; in_line = b }) open_line in
+    (front, gains, inr (first_taken old mid how modules stops turns run front takes m p t first, cut))
 
 run_is : (old : Plain) (first : List Text) (stack heap : ℕ) (input : List ℕ) (r : Option Standing) → first ≡ texts old.modules → stack ≡ old.limits.stack → heap ≡ old.limits.heap → r ≡ Some (started first stack heap input) → r ≡ run_of old input
 run_is old first stack heap input r f k h is =
@@ -442,10 +479,15 @@ module _ (old : Moment) (c : Command) (mid : Plain) (r : Option Denied) (is : mi
     go_first : (front : List ℕ) → WritesFirst (moment mid old.held old.faults) c front → GoFirst old c front
     go_first front p = (said_so ∙ free, writes_first old c front (subst (λ x. WritesFirst (moment x old.held old.faults) c front) is p))
 
-    pub carried_so : (sink : Option (List ℕ)) (said : Answer) → Does (moment mid old.held old.faults) c said new → Speaks sink sink old c said new
-    carried_so sink said does = ([], appends_none sink, (answers_so [] said (quiet_so (moment mid old.held old.faults) c said new does), λ quiet. refl))
-
     pub goes_so : (sink gained : Option (List ℕ)) (out : Result Answer Unsent) → is_go c ≡ true → new.held ≡ old.held → GoesOut sink gained (moment mid old.held old.faults) c out new
         → MatchResult out (λ said. Speaks sink gained old c said new) (λ _. BreaksOff sink gained old c new.held)
     goes_so sink gained (Ok said) goes same (front, gains, q) = (front, gains, (answers_so front said q, not_quiet (is_go c) front goes))
     goes_so sink gained (Err e) goes same (front, gains, p) = (same, (front, gains, go_first front p))
+
+  -- the same without a sink
+  pub refused_answer : (d : Denied) → r ≡ Some d → AnswersTo old c [] (answer.Refused d) (moment mid old.held old.faults)
+  refused_answer d p =
+      subst (λ r. Decides r (moment (asked c old.session) old.held old.faults) c [] (answer.Refused d) (moment mid old.held old.faults)) (sym (said_so ∙ p)) (refl, refl, ap (λ x. moment x old.held old.faults) is)
+
+  pub done_answer : (new : Moment) (said : Answer) → r ≡ None → Does (moment mid old.held old.faults) c said new → AnswersTo old c [] said new
+  done_answer new said free does = answers_so new free [] said (quiet_so (moment mid old.held old.faults) c said new does)

@@ -1,6 +1,7 @@
 -- The answers to `swap`, of what was found of the file.
-use Rattle.std.proofs.Common.{◌≡◌, ◌==◌, ◌↔◌, ℕ, true, false, List, Option, Some, None, refl, ap, sym, subst, ◌∙◌, arith}
+use Rattle.std.proofs.Common.{◌≡◌, ◌==◌, ◌↔◌, ℕ, Bool, true, false, List, Option, Some, None, refl, ap, sym, subst, ◌∙◌, arith}
 use Rattle.std.proofs.lemmas.Bool.Decides.{nat_tests}
+use Rattle.sc_base.specs.declared.memory.Form.{Form}
 use Rattle.sc_base.specs.declared.memory.Form.TheVariants as form
 use Rattle.sc_object.specs.Spelling.{spelled}
 use Rattle.sc_object.specs.declared.object.Object.{Object}
@@ -9,12 +10,19 @@ use Rattle.sc_session_forms.specs.Differences.{difference}
 use Rattle.sc_session.specs.declared.swapping.Compared.{Compared}
 use Rattle.sc_session.specs.declared.swapping.Compared.TheVariants as compared
 use Rattle.sc_session.specs.Compiling.{object_file}
+use Rattle.sc_base.specs.declared.key.Key.{Key}
+use Rattle.sc_session.specs.declared.linking.ImageFault.{ImageFault}
+use Rattle.sc_session.specs.declared.linking.ImageFault.TheVariants as short
+use Rattle.sc_session.specs.declared.present.Present.{Present}
+use Rattle.sc_session.specs.Changing.{stays}
+use Rattle.sc_session.specs.Linking.{HasRoom, LacksRoom, with_form}
 use Rattle.sc_session.specs.Modules.{object_named}
 use Rattle.sc_session.specs.Plain.{Plain}
 use Rattle.sc_session.specs.Swapping.{Compares, ComparesBytes, HasBytes, NotOursSaid}
-use Rattle.sc_session.specs.Transcript.{IsKept, Moment, Reforms, Swaps, moment}
+use Rattle.sc_session.specs.Transcript.{Forms, HasRoomBy, IsKept, LacksRoomBy, Moment, Reforms, Swaps, moment, unformed}
 use Rattle.sc_words.specs.declared.answer.Answer.{Answer}
 use Rattle.sc_words.specs.declared.answer.Answer.TheVariants as answer
+use Rattle.sc_words.specs.declared.denied.Area.{Area}
 use Rattle.sc_words.specs.declared.denied.Denied.{Denied}
 use Rattle.sc_words.specs.declared.denied.Denied.TheVariants as denied
 
@@ -22,7 +30,7 @@ module _ (old : Moment) (name : List ℕ) (object : Object) (held : Option FileM
     (there : object_named old.session.modules name ≡ Some object) (same : held ≡ old.held)
     (compares : Compares old.held (object_file name) object old.faults now found) where
   kept_by : IsKept old name → (said : Answer) (new : Plain) → Reforms old.session name said new → Swaps old name form.Object said (moment new held now)
-  kept_by kept (answer.Swapped m g) new p = (p.0, p.1, (kept, p.2), (p.3, same))
+  kept_by kept (answer.Swapped m g) new p = (p.0, p.1, (kept, p.2), p.3, same)
   kept_by kept (answer.Refused (denied.Space a)) new p = (refl, (p.0, same), (kept, p.1))
   kept_by kept answer.NoMemory new p = (p, same)
   kept_by kept _ new p = absurd p
@@ -39,6 +47,55 @@ module _ (old : Moment) (name : List ℕ) (object : Object) (held : Option FileM
 
 pub swap_none : (old : Moment) (name : List ℕ) (held : Option FileMap) (now : ℕ) (new : Plain) → held ≡ old.held → new ≡ old.session → Swaps old name form.Object answer.NoMemory (moment new held now)
 swap_none old name held now new same stays = (stays, same)
+
+-- a module gets a form, where it may
+not_object : form.Source ≡ form.Object → ⊥
+not_object e = absurd (cc)
+
+pub forms_swaps : (old : Moment) (name : List ℕ) (f : Form) (said : Answer) (new : Plain) → f ≡ form.Source → Forms old.session name f said new → Swaps old name f said (moment new old.held old.faults)
+forms_swaps old name f said new is forms = subst (λ g. Swaps old name g said (moment new old.held old.faults)) (sym is) (by said (subst (λ g. Forms old.session name g said new) is forms))
+  where
+    by : (said : Answer) → Forms old.session name form.Source said new → Swaps old name form.Source said (moment new old.held old.faults)
+    by (answer.Swapped m g) p = (p.0, p.1, tt, p.2, refl)
+    by answer.NoMemory p = (p, refl)
+    by (answer.Refused (denied.Space a)) p = absurd (not_object p.0)
+    by (answer.Refused d) p = absurd p
+    by _ p = absurd p
+
+-- why a module does not get a form
+pub forms_failed : (session : Plain) (name : List ℕ) (f : Form) (fault : ImageFault) (said : Answer) (new : Plain) → stays session.state ≡ true → said ≡ unformed f fault → new ≡ session → Forms session name f said new
+forms_failed session name f fault said new stayed is same = subst (λ a. Forms session name f a new) (sym is) (by f fault)
+  where
+    by : (f : Form) (fault : ImageFault) → Forms session name f (unformed f fault) new
+    by form.Source fault = same
+    by form.Object (short.Space a) = (refl, stayed, same)
+    by form.Object short.NoMemory = same
+
+has_by : (b : Bool) (modules : List Present) (numbers : List Key) → b ≡ true → HasRoomBy b modules numbers
+has_by true modules numbers e = tt
+has_by false modules numbers e = absurd (cc)
+
+lacks_by : (b : Bool) (modules : List Present) (numbers : List Key) (a : Area) → b ≡ true → LacksRoomBy b modules numbers a
+lacks_by true modules numbers a e = tt
+lacks_by false modules numbers a e = absurd (cc)
+
+-- in a run, and outside of one
+pub has_room : (b : Bool) (modules : List Present) (numbers : List Key) → HasRoom modules numbers → HasRoomBy b modules numbers
+has_room true modules numbers p = tt
+has_room false modules numbers p = p
+
+pub lacks_room : (b : Bool) (modules : List Present) (numbers : List Key) (a : Area) → LacksRoom modules numbers a → LacksRoomBy b modules numbers a
+lacks_room true modules numbers a p = tt
+lacks_room false modules numbers a p = p
+
+pub forms_reforms : (session : Plain) (name : List ℕ) (said : Answer) (new : Plain) → HasRoomBy (stays session.state) (with_form name form.Object session.modules) session.numbers → Forms session name form.Object said new → Reforms session name said new
+forms_reforms session name (answer.Swapped m g) new room p = (p.0, p.1, room, p.2)
+forms_reforms session name answer.NoMemory new room p = p
+forms_reforms session name (answer.Refused (denied.Space a)) new room p = (p.2, lacks_by (stays session.state) (with_form name form.Object session.modules) session.numbers a p.1)
+forms_reforms session name _ new room p = absurd p
+
+pub stays_reforms : (session : Plain) (name : List ℕ) (said : Answer) (new : Plain) → stays session.state ≡ true → Forms session name form.Object said new → Reforms session name said new
+stays_reforms session name said new stayed p = forms_reforms session name said new (has_by (stays session.state) (with_form name form.Object session.modules) session.numbers stayed) p
 
 -- ---- the file
 

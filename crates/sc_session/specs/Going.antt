@@ -35,6 +35,7 @@ use Rattle.sc_session.specs.declared.input.Input.{Input}
 use Rattle.sc_session.specs.declared.input.Input.TheVariants as input
 use Rattle.sc_session.specs.declared.state.State.{State}
 use Rattle.sc_session.specs.declared.state.State.TheVariants as state
+use Rattle.sc_session.specs.Changing.{caught_up, settled}
 use Rattle.sc_session.specs.Modules.{texts}
 use Rattle.sc_session.specs.Plain.{Plain}
 use Rattle.sc_session.specs.Stopping.{places}
@@ -194,18 +195,27 @@ IsGoing (state.StoppedMixed w) = ⊥
 IsGoing (state.PausedMixed w) = ⊥
 IsGoing state.Ended = ⊥
 
+-- no memory was left: before the go, and all is as before; or in it, and the run is over
+abbrev pub IsGivenUp : Plain → Plain → Type 0
+IsGivenUp session new = (new ≡ session) ⊎ (new ≡ in_state state.Ended session)
+
+-- a session's run, behind the changes that wait for it, is taken out of the session
+abbrev pub TakesRun : Plain → Option Standing → Plain → Type 0
+TakesRun session run new = ((r : Option Standing) × RunsIn session.state r × (run ≡ settled session r)) × (new ≡ in_state state.Ended session)
+
 -- one go of a session from a run, with the text that answers it behind what went out, and the session behind it
 abbrev pub GoesOn : Plain → Walk → Option Standing → List ℕ → List ℕ → Plain → Type 0
 GoesOn session how r front text new =
     (s : State) × Went (texts session.modules) (places session.stops) how session.limits.turns r front text s × (new ≡ in_state s session)
 
--- the first bytes that the program writes as a session's run goes on so
+-- the first bytes that the program writes as a session's run goes on so, behind the changes that wait for it
 abbrev pub WalkFirst : Plain → Walk → List ℕ → Type 0
-WalkFirst session how front = (r : Option Standing) × RunsIn session.state r × IsFirstOf (texts session.modules) (places session.stops) how session.limits.turns r front
+WalkFirst session how front = (r : Option Standing) × RunsIn session.state r × IsFirstOf (texts session.modules) (places session.stops) how session.limits.turns (settled session r) front
 
--- the answers to `step`, `next` and `cont` behind these bytes, which went out
+-- The answers to `step`, `next` and `cont` behind these bytes, which went out: the run goes through the changes that wait for it, and on from
+-- there under the present modules.
 abbrev pub Walks : Plain → Walk → List ℕ → Answer → Plain → Type 0
-Walks session how front (answer.Ran text) new = (r : Option Standing) × RunsIn session.state r × GoesOn session how r front text new
+Walks session how front (answer.Ran text) new = (r : Option Standing) × RunsIn session.state r × GoesOn (caught_up session) how (settled session r) front text new
 Walks session how front answer.NoMemory new = IsCutOff (WalkFirst session how) session front new
 Walks session how front _ new = ⊥
 

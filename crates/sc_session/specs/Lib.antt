@@ -2,6 +2,8 @@
 pub mod Modules
 pub mod Plain
 pub mod States
+pub mod Changing
+pub mod Asking
 pub mod Loading
 pub mod Stopping
 pub mod Showing

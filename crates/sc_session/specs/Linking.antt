@@ -4,8 +4,10 @@ use Rattle.std.specs.Prelude.{ℕ, if◌then◌else◌, List, map, Option, Some,
 use Rattle.std.specs.Str.{bytes_eq}
 use Rattle.sc_base.specs.declared.key.Key.{Key}
 use Rattle.sc_base.specs.declared.memory.Form.{Form}
-use Rattle.sc_image.specs.Placing.{Fits, IsFull}
+use Rattle.sc_image.specs.Placing.{Fits, IsFull, placed_modules}
 use Rattle.sc_image.specs.declared.module.Linking.{Linking}
+use Rattle.sc_isa_image.specs.declared.image.Image.{Image}
+use Rattle.sc_link.specs.Linked.{IsLinked}
 use Rattle.sc_link.specs.declared.placed.Area.{Area as Place}
 use Rattle.sc_link.specs.declared.placed.Area.TheVariants as place
 use Rattle.sc_link.specs.declared.placed.LinkFault.{LinkFault}
@@ -31,6 +33,10 @@ linking_of p = record { number = p.text.number; name = p.text.core.name; form = 
 -- the image of modules has room
 abbrev pub HasRoom : List Present → List Key → Type 0
 HasRoom modules numbers = Fits (map linking_of modules) (functions_by numbers)
+
+-- an image is that of modules: each placed behind those before it, with the functions by their numbers
+abbrev pub IsImage : List Present → List Key → Image → Type 0
+IsImage modules numbers i = IsLinked (placed_modules (map linking_of modules)) (functions_by numbers) i
 
 -- an area has none
 abbrev pub LacksRoom : List Present → List Key → Area → Type 0

@@ -7,7 +7,8 @@ use Rattle.sc_base.specs.declared.key.Key.{Key}
 use Rattle.sc_core.specs.declared.module.Core.{Core}
 use Rattle.sc_meaning.specs.Versions.{Text}
 use Rattle.sc_session_conflicts.specs.Clashes.{Named, doubled, clashing, is_other}
-use Rattle.sc_session_conflicts.specs.Spaces.{over_limit, modules_with, statics_with}
+use Rattle.sc_session_conflicts.specs.Births.{statics_by}
+use Rattle.sc_session_conflicts.specs.Spaces.{over_limit, modules_with}
 use Rattle.sc_core_held.specs.Numbers.{mentioned}
 use Rattle.sc_words.specs.declared.denied.Area.{Area}
 use Rattle.sc_words.specs.declared.denied.Denied.{Denied}
@@ -43,16 +44,17 @@ if_full None = None
 abbrev pub numbers_with : List Key → Core → List Key
 numbers_with numbers core = mentioned numbers core.declared
 
-abbrev pub full : List Text → List Key → Core → Option Denied
-full modules numbers core =
-    if_full (over_limit (modules_with core modules) (length (numbers_with numbers core)) (statics_with core modules))
+-- a run that stays goes through these versions of the modules; elsewhere there are none
+abbrev pub full : List (List Text) → List Text → List Key → Text → Option Denied
+full versions modules numbers new =
+    if_full (over_limit (modules_with new.core modules) (length (numbers_with numbers new.core)) (statics_by versions modules new))
 
 abbrev pub name_conflict : List Text → Core → Option Denied
 name_conflict modules core = if_doubled (doubled modules core) (if_clashing (clashing modules core) None)
 
 -- why a module does not go with the others that are present: by its names first, then by what it takes
-abbrev pub conflict : List Text → List Key → Core → Option Denied
-conflict modules numbers core = or_else (name_conflict modules core) (full modules numbers core)
+abbrev pub conflict : List (List Text) → List Text → List Key → Text → Option Denied
+conflict versions modules numbers new = or_else (name_conflict modules new.core) (full versions modules numbers new)
 
 -- the modules with one more
 abbrev pub with_module : List Present → Present → List Present
@@ -74,22 +76,22 @@ without name modules = filter (λ p. not (bytes_eq p.text.core.name name)) modul
 abbrev pub Numbered : List Key → Core → List Key → Type 0
 Numbered numbers core new = (new ≡ numbers_with numbers core) × (take (length numbers) new ≡ numbers)
 
-abbrev pub Fills : List Text → List Key → Core → Option Denied → List Key → Type 0
-Fills modules numbers core None new = (full modules numbers core ≡ None) × Numbered numbers core new
-Fills modules numbers core (Some d) new = (full modules numbers core ≡ Some d) × (new ≡ numbers)
+abbrev pub Fills : List (List Text) → List Text → List Key → Text → Option Denied → List Key → Type 0
+Fills versions modules numbers new None now = (full versions modules numbers new ≡ None) × Numbered numbers new.core now
+Fills versions modules numbers new (Some d) now = (full versions modules numbers new ≡ Some d) × (now ≡ numbers)
 
-abbrev pub Judges : List Text → List Key → Core → Option Denied → List Key → Type 0
-Judges modules numbers core None new = (conflict modules numbers core ≡ None) × Numbered numbers core new
-Judges modules numbers core (Some d) new = (conflict modules numbers core ≡ Some d) × (new ≡ numbers)
+abbrev pub Judges : List (List Text) → List Text → List Key → Text → Option Denied → List Key → Type 0
+Judges versions modules numbers new None now = (conflict versions modules numbers new ≡ None) × Numbered numbers new.core now
+Judges versions modules numbers new (Some d) now = (conflict versions modules numbers new ≡ Some d) × (now ≡ numbers)
 
 -- What becomes of a module that was translated, and of the modules and the numbers. Where it goes with the others, the modules are
 -- those that are placed so.
-abbrev pub Takes : List Present → List Key → Present → List Present → Taken → List Present → List Key → Type 0
-Takes modules numbers new placed taken.Joined after now =
-    (conflict (texts modules) numbers new.text.core ≡ None) × (after ≡ placed) × (now ≡ numbers_with numbers new.text.core)
-Takes modules numbers new placed (taken.Denied d) after now =
-    (conflict (texts modules) numbers new.text.core ≡ Some d) × (after ≡ modules) × (now ≡ numbers)
-Takes modules numbers new placed taken.NoMemory after now = (after ≡ modules) × (now ≡ numbers)
+abbrev pub Takes : List (List Text) → List Present → List Key → Present → List Present → Taken → List Present → List Key → Type 0
+Takes versions modules numbers new placed taken.Joined after now =
+    (conflict versions (texts modules) numbers new.text ≡ None) × (after ≡ placed) × Numbered numbers new.text.core now
+Takes versions modules numbers new placed (taken.Denied d) after now =
+    (conflict versions (texts modules) numbers new.text ≡ Some d) × (after ≡ modules) × (now ≡ numbers)
+Takes versions modules numbers new placed taken.NoMemory after now = (after ≡ modules) × (now ≡ numbers)
 
 -- the place of the module that has a module's name
 pub record IsPlace (modules : List Present) (new : Present) (i : ℕ) : Type 0 where

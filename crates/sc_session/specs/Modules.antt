@@ -7,7 +7,6 @@ use Rattle.sc_build.specs.declared.building.Built.{Built}
 use Rattle.sc_core_names.specs.declared.table.Scopes.{Scopes}
 use Rattle.sc_object.specs.declared.object.Object.{Object}
 use Rattle.sc_meaning.specs.Versions.{Text}
-use Rattle.sc_meaning.specs.World.{Frame}
 use Rattle.sc_session_forms.specs.declared.calls.Compiled.{Compiled}
 use Rattle.sc_session.specs.declared.present.Present.{Present}
 
@@ -28,11 +27,6 @@ texts (p ∷ ps) = p.text ∷ texts ps
 abbrev pub scopes_numbered : List Present → ℕ → Option Scopes
 scopes_numbered [] n = None
 scopes_numbered (p ∷ ps) n = if p.text.number == n then Some p.scopes else scopes_numbered ps n
-
--- what the text declares that the innermost call runs
-abbrev pub scopes_at : List Present → List Frame → Option Scopes
-scopes_at modules [] = None
-scopes_at modules (f ∷ frames) = scopes_numbered modules f.text
 
 -- the object of the module with a name
 abbrev pub object_named : List Present → List ℕ → Option Object

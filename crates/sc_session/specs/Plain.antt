@@ -11,6 +11,10 @@ pub record Plain : Type 0 where
   pub limits : Limits
   -- the modules that are present, in the order in which they were loaded
   pub modules : List Present
+  -- what they were before each change of the run that goes on, the oldest first
+  pub past : List (List Present)
+  -- how many of these changes the run has gone through
+  pub come : ℕ
   -- how many texts were loaded, by `edit` too: the number of the next one
   pub loaded : ℕ
   -- the functions that have a number behind the library's, in the order of their numbers

@@ -17,7 +17,9 @@ use Rattle.sc_world.specs.Standing.{Standing}
 use Rattle.sc_session.specs.declared.state.State.{State}
 use Rattle.sc_session.specs.declared.state.State.TheVariants as state
 use Rattle.sc_session.specs.declared.stops.Stop.{Stop}
-use Rattle.sc_session.specs.Modules.{texts, scopes_at}
+use Rattle.sc_session.specs.declared.listing.Sight.{Sight}
+use Rattle.sc_session.specs.Changing.{scopes_at, texts_held, waiting}
+use Rattle.sc_session.specs.Modules.{texts}
 use Rattle.sc_session.specs.Plain.{Plain}
 use Rattle.sc_session.specs.Going.{IsWorldOf, RunsIn}
 
@@ -56,23 +58,27 @@ TellsCalls modules w answer.NoMemory = Unit {0}
 TellsCalls modules w _ = ⊥
 
 -- what the name stands for that `print` asks for
-abbrev pub value_line : List Text → Option Scopes → Option ℕ → World → List ℕ → Option (List ℕ)
-value_line modules None declaring w name = None
-value_line modules (Some scopes) declaring w name = print_line modules modules [] scopes declaring w name
+abbrev pub value_line : Sight → Option Scopes → Option ℕ → World → List ℕ → Option (List ℕ)
+value_line sight None declaring w name = None
+value_line sight (Some scopes) declaring w name = print_line sight.held sight.present sight.waiting scopes declaring w name
 
 -- the answers to `print`
-abbrev pub TellsValue : List Text → Option Scopes → Option ℕ → World → List ℕ → Answer → Type 0
-TellsValue modules scopes declaring w name (answer.Shown line) = value_line modules scopes declaring w name ≡ Some line
-TellsValue modules scopes declaring w name (answer.Refused d) = (d ≡ denied.NotVisible name) × (value_line modules scopes declaring w name ≡ None)
-TellsValue modules scopes declaring w name answer.NoMemory = Unit {0}
-TellsValue modules scopes declaring w name _ = ⊥
+abbrev pub TellsValue : Sight → Option Scopes → Option ℕ → World → List ℕ → Answer → Type 0
+TellsValue sight scopes declaring w name (answer.Shown line) = value_line sight scopes declaring w name ≡ Some line
+TellsValue sight scopes declaring w name (answer.Refused d) = (d ≡ denied.NotVisible name) × (value_line sight scopes declaring w name ≡ None)
+TellsValue sight scopes declaring w name answer.NoMemory = Unit {0}
+TellsValue sight scopes declaring w name _ = ⊥
+
+-- the texts in which a session looks a name up
+abbrev pub sight_of : Plain → Sight
+sight_of session = record { held = texts_held session.past session.modules; present = texts session.modules; waiting = waiting session }
 
 -- so does a session of the run that goes on in it
 abbrev pub InWorld : Plain → (World → Type 0) → Type 0
 InWorld session P = (r : Option Standing) × RunsIn session.state r × ((w : World) × IsWorldOf r w × P w)
 
 abbrev pub ShowsCalls : Plain → Answer → Type 0
-ShowsCalls session said = InWorld session (λ w. TellsCalls (texts session.modules) w said)
+ShowsCalls session said = InWorld session (λ w. TellsCalls (texts_held session.past session.modules) w said)
 
 -- the object of the innermost call that is being initialised where the run stands, if one is
 abbrev pub IsDeclaring : Option Standing → Option ℕ → Type 0
@@ -86,4 +92,4 @@ pub record ShowsValue (session : Plain) (name : List ℕ) (said : Answer) : Type
   pub stands : IsWorldOf run world
   pub declaring : Option ℕ
   pub declares : IsDeclaring run declaring
-  pub tells : TellsValue (texts session.modules) (scopes_at session.modules world.frames) declaring world name said
+  pub tells : TellsValue (sight_of session) (scopes_at session.past session.modules world.frames) declaring world name said

@@ -17,12 +17,12 @@ use Rattle.sc_session.specs.declared.stops.Stop.{Stop}
 use Rattle.sc_session.specs.Modules.{texts}
 use Rattle.sc_session.specs.Plain.{Plain}
 
--- why the modules cannot be changed
+-- why the modules cannot be changed: a run at a stop does not prevent it
 abbrev pub changing : State → Option Denied
 changing state.Idle = None
-changing (state.Stopped r) = Some denied.RunActive
+changing (state.Stopped r) = None
 changing (state.Paused r) = Some denied.NotAtStop
-changing (state.StoppedMixed w) = Some denied.RunActive
+changing (state.StoppedMixed w) = None
 changing (state.PausedMixed w) = Some denied.NotAtStop
 changing state.Ended = None
 

@@ -1,12 +1,14 @@
 -- Yardstick: to be compared with what it restates (docs/TRUST.md).
 -- What a session answers to each command, and the session behind it.
-use Rattle.std.specs.Prelude.{◌≡◌, ◌⊎◌, ℕ, ◌+◌, ◌&&◌, Bool, true, false, List, [], Option, Some, None, Result, Ok, Err}
+use Rattle.std.specs.Prelude.{◌≡◌, ◌⊎◌, ℕ, ◌+◌, ◌&&◌, Bool, true, false, if◌then◌else◌, List, [], take, Option, Some, None, Result, Ok, Err}
+use Rattle.sc_base.specs.declared.key.Key.{Key}
 use Rattle.sc_base.specs.declared.memory.Form.{Form}
 use Rattle.sc_base.specs.declared.memory.Form.TheVariants as form
 use Rattle.sc_build.specs.Builds.{Builds, Refuses, IsMissing, IsTooLong, Asks}
 use Rattle.sc_build.specs.declared.building.Built.{Built}
 use Rattle.sc_object.specs.Spelling.{spelled}
 use Rattle.sc_object.specs.declared.object.Object.{Object}
+use Rattle.sc_meaning.specs.Versions.{Text}
 use Rattle.sc_outside.specs.Causes.{Rose}
 use Rattle.sc_session_forms.specs.Forms.{are_sources}
 use Rattle.sc_outside.specs.Stored.{FileMap}
@@ -14,6 +16,7 @@ use Rattle.sc_words.specs.declared.command.Command.{Command}
 use Rattle.sc_words.specs.declared.command.Command.TheVariants as command
 use Rattle.sc_words.specs.declared.answer.Answer.{Answer}
 use Rattle.sc_words.specs.declared.answer.Answer.TheVariants as answer
+use Rattle.sc_words.specs.declared.denied.Area.{Area}
 use Rattle.sc_words.specs.declared.denied.Denied.{Denied}
 use Rattle.sc_words.specs.declared.denied.Denied.TheVariants as denied
 use Rattle.sc_words.specs.declared.options.Options.{Options}
@@ -23,18 +26,22 @@ use Rattle.sc_world.specs.declared.post.Unsent.{Unsent}
 use Rattle.sc_session.specs.declared.joining.Taken.{Taken}
 use Rattle.sc_session.specs.declared.joining.Taken.TheVariants as taken
 use Rattle.sc_session.specs.declared.limits.Limits.{Limits}
+use Rattle.sc_session.specs.declared.linking.ImageFault.{ImageFault}
+use Rattle.sc_session.specs.declared.linking.ImageFault.TheVariants as short
 use Rattle.sc_session.specs.declared.state.State.{State}
 use Rattle.sc_session.specs.declared.state.State.TheVariants as state
+use Rattle.sc_session.specs.Changing.{at_rest, is_over, stays, versions, with_modules}
 use Rattle.sc_session.specs.Modules.{texts, object_named, present_of}
 use Rattle.sc_session.specs.Plain.{Plain}
+use Rattle.sc_session.specs.declared.present.Present.{Present}
 use Rattle.sc_session.specs.States.{refusal_of}
 use Rattle.sc_session.specs.Loading.{file_of, file_or, conflict, numbers_with, with_module, in_place, without}
 use Rattle.sc_session.specs.Stopping.{Sets, without_stop}
 use Rattle.sc_session.specs.Showing.{Lists}
 use Rattle.sc_session.specs.Compiling.{Compiles, object_file}
-use Rattle.sc_session.specs.Going.{in_state, has_main, IsInput, InputDenied, IsCutOff, Gains, WalkFirst, Begins, BeginFirst}
+use Rattle.sc_session.specs.Going.{in_state, has_main, IsInput, InputDenied, IsCutOff, IsGivenUp, Gains, WalkFirst, Begins, BeginFirst}
 use Rattle.sc_session.specs.Linking.{HasRoom, LacksRoom, with_form}
-use Rattle.sc_session.specs.Mixing.{is_mixed, IsGivenUp, MixedBegins, ShowsCallsBy, ShowsValueBy, WalksBy}
+use Rattle.sc_session.specs.Mixing.{is_mixed, Becomes, MixedBegins, NeedsImage, Settles, ShowsCallsBy, ShowsValueBy, Unsettled, WalksBy, returned}
 use Rattle.sc_session.specs.Swapping.{HasBytes, NotKept}
 
 -- A session between two commands, what the files hold then where they tell it, and how often they have failed.
@@ -55,6 +62,8 @@ abbrev pub empty : Limits → Plain
 empty limits = record {
   limits = limits;
   modules = [];
+  past = [];
+  come = 0;
   loaded = 0;
   numbers = [];
   stops = [];
@@ -67,6 +76,10 @@ empty limits = record {
 -- the session is this one, and the files hold what they held
 abbrev pub Leaves : Moment → Moment → Plain → Type 0
 Leaves old new session = (new.session ≡ session) × (new.held ≡ old.held)
+
+-- a command that looks at no file
+abbrev pub SameFiles : Moment → Moment → Type 0
+SameFiles old new = (new.held ≡ old.held) × (new.faults ≡ old.faults)
 
 -- why a file gives no module: it cannot be read, or its text is refused
 abbrev pub NotBuilt : Option FileMap → ℕ → ℕ → List ℕ → List ℕ → Denied → Type 0
@@ -81,10 +94,22 @@ abbrev pub Unbuilt : Option FileMap → ℕ → ℕ → List ℕ → List ℕ �
 Unbuilt held before now file name None = Unit {0}
 Unbuilt held before now file name (Some d) = NotBuilt held before now file name d
 
+-- why a text does not go with the others, in a run with what the run has borne; and a module that was translated
+abbrev pub text_conflict : Plain → Text → Option Denied
+text_conflict session new = conflict (versions session) (texts session.modules) session.numbers new
+
+abbrev pub conflicts : Plain → Built → Option Denied
+conflicts session built = text_conflict session (present_of session.loaded built).text
+
+-- a run that stays, of which some module is compiled, has no room for it in its image
+abbrev pub LacksImage : Plain → Present → Denied → Type 0
+LacksImage session new (denied.Space a) = NeedsImage (are_sources (texts (with_module session.modules new))) session.state ⊎ NeedsImage (are_sources (texts (in_place session.modules new))) session.state
+LacksImage session new d = ⊥
+
 -- why the module of a file does not go with the others
 abbrev pub Clashes : Moment → List ℕ → List ℕ → Denied → Type 0
 Clashes old file name d =
-    (built : Built) × Builds old.held file name built × (conflict (texts old.session.modules) old.session.numbers built.core ≡ Some d)
+    (built : Built) × Builds old.held file name built × ((conflicts old.session built ≡ Some d) ⊎ LacksImage old.session (present_of old.session.loaded built) d)
 
 abbrev pub FileDenied : Moment → List ℕ → List ℕ → ℕ → Denied → Type 0
 FileDenied old file name now d = NotBuilt old.held old.faults now file name d ⊎ Clashes old file name d
@@ -92,69 +117,84 @@ FileDenied old file name now d = NotBuilt old.held old.faults now file name d �
 -- the module of a file, which goes with the others
 pub record Fits (old : Moment) (file name : List ℕ) (built : Built) : Type 0 where
   pub builds : Builds old.held file name built
-  pub goes : conflict (texts old.session.modules) old.session.numbers built.core ≡ None
+  pub goes : conflicts old.session built ≡ None
 
--- the session with one module more, with one translated anew, and with one less
+-- The session with one module more, with one translated anew, and with one less. A run that stands at a stop stays, with a version more to
+-- go through.
+abbrev pub changed_to : Plain → ℕ → Present → List Present → Plain
+changed_to session loaded new placed = record (with_modules placed session) { loaded = loaded; numbers = numbers_with session.numbers new.text.core }
+
 abbrev pub joined : Plain → Built → Plain
-joined session built = record session {
-  modules = with_module session.modules (present_of session.loaded built);
-  loaded = session.loaded + 1;
-  numbers = numbers_with session.numbers built.core;
-  state = state.Idle;
-}
+joined session built =
+    let new : Present = present_of session.loaded built in changed_to session (session.loaded + 1) new (with_module session.modules new)
 
 abbrev pub replaced : Plain → Built → Plain
-replaced session built = record session {
-  modules = in_place session.modules (present_of session.loaded built);
-  loaded = session.loaded + 1;
-  numbers = numbers_with session.numbers built.core;
-  state = state.Idle;
-}
+replaced session built =
+    let new : Present = present_of session.loaded built in changed_to session (session.loaded + 1) new (in_place session.modules new)
 
 abbrev pub unloaded : Plain → List ℕ → Plain
-unloaded session name = record session {
-  modules = without name session.modules;
-  state = state.Idle;
-}
+unloaded session name = with_modules (without name session.modules) session
 
 -- the session in which a module has a form
 abbrev pub swapped : Plain → List ℕ → Form → Plain
-swapped session name f = record session { modules = with_form name f session.modules; state = state.Idle }
+swapped session name f = with_modules (with_form name f session.modules) session
 
 -- the file of the module's object is the object that the session keeps
 abbrev pub IsKept : Moment → List ℕ → Type 0
 IsKept old name = (object : Object) × (object_named old.session.modules name ≡ Some object) × HasBytes old.held (object_file name) (spelled object)
 
+-- outside of a run the image of the modules has room or not; in one that stays it goes by all that was placed since its start, of which
+-- nothing is said here
+abbrev pub HasRoomBy : Bool → List Present → List Key → Type 0
+HasRoomBy true modules numbers = Unit {0}
+HasRoomBy false modules numbers = HasRoom modules numbers
+
+abbrev pub LacksRoomBy : Bool → List Present → List Key → Area → Type 0
+LacksRoomBy true modules numbers a = Unit {0}
+LacksRoomBy false modules numbers a = LacksRoom modules numbers a
+
 -- a module may have a form: any may be interpreted; the object of one that is not has to be in its file, and to have room
 abbrev pub Allows : Moment → List ℕ → Form → Type 0
 Allows old name form.Source = Unit {0}
-Allows old name form.Object = IsKept old name × HasRoom (with_form name form.Object old.session.modules) old.session.numbers
+Allows old name form.Object = IsKept old name × HasRoomBy (stays old.session.state) (with_form name form.Object old.session.modules) old.session.numbers
 
 -- why it may not
 abbrev pub SwapDenied : Moment → List ℕ → ℕ → Denied → Type 0
-SwapDenied old name now (denied.Space a) = IsKept old name × LacksRoom (with_form name form.Object old.session.modules) old.session.numbers a
+SwapDenied old name now (denied.Space a) = IsKept old name × LacksRoomBy (stays old.session.state) (with_form name form.Object old.session.modules) old.session.numbers a
 SwapDenied old name now d =
     (object : Object) × (object_named old.session.modules name ≡ Some object) × NotKept old.held (object_file name) object old.faults now d
 
 -- the answers to `swap`
 abbrev pub Swaps : Moment → List ℕ → Form → Answer → Moment → Type 0
-Swaps old name f (answer.Swapped m g) new = (m ≡ name) × (g ≡ f) × Allows old name f × Leaves old new (swapped old.session name f)
+Swaps old name f (answer.Swapped m g) new = (m ≡ name) × (g ≡ f) × Allows old name f × Becomes (swapped old.session name f) new.session × (new.held ≡ old.held)
 Swaps old name f (answer.Refused d) new = (f ≡ form.Object) × Leaves old new old.session × SwapDenied old name new.faults d
 Swaps old name f answer.NoMemory new = Leaves old new old.session
 Swaps old name f _ new = ⊥
 
+-- what is answered where a module does not get it
+abbrev pub unformed : Form → ImageFault → Answer
+unformed form.Source f = answer.NoMemory
+unformed form.Object (short.Space a) = answer.Refused (denied.Space a)
+unformed form.Object short.NoMemory = answer.NoMemory
+
 -- the same of a module whose file is its object
 abbrev pub Reforms : Plain → List ℕ → Answer → Plain → Type 0
 Reforms session name (answer.Swapped m g) new =
-    (m ≡ name) × (g ≡ form.Object) × HasRoom (with_form name form.Object session.modules) session.numbers × (new ≡ swapped session name form.Object)
-Reforms session name (answer.Refused (denied.Space a)) new = (new ≡ session) × LacksRoom (with_form name form.Object session.modules) session.numbers a
+    (m ≡ name) × (g ≡ form.Object) × HasRoomBy (stays session.state) (with_form name form.Object session.modules) session.numbers × Becomes (swapped session name form.Object) new
+Reforms session name (answer.Refused (denied.Space a)) new = (new ≡ session) × LacksRoomBy (stays session.state) (with_form name form.Object session.modules) session.numbers a
 Reforms session name answer.NoMemory new = new ≡ session
 Reforms session name _ new = ⊥
+
+-- the answers to `unload`
+abbrev pub Unloads : Plain → List ℕ → Answer → Plain → Type 0
+Unloads session name (answer.Unloaded m) new = (m ≡ name) × Becomes (unloaded session name) new
+Unloads session name answer.NoMemory new = new ≡ session
+Unloads session name _ new = ⊥
 
 -- the answers to `load`, of a module in this file
 abbrev pub Loads : Moment → List ℕ → List ℕ → Answer → Moment → Type 0
 Loads old name file (answer.Loaded m) new =
-    (m ≡ name) × ((built : Built) × Fits old file name built × Leaves old new (joined old.session built))
+    (m ≡ name) × ((built : Built) × Fits old file name built × Becomes (joined old.session built) new.session × (new.held ≡ old.held))
 Loads old name file (answer.Refused d) new = Leaves old new old.session × FileDenied old file name new.faults d
 Loads old name file answer.NoMemory new = Leaves old new old.session
 Loads old name file _ new = ⊥
@@ -162,21 +202,55 @@ Loads old name file _ new = ⊥
 -- the answers to `edit`, by this file
 abbrev pub Edits : Moment → List ℕ → List ℕ → Answer → Moment → Type 0
 Edits old name file (answer.Edited m) new =
-    (m ≡ name) × ((built : Built) × Fits old file name built × Leaves old new (replaced old.session built))
+    (m ≡ name) × ((built : Built) × Fits old file name built × Becomes (replaced old.session built) new.session × (new.held ≡ old.held))
 Edits old name file (answer.Refused d) new = Leaves old new old.session × FileDenied old file name new.faults d
 Edits old name file answer.NoMemory new = Leaves old new old.session
 Edits old name file _ new = ⊥
 
+-- a module gets a form where nothing speaks against it
+abbrev pub Forms : Plain → List ℕ → Form → Answer → Plain → Type 0
+Forms session name f (answer.Swapped m g) new = (m ≡ name) × (g ≡ f) × Becomes (swapped session name f) new
+Forms session name f (answer.Refused (denied.Space a)) new = (f ≡ form.Object) × (stays session.state ≡ true) × (new ≡ session)
+Forms session name f answer.NoMemory new = new ≡ session
+Forms session name f _ new = ⊥
+
+abbrev pub LacksPlace : Plain → List Present → Denied → Type 0
+LacksPlace session placed (denied.Space a) = NeedsImage (are_sources (texts placed)) session.state
+LacksPlace session placed d = ⊥
+
+-- what became of a text that has this number of a next one behind it, where the modules are placed so with it
+abbrev pub Changes : Plain → ℕ → Present → List Present → Taken → Plain → Type 0
+Changes session loaded new placed taken.Joined after = (text_conflict session new.text ≡ None) × Becomes (changed_to session loaded new placed) after
+Changes session loaded new placed (taken.Denied d) after = ((text_conflict session new.text ≡ Some d) ⊎ LacksPlace session placed d) × (after ≡ session)
+Changes session loaded new placed taken.NoMemory after = after ≡ session
+
+-- the modules have changed, and the session is closed behind that; or all is as it was kept
+abbrev pub Finishes : Plain → List Present → ℕ → ℕ → Bool → Result (Unit {0}) ImageFault → Plain → Type 0
+Finishes session back before n stayed (Ok t) new = Settles stayed session new
+Finishes session back before n stayed (Err f) new = Unsettled stayed session f × (new ≡ returned back before n session)
+
+abbrev pub said_of : ImageFault → Taken
+said_of (short.Space a) = taken.Denied (denied.Space a)
+said_of short.NoMemory = taken.NoMemory
+
+-- what became of it, as a text was taken among the modules or not
+abbrev pub Closes : Plain → List Present → ℕ → ℕ → Bool → ℕ → Taken → Taken → Plain → Type 0
+Closes session back before n stayed loaded taken.Joined said new =
+    ((said ≡ taken.Joined) × Settles stayed (record session { loaded = loaded }) new)
+    ⊎ ((f : ImageFault) × Unsettled stayed session f × (said ≡ said_of f) × (new ≡ returned back before n session))
+Closes session back before n stayed loaded (taken.Denied d) said new = (said ≡ taken.Denied d) × (new ≡ record session { past = take before session.past })
+Closes session back before n stayed loaded taken.NoMemory said new = (said ≡ taken.NoMemory) × (new ≡ record session { past = take before session.past })
+
 -- what became of a module that was translated
 abbrev pub Joins : Plain → Built → Taken → Plain → Type 0
-Joins old built taken.Joined new = (conflict (texts old.modules) old.numbers built.core ≡ None) × (new ≡ joined old built)
-Joins old built (taken.Denied d) new = (conflict (texts old.modules) old.numbers built.core ≡ Some d) × (new ≡ old)
+Joins old built taken.Joined new = (conflicts old built ≡ None) × Becomes (joined old built) new
+Joins old built (taken.Denied d) new = ((conflicts old built ≡ Some d) ⊎ LacksImage old (present_of old.loaded built) d) × (new ≡ old)
 Joins old built taken.NoMemory new = new ≡ old
 
 -- and of one that was translated anew
 abbrev pub TakesPlace : Plain → Built → Taken → Plain → Type 0
-TakesPlace old built taken.Joined new = (conflict (texts old.modules) old.numbers built.core ≡ None) × (new ≡ replaced old built)
-TakesPlace old built (taken.Denied d) new = (conflict (texts old.modules) old.numbers built.core ≡ Some d) × (new ≡ old)
+TakesPlace old built taken.Joined new = (conflicts old built ≡ None) × Becomes (replaced old built) new
+TakesPlace old built (taken.Denied d) new = ((conflicts old built ≡ Some d) ⊎ LacksImage old (present_of old.loaded built) d) × (new ≡ old)
 TakesPlace old built taken.NoMemory new = new ≡ old
 
 -- why `run` is refused
@@ -204,7 +278,7 @@ RunsOut sink gained old file (Err e) new = Gains sink gained (λ front. RunFirst
 -- the answers to `run` of a program that has modules in object form
 abbrev pub MixedRuns : Moment → Option (List ℕ) → Answer → Moment → Type 0
 MixedRuns old file (answer.Ran text) new = (new.held ≡ old.held) × (has_main (texts old.session.modules) ≡ true)
-    × ((bytes : List ℕ) × IsInput old.held file bytes × MixedBegins old.session (answer.Ran text) new.session)
+    × ((bytes : List ℕ) × IsInput old.held file bytes × MixedBegins old.session bytes (answer.Ran text) new.session)
 MixedRuns old file (answer.Refused (denied.Space a)) new = Leaves old new old.session × (has_main (texts old.session.modules) ≡ true)
     × ((bytes : List ℕ) × IsInput old.held file bytes) × LacksRoom old.session.modules old.session.numbers a
 MixedRuns old file (answer.Refused d) new = Leaves old new old.session × RunDenied old file new.faults d
@@ -226,15 +300,11 @@ abbrev pub WalksOutBy : Bool → Option (List ℕ) → Option (List ℕ) → Pla
 WalksOutBy b sink gained session how (Ok said) new = Gains sink gained (λ front. WalksBy b session how front said new)
 WalksOutBy b sink gained session how (Err e) new = Gains sink gained (λ front. WalkFirst session how front)
 
--- a command that looks at no file
-abbrev pub SameFiles : Moment → Moment → Type 0
-SameFiles old new = (new.held ≡ old.held) × (new.faults ≡ old.faults)
-
 -- The answer to a command that is not refused before it is carried out and lets no program go on, and the session after it.
 abbrev pub Does : Moment → Command → Answer → Moment → Type 0
 Does old command.Nothing said new = (said ≡ answer.Silent) × (new ≡ old)
 Does old (command.Load name) said new = Loads old name (file_of name) said new
-Does old (command.Unload name) said new = (said ≡ answer.Unloaded name) × (new.session ≡ unloaded old.session name) × SameFiles old new
+Does old (command.Unload name) said new = Unloads old.session name said new.session × SameFiles old new
 Does old (command.Swap name form) said new = Swaps old name form said new
 Does old (command.Edit name file) said new = Edits old name (file_or name file) said new
 Does old (command.Compile name) said new = (new.session ≡ old.session) × Compiles old.session old.held old.faults name said new.held new.faults
@@ -243,7 +313,7 @@ Does old (command.Delete k) said new = (said ≡ answer.Deleted k) × (new.sessi
 Does old command.Frames said new = ShowsCallsBy (is_mixed old.session.state) old.session said × (new ≡ old)
 Does old (command.Print name) said new = ShowsValueBy (is_mixed old.session.state) old.session name said × (new ≡ old)
 Does old command.List said new = Lists old.session said × (new ≡ old)
-Does old command.Reset said new = (said ≡ answer.Reset) × (new.session ≡ in_state state.Idle old.session) × SameFiles old new
+Does old command.Reset said new = (said ≡ answer.Reset) × (new.session ≡ at_rest old.session) × SameFiles old new
 Does old command.Quit said new = (said ≡ answer.Bye) × (new.session ≡ record old.session { over = true }) × SameFiles old new
 Does old _ said new = ⊥
 
@@ -261,8 +331,22 @@ abbrev pub unended : State → State
 unended state.Ended = state.Idle
 unended s = s
 
+-- no change of the modules is kept where no run goes on
+abbrev pub past_going : Bool → List (List Present) → List (List Present)
+past_going over past = if over then [] else past
+
+abbrev pub come_going : Bool → ℕ → ℕ
+come_going over come = if over then 0 else come
+
+abbrev pub forgotten : Plain → Plain
+forgotten session = record session {
+  past = past_going (is_over session.state) session.past;
+  come = come_going (is_over session.state) session.come;
+  state = unended session.state;
+}
+
 abbrev pub asked : Command → Plain → Plain
-asked (command.Run file) session = in_state (unended session.state) session
+asked (command.Run file) session = forgotten session
 asked _ session = session
 
 -- a refused command leaves the session, and the files are not looked at

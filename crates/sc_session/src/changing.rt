@@ -1,8 +1,11 @@
 // Modules are loaded, edited, given another form and taken away.
-ghost use Rattle.std.specs.Prelude.{◌≡◌, ◌≤◌, true, None};
+ghost use Rattle.std.specs.Prelude.{◌≡◌, ◌≤◌, true, None, MatchResult};
 ghost use Rattle.sc_words.specs.Commands.{IsFile};
 ghost use Rattle.sc_words.specs.Parts.{is_module_name};
+ghost use Rattle.sc_session.specs.Changing as changing;
+ghost use Rattle.sc_session.specs.Linking as linking;
 ghost use Rattle.sc_session.specs.Loading as loading;
+ghost use Rattle.sc_session.specs.Mixing as mixing;
 ghost use Rattle.sc_session.specs.Modules.{texts};
 ghost use Rattle.sc_session.specs.States.{if_absent};
 ghost use Rattle.sc_session.specs.Swapping as swapping;
@@ -11,26 +14,101 @@ ghost use Rattle.sc_session.specs.Transcript.{moment};
 
 use crate::input::file_text;
 use crate::joining::{Taken, take_anew, take_away, take_new};
-use crate::linking::{full_with, put_form};
-use crate::present::{object_named, present_of};
+use crate::linking::{ImageFault, full_with, put_form};
+use crate::present::{Present, modules_copied, object_named, present_of};
 use crate::session::Session;
 use crate::sources::{file_of, unbuilt};
-use crate::state::{State, put_state};
 use crate::swapping::{Compared, compare_file};
-use sc_base::{Form, Name};
+use crate::versions::{kept_count, put_version, stays};
+use sc_base::{Form, Items, Name, NoMemory};
 use sc_build::{Built, build};
 use sc_outside::Files;
-use sc_words::{Answer, Denied};
+use sc_words::{Answer, Area, Denied};
 use std::alloc::Global;
+use std::mem;
 
 impl Session {
-    pub(crate) fn unload(&mut self, name: Name) -> Answer
-        ensures answer { result ≡ Answer.Unloaded name }
-        ensures session { self.new ≡ spec.unloaded self.old name }
+    // Before the modules change: what they are is kept for a run that stays, and given too, so that it can be put back.
+    fn keep(&mut self, alloc: Global, stayed: bool) -> Result<Items<Present>, NoMemory>
+        ensures { MatchResult result (λ back. (stayed ≡ true → back ≡ self.old.modules) × (self.new ≡ changing.kept stayed self.old)) (λ _. self.new ≡ self.old) }
     {
-        take_away(&mut self.modules, &name);
-        put_state(&mut self.state, State::Idle);
-        Answer::Unloaded(name)
+        if !stayed {
+            return Ok(Items::new(alloc));
+        }
+        let back = modules_copied(alloc, self.modules.as_slice())?;
+        let modules = modules_copied(alloc, self.modules.as_slice())?;
+        match put_version(&mut self.past, modules) {
+            Ok(()) => Ok(back),
+            Err(e) => Err(e),
+        }
+    }
+
+    // Behind a change of the modules: where no run stays there is none any more, and one that needs an image has another one.
+    fn settle(&mut self, alloc: Global, stayed: bool) -> Result<(), ImageFault>
+        ensures { MatchResult result (λ _. mixing.Settles stayed self.old self.new) (λ f. mixing.Unsettled stayed self.old f × (self.new ≡ self.old)) }
+    {
+        if stayed {
+            self.relink(alloc)
+        } else {
+            self.rest();
+            Ok(())
+        }
+    }
+
+    // The modules are those that were kept, and so are the numbers.
+    fn put_back(&mut self, back: Items<Present>, before: usize, numbers: usize)
+        ensures { self.new ≡ mixing.returned back before numbers self.old }
+    {
+        drop(mem::replace(&mut self.modules, back.into_vec()));
+        self.past.truncate(before);
+        self.numbers.truncate(numbers);
+    }
+
+    // Behind a change of the modules; or all is as it was kept.
+    fn finish(
+        &mut self,
+        alloc: Global,
+        back: Items<Present>,
+        before: usize,
+        numbers: usize,
+        stayed: bool,
+    ) -> Result<(), ImageFault>
+        ensures { spec.Finishes self.old back before numbers stayed result self.new }
+    {
+        match self.settle(alloc, stayed) {
+            Ok(()) => {
+                drop(back);
+                Ok(())
+            }
+            Err(fault) => {
+                self.put_back(back, before, numbers);
+                Err(fault)
+            }
+        }
+    }
+
+    pub(crate) fn unload(&mut self, alloc: Global, name: Name) -> Answer
+        ensures { spec.Unloads self.old name result self.new }
+    {
+        let stayed = stays(&self.state);
+        let before = kept_count(&self.past);
+        let numbers = self.numbers.len();
+        match self.keep(alloc, stayed) {
+            Ok(back) => {
+                take_away(&mut self.modules, &name);
+                match self.finish(alloc, back, before, numbers, stayed) {
+                    Ok(()) => Answer::Unloaded(name),
+                    Err(_) => {
+                        drop(name);
+                        Answer::NoMemory
+                    }
+                }
+            }
+            Err(_) => {
+                drop(name);
+                Answer::NoMemory
+            }
+        }
     }
 
     pub(crate) fn load<F: Files>(&mut self, alloc: Global, name: Name, files: &mut F) -> Answer
@@ -81,14 +159,65 @@ impl Session {
         let Ok(new) = present_of(alloc, self.loaded, built) else {
             return Taken::NoMemory;
         };
-        match take_new(alloc, &mut self.modules, &mut self.numbers, new) {
-            Taken::Joined => {
-                self.loaded = loaded;
-                put_state(&mut self.state, State::Idle);
-                Taken::Joined
+        self.add(alloc, loaded, new)
+    }
+
+    fn add(&mut self, alloc: Global, loaded: u32, new: Present) -> Taken
+        ensures { spec.Changes self.old loaded new (loading.with_module self.old.modules new) result self.new }
+    {
+        let Ok(versions) = self.versions(alloc) else {
+            drop(new);
+            return Taken::NoMemory;
+        };
+        let stayed = stays(&self.state);
+        let before = kept_count(&self.past);
+        let numbers = self.numbers.len();
+        match self.keep(alloc, stayed) {
+            Ok(back) => {
+                let versions = versions.as_slice();
+                let modules = &mut self.modules;
+                let taken = take_new(alloc, versions, modules, &mut self.numbers, new);
+                self.conclude(alloc, back, before, numbers, stayed, loaded, taken)
             }
-            Taken::Denied(denied) => Taken::Denied(denied),
-            Taken::NoMemory => Taken::NoMemory,
+            Err(_) => {
+                drop(new);
+                Taken::NoMemory
+            }
+        }
+    }
+
+    // The session behind a change that was made or not.
+    fn conclude(
+        &mut self,
+        alloc: Global,
+        back: Items<Present>,
+        before: usize,
+        numbers: usize,
+        stayed: bool,
+        loaded: u32,
+        taken: Taken,
+    ) -> Taken
+        ensures { spec.Closes self.old back before numbers stayed loaded taken result self.new }
+    {
+        match taken {
+            Taken::Joined => match self.finish(alloc, back, before, numbers, stayed) {
+                Ok(()) => {
+                    self.loaded = loaded;
+                    Taken::Joined
+                }
+                Err(ImageFault::Space(area)) => Taken::Denied(Denied::Space(area)),
+                Err(ImageFault::NoMemory) => Taken::NoMemory,
+            },
+            Taken::Denied(denied) => {
+                drop(back);
+                self.past.truncate(before);
+                Taken::Denied(denied)
+            }
+            Taken::NoMemory => {
+                drop(back);
+                self.past.truncate(before);
+                Taken::NoMemory
+            }
         }
     }
 
@@ -150,14 +279,30 @@ impl Session {
         let Ok(new) = present_of(alloc, self.loaded, built) else {
             return Taken::NoMemory;
         };
-        match take_anew(alloc, &mut self.modules, &mut self.numbers, new) {
-            Taken::Joined => {
-                self.loaded = loaded;
-                put_state(&mut self.state, State::Idle);
-                Taken::Joined
+        self.put(alloc, loaded, new)
+    }
+
+    fn put(&mut self, alloc: Global, loaded: u32, new: Present) -> Taken
+        ensures { spec.Changes self.old loaded new (loading.in_place self.old.modules new) result self.new }
+    {
+        let Ok(versions) = self.versions(alloc) else {
+            drop(new);
+            return Taken::NoMemory;
+        };
+        let stayed = stays(&self.state);
+        let before = kept_count(&self.past);
+        let numbers = self.numbers.len();
+        match self.keep(alloc, stayed) {
+            Ok(back) => {
+                let versions = versions.as_slice();
+                let modules = &mut self.modules;
+                let taken = take_anew(alloc, versions, modules, &mut self.numbers, new);
+                self.conclude(alloc, back, before, numbers, stayed, loaded, taken)
             }
-            Taken::Denied(denied) => Taken::Denied(denied),
-            Taken::NoMemory => Taken::NoMemory,
+            Err(_) => {
+                drop(new);
+                Taken::NoMemory
+            }
         }
     }
 
@@ -176,19 +321,33 @@ impl Session {
         ensures held { F.held files.new ≡ F.held files.old }
     {
         match form {
-            Form::Source => {
-                self.reform(&name, form);
-                Answer::Swapped(name, form)
-            }
+            Form::Source => self.reform(alloc, name, form),
             Form::Object => self.swap_to_object(alloc, name, files),
         }
     }
 
-    fn reform(&mut self, name: &Name, form: Form)
-        ensures { self.new ≡ spec.swapped self.old name.now form }
+    fn reform(&mut self, alloc: Global, name: Name, form: Form) -> Answer
+        ensures { spec.Forms self.old name form result self.new }
     {
-        put_form(&mut self.modules, name, form);
-        put_state(&mut self.state, State::Idle);
+        let stayed = stays(&self.state);
+        let before = kept_count(&self.past);
+        let numbers = self.numbers.len();
+        match self.keep(alloc, stayed) {
+            Ok(back) => {
+                put_form(&mut self.modules, &name, form);
+                match self.finish(alloc, back, before, numbers, stayed) {
+                    Ok(()) => Answer::Swapped(name, form),
+                    Err(fault) => {
+                        drop(name);
+                        unformed(form, fault)
+                    }
+                }
+            }
+            Err(_) => {
+                drop(name);
+                Answer::NoMemory
+            }
+        }
     }
 
     // The object of a module is to be run, where its file is the object.
@@ -230,6 +389,9 @@ impl Session {
     fn swap_kept(&mut self, alloc: Global, name: Name) -> Answer
         ensures { spec.Reforms self.old name result self.new }
     {
+        if stays(&self.state) {
+            return self.reform(alloc, name, Form::Object);
+        }
         match full_with(
             alloc,
             &name,
@@ -237,18 +399,38 @@ impl Session {
             self.modules.as_slice(),
             &self.numbers,
         ) {
-            Ok(None) => {
-                self.reform(&name, Form::Object);
-                Answer::Swapped(name, Form::Object)
-            }
-            Ok(Some(area)) => {
-                drop(name);
-                Answer::Refused(Denied::Space(area))
-            }
+            Ok(full) => self.swap_where(alloc, name, full),
             Err(_) => {
                 drop(name);
                 Answer::NoMemory
             }
         }
+    }
+
+    // The same by the area that has no room, if one has none.
+    fn swap_where(&mut self, alloc: Global, name: Name, full: Option<Area>) -> Answer
+        requires { linking.RoomSaid (linking.with_form name Form.Object self.old.modules) self.old.numbers full }
+        ensures { spec.Reforms self.old name result self.new }
+    {
+        match full {
+            None => self.reform(alloc, name, Form::Object),
+            Some(area) => {
+                drop(name);
+                Answer::Refused(Denied::Space(area))
+            }
+        }
+    }
+}
+
+// Why a module does not get a form. One that is interpreted takes no room.
+fn unformed(form: Form, fault: ImageFault) -> Answer
+    ensures { result ≡ spec.unformed form fault }
+{
+    match form {
+        Form::Source => Answer::NoMemory,
+        Form::Object => match fault {
+            ImageFault::Space(area) => Answer::Refused(Denied::Space(area)),
+            ImageFault::NoMemory => Answer::NoMemory,
+        },
     }
 }

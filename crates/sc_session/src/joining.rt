@@ -5,10 +5,10 @@ ghost use Rattle.sc_session.specs.Loading as spec;
 ghost use Rattle.sc_session.specs.Modules.{texts};
 
 use crate::present::{Present, is_named, texts_of};
-use sc_base::{Duplicate, Name, NoMemory};
+use sc_base::{Duplicate, Items, Name, NoMemory};
 use sc_core::Core;
 use sc_core_held::{Numbers, Text};
-use sc_session_conflicts::{Named, clashing, doubled, is_other, over_limit, statics_with};
+use sc_session_conflicts::{Named, clashing, doubled, is_other, over_limit, statics_by};
 use sc_words::Denied;
 use std::alloc::Global;
 
@@ -52,13 +52,15 @@ fn name_conflict(alloc: Global, texts: &[Text], core: &Core) -> Result<Option<De
 // Gives the functions of a module their numbers, where there is room for it.
 fn make_room(
     alloc: Global,
+    versions: &[Items<Text>],
     texts: &[Text],
     numbers: &mut Numbers,
-    core: &Core,
+    new: &Text,
 ) -> Result<Option<Denied>, NoMemory>
-    ensures { MatchResult result (λ d. spec.Fills texts.now numbers.old core.now d numbers.new) (λ _. numbers.new ≡ numbers.old) }
+    ensures { MatchResult result (λ d. spec.Fills versions.now texts.now numbers.old new.now d numbers.new) (λ _. numbers.new ≡ numbers.old) }
 {
-    let statics = statics_with(core, texts)?;
+    let core = new.core.get();
+    let statics = statics_by(alloc, versions, texts, new)?;
     let before = numbers.len();
     numbers.mention(alloc, core)?;
     match over_limit(core, texts, numbers.len(), statics) {
@@ -73,15 +75,16 @@ fn make_room(
 // Whether a module goes with texts. Its functions have their numbers then.
 fn judged(
     alloc: Global,
+    versions: &[Items<Text>],
     texts: &[Text],
     numbers: &mut Numbers,
-    core: &Core,
+    new: &Text,
 ) -> Result<Option<Denied>, NoMemory>
-    ensures { MatchResult result (λ d. spec.Judges texts.now numbers.old core.now d numbers.new) (λ _. numbers.new ≡ numbers.old) }
+    ensures { MatchResult result (λ d. spec.Judges versions.now texts.now numbers.old new.now d numbers.new) (λ _. numbers.new ≡ numbers.old) }
 {
-    match name_conflict(alloc, texts, core) {
+    match name_conflict(alloc, texts, new.core.get()) {
         Ok(Some(denied)) => Ok(Some(denied)),
-        Ok(None) => make_room(alloc, texts, numbers, core),
+        Ok(None) => make_room(alloc, versions, texts, numbers, new),
         Err(e) => Err(e),
     }
 }
@@ -89,14 +92,15 @@ fn judged(
 // Whether a module goes with the others.
 fn judged_among(
     alloc: Global,
+    versions: &[Items<Text>],
     modules: &[Present],
     numbers: &mut Numbers,
-    core: &Core,
+    new: &Text,
 ) -> Result<Option<Denied>, NoMemory>
-    ensures { MatchResult result (λ d. spec.Judges (texts modules.now) numbers.old core.now d numbers.new) (λ _. numbers.new ≡ numbers.old) }
+    ensures { MatchResult result (λ d. spec.Judges versions.now (texts modules.now) numbers.old new.now d numbers.new) (λ _. numbers.new ≡ numbers.old) }
 {
     match texts_of(alloc, modules) {
-        Ok(texts) => judged(alloc, texts.as_slice(), numbers, core),
+        Ok(texts) => judged(alloc, versions, texts.as_slice(), numbers, new),
         Err(e) => Err(e),
     }
 }
@@ -112,14 +116,15 @@ fn push_module(modules: &mut Vec<Present>, new: Present) -> Result<(), NoMemory>
 /// A module is put behind the others, where it goes with them.
 pub fn take_new(
     alloc: Global,
+    versions: &[Items<Text>],
     modules: &mut Vec<Present>,
     numbers: &mut Numbers,
     new: Present,
 ) -> Taken
-    ensures { spec.Takes modules.old.items numbers.old new (spec.with_module modules.old.items new) result modules.new.items numbers.new }
+    ensures { spec.Takes versions.now modules.old.items numbers.old new (spec.with_module modules.old.items new) result modules.new.items numbers.new }
 {
     let before = numbers.len();
-    match judged_among(alloc, modules.as_slice(), numbers, new.text.core.get()) {
+    match judged_among(alloc, versions, modules.as_slice(), numbers, &new.text) {
         Ok(None) => match push_module(modules, new) {
             Ok(()) => Taken::Joined,
             Err(_) => {
@@ -170,13 +175,14 @@ fn put_in_place(modules: &mut Vec<Present>, new: Present)
 /// A module takes the place of the one that has its name, where it goes with the others.
 pub fn take_anew(
     alloc: Global,
+    versions: &[Items<Text>],
     modules: &mut Vec<Present>,
     numbers: &mut Numbers,
     new: Present,
 ) -> Taken
-    ensures { spec.Takes modules.old.items numbers.old new (spec.in_place modules.old.items new) result modules.new.items numbers.new }
+    ensures { spec.Takes versions.now modules.old.items numbers.old new (spec.in_place modules.old.items new) result modules.new.items numbers.new }
 {
-    match judged_among(alloc, modules.as_slice(), numbers, new.text.core.get()) {
+    match judged_among(alloc, versions, modules.as_slice(), numbers, &new.text) {
         Ok(None) => {
             put_in_place(modules, new);
             Taken::Joined

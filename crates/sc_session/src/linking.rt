@@ -26,7 +26,7 @@ pub fn put_form(modules: &mut Vec<Present>, name: &Name, form: Form)
 }
 
 // A module as it is linked in a form.
-fn linking(alloc: Global, p: &Present, form: Form) -> Result<Linking, NoMemory>
+pub(crate) fn linking(alloc: Global, p: &Present, form: Form) -> Result<Linking, NoMemory>
     ensures { IfOk result (λ l. l ≡ record { number = p.now.text.number; name = p.now.text.core.name; form = form; object = p.now.object }) }
 {
     Ok(Linking {
@@ -38,7 +38,7 @@ fn linking(alloc: Global, p: &Present, form: Form) -> Result<Linking, NoMemory>
 }
 
 // Modules as they are linked.
-fn linkings(alloc: Global, modules: &[Present]) -> Result<Items<Linking>, NoMemory>
+pub(crate) fn linkings(alloc: Global, modules: &[Present]) -> Result<Items<Linking>, NoMemory>
     ensures { IfOk result (λ all. all ≡ map spec.linking_of modules.now) }
 {
     let mut all = Items::new(alloc);
@@ -110,7 +110,7 @@ pub enum ImageFault {
     NoMemory,
 }
 
-fn image_fault(fault: LinkFault) -> ImageFault
+pub(crate) fn image_fault(fault: LinkFault) -> ImageFault
     ensures { result ≡ spec.image_fault fault }
 {
     match fault {
@@ -121,7 +121,8 @@ fn image_fault(fault: LinkFault) -> ImageFault
 
 /// The image of the modules that are present.
 pub fn linked(alloc: Global, modules: &[Present], numbers: &Numbers) -> Result<Image, ImageFault>
-    ensures { IfErr result (spec.FaultSaid modules.now numbers.now) }
+    ensures image { IfOk result (spec.IsImage modules.now numbers.now) }
+    ensures short { IfErr result (spec.FaultSaid modules.now numbers.now) }
 {
     let Ok(all) = linkings(alloc, modules) else {
         return Err(ImageFault::NoMemory);

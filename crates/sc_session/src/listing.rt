@@ -4,10 +4,11 @@ ghost use Rattle.sc_session.specs.Showing as spec;
 
 use crate::state::State;
 use crate::stops::Stop;
-use sc_base::{Bytes, Duplicate, Name, NoMemory};
+use sc_base::{Bytes, Duplicate, Items, Name, NoMemory};
 use sc_core_held::{Numbers, Text};
 use sc_core_names::Scopes;
 use sc_interp_world::World;
+use sc_program::StaticId;
 use sc_session_show::{fun_lines, module_lines, print_line, where_lines};
 use sc_session_texts::put;
 use sc_words::{Answer, Denied, stop_line};
@@ -65,19 +66,33 @@ pub fn calls_told(alloc: Global, texts: &[Text], world: &World) -> Answer
     }
 }
 
+/// In which texts a name is looked up: those of which calls may be active, the present ones, and the objects that the next go has to bear
+/// first.
+#[derive(Drop)]
+pub struct Sight {
+    pub held: Items<Text>,
+    pub present: Items<Text>,
+    pub waiting: Items<StaticId>,
+}
+
 /// The answer to `print`, by what the text declares that the innermost call runs, where this object of the call is being initialised,
 /// if one is.
 pub fn value_told(
     alloc: Global,
-    texts: &[Text],
+    sight: &Sight,
     scopes: &Scopes,
     declaring: Option<u32>,
     world: &World,
     name: &Name,
 ) -> Answer
-    ensures { spec.TellsValue texts.now (Some scopes.now) declaring world.now name.now result }
+    ensures { spec.TellsValue sight.now (Some scopes.now) declaring world.now name.now result }
 {
-    match print_line(alloc, texts, texts, &[], scopes, declaring, world, name) {
+    let held = sight.held.as_slice();
+    let present = sight.present.as_slice();
+    let waiting = sight.waiting.as_slice();
+    match print_line(
+        alloc, held, present, waiting, scopes, declaring, world, name,
+    ) {
         Ok(Some(line)) => Answer::Shown(line),
         Ok(None) => match name.copy(alloc) {
             Ok(name) => Answer::Refused(Denied::NotVisible(name)),

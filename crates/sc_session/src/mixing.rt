@@ -3,11 +3,15 @@ ghost use Rattle.std.specs.Prelude.{◌≡◌, true, [], IfOk};
 ghost use Rattle.sc_interp_world.specs.Outputs.{output};
 ghost use Rattle.sc_session_forms.specs.Calls as calls;
 ghost use Rattle.sc_session.specs.Mixing as spec;
-ghost use Rattle.sc_session.specs.Modules as held;
+ghost use Rattle.sc_session.specs.Changing as held;
 
-use crate::present::{Present, compiled_of, scopes_numbered, texts_of};
+use crate::listing::Sight;
+use crate::present::Present;
 use crate::state::State;
-use sc_base::{Bytes, Duplicate, Name, NoMemory};
+use crate::versions::{compiled_held, scopes_held, texts_held};
+use sc_base::{Bytes, Duplicate, Items, Key, Name, NoMemory};
+use sc_core_held::Text;
+use sc_image::Placements;
 use sc_interp_world::{Frame, World};
 use sc_mixed::MixedRun;
 use sc_session_forms::{call_lines, innermost_source};
@@ -62,7 +66,7 @@ pub fn mixed_out_of(state: State) -> MixedRun
 
 /// Whether the program of a run wrote nothing yet.
 pub fn is_fresh(run: &MixedRun) -> bool
-    ensures { result ≡ true → output run.now.trail ≡ [] }
+    ensures { result ≡ true → output run.now.world.trail ≡ [] }
 {
     match run.output() {
         [] => true,
@@ -85,19 +89,29 @@ pub fn mixed_state(halt: Halt, run: MixedRun) -> State
     }
 }
 
-fn call_text(alloc: Global, modules: &[Present], world: &World) -> Result<Bytes, NoMemory>
-    ensures { IfOk result (λ text. text ≡ calls.call_lines (held.texts modules.now) (held.compiled modules.now) world.now.frames) }
+fn call_text(
+    alloc: Global,
+    past: &[Items<Present>],
+    modules: &[Present],
+    world: &World,
+) -> Result<Bytes, NoMemory>
+    ensures { IfOk result (λ text. text ≡ calls.call_lines (held.texts_held past.now modules.now) (held.compiled_held past.now modules.now) world.now.frames) }
 {
-    let texts = texts_of(alloc, modules)?;
-    let compiled = compiled_of(alloc, modules)?;
+    let texts = texts_held(alloc, past, modules)?;
+    let compiled = compiled_held(alloc, past, modules)?;
     call_lines(alloc, texts.as_slice(), compiled.as_slice(), world)
 }
 
 /// The answer to `where`.
-pub fn mixed_calls_told(alloc: Global, modules: &[Present], world: &World) -> Answer
-    ensures { spec.MixedTellsCalls modules.now world.now result }
+pub fn mixed_calls_told(
+    alloc: Global,
+    past: &[Items<Present>],
+    modules: &[Present],
+    world: &World,
+) -> Answer
+    ensures { spec.MixedTellsCalls past.now modules.now world.now result }
 {
-    match call_text(alloc, modules, world) {
+    match call_text(alloc, past, modules, world) {
         Ok(lines) => Answer::Shown(lines),
         Err(_) => Answer::NoMemory,
     }
@@ -106,20 +120,25 @@ pub fn mixed_calls_told(alloc: Global, modules: &[Present], world: &World) -> An
 // What a name stands for in a call.
 fn value_in(
     alloc: Global,
+    sight: &Sight,
+    past: &[Items<Present>],
     modules: &[Present],
     declaring: Option<u32>,
     world: &World,
     name: &Name,
     f: &Frame,
 ) -> Result<Option<Bytes>, NoMemory>
-    ensures { IfOk result (λ line. line ≡ spec.value_by (held.texts modules.now) (held.scopes_numbered modules.now f.now.text) declaring world.now name.now f.now) }
+    ensures { IfOk result (λ line. line ≡ spec.value_by sight.now (held.scopes_held past.now modules.now f.now.text) declaring world.now name.now f.now) }
 {
-    match scopes_numbered(modules, f.text) {
+    match scopes_held(past, modules, f.text) {
         None => Ok(None),
         Some(scopes) => {
-            let texts = texts_of(alloc, modules)?;
-            let texts = texts.as_slice();
-            print_line_in(alloc, texts, texts, &[], scopes, declaring, world, name, f)
+            let texts = sight.held.as_slice();
+            let present = sight.present.as_slice();
+            let waiting = sight.waiting.as_slice();
+            print_line_in(
+                alloc, texts, present, waiting, scopes, declaring, world, name, f,
+            )
         }
     }
 }
@@ -127,16 +146,18 @@ fn value_in(
 // What a name stands for in the innermost interpreted call.
 fn value_line(
     alloc: Global,
+    sight: &Sight,
+    past: &[Items<Present>],
     modules: &[Present],
     declaring: Option<u32>,
     world: &World,
     name: &Name,
 ) -> Result<Option<Bytes>, NoMemory>
-    ensures { IfOk result (λ line. line ≡ spec.value_among modules.now declaring world.now name.now (calls.source_calls world.now.frames)) }
+    ensures { IfOk result (λ line. line ≡ spec.value_among sight.now past.now modules.now declaring world.now name.now (calls.source_calls world.now.frames)) }
 {
     match innermost_source(world) {
         None => Ok(None),
-        Some(f) => value_in(alloc, modules, declaring, world, name, f),
+        Some(f) => value_in(alloc, sight, past, modules, declaring, world, name, f),
     }
 }
 
@@ -156,15 +177,58 @@ fn line_told(alloc: Global, line: Option<Bytes>, name: &Name) -> Answer
 /// The answer to `print`, where this object of the innermost call is being initialised, if one is.
 pub fn mixed_value_told(
     alloc: Global,
+    sight: &Sight,
+    past: &[Items<Present>],
     modules: &[Present],
     declaring: Option<u32>,
     world: &World,
     name: &Name,
 ) -> Answer
-    ensures { spec.MixedTellsValue modules.now declaring world.now name.now result }
+    ensures { spec.MixedTellsValue sight.now past.now modules.now declaring world.now name.now result }
 {
-    match value_line(alloc, modules, declaring, world, name) {
+    match value_line(alloc, sight, past, modules, declaring, world, name) {
         Ok(line) => line_told(alloc, line, name),
         Err(_) => Answer::NoMemory,
+    }
+}
+
+fn mixed_through(
+    run: &mut MixedRun,
+    first: &Items<Text>,
+    later: &[Items<Text>],
+    placed: &[Placements],
+    functions: &[Key],
+) -> Result<(), NoMemory>
+    ensures { IfOk result (λ _. spec.MixedThrough first.now later.now run.old run.new) }
+{
+    let mut old = first;
+    let mut rest = placed;
+    for new in later {
+        let [p, more @ ..] = rest else {
+            return Err(NoMemory);
+        };
+        run.change(old.as_slice(), new.as_slice(), p.as_slice(), functions)?;
+        old = new;
+        rest = more;
+    }
+    Ok(())
+}
+
+/// A run of the first of some versions goes through the others, whose modules are placed so.
+///
+/// # Errors
+///
+/// `NoMemory`. Nothing is known of the run then.
+pub fn mixed_go_through(
+    run: &mut MixedRun,
+    versions: &[Items<Text>],
+    placed: &[Placements],
+    functions: &[Key],
+) -> Result<(), NoMemory>
+    ensures { IfOk result (λ _. spec.MixedGoneThrough versions.now run.old run.new) }
+{
+    match versions {
+        [] => Ok(()),
+        [first, later @ ..] => mixed_through(run, first, later, placed, functions),
     }
 }

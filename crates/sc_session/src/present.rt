@@ -8,7 +8,6 @@ use sc_base::{Duplicate, Form, Items, Name, NoMemory, Shared};
 use sc_build::Built;
 use sc_core_held::Text;
 use sc_core_names::Scopes;
-use sc_interp_world::World;
 use sc_object::Object;
 use sc_session_forms::Compiled;
 use std::alloc::Global;
@@ -17,7 +16,7 @@ use std::alloc::Global;
 #[derive(Drop)]
 pub struct Present {
     pub text: Text,
-    pub scopes: Scopes,
+    pub scopes: Shared<Scopes>,
     pub object: Shared<Object>,
 }
 
@@ -25,7 +24,7 @@ pub struct Present {
 fn with_object(
     alloc: Global,
     text: Text,
-    scopes: Scopes,
+    scopes: Shared<Scopes>,
     object: Object,
 ) -> Result<Present, NoMemory>
     ensures { IfOk result (λ p. p ≡ record { text = text; scopes = scopes; object = object }) }
@@ -44,6 +43,25 @@ fn with_object(
     }
 }
 
+// A module with its scopes and its object.
+fn with_scopes(
+    alloc: Global,
+    text: Text,
+    scopes: Scopes,
+    object: Object,
+) -> Result<Present, NoMemory>
+    ensures { IfOk result (λ p. p ≡ record { text = text; scopes = scopes; object = object }) }
+{
+    match Shared::new(alloc, scopes) {
+        Ok(scopes) => with_object(alloc, text, scopes, object),
+        Err(_) => {
+            drop(text);
+            drop(object);
+            Err(NoMemory)
+        }
+    }
+}
+
 /// A module that was translated. Its text gets this number.
 pub fn present_of(alloc: Global, number: u32, built: Built) -> Result<Present, NoMemory>
     ensures { IfOk result (λ p. p ≡ spec.present_of number built) }
@@ -54,13 +72,34 @@ pub fn present_of(alloc: Global, number: u32, built: Built) -> Result<Present, N
         object,
     } = built;
     match Text::new(alloc, number, Form::Source, core) {
-        Ok(text) => with_object(alloc, text, scopes, object),
+        Ok(text) => with_scopes(alloc, text, scopes, object),
         Err(_) => {
             drop(scopes);
             drop(object);
             Err(NoMemory)
         }
     }
+}
+
+fn module_copied(alloc: Global, p: &Present) -> Result<Present, NoMemory>
+    ensures { IfOk result (λ copy. copy ≡ p.now) }
+{
+    Ok(Present {
+        text: p.text.copy(alloc)?,
+        scopes: p.scopes.share()?,
+        object: p.object.share()?,
+    })
+}
+
+/// The same modules. What they have is shared, and not copied.
+pub fn modules_copied(alloc: Global, modules: &[Present]) -> Result<Items<Present>, NoMemory>
+    ensures { IfOk result (λ copies. copies ≡ modules.now) }
+{
+    let mut copies = Items::new(alloc);
+    for p in modules {
+        copies.push(module_copied(alloc, p)?)?;
+    }
+    Ok(copies)
 }
 
 /// The texts of modules, in their order. They are shared, and not copied.
@@ -99,20 +138,10 @@ pub fn scopes_numbered(modules: &[Present], n: u32) -> Option<&Scopes>
 {
     for p in modules {
         if p.text.number == n {
-            return Some(&p.scopes);
+            return Some(p.scopes.get());
         }
     }
     None
-}
-
-/// What the text declares that the innermost call runs.
-pub fn scopes_at<'a>(modules: &'a [Present], world: &World) -> Option<&'a Scopes>
-    ensures { MatchOption result (spec.scopes_at modules.now world.now.frames ≡ None) (λ s. spec.scopes_at modules.now world.now.frames ≡ Some s.now) }
-{
-    match world.innermost() {
-        None => None,
-        Some(f) => scopes_numbered(modules, f.text),
-    }
 }
 
 /// The object of the module with a name.

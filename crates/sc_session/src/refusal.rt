@@ -15,9 +15,9 @@ fn changing(state: &State) -> Option<Denied>
 {
     match state {
         State::Idle => None,
-        State::Stopped(_) => Some(Denied::RunActive),
+        State::Stopped(_) => None,
         State::Paused(_) => Some(Denied::NotAtStop),
-        State::StoppedMixed(_) => Some(Denied::RunActive),
+        State::StoppedMixed(_) => None,
         State::PausedMixed(_) => Some(Denied::NotAtStop),
         State::Ended => None,
     }

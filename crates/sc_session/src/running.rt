@@ -1,9 +1,10 @@
 // A session's run begins and goes on.
-ghost use Rattle.std.specs.Prelude.{◌≡◌, ◌≤◌, true, Err};
+ghost use Rattle.std.specs.Prelude.{◌≡◌, ◌≤◌, true, Err, MatchOption};
 ghost use Rattle.sc_outside.specs.Causes.{Rose};
 ghost use Rattle.sc_words.specs.Commands.{IsFile};
 ghost use Rattle.sc_session_forms.specs.Forms as forms;
 ghost use Rattle.sc_session.specs.Going as going;
+ghost use Rattle.sc_session.specs.Linking as linking;
 ghost use Rattle.sc_session.specs.Mixing as mixing;
 ghost use Rattle.sc_session.specs.Modules.{texts};
 ghost use Rattle.sc_session.specs.Transcript as spec;
@@ -13,11 +14,13 @@ ghost use Rattle.sc_world.specs.declared.post.Unsent.TheVariants as unsent;
 use crate::going::{Lost, gone, has_main, run_out_of};
 use crate::input::{Input, input_of};
 use crate::linking::{ImageFault, linked};
-use crate::mixing::{is_fresh, is_mixed, mixed_out_of, mixed_state};
+use crate::mixing::{is_fresh, is_mixed, mixed_go_through, mixed_out_of, mixed_state};
 use crate::present::texts_of;
+use crate::relinking::placed_from;
 use crate::session::Session;
 use crate::state::{State, put_state};
 use crate::stops::places;
+use crate::versions::{go_through, versions_from};
 use sc_base::{Items, Name};
 use sc_core_held::Text;
 use sc_isa_image::Image;
@@ -51,7 +54,7 @@ impl Session {
 
     fn walk_mixed(&mut self, alloc: Global, walk: Walk) -> Answer
         requires { mixing.is_mixed self.old.state ≡ true }
-        ensures { mixing.MixedWalks self.old result self.new }
+        ensures { mixing.MixedWalks self.old walk result self.new }
     {
         let Ok(texts) = texts_of(alloc, self.modules.as_slice()) else {
             return Answer::NoMemory;
@@ -59,8 +62,37 @@ impl Session {
         let Ok(stops) = places(alloc, self.stops.as_slice()) else {
             return Answer::NoMemory;
         };
-        let run = mixed_out_of(mem::replace(&mut self.state, State::Ended));
-        self.go_mixed(alloc, texts.as_slice(), stops.as_slice(), walk, run)
+        match self.take_mixed(alloc) {
+            Some(run) => self.go_mixed(alloc, texts.as_slice(), stops.as_slice(), walk, run),
+            None => Answer::NoMemory,
+        }
+    }
+
+    // A run of both forms is taken out of the session, and goes through the changes that wait for it. Where no memory is left it is over,
+    // or all stays.
+    fn take_mixed(&mut self, alloc: Global) -> Option<MixedRun>
+        requires { mixing.is_mixed self.old.state ≡ true }
+        ensures { MatchOption result (going.IsGivenUp self.old self.new) (λ run. mixing.TakesMixed self.old run self.new) }
+    {
+        let Ok(versions) = self.versions(alloc) else {
+            return None;
+        };
+        let Ok(plan) = self.plan(alloc) else {
+            return None;
+        };
+        let mut run = mixed_out_of(mem::replace(&mut self.state, State::Ended));
+        match mixed_go_through(
+            &mut run,
+            versions_from(versions.as_slice(), self.come),
+            placed_from(plan.placed.as_slice(), self.come),
+            plan.functions.as_slice(),
+        ) {
+            Ok(()) => Some(run),
+            Err(_) => {
+                drop(run);
+                None
+            }
+        }
     }
 
     // A run of both forms goes on.
@@ -73,11 +105,12 @@ impl Session {
         run: MixedRun,
     ) -> Answer
         requires { self.old.state ≡ State.Ended }
-        ensures { mixing.MixedGoes self.old run result self.new }
+        ensures { mixing.MixedGoes self.old texts.now stops.now walk run result self.new }
     {
         match mixed_gone(alloc, texts, stops, walk, self.limits.turns, run) {
             Ok(told) => {
                 put_state(&mut self.state, mixed_state(told.halt, told.run));
+                self.catch_up();
                 Answer::Ran(told.text)
             }
             Err(_) => Answer::NoMemory,
@@ -101,7 +134,9 @@ impl Session {
         let Ok(stops) = places(alloc, self.stops.as_slice()) else {
             return Ok(Answer::NoMemory);
         };
-        let run = run_out_of(mem::replace(&mut self.state, State::Ended));
+        let Some(run) = self.take_run(alloc) else {
+            return Ok(Answer::NoMemory);
+        };
         match gone(
             alloc,
             texts.as_slice(),
@@ -114,6 +149,7 @@ impl Session {
         ) {
             Ok(told) => {
                 put_state(&mut self.state, told.state);
+                self.catch_up();
                 Ok(Answer::Ran(told.text))
             }
             Err(lost) => match lost {
@@ -123,6 +159,25 @@ impl Session {
                 }
                 Lost::Unsent(unsent) => Err(unsent),
             },
+        }
+    }
+
+    // The run is taken out of the session, and goes through the changes that wait for it. Where no memory is left it is over, or all
+    // stays.
+    fn take_run(&mut self, alloc: Global) -> Option<Run>
+        requires { going.IsGoing self.old.state }
+        ensures { MatchOption result (going.IsGivenUp self.old self.new) (λ run. going.TakesRun self.old run self.new) }
+    {
+        let Ok(versions) = self.versions(alloc) else {
+            return None;
+        };
+        let mut run = run_out_of(mem::replace(&mut self.state, State::Ended));
+        match go_through(&mut run, versions_from(versions.as_slice(), self.come)) {
+            Ok(()) => Some(run),
+            Err(_) => {
+                drop(run);
+                None
+            }
         }
     }
 
@@ -185,7 +240,7 @@ impl Session {
 
     // The run of a program of both forms goes from its start on.
     fn start_mixed(&mut self, alloc: Global, input: Items<u8>) -> Answer
-        ensures { mixing.MixedBegins self.old result self.new }
+        ensures { mixing.MixedBegins self.old input result self.new }
     {
         match linked(alloc, self.modules.as_slice(), &self.numbers) {
             Ok(image) => self.start_in(alloc, image, input),
@@ -202,7 +257,8 @@ impl Session {
 
     // The same in an image.
     fn start_in(&mut self, alloc: Global, image: Image, input: Items<u8>) -> Answer
-        ensures { mixing.MixedBegins self.old result self.new }
+        requires { linking.IsImage self.old.modules self.old.numbers image }
+        ensures { mixing.MixedBegins self.old input result self.new }
     {
         let Ok(texts) = texts_of(alloc, self.modules.as_slice()) else {
             return Answer::NoMemory;

@@ -1,9 +1,10 @@
 // A session: the modules that are present, the stops, a run, and the commands that change them.
-ghost use Rattle.std.specs.Prelude.{◌≡◌, ◌≤◌, true, false, None, Err, MatchResult};
+ghost use Rattle.std.specs.Prelude.{◌≡◌, ◌≤◌, true, false, [], None, Err, IfOk, MatchResult};
 ghost use Rattle.sc_outside.specs.Causes.{Rose};
 ghost use Rattle.sc_words.specs.Commands.{IsNamed};
 ghost use Rattle.sc_words.specs.Parts.{is_module_name};
-ghost use Rattle.sc_words.specs.declared.command.Command.TheVariants as command;
+ghost use Rattle.sc_session.specs.Asking as asking;
+ghost use Rattle.sc_session.specs.Changing as changing;
 ghost use Rattle.sc_session.specs.Compiling as compiling;
 ghost use Rattle.sc_session.specs.Going as going;
 ghost use Rattle.sc_session.specs.Mixing as mixing;
@@ -16,31 +17,37 @@ ghost use Rattle.sc_session.specs.Transcript as spec;
 ghost use Rattle.sc_session.specs.Transcript.{moment, BreaksOff, Does, Speaks};
 ghost use Rattle.sc_world.specs.declared.post.Unsent.TheVariants as unsent;
 
+use crate::asking::{Asked, Deed, Go, ask_for};
 use crate::compiling::write_compiled;
 use crate::going::run_in;
 use crate::limits::Limits;
-use crate::listing::{calls_told, list_text, value_told};
+use crate::listing::{Sight, calls_told, list_text, value_told};
 use crate::mixing::{is_mixed, mixed_calls_told, mixed_in, mixed_value_told};
-use crate::present::{Present, object_named, scopes_at, texts_of};
+use crate::present::{Present, object_named, texts_of};
 use crate::refusal::{
     continuing, deleting, if_absent, loading, replacing, setting, starting, stepping,
 };
-use crate::state::{State, put_state};
+use crate::state::{State, is_over, put_state};
 use crate::stops::{Stop, delete_stop, put_stop};
-use sc_base::{Duplicate, Name};
-use sc_core_held::Numbers;
+use crate::versions::{kept_count, scopes_at, stays, texts_held, versions_from, versions_of};
+use sc_base::{Duplicate, Items, Name, NoMemory};
+use sc_core_held::{Numbers, Text};
 use sc_outside::{Files, Sink};
+use sc_session_conflicts::waits;
 use sc_words::{Answer, Command, Denied, Options, StopAt, Walk};
 use sc_world::Unsent;
 use std::alloc::Global;
 use std::marker::Model;
 
-/// The modules that are present, in the order in which they were loaded; how many texts were loaded; the functions that have numbers; the
-/// stops; and how a run stands.
+/// The modules that are present, in the order in which they were loaded; what they were before each change of a run that goes on, and how
+/// many of these changes it has gone through; how many texts were loaded; the functions that have numbers; the stops; and how a run
+/// stands.
 #[derive(Drop)]
 pub struct Session {
     pub(crate) limits: Limits,
     pub(crate) modules: Vec<Present>,
+    pub(crate) past: Vec<Items<Present>>,
+    pub(crate) come: usize,
     pub(crate) loaded: u32,
     pub(crate) numbers: Numbers,
     pub(crate) stops: Vec<Stop>,
@@ -52,6 +59,7 @@ pub struct Session {
 
 impl Model for Session {
     ghost use Rattle.std.specs.Coded.{codes};
+    ghost use Rattle.sc_isa_image.specs.contracts.image.Image as images;
     ghost use Rattle.sc_types.specs.contracts.ctype.CType as types;
     ghost use Rattle.sc_types.specs.contracts.ctype.Signature as signatures;
     ghost use Rattle.sc_core.specs.contracts.expression.CoreExpr as expressions;
@@ -60,9 +68,9 @@ impl Model for Session {
 
     ghost Value = { Plain };
 
-    ghost coded = { Prim.hlevel (codes, types.the_row.coded, signatures.the_row.coded, expressions.the_row.coded, statements.the_row.coded) };
+    ghost coded = { Prim.hlevel (codes, images.the_row.coded, types.the_row.coded, signatures.the_row.coded, expressions.the_row.coded, statements.the_row.coded) };
 
-    ghost view = { λ s. record { limits = s.limits; modules = s.modules.items; loaded = s.loaded; numbers = s.numbers; stops = s.stops.items; last = s.last; state = s.state; in_line = s.in_line; over = s.over } };
+    ghost view = { λ s. record { limits = s.limits; modules = s.modules.items; past = s.past.items; come = s.come; loaded = s.loaded; numbers = s.numbers; stops = s.stops.items; last = s.last; state = s.state; in_line = s.in_line; over = s.over } };
 }
 
 impl Session {
@@ -77,6 +85,8 @@ impl Session {
                 turns: options.turns,
             },
             modules: Vec::new(alloc),
+            past: Vec::new(alloc),
+            come: 0,
             loaded: 0,
             numbers: Numbers::new(alloc),
             stops: Vec::new(alloc),
@@ -135,134 +145,173 @@ impl Session {
         ensures later { F.faults files.old ≤ F.faults files.new }
         ensures sources { compiling.KeepsSources (F.held files.old) (F.held files.new) }
     {
-        self.ask(&command);
-        match self.refusal(&command) {
-            Some(denied) => {
-                drop(command);
-                Ok(Answer::Refused(denied))
-            }
-            None => {
-                if is_go(&command) {
-                    self.go_on(alloc, command, out, files)
-                } else {
-                    Ok(self.carry(alloc, command, files))
-                }
-            }
+        match ask_for(command) {
+            Asked::Go(go) => self.let_go(alloc, go, out, files),
+            Asked::Do(deed) => Ok(self.undertake(alloc, deed, files)),
+            Asked::Refused(denied) => Ok(Answer::Refused(denied)),
         }
     }
 
-    // A run that ended is forgotten as another is asked for.
-    fn ask(&mut self, command: &Command)
-        ensures { self.new ≡ spec.asked command.now self.old }
-    {
-        if let Command::Run(_) = command {
-            self.forget();
-        }
-    }
-
-    fn forget(&mut self)
-        ensures { self.new ≡ going.in_state (spec.unended self.old.state) self.old }
-    {
-        if let State::Ended = &self.state {
-            put_state(&mut self.state, State::Idle);
-        }
-    }
-
-    // Why a command is refused before it is carried out.
-    fn refusal(&self, command: &Command) -> Option<Denied>
-        ensures { result ≡ refusal_of self.now command.now }
-    {
-        match command {
-            Command::Nothing => None,
-            Command::Unknown => Some(Denied::UnknownCommand),
-            Command::BadArguments => Some(Denied::BadArguments),
-            Command::Load(name) => loading(&self.state, name, self.modules.as_slice()),
-            Command::Unload(name) => replacing(&self.state, name, self.modules.as_slice()),
-            Command::Swap(name, _) => replacing(&self.state, name, self.modules.as_slice()),
-            Command::Edit(name, _) => replacing(&self.state, name, self.modules.as_slice()),
-            Command::Compile(name) => if_absent(name, self.modules.as_slice()),
-            Command::Run(_) => starting(&self.state),
-            Command::Stop(place) => setting(&self.state, place, self.modules.as_slice()),
-            Command::Delete(k) => deleting(&self.state, *k, self.stops.as_slice()),
-            Command::Step => stepping(&self.state),
-            Command::Next => stepping(&self.state),
-            Command::Cont => continuing(&self.state),
-            Command::Frames => stepping(&self.state),
-            Command::Print(_) => stepping(&self.state),
-            Command::List => None,
-            Command::Reset => None,
-            Command::Quit => None,
-        }
-    }
-
-    // Carries out a command that is not refused and lets no program go on.
-    fn carry<F: Files>(&mut self, alloc: Global, command: Command, files: &mut F) -> Answer
-        requires named { IsNamed command }
-        requires allowed { refusal_of self.old command ≡ None }
-        requires quiet { spec.is_go command ≡ false }
-        ensures step { Does (moment self.old (F.held files.old) (F.faults files.old)) command result (moment self.new (F.held files.new) (F.faults files.new)) }
-        ensures later { F.faults files.old ≤ F.faults files.new }
-    {
-        match command {
-            Command::Nothing => Answer::Silent,
-            Command::Unknown => unreachable!(),
-            Command::BadArguments => unreachable!(),
-            Command::Load(name) => self.load(alloc, name, files),
-            Command::Unload(name) => self.unload(name),
-            Command::Swap(name, form) => self.swap(alloc, name, form, files),
-            Command::Edit(name, file) => self.edit(alloc, name, file, files),
-            Command::Compile(name) => self.compile(alloc, name, files),
-            Command::Run(_) => unreachable!(),
-            Command::Stop(place) => self.stop(alloc, place),
-            Command::Delete(k) => self.delete(k),
-            Command::Step => unreachable!(),
-            Command::Next => unreachable!(),
-            Command::Cont => unreachable!(),
-            Command::Frames => self.frames(alloc),
-            Command::Print(name) => self.print(alloc, name),
-            Command::List => self.list(alloc),
-            Command::Reset => self.reset(),
-            Command::Quit => self.quit(),
-        }
-    }
-
-    // Lets the program go on, as a command that is not refused asks for.
-    fn go_on<K: Sink, F: Files>(
+    // Lets the program go on, where that is not refused.
+    fn let_go<K: Sink, F: Files>(
         &mut self,
         alloc: Global,
-        command: Command,
+        go: Go,
         out: &mut K,
         files: &mut F,
     ) -> Result<Answer, Unsent>
-        requires named { IsNamed command }
-        requires allowed { refusal_of self.old command ≡ None }
-        requires goes { spec.is_go command ≡ true }
-        ensures step { spec.GoesOut (K.written out.old) (K.written out.new) (moment self.old (F.held files.old) (F.faults files.old)) command result (moment self.new (F.held files.new) (F.faults files.new)) }
+        requires named { IsNamed (asking.go_command go) }
+        ensures step { MatchResult result (λ said. Speaks (K.written out.old) (K.written out.new) (moment self.old (F.held files.old) (F.faults files.old)) (asking.go_command go) said (moment self.new (F.held files.new) (F.faults files.new)))
+            (λ _. BreaksOff (K.written out.old) (K.written out.new) (moment self.old (F.held files.old) (F.faults files.old)) (asking.go_command go) (F.held files.new)) }
         ensures out_later { K.faults out.old ≤ K.faults out.new }
         ensures failed { result ≡ Err unsent.Failed → Rose (K.faults out.old) (K.faults out.new) }
         ensures later { F.faults files.old ≤ F.faults files.new }
         ensures held { F.held files.new ≡ F.held files.old }
     {
-        match command {
-            Command::Run(file) => self.run(alloc, file, out, files),
-            Command::Step => self.walk(alloc, Walk::Step, out),
-            Command::Next => self.walk(alloc, Walk::Next, out),
-            Command::Cont => self.walk(alloc, Walk::Cont, out),
-            Command::Nothing => unreachable!(),
-            Command::Unknown => unreachable!(),
-            Command::BadArguments => unreachable!(),
-            Command::Load(_) => unreachable!(),
-            Command::Unload(_) => unreachable!(),
-            Command::Swap(_, _) => unreachable!(),
-            Command::Edit(_, _) => unreachable!(),
-            Command::Compile(_) => unreachable!(),
-            Command::Stop(_) => unreachable!(),
-            Command::Delete(_) => unreachable!(),
-            Command::Frames => unreachable!(),
-            Command::Print(_) => unreachable!(),
-            Command::List => unreachable!(),
-            Command::Reset => unreachable!(),
-            Command::Quit => unreachable!(),
+        self.ask(&go);
+        match self.going_denied(&go) {
+            Some(denied) => {
+                drop(go);
+                Ok(Answer::Refused(denied))
+            }
+            None => self.go_on(alloc, go, out, files),
+        }
+    }
+
+    // A run that ended is forgotten as another is asked for.
+    fn ask(&mut self, go: &Go)
+        ensures { self.new ≡ spec.asked (asking.go_command go.now) self.old }
+    {
+        match go {
+            Go::Run(_) => self.forget(),
+            Go::Walk(_) => {}
+        }
+    }
+
+    fn forget(&mut self)
+        ensures { self.new ≡ spec.forgotten self.old }
+    {
+        if is_over(&self.state) {
+            self.rest();
+        }
+    }
+
+    // There is no run any more.
+    pub(crate) fn rest(&mut self)
+        ensures { self.new ≡ changing.at_rest self.old }
+    {
+        self.past.clear();
+        self.come = 0;
+        put_state(&mut self.state, State::Idle);
+    }
+
+    // No change waits for the run any more.
+    pub(crate) fn catch_up(&mut self)
+        ensures { self.new ≡ changing.caught_up self.old }
+    {
+        self.come = kept_count(&self.past);
+    }
+
+    // Why the program cannot go on.
+    fn going_denied(&self, go: &Go) -> Option<Denied>
+        ensures { result ≡ refusal_of self.now (asking.go_command go.now) }
+    {
+        match go {
+            Go::Run(_) => starting(&self.state),
+            Go::Walk(walk) => self.walk_denied(*walk),
+        }
+    }
+
+    fn walk_denied(&self, walk: Walk) -> Option<Denied>
+        ensures { result ≡ refusal_of self.now (asking.walk_command walk) }
+    {
+        match walk {
+            Walk::Step => stepping(&self.state),
+            Walk::Next => stepping(&self.state),
+            Walk::Cont => continuing(&self.state),
+        }
+    }
+
+    // Lets the program go on.
+    fn go_on<K: Sink, F: Files>(
+        &mut self,
+        alloc: Global,
+        go: Go,
+        out: &mut K,
+        files: &mut F,
+    ) -> Result<Answer, Unsent>
+        requires named { IsNamed (asking.go_command go) }
+        requires allowed { refusal_of self.old (asking.go_command go) ≡ None }
+        ensures step { spec.GoesOut (K.written out.old) (K.written out.new) (moment self.old (F.held files.old) (F.faults files.old)) (asking.go_command go) result (moment self.new (F.held files.new) (F.faults files.new)) }
+        ensures out_later { K.faults out.old ≤ K.faults out.new }
+        ensures failed { result ≡ Err unsent.Failed → Rose (K.faults out.old) (K.faults out.new) }
+        ensures later { F.faults files.old ≤ F.faults files.new }
+        ensures held { F.held files.new ≡ F.held files.old }
+    {
+        match go {
+            Go::Run(file) => self.run(alloc, file, out, files),
+            Go::Walk(walk) => self.walk(alloc, walk, out),
+        }
+    }
+
+    // Does what no program goes on for, where that is not refused.
+    fn undertake<F: Files>(&mut self, alloc: Global, deed: Deed, files: &mut F) -> Answer
+        requires named { IsNamed (asking.deed_command deed) }
+        ensures step { spec.AnswersTo (moment self.old (F.held files.old) (F.faults files.old)) (asking.deed_command deed) [] result (moment self.new (F.held files.new) (F.faults files.new)) }
+        ensures later { F.faults files.old ≤ F.faults files.new }
+        ensures sources { compiling.KeepsSources (F.held files.old) (F.held files.new) }
+    {
+        match self.deed_denied(&deed) {
+            Some(denied) => {
+                drop(deed);
+                Answer::Refused(denied)
+            }
+            None => self.carry(alloc, deed, files),
+        }
+    }
+
+    // Why something is refused before it is done.
+    fn deed_denied(&self, deed: &Deed) -> Option<Denied>
+        ensures { result ≡ refusal_of self.now (asking.deed_command deed.now) }
+    {
+        match deed {
+            Deed::Nothing => None,
+            Deed::Load(name) => loading(&self.state, name, self.modules.as_slice()),
+            Deed::Unload(name) => replacing(&self.state, name, self.modules.as_slice()),
+            Deed::Swap(name, _) => replacing(&self.state, name, self.modules.as_slice()),
+            Deed::Edit(name, _) => replacing(&self.state, name, self.modules.as_slice()),
+            Deed::Compile(name) => if_absent(name, self.modules.as_slice()),
+            Deed::Stop(place) => setting(&self.state, place, self.modules.as_slice()),
+            Deed::Delete(k) => deleting(&self.state, *k, self.stops.as_slice()),
+            Deed::Frames => stepping(&self.state),
+            Deed::Print(_) => stepping(&self.state),
+            Deed::List => None,
+            Deed::Reset => None,
+            Deed::Quit => None,
+        }
+    }
+
+    // Does what is not refused.
+    fn carry<F: Files>(&mut self, alloc: Global, deed: Deed, files: &mut F) -> Answer
+        requires named { IsNamed (asking.deed_command deed) }
+        requires allowed { refusal_of self.old (asking.deed_command deed) ≡ None }
+        ensures step { Does (moment self.old (F.held files.old) (F.faults files.old)) (asking.deed_command deed) result (moment self.new (F.held files.new) (F.faults files.new)) }
+        ensures later { F.faults files.old ≤ F.faults files.new }
+    {
+        match deed {
+            Deed::Nothing => Answer::Silent,
+            Deed::Load(name) => self.load(alloc, name, files),
+            Deed::Unload(name) => self.unload(alloc, name),
+            Deed::Swap(name, form) => self.swap(alloc, name, form, files),
+            Deed::Edit(name, file) => self.edit(alloc, name, file, files),
+            Deed::Compile(name) => self.compile(alloc, name, files),
+            Deed::Stop(place) => self.stop(alloc, place),
+            Deed::Delete(k) => self.delete(k),
+            Deed::Frames => self.frames(alloc),
+            Deed::Print(name) => self.print(alloc, name),
+            Deed::List => self.list(alloc),
+            Deed::Reset => self.reset(),
+            Deed::Quit => self.quit(),
         }
     }
 
@@ -330,9 +379,9 @@ impl Session {
 
     fn reset(&mut self) -> Answer
         ensures answer { result ≡ Answer.Reset }
-        ensures session { self.new ≡ going.in_state State.Idle self.old }
+        ensures session { self.new ≡ changing.at_rest self.old }
     {
-        put_state(&mut self.state, State::Idle);
+        self.rest();
         Answer::Reset
     }
 
@@ -360,7 +409,8 @@ impl Session {
         ensures { mixing.MixedShowsCalls self.now result }
     {
         let run = mixed_in(&self.state);
-        mixed_calls_told(alloc, self.modules.as_slice(), run.world())
+        let past = self.past.as_slice();
+        mixed_calls_told(alloc, past, self.modules.as_slice(), run.world())
     }
 
     fn source_frames(&self, alloc: Global) -> Answer
@@ -369,7 +419,7 @@ impl Session {
     {
         let run = run_in(&self.state);
         let world = run.world();
-        match texts_of(alloc, self.modules.as_slice()) {
+        match texts_held(alloc, self.past.as_slice(), self.modules.as_slice()) {
             Ok(texts) => calls_told(alloc, texts.as_slice(), world),
             Err(_) => Answer::NoMemory,
         }
@@ -390,12 +440,27 @@ impl Session {
         requires { mixing.is_mixed self.now.state ≡ true }
         ensures { mixing.MixedShowsValue self.now name result }
     {
+        match self.sight(alloc) {
+            Ok(sight) => self.mixed_value_in(alloc, &sight, name),
+            Err(_) => {
+                drop(name);
+                Answer::NoMemory
+            }
+        }
+    }
+
+    fn mixed_value_in(&self, alloc: Global, sight: &Sight, name: Name) -> Answer
+        requires mixed { mixing.is_mixed self.now.state ≡ true }
+        requires sight { sight.now ≡ showing.sight_of self.now }
+        ensures { mixing.MixedShowsValue self.now name result }
+    {
         let run = mixed_in(&self.state);
-        let declaring = run.declaring();
         mixed_value_told(
             alloc,
+            sight,
+            self.past.as_slice(),
             self.modules.as_slice(),
-            declaring,
+            run.declaring(),
             run.world(),
             &name,
         )
@@ -408,13 +473,35 @@ impl Session {
         let run = run_in(&self.state);
         let world = run.world();
         let declaring = run.declaring();
-        match scopes_at(self.modules.as_slice(), world) {
+        match scopes_at(self.past.as_slice(), self.modules.as_slice(), world) {
             None => Answer::Refused(Denied::NotVisible(name)),
-            Some(scopes) => match texts_of(alloc, self.modules.as_slice()) {
-                Ok(texts) => value_told(alloc, texts.as_slice(), scopes, declaring, world, &name),
+            Some(scopes) => match self.sight(alloc) {
+                Ok(sight) => value_told(alloc, &sight, scopes, declaring, world, &name),
                 Err(_) => Answer::NoMemory,
             },
         }
+    }
+
+    // In which texts a name is looked up.
+    fn sight(&self, alloc: Global) -> Result<Sight, NoMemory>
+        ensures { IfOk result (λ sight. sight ≡ showing.sight_of self.now) }
+    {
+        let past = self.past.as_slice();
+        let modules = self.modules.as_slice();
+        let versions = self.versions(alloc)?;
+        Ok(Sight {
+            held: texts_held(alloc, past, modules)?,
+            present: texts_of(alloc, modules)?,
+            waiting: waits(alloc, versions_from(versions.as_slice(), self.come))?,
+        })
+    }
+
+    // The texts before each change of a run that stays, and the present ones.
+    pub(crate) fn versions(&self, alloc: Global) -> Result<Items<Items<Text>>, NoMemory>
+        ensures { IfOk result (λ versions. versions ≡ changing.versions self.now) }
+    {
+        let stayed = stays(&self.state);
+        versions_of(alloc, stayed, self.past.as_slice(), self.modules.as_slice())
     }
 }
 

@@ -1,5 +1,6 @@
 // How a run stands in a session.
 ghost use Rattle.std.specs.Prelude.{◌≡◌};
+ghost use Rattle.sc_session.specs.Changing as spec;
 
 use sc_mixed::MixedRun;
 use sc_world::Run;
@@ -15,6 +16,20 @@ pub enum State {
     StoppedMixed(MixedRun),
     PausedMixed(MixedRun),
     Ended,
+}
+
+/// Whether no run goes on.
+pub fn is_over(state: &State) -> bool
+    ensures { result ≡ spec.is_over state.now }
+{
+    match state {
+        State::Idle => true,
+        State::Ended => true,
+        State::Stopped(_) => false,
+        State::Paused(_) => false,
+        State::StoppedMixed(_) => false,
+        State::PausedMixed(_) => false,
+    }
 }
 
 /// Puts a state in the place of another, which is let go.

@@ -2,3 +2,4 @@
 pub mod Clashes
 pub mod Spaces
 pub mod Names
+pub mod Births

@@ -18,7 +18,7 @@ const MAX_FUNCTIONS: usize = 65497;
 /// The most bytes of static storage.
 const MAX_STATICS: u64 = 1048576;
 
-fn sum(a: u64, b: u64) -> Result<u64, NoMemory>
+pub(crate) fn sum(a: u64, b: u64) -> Result<u64, NoMemory>
     ensures { IfOk result (λ c. c ≡ a + b) }
 {
     match a.checked_add(b) {
@@ -28,7 +28,7 @@ fn sum(a: u64, b: u64) -> Result<u64, NoMemory>
 }
 
 // The least multiple of 4 greater than a size.
-fn room_for(size: u64) -> Result<u64, NoMemory>
+pub(crate) fn room_for(size: u64) -> Result<u64, NoMemory>
     ensures { IfOk result (λ n. n ≡ spec.room_for size) }
 {
     match (size / 4 + 1).checked_mul(4) {
@@ -37,7 +37,7 @@ fn room_for(size: u64) -> Result<u64, NoMemory>
     }
 }
 
-fn size_if(t: &CType, structs: &Structs) -> u64
+pub(crate) fn size_if(t: &CType, structs: &Structs) -> u64
     ensures { result ≡ spec.size_if structs.now t.now }
 {
     if is_object(t, structs) {
@@ -90,7 +90,7 @@ fn modules_with(core: &Core, texts: &[Text]) -> usize
 }
 
 /// The bytes of static storage that a module and the others that are present take.
-pub fn statics_with(core: &Core, texts: &[Text]) -> Result<u64, NoMemory>
+pub(crate) fn statics_with(core: &Core, texts: &[Text]) -> Result<u64, NoMemory>
     ensures { IfOk result (λ n. n ≡ spec.statics_with core.now texts.now) }
 {
     let mut total = statics_of(core)?;

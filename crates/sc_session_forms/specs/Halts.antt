@@ -1,14 +1,19 @@
 -- Yardstick: to be compared with what it restates (docs/TRUST.md).
 -- What is said of where a run of both forms halted.
-use Rattle.std.specs.Prelude.{◌≡◌, ℕ, ◌+◌, ◌/◌, ◌%◌, nat_lt, if◌then◌else◌, List, [], ◌∷◌, ◌++◌, drop, Option, Some, codes}
+use Rattle.std.specs.Prelude.{◌≡◌, ℕ, ◌+◌, ◌/◌, ◌%◌, nat_lt, if◌then◌else◌, List, [], ◌∷◌, ◌++◌, drop, length, Option, Some, codes}
 use Rattle.sc_emu.specs.declared.outcome.Crash.{Crash}
 use Rattle.sc_emu.specs.declared.outcome.Crash.TheVariants as crash
 use Rattle.sc_interp_access.specs.declared.ended.Ended.TheVariants as ended
 use Rattle.sc_interp_world.specs.Outputs.{output}
+use Rattle.sc_meaning.specs.Versions.{Text}
 use Rattle.sc_meaning.specs.World.{World}
+use Rattle.sc_mixed.specs.Goes.{GoesTo}
+use Rattle.sc_mixed.specs.Standing.{Standing, end_of}
 use Rattle.sc_mixed.specs.declared.ended.MixedEnd.{MixedEnd}
 use Rattle.sc_mixed.specs.declared.ended.MixedEnd.TheVariants as mixed
 use Rattle.sc_session_texts.specs.Ends.{end_text, entered_text, line_text, on_new_line, stop_text}
+use Rattle.sc_words.specs.declared.stop.StopAt.{StopAt}
+use Rattle.sc_words.specs.declared.stop.Walk.{Walk}
 use Rattle.sc_world.specs.declared.halt.Halt.{Halt}
 use Rattle.sc_world.specs.declared.halt.Halt.TheVariants as halt
 
@@ -38,16 +43,21 @@ abbrev pub mixed_end_text : MixedEnd → World → Option (List ℕ)
 mixed_end_text (mixed.Meant e) w = end_text e w
 mixed_end_text (mixed.Crashed at cause) w = Some (codes "crashed at " ++ hexadecimal at ++ cause_text cause)
 
--- what is said of where the run halted, in the world in which it stands
-abbrev pub MixedSays : Halt → World → List ℕ → Type 0
-MixedSays halt.Entered w said = said ≡ entered_text w.frames
-MixedSays halt.AtLine w said = said ≡ line_text w.frames
-MixedSays halt.Ended w said = (e : MixedEnd) × (Some said ≡ mixed_end_text e w)
-MixedSays (halt.Paused turns) w said = Some said ≡ stop_text turns ended.OutOfSteps w
+-- what is said of where the run halted, as it stands there
+abbrev pub MixedSays : Halt → Standing → List ℕ → Type 0
+MixedSays halt.Entered m said = said ≡ entered_text m.world.frames
+MixedSays halt.AtLine m said = said ≡ line_text m.world.frames
+MixedSays halt.Ended m said = (e : MixedEnd) × (end_of m ≡ Some e) × (Some said ≡ mixed_end_text e m.world)
+MixedSays (halt.Paused turns) m said = Some said ≡ stop_text turns ended.OutOfSteps m.world
 
 -- the text on a go that halted so: what the program wrote in it, behind so many bytes before, and on a line of its own where the
 -- run halted
-pub record MixedTells (before : ℕ) (h : Halt) (w : World) (text : List ℕ) : Type 0 where
+pub record MixedTells (before : ℕ) (h : Halt) (m : Standing) (text : List ℕ) : Type 0 where
   pub said : List ℕ
-  pub says : MixedSays h w said
-  pub whole : text ≡ on_new_line (drop before (output w.trail)) said
+  pub says : MixedSays h m said
+  pub whole : text ≡ on_new_line (drop before (output m.world.trail)) said
+
+-- a go of so many turns led a run from one place to another, and is told so
+pub record MixedGone (texts : List Text) (stops : List StopAt) (walk : Walk) (turns : ℕ) (old : Standing) (h : Halt) (m : Standing) (text : List ℕ) : Type 0 where
+  pub goes : GoesTo texts stops walk turns old h m
+  pub tells : MixedTells (length (output old.world.trail)) h m text

@@ -1,6 +1,5 @@
 // What is said of where a run of both forms halted.
-ghost use Rattle.std.specs.Prelude.{◌≡◌, ◌<◌, ◌++◌, Some, IfOk, OnOk, codes, length};
-ghost use Rattle.sc_interp_world.specs.Outputs.{output};
+ghost use Rattle.std.specs.Prelude.{◌≡◌, ◌<◌, ◌++◌, Some, IfOk, OnOk, codes};
 ghost use Rattle.sc_session_forms.specs.Halts as spec;
 
 use sc_base::{Bytes, NoMemory};
@@ -130,7 +129,7 @@ pub fn mixed_gone(
     turns: u64,
     mut run: MixedRun,
 ) -> Result<MixedTold, NoMemory>
-    ensures { IfOk result (λ g. spec.MixedTells (length (output run.trail)) g.halt g.run g.text) }
+    ensures { IfOk result (λ g. spec.MixedGone texts.now stops.now walk turns run g.halt g.run g.text) }
 {
     let before = run.output().len();
     let halt = run.go(texts, stops, walk, turns);

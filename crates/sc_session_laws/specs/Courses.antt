@@ -1,9 +1,10 @@
 -- Yardstick: to be compared with what it restates (docs/TRUST.md).
 -- A session's run as the meaning of C has it, and what an answer tells of it. The meaning is that of a program whose modules are all
 -- interpreted: of such a run all that is told is what the meaning gives, from its start on. Of a run in which some modules are in
--- object form nothing is claimed here: it is no run of the meaning's, so it is `None`, and so is what is behind each of its goes.
+-- object form nothing is claimed here: it is no run of the meaning's, so it is `None`, and so is what is behind each of its goes. Nor is
+-- anything of a run once its modules have changed: the meaning here is that of one program from its start on.
 -- What its answers tell is what holds of the world in which it stands (Mixing), and not that this world is one of the meaning's.
-use Rattle.std.specs.Prelude.{◌≡◌, ◌<◌, ◌≤◌, ◌⊎◌, ℕ, ◌+◌, ◌-◌, ◌*◌, Bool, true, false, List, [], ◌++◌, length, drop, Option, Some, None}
+use Rattle.std.specs.Prelude.{◌≡◌, ◌<◌, ◌≤◌, ◌⊎◌, ℕ, ◌+◌, ◌-◌, ◌*◌, ◌||◌, Bool, true, false, List, [], ◌∷◌, ◌++◌, length, drop, Option, Some, None}
 use Rattle.sc_meaning.specs.World.{World, Event, events}
 use Rattle.sc_meaning.specs.Outcomes.{world_at}
 use Rattle.sc_meaning.specs.Behaviour.{Start, ending, events_upto}
@@ -27,7 +28,9 @@ use Rattle.sc_world.specs.Standing.{Standing, world_in}
 use Rattle.sc_world_laws.specs.Told.{selects, HaltsAt, PassedEach}
 use Rattle.sc_session.specs.declared.state.State.{State}
 use Rattle.sc_session.specs.declared.state.State.TheVariants as state
+use Rattle.sc_session.specs.declared.present.Present.{Present}
 use Rattle.sc_session.specs.Modules.{texts}
+use Rattle.sc_session.specs.Plain.{Plain}
 use Rattle.sc_session.specs.Going.{IsInput}
 use Rattle.sc_session.specs.Mixing.{is_mixed}
 use Rattle.sc_session.specs.Stopping.{places}
@@ -132,12 +135,21 @@ abbrev pub RunsSoBy : Bool → Moment → Option (List ℕ) → List ℕ → Lis
 RunsSoBy true old file front text after = RunsSo old file front text after
 RunsSoBy false old file front text after = after ≡ None
 
--- The same by whether a run of both forms goes on in the session.
+-- the modules changed in the run that goes on
+abbrev pub is_changed : List (List Present) → Bool
+is_changed [] = false
+is_changed (before ∷ past) = true
+
+-- nothing is told here of the run that goes on in a session
+abbrev pub is_untold : Plain → Bool
+is_untold session = is_changed session.past || is_mixed session.state
+
+-- The same by whether a run of both forms goes on in the session, or one in which the modules changed.
 abbrev pub WalksSoBy : Bool → Moment → Option Course → Walk → List ℕ → List ℕ → Option Course → Type 0
 WalksSoBy false old run how front text after = WalksSo old run how front text after
 WalksSoBy true old run how front text after = after ≡ None
 
--- The run stays where it is, or there is none any more.
+-- The run stays where it is, or there is none any more of which something is told.
 abbrev pub Stays : Option Course → Option Course → Type 0
 Stays run after = (after ≡ run) ⊎ (after ≡ None)
 
@@ -146,7 +158,7 @@ RunTells old run file front (answer.Ran text) after = RunsSoBy (are_sources (tex
 RunTells old run file front _ after = Stays run after
 
 abbrev pub WalkTells : Moment → Option Course → Walk → List ℕ → Answer → Option Course → Type 0
-WalkTells old run how front (answer.Ran text) after = WalksSoBy (is_mixed old.session.state) old run how front text after
+WalkTells old run how front (answer.Ran text) after = WalksSoBy (is_untold old.session) old run how front text after
 WalkTells old run how front _ after = Stays run after
 
 -- What an answer tells of a session's run, behind these bytes, which went out; and where the run stands behind it.
@@ -170,3 +182,11 @@ Stands (state.Paused r) run = StandsIn r run
 Stands (state.StoppedMixed w) run = run ≡ None
 Stands (state.PausedMixed w) run = run ≡ None
 Stands state.Ended run = run ≡ None
+
+-- the same of a session whose modules changed in the run or not
+abbrev pub StandsBy : List (List Present) → State → Option Course → Type 0
+StandsBy [] s run = Stands s run
+StandsBy (before ∷ past) s run = run ≡ None
+
+abbrev pub StandsSo : Plain → Option Course → Type 0
+StandsSo session run = StandsBy session.past session.state run

@@ -1,6 +1,6 @@
 -- Inside: plumbing, a representation, an invariant or a promise beside the claim (docs/TRUST.md).
 -- How a session's run, as the machine has it, follows one of the meaning.
-use Rattle.std.specs.Prelude.{◌≡◌, ◌≤◌, ◌+◌, ◌*◌, List, Option, Some, None}
+use Rattle.std.specs.Prelude.{◌≡◌, ◌≤◌, ◌+◌, ◌*◌, List, [], ◌∷◌, Option, Some, None}
 use Rattle.sc_meaning.specs.World.{Event}
 use Rattle.sc_meaning.specs.Behaviour.{Start}
 use Rattle.sc_meaning.specs.Versions.{Text}
@@ -11,6 +11,7 @@ use Rattle.sc_world.specs.Meant.{IsRunOf}
 use Rattle.sc_world.specs.Standing.{Standing, world_of}
 use Rattle.sc_world_laws.specs.Formed.{AreFormed}
 use Rattle.sc_world_laws.specs.Told.{IsAt}
+use Rattle.sc_session.specs.declared.present.Present.{Present}
 use Rattle.sc_session.specs.declared.state.State.{State}
 use Rattle.sc_session.specs.declared.state.State.TheVariants as state
 use Rattle.sc_session.specs.Plain.{Plain}
@@ -46,6 +47,11 @@ FollowsIn modules (state.StoppedMixed w) run = run ≡ None
 FollowsIn modules (state.PausedMixed w) run = run ≡ None
 FollowsIn modules state.Ended run = run ≡ None
 
+-- nor is one in which the modules changed
+abbrev pub FollowsBy : List (List Present) → List Text → State → Option Course → Type 0
+FollowsBy [] modules s run = FollowsIn modules s run
+FollowsBy (before ∷ past) modules s run = run ≡ None
+
 -- its modules are checked, and the run that goes on, if there is one of interpreted modules, is one of them
 abbrev pub Keeps : Plain → Option Course → Type 0
-Keeps session run = AreFormed (texts session.modules) × FollowsIn (texts session.modules) session.state run
+Keeps session run = AreFormed (texts session.modules) × FollowsBy session.past (texts session.modules) session.state run

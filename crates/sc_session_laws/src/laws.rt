@@ -3,17 +3,16 @@ ghost use Rattle.std.specs.Prelude.{◌≡◌, List, Option, None, ℕ};
 ghost use Rattle.sc_words.specs.declared.answer.Answer.{Answer};
 ghost use Rattle.sc_words.specs.declared.command.Command.{Command};
 ghost use Rattle.sc_session.specs.declared.limits.Limits.{Limits};
-ghost use Rattle.sc_session.specs.declared.state.State.{State};
+ghost use Rattle.sc_session.specs.Plain.{Plain};
 ghost use Rattle.sc_session.specs.Transcript.{AnswersTo, Moment, empty};
-ghost use Rattle.sc_meaning.specs.Versions.{Text};
-ghost use Rattle.sc_session_laws.specs.Courses.{Course, Stands, Tells};
-ghost use Rattle.sc_session_laws.specs.Follows.{FollowsIn, Keeps};
+ghost use Rattle.sc_session_laws.specs.Courses.{Course, StandsSo, Tells};
+ghost use Rattle.sc_session_laws.specs.Follows.{Keeps};
 
 /// Whatever a session answers tells of its run what the meaning of the program gives, and the session behind it stands there; so it
-/// does from its start on, whatever the commands are.
+/// does from its start on, whatever the commands are. A run is one of the meaning's here as long as its modules stay.
 #[tactic(auto)]
 pub fn answers_tell_the_meaning()
     ensures first { (limits : Limits) → Keeps (empty limits) None }
     ensures tells { (old : Moment) (run : Option Course) (c : Command) (front : List ℕ) (said : Answer) (new : Moment) → Keeps old.session run → AnswersTo old c front said new → (after : Option Course) × Tells old run c front said after × Keeps new.session after }
-    ensures stands { (modules : List Text) (s : State) (run : Option Course) → FollowsIn modules s run → Stands s run }
+    ensures stands { (session : Plain) (run : Option Course) → Keeps session run → StandsSo session run }
 {}

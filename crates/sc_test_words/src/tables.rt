@@ -96,8 +96,13 @@ fn shown(alloc: Global, options: &Options) -> Result<String, AllocError> {
         heap,
         turns,
         dir,
+        make,
     } = options;
-    format!(in alloc; "{stack} {heap} {turns} {}", dir.as_slice().len())
+    let made = match make {
+        Some(count) => format!(in alloc; " {count}")?,
+        None => String::new(alloc),
+    };
+    format!(in alloc; "{stack} {heap} {turns} {}{made}", dir.as_slice().len())
 }
 
 // What the words ask for: the three numbers, and the length of the folder's name.
@@ -111,7 +116,7 @@ fn read(alloc: Global, text: &str) -> Result<String, AllocError> {
 }
 
 // Words, and what they ask for.
-const WORDS: [(&str, &str); 18] = [
+const WORDS: [(&str, &str); 24] = [
     ("", "1048576 4194304 50000000 1"),
     ("--turns 1000", "1048576 4194304 1000 1"),
     ("--dir abc --heap 0032 --stack 4096", "4096 32 50000000 3"),
@@ -119,6 +124,12 @@ const WORDS: [(&str, &str); 18] = [
         "--heap 67108864 --turns 1000000000 --dir = --stack 16777216",
         "16777216 67108864 1000000000 1",
     ),
+    ("--make 1", "1048576 4194304 50000000 1 1"),
+    ("--make 64 --turns 9", "1048576 4194304 9 1 64"),
+    ("--make 0", "bad"),
+    ("--make 65", "bad"),
+    ("--make", "bad"),
+    ("--make 4 --make 4", "bad"),
     ("--turns 0", "bad"),
     ("--turns 1000000001", "bad"),
     ("--heap=32", "bad"),

@@ -2,7 +2,6 @@
 use Rattle.std.proofs.Common.{inl, inr, ℕ, List, [], ◌∷◌, sym, subst, Option, None}
 use Rattle.sc_outside.specs.Stored.{FileMap}
 use Rattle.sc_session.specs.declared.limits.Limits.{Limits}
-use Rattle.sc_session.specs.Modules.{texts}
 use Rattle.sc_session.specs.Transcript.{Moment, moment, empty}
 use Rattle.sc_session_laws.specs.Courses.{Course, Tells}
 use Rattle.sc_session_laws.specs.Follows.{Keeps}
@@ -27,7 +26,7 @@ one_line : (old : Moment) (run : Option Course) (line answered : List ℕ) (new 
 one_line old run line answered new k a =
     let p = replies_tell old run line a.front a.said a.mid k a.replies in
     let kept : Keeps new.session p.0 = subst (λ m. Keeps m.session p.0) (sym a.after) p.2 in
-    (p.0, record { answers = a; tells = p.1; stands = session_stands (texts new.session.modules) new.session.state p.0 kept.1 }, kept)
+    (p.0, record { answers = a; tells = p.1; stands = session_stands new.session p.0 kept }, kept)
 
 run_means : (old : Moment) (run : Option Course) (lines : List (List ℕ)) (text : List ℕ) (new : Moment) → Keeps old.session run → Run old lines text new → RunMeans old run lines text new
 run_means old run [] text new k r = r

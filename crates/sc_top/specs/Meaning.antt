@@ -1,11 +1,11 @@
 -- Yardstick: to be compared with what it restates (docs/TRUST.md).
 -- A session whose answers are those that the meaning of C gives its runs of interpreted modules. Of a run in which some module is in
--- object form nothing is said here (Courses).
+-- object form nothing is said here, nor of one once its modules have changed (Courses).
 use Rattle.std.specs.Prelude.{◌≡◌, ◌⊎◌, ℕ, false, List, [], ◌∷◌, ◌++◌, Option, None}
 use Rattle.sc_outside.specs.Stored.{FileMap}
 use Rattle.sc_outside.specs.Streams.{AppendsSome}
 use Rattle.sc_session.specs.Transcript.{Moment, moment}
-use Rattle.sc_session_laws.specs.Courses.{Course, Stands, Tells}
+use Rattle.sc_session_laws.specs.Courses.{Course, StandsSo, Tells}
 use Rattle.sc_words.specs.Commands.{command_of}
 use Rattle.sc_top.specs.Transcript.{Answers}
 use Rattle.sc_top.specs.Sessions.{EndedBetween, BrokenOff}
@@ -15,7 +15,7 @@ use Rattle.sc_top.specs.declared.status.Status.{Status}
 pub record Means (old : Moment) (run : Option Course) (line answered : List ℕ) (new : Moment) (after : Option Course) : Type 0 where
   pub answers : Answers old line answered new
   pub tells : Tells old run (command_of line) answers.front answers.said after
-  pub stands : Stands new.session.state after
+  pub stands : StandsSo new.session after
 
 -- The answers to these lines, one after the other, in a session whose run stands so.
 abbrev pub RunMeans : Moment → Option Course → List (List ℕ) → List ℕ → Moment → Type 0

@@ -111,6 +111,18 @@ dir_option = record {
       (at_row-absent (codes "dir") (more_values CommandLine (value ∷ [])) (row (codes "dir") value ∷ []) rows e);
 }
 
+pub make_option : IsOption (codes "make")
+unfolding clap_on_literals
+make_option = record {
+  named = λ rows pending. refl;
+  name_passes = λ rows pending e. rw e refl;
+  valued = λ value rows d s. rw (d, s, s) refl;
+  value_passes = λ value rows d s. rw (d, s, s) refl;
+  settles = λ value rows e. rw e refl;
+  settled = λ value rows e. rw (without-absent (codes "make") rows e)
+      (at_row-absent (codes "make") (more_values CommandLine (value ∷ [])) (row (codes "make") value ∷ []) rows e);
+}
+
 -- ---- an option and its value
 
 cases : (b : Bool) → (b ≡ true) ⊎ (b ≡ false)
@@ -220,6 +232,7 @@ pub record Known (left : Left) (rows : List Row) : Type 0 where
   pub heap : has_row (codes "heap") rows ≡ not left.heap
   pub turns : has_row (codes "turns") rows ≡ not left.turns
   pub dir : has_row (codes "dir") rows ≡ not left.dir
+  pub make : has_row (codes "make") rows ≡ not left.make
 
 module _ (id : Text) (o : IsOption id) (rows : List Row) (value : Text) (absent : has_row id rows ≡ false) where
   now_has : (j : Text) → has_row j (settled_rows rules (Some (id, value ∷ [])) rows) ≡ (has_row j rows || (bytes_eq id j || false))
@@ -234,6 +247,7 @@ known_stack left rows value k absent =
       heap = has (codes "heap") ∙ or-false _ ∙ k.heap;
       turns = has (codes "turns") ∙ or-false _ ∙ k.turns;
       dir = has (codes "dir") ∙ or-false _ ∙ k.dir;
+      make = has (codes "make") ∙ or-false _ ∙ k.make;
     }
 
 known_heap : (left : Left) (rows : List Row) (value : Text) → Known left rows → has_row (codes "heap") rows ≡ false
@@ -245,6 +259,7 @@ known_heap left rows value k absent =
       heap = has (codes "heap") ∙ ap (λ b. b || true) absent;
       turns = has (codes "turns") ∙ or-false _ ∙ k.turns;
       dir = has (codes "dir") ∙ or-false _ ∙ k.dir;
+      make = has (codes "make") ∙ or-false _ ∙ k.make;
     }
 
 known_turns : (left : Left) (rows : List Row) (value : Text) → Known left rows → has_row (codes "turns") rows ≡ false
@@ -256,6 +271,7 @@ known_turns left rows value k absent =
       heap = has (codes "heap") ∙ or-false _ ∙ k.heap;
       turns = has (codes "turns") ∙ ap (λ b. b || true) absent;
       dir = has (codes "dir") ∙ or-false _ ∙ k.dir;
+      make = has (codes "make") ∙ or-false _ ∙ k.make;
     }
 
 known_dir : (left : Left) (rows : List Row) (value : Text) → Known left rows → has_row (codes "dir") rows ≡ false
@@ -267,6 +283,19 @@ known_dir left rows value k absent =
       heap = has (codes "heap") ∙ or-false _ ∙ k.heap;
       turns = has (codes "turns") ∙ or-false _ ∙ k.turns;
       dir = has (codes "dir") ∙ ap (λ b. b || true) absent;
+      make = has (codes "make") ∙ or-false _ ∙ k.make;
+    }
+
+known_make : (left : Left) (rows : List Row) (value : Text) → Known left rows → has_row (codes "make") rows ≡ false
+    → Known (record left { make = false }) (settled_rows rules (Some (codes "make", value ∷ [])) rows)
+known_make left rows value k absent =
+    let has = now_has (codes "make") make_option rows value absent in
+    record {
+      stack = has (codes "stack") ∙ or-false _ ∙ k.stack;
+      heap = has (codes "heap") ∙ or-false _ ∙ k.heap;
+      turns = has (codes "turns") ∙ or-false _ ∙ k.turns;
+      dir = has (codes "dir") ∙ or-false _ ∙ k.dir;
+      make = has (codes "make") ∙ ap (λ b. b || true) absent;
     }
 
 -- the words behind are read from any rows
@@ -309,9 +338,13 @@ by_name name value left words rows pending k ok good behind l =
           | inr e3 ↦ elim (cases (bytes_eq name (codes "--dir"))) [
             | inl e ↦ at_option (codes "dir") name value dir_option left.dir left (record left { dir = false }) words rows pending
                 (same_text name _ e) (rw (e1, e2, e3, e) refl) k.dir (known_dir left now value k) ok good behind l
-            | inr e4 ↦
-                let none : taken left name ≡ None = rw (e1, e2, e3, e4) refl in
-                absurd (true≢false (sym (sym (ap (λ x. option_map_or (λ m. is_listed m words) x false) none) ∙ l)))
+            | inr e4 ↦ elim (cases (bytes_eq name (codes "--make"))) [
+              | inl e ↦ at_option (codes "make") name value make_option left.make left (record left { make = false }) words rows pending
+                  (same_text name _ e) (rw (e1, e2, e3, e4, e) refl) k.make (known_make left now value k) ok good behind l
+              | inr e5 ↦
+                  let none : taken left name ≡ None = rw (e1, e2, e3, e4, e5) refl in
+                  absurd (true≢false (sym (sym (ap (λ x. option_map_or (λ m. is_listed m words) x false) none) ∙ l)))
+            ]
           ]
         ]
       ]
@@ -332,7 +365,7 @@ walks (name ∷ value ∷ words) left rows pending k ok l =
     by_name name value left words rows pending k ok (both (is_value value) (fits name value) parts.0).0 (walks words) parts.1
 
 from_nothing : (words : List Text) → is_listed all words ≡ true → Walks [] None words
-from_nothing words l = walks words all [] None (record { stack = refl; heap = refl; turns = refl; dir = refl }) refl l
+from_nothing words l = walks words all [] None (record { stack = refl; heap = refl; turns = refl; dir = refl; make = refl }) refl l
 
 -- ---- what `clap` says
 
@@ -347,7 +380,7 @@ abbrev rule : Text → Rule
 rule id = with_index 1 (filled (option_rule id))
 
 no_defaults : (rows : List Row) → fold with_default rows rules ≡ rows
-no_defaults rows = kept _ (rule (codes "dir")) refl ∙ kept _ (rule (codes "turns")) refl
+no_defaults rows = kept _ (rule (codes "make")) refl ∙ kept _ (rule (codes "dir")) refl ∙ kept _ (rule (codes "turns")) refl
     ∙ kept _ (rule (codes "heap")) refl ∙ kept rows (rule (codes "stack")) refl
 
 -- The values that `clap` finds are those behind the options.

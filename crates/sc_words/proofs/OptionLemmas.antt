@@ -1,9 +1,9 @@
 -- Words two at a time, and what they ask for.
-use Rattle.std.proofs.Common.{◌≡◌, ◌&&◌, ◌⊎◌, inl, inr, ℕ, Bool, true, false, if◌then◌else◌, List, [], ◌∷◌, Option, Some, None, is_some, map, codes, refl, sym, ap, ap₂, subst, ◌∙◌, true≢false}
+use Rattle.std.proofs.Common.{◌≡◌, ◌&&◌, ◌⊎◌, inl, inr, ℕ, Bool, true, false, if◌then◌else◌, List, [], ◌∷◌, Option, Some, None, is_some, option_map, map, codes, refl, sym, ap, ap₂, subst, ◌∙◌, true≢false}
 use Rattle.std.specs.Option.{option_map_or}
 use Rattle.std.specs.Str.{bytes_eq}
 use Rattle.std.proofs.lemmas.Slice.Eq.{bytes_eq-Decides}
-use Rattle.sc_words.specs.Options.{fits, is_listed, is_value, number_or, options_by, options_in, options_of, stack_range, heap_range, turns_range, taken, value_of, all}
+use Rattle.sc_words.specs.Options.{fits, is_listed, is_value, number_or, modules_or, make_range, number_in, options_by, options_in, options_of, stack_range, heap_range, turns_range, taken, value_of, all}
 use Rattle.sc_words.specs.declared.listed.Left.{Left}
 
 both : (a b : Bool) → (a && b) ≡ true → (a ≡ true) × (b ≡ true)
@@ -53,28 +53,39 @@ value_fits name (word ∷ value ∷ words) left l =
     let rest = fewer_listed words (taken left word) parts.1 in
     fits_here name word value (value_of name words) (both (is_value value) (fits word value) parts.0).1 (value_fits name words rest.0 rest.1)
 
-stack_some : (o : Option (List ℕ)) → Fits (codes "--stack") o → is_some (number_or stack_range o) ≡ true
+stack_some : (o : Option (List ℕ)) → Fits (codes "--stack") o → is_some (number_or 1048576 stack_range o) ≡ true
 stack_some None f = refl
 stack_some (Some value) f = f
 
-heap_some : (o : Option (List ℕ)) → Fits (codes "--heap") o → is_some (number_or heap_range o) ≡ true
+heap_some : (o : Option (List ℕ)) → Fits (codes "--heap") o → is_some (number_or 4194304 heap_range o) ≡ true
 heap_some None f = refl
 heap_some (Some value) f = f
 
-turns_some : (o : Option (List ℕ)) → Fits (codes "--turns") o → is_some (number_or turns_range o) ≡ true
+turns_some : (o : Option (List ℕ)) → Fits (codes "--turns") o → is_some (number_or 50000000 turns_range o) ≡ true
 turns_some None f = refl
 turns_some (Some value) f = f
 
-all_some : (a b c : Option ℕ) (dir : List ℕ) → is_some a ≡ true → is_some b ≡ true → is_some c ≡ true → is_some (options_by a b c dir) ≡ true
-all_some (Some a) (Some b) (Some c) dir p q r = refl
-all_some (Some a) (Some b) None dir p q r = absurd (true≢false (sym r))
-all_some (Some a) None c dir p q r = absurd (true≢false (sym q))
-all_some None b c dir p q r = absurd (true≢false (sym p))
+within_some : (o : Option ℕ) → is_some o ≡ true → is_some (option_map Some o) ≡ true
+within_some None e = absurd (true≢false (sym e))
+within_some (Some n) e = refl
+
+make_some : (o : Option (List ℕ)) → Fits (codes "--make") o → is_some (modules_or o) ≡ true
+make_some None f = refl
+make_some (Some value) f = within_some (number_in make_range value) f
+
+all_some : (a b c : Option ℕ) (d : Option (Option ℕ)) (dir : List ℕ) → is_some a ≡ true → is_some b ≡ true → is_some c ≡ true → is_some d ≡ true
+    → is_some (options_by a b c d dir) ≡ true
+all_some (Some a) (Some b) (Some c) (Some d) dir p q r s = refl
+all_some (Some a) (Some b) (Some c) None dir p q r s = absurd (true≢false (sym s))
+all_some (Some a) (Some b) None d dir p q r s = absurd (true≢false (sym r))
+all_some (Some a) None c d dir p q r s = absurd (true≢false (sym q))
+all_some None b c d dir p q r s = absurd (true≢false (sym p))
 
 -- words of the language ask for something
 pub listed_some : (words : List (List ℕ)) → is_listed all words ≡ true → options_of words ≡ None → ⊥
 listed_some words l none =
-    let some : is_some (options_in words) ≡ true = all_some _ _ _ _ (stack_some _ (value_fits (codes "--stack") words all l))
-    (heap_some _ (value_fits (codes "--heap") words all l)) (turns_some _ (value_fits (codes "--turns") words all l)) in
+    let some : is_some (options_in words) ≡ true = all_some _ _ _ _ _ (stack_some _ (value_fits (codes "--stack") words all l))
+    (heap_some _ (value_fits (codes "--heap") words all l)) (turns_some _ (value_fits (codes "--turns") words all l))
+    (make_some _ (value_fits (codes "--make") words all l)) in
     let same : options_in words ≡ None = sym (ap (λ b. if b then options_in words else None) l) ∙ none in
     true≢false (sym some ∙ ap is_some same)

@@ -1,6 +1,6 @@
 -- Yardstick: to be compared with what it restates (docs/TRUST.md).
 -- The language of the words behind the program's name, and what they ask for.
-use Rattle.std.specs.Prelude.{ℕ, ◌%◌, Bool, true, false, not, ◌&&◌, List, [], ◌∷◌, if◌then◌else◌, ◌==◌, nat_le, codes, Option, Some, None, is_some}
+use Rattle.std.specs.Prelude.{ℕ, ◌%◌, Bool, true, false, not, ◌&&◌, List, [], ◌∷◌, if◌then◌else◌, ◌==◌, nat_le, codes, Option, Some, None, is_some, option_map}
 use Rattle.std.specs.Option.{option_map_or}
 use Rattle.std.specs.Str.{bytes_eq}
 use Rattle.sc_words.specs.Parts.{is_numeral, number_of}
@@ -10,7 +10,7 @@ use Rattle.sc_words.specs.declared.listed.Left.{Left}
 
 -- the options that may still be given
 abbrev pub all : Left
-all = record { stack = true; heap = true; turns = true; dir = true }
+all = record { stack = true; heap = true; turns = true; dir = true; make = true }
 
 -- those that may be given after this one, where it may be given
 abbrev pub taken : Left → List ℕ → Option Left
@@ -18,7 +18,8 @@ taken left name =
     if bytes_eq name (codes "--stack") then (if left.stack then Some (record left { stack = false }) else None)
     else (if bytes_eq name (codes "--heap") then (if left.heap then Some (record left { heap = false }) else None)
     else (if bytes_eq name (codes "--turns") then (if left.turns then Some (record left { turns = false }) else None)
-    else (if bytes_eq name (codes "--dir") then (if left.dir then Some (record left { dir = false }) else None) else None)))
+    else (if bytes_eq name (codes "--dir") then (if left.dir then Some (record left { dir = false }) else None)
+    else (if bytes_eq name (codes "--make") then (if left.make then Some (record left { make = false }) else None) else None))))
 
 -- a value does not begin with `-`
 abbrev pub is_value : List ℕ → Bool
@@ -33,15 +34,18 @@ number_in range value =
     then Some (number_of value) else None
 
 -- The stack has 4,096 to 16,777,216 bytes and the heap up to 67,108,864, each a multiple of 16; a go has 1 to
--- 1,000,000,000 turns.
+-- 1,000,000,000 turns. 1 to 64 modules are made.
 abbrev pub stack_range : Range
-stack_range = record { default = 1048576; low = 4096; high = 16777216; unit = 16 }
+stack_range = record { low = 4096; high = 16777216; unit = 16 }
 
 abbrev pub heap_range : Range
-heap_range = record { default = 4194304; low = 0; high = 67108864; unit = 16 }
+heap_range = record { low = 0; high = 67108864; unit = 16 }
 
 abbrev pub turns_range : Range
-turns_range = record { default = 50000000; low = 1; high = 1000000000; unit = 1 }
+turns_range = record { low = 1; high = 1000000000; unit = 1 }
+
+abbrev pub make_range : Range
+make_range = record { low = 1; high = 64; unit = 1 }
 
 -- a folder is not empty
 abbrev pub is_folder : List ℕ → Bool
@@ -54,7 +58,8 @@ fits name value =
     if bytes_eq name (codes "--stack") then is_some (number_in stack_range value)
     else (if bytes_eq name (codes "--heap") then is_some (number_in heap_range value)
     else (if bytes_eq name (codes "--turns") then is_some (number_in turns_range value)
-    else is_folder value))
+    else (if bytes_eq name (codes "--make") then is_some (number_in make_range value)
+    else is_folder value)))
 
 -- options, each behind it a value that fits it, in any order, each at most once
 abbrev pub is_listed : Left → List (List ℕ) → Bool
@@ -71,28 +76,34 @@ value_of name [] = None
 value_of name (word ∷ []) = None
 value_of name (word ∷ value ∷ words) = if bytes_eq word name then Some value else value_of name words
 
-abbrev pub number_or : Range → Option (List ℕ) → Option ℕ
-number_or range None = Some range.default
-number_or range (Some value) = number_in range value
+-- the number that is meant where nothing is said, or the one that the value says
+abbrev pub number_or : ℕ → Range → Option (List ℕ) → Option ℕ
+number_or default range None = Some default
+number_or default range (Some value) = number_in range value
+
+-- no modules are made where nothing is said
+abbrev pub modules_or : Option (List ℕ) → Option (Option ℕ)
+modules_or None = Some None
+modules_or (Some value) = option_map Some (number_in make_range value)
 
 -- the present folder is `.`
 abbrev pub folder_or : Option (List ℕ) → List ℕ
 folder_or None = codes "."
 folder_or (Some folder) = folder
 
-abbrev pub options_by : Option ℕ → Option ℕ → Option ℕ → List ℕ → Option Options
-options_by (Some stack) (Some heap) (Some turns) dir =
-    Some (record { stack = stack; heap = heap; turns = turns; dir = dir })
-options_by _ _ _ dir = None
+abbrev pub options_by : Option ℕ → Option ℕ → Option ℕ → Option (Option ℕ) → List ℕ → Option Options
+options_by (Some stack) (Some heap) (Some turns) (Some make) dir =
+    Some (record { stack = stack; heap = heap; turns = turns; dir = dir; make = make })
+options_by _ _ _ _ dir = None
 
--- by the values of the four options
-abbrev pub options_from : Option (List ℕ) → Option (List ℕ) → Option (List ℕ) → Option (List ℕ) → Option Options
-options_from stack heap turns dir =
-    options_by (number_or stack_range stack) (number_or heap_range heap) (number_or turns_range turns) (folder_or dir)
+-- by the values of the five options
+abbrev pub options_from : Option (List ℕ) → Option (List ℕ) → Option (List ℕ) → Option (List ℕ) → Option (List ℕ) → Option Options
+options_from stack heap turns dir make = options_by (number_or 1048576 stack_range stack)
+    (number_or 4194304 heap_range heap) (number_or 50000000 turns_range turns) (modules_or make) (folder_or dir)
 
 abbrev pub options_in : List (List ℕ) → Option Options
 options_in words = options_from (value_of (codes "--stack") words) (value_of (codes "--heap") words)
-    (value_of (codes "--turns") words) (value_of (codes "--dir") words)
+    (value_of (codes "--turns") words) (value_of (codes "--dir") words) (value_of (codes "--make") words)
 
 -- what the words ask for, where they are in the language
 abbrev pub options_of : List (List ℕ) → Option Options

@@ -49,10 +49,20 @@ fn command<'a>(alloc: Global) -> Result<Command<'a>, AllocError>
     let heap = option_named(alloc, "heap", "bytes of the heap [default: 4194304]");
     let turns = option_named(alloc, "turns", "turns of each go [default: 50000000]");
     let dir = option_named(alloc, "dir", "the folder of the files [default: .]");
+    let make = option_named(
+        alloc,
+        "make",
+        "runs so many made modules, 1 to 64, and tells their sizes",
+    );
     let command = Command::new(alloc, "saber")
         .no_binary_name(true)
         .disable_help_flag(true);
-    command.arg(stack)?.arg(heap)?.arg(turns)?.arg(dir)
+    command
+        .arg(stack)?
+        .arg(heap)?
+        .arg(turns)?
+        .arg(dir)?
+        .arg(make)
 }
 
 /// What the options mean, and the commands, for `--help`.
@@ -78,6 +88,7 @@ pub fn matches_of<'a>(alloc: Global, words: &'a [String]) -> Result<ArgMatches<'
     ensures heap { IfOk result (λ matches. first_value (found_of matches) (codes "heap") ≡ value_of (codes "--heap") (map string_bytes words.entry.now)) }
     ensures turns { IfOk result (λ matches. first_value (found_of matches) (codes "turns") ≡ value_of (codes "--turns") (map string_bytes words.entry.now)) }
     ensures dir { IfOk result (λ matches. first_value (found_of matches) (codes "dir") ≡ value_of (codes "--dir") (map string_bytes words.entry.now)) }
+    ensures make { IfOk result (λ matches. first_value (found_of matches) (codes "make") ≡ value_of (codes "--make") (map string_bytes words.entry.now)) }
     ensures memory { IfErr result (λ e. kind_of e ≡ ErrorKind.OutOfMemory) }
 {
     parsed(alloc, words)

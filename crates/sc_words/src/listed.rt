@@ -2,7 +2,7 @@
 ghost use Rattle.std.specs.Prelude.{◌≡◌, map, string_bytes};
 ghost use Rattle.sc_words.specs.Options.{is_listed, is_value, fits, taken, all};
 
-use crate::range::{heap_in, stack_in, turns_in};
+use crate::range::{heap_in, make_in, stack_in, turns_in};
 
 // Which options may still be given.
 #[derive(Clone, Copy)]
@@ -11,6 +11,7 @@ pub struct Left {
     heap: bool,
     turns: bool,
     dir: bool,
+    make: bool,
 }
 
 // Those that may be given after this one, where it may be given.
@@ -54,6 +55,16 @@ fn taken(left: Left, name: &[u8]) -> Option<Left>
             None
         };
     }
+    if name == b"--make".as_slice() {
+        return if left.make {
+            Some(Left {
+                make: false,
+                ..left
+            })
+        } else {
+            None
+        };
+    }
     None
 }
 
@@ -79,6 +90,9 @@ fn fits(name: &[u8], value: &[u8]) -> bool
     if name == b"--turns".as_slice() {
         return turns_in(value).is_some();
     }
+    if name == b"--make".as_slice() {
+        return make_in(value).is_some();
+    }
     !value.is_empty()
 }
 
@@ -92,6 +106,7 @@ pub fn are_listed(words: &[String]) -> bool
         heap: true,
         turns: true,
         dir: true,
+        make: true,
     };
     let mut rest = words;
     'pairs: while let Some((name, behind)) = rest.split_first() {

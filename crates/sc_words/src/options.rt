@@ -1,14 +1,15 @@
 // What the words behind the program's name ask for.
 ghost use Rattle.std.specs.Prelude.{◌≡◌, ◌↔◌, None, Some, IfOk, IsErrOf, map, option_map, string_bytes};
-ghost use Rattle.sc_words.specs.Options.{options_of, options_from, number_or, folder_or, stack_range, heap_range, turns_range};
+ghost use Rattle.sc_words.specs.Options.{options_of, options_from, number_or, modules_or, folder_or, stack_range, heap_range, turns_range};
 
 use crate::command_line::matches_of;
 use crate::listed::are_listed;
-use crate::range::{heap_in, stack_in, turns_in};
+use crate::range::{heap_in, make_in, stack_in, turns_in};
 use sc_base::Bytes;
 use std::alloc::Global;
 
-/// What the workspace was asked for: the bytes of the stack and of the heap, the turns of each go, and the folder.
+/// What the workspace was asked for: the bytes of the stack and of the heap, the turns of each go, the folder, and how many
+/// modules it is to make and run in place of reading commands.
 #[derive(Debug, Drop, PartialEq, Eq)]
 pub struct Options {
     /// 4,096 to 16,777,216 bytes, a multiple of 16; 1,048,576 where nothing is said.
@@ -19,6 +20,8 @@ pub struct Options {
     pub turns: u64,
     /// Not empty; `.` where nothing is said.
     pub dir: Bytes,
+    /// 1 to 64 modules; none where nothing is said.
+    pub make: Option<u32>,
 }
 
 /// Why words ask for nothing.
@@ -30,7 +33,7 @@ pub enum WordsFault {
 }
 
 fn stack_or(value: Option<&str>) -> Option<u32>
-    ensures { result ≡ number_or stack_range (option_map (λ text. text.now) value.entry) }
+    ensures { result ≡ number_or 1048576 stack_range (option_map (λ text. text.now) value.entry) }
 {
     match value {
         Some(value) => stack_in(value.as_bytes()),
@@ -39,7 +42,7 @@ fn stack_or(value: Option<&str>) -> Option<u32>
 }
 
 fn heap_or(value: Option<&str>) -> Option<u32>
-    ensures { result ≡ number_or heap_range (option_map (λ text. text.now) value.entry) }
+    ensures { result ≡ number_or 4194304 heap_range (option_map (λ text. text.now) value.entry) }
 {
     match value {
         Some(value) => heap_in(value.as_bytes()),
@@ -48,11 +51,23 @@ fn heap_or(value: Option<&str>) -> Option<u32>
 }
 
 fn turns_or(value: Option<&str>) -> Option<u64>
-    ensures { result ≡ number_or turns_range (option_map (λ text. text.now) value.entry) }
+    ensures { result ≡ number_or 50000000 turns_range (option_map (λ text. text.now) value.entry) }
 {
     match value {
         Some(value) => turns_in(value.as_bytes()),
         None => Some(50000000),
+    }
+}
+
+fn modules_or(value: Option<&str>) -> Option<Option<u32>>
+    ensures { result ≡ modules_or (option_map (λ text. text.now) value.entry) }
+{
+    match value {
+        Some(value) => match make_in(value.as_bytes()) {
+            Some(count) => Some(Some(count)),
+            None => None,
+        },
+        None => Some(None),
     }
 }
 
@@ -65,18 +80,21 @@ fn folder_or<'a>(value: Option<&'a str>) -> &'a [u8]
     }
 }
 
-// What the values of the four options ask for.
+// What the values of the five options ask for.
 fn options_from(
     alloc: Global,
     stack: Option<&str>,
     heap: Option<&str>,
     turns: Option<&str>,
     dir: Option<&str>,
+    make: Option<&str>,
 ) -> Result<Options, WordsFault>
     ensures ok { IfOk result (λ options. options_from (option_map (λ text. text.now) stack.entry) (option_map (λ text. text.now) heap.entry)
-        (option_map (λ text. text.now) turns.entry) (option_map (λ text. text.now) dir.entry) ≡ Some options) }
+        (option_map (λ text. text.now) turns.entry) (option_map (λ text. text.now) dir.entry)
+        (option_map (λ text. text.now) make.entry) ≡ Some options) }
     ensures bad { IsErrOf result WordsFault.Bad ↔ (options_from (option_map (λ text. text.now) stack.entry) (option_map (λ text. text.now) heap.entry)
-        (option_map (λ text. text.now) turns.entry) (option_map (λ text. text.now) dir.entry) ≡ None) }
+        (option_map (λ text. text.now) turns.entry) (option_map (λ text. text.now) dir.entry)
+        (option_map (λ text. text.now) make.entry) ≡ None) }
 {
     let Some(stack) = stack_or(stack) else {
         return Err(WordsFault::Bad);
@@ -87,20 +105,24 @@ fn options_from(
     let Some(turns) = turns_or(turns) else {
         return Err(WordsFault::Bad);
     };
+    let Some(make) = modules_or(make) else {
+        return Err(WordsFault::Bad);
+    };
     match Bytes::from_slice(alloc, folder_or(dir)) {
         Ok(dir) => Ok(Options {
             stack,
             heap,
             turns,
             dir,
+            make,
         }),
         Err(_) => Err(WordsFault::NoMemory),
     }
 }
 
 /// What the words behind the program's name ask for. They are options with their values, in any order, each at most
-/// once: `--stack N` and `--heap N` (bytes, multiples of 16), `--turns N` and `--dir D`. A value does not begin with
-/// `-`, and a number has 1 to 10 decimal digits.
+/// once: `--stack N` and `--heap N` (bytes, multiples of 16), `--turns N`, `--dir D` and `--make N` (modules). A value
+/// does not begin with `-`, and a number has 1 to 10 decimal digits.
 pub fn read_words(alloc: Global, words: &[String]) -> Result<Options, WordsFault>
     ensures ok { IfOk result (λ options. options_of (map string_bytes words.now) ≡ Some options) }
     ensures bad { IsErrOf result WordsFault.Bad ↔ (options_of (map string_bytes words.now) ≡ None) }
@@ -115,6 +137,7 @@ pub fn read_words(alloc: Global, words: &[String]) -> Result<Options, WordsFault
             matches.get_str("heap"),
             matches.get_str("turns"),
             matches.get_str("dir"),
+            matches.get_str("make"),
         ),
         Err(_) => Err(WordsFault::NoMemory),
     }

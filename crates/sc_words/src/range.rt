@@ -1,13 +1,12 @@
 // The numbers that options take.
 ghost use Rattle.std.specs.Prelude.{◌≡◌, ◌≤◌, ◌<◌, IfSome};
-ghost use Rattle.sc_words.specs.Options.{number_in, stack_range, heap_range, turns_range};
+ghost use Rattle.sc_words.specs.Options.{number_in, stack_range, heap_range, turns_range, make_range};
 
 use crate::part::{is_numeral, number_of};
 
-// The numbers from one to another that are multiples of a third, and the one that is meant where nothing is said.
+// The numbers from one to another that are multiples of a third.
 #[derive(Clone, Copy)]
 pub struct Range {
-    pub default: u64,
     pub low: u64,
     pub high: u64,
     pub unit: u64,
@@ -34,7 +33,6 @@ pub fn stack_in(value: &[u8]) -> Option<u32>
     ensures { result ≡ number_in stack_range value.now }
 {
     let range = Range {
-        default: 1048576,
         low: 4096,
         high: 16777216,
         unit: 16,
@@ -50,7 +48,6 @@ pub fn heap_in(value: &[u8]) -> Option<u32>
     ensures { result ≡ number_in heap_range value.now }
 {
     let range = Range {
-        default: 4194304,
         low: 0,
         high: 67108864,
         unit: 16,
@@ -66,10 +63,24 @@ pub fn turns_in(value: &[u8]) -> Option<u64>
     ensures { result ≡ number_in turns_range value.now }
 {
     let range = Range {
-        default: 50000000,
         low: 1,
         high: 1000000000,
         unit: 1,
     };
     number_in(range, value)
+}
+
+/// The modules that are made.
+pub fn make_in(value: &[u8]) -> Option<u32>
+    ensures { result ≡ number_in make_range value.now }
+{
+    let range = Range {
+        low: 1,
+        high: 64,
+        unit: 1,
+    };
+    match number_in(range, value) {
+        Some(number) => Some(number as u32),
+        None => None,
+    }
 }

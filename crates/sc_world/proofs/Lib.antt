@@ -1,3 +1,4 @@
+pub mod Changing
 pub mod Courses
 pub mod Exits
 pub mod Kept

@@ -1,5 +1,6 @@
 -- Inside: plumbing, a representation, an invariant or a promise beside the claim (docs/TRUST.md).
 pub mod Standing
+pub mod Changing
 pub mod Declaring
 pub mod Wants
 pub mod Costs

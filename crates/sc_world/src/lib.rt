@@ -2,6 +2,7 @@
 #![tactic(auto)]
 
 mod begin;
+mod change;
 mod cost;
 mod count;
 mod course;
@@ -15,8 +16,10 @@ mod run;
 mod turn;
 
 pub use cost::{Before, noted, touched_last, touched_on};
+pub use count::Count;
+pub use course::Course;
 pub use halt::{Halt, Halted};
 pub use look::{Want, halt_if, wanted};
 pub use marks::Marks;
 pub use post::{MANY, Unsent, behind};
-pub use run::Run;
+pub use run::{Parts, Run};

@@ -4,6 +4,7 @@ ghost use Rattle.sc_meaning.specs.Behaviour as behaviour;
 ghost use Rattle.sc_meaning.specs.World as worlds;
 ghost use Rattle.sc_interp.specs.Ends.{end_of, start_of};
 ghost use Rattle.sc_interp_world.specs.Outputs.{output};
+ghost use Rattle.sc_world.specs.Changing.{changed_run};
 ghost use Rattle.sc_world.specs.Declaring.{declaring_at};
 ghost use Rattle.sc_world.specs.Goes.{Goes, started, want_of};
 ghost use Rattle.sc_world.specs.Meant.{IsRunOf};
@@ -15,6 +16,7 @@ ghost use Rattle.sc_world.specs.declared.post.Unsent.TheVariants as unsent;
 ghost use Rattle.sc_outside.specs.Causes.{Rose};
 
 use crate::begin::{begun, course_of};
+use crate::change::changed;
 use crate::count::Count;
 use crate::course::Course;
 use crate::declaring::declaring_of;
@@ -27,7 +29,7 @@ use sc_base::{Items, NoMemory, Stack};
 use sc_core_held::Text;
 use sc_interp::Caller;
 use sc_interp_access::Ended;
-use sc_interp_world::{Frame, World};
+use sc_interp_world::{Frame, Layout, World};
 use sc_outside::Sink;
 use sc_words::{StopAt, Walk};
 use std::alloc::Global;
@@ -42,6 +44,15 @@ pub struct Run {
     callers: Stack<Caller>,
     world: World,
     count: Count,
+}
+
+/// What a run is made of.
+#[derive(Drop)]
+pub struct Parts {
+    pub course: Course,
+    pub callers: Stack<Caller>,
+    pub world: World,
+    pub count: Count,
 }
 
 impl Model for Run {
@@ -143,6 +154,53 @@ impl Run {
                 })
             }
             Err(unsent) => Err(unsent),
+        }
+    }
+
+    /// The texts of the run become others, while it stands between two goes. Of the static objects those that are not kept die, and new
+    /// ones are born. The run goes on from the same place, or is over as one object too many would be born. Active calls go on in the
+    /// functions that they entered. A run that is over stays as it is.
+    ///
+    /// # Errors
+    ///
+    /// `NoMemory` alone. The run is over then, and nothing is known of it.
+    pub fn change(&mut self, old: &[Text], new: &[Text]) -> Result<(), NoMemory>
+        ensures changes { IfOk result (λ _. self.new ≡ changed_run old.now new.now self.old) }
+        ensures lost { OnErr result (self.new ≡ None) }
+    {
+        let course = mem::replace(&mut self.course, Course::Over(Ended::NoRoom));
+        let next = changed(course, old, new, &mut self.world)?;
+        drop(mem::replace(&mut self.course, next));
+        Ok(())
+    }
+
+    /// The objects of the run get addresses: each live one stands at the address that is given by its place in the list, one of the
+    /// heap in a block of its own. Nothing else changes.
+    ///
+    /// # Errors
+    ///
+    /// `NoMemory` also where they have addresses already, and where an object cannot stand at its address. Nothing is changed then.
+    pub fn remember(&mut self, layout: Layout, bases: &[u32]) -> Result<(), NoMemory>
+        ensures { self.new ≡ self.old }
+    {
+        self.world.remember(layout, bases)
+    }
+
+    /// The parts of the run.
+    pub fn apart(self) -> Parts
+        ensures { standing.standing result.course result.callers result.world result.count ≡ self }
+    {
+        let Run {
+            course,
+            callers,
+            world,
+            count,
+        } = self;
+        Parts {
+            course,
+            callers,
+            world,
+            count,
         }
     }
 

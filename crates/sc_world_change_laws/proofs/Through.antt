@@ -39,7 +39,7 @@ use Rattle.sc_words.specs.declared.stop.StopAt.{StopAt}
 use Rattle.sc_words.specs.declared.stop.Walk.{Walk}
 use Rattle.sc_world.specs.declared.halt.Halt.{Halt}
 use Rattle.sc_world.specs.declared.halt.Halt.TheVariants.{Entered, AtLine, Ended, Paused}
-use Rattle.sc_world_change_laws.specs.Changing.{in_world, changed_to, changed_standing}
+use Rattle.sc_world.specs.Changing.{in_world, changed_to, changed_standing}
 use Rattle.sc_world.specs.Standing as standings
 use Rattle.sc_world.specs.Standing.{Standing}
 use Rattle.sc_world.specs.Wants.{Want, wanted, else_over, halt_or, else_paused, rests, taken}

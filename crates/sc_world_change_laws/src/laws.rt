@@ -13,7 +13,7 @@ ghost use Rattle.sc_interp.specs.Steady.{alone};
 ghost use Rattle.sc_words.specs.declared.stop.StopAt.{StopAt};
 ghost use Rattle.sc_words.specs.declared.stop.Walk.{Walk};
 ghost use Rattle.sc_world.specs.declared.halt.Halt.{Halt};
-ghost use Rattle.sc_world_change_laws.specs.Changing.{changed_standing};
+ghost use Rattle.sc_world.specs.Changing.{changed_standing};
 ghost use Rattle.sc_world.specs.Goes.{Goes, started};
 ghost use Rattle.sc_world.specs.Standing.{Standing};
 ghost use Rattle.sc_world_change_laws.specs.Through.{HaltsBehind, IsBehind, IsRunThrough};

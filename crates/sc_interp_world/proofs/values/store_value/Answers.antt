@@ -1,5 +1,5 @@
 -- One byte more stands there.
-use Rattle.std.proofs.Common.{rules, arith}
+use Rattle.std.proofs.Common.{rules}
 use Rattle.sc_interp_world.proofs.Storing.{store_step}
 use Rattle.sc_interp_world.proofs.values.store_value.Goals as goal
 

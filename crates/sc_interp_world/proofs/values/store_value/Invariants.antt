@@ -1,5 +1,5 @@
 -- The first bytes of the value stand there.
-use Rattle.std.proofs.Common.{◌≡◌, ◌+◌, ◌≤◌, length}
+use Rattle.std.proofs.Common.{◌≡◌, length}
 use Rattle.sc_meaning.specs.Values.{cells_of}
 use Rattle.sc_meaning.specs.World.{overwritten}
 use Rattle.sc_interp_world.proofs.values.store_value.Given as goal

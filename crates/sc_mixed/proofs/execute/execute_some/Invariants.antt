@@ -1,5 +1,5 @@
-use Rattle.sc_services.specs.Writing.{Writes}
+use Rattle.sc_mixed.specs.Instructions.{Ran}
 use Rattle.sc_mixed.proofs.execute.execute_some.Given as goal
 
-abbrev pub invariant-loop : goal.invariant-loop
-invariant-loop l = Writes l.fn.world l.world
+abbrev pub invariant-loop-k : goal.invariant-loop-k
+invariant-loop-k l = Ran l.image l.k l.fn.regs l.fn.world l.regs l.world

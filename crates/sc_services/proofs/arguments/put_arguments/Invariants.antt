@@ -1,5 +1,12 @@
+use Rattle.std.proofs.Common.{◌≡◌, ◌≤◌, drop}
+use Rattle.sc_emu.specs.Registers.{Registers}
+use Rattle.sc_services.specs.Arguments.{PutsArguments}
 use Rattle.sc_services.specs.Writing.{Writes}
 use Rattle.sc_services.proofs.arguments.put_arguments.Given as goal
 
-abbrev pub invariant-loop-v : goal.invariant-loop-v
-invariant-loop-v l = Writes l.fn.world l.world
+abbrev pub invariant-loop-i : goal.invariant-loop-i
+invariant-loop-i l = record {
+  puts : (s : Registers) → PutsArguments l.i (drop l.i l.vs) l.regs s → PutsArguments 0 l.vs l.fn.regs s;
+  writes : Writes l.fn.world l.world;
+  few : l.i ≤ 8 → l.world ≡ l.fn.world;
+}

@@ -9,4 +9,5 @@ returns c =
     let one = with_option _ _ _ _ (codes "stack") c.in_ok-arg.ensures bare c.option_named-stack.ensures.rule c.option_named-stack.ensures.global in
     let two = with_option _ _ _ _ (codes "heap") c.in_ok-arg-2.ensures one c.option_named-heap.ensures.rule c.option_named-heap.ensures.global in
     let three = with_option _ _ _ _ (codes "turns") c.in_ok-arg-3.ensures two c.option_named-turns.ensures.rule c.option_named-turns.ensures.global in
-    IfOk-weaker c.arg-4.result _ _ (λ r adds. with_option _ r _ _ (codes "dir") adds three c.option_named-dir.ensures.rule c.option_named-dir.ensures.global) c.arg-4.ensures
+    let four = with_option _ _ _ _ (codes "dir") c.in_ok-arg-4.ensures three c.option_named-dir.ensures.rule c.option_named-dir.ensures.global in
+    IfOk-weaker c.arg-5.result _ _ (λ r adds. with_option _ r _ _ (codes "make") adds four c.option_named-make.ensures.rule c.option_named-make.ensures.global) c.arg-5.ensures

@@ -8,5 +8,6 @@ returns c = record {
   heap = found_value c.parsed.result (map string_bytes c.args.words.now) (codes "heap") c.requires c.parsed.ensures.rows;
   turns = found_value c.parsed.result (map string_bytes c.args.words.now) (codes "turns") c.requires c.parsed.ensures.rows;
   dir = found_value c.parsed.result (map string_bytes c.args.words.now) (codes "dir") c.requires c.parsed.ensures.rows;
+  make = found_value c.parsed.result (map string_bytes c.args.words.now) (codes "make") c.requires c.parsed.ensures.rows;
   memory = c.parsed.ensures.passes (takes_listed (map string_bytes c.args.words.now) c.requires);
 }

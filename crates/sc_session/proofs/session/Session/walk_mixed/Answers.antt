@@ -1,7 +1,7 @@
-use Rattle.std.proofs.Common.{ap, inl, refl, subst, ◌∙◌}
-use Rattle.sc_session.specs.Mixing.{MixedIn, is_mixed}
-use Rattle.sc_session.specs.declared.state.State.TheVariants as state
-use Rattle.sc_session.proofs.MixingLemmas.{goes_walks, put_so}
+use Rattle.std.proofs.Common.{ap, inl, refl, ◌∙◌}
+use Rattle.sc_session.specs.Modules.{texts}
+use Rattle.sc_session.specs.Stopping.{places}
+use Rattle.sc_session.proofs.MixingLemmas.{goes_walks, over_there}
 use Rattle.sc_session.proofs.session.Session.walk_mixed.Goals as goal
 
 pub returns-in_default : goal.returns-in_default
@@ -10,12 +10,13 @@ returns-in_default c = inl refl
 pub returns-in_default-places : goal.returns-in_default-places
 returns-in_default-places c = inl refl
 
-pub returns : goal.returns
-returns c =
-    goes_walks c.args.self.now _ c.mixed_out_of-run.result c.go_mixed.result c.go_mixed.new.self
-    (put_so _ c.args.self.now c.replace.new.dest state.Ended c.self.view_is c.replace.ensures.after)
-    (subst (λ s. MixedIn s c.mixed_out_of-run.result) (c.replace.ensures.value ∙ ap (λ p. p.state) c.self.view_is) c.mixed_out_of-run.ensures)
+pub returns-in-Some : goal.returns-in-Some
+returns-in-Some c =
+    goes_walks c.args.self.now c.take_mixed.new.self c.as_slice-in-Some.result.now c.as_slice-in-Some-2.result.now c.args.walk c.in-Some.run' c.go_mixed.result c.go_mixed.new.self
+    c.in-Some.ensures
+    (c.as_slice-in-Some.ensures ∙ c.in-Ok.ensures ∙ ap texts (c.as_slice.ensures.value ∙ ap (λ p. p.modules) c.self.view_is))
+    (c.as_slice-in-Some-2.ensures ∙ c.in-Ok-places.ensures ∙ ap places (c.as_slice-2.ensures.value ∙ ap (λ p. p.stops) c.self.view_is))
     c.go_mixed.ensures
 
-pub mixed_out_of-run-requires : goal.mixed_out_of-run-requires
-mixed_out_of-run-requires c = ap is_mixed (c.replace.ensures.value ∙ ap (λ p. p.state) c.self.view_is) ∙ c.requires
+pub go_mixed-requires : goal.go_mixed-requires
+go_mixed-requires c = over_there c.args.self.now c.take_mixed.new.self c.in-Some.run' c.in-Some.ensures

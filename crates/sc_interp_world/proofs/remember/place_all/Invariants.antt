@@ -1,0 +1,9 @@
+use Rattle.std.proofs.Common.{◌≡◌, ◌++◌, length, map}
+use Rattle.sc_interp_world.specs.Blanks.{blank}
+use Rattle.sc_interp_world.proofs.remember.place_all.Given as goal
+
+abbrev pub invariant-placing : goal.invariant-placing
+invariant-placing l = l.memory ++ map blank l.left ≡ l.fn.memory ++ map blank l.objects
+
+abbrev pub decreases-placing : goal.decreases-placing
+decreases-placing l = length l.left

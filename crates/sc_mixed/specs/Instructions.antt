@@ -1,0 +1,68 @@
+-- Yardstick: to be compared with what it restates (docs/TRUST.md).
+-- One instruction over the world of a run: the machine's step up to its access of memory, and the access. The world does not tell at which
+-- addresses objects stand, so which word is loaded is not said; a store writes bytes of live objects, or none.
+use Rattle.std.specs.Prelude.{◌≡◌, ⊤, ℕ, ◌+◌, ◌<◌}
+use Rattle.sc_base.specs.declared.memory.Word.{Word}
+use Rattle.sc_emu.specs.Beginning.{Begins}
+use Rattle.sc_emu.specs.Machine.{rv_step, state_of}
+use Rattle.sc_emu.specs.Operations.{loaded, sum}
+use Rattle.sc_emu.specs.Registers.{Registers, with_word}
+use Rattle.sc_emu.specs.declared.beginning.Need.{Need}
+use Rattle.sc_emu.specs.declared.beginning.Need.TheVariants.{Done, Load, Store}
+use Rattle.sc_emu.specs.declared.outcome.Crash.{Crash}
+use Rattle.sc_emu.specs.declared.outcome.Crash.TheVariants.{Outside}
+use Rattle.sc_emu.specs.declared.outcome.Step.{Step}
+use Rattle.sc_emu.specs.declared.outcome.Step.TheVariants as step
+use Rattle.sc_isa_image.specs.declared.image.Image.{Image}
+use Rattle.sc_isa_image.specs.Lookups.{word_at}
+use Rattle.sc_mem.specs.Flat.{Flat}
+use Rattle.sc_meaning.specs.World.{World}
+use Rattle.sc_services.specs.Writing.{Writes}
+use Rattle.sc_mixed.specs.declared.execute.Went.{Went}
+use Rattle.sc_mixed.specs.declared.execute.Went.TheVariants.{On, Asks, Returned, Stopped, NoRoom}
+
+abbrev pub told : Step → Went
+told step.Went = On
+told (step.Service n) = Asks n
+told step.AtReturn = Returned
+told (step.Stopped crash) = Stopped crash
+told step.NoMemory = NoRoom
+
+-- a register gets what was loaded
+abbrev pub Loads : Went → (Word → Registers) → Registers → Registers → World → World → Type 0
+Loads On with_loaded r s w v = ((x : Word) × (s ≡ with_loaded x)) × (v ≡ w)
+Loads (Stopped crash) with_loaded r s w v = (crash ≡ Outside) × (s ≡ r) × (v ≡ w)
+Loads (Asks n) with_loaded r s w v = ⊥
+Loads Returned with_loaded r s w v = ⊥
+Loads NoRoom with_loaded r s w v = ⊥
+
+-- bytes are stored
+abbrev pub Stores : Went → Registers → Registers → World → World → Type 0
+Stores On r s w v = (s ≡ record { pc = sum r.pc 4; words = r.words }) × Writes w v
+Stores (Stopped crash) r s w v = (crash ≡ Outside) × (s ≡ r) × (v ≡ w)
+Stores NoRoom r s w v = ⊤
+Stores (Asks n) r s w v = ⊥
+Stores Returned r s w v = ⊥
+
+-- what is left of a step behind its beginning
+abbrev pub EndsSo : Need → Registers → World → Went → Registers → World → Type 0
+EndsSo (Done step) r w went s v = (told step ≡ went) × (s ≡ r) × (v ≡ w)
+EndsSo (Load op rd at) r w went s v = Loads went (λ x. record { pc = sum r.pc 4; words = with_word r.words rd (loaded op x) }) r s w v
+EndsSo (Store size at word) r w went s v = Stores went r s w v
+
+-- The instruction at the next address of an image is carried out: its step is the machine's, whatever memory holds.
+pub record Instruction (i : Image) (r : Registers) (w : World) (went : Went) (s : Registers) (v : World) : Type 0 where
+  pub need : Need
+  pub middle : Registers
+  pub begins : (memory : Flat) → Begins (rv_step (word_at i) (state_of r memory)) r memory middle need
+  pub ends : EndsSo need middle w went s v
+
+-- so many instructions, behind each of which another is next
+pub data Ran (i : Image) : ℕ → Registers → World → Registers → World → Type 0 where
+  ran_none : (r : Registers) (w : World) → Ran i 0 r w r w
+  ran_further : (k : ℕ) (r s q : Registers) (w v u : World) → Ran i k r w s v → Instruction i s v On q u → Ran i (k + 1) r w q u
+
+-- so many at most: all of them go on; or one does not, or is the last that is looked at
+pub data RanUpto (i : Image) (most : ℕ) (r : Registers) (w : World) (count : ℕ) (went : Went) (s : Registers) (v : World) : Type 0 where
+  all_went : count ≡ most → went ≡ On → Ran i most r w s v → RanUpto i most r w count went s v
+  one_last : (k : ℕ) (q : Registers) (u : World) → count ≡ k + 1 → k < most → Ran i k r w q u → Instruction i q u went s v → RanUpto i most r w count went s v

@@ -1,0 +1,244 @@
+// A run of both forms goes over to other texts and another image; and a run of interpreted modules alone becomes one of both forms.
+ghost use Rattle.std.specs.Prelude.{◌≡◌, ◌++◌, false, IfErr, IfOk, OnErr};
+ghost use Rattle.sc_interp_access.specs.Gives.{Gives};
+ghost use Rattle.sc_meaning.specs.Changes.{changed};
+ghost use Rattle.sc_mixed.specs.Changing as spec;
+ghost use Rattle.sc_mixed.specs.Standing.{IsLost, ended_by, standing_over};
+ghost use Rattle.sc_mixed.specs.declared.broken.Break.TheVariants as broken;
+
+use crate::bases::bases_of;
+use crate::broken::{Break, end_of};
+use crate::calls::{Calls, Next};
+use crate::course::Course;
+use crate::ended::MixedEnd;
+use crate::layout::{names_of, placed_ids, shared_behind};
+use crate::run::{MixedRun, no_calls};
+use sc_base::{Duplicate, Items, Key, NoMemory, Stack};
+use sc_core_held::Text;
+use sc_interp::Caller;
+use sc_interp_access::{Ended, Stop};
+use sc_interp_changes::{change, is_kept};
+use sc_interp_parts::births_of;
+use sc_interp_world::{Layout, World};
+use sc_isa_image::Image;
+use sc_link::Placed;
+use sc_program::StaticId;
+use sc_world::{Course as Went, Parts, Run};
+use std::alloc::Global;
+use std::mem;
+
+// A key of an object that stays is added.
+fn add_kept(
+    alloc: Global,
+    old: &[Text],
+    new: &[Text],
+    id: &StaticId,
+    kept: &mut Items<Key>,
+) -> Result<(), NoMemory>
+    ensures { IfOk result (λ _. kept.new ≡ kept.old ++ spec.kept_of old.now new.now id.now) }
+{
+    match id {
+        StaticId::Literal(_, _) => Ok(()),
+        StaticId::Named(key) => {
+            if is_kept(alloc, old, new, key)? {
+                kept.push(key.copy(alloc)?)?;
+            }
+            Ok(())
+        }
+    }
+}
+
+/// The keys of the objects of static storage duration that stay as one version follows another.
+pub fn kept_keys(alloc: Global, old: &[Text], new: &[Text]) -> Result<Items<Key>, NoMemory>
+    ensures { IfOk result (λ keys. keys ≡ spec.kept_keys old.now new.now) }
+{
+    let ids = births_of(alloc, old)?;
+    let mut kept = Items::new(alloc);
+    for id in ids.as_slice() {
+        add_kept(alloc, old, new, id, &mut kept)?;
+    }
+    Ok(kept)
+}
+
+// What is born from here on stands where it is placed, and the functions have these numbers.
+fn place_anew(placed: &[Placed], functions: &[Key], world: &mut World) -> Result<(), NoMemory>
+    ensures { IfOk result (λ _. world.new ≡ world.old) }
+{
+    let alloc = world.alloc();
+    let ids = placed_ids(alloc, placed)?;
+    let places = names_of(alloc, ids.as_slice())?;
+    let more = shared_behind(alloc, world.functions(), functions)?;
+    world.number(more.as_slice())?;
+    world.set_places(places);
+    Ok(())
+}
+
+// The deaths and births of a change.
+fn changes(
+    old: &[Text],
+    new: &[Text],
+    placed: &[Placed],
+    functions: &[Key],
+    world: &mut World,
+) -> Result<(), Stop>
+    ensures { Gives (changed old.now new.now world.old) result world.new }
+{
+    place_anew(placed, functions, world)?;
+    change(old, new, world)
+}
+
+// Whether a run goes on.
+fn goes_on(course: &Course) -> bool
+    ensures { result ≡ spec.goes_on course.now }
+{
+    match course {
+        Course::On(_, _) => true,
+        Course::Over(_) => false,
+    }
+}
+
+// Whether no memory was left.
+fn is_short(stop: &Stop) -> bool
+    ensures { result ≡ spec.is_short stop.now }
+{
+    match stop {
+        Stop::NoRoom => true,
+        Stop::Undefined(_) => false,
+        Stop::Exit(_) => false,
+        Stop::StackFull(_) => false,
+        Stop::BirthLimit => false,
+    }
+}
+
+impl MixedRun {
+    /// The image of the run is another one from here on. Nothing else changes.
+    pub fn relink(&mut self, image: Image)
+        ensures { self.new ≡ record self.old { image = image } }
+    {
+        drop(mem::replace(&mut self.image, image));
+    }
+
+    /// The texts of the run become others, while it stands between two goes. Of the static objects those that are not kept die, and new
+    /// ones are born where the new texts' entries have them. The run goes on from the same place, or is over as one object too many would
+    /// be born. A run that is over stays as it is.
+    ///
+    /// # Errors
+    ///
+    /// `NoMemory` alone. The run is over then, and nothing is known of it.
+    #[tactic(auto, using(crate::proofs::Changing::change_done))]
+    pub fn change(
+        &mut self,
+        old: &[Text],
+        new: &[Text],
+        placed: &[Placed],
+        functions: &[Key],
+    ) -> Result<(), NoMemory>
+        ensures changes { IfOk result (λ _. spec.Changes old.now new.now self.old self.new) }
+        ensures lost { OnErr result (IsLost self.new) }
+    {
+        if !goes_on(&self.course) {
+            return Ok(());
+        }
+        match changes(old, new, placed, functions, &mut self.world) {
+            Ok(()) => Ok(()),
+            Err(stop) => self.stopped(stop),
+        }
+    }
+
+    // The run is over, as its change ended it.
+    fn stopped(&mut self, stop: Stop) -> Result<(), NoMemory>
+        ensures short { IfOk result (λ _. spec.is_short stop ≡ false) }
+        ensures ends { IfOk result (λ _. self.new ≡ standing_over self.old.image self.old.calls self.old.world (ended_by (broken.Meant stop))) }
+        ensures lost { OnErr result (IsLost self.new) }
+    {
+        if is_short(&stop) {
+            drop(stop);
+            self.over(MixedEnd::Meant(Ended::NoRoom));
+            return Err(NoMemory);
+        }
+        self.over(end_of(Break::Meant(stop)));
+        Ok(())
+    }
+}
+
+// The world of a run gets a memory.
+fn remembered(
+    alloc: Global,
+    run: &mut Run,
+    held: &[Text],
+    placed: &[Placed],
+    functions: &[Key],
+) -> Result<(), NoMemory>
+    ensures { run.new ≡ run.old }
+{
+    let ids = placed_ids(alloc, placed)?;
+    let bases = bases_of(alloc, held, ids.as_slice(), run.world())?;
+    let places = names_of(alloc, ids.as_slice())?;
+    let functions = shared_behind(alloc, 0, functions)?;
+    run.remember(Layout { functions, places }, bases.as_slice())
+}
+
+// How a run goes on that has become one of both forms.
+fn taken_course(course: Went) -> Course
+    ensures { result ≡ spec.taken_course course }
+{
+    match course {
+        Went::On(going, shown) => Course::On(Next::Steps(going), shown),
+        Went::Over(ended) => Course::Over(MixedEnd::Meant(ended)),
+    }
+}
+
+// The callers of a run, and no compiled call.
+fn taken_calls(alloc: Global, callers: Stack<Caller>) -> Calls
+    ensures { result ≡ spec.taken_calls callers }
+{
+    let mut calls = no_calls(alloc);
+    drop(mem::replace(&mut calls.callers, callers));
+    calls
+}
+
+// The parts of a run as one of both forms.
+#[tactic(auto, using(crate::proofs::Changing::is_taken))]
+fn taken(alloc: Global, run: Run, image: Image) -> MixedRun
+    ensures { spec.IsTakenFrom run image result }
+{
+    let Parts {
+        course,
+        callers,
+        world,
+        count,
+    } = run.apart();
+    let _ = count;
+    MixedRun {
+        world,
+        image,
+        calls: taken_calls(alloc, callers),
+        course: taken_course(course),
+    }
+}
+
+/// A run of interpreted modules alone becomes one of both forms, in this image. Its objects get addresses: those of static storage
+/// duration where they are placed, the automatic ones in the slots of their frames, and those of the heap in blocks. `held` are the texts
+/// that active calls run; `placed` and `functions` those of the version whose objects live.
+///
+/// # Errors
+///
+/// The run as it was, where no memory was left.
+pub fn take_over(
+    alloc: Global,
+    run: Run,
+    held: &[Text],
+    image: Image,
+    placed: &[Placed],
+    functions: &[Key],
+) -> Result<MixedRun, Run>
+    ensures ok { IfOk result (spec.IsTakenFrom run image) }
+    ensures err { IfErr result (λ back. back ≡ run) }
+{
+    let mut run = run;
+    if remembered(alloc, &mut run, held, placed, functions).is_err() {
+        drop(image);
+        return Err(run);
+    }
+    Ok(taken(alloc, run, image))
+}

@@ -1,0 +1,6 @@
+use Rattle.std.proofs.Common.{◌≡◌, drop}
+use Rattle.sc_session.specs.Changing as spec
+use Rattle.sc_session.proofs.versions.scopes_held.Given as goal
+
+abbrev pub invariant-loop-before : goal.invariant-loop-before
+invariant-loop-before l = spec.scopes_held (drop l.before-index l.past) l.modules l.n ≡ spec.scopes_held l.past l.modules l.n

@@ -1,0 +1,6 @@
+use Rattle.std.proofs.Common.{◌≡◌, ◌++◌, drop}
+use Rattle.sc_session.specs.Changing as spec
+use Rattle.sc_session.proofs.versions.texts_held.Given as goal
+
+abbrev pub invariant-loop-before : goal.invariant-loop-before
+invariant-loop-before l = l.texts ++ spec.texts_held (drop l.before-index l.past) l.modules ≡ spec.texts_held l.past l.modules

@@ -1,0 +1,66 @@
+// What a command asks a session for.
+ghost use Rattle.sc_session.specs.Asking as spec;
+
+use sc_base::{Form, Name};
+use sc_words::{Command, Denied, StopAt, Walk};
+
+/// The program goes on: a run begins, whose input is a file or nothing; or the one that stands goes on so.
+#[derive(Drop)]
+pub enum Go {
+    Run(Option<Name>),
+    Walk(Walk),
+}
+
+/// Something is done, and no program goes on.
+#[derive(Drop)]
+pub enum Deed {
+    Nothing,
+    Load(Name),
+    Unload(Name),
+    Swap(Name, Form),
+    Edit(Name, Option<Name>),
+    Compile(Name),
+    Stop(StopAt),
+    Delete(u32),
+    /// The active calls are shown.
+    Frames,
+    Print(Name),
+    List,
+    Reset,
+    Quit,
+}
+
+/// What a command asks for. One that says nothing a session could do is refused in each.
+#[derive(Drop)]
+pub enum Asked {
+    Go(Go),
+    Do(Deed),
+    Refused(Denied),
+}
+
+/// What a command asks for.
+pub fn ask_for(command: Command) -> Asked
+    ensures { spec.AsksFor command result }
+{
+    match command {
+        Command::Nothing => Asked::Do(Deed::Nothing),
+        Command::Unknown => Asked::Refused(Denied::UnknownCommand),
+        Command::BadArguments => Asked::Refused(Denied::BadArguments),
+        Command::Load(name) => Asked::Do(Deed::Load(name)),
+        Command::Unload(name) => Asked::Do(Deed::Unload(name)),
+        Command::Swap(name, form) => Asked::Do(Deed::Swap(name, form)),
+        Command::Edit(name, file) => Asked::Do(Deed::Edit(name, file)),
+        Command::Compile(name) => Asked::Do(Deed::Compile(name)),
+        Command::Run(file) => Asked::Go(Go::Run(file)),
+        Command::Stop(place) => Asked::Do(Deed::Stop(place)),
+        Command::Delete(k) => Asked::Do(Deed::Delete(k)),
+        Command::Step => Asked::Go(Go::Walk(Walk::Step)),
+        Command::Next => Asked::Go(Go::Walk(Walk::Next)),
+        Command::Cont => Asked::Go(Go::Walk(Walk::Cont)),
+        Command::Frames => Asked::Do(Deed::Frames),
+        Command::Print(name) => Asked::Do(Deed::Print(name)),
+        Command::List => Asked::Do(Deed::List),
+        Command::Reset => Asked::Do(Deed::Reset),
+        Command::Quit => Asked::Do(Deed::Quit),
+    }
+}

@@ -1,0 +1,174 @@
+// A run that stands at a stop goes over to another image.
+ghost use Rattle.std.specs.Prelude.{◌≡◌, false, IfErr, IfOk, MatchResult};
+ghost use Rattle.sc_session_forms.specs.Forms as forms;
+ghost use Rattle.sc_session.specs.Mixing as spec;
+ghost use Rattle.sc_session.specs.Modules.{texts};
+
+use crate::linking::{ImageFault, image_fault};
+use crate::placing::placed_versions;
+use crate::present::texts_of;
+use crate::session::Session;
+use crate::state::{State, put_state};
+use crate::versions::texts_held;
+use sc_base::{Items, Key};
+use sc_core_held::Text;
+use sc_image::Placements;
+use sc_isa_image::Image;
+use sc_link::Placed;
+use sc_mixed::take_over;
+use sc_session_forms::{are_sources, functions_by};
+use std::alloc::Global;
+use std::mem;
+
+/// What an image is for: the functions by their numbers, the texts of which calls may be active, and where the modules of each version
+/// are placed.
+#[derive(Drop)]
+pub struct Plan {
+    pub functions: Items<Key>,
+    pub held: Items<Text>,
+    pub placed: Items<Placements>,
+}
+
+// Whether a run in a state has to go over to an image, where all modules are interpreted or not.
+fn needs_image(state: &State, sources: bool) -> bool
+    ensures { result ≡ spec.needs_image sources state.now }
+{
+    match state {
+        State::Stopped(_) => !sources,
+        State::StoppedMixed(_) => true,
+        State::Idle => false,
+        State::Paused(_) => false,
+        State::PausedMixed(_) => false,
+        State::Ended => false,
+    }
+}
+
+// A state whose run goes over to an image. Where no memory is left the state is given back.
+fn gone_over(
+    alloc: Global,
+    state: State,
+    image: Image,
+    held: &[Text],
+    placed: &[Placed],
+    functions: &[Key],
+) -> Result<State, State>
+    ensures ok { IfOk result (spec.Relinks false state) }
+    ensures err { IfErr result (λ back. back ≡ state) }
+{
+    match state {
+        State::StoppedMixed(run) => {
+            let mut run = run;
+            run.relink(image);
+            Ok(State::StoppedMixed(run))
+        }
+        State::Stopped(run) => match take_over(alloc, run, held, image, placed, functions) {
+            Ok(run) => Ok(State::StoppedMixed(run)),
+            Err(run) => Err(State::Stopped(run)),
+        },
+        State::Idle => {
+            drop(image);
+            Ok(State::Idle)
+        }
+        State::Paused(run) => {
+            drop(image);
+            Ok(State::Paused(run))
+        }
+        State::PausedMixed(run) => {
+            drop(image);
+            Ok(State::PausedMixed(run))
+        }
+        State::Ended => {
+            drop(image);
+            Ok(State::Ended)
+        }
+    }
+}
+
+// The entries of the version with a number.
+fn placed_at(placed: &[Placements], i: usize) -> Option<&[Placed]> {
+    match placed.get(i) {
+        Some(p) => Some(p.as_slice()),
+        None => None,
+    }
+}
+
+/// The entries of the versions behind the one with a number.
+pub fn placed_from(placed: &[Placements], come: usize) -> &[Placements] {
+    match placed.split_at_checked(come) {
+        Some((_, [_, later @ ..])) => later,
+        Some((_, [])) => &[],
+        None => &[],
+    }
+}
+
+impl Session {
+    /// What the image of a run is for that stays.
+    pub(crate) fn plan(&self, alloc: Global) -> Result<Plan, ImageFault> {
+        let past = self.past.as_slice();
+        let modules = self.modules.as_slice();
+        let Ok(functions) = functions_by(alloc, &self.numbers) else {
+            return Err(ImageFault::NoMemory);
+        };
+        let Ok(held) = texts_held(alloc, past, modules) else {
+            return Err(ImageFault::NoMemory);
+        };
+        let placed = placed_versions(alloc, past, modules, functions.as_slice())?;
+        Ok(Plan {
+            functions,
+            held,
+            placed,
+        })
+    }
+
+    // A run that stays, and needs an image, goes over to that of the present modules.
+    pub(crate) fn relink(&mut self, alloc: Global) -> Result<(), ImageFault>
+        ensures { MatchResult result (λ _. spec.Becomes self.old self.new) (λ f. spec.IsUnlinked self.old f × (self.new ≡ self.old)) }
+    {
+        let Ok(texts) = texts_of(alloc, self.modules.as_slice()) else {
+            return Err(ImageFault::NoMemory);
+        };
+        if needs_image(&self.state, are_sources(texts.as_slice())) {
+            self.relink_planned(alloc)
+        } else {
+            Ok(())
+        }
+    }
+
+    fn relink_planned(&mut self, alloc: Global) -> Result<(), ImageFault>
+        ensures { MatchResult result (λ _. spec.BecomesBy false self.old self.new) (λ _. self.new ≡ self.old) }
+    {
+        let plan = match self.plan(alloc) {
+            Ok(plan) => plan,
+            Err(fault) => return Err(fault),
+        };
+        let Some(last) = plan.placed.as_slice().last() else {
+            return Err(ImageFault::NoMemory);
+        };
+        match last.image(alloc, plan.functions.as_slice()) {
+            Ok(image) => self.go_over(alloc, image, &plan),
+            Err(fault) => Err(image_fault(fault)),
+        }
+    }
+
+    fn go_over(&mut self, alloc: Global, image: Image, plan: &Plan) -> Result<(), ImageFault>
+        ensures { MatchResult result (λ _. spec.BecomesBy false self.old self.new) (λ _. self.new ≡ self.old) }
+    {
+        let Some(placed) = placed_at(plan.placed.as_slice(), self.come) else {
+            drop(image);
+            return Err(ImageFault::NoMemory);
+        };
+        let held = plan.held.as_slice();
+        let functions = plan.functions.as_slice();
+        let state = mem::replace(&mut self.state, State::Idle);
+        match gone_over(alloc, state, image, held, placed, functions) {
+            Ok(state) => {
+                put_state(&mut self.state, state);
+                Ok(())
+            }
+            Err(state) => {
+                put_state(&mut self.state, state);
+                Err(ImageFault::NoMemory)
+            }
+        }
+    }
+}

@@ -1,0 +1,10 @@
+use Rattle.std.proofs.Common.{◌∙◌, sym}
+use Rattle.sc_workload.specs.Made.{compiled}
+use Rattle.sc_workload.proofs.MadeLemmas.{texts_none, texts_more}
+use Rattle.sc_workload.proofs.commands.all_compiled.Goals as goal
+
+pub loop-index-init : goal.loop-index-init
+loop-index-init c = c.new-text.ensures.items ∙ sym (texts_none compiled)
+
+pub loop-index-preserved : goal.loop-index-preserved
+loop-index-preserved c = texts_more compiled c.loop-index.index _ _ _ c.loop-index.invariant (c.as_slice.ensures.value ∙ c.in_ok-lines.ensures) c.in_ok-put.ensures

@@ -1,0 +1,1 @@
+void reply(int request);

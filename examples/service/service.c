@@ -1,0 +1,12 @@
+#include <stdio.h>
+#include "reply.h"
+
+int main(void)
+{
+    int request;
+
+    while ((request = getchar()) != EOF)
+        if (request != '\n')
+            reply(request);
+    return 0;
+}

@@ -1,0 +1,5 @@
+char b[600000];
+int main(void) {
+    b[0] = 2;
+    return b[0];
+}

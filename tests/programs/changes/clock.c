@@ -1,0 +1,4 @@
+int ticks = 0;
+void tick(void) {
+    ticks = ticks + 1;
+}
