@@ -1,5 +1,5 @@
 // A probe that counts the notes of each kind.
-ghost use Rattle.std.specs.Prelude.{◌≡◌, ◌++◌, [], None, Some, IfOk, OnOk, decimal};
+ghost use Rattle.std.specs.Prelude.{◌≡◌, ◌++◌, [], None, Some, IfOk, OnOk, decimal, true};
 ghost use Rattle.sc_probe.specs.Counted as spec;
 
 use sc_base::{NoMemory, Note};
@@ -145,6 +145,12 @@ impl Probe for Count {
     ghost report = { λ c. Some (spec.count_text c) };
 
     ghost faults = { λ c. 0 };
+
+    fn listens(&self) -> bool
+        ensures { result ≡ true }
+    {
+        true
+    }
 
     fn note(&mut self, n: &Note) -> Noted
         ensures told { result ≡ Noted.Kept }

@@ -1,5 +1,5 @@
 // A probe that counts how often each line was reached.
-ghost use Rattle.std.specs.Prelude.{◌≡◌, ◌≢◌, ◌≤◌, ◌++◌, [], None, Some, IfOk, OnOk, OnErr};
+ghost use Rattle.std.specs.Prelude.{◌≡◌, ◌≢◌, ◌≤◌, ◌++◌, [], None, Some, IfOk, OnOk, OnErr, true};
 ghost use Rattle.sc_outside.specs.Causes.{Rose};
 ghost use Rattle.sc_probe.specs.Covered as spec;
 
@@ -117,6 +117,12 @@ impl Probe for Coverage {
     ghost report = { λ c. Some (spec.coverage_text c.lines) };
 
     ghost faults = { λ c. c.faults };
+
+    fn listens(&self) -> bool
+        ensures { result ≡ true }
+    {
+        true
+    }
 
     fn note(&mut self, n: &Note) -> Noted
         ensures later { self.old.faults ≤ self.new.faults }

@@ -1,11 +1,11 @@
 // A probe that tells nothing.
-ghost use Rattle.std.specs.Prelude.{◌≡◌, [], None, Some, IfOk};
+ghost use Rattle.std.specs.Prelude.{◌≡◌, [], None, Some, IfOk, false};
 
 use sc_base::{NoMemory, Note};
 use sc_outside::{Noted, Probe};
 use std::alloc::Global;
 
-/// A probe whose report is empty. It answers `Kept` to every note, and takes no memory.
+/// A probe whose report is empty. It does not listen, would answer `Kept` to every note, and takes no memory.
 #[derive(Drop)]
 pub struct Quiet {
     alloc: Global,
@@ -24,6 +24,12 @@ impl Probe for Quiet {
     ghost report = { λ q. Some [] };
 
     ghost faults = { λ q. 0 };
+
+    fn listens(&self) -> bool
+        ensures { result ≡ false }
+    {
+        false
+    }
 
     fn note(&mut self, _: &Note) -> Noted
         ensures { result ≡ Noted.Kept }

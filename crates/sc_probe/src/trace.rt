@@ -1,5 +1,5 @@
 // A probe that keeps the notes.
-ghost use Rattle.std.specs.Prelude.{◌≡◌, ◌≢◌, ◌≤◌, ◌↔◌, [], length, Some, IfOk};
+ghost use Rattle.std.specs.Prelude.{◌≡◌, ◌≢◌, ◌≤◌, ◌↔◌, [], length, Some, IfOk, true};
 ghost use Rattle.sc_outside.specs.Causes.{Rose};
 ghost use Rattle.sc_outside.specs.Told.{KeepsNote, notes_after};
 ghost use Rattle.sc_probe.specs.Traced as spec;
@@ -58,6 +58,12 @@ impl Probe for Trace {
     ghost report = { λ t. Some (spec.trace_text t.notes) };
 
     ghost faults = { λ t. t.faults };
+
+    fn listens(&self) -> bool
+        ensures { result ≡ true }
+    {
+        true
+    }
 
     fn note(&mut self, n: &Note) -> Noted
         ensures kept { self.new.notes ≡ notes_after self.old.notes n.now result }
