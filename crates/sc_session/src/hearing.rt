@@ -65,7 +65,7 @@ pub fn shown_machine(alloc: Global, machine: &Machine) -> Answer
 /// The answer to `report`.
 pub fn report_of(k: u32, probes: &mut Vec<Box<dyn Probe>>) -> Answer
     ensures answer { spec.Reports k result }
-    ensures probes { AreHeard probes.old.items probes.new.items }
+    ensures probes { AreHeard (λ p. notes p) probes.old.items probes.new.items }
 {
     match report(probes, k) {
         Ok(Some(text)) => Answer::Reported(k, Bytes::from_vec(text)),

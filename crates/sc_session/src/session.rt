@@ -160,7 +160,7 @@ impl Session {
         ensures failed { result ≡ Err unsent.Failed → Rose (K.faults out.old) (K.faults out.new) }
         ensures later { F.faults files.old ≤ F.faults files.new }
         ensures sources { compiling.KeepsSources (F.held files.old) (F.held files.new) }
-        ensures probes { AreHeard probes.old.items probes.new.items }
+        ensures probes { AreHeard (λ p. notes p) probes.old.items probes.new.items }
     {
         match ask_for(command) {
             Asked::Go(go) => {
@@ -289,7 +289,7 @@ impl Session {
         ensures step { spec.AnswersTo (moment self.old (F.held files.old) (F.faults files.old)) (asking.deed_command deed) [] result (moment self.new (F.held files.new) (F.faults files.new)) }
         ensures later { F.faults files.old ≤ F.faults files.new }
         ensures sources { compiling.KeepsSources (F.held files.old) (F.held files.new) }
-        ensures probes { AreHeard probes.old.items probes.new.items }
+        ensures probes { AreHeard (λ p. notes p) probes.old.items probes.new.items }
     {
         match self.deed_denied(&deed) {
             Some(denied) => {
@@ -336,7 +336,7 @@ impl Session {
         requires allowed { refusal_of self.old (asking.deed_command deed) ≡ None }
         ensures step { Does (moment self.old (F.held files.old) (F.faults files.old)) (asking.deed_command deed) result (moment self.new (F.held files.new) (F.faults files.new)) }
         ensures later { F.faults files.old ≤ F.faults files.new }
-        ensures probes { AreHeard probes.old.items probes.new.items }
+        ensures probes { AreHeard (λ p. notes p) probes.old.items probes.new.items }
     {
         match deed {
             Deed::Nothing => Answer::Silent,
@@ -404,7 +404,7 @@ impl Session {
 
     fn drop_probe(&mut self, k: u32, probes: &mut Vec<Box<dyn Probe>>) -> Answer
         ensures answer { probing.Drops k self.old result self.new }
-        ensures probes { AreHeard probes.old.items probes.new.items }
+        ensures probes { AreHeard (λ p. notes p) probes.old.items probes.new.items }
     {
         if drop_probe(probes, &mut self.deaf, k) {
             self.probes = self.probes.saturating_sub(1);

@@ -23,7 +23,7 @@ fn answer_made(
 ) -> Status
     requires { bytes_written answers.old ≡ [] }
     ensures answered { result ≡ Status.Done → IsAnsweredWith (limits_of options.now) (length probes.old.items) count (bytes_written answers.new) }
-    ensures probes { AreHeard probes.old.items probes.new.items }
+    ensures probes { AreHeard (λ p. notes p) probes.old.items probes.new.items }
 {
     let Ok(commands) = made_commands(alloc, count) else {
         return Status::NoMemory;
@@ -48,7 +48,7 @@ pub fn tell_made<K: Sink>(
     ensures write_fault { result ≡ Status.WriteFault → Rose (K.faults out.old) (K.faults out.new) }
     ensures write_later { K.faults out.old ≤ K.faults out.new }
     ensures words { (result ≢ Status.BadWords) × (result ≢ Status.ReadFault) }
-    ensures probes { AreHeard probes.old.items probes.new.items }
+    ensures probes { AreHeard (λ p. notes p) probes.old.items probes.new.items }
 {
     let mut answers = MemSink::new(alloc, Vec::new(alloc));
     match answer_made(alloc, options, count, &mut answers, probes) {
