@@ -61,7 +61,8 @@ heard_skip notes p ps [] h = tt
 heard_skip notes p ps (q ∷ qs) h = inr h
 
 pub heard_without : {A : Type 0} (notes : A → Option (List Note)) (ps : List A) (k : ℕ) → AreHeard notes ps (remove ps k)
-heard_without notes [] k = tt
+heard_without notes [] zero = tt
+heard_without notes [] (suc k) = tt
 heard_without notes (p ∷ ps) zero = heard_skip notes p ps ps (heard_same notes ps)
 heard_without notes (p ∷ ps) (suc k) = inl (grew_same (notes p), heard_without notes ps k)
 
