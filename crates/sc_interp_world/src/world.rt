@@ -268,6 +268,11 @@ impl World {
         Ok(())
     }
 
+    /// Whether objects stand at addresses.
+    pub fn has_memory(&self) -> bool {
+        self.objects.has_memory()
+    }
+
     /// How many functions have numbers, where the world has a memory.
     pub fn functions(&self) -> usize {
         self.objects.functions()
