@@ -100,6 +100,7 @@ pub fn call_code(
     };
     put_arguments(vs, &mut calls.regs, world)?;
     enter_code(stub, calls, world)?;
+    world.enter_code(key, calls.regs.pc(), calls.regs.words())?;
     Ok(Next::Executes)
 }
 
@@ -169,9 +170,10 @@ fn resume_code(
     regs: Regs,
     given: Option<Answer>,
     calls: &mut Calls,
-    world: &World,
+    world: &mut World,
 ) -> Result<Next, NoMemory>
-    ensures { IfOk result (λ next. spec.Resumes a.now regs given calls.old.lower calls.old next calls.new) }
+    ensures resumes { IfOk result (λ next. spec.Resumes a.now regs given calls.old.lower calls.old next calls.new) }
+    ensures stays { world.new ≡ world.old }
 {
     let word = result_word(a, world)?;
     let back = regs.get(RA).bits;
@@ -179,12 +181,14 @@ fn resume_code(
     drop(mem::replace(&mut calls.given, given));
     calls.regs.set(RESULT, word);
     calls.regs.set_pc(back);
+    world.return_to_code(calls.regs.pc(), calls.regs.words())?;
     Ok(Next::Executes)
 }
 
 /// The answer of the last interpreted call goes to what waits below. Where nothing does it is the run's.
-pub fn give_back(a: Answer, calls: &mut Calls, world: &World) -> Result<Next, NoMemory>
-    ensures { IfOk result (λ next. spec.GivesBack a calls.old.lower calls.old next calls.new) }
+pub fn give_back(a: Answer, calls: &mut Calls, world: &mut World) -> Result<Next, NoMemory>
+    ensures gives { IfOk result (λ next. spec.GivesBack a calls.old.lower calls.old next calls.new) }
+    ensures stays { world.new ≡ world.old }
 {
     match calls.lower.pop() {
         None => Ok(Next::Steps(Going::Answers(a))),

@@ -268,7 +268,7 @@ impl Session {
         };
         let stack = u64::from(self.limits.stack);
         let heap = u64::from(self.limits.heap);
-        let Ok(run) = MixedRun::start(alloc, texts.as_slice(), image, stack, heap, input) else {
+        let Ok(run) = MixedRun::start(alloc, texts.as_slice(), image, stack, heap, input, false) else {
             return Answer::NoMemory;
         };
         // No start of a run writes: this cannot be.
@@ -344,7 +344,7 @@ impl Session {
         };
         let stack = u64::from(self.limits.stack);
         let heap = u64::from(self.limits.heap);
-        let Ok(run) = Run::start(alloc, texts.as_slice(), stack, heap, input) else {
+        let Ok(run) = Run::start(alloc, texts.as_slice(), stack, heap, input, None) else {
             return Ok(Answer::NoMemory);
         };
         put_state(&mut self.state, State::Ended);
