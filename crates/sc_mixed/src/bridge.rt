@@ -84,9 +84,9 @@ fn enter_code(stub: u32, calls: &mut Calls, world: &World) -> Result<(), NoMemor
     Ok(())
 }
 
-/// Compiled code is called: its arguments are where it finds them, and the next instruction is that of the function's stub. The
-/// interpreted callers wait for it.
-pub fn call_code(
+// Compiled code is called: its arguments are where it finds them, and the next instruction is that of the function's stub. The
+// interpreted callers wait for it.
+fn call_stub(
     key: &Key,
     vs: &[Value],
     image: &Image,
@@ -100,8 +100,22 @@ pub fn call_code(
     };
     put_arguments(vs, &mut calls.regs, world)?;
     enter_code(stub, calls, world)?;
-    world.enter_code(key, calls.regs.pc(), calls.regs.words())?;
     Ok(Next::Executes)
+}
+
+/// Compiled code is called, which is told with the registers that it finds.
+pub fn call_code(
+    key: &Key,
+    vs: &[Value],
+    image: &Image,
+    calls: &mut Calls,
+    world: &mut World,
+) -> Result<Next, NoMemory>
+    ensures { IfOk result (λ next. spec.Calling image.now key.now vs.now calls.old world.old next calls.new world.new) }
+{
+    let next = call_stub(key, vs, image, calls, world)?;
+    world.enter_code(key, calls.regs.pc(), calls.regs.words())?;
+    Ok(next)
 }
 
 // A call of this value goes to compiled code.

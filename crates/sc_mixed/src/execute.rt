@@ -130,6 +130,7 @@ fn execute_told(image: &Image, regs: &mut Regs, world: &mut World) -> Result<Wen
 }
 
 // Instructions one after another, each of which is told.
+#[tactic(auto, using(crate::proofs::Running::none_yet, crate::proofs::Running::one_more, crate::proofs::Running::went_all, crate::proofs::Running::went_last))]
 fn execute_heard(
     image: &Image,
     most: u64,
@@ -139,19 +140,35 @@ fn execute_heard(
     ensures { IfOk result (λ done. spec.RanUpto image.now most regs.old world.old done.count done.went regs.new world.new) }
 {
     for k in 0..most {
-        match execute_told(image, regs, world) {
-            Ok(Went::On) => (),
-            Ok(other) => return Ok(Executed {
+        let went = execute_told(image, regs, world)?;
+        match went {
+            Went::On => (),
+            other => return Ok(Executed {
                 count: k + 1,
                 went: other,
             }),
-            Err(_) => return Err(NoMemory),
         }
     }
     Ok(Executed {
         count: most,
         went: Went::On,
     })
+}
+
+// The same in the loop that serves.
+fn execute_either(
+    image: &Image,
+    most: u64,
+    regs: &mut Regs,
+    world: &mut World,
+) -> Result<Executed, NoMemory>
+    ensures { IfOk result (λ done. spec.RanUpto image.now most regs.old world.old done.count done.went regs.new world.new) }
+{
+    if world.is_recorded() {
+        execute_heard(image, most, regs, world)
+    } else {
+        Ok(execute_some(image, most, regs, world))
+    }
 }
 
 // How many of the instructions were carried out: the last one is not where it has no next state, or stands where calls from
@@ -177,11 +194,7 @@ pub fn execute_counted(
 ) -> Result<Executed, NoMemory>
     ensures { IfOk result (λ done. spec.RanUpto image.now most regs.old world.old done.count done.went regs.new world.new) }
 {
-    let done = if world.is_recorded() {
-        execute_heard(image, most, regs, world)?
-    } else {
-        execute_some(image, most, regs, world)
-    };
+    let done = execute_either(image, most, regs, world)?;
     world.executed(carried_out(done));
     Ok(done)
 }

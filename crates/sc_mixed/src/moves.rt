@@ -138,19 +138,17 @@ fn after_return(
     count: u64,
     next: &mut Next,
     calls: &mut Calls,
-    world: &mut World,
+    world: &World,
 ) -> Result<Moved, Break>
-    ensures last { parts.AfterLast Went.Returned count calls.old world.old result next.new calls.new }
-    ensures stays { world.new ≡ world.old }
+    ensures { parts.AfterLast Went.Returned count calls.old world.now result next.new calls.new }
 {
-    world.leave_code(calls.regs.pc(), calls.regs.words());
     match return_code(calls, world) {
         Ok(back) => Ok(so_many(back, count, next)),
         Err(broken) => Err(broken),
     }
 }
 
-// What the instructions came to, where the last of them stands.
+// What the instructions came to, where the last of them stands. Where compiled code returned, its registers are kept.
 fn after(
     done: Executed,
     next: &mut Next,
@@ -163,7 +161,10 @@ fn after(
     match done.went {
         Went::On => Ok(so_many(Next::Executes, done.count, next)),
         Went::Asks(n) => Ok(so_many(Next::Serves(n), done.count, next)),
-        Went::Returned => after_return(done.count, next, calls, world),
+        Went::Returned => {
+            world.leave_code(calls.regs.pc(), calls.regs.words());
+            after_return(done.count, next, calls, world)
+        }
         Went::Stopped(crash) => Err(Break::Crashed(calls.regs.pc(), crash)),
         Went::NoRoom => Err(Break::Meant(Stop::NoRoom)),
     }

@@ -207,8 +207,7 @@ impl Run {
 
     /// Whether the objects of the run have addresses.
     pub fn has_memory(&self) -> bool {
-        // Only functions of a world with a memory have numbers, and each program has a `main`.
-        self.world.functions() > 0
+        self.world.has_memory()
     }
 
     /// More functions get the next numbers, and static objects that are born from here on stand at these places, where the objects of
@@ -217,11 +216,7 @@ impl Run {
     /// # Errors
     ///
     /// `NoMemory` as for `World::number`.
-    pub fn place(
-        &mut self,
-        more_functions: &[Shared<Key>],
-        places: Names,
-    ) -> Result<(), NoMemory>
+    pub fn place(&mut self, more_functions: &[Shared<Key>], places: Names) -> Result<(), NoMemory>
         ensures { self.new ≡ self.old }
     {
         if !self.has_memory() {
