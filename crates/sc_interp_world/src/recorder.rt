@@ -1,11 +1,14 @@
 // What was told of a run so far, where somebody listens.
-ghost use Rattle.std.specs.Prelude.{◌≡◌, ◌++◌, ◌∷◌, [], false, true, not, ◌&&◌, OnOk, OnErr, IfOk};
+ghost use Rattle.std.specs.Prelude.{◌≡◌, ◌+◌, ◌-◌, ◌^◌, ◌++◌, ◌∷◌, [], false, true, not, ◌&&◌, Some, min, OnOk, IfOk};
 ghost use Rattle.sc_base.specs.declared.note.Note.TheVariants as notes;
-ghost use Rattle.sc_interp_world.specs.declared.recorder.Entry.TheVariants as entries;
+ghost use Rattle.sc_program.specs.declared.storage.StaticId.TheVariants as id;
+ghost use Rattle.sc_meaning.specs.World.{named_in};
+ghost use Rattle.sc_interp_world.specs.Recording as spec;
+ghost use Rattle.sc_interp_world.specs.declared.recorder.Entry.TheVariants as entry;
 
 use crate::names::Names;
 use crate::object::Frame;
-use sc_base::{Duplicate, Items, Key, NoMemory, Note, Shared, Word};
+use sc_base::{Duplicate, Items, Key, NoMemory, Note, Shared, Stack, Word};
 use sc_program::StaticId;
 use std::alloc::Global;
 use std::mem;
@@ -19,9 +22,11 @@ const OUTSIDE: u32 = 0x0000_F000;
 /// The number of the program counter among the registers.
 const PC: u8 = 32;
 
-/// A number without a tag.
+const ZERO: Word = Word { bits: 0, tag: 0 };
+
+// A number without a tag.
 fn plain(bits: u32) -> Word
-    ensures { result ≡ record { bits = bits; tag = 0 } }
+    ensures { result ≡ spec.plain bits }
 {
     Word { bits, tag: 0 }
 }
@@ -44,7 +49,7 @@ pub struct Machine {
 
 // The machine as a run begins: all registers are 0, but for the stack's.
 fn machine_at_start() -> Machine {
-    let mut words = [Word { bits: 0, tag: 0 }; 32];
+    let mut words = [ZERO; 32];
     words[2] = plain(STACK_END);
     Machine {
         pc: OUTSIDE,
@@ -64,7 +69,7 @@ pub struct Recorder {
     hushed: bool,
     functions: Names,
     numbered: u32,
-    active: Items<u32>,
+    active: Stack<u32>,
     last: u32,
     entries: Items<Entry>,
     machine: Machine,
@@ -102,7 +107,7 @@ impl Recorder {
             hushed: false,
             functions: Names::new(alloc),
             numbered: 0,
-            active: Items::new(alloc),
+            active: Stack::new(alloc),
             last: 0,
             entries: Items::new(alloc),
             machine: machine_at_start(),
@@ -117,7 +122,7 @@ impl Recorder {
         heap: u64,
         functions: &[Shared<Key>],
     ) -> Result<Recorder, NoMemory>
-        ensures { IfOk result (λ r. (r.listens ≡ true) × (r.entries ≡ entries.One (notes.Start stack heap) ∷ [])) }
+        ensures { IfOk result (λ r. (r.listens ≡ true) × (r.entries ≡ entry.One (notes.Start stack heap) ∷ [])) }
     {
         let (Ok(stack), Ok(heap)) = (u32::try_from(stack), u32::try_from(heap)) else {
             return Err(NoMemory);
@@ -160,8 +165,11 @@ impl Recorder {
         Ok(())
     }
 
-    /// The number of a function.
-    fn number_of(&self, key: &Key) -> Result<u32, NoMemory> {
+    // The number of a function.
+    fn number_of(&self, key: &Key) -> Result<u32, NoMemory>
+        ensures named { IfOk result (λ fun. named_in self.now.functions (id.Named key.now) ≡ Some fun) }
+        ensures same { IfOk result (λ fun. fun ≡ spec.number_in self.now.functions key.now) }
+    {
         match self.functions.keyed(key) {
             Some(fun) => Ok(fun),
             // It cannot be: a function that a present text defines or mentions has a number.
@@ -171,31 +179,31 @@ impl Recorder {
 
     /// One more entry.
     pub fn put(&mut self, entry: Entry) -> Result<(), NoMemory>
-        ensures { OnOk result (self.new ≡ record self.old { entries = self.old.entries ++ entry ∷ [] }) }
+        ensures { OnOk result (self.new ≡ spec.with_entry entry self.old) }
     {
         self.entries.push(entry)
     }
 
     /// One more note.
     pub fn add(&mut self, note: Note) -> Result<(), NoMemory>
-        ensures { OnOk result (self.new ≡ record self.old { entries = self.old.entries ++ entries.One note ∷ [] }) }
+        ensures { OnOk result (self.new ≡ spec.noted note self.old) }
     {
         self.put(Entry::One(note))
     }
 
     /// The entries so far, which are none afterwards.
     pub fn take(&mut self) -> Items<Entry>
-        ensures { (result ≡ self.old.entries) × (self.new ≡ record self.old { entries = [] }) }
+        ensures taken { result ≡ self.old.entries }
+        ensures none { self.new ≡ record self.old { entries = [] } }
     {
         mem::replace(&mut self.entries, Items::new(self.alloc))
     }
 
     /// A call becomes active.
     #[inline(never)]
-    pub fn enter(&mut self, frame: Option<&Frame>) -> Result<(), NoMemory> {
-        let Some(frame) = frame else {
-            return Ok(());
-        };
+    pub fn enter(&mut self, frame: &Frame) -> Result<(), NoMemory>
+        ensures { OnOk result (self.new ≡ spec.entered (spec.number_in self.old.functions frame.now.key) frame.now self.old) }
+    {
         let fun = self.number_of(&frame.key)?;
         self.active.push(fun)?;
         self.add(Note::Enter {
@@ -206,7 +214,9 @@ impl Recorder {
 
     /// The innermost call is no longer active.
     #[inline(never)]
-    pub fn leave(&mut self) -> Result<(), NoMemory> {
+    pub fn leave(&mut self) -> Result<(), NoMemory>
+        ensures { OnOk result (self.new ≡ spec.left_in self.old.active self.old) }
+    {
         match self.active.pop() {
             None => Ok(()),
             Some(fun) => {
@@ -218,19 +228,20 @@ impl Recorder {
 
     /// A line of the innermost call is reached.
     #[inline(never)]
-    pub fn reach(&mut self, line: u32) -> Result<(), NoMemory> {
-        match self.active.as_slice().last() {
+    pub fn reach(&mut self, line: u32) -> Result<(), NoMemory>
+        ensures { OnOk result (self.new ≡ spec.reached_in self.old.active line self.old) }
+    {
+        match self.active.top().copied() {
             None => Ok(()),
-            Some(fun) => {
-                let fun = *fun;
-                self.add(Note::At { fun, line })
-            }
+            Some(fun) => self.add(Note::At { fun, line }),
         }
     }
 
     /// A library function is called.
     #[inline(never)]
-    pub fn call_library(&mut self, key: &Key) -> Result<(), NoMemory> {
+    pub fn call_library(&mut self, key: &Key) -> Result<(), NoMemory>
+        ensures { OnOk result (self.new ≡ spec.called_in (spec.number_in self.old.functions key.now) self.old) }
+    {
         let fun = self.number_of(key)?;
         self.last = fun;
         self.add(Note::Lib { fun })
@@ -245,37 +256,48 @@ impl Recorder {
         &self.machine
     }
 
-    /// So many instructions more were carried out.
-    pub fn count(&mut self, n: u64) {
+    /// So many instructions more were carried out. The count stays at 2^64 - 1.
+    pub fn count(&mut self, n: u64)
+        ensures { self.new ≡ record self.old { machine = record self.old.machine { executed = min (self.old.machine.executed + n) (2 ^ 64 - 1) } } }
+    {
         self.machine.executed = self.machine.executed.saturating_add(n);
     }
 
     /// Compiled code left the registers so.
-    pub fn leave_code(&mut self, pc: u32, words: &[Word; 32]) {
+    pub fn leave_code(&mut self, pc: u32, words: &[Word; 32])
+        ensures { self.new ≡ record self.old { machine = record self.old.machine { pc = pc; words = words.now } } }
+    {
         self.machine.pc = pc;
         self.machine.words = *words;
     }
 
+    // A register is set, where it held another word.
+    fn set_register(&mut self, r: u8, word: Word, was: Word) -> Result<(), NoMemory>
+        ensures { OnOk result (self.new ≡ spec.set_register r word was self.old) }
+    {
+        if word == was {
+            return Ok(());
+        }
+        self.add(Note::SetReg { r, word })
+    }
+
     // The registers that are not the machine's are set, in ascending order.
-    fn set_registers(&mut self, pc: u32, words: &[Word; 32]) -> Result<(), NoMemory> {
+    fn set_registers(&mut self, pc: u32, words: &[Word; 32]) -> Result<(), NoMemory>
+        ensures { OnOk result (self.new ≡ spec.set_all pc words.now self.old) }
+    {
         for r in 0..PC {
-            let word = words[r as usize];
-            if word != self.machine.words[r as usize] {
-                self.add(Note::SetReg { r, word })?;
-            }
+            let was = self.machine.words[r as usize];
+            self.set_register(r, words[r as usize], was)?;
         }
-        if pc != self.machine.pc {
-            self.add(Note::SetReg {
-                r: PC,
-                word: plain(pc),
-            })?;
-        }
-        Ok(())
+        let was = plain(self.machine.pc);
+        self.set_register(PC, plain(pc), was)
     }
 
     /// An interpreted frame calls object text, with these registers.
     #[inline(never)]
-    pub fn enter_code(&mut self, key: &Key, pc: u32, words: &[Word; 32]) -> Result<(), NoMemory> {
+    pub fn enter_code(&mut self, key: &Key, pc: u32, words: &[Word; 32]) -> Result<(), NoMemory>
+        ensures { OnOk result (self.new ≡ spec.set_all pc words.now (spec.noted (notes.Call (spec.number_in self.old.functions key.now)) self.old)) }
+    {
         let fun = self.number_of(key)?;
         self.add(Note::Call { fun })?;
         self.set_registers(pc, words)
@@ -283,7 +305,9 @@ impl Recorder {
 
     /// A call gives back to object text, with these registers.
     #[inline(never)]
-    pub fn return_to_code(&mut self, pc: u32, words: &[Word; 32]) -> Result<(), NoMemory> {
+    pub fn return_to_code(&mut self, pc: u32, words: &[Word; 32]) -> Result<(), NoMemory>
+        ensures { OnOk result (self.new ≡ spec.set_all pc words.now (spec.noted (notes.Back self.old.last) self.old)) }
+    {
         self.add(Note::Back { fun: self.last })?;
         self.set_registers(pc, words)
     }

@@ -196,10 +196,12 @@ impl World {
     pub(crate) fn tell_enter(&mut self) -> Result<(), NoMemory>
         ensures { self.new ≡ self.old }
     {
-        if self.recorder.listens() {
-            self.recorder.enter(self.frames.top())
-        } else {
-            Ok(())
+        if !self.recorder.listens() {
+            return Ok(());
+        }
+        match self.frames.top() {
+            None => Ok(()),
+            Some(frame) => self.recorder.enter(frame),
         }
     }
 

@@ -1,4 +1,8 @@
 // What the record is told of changes of memory: notes, by addresses.
+ghost use Rattle.std.specs.Prelude.{◌≡◌, ◌≤◌, length, OnOk, IfOk};
+ghost use Rattle.std.specs.List.{prefix_len};
+ghost use Rattle.sc_base.specs.declared.note.Note.TheVariants as notes;
+ghost use Rattle.sc_interp_world.specs.Recording as spec;
 
 use crate::held::Held;
 use crate::recorder::{Entry, Recorder};
@@ -10,21 +14,22 @@ use sc_mem_store::{Cell, Content};
 const MANY: usize = 8;
 
 // How many bytes in front are this one.
-fn equal_in_front(byte: u8, cells: &[Cell]) -> usize {
-    let mut n = 0_usize;
-    for cell in cells {
-        match &cell.content {
-            Content::Unwritten => return n,
-            Content::Piece(_, _) => return n,
-            Content::Byte(b) => {
-                if *b != byte {
-                    return n;
-                }
-                n = n.saturating_add(1);
-            }
-        }
+fn equal_in_front(byte: u8, cells: &[Cell]) -> usize
+    ensures count { result ≡ prefix_len (spec.is_byte byte) cells.now }
+    ensures inside { result ≤ length cells.now }
+{
+    cells.iter().take_while(|cell| is_byte(cell, byte)).count()
+}
+
+// Whether it is this byte.
+fn is_byte(cell: &Cell, byte: u8) -> bool
+    ensures { result ≡ spec.is_byte byte cell.now }
+{
+    match &cell.content {
+        Content::Unwritten => false,
+        Content::Piece(_, _) => false,
+        Content::Byte(b) => *b == byte,
     }
-    n
 }
 
 // Whether a byte is piece k of a pointer.
@@ -55,7 +60,9 @@ fn byte_of(bits: u32, k: u32) -> u32 {
 }
 
 // One byte is put.
-fn tell_byte(recorder: &mut Recorder, at: u32, bits: u32) -> Result<(), NoMemory> {
+fn tell_byte(recorder: &mut Recorder, at: u32, bits: u32) -> Result<(), NoMemory>
+    ensures { OnOk result (recorder.new ≡ spec.noted (notes.Put at 1 (spec.plain bits)) recorder.old) }
+{
     recorder.add(Note::Put {
         at,
         size: 1,
@@ -64,12 +71,10 @@ fn tell_byte(recorder: &mut Recorder, at: u32, bits: u32) -> Result<(), NoMemory
 }
 
 // The first bytes are this one; how many of them were told.
-fn tell_equal(
-    recorder: &mut Recorder,
-    at: u32,
-    byte: u8,
-    cells: &[Cell],
-) -> Result<usize, NoMemory> {
+fn tell_equal(recorder: &mut Recorder, at: u32, byte: u8, cells: &[Cell]) -> Result<usize, NoMemory>
+    ensures record { IfOk result (λ _. recorder.new ≡ spec.equal_told (prefix_len (spec.is_byte byte) cells.now) at byte recorder.old) }
+    ensures told { IfOk result (λ told. told ≡ spec.equal_count (prefix_len (spec.is_byte byte) cells.now)) }
+{
     let n = equal_in_front(byte, cells);
     if n < MANY {
         tell_byte(recorder, at, u32::from(byte))?;
@@ -84,6 +89,7 @@ fn tell_equal(
 
 // The first byte is piece k of a pointer; how many bytes were told. A piece without the others is told as the number that
 // it is to code that reads it alone: no note says more.
+#[tactic(auto, using(crate::proofs::Recording::adds_one))]
 fn tell_piece(
     recorder: &mut Recorder,
     objects: &Held,
@@ -91,7 +97,9 @@ fn tell_piece(
     v: &Value,
     k: u32,
     cells: &[Cell],
-) -> Result<usize, NoMemory> {
+) -> Result<usize, NoMemory>
+    ensures { IfOk result (λ _. spec.Adds recorder.old recorder.new) }
+{
     let word = objects.word(v)?;
     if at % 4 == 0 && is_whole(v, cells) {
         recorder.add(Note::Put { at, size: 4, word })?;
@@ -103,12 +111,15 @@ fn tell_piece(
 
 // The first of the bytes that are put at an address are told; how many. Of an unwritten one no note can be made: an object
 // is born with such bytes.
+#[tactic(auto, using(crate::proofs::Recording::adds_none, crate::proofs::Recording::adds_equal))]
 fn tell_first(
     recorder: &mut Recorder,
     objects: &Held,
     at: u32,
     cells: &[Cell],
-) -> Result<usize, NoMemory> {
+) -> Result<usize, NoMemory>
+    ensures { IfOk result (λ _. spec.Adds recorder.old recorder.new) }
+{
     let [first, ..] = cells else {
         return Ok(0);
     };
@@ -121,8 +132,11 @@ fn tell_first(
 
 impl Recorder {
     /// The last object was born.
+    #[tactic(auto, using(crate::proofs::Recording::adds_none, crate::proofs::Recording::adds_one))]
     #[inline(never)]
-    pub fn birth(&mut self, objects: &Held, size: u32, kind: Kind) -> Result<(), NoMemory> {
+    pub fn birth(&mut self, objects: &Held, size: u32, kind: Kind) -> Result<(), NoMemory>
+        ensures { IfOk result (λ _. spec.Adds self.old self.new) }
+    {
         let Ok(id) = u32::try_from(objects.as_slice().len()) else {
             return Err(NoMemory);
         };
@@ -138,6 +152,7 @@ impl Recorder {
     }
 
     /// Bytes are put into an object from an offset on.
+    #[tactic(auto, using(crate::proofs::Recording::adds_none, crate::proofs::Recording::adds_more))]
     #[inline(never)]
     pub fn puts(
         &mut self,
@@ -145,7 +160,9 @@ impl Recorder {
         id: u32,
         offset: u32,
         cells: &[Cell],
-    ) -> Result<(), NoMemory> {
+    ) -> Result<(), NoMemory>
+        ensures { IfOk result (λ _. spec.Adds self.old self.new) }
+    {
         let Some(base) = objects.base(id) else {
             return Ok(());
         };
@@ -162,6 +179,7 @@ impl Recorder {
     }
 
     /// A value was stored as `n` bytes of an object from an offset on.
+    #[tactic(auto, using(crate::proofs::Recording::adds_none, crate::proofs::Recording::adds_one))]
     #[inline(never)]
     pub fn stores(
         &mut self,
@@ -170,7 +188,9 @@ impl Recorder {
         offset: u32,
         n: u32,
         v: &Value,
-    ) -> Result<(), NoMemory> {
+    ) -> Result<(), NoMemory>
+        ensures { IfOk result (λ _. spec.Adds self.old self.new) }
+    {
         let (Some(base), Ok(size)) = (objects.base(id), u8::try_from(n)) else {
             return Ok(());
         };
@@ -180,7 +200,9 @@ impl Recorder {
 
     /// A word was stored as so many bytes from an address on. Only four bytes keep a pointer's tag.
     #[inline(never)]
-    pub fn keeps(&mut self, at: u32, size: u8, word: Word) -> Result<(), NoMemory> {
+    pub fn keeps(&mut self, at: u32, size: u8, word: Word) -> Result<(), NoMemory>
+        ensures { OnOk result (self.new ≡ spec.noted (notes.Put at size (spec.stored_word size word)) self.old) }
+    {
         let tag = if size == 4 { word.tag } else { 0 };
         self.add(Note::Put {
             at,
@@ -193,6 +215,7 @@ impl Recorder {
     }
 
     /// So many bytes went to an object and offset from an object and offset.
+    #[tactic(auto, using(crate::proofs::Recording::adds_none, crate::proofs::Recording::adds_one))]
     #[inline(never)]
     pub fn copies(
         &mut self,
@@ -202,7 +225,9 @@ impl Recorder {
         from: u32,
         off: u32,
         size: u32,
-    ) -> Result<(), NoMemory> {
+    ) -> Result<(), NoMemory>
+        ensures { IfOk result (λ _. spec.Adds self.old self.new) }
+    {
         match (objects.base(to), objects.base(from)) {
             (Some(target), Some(source)) => self.add(Note::Copy {
                 to: target.wrapping_add(at),
