@@ -178,6 +178,22 @@ fn remembered(
     run.remember(Layout { functions, places }, bases.as_slice())
 }
 
+// The same where it has none.
+fn given_memory(
+    alloc: Global,
+    run: &mut Run,
+    held: &[Text],
+    placed: &[Placed],
+    functions: &[Key],
+) -> Result<(), NoMemory>
+    ensures { run.new ≡ run.old }
+{
+    if run.has_memory() {
+        return Ok(());
+    }
+    remembered(alloc, run, held, placed, functions)
+}
+
 // How a run goes on that has become one of both forms.
 fn taken_course(course: Went) -> Course
     ensures { result ≡ spec.taken_course course }
@@ -217,9 +233,10 @@ fn taken(alloc: Global, run: Run, image: Image) -> MixedRun
     }
 }
 
-/// A run of interpreted modules alone becomes one of both forms, in this image. Its objects get addresses: those of static storage
-/// duration where they are placed, the automatic ones in the slots of their frames, and those of the heap in blocks. `held` are the texts
-/// that active calls run; `placed` and `functions` those of the version whose objects live.
+/// A run of interpreted modules alone becomes one of both forms, in this image. Its objects get addresses, where they have none: those of
+/// static storage duration where they are placed, the automatic ones in the slots of their frames, and those of the heap in blocks. `held`
+/// are the texts that active calls run; `placed` and `functions` those of the version whose objects live. A run to which somebody listens has
+/// its addresses, and its record goes on.
 ///
 /// # Errors
 ///
@@ -236,7 +253,7 @@ pub fn take_over(
     ensures err { IfErr result (λ back. back ≡ run) }
 {
     let mut run = run;
-    if remembered(alloc, &mut run, held, placed, functions).is_err() {
+    if given_memory(alloc, &mut run, held, placed, functions).is_err() {
         drop(image);
         return Err(run);
     }
