@@ -161,6 +161,25 @@ impl MixedRun {
     }
 }
 
+/// What is born from here on in a run of interpreted modules stands where it is placed, and the functions have these numbers, where the
+/// objects of the run have addresses. Nothing else changes.
+///
+/// # Errors
+///
+/// `NoMemory` alone.
+pub fn place_run(run: &mut Run, placed: &[Placed], functions: &[Key]) -> Result<(), NoMemory>
+    ensures { run.new ≡ run.old }
+{
+    if !run.has_memory() {
+        return Ok(());
+    }
+    let alloc = run.world().alloc();
+    let ids = placed_ids(alloc, placed)?;
+    let places = names_of(alloc, ids.as_slice())?;
+    let more = shared_behind(alloc, run.world().functions(), functions)?;
+    run.place(more.as_slice(), places)
+}
+
 // The world of a run gets a memory.
 fn remembered(
     alloc: Global,
