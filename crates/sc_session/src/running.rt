@@ -347,11 +347,7 @@ impl Session {
     }
 
     // Where the program stands in memory, where some probe listens: it is told of addresses.
-    fn layout_heard(
-        &self,
-        alloc: Global,
-        texts: &Items<Text>,
-    ) -> Result<Option<Layout>, NoMemory> {
+    fn layout_heard(&self, alloc: Global, texts: &Items<Text>) -> Result<Option<Layout>, NoMemory> {
         if !self.listened {
             return Ok(None);
         }
