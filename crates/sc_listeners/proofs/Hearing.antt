@@ -1,5 +1,5 @@
 -- What a probe has of notes that it is given in parts.
-use Rattle.std.proofs.Common.{◌≡◌, ◌≢◌, ℕ, List, ◌++◌, ◌∷◌, [], Bool, true, false, Option, Some, None, ap, sym, refl, ◌∙◌, append_assoc, subst, ◌+◌, ◌-◌, ◌^◌, ◌%◌, ◌<◌, ◌≤◌, suc, arith, length, drop, get_or, drop-cons}
+use Rattle.std.proofs.Common.{◌≡◌, ◌≢◌, ℕ, List, ◌++◌, ◌∷◌, [], true, false, Option, Some, None, ap, sym, refl, ◌∙◌, append_assoc, subst, ◌+◌, ◌-◌, ◌^◌, ◌%◌, ◌<◌, ◌≤◌, suc, arith, length, drop, get_or, drop-cons}
 use Rattle.std.proofs.lemmas.List.{append-nil}
 use Rattle.sc_base.specs.declared.note.Note.{Note}
 use Rattle.sc_outside.specs.Causes.{Rose}
@@ -8,9 +8,9 @@ use Rattle.sc_outside.specs.declared.probe.Noted.{Noted}
 use Rattle.sc_outside.specs.declared.probe.Noted.TheVariants as noted
 use Rattle.sc_base.specs.declared.memory.Word.{Word}
 use Rattle.sc_base.specs.declared.note.Note.TheVariants.{Put}
-use Rattle.sc_interp_world.specs.declared.recorder.Entry.{Entry}
+use Rattle.sc_listeners.specs.declared.entry.Entry.{Entry}
 use Rattle.sc_listeners.specs.Spread.{puts, spread, notes_of}
-use Rattle.sc_listeners.specs.Given.{Takes, CountsLoss, Hears, HearsEntry}
+use Rattle.sc_listeners.specs.Given.{Takes, Hears, HearsEntry}
 
 takes_none : (told told' : Option (List Note)) (n : Note) (r : Noted) → r ≢ noted.Kept → KeepsNote told told' n r → Takes told told' (n ∷ []) false
 takes_none None told' n r q k = tt

@@ -1,5 +1,5 @@
 -- What is told of one of a list.
-use Rattle.std.proofs.Common.{◌≡◌, ℕ, zero, suc, ◌<◌, ◌≤◌, List, [], ◌∷◌, length, get_or, set, map, Option, Some, None, ap, ap₂, refl, ◌∙◌, subst, arith}
+use Rattle.std.proofs.Common.{◌≡◌, ℕ, zero, suc, ◌<◌, ◌≤◌, List, [], ◌∷◌, length, get_or, set, map, Option, Some, None, ap, refl, ◌∙◌, subst, arith}
 use Rattle.sc_outside.specs.Told.{IsTextTold}
 use Rattle.sc_listeners.specs.Listed.{TellsAt}
 

@@ -1,5 +1,5 @@
 -- What the first probes of a list are given, place by place.
-use Rattle.std.proofs.Common.{◌≡◌, ℕ, zero, suc, ◌+◌, ◌<◌, ◌≤◌, List, [], ◌∷◌, length, get_or, set, Bool, true, false, not, Option, Some, None, ap, sym, refl, ◌∙◌, subst, arith, min, unwrap_or}
+use Rattle.std.proofs.Common.{◌≡◌, ℕ, zero, suc, ◌+◌, ◌<◌, ◌≤◌, List, [], ◌∷◌, length, get_or, set, Bool, true, false, not, Option, Some, ap, sym, refl, ◌∙◌, subst, arith, min, unwrap_or}
 use Rattle.std.specs.Prelude.{slice_get}
 use Rattle.sc_base.specs.declared.note.Note.{Note}
 use Rattle.sc_listeners.specs.Given.{Hears, IsGiven, EachIsGiven, IsUnheard, AreUnheard}

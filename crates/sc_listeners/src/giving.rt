@@ -3,12 +3,12 @@ ghost use Rattle.std.specs.Prelude.{◌≡◌, None, false};
 ghost use Rattle.sc_listeners.specs.Given.{AreUnheard, EachIsGiven, IsGiven, IsUnheard};
 ghost use Rattle.sc_listeners.specs.Spread.{notes_of};
 
-use sc_interp_world::Entry;
+use crate::Entry;
 use crate::one::give_entries;
 use sc_outside::{Deaf, Probe};
 
-// The most probes that have marks.
-const MARKS: usize = 16;
+/// The most probes that have marks.
+pub const MARKS: usize = 16;
 
 // Whether a probe wants to be told at all.
 fn listens(probe: &Box<dyn Probe>) -> bool
@@ -21,7 +21,7 @@ fn listens(probe: &Box<dyn Probe>) -> bool
 fn is_open(probe: &Box<dyn Probe>, marked: bool) -> bool
     ensures { result ≡ false → IsUnheard (notes probe.now) marked }
 {
-    !marked && probe.listens()
+    !marked && listens(probe)
 }
 
 /// Whether some probe that is not marked listens.

@@ -3,6 +3,7 @@ ghost use Rattle.std.specs.Prelude.{◌≡◌, length, map, remove, if◌then◌
 ghost use Rattle.sc_outside.specs.Told.{IsTextTold};
 ghost use Rattle.sc_listeners.specs.Listed.{TellsAt, marks_without, may_go};
 
+use crate::giving::MARKS;
 use sc_base::NoMemory;
 use sc_outside::{Deaf, Probe};
 
@@ -38,7 +39,7 @@ pub fn drop_probe(probes: &mut Vec<Box<dyn Probe>>, deaf: &mut Deaf, k: u32) -> 
     if place == 0 || probes.len() <= place {
         return false;
     }
-    if place < 16 {
+    if place < MARKS {
         deaf.dropped(place);
     }
     drop(probes.remove(place));

@@ -5,7 +5,7 @@ ghost use Rattle.sc_outside.specs.Told.{KeepsNote};
 ghost use Rattle.sc_listeners.specs.Given.{Hears, HearsEntry};
 ghost use Rattle.sc_listeners.specs.Spread.{puts, filled, notes_of};
 
-use sc_interp_world::Entry;
+use crate::Entry;
 use sc_base::{Note, Word};
 use sc_outside::{Noted, Probe};
 

@@ -1,4 +1,3 @@
-use Rattle.std.proofs.Common.{rules}
 use Rattle.sc_listeners.proofs.Hearing.{put_given, put_lost, puts_end}
 use Rattle.sc_listeners.proofs.one.give_puts.Goals as goal
 
