@@ -63,6 +63,7 @@ pub fn shown_machine(alloc: Global, machine: &Machine) -> Answer
 }
 
 /// The answer to `report`.
+#[tactic(auto, using(crate::proofs::HearingLemmas::heard_told))]
 pub fn report_of(k: u32, probes: &mut Vec<Box<dyn Probe>>) -> Answer
     ensures answer { spec.Reports k result }
     ensures probes { AreHeard (λ p. notes p) probes.old.items probes.new.items }

@@ -144,6 +144,7 @@ impl Session {
     /// # Errors
     ///
     /// `Unsent` where that could not be written.
+    #[tactic(auto, using(crate::proofs::HearingLemmas::heard_still))]
     pub fn carry_out<K: Sink, F: Files>(
         &mut self,
         alloc: Global,
@@ -163,16 +164,51 @@ impl Session {
         ensures probes { AreHeard (λ p. notes p) probes.old.items probes.new.items }
     {
         match ask_for(command) {
-            Asked::Go(go) => {
-                self.listened = is_heard(probes, &self.deaf);
-                let said = self.let_go(alloc, go, out, files);
-                give(probes, &mut self.deaf, self.heard.record.as_slice());
-                self.heard.record.clear();
-                said
-            }
+            Asked::Go(go) => self.let_go_heard(alloc, go, out, files, probes),
             Asked::Do(deed) => Ok(self.undertake(alloc, deed, files, probes)),
             Asked::Refused(denied) => Ok(Answer::Refused(denied)),
         }
+    }
+
+    // Lets the program go on, where that is not refused, and gives the probes what was recorded.
+    fn let_go_heard<K: Sink, F: Files>(
+        &mut self,
+        alloc: Global,
+        go: Go,
+        out: &mut K,
+        files: &mut F,
+        probes: &mut Vec<Box<dyn Probe>>,
+    ) -> Result<Answer, Unsent>
+        requires named { IsNamed (asking.go_command go) }
+        ensures step { MatchResult result (λ said. Speaks (K.written out.old) (K.written out.new) (moment self.old (F.held files.old) (F.faults files.old)) (asking.go_command go) said (moment self.new (F.held files.new) (F.faults files.new)))
+            (λ _. BreaksOff (K.written out.old) (K.written out.new) (moment self.old (F.held files.old) (F.faults files.old)) (asking.go_command go) (F.held files.new)) }
+        ensures out_later { K.faults out.old ≤ K.faults out.new }
+        ensures failed { result ≡ Err unsent.Failed → Rose (K.faults out.old) (K.faults out.new) }
+        ensures later { F.faults files.old ≤ F.faults files.new }
+        ensures held { F.held files.new ≡ F.held files.old }
+        ensures probes { AreHeard (λ p. notes p) probes.old.items probes.new.items }
+    {
+        self.listen(probes);
+        let said = self.let_go(alloc, go, out, files);
+        self.hand_out(probes);
+        said
+    }
+
+    // Finds out whether some probe listens.
+    fn listen(&mut self, probes: &Vec<Box<dyn Probe>>)
+        ensures { self.new ≡ self.old }
+    {
+        self.listened = is_heard(probes, &self.deaf);
+    }
+
+    // Gives the probes what the last go recorded.
+    #[tactic(auto, using(crate::proofs::HearingLemmas::heard_so))]
+    fn hand_out(&mut self, probes: &mut Vec<Box<dyn Probe>>)
+        ensures session { self.new ≡ self.old }
+        ensures probes { AreHeard (λ p. notes p) probes.old.items probes.new.items }
+    {
+        give(probes, &mut self.deaf, self.heard.record.as_slice());
+        self.heard.record.clear();
     }
 
     // Lets the program go on, where that is not refused.
@@ -278,6 +314,7 @@ impl Session {
     }
 
     // Does what no program goes on for, where that is not refused.
+    #[tactic(auto, using(crate::proofs::HearingLemmas::heard_still))]
     fn undertake<F: Files>(
         &mut self,
         alloc: Global,
@@ -325,6 +362,7 @@ impl Session {
     }
 
     // Does what is not refused.
+    #[tactic(auto, using(crate::proofs::HearingLemmas::heard_still))]
     fn carry<F: Files>(
         &mut self,
         alloc: Global,
@@ -402,6 +440,7 @@ impl Session {
         Answer::Deleted(k)
     }
 
+    #[tactic(auto, using(crate::proofs::HearingLemmas::heard_gone))]
     fn drop_probe(&mut self, k: u32, probes: &mut Vec<Box<dyn Probe>>) -> Answer
         ensures answer { probing.Drops k self.old result self.new }
         ensures probes { AreHeard (λ p. notes p) probes.old.items probes.new.items }
