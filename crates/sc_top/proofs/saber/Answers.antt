@@ -1,4 +1,5 @@
 use Rattle.std.proofs.Common.{◌≡◌, Some, None, inl, length, refl}
+use Rattle.sc_listeners.proofs.Lasting.{heard_same}
 use Rattle.sc_session.proofs.FileLemmas.{keeps_none}
 use Rattle.sc_session.specs.Transcript.{moment, empty, limits_of}
 use Rattle.sc_words.specs.declared.options.Options.{Options as Asked}
@@ -44,3 +45,9 @@ returns-in-Ok-clause-made g c = λ asked count is.
     as_asked (λ (o : Asked). o.make ≡ Some count → (c.do_asked.new.commands ≡ c.args.commands.now) × (c.do_asked.new.files ≡ c.args.files.now)
     × IsMade (limits_of o) (length c.args.probes.now.items) count (g.K.Sink.written c.args.out.now) (g.K.Sink.written c.do_asked.new.out) c.do_asked.result)
     _ c.in-Ok.options c.in-Ok.ensures.ok (c.do_asked.ensures.made count) asked is
+
+pub returns-in-Err-Bad-clause-probes : goal.returns-in-Err-Bad-clause-probes
+returns-in-Err-Bad-clause-probes g c = heard_same _ c.args.probes.now.items
+
+pub returns-in-Err-NoMemory-clause-probes : goal.returns-in-Err-NoMemory-clause-probes
+returns-in-Err-NoMemory-clause-probes g c = heard_same _ c.args.probes.now.items
