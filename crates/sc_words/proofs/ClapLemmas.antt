@@ -180,17 +180,17 @@ text_of None = codes "true"
 text_of (Some value) = value
 
 abbrev pub row_for : Given → Row
-row_for option = row (drop 2 option.0) (text_of option.1)
+row_for g = row (drop 2 g.0) (text_of g.1)
 
 abbrev pub found_for : Text → List Row → Option Row
 found_for id rows = find (λ r. bytes_eq r.id id) rows
 
-joined : (found : Option Row) (b : Bool) (option : Given) (rest : Option Given)
-    → option_or (option_or found (cond b (Some (row_for option)) None)) (option_map row_for rest) ≡ option_or found (option_map row_for (cond b (Some option) rest))
-joined None true option rest = refl
-joined None false option rest = refl
-joined (Some r) true option rest = refl
-joined (Some r) false option rest = refl
+joined : (front : Option Row) (b : Bool) (g : Given) (rest : Option Given)
+    → option_or (option_or front (cond b (Some (row_for g)) None)) (option_map row_for rest) ≡ option_or front (option_map row_for (cond b (Some g) rest))
+joined None true g rest = refl
+joined None false g rest = refl
+joined (Some r) true g rest = refl
+joined (Some r) false g rest = refl
 
 -- one row more is one option more
 found_step : (id j : Text) (value : Option Text) (now : List Row) (options : List Given)

@@ -31,11 +31,14 @@ saber_is_simple : is_simple saber ≡ true
 unfolding clap_on_literals
 saber_is_simple = refl
 
+rows_of_same : (found expected : App) (words : List Text) (m : ArgMatches) → found ≡ expected → is_simple expected ≡ true → HasMatchesOf found words m
+    → rows_of (found_of m) ≡ matches_of expected words
+rows_of_same found expected words m is simple has = (has (ap is_simple is ∙ simple)).0 ∙ ap (λ (a : App). matches_of a words) is
+
 pub rows_of_saber : (command : Command) (words : List Text) (r : Result ArgMatches Error) → app_of command ≡ saber → IfOk r (HasMatchesOf (app_of command) words)
     → IfOk r (λ m. rows_of (found_of m) ≡ rows_in words)
 unfolding rows_in
-rows_of_saber command words r is h =
-    IfOk-weaker r _ _ (λ m has. (has (ap is_simple is ∙ saber_is_simple)).0 ∙ ap (λ (a : App). matches_of a words) is) h
+rows_of_saber command words r is h = IfOk-weaker r _ _ (λ m has. rows_of_same (app_of command) saber words m is saber_is_simple has) h
 
 pub only_memory : (command : Command) (words : List Text) (r : Result ArgMatches Error) → app_of command ≡ saber
     → IfErr r (λ e. takes (app_of command) words ≡ true → kind_of e ≡ OutOfMemory) → takes_words words ≡ true → IfErr r (λ e. kind_of e ≡ OutOfMemory)

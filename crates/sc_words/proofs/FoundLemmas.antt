@@ -1,5 +1,5 @@
 -- What `clap` finds in options.
-use Rattle.std.proofs.Common.{◌≡◌, ◌∙◌, ◌&&◌, Bool, true, false, not, List, [], ◌∷◌, ◌++◌, Option, Some, None, cond, refl, sym, ap, codes, true≢false, is_some, option_map}
+use Rattle.std.proofs.Common.{◌≡◌, ◌∙◌, ◌&&◌, Bool, true, false, not, List, [], ◌∷◌, ◌++◌, inl, inr, Option, Some, None, cond, refl, sym, ap, codes, true≢false, is_some, option_map}
 use Rattle.std.specs.List.{find, fold, list_all}
 use Rattle.std.specs.Option.{option_and_then, option_or}
 use Rattle.std.specs.Prelude.{slice_get}
@@ -178,16 +178,16 @@ count_flagged = record { flag = refl; defaults = count_default }
 
 flag_by : (there answer : Bool) (text : Option Text) → text ≡ Some (flag_text there) → (text ≡ Some (codes "true") → answer ≡ true) → (text ≡ Some (codes "false") → answer ≡ false)
     → answer ≡ there
-flag_by true answer text is yes no = yes is
-flag_by false answer text is yes no = no is
+flag_by true answer text is given_so other = given_so is
+flag_by false answer text is given_so other = other is
 
 module _ (matches : ArgMatches) (words : List Text) (l : is_listed all (given words) ≡ true) (is : rows_of (found_of matches) ≡ rows_in words) where
   -- What `clap` says of a flag is that it is given or not.
   pub flag_found : (id : Text) (answer : Bool) → IsFlagged id → (one_text (found_of matches) id ≡ Some (codes "true") → answer ≡ true)
       → (one_text (found_of matches) id ≡ Some (codes "false") → answer ≡ false) → answer ≡ has_flag (45 ∷ 45 ∷ id) (given words)
-  flag_found id answer v yes no =
+  flag_found id answer v given_so other =
       let option = named (45 ∷ 45 ∷ id) (given words) in
       let text : one_text (found_of matches) id ≡ Some (flag_text (is_some option)) =
       one_text-rows (found_of matches) id ∙ ap (one_of id) is ∙ ap (option_and_then row_text) (found_so words id l ∙ v.defaults (option_map row_for option))
       ∙ flag_shown id option (named_so (45 ∷ 45 ∷ id) (given words) all l) v.flag in
-      flag_by (is_some option) answer (one_text (found_of matches) id) text yes no
+      flag_by (is_some option) answer (one_text (found_of matches) id) text given_so other
