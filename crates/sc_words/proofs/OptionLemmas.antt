@@ -1,11 +1,16 @@
 -- Options from the front of the words, and what they ask for.
-use Rattle.std.proofs.Common.{◌≡◌, ◌&&◌, ◌⊎◌, inl, inr, ℕ, Bool, true, false, not, if◌then◌else◌, List, [], ◌∷◌, Option, Some, None, is_some, option_map, map, codes, refl, sym, ap, subst, ◌∙◌, true≢false}
+use Rattle.std.proofs.Common.{◌≡◌, ◌↔◌, ◌&&◌, ◌⊎◌, inl, inr, ℕ, Bool, true, false, not, if◌then◌else◌, List, [], ◌∷◌, Option, Some, None, is_some, option_map, Result, Err, IsErrOf, map, codes, refl, sym, ap, subst, ◌∙◌, true≢false}
 use Rattle.std.specs.Option.{option_and_then, option_map_or}
 use Rattle.std.specs.Str.{bytes_eq}
 use Rattle.std.proofs.lemmas.Slice.Eq.{bytes_eq-Decides}
 use Rattle.sc_words.specs.Options.{Flags, Given, all, fits, given, heap_range, is_flag, is_listed, is_right, is_value, make_range, modules_or, named, number_in, number_or, options_by, options_in, options_of, stack_range, taken, turns_range}
+use Rattle.sc_words.specs.CommandLine.{IsFound, options_found}
 use Rattle.sc_words.specs.Listing.{behind}
+use Rattle.sc_words.specs.declared.command_line.Found.{Found}
 use Rattle.sc_words.specs.declared.listed.Left.{Left}
+use Rattle.sc_words.specs.declared.options.Options.{Options}
+use Rattle.sc_words.specs.declared.options.WordsFault.{WordsFault}
+use Rattle.sc_words.specs.declared.options.WordsFault.TheVariants.{Bad, NoMemory}
 
 pub both : (a b : Bool) → (a && b) ≡ true → (a ≡ true) × (b ≡ true)
 both true b e = (refl, e)
@@ -135,3 +140,17 @@ listed_some words l none =
     (turns_some _ (right (codes "--turns"))) (make_some _ (right (codes "--make"))) in
     let same : options_in (given words) ≡ None = sym (ap (λ b. if b then options_in (given words) else None) l) ∙ none in
     true≢false (sym some ∙ ap is_some same)
+
+-- what is found asks for what the words ask for
+pub found_asks : (found : Found) (words : List (List ℕ)) → is_listed all (given words) ≡ true → IsFound found (given words) → options_found found ≡ options_of words
+found_asks found words l is =
+    let whole : options_found found ≡ options_in (given words) =
+    rw (is.stack, is.heap, is.turns, is.dir, is.make, is.trace, is.coverage, is.count) refl in
+    whole ∙ sym (ap (λ b. if b then options_in (given words) else None) l)
+
+pub bad_so : (r s : Result Options WordsFault) (o p : Option Options) → IsErrOf s Bad ↔ (o ≡ None) → r ≡ s → o ≡ p → IsErrOf r Bad ↔ (p ≡ None)
+bad_so r s o p h same asks = (λ bad. sym asks ∙ h.0 (subst (λ x. IsErrOf x Bad) same bad), λ none. subst (λ x. IsErrOf x Bad) (sym same) (h.1 (asks ∙ none)))
+
+pub memory_so : (r : Result Options WordsFault) (o : Option Options) → r ≡ Err NoMemory → (o ≡ None → ⊥) → IsErrOf r Bad ↔ (o ≡ None)
+memory_so r o same some =
+    (λ bad. absurd (cc), λ none. absurd (some none))

@@ -41,10 +41,7 @@ fn taken(left: Left, name: &[u8]) -> Option<Left>
         });
     }
     if name == b"--dir".as_slice() {
-        return left.dir.then_some(Left {
-            dir: false,
-            ..left
-        });
+        return left.dir.then_some(Left { dir: false, ..left });
     }
     if name == b"--make".as_slice() {
         return left.make.then_some(Left {
@@ -83,7 +80,9 @@ fn flag_taken(left: Left, name: &[u8]) -> Option<Left>
 fn is_flag(name: &[u8]) -> bool
     ensures { result ≡ is_flag name.now }
 {
-    name == b"--trace".as_slice() || name == b"--coverage".as_slice() || name == b"--count".as_slice()
+    name == b"--trace".as_slice()
+        || name == b"--coverage".as_slice()
+        || name == b"--count".as_slice()
 }
 
 fn is_value(word: &[u8]) -> bool
