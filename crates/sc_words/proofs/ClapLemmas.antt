@@ -1,5 +1,5 @@
 -- The walk of `clap` over options.
-use Rattle.std.proofs.Common.{◌≡◌, ◌∙◌, ◌&&◌, ◌||◌, ◌⊎◌, inl, inr, ℕ, Bool, true, false, not, List, [], ◌∷◌, ◌++◌, Option, Some, None, cond, drop, refl, sym, ap, subst, codes, true≢false, eqb, is_some, option_map, Result, IfOk}
+use Rattle.std.proofs.Common.{◌≡◌, ◌∙◌, ◌&&◌, inl, inr, ℕ, Bool, true, false, not, List, [], ◌∷◌, ◌++◌, Option, Some, None, cond, drop, refl, sym, ap, subst, codes, true≢false, eqb, option_map}
 use Rattle.std.specs.List.{find, fold}
 use Rattle.std.specs.Option.{option_map_or, option_or}
 use Rattle.std.specs.Str.{bytes_eq}

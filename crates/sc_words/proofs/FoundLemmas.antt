@@ -1,6 +1,6 @@
 -- What `clap` finds in options.
-use Rattle.std.proofs.Common.{◌≡◌, ◌∙◌, ◌&&◌, Bool, true, false, not, List, [], ◌∷◌, ◌++◌, inl, inr, Option, Some, None, cond, refl, sym, ap, codes, true≢false, is_some, option_map}
-use Rattle.std.specs.List.{find, fold, list_all}
+use Rattle.std.proofs.Common.{◌≡◌, ◌∙◌, ◌&&◌, Bool, true, false, not, List, [], ◌∷◌, inl, inr, Option, Some, None, cond, refl, sym, ap, codes, true≢false, is_some, option_map}
+use Rattle.std.specs.List.{fold, list_all}
 use Rattle.std.specs.Option.{option_and_then, option_or}
 use Rattle.std.specs.Prelude.{slice_get}
 use Rattle.std.specs.Str.{bytes_eq}
@@ -16,7 +16,7 @@ use Rattle.clap.proofs.WalkLemmas.{first_value-rows, one_text-rows}
 use Rattle.sc_words.specs.CommandLine.{flag_rule, option_rule, rows_in, saber, takes_words}
 use Rattle.sc_words.specs.Options.{Given, all, fits, given, has_flag, is_flag, is_listed, is_value, named, value_of}
 use Rattle.sc_words.proofs.ClapLemmas.{at, found_for, from_nothing, held, row_for, rules, top}
-use Rattle.sc_words.proofs.OptionLemmas.{IsFor, both, cases, named_so}
+use Rattle.sc_words.proofs.OptionLemmas.{IsFor, cases, named_so}
 use Rattle.sc_words.proofs.RowLemmas.{at_row-absent, found_first, or_none, same_text, shown}
 
 -- ---- what is found for what is not given

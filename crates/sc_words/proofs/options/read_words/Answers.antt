@@ -1,4 +1,4 @@
-use Rattle.std.proofs.Common.{◌≡◌, ◌∙◌, true, map, string_bytes, sym, rules}
+use Rattle.std.proofs.Common.{◌≡◌, ◌∙◌, true, map, string_bytes, sym}
 use Rattle.sc_words.specs.Options.{is_listed, all, given}
 use Rattle.sc_words.proofs.OptionLemmas.{bad_so, found_asks, listed_some, memory_so}
 use Rattle.sc_words.proofs.options.read_words.Goals as goal
