@@ -36,6 +36,12 @@ all = record {
   count = true;
 }
 
+abbrev pub flag_taken : Left → List ℕ → Option Left
+flag_taken left name =
+    if bytes_eq name (codes "--trace") then (if left.trace then Some (record left { trace = false }) else None)
+    else (if bytes_eq name (codes "--coverage") then (if left.coverage then Some (record left { coverage = false }) else None)
+    else (if bytes_eq name (codes "--count") then (if left.count then Some (record left { count = false }) else None) else None))
+
 -- those that may be given after this one, where it may be given
 abbrev pub taken : Left → List ℕ → Option Left
 taken left name =
@@ -44,10 +50,7 @@ taken left name =
     else (if bytes_eq name (codes "--turns") then (if left.turns then Some (record left { turns = false }) else None)
     else (if bytes_eq name (codes "--dir") then (if left.dir then Some (record left { dir = false }) else None)
     else (if bytes_eq name (codes "--make") then (if left.make then Some (record left { make = false }) else None)
-    else (if bytes_eq name (codes "--trace") then (if left.trace then Some (record left { trace = false }) else None)
-    else (if bytes_eq name (codes "--coverage") then (if left.coverage then Some (record left { coverage = false }) else None)
-    else (if bytes_eq name (codes "--count") then (if left.count then Some (record left { count = false }) else None)
-    else None)))))))
+    else flag_taken left name))))
 
 -- a value does not begin with `-`
 abbrev pub is_value : List ℕ → Bool

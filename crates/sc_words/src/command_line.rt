@@ -132,15 +132,17 @@ pub fn found_in<'a>(alloc: Global, words: &'a [String]) -> Result<Found<'a>, Err
     ensures found { IfOk result (λ found. IsFound found (given (map string_bytes words.entry.now))) }
     ensures memory { IfErr result (λ e. kind_of e ≡ ErrorKind.OutOfMemory) }
 {
-    let matches = parsed(alloc, words)?;
-    Ok(Found {
-        stack: matches.get_str("stack"),
-        heap: matches.get_str("heap"),
-        turns: matches.get_str("turns"),
-        dir: matches.get_str("dir"),
-        make: matches.get_str("make"),
-        trace: matches.get_flag("trace"),
-        coverage: matches.get_flag("coverage"),
-        count: matches.get_flag("count"),
-    })
+    match parsed(alloc, words) {
+        Ok(matches) => Ok(Found {
+            stack: matches.get_str("stack"),
+            heap: matches.get_str("heap"),
+            turns: matches.get_str("turns"),
+            dir: matches.get_str("dir"),
+            make: matches.get_str("make"),
+            trace: matches.get_flag("trace"),
+            coverage: matches.get_flag("coverage"),
+            count: matches.get_flag("count"),
+        }),
+        Err(error) => Err(error),
+    }
 }

@@ -1,10 +1,9 @@
 // Whether words are options, those with a value with one that is right.
 ghost use Rattle.std.specs.Prelude.{◌≡◌, ◌≤◌, length, IfSome, map, option_map, string_bytes};
-ghost use Rattle.sc_words.specs.Options.{is_flag, is_listed, is_value, fits, taken, all, given};
+ghost use Rattle.sc_words.specs.Options.{is_flag, is_listed, is_value, fits, taken, flag_taken, all, given};
 ghost use Rattle.sc_words.specs.Listing.{behind};
 
 use crate::range::{heap_in, make_in, stack_in, turns_in};
-use std::mem;
 
 // Which options may still be given.
 #[derive(Clone, Copy)]
@@ -23,25 +22,67 @@ pub struct Left {
 fn taken(left: Left, name: &[u8]) -> Option<Left>
     ensures { result ≡ taken left name.now }
 {
-    let mut fewer = left;
-    let may = match name {
-        b"--stack" => mem::replace(&mut fewer.stack, false),
-        b"--heap" => mem::replace(&mut fewer.heap, false),
-        b"--turns" => mem::replace(&mut fewer.turns, false),
-        b"--dir" => mem::replace(&mut fewer.dir, false),
-        b"--make" => mem::replace(&mut fewer.make, false),
-        b"--trace" => mem::replace(&mut fewer.trace, false),
-        b"--coverage" => mem::replace(&mut fewer.coverage, false),
-        b"--count" => mem::replace(&mut fewer.count, false),
-        _ => false,
-    };
-    if may { Some(fewer) } else { None }
+    if name == b"--stack".as_slice() {
+        return left.stack.then_some(Left {
+            stack: false,
+            ..left
+        });
+    }
+    if name == b"--heap".as_slice() {
+        return left.heap.then_some(Left {
+            heap: false,
+            ..left
+        });
+    }
+    if name == b"--turns".as_slice() {
+        return left.turns.then_some(Left {
+            turns: false,
+            ..left
+        });
+    }
+    if name == b"--dir".as_slice() {
+        return left.dir.then_some(Left { dir: false, ..left });
+    }
+    if name == b"--make".as_slice() {
+        return left.make.then_some(Left {
+            make: false,
+            ..left
+        });
+    }
+    flag_taken(left, name)
+}
+
+// The same of a flag.
+fn flag_taken(left: Left, name: &[u8]) -> Option<Left>
+    ensures { result ≡ flag_taken left name.now }
+{
+    if name == b"--trace".as_slice() {
+        return left.trace.then_some(Left {
+            trace: false,
+            ..left
+        });
+    }
+    if name == b"--coverage".as_slice() {
+        return left.coverage.then_some(Left {
+            coverage: false,
+            ..left
+        });
+    }
+    if name == b"--count".as_slice() {
+        return left.count.then_some(Left {
+            count: false,
+            ..left
+        });
+    }
+    None
 }
 
 fn is_flag(name: &[u8]) -> bool
     ensures { result ≡ is_flag name.now }
 {
-    name == b"--trace".as_slice() || name == b"--coverage".as_slice() || name == b"--count".as_slice()
+    name == b"--trace".as_slice()
+        || name == b"--coverage".as_slice()
+        || name == b"--count".as_slice()
 }
 
 fn is_value(word: &[u8]) -> bool

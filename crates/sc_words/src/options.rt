@@ -89,8 +89,8 @@ fn folder_or<'a>(value: Option<&'a str>) -> &'a [u8]
 
 // What was found for the options asks for.
 fn options_from(alloc: Global, found: Found) -> Result<Options, WordsFault>
-    ensures ok { IfOk result (λ options. options_found found ≡ Some options) }
-    ensures bad { IsErrOf result WordsFault.Bad ↔ (options_found found ≡ None) }
+    ensures ok { IfOk result (λ options. options_found found.entry ≡ Some options) }
+    ensures bad { IsErrOf result WordsFault.Bad ↔ (options_found found.entry ≡ None) }
 {
     let Some(stack) = stack_or(found.stack) else {
         return Err(WordsFault::Bad);
