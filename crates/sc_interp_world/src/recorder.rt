@@ -47,14 +47,17 @@ pub struct Machine {
     pub executed: u64,
 }
 
-// The machine as a run begins: all registers are 0, but for the stack's.
-fn machine_at_start() -> Machine {
-    let mut words = [ZERO; 32];
-    words[2] = plain(STACK_END);
-    Machine {
-        pc: OUTSIDE,
-        words,
-        executed: 0,
+impl Machine {
+    /// The machine as a run begins: all registers are 0, but for the stack's, and the next instruction is where calls from outside
+    /// return to.
+    pub fn new() -> Machine {
+        let mut words = [ZERO; 32];
+        words[2] = plain(STACK_END);
+        Machine {
+            pc: OUTSIDE,
+            words,
+            executed: 0,
+        }
     }
 }
 
@@ -110,7 +113,7 @@ impl Recorder {
             active: Stack::new(alloc),
             last: 0,
             entries: Items::new(alloc),
-            machine: machine_at_start(),
+            machine: Machine::new(),
         }
     }
 

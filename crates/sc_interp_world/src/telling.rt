@@ -89,7 +89,7 @@ fn tell_equal(recorder: &mut Recorder, at: u32, byte: u8, cells: &[Cell]) -> Res
 
 // The first byte is piece k of a pointer; how many bytes were told. A piece without the others is told as the number that
 // it is to code that reads it alone: no note says more.
-#[tactic(auto, using(crate::proofs::Recording::adds_one))]
+#[tactic(auto, using(crate::proofs::RecordLemmas::adds_one))]
 fn tell_piece(
     recorder: &mut Recorder,
     objects: &Held,
@@ -111,7 +111,7 @@ fn tell_piece(
 
 // The first of the bytes that are put at an address are told; how many. Of an unwritten one no note can be made: an object
 // is born with such bytes.
-#[tactic(auto, using(crate::proofs::Recording::adds_none, crate::proofs::Recording::adds_equal))]
+#[tactic(auto, using(crate::proofs::RecordLemmas::adds_none, crate::proofs::RecordLemmas::adds_equal))]
 fn tell_first(
     recorder: &mut Recorder,
     objects: &Held,
@@ -132,7 +132,7 @@ fn tell_first(
 
 impl Recorder {
     /// The last object was born.
-    #[tactic(auto, using(crate::proofs::Recording::adds_none, crate::proofs::Recording::adds_one))]
+    #[tactic(auto, using(crate::proofs::RecordLemmas::adds_none, crate::proofs::RecordLemmas::adds_one))]
     #[inline(never)]
     pub fn birth(&mut self, objects: &Held, size: u32, kind: Kind) -> Result<(), NoMemory>
         ensures { IfOk result (λ _. spec.Adds self.old self.new) }
@@ -152,7 +152,7 @@ impl Recorder {
     }
 
     /// Bytes are put into an object from an offset on.
-    #[tactic(auto, using(crate::proofs::Recording::adds_none, crate::proofs::Recording::adds_more))]
+    #[tactic(auto, using(crate::proofs::RecordLemmas::adds_none, crate::proofs::RecordLemmas::adds_more))]
     #[inline(never)]
     pub fn puts(
         &mut self,
@@ -179,7 +179,7 @@ impl Recorder {
     }
 
     /// A value was stored as `n` bytes of an object from an offset on.
-    #[tactic(auto, using(crate::proofs::Recording::adds_none, crate::proofs::Recording::adds_one))]
+    #[tactic(auto, using(crate::proofs::RecordLemmas::adds_none, crate::proofs::RecordLemmas::adds_one))]
     #[inline(never)]
     pub fn stores(
         &mut self,
@@ -215,7 +215,7 @@ impl Recorder {
     }
 
     /// So many bytes went to an object and offset from an object and offset.
-    #[tactic(auto, using(crate::proofs::Recording::adds_none, crate::proofs::Recording::adds_one))]
+    #[tactic(auto, using(crate::proofs::RecordLemmas::adds_none, crate::proofs::RecordLemmas::adds_one))]
     #[inline(never)]
     pub fn copies(
         &mut self,

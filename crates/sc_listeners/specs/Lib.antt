@@ -2,3 +2,4 @@
 pub mod Spread
 pub mod Given
 pub mod Listed
+pub mod Hearing

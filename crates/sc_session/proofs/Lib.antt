@@ -11,3 +11,4 @@ pub mod MixingLemmas
 pub mod FormLemmas
 pub mod AskingLemmas
 pub mod RelinkingLemmas
+pub mod HearingLemmas

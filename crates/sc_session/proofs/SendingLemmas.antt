@@ -429,7 +429,10 @@ writes_first old (command.Stop place) front p = p
 writes_first old (command.Delete k) front p = p
 writes_first old command.Frames front p = p
 writes_first old (command.Print name) front p = p
+writes_first old command.Machine front p = p
 writes_first old command.List front p = p
+writes_first old (command.Report k) front p = p
+writes_first old (command.Drop k) front p = p
 writes_first old command.Reset front p = p
 writes_first old command.Quit front p = p
 
@@ -451,7 +454,10 @@ quiet_so old command.Next said new p = absurd p
 quiet_so old command.Cont said new p = absurd p
 quiet_so old command.Frames said new p = (refl, p)
 quiet_so old (command.Print name) said new p = (refl, p)
+quiet_so old command.Machine said new p = (refl, p)
 quiet_so old command.List said new p = (refl, p)
+quiet_so old (command.Report k) said new p = (refl, p)
+quiet_so old (command.Drop k) said new p = (refl, p)
 quiet_so old command.Reset said new p = (refl, p)
 quiet_so old command.Quit said new p = (refl, p)
 

@@ -1,5 +1,6 @@
 // A session: the modules that are present, the stops, a run, and the commands that change them.
 ghost use Rattle.std.specs.Prelude.{◌≡◌, ◌≤◌, true, false, [], None, Err, IfOk, MatchResult};
+ghost use Rattle.sc_listeners.specs.Hearing.{AreHeard};
 ghost use Rattle.sc_outside.specs.Causes.{Rose};
 ghost use Rattle.sc_words.specs.Commands.{IsNamed};
 ghost use Rattle.sc_words.specs.Parts.{is_module_name};
@@ -10,6 +11,7 @@ ghost use Rattle.sc_session.specs.Going as going;
 ghost use Rattle.sc_session.specs.Mixing as mixing;
 ghost use Rattle.sc_session.specs.Modules.{texts};
 ghost use Rattle.sc_session.specs.Plain.{Plain};
+ghost use Rattle.sc_session.specs.Probing as probing;
 ghost use Rattle.sc_session.specs.Showing as showing;
 ghost use Rattle.sc_session.specs.States.{if_absent, refusal_of};
 ghost use Rattle.sc_session.specs.Stopping as stopping;
@@ -19,20 +21,23 @@ ghost use Rattle.sc_world.specs.declared.post.Unsent.TheVariants as unsent;
 
 use crate::asking::{Asked, Deed, Go, ask_for};
 use crate::compiling::write_compiled;
-use crate::going::run_in;
+use crate::going::{run_in, stays_in_line};
+use crate::hearing::{Heard, report_of, shown_machine};
 use crate::limits::Limits;
 use crate::listing::{Sight, calls_told, list_text, value_told};
 use crate::mixing::{is_mixed, mixed_calls_told, mixed_in, mixed_value_told};
 use crate::present::{Present, object_named, texts_of};
 use crate::refusal::{
-    continuing, deleting, if_absent, loading, replacing, setting, starting, stepping,
+    continuing, deleting, if_absent, if_no_probe, if_not_droppable, loading, machining, replacing,
+    setting, starting, stepping,
 };
 use crate::state::{State, is_over, put_state};
 use crate::stops::{Stop, delete_stop, put_stop};
 use crate::versions::{kept_count, scopes_at, stays, texts_held, versions_from, versions_of};
 use sc_base::{Duplicate, Items, Name, NoMemory};
 use sc_core_held::{Numbers, Text};
-use sc_outside::{Files, Sink};
+use sc_listeners::{drop_probe, give, is_heard};
+use sc_outside::{Deaf, Files, Probe, Sink};
 use sc_session_conflicts::waits;
 use sc_words::{Answer, Command, Denied, Options, StopAt, Walk};
 use sc_world::Unsent;
@@ -40,8 +45,9 @@ use std::alloc::Global;
 use std::marker::Model;
 
 /// The modules that are present, in the order in which they were loaded; what they were before each change of a run that goes on, and how
-/// many of these changes it has gone through; how many texts were loaded; the functions that have numbers; the stops; and how a run
-/// stands.
+/// many of these changes it has gone through; how many texts were loaded; the functions that have numbers; the stops; how a run
+/// stands; and how many probes there are. Beside that, which probes are deaf, whether some probe listens to the run that goes on, what the
+/// last go recorded, and the registers behind it.
 #[derive(Drop)]
 pub struct Session {
     pub(crate) limits: Limits,
@@ -54,7 +60,11 @@ pub struct Session {
     pub(crate) last: u32,
     pub(crate) state: State,
     pub(crate) in_line: bool,
+    pub(crate) probes: usize,
     pub(crate) over: bool,
+    pub(crate) deaf: Deaf,
+    pub(crate) listened: bool,
+    pub(crate) heard: Heard,
 }
 
 impl Model for Session {
@@ -70,13 +80,13 @@ impl Model for Session {
 
     ghost coded = { Prim.hlevel (codes, images.the_row.coded, types.the_row.coded, signatures.the_row.coded, expressions.the_row.coded, statements.the_row.coded) };
 
-    ghost view = { λ s. record { limits = s.limits; modules = s.modules.items; past = s.past.items; come = s.come; loaded = s.loaded; numbers = s.numbers; stops = s.stops.items; last = s.last; state = s.state; in_line = s.in_line; over = s.over } };
+    ghost view = { λ s. record { limits = s.limits; modules = s.modules.items; past = s.past.items; come = s.come; loaded = s.loaded; numbers = s.numbers; stops = s.stops.items; last = s.last; state = s.state; in_line = s.in_line; probes = s.probes; over = s.over } };
 }
 
 impl Session {
-    /// A session without a module. Each of its runs has these bytes of stack and heap, and each go so many turns.
-    pub fn new(alloc: Global, options: &Options) -> Self
-        ensures { result ≡ spec.empty (spec.limits_of options.now) }
+    /// A session without a module, beside so many probes. Each of its runs has these bytes of stack and heap, and each go so many turns.
+    pub fn new(alloc: Global, options: &Options, probes: usize) -> Self
+        ensures { result ≡ spec.empty (spec.limits_of options.now) probes }
     {
         Session {
             limits: Limits {
@@ -93,7 +103,11 @@ impl Session {
             last: 0,
             state: State::Idle,
             in_line: false,
+            probes,
             over: false,
+            deaf: Deaf::new(),
+            listened: false,
+            heard: Heard::nothing(alloc),
         }
     }
 
@@ -111,11 +125,12 @@ impl Session {
         self.in_line
     }
 
-    /// An answer was given: no line is open behind it. A command without an answer leaves all as it is.
+    /// An answer was given: no line is open behind it, but where a probe's text ends within one. A command without an answer leaves
+    /// all as it is.
     pub fn tell(&mut self, said: &Answer)
         ensures { self.new ≡ spec.told said.now self.old }
     {
-        self.in_line = self.in_line && is_silent(said);
+        self.in_line = is_open(self.in_line, said);
     }
 
     /// Lets the session go, with all that it holds.
@@ -123,18 +138,20 @@ impl Session {
         drop(self);
     }
 
-    /// Carries out a command. A refused one leaves the session as it was, but that `run` forgets a run that ended. What the program
+    /// Carries out a command. Behind a go each probe that listens has been given what the go recorded. A refused command leaves the session as it was, but that `run` forgets a run that ended. What the program
     /// writes goes out while it goes on, whenever much of it waits: the answer is what is left to be written behind it.
     ///
     /// # Errors
     ///
     /// `Unsent` where that could not be written.
+    #[tactic(auto, using(crate::proofs::HearingLemmas::heard_still))]
     pub fn carry_out<K: Sink, F: Files>(
         &mut self,
         alloc: Global,
         command: Command,
         out: &mut K,
         files: &mut F,
+        probes: &mut Vec<Box<dyn Probe>>,
     ) -> Result<Answer, Unsent>
         requires named { IsNamed command }
         requires running { self.old.over ≡ false }
@@ -144,12 +161,54 @@ impl Session {
         ensures failed { result ≡ Err unsent.Failed → Rose (K.faults out.old) (K.faults out.new) }
         ensures later { F.faults files.old ≤ F.faults files.new }
         ensures sources { compiling.KeepsSources (F.held files.old) (F.held files.new) }
+        ensures probes { AreHeard (λ p. notes p) probes.old.items probes.new.items }
     {
         match ask_for(command) {
-            Asked::Go(go) => self.let_go(alloc, go, out, files),
-            Asked::Do(deed) => Ok(self.undertake(alloc, deed, files)),
+            Asked::Go(go) => self.let_go_heard(alloc, go, out, files, probes),
+            Asked::Do(deed) => Ok(self.undertake(alloc, deed, files, probes)),
             Asked::Refused(denied) => Ok(Answer::Refused(denied)),
         }
+    }
+
+    // Lets the program go on, where that is not refused, and gives the probes what was recorded.
+    fn let_go_heard<K: Sink, F: Files>(
+        &mut self,
+        alloc: Global,
+        go: Go,
+        out: &mut K,
+        files: &mut F,
+        probes: &mut Vec<Box<dyn Probe>>,
+    ) -> Result<Answer, Unsent>
+        requires named { IsNamed (asking.go_command go) }
+        ensures step { MatchResult result (λ said. Speaks (K.written out.old) (K.written out.new) (moment self.old (F.held files.old) (F.faults files.old)) (asking.go_command go) said (moment self.new (F.held files.new) (F.faults files.new)))
+            (λ _. BreaksOff (K.written out.old) (K.written out.new) (moment self.old (F.held files.old) (F.faults files.old)) (asking.go_command go) (F.held files.new)) }
+        ensures out_later { K.faults out.old ≤ K.faults out.new }
+        ensures failed { result ≡ Err unsent.Failed → Rose (K.faults out.old) (K.faults out.new) }
+        ensures later { F.faults files.old ≤ F.faults files.new }
+        ensures held { F.held files.new ≡ F.held files.old }
+        ensures probes { AreHeard (λ p. notes p) probes.old.items probes.new.items }
+    {
+        self.listen(probes);
+        let said = self.let_go(alloc, go, out, files);
+        self.hand_out(probes);
+        said
+    }
+
+    // Finds out whether some probe listens.
+    fn listen(&mut self, probes: &Vec<Box<dyn Probe>>)
+        ensures { self.new ≡ self.old }
+    {
+        self.listened = is_heard(probes, &self.deaf);
+    }
+
+    // Gives the probes what the last go recorded.
+    #[tactic(auto, using(crate::proofs::HearingLemmas::heard_so))]
+    fn hand_out(&mut self, probes: &mut Vec<Box<dyn Probe>>)
+        ensures session { self.new ≡ self.old }
+        ensures probes { AreHeard (λ p. notes p) probes.old.items probes.new.items }
+    {
+        give(probes, &mut self.deaf, self.heard.record.as_slice());
+        self.heard.record.clear();
     }
 
     // Lets the program go on, where that is not refused.
@@ -255,18 +314,26 @@ impl Session {
     }
 
     // Does what no program goes on for, where that is not refused.
-    fn undertake<F: Files>(&mut self, alloc: Global, deed: Deed, files: &mut F) -> Answer
+    #[tactic(auto, using(crate::proofs::HearingLemmas::heard_still))]
+    fn undertake<F: Files>(
+        &mut self,
+        alloc: Global,
+        deed: Deed,
+        files: &mut F,
+        probes: &mut Vec<Box<dyn Probe>>,
+    ) -> Answer
         requires named { IsNamed (asking.deed_command deed) }
         ensures step { spec.AnswersTo (moment self.old (F.held files.old) (F.faults files.old)) (asking.deed_command deed) [] result (moment self.new (F.held files.new) (F.faults files.new)) }
         ensures later { F.faults files.old ≤ F.faults files.new }
         ensures sources { compiling.KeepsSources (F.held files.old) (F.held files.new) }
+        ensures probes { AreHeard (λ p. notes p) probes.old.items probes.new.items }
     {
         match self.deed_denied(&deed) {
             Some(denied) => {
                 drop(deed);
                 Answer::Refused(denied)
             }
-            None => self.carry(alloc, deed, files),
+            None => self.carry(alloc, deed, files, probes),
         }
     }
 
@@ -285,18 +352,29 @@ impl Session {
             Deed::Delete(k) => deleting(&self.state, *k, self.stops.as_slice()),
             Deed::Frames => stepping(&self.state),
             Deed::Print(_) => stepping(&self.state),
+            Deed::Machine => machining(&self.state),
             Deed::List => None,
+            Deed::Report(k) => if_no_probe(*k, self.probes),
+            Deed::Drop(k) => if_not_droppable(*k, self.probes),
             Deed::Reset => None,
             Deed::Quit => None,
         }
     }
 
     // Does what is not refused.
-    fn carry<F: Files>(&mut self, alloc: Global, deed: Deed, files: &mut F) -> Answer
+    #[tactic(auto, using(crate::proofs::HearingLemmas::heard_still))]
+    fn carry<F: Files>(
+        &mut self,
+        alloc: Global,
+        deed: Deed,
+        files: &mut F,
+        probes: &mut Vec<Box<dyn Probe>>,
+    ) -> Answer
         requires named { IsNamed (asking.deed_command deed) }
         requires allowed { refusal_of self.old (asking.deed_command deed) ≡ None }
         ensures step { Does (moment self.old (F.held files.old) (F.faults files.old)) (asking.deed_command deed) result (moment self.new (F.held files.new) (F.faults files.new)) }
         ensures later { F.faults files.old ≤ F.faults files.new }
+        ensures probes { AreHeard (λ p. notes p) probes.old.items probes.new.items }
     {
         match deed {
             Deed::Nothing => Answer::Silent,
@@ -309,7 +387,10 @@ impl Session {
             Deed::Delete(k) => self.delete(k),
             Deed::Frames => self.frames(alloc),
             Deed::Print(name) => self.print(alloc, name),
+            Deed::Machine => shown_machine(alloc, &self.heard.machine),
             Deed::List => self.list(alloc),
+            Deed::Report(k) => report_of(k, probes),
+            Deed::Drop(k) => self.drop_probe(k, probes),
             Deed::Reset => self.reset(),
             Deed::Quit => self.quit(),
         }
@@ -357,6 +438,20 @@ impl Session {
     {
         delete_stop(&mut self.stops, k);
         Answer::Deleted(k)
+    }
+
+    #[tactic(auto, using(crate::proofs::HearingLemmas::heard_gone))]
+    fn drop_probe(&mut self, k: u32, probes: &mut Vec<Box<dyn Probe>>) -> Answer
+        ensures answer { probing.Drops k self.old result self.new }
+        ensures probes { AreHeard (λ p. notes p) probes.old.items probes.new.items }
+    {
+        if drop_probe(probes, &mut self.deaf, k) {
+            self.probes = self.probes.saturating_sub(1);
+            Answer::Dropped(k)
+        } else {
+            // The session counts its probes: this cannot be.
+            Answer::NoMemory
+        }
     }
 
     fn list(&self, alloc: Global) -> Answer
@@ -513,6 +608,17 @@ pub fn is_go(command: &Command) -> bool
         command,
         Command::Run(_) | Command::Step | Command::Next | Command::Cont
     )
+}
+
+// Whether a line is open behind an answer, where one was open before it or not.
+fn is_open(within: bool, said: &Answer) -> bool
+    ensures { result ≡ spec.is_open within said.now }
+{
+    match said {
+        Answer::Silent => within,
+        Answer::Reported(_, text) => stays_in_line(false, text.as_slice()),
+        _ => false,
+    }
 }
 
 /// Whether nothing is answered.
