@@ -8,7 +8,7 @@ use Rattle.sc_outside.specs.declared.probe.Noted.{Noted}
 use Rattle.sc_outside.specs.declared.probe.Noted.TheVariants as noted
 use Rattle.sc_base.specs.declared.memory.Word.{Word}
 use Rattle.sc_base.specs.declared.note.Note.TheVariants.{Put}
-use Rattle.sc_listeners.specs.declared.entry.Entry.{Entry}
+use Rattle.sc_interp_world.specs.declared.recorder.Entry.{Entry}
 use Rattle.sc_listeners.specs.Spread.{puts, spread, notes_of}
 use Rattle.sc_listeners.specs.Given.{Takes, Hears, HearsEntry}
 

@@ -3,7 +3,7 @@
 use Rattle.std.specs.Prelude.{◌≡◌, ℕ, zero, suc, ◌++◌, ◌∷◌, [], List, Bool, true, false, Option, Some, None, ⊤}
 use Rattle.sc_base.specs.declared.note.Note.{Note}
 use Rattle.sc_outside.specs.Causes.{Rose}
-use Rattle.sc_listeners.specs.declared.entry.Entry.{Entry}
+use Rattle.sc_interp_world.specs.declared.recorder.Entry.{Entry}
 use Rattle.sc_listeners.specs.Spread.{spread}
 
 -- Where a probe tells its notes: these came behind them, all where it kept each, else those in front of the one that was lost.

@@ -4,8 +4,8 @@ use Rattle.std.specs.Prelude.{ℕ, zero, suc, ◌+◌, ◌-◌, ◌*◌, ◌/◌
 use Rattle.sc_base.specs.declared.memory.Word.{Word}
 use Rattle.sc_base.specs.declared.note.Note.{Note}
 use Rattle.sc_base.specs.declared.note.Note.TheVariants.{Put}
-use Rattle.sc_listeners.specs.declared.entry.Entry.{Entry}
-use Rattle.sc_listeners.specs.declared.entry.Entry.TheVariants.{One, Fill}
+use Rattle.sc_interp_world.specs.declared.recorder.Entry.{Entry}
+use Rattle.sc_interp_world.specs.declared.recorder.Entry.TheVariants.{One, Fill}
 
 -- a number of stores of one size and one value, one behind the other
 abbrev pub puts : ℕ → ℕ → ℕ → Word → List Note

@@ -3,8 +3,8 @@ ghost use Rattle.std.specs.Prelude.{◌≡◌, None, false};
 ghost use Rattle.sc_listeners.specs.Given.{AreUnheard, EachIsGiven, IsGiven, IsUnheard};
 ghost use Rattle.sc_listeners.specs.Spread.{notes_of};
 
-use crate::Entry;
 use crate::one::give_entries;
+use sc_interp_world::Entry;
 use sc_outside::{Deaf, Probe};
 
 /// The most probes that have marks.

@@ -5,8 +5,8 @@ ghost use Rattle.sc_outside.specs.Told.{KeepsNote};
 ghost use Rattle.sc_listeners.specs.Given.{Hears, HearsEntry};
 ghost use Rattle.sc_listeners.specs.Spread.{puts, filled, notes_of};
 
-use crate::Entry;
 use sc_base::{Note, Word};
+use sc_interp_world::Entry;
 use sc_outside::{Noted, Probe};
 
 // Gives a note to the probe in the box.
