@@ -78,8 +78,8 @@ heard_alike notes (p ∷ ps) [] is = tt
 heard_alike notes (p ∷ ps) (q ∷ qs) is =
     inl (subst (λ x. Grew (notes p) x) (sym (same_head (notes q) (notes p) (map notes qs) (map notes ps) is)) (grew_same (notes p)), heard_alike notes ps qs (same_tail (notes q) (notes p) (map notes qs) (map notes ps) is))
   where
-    same_head : (a b : Option (List Note)) (as bs : List (Option (List Note))) → a ∷ as ≡ b ∷ bs → a ≡ b
-    same_head a b as bs e = cc
+    same_head : (a b : Option (List Note)) (xs ys : List (Option (List Note))) → a ∷ xs ≡ b ∷ ys → a ≡ b
+    same_head a b xs ys e = cc
 
-    same_tail : (a b : Option (List Note)) (as bs : List (Option (List Note))) → a ∷ as ≡ b ∷ bs → as ≡ bs
-    same_tail a b as bs e = cc
+    same_tail : (a b : Option (List Note)) (xs ys : List (Option (List Note))) → a ∷ xs ≡ b ∷ ys → xs ≡ ys
+    same_tail a b xs ys e = cc
