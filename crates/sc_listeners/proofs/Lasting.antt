@@ -1,5 +1,5 @@
 -- What became of a list of probes, step by step.
-use Rattle.std.proofs.Common.{◌≡◌, inl, inr, ℕ, zero, suc, List, [], ◌∷◌, ◌++◌, map, Bool, true, false, if◌then◌else◌, Option, Some, None, sym, refl, ◌∙◌, ap, subst, append_assoc, append_nil}
+use Rattle.std.proofs.Common.{◌≡◌, inl, inr, ℕ, zero, suc, List, [], ◌∷◌, ◌++◌, map, Bool, true, false, if◌then◌else◌, Option, Some, None, sym, refl, ◌∙◌, ap, subst, append_assoc, append-nil}
 use Rattle.std.specs.Prelude.{remove}
 use Rattle.sc_base.specs.declared.note.Note.{Note}
 use Rattle.sc_listeners.specs.Given.{Hears, IsGiven, EachIsGiven}
@@ -8,7 +8,7 @@ use Rattle.sc_listeners.specs.Listed.{may_go}
 
 grew_same : (told : Option (List Note)) → Grew told told
 grew_same None = tt
-grew_same (Some notes) = ([], sym (append_nil notes))
+grew_same (Some notes) = ([], sym (append-nil notes))
 
 grew_on : (a b c : Option (List Note)) → Grew a b → Grew b c → Grew a c
 grew_on None b c p q = tt
