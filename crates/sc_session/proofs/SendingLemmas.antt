@@ -338,6 +338,8 @@ begun_answers old file bytes front now held new main input same (answer.Edited n
 begun_answers old file bytes front now held new main input same (answer.Compiled name) p = absurd p
 begun_answers old file bytes front now held new main input same (answer.StopSet k place) p = absurd p
 begun_answers old file bytes front now held new main input same (answer.Deleted k) p = absurd p
+begun_answers old file bytes front now held new main input same (answer.Reported k text) p = absurd p
+begun_answers old file bytes front now held new main input same (answer.Dropped k) p = absurd p
 begun_answers old file bytes front now held new main input same (answer.Shown lines) p = absurd p
 begun_answers old file bytes front now held new main input same answer.Reset p = absurd p
 begun_answers old file bytes front now held new main input same answer.Bye p = absurd p
@@ -368,6 +370,7 @@ input_denied old (Some file) now denied.NotAtStop main p = absurd p
 input_denied old (Some file) now denied.NoMain main p = absurd p
 input_denied old (Some file) now (denied.Space a) main p = absurd p
 input_denied old (Some file) now (denied.NotVisible name) main p = absurd p
+input_denied old (Some file) now (denied.NoProbe k) main p = absurd p
 input_denied old (Some file) now (denied.NoStop k) main p = absurd p
 
 pub run_denied : (sink : Option (List ℕ)) (old : Moment) (file : Option (List ℕ)) (now : ℕ) (held : Option FileMap) (d : Denied) → has_main (texts old.session.modules) ≡ true → held ≡ old.held → InputDenied old.held file old.faults now d
