@@ -11,4 +11,3 @@ pub mod MixingLemmas
 pub mod FormLemmas
 pub mod AskingLemmas
 pub mod RelinkingLemmas
-pub mod HearingLemmas

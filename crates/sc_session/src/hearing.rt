@@ -1,13 +1,10 @@
 // What a go recorded, and what is answered from it.
 ghost use Rattle.std.specs.Prelude.{◌≡◌};
-ghost use Rattle.sc_listeners.specs.Hearing.{AreHeard};
 ghost use Rattle.sc_session.specs.Probing as spec;
 
-use sc_base::{Bytes, Items};
+use sc_base::Items;
 use sc_interp_world::{Entry, Machine};
-use sc_listeners::report;
 use sc_mixed::MixedRun;
-use sc_outside::Probe;
 use sc_session_forms::machine_lines;
 use sc_words::Answer;
 use sc_world::Run;
@@ -58,20 +55,6 @@ pub fn shown_machine(alloc: Global, machine: &Machine) -> Answer
 {
     match machine_lines(alloc, machine) {
         Ok(lines) => Answer::Shown(lines),
-        Err(_) => Answer::NoMemory,
-    }
-}
-
-/// The answer to `report`.
-#[tactic(auto, using(crate::proofs::HearingLemmas::heard_told))]
-pub fn report_of(k: u32, probes: &mut Vec<Box<dyn Probe>>) -> Answer
-    ensures answer { spec.Reports k result }
-    ensures probes { AreHeard (λ p. notes p) probes.old.items probes.new.items }
-{
-    match report(probes, k) {
-        Ok(Some(text)) => Answer::Reported(k, Bytes::from_vec(text)),
-        // The session counts its probes: this cannot be.
-        Ok(None) => Answer::NoMemory,
         Err(_) => Answer::NoMemory,
     }
 }

@@ -1,6 +1,5 @@
 // A session: the modules that are present, the stops, a run, and the commands that change them.
 ghost use Rattle.std.specs.Prelude.{◌≡◌, ◌≤◌, true, false, [], None, Err, IfOk, MatchResult};
-ghost use Rattle.sc_listeners.specs.Hearing.{AreHeard};
 ghost use Rattle.sc_outside.specs.Causes.{Rose};
 ghost use Rattle.sc_words.specs.Commands.{IsNamed};
 ghost use Rattle.sc_words.specs.Parts.{is_module_name};
@@ -22,7 +21,7 @@ ghost use Rattle.sc_world.specs.declared.post.Unsent.TheVariants as unsent;
 use crate::asking::{Asked, Deed, Go, ask_for};
 use crate::compiling::write_compiled;
 use crate::going::{run_in, stays_in_line};
-use crate::hearing::{Heard, report_of, shown_machine};
+use crate::hearing::{Heard, shown_machine};
 use crate::limits::Limits;
 use crate::listing::{Sight, calls_told, list_text, value_told};
 use crate::mixing::{is_mixed, mixed_calls_told, mixed_in, mixed_value_told};
@@ -34,20 +33,21 @@ use crate::refusal::{
 use crate::state::{State, is_over, put_state};
 use crate::stops::{Stop, delete_stop, put_stop};
 use crate::versions::{kept_count, scopes_at, stays, texts_held, versions_from, versions_of};
-use sc_base::{Duplicate, Items, Name, NoMemory};
+use sc_base::{Bytes, Duplicate, Items, Name, NoMemory};
 use sc_core_held::{Numbers, Text};
-use sc_listeners::{drop_probe, give, is_heard};
-use sc_outside::{Deaf, Files, Probe, Sink};
+use sc_interp_world::Entry;
+use sc_outside::{Files, Sink};
 use sc_session_conflicts::waits;
 use sc_words::{Answer, Command, Denied, Options, StopAt, Walk};
 use sc_world::Unsent;
 use std::alloc::Global;
 use std::marker::Model;
+use std::mem;
 
 /// The modules that are present, in the order in which they were loaded; what they were before each change of a run that goes on, and how
 /// many of these changes it has gone through; how many texts were loaded; the functions that have numbers; the stops; how a run
-/// stands; and how many probes there are. Beside that, which probes are deaf, whether some probe listens to the run that goes on, what the
-/// last go recorded, and the registers behind it.
+/// stands; and how many probes there are. Beside that, whether some probe listens to a run that begins, what
+/// the last go recorded with the registers behind it, and the text of a probe that a report is asked of.
 #[derive(Drop)]
 pub struct Session {
     pub(crate) limits: Limits,
@@ -62,9 +62,9 @@ pub struct Session {
     pub(crate) in_line: bool,
     pub(crate) probes: usize,
     pub(crate) over: bool,
-    pub(crate) deaf: Deaf,
     pub(crate) listened: bool,
     pub(crate) heard: Heard,
+    pub(crate) report: Option<Bytes>,
 }
 
 impl Model for Session {
@@ -105,9 +105,9 @@ impl Session {
             in_line: false,
             probes,
             over: false,
-            deaf: Deaf::new(),
             listened: false,
             heard: Heard::nothing(alloc),
+            report: None,
         }
     }
 
@@ -133,25 +133,44 @@ impl Session {
         self.in_line = is_open(self.in_line, said);
     }
 
+    /// Whether some probe listens: a run that begins from here on is recorded, or is not.
+    pub fn listen(&mut self, yes: bool)
+        ensures { self.new ≡ self.old }
+    {
+        self.listened = yes;
+    }
+
+    /// What was recorded of the last go, and was not taken yet.
+    pub fn take_record(&mut self, alloc: Global) -> Items<Entry>
+        ensures { self.new ≡ self.old }
+    {
+        mem::replace(&mut self.heard.record, Items::new(alloc))
+    }
+
+    /// The text of the probe of which the next command asks for a report.
+    pub fn put_report(&mut self, text: Option<Bytes>)
+        ensures { self.new ≡ self.old }
+    {
+        drop(mem::replace(&mut self.report, text));
+    }
+
     /// Lets the session go, with all that it holds.
     pub fn close(self) {
         drop(self);
     }
 
-    /// Carries out a command. Behind a go each probe that listens has been given what the go recorded. A refused command leaves the session as it was, but that `run` forgets a run that ended. What the program
+    /// Carries out a command. A refused command leaves the session as it was, but that `run` forgets a run that ended. What the program
     /// writes goes out while it goes on, whenever much of it waits: the answer is what is left to be written behind it.
     ///
     /// # Errors
     ///
     /// `Unsent` where that could not be written.
-    #[tactic(auto, using(crate::proofs::HearingLemmas::heard_still))]
     pub fn carry_out<K: Sink, F: Files>(
         &mut self,
         alloc: Global,
         command: Command,
         out: &mut K,
         files: &mut F,
-        probes: &mut Vec<Box<dyn Probe>>,
     ) -> Result<Answer, Unsent>
         requires named { IsNamed command }
         requires running { self.old.over ≡ false }
@@ -161,54 +180,12 @@ impl Session {
         ensures failed { result ≡ Err unsent.Failed → Rose (K.faults out.old) (K.faults out.new) }
         ensures later { F.faults files.old ≤ F.faults files.new }
         ensures sources { compiling.KeepsSources (F.held files.old) (F.held files.new) }
-        ensures probes { AreHeard (λ p. notes p) probes.old.items probes.new.items }
     {
         match ask_for(command) {
-            Asked::Go(go) => self.let_go_heard(alloc, go, out, files, probes),
-            Asked::Do(deed) => Ok(self.undertake(alloc, deed, files, probes)),
+            Asked::Go(go) => self.let_go(alloc, go, out, files),
+            Asked::Do(deed) => Ok(self.undertake(alloc, deed, files)),
             Asked::Refused(denied) => Ok(Answer::Refused(denied)),
         }
-    }
-
-    // Lets the program go on, where that is not refused, and gives the probes what was recorded.
-    fn let_go_heard<K: Sink, F: Files>(
-        &mut self,
-        alloc: Global,
-        go: Go,
-        out: &mut K,
-        files: &mut F,
-        probes: &mut Vec<Box<dyn Probe>>,
-    ) -> Result<Answer, Unsent>
-        requires named { IsNamed (asking.go_command go) }
-        ensures step { MatchResult result (λ said. Speaks (K.written out.old) (K.written out.new) (moment self.old (F.held files.old) (F.faults files.old)) (asking.go_command go) said (moment self.new (F.held files.new) (F.faults files.new)))
-            (λ _. BreaksOff (K.written out.old) (K.written out.new) (moment self.old (F.held files.old) (F.faults files.old)) (asking.go_command go) (F.held files.new)) }
-        ensures out_later { K.faults out.old ≤ K.faults out.new }
-        ensures failed { result ≡ Err unsent.Failed → Rose (K.faults out.old) (K.faults out.new) }
-        ensures later { F.faults files.old ≤ F.faults files.new }
-        ensures held { F.held files.new ≡ F.held files.old }
-        ensures probes { AreHeard (λ p. notes p) probes.old.items probes.new.items }
-    {
-        self.listen(probes);
-        let said = self.let_go(alloc, go, out, files);
-        self.hand_out(probes);
-        said
-    }
-
-    // Finds out whether some probe listens.
-    fn listen(&mut self, probes: &Vec<Box<dyn Probe>>)
-        ensures { self.new ≡ self.old }
-    {
-        self.listened = is_heard(probes, &self.deaf);
-    }
-
-    // Gives the probes what the last go recorded.
-    #[tactic(auto, using(crate::proofs::HearingLemmas::heard_so))]
-    fn hand_out(&mut self, probes: &mut Vec<Box<dyn Probe>>)
-        ensures session { self.new ≡ self.old }
-        ensures probes { AreHeard (λ p. notes p) probes.old.items probes.new.items }
-    {
-        give(probes, &mut self.deaf, self.heard.record.as_slice());
-        self.heard.record.clear();
     }
 
     // Lets the program go on, where that is not refused.
@@ -314,26 +291,18 @@ impl Session {
     }
 
     // Does what no program goes on for, where that is not refused.
-    #[tactic(auto, using(crate::proofs::HearingLemmas::heard_still))]
-    fn undertake<F: Files>(
-        &mut self,
-        alloc: Global,
-        deed: Deed,
-        files: &mut F,
-        probes: &mut Vec<Box<dyn Probe>>,
-    ) -> Answer
+    fn undertake<F: Files>(&mut self, alloc: Global, deed: Deed, files: &mut F) -> Answer
         requires named { IsNamed (asking.deed_command deed) }
         ensures step { spec.AnswersTo (moment self.old (F.held files.old) (F.faults files.old)) (asking.deed_command deed) [] result (moment self.new (F.held files.new) (F.faults files.new)) }
         ensures later { F.faults files.old ≤ F.faults files.new }
         ensures sources { compiling.KeepsSources (F.held files.old) (F.held files.new) }
-        ensures probes { AreHeard (λ p. notes p) probes.old.items probes.new.items }
     {
         match self.deed_denied(&deed) {
             Some(denied) => {
                 drop(deed);
                 Answer::Refused(denied)
             }
-            None => self.carry(alloc, deed, files, probes),
+            None => self.carry(alloc, deed, files),
         }
     }
 
@@ -362,19 +331,11 @@ impl Session {
     }
 
     // Does what is not refused.
-    #[tactic(auto, using(crate::proofs::HearingLemmas::heard_still))]
-    fn carry<F: Files>(
-        &mut self,
-        alloc: Global,
-        deed: Deed,
-        files: &mut F,
-        probes: &mut Vec<Box<dyn Probe>>,
-    ) -> Answer
+    fn carry<F: Files>(&mut self, alloc: Global, deed: Deed, files: &mut F) -> Answer
         requires named { IsNamed (asking.deed_command deed) }
         requires allowed { refusal_of self.old (asking.deed_command deed) ≡ None }
         ensures step { Does (moment self.old (F.held files.old) (F.faults files.old)) (asking.deed_command deed) result (moment self.new (F.held files.new) (F.faults files.new)) }
         ensures later { F.faults files.old ≤ F.faults files.new }
-        ensures probes { AreHeard (λ p. notes p) probes.old.items probes.new.items }
     {
         match deed {
             Deed::Nothing => Answer::Silent,
@@ -389,8 +350,8 @@ impl Session {
             Deed::Print(name) => self.print(alloc, name),
             Deed::Machine => shown_machine(alloc, &self.heard.machine),
             Deed::List => self.list(alloc),
-            Deed::Report(k) => report_of(k, probes),
-            Deed::Drop(k) => self.drop_probe(k, probes),
+            Deed::Report(k) => self.report(k),
+            Deed::Drop(k) => self.drop_probe(k),
             Deed::Reset => self.reset(),
             Deed::Quit => self.quit(),
         }
@@ -440,18 +401,22 @@ impl Session {
         Answer::Deleted(k)
     }
 
-    #[tactic(auto, using(crate::proofs::HearingLemmas::heard_gone))]
-    fn drop_probe(&mut self, k: u32, probes: &mut Vec<Box<dyn Probe>>) -> Answer
-        ensures answer { probing.Drops k self.old result self.new }
-        ensures probes { AreHeard (λ p. notes p) probes.old.items probes.new.items }
+    // The text of the probe, which was asked for it before.
+    fn report(&mut self, k: u32) -> Answer
+        ensures answer { probing.Reports k result }
+        ensures session { self.new ≡ self.old }
     {
-        if drop_probe(probes, &mut self.deaf, k) {
-            self.probes = self.probes.saturating_sub(1);
-            Answer::Dropped(k)
-        } else {
-            // The session counts its probes: this cannot be.
-            Answer::NoMemory
+        match self.report.take() {
+            Some(text) => Answer::Reported(k, text),
+            None => Answer::NoMemory,
         }
+    }
+
+    fn drop_probe(&mut self, k: u32) -> Answer
+        ensures { probing.Drops k self.old result self.new }
+    {
+        self.probes = self.probes.saturating_sub(1);
+        Answer::Dropped(k)
     }
 
     fn list(&self, alloc: Global) -> Answer

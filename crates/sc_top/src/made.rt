@@ -1,6 +1,6 @@
 // A session over a made program, which one line tells of.
 ghost use Rattle.std.specs.Prelude.{◌≡◌, ◌≢◌, ◌≤◌, ℕ, [], length};
-ghost use Rattle.sc_listeners.specs.Hearing.{AreHeard};
+ghost use Rattle.sc_top.specs.Hearing.{AreHeard};
 ghost use Rattle.sc_outside.specs.Causes.{Rose};
 ghost use Rattle.sc_outside.specs.Memory.{bytes_written};
 ghost use Rattle.sc_session.specs.declared.limits.Limits.{Limits};

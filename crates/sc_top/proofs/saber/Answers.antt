@@ -1,5 +1,5 @@
 use Rattle.std.proofs.Common.{◌≡◌, Some, None, inl, length, refl}
-use Rattle.sc_listeners.proofs.Lasting.{heard_same}
+use Rattle.sc_top.proofs.Lasting.{heard_same}
 use Rattle.sc_session.proofs.FileLemmas.{keeps_none}
 use Rattle.sc_session.specs.Transcript.{moment, empty, limits_of}
 use Rattle.sc_words.specs.declared.options.Options.{Options as Asked}

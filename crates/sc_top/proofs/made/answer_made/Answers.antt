@@ -1,6 +1,6 @@
 use Rattle.std.proofs.Common.{ap, ◌∙◌, Some, length}
 use Rattle.std.specs.BTreeMap.{get_by_text}
-use Rattle.sc_listeners.proofs.Lasting.{heard_same}
+use Rattle.sc_top.proofs.Lasting.{heard_same}
 use Rattle.sc_outside.specs.Memory.{bytes_left, bytes_written, file_map}
 use Rattle.sc_session.specs.Transcript.{limits_of}
 use Rattle.sc_top.proofs.MakingLemmas.{answered_with}

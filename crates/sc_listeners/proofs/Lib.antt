@@ -1,4 +1,0 @@
-pub mod Hearing
-pub mod Rounds
-pub mod Reports
-pub mod Lasting
