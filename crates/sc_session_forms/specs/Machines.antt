@@ -20,7 +20,7 @@ abbrev pub register_text : List Word → ℕ → List ℕ
 register_text words r = word_text r (word_or_zero (slice_get words r))
 
 -- the four registers from one on
-abbrev pub four : List Word → ℕ → List ℕ
+unfoldable pub four : List Word → ℕ → List ℕ
 four words r = codes ">" ++ register_text words r ++ register_text words (r + 1) ++ register_text words (r + 2) ++ register_text words (r + 3) ++ codes "\n"
 
 abbrev pub first_line : ℕ → ℕ → List ℕ

@@ -39,6 +39,7 @@ fn put_register(text: &mut Vec<u8>, alloc: Global, words: &[Word], r: u32) -> Re
 }
 
 // The four registers from one on, on a line.
+#[tactic(auto, unfolding(crate::specs::Machines::four))]
 fn put_four(text: &mut Vec<u8>, alloc: Global, words: &[Word], r: u32) -> Result<(), NoMemory>
     requires { r < 29 }
     ensures { OnOk result (text.new.items ≡ text.old.items ++ spec.four words.now r) }
