@@ -18,9 +18,9 @@ Refusals, as `> refused C8 m.c`. A refused command leaves the session as it was.
   C14   too many modules, functions (stubs), bytes of compiled code (text) or of static objects
   C15   reading or writing the file failed
   C16   the name stands for no object here
+  C17   there is no such probe
   C18   there is no such stop
   C19   the file has more than 8388608 bytes
-(C17 belongs to probes, which this version does not have.)
 `> no memory` may answer any command.
 
 Kinds of refused texts, as `> refused C5 X6 m.c:3`. docs/LANGUAGE.md has the rules.

@@ -69,6 +69,13 @@ impl Regs {
         self.words[r as usize]
     }
 
+    /// What all registers hold, by their numbers.
+    pub fn words(&self) -> &[Word; 32]
+        ensures { result.now ≡ self.now.words }
+    {
+        &self.words
+    }
+
     /// Puts a word into a register. Register 0 stays as it is.
     #[tactic(auto, using(crate::proofs::Zero::written_back, crate::proofs::Zero::registers_kept))]
     #[inline(always)]

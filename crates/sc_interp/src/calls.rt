@@ -185,6 +185,7 @@ fn library_next(
 ) -> Result<Going, Stop>
     ensures { (h : versions.History) → IsQuiet h → Steps (steady.callee_next h key.now vs.now (versions.InLibrary f) callers.now world.old) result callers.now world.new }
 {
+    world.record_library(key)?;
     let a = library_call(f, key, vs, world)?;
     Ok(Going::Answers(a))
 }

@@ -3,3 +3,4 @@ pub mod Outputs
 pub mod Naming
 pub mod Storing
 pub mod Filling
+pub mod RecordLemmas

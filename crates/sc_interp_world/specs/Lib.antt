@@ -5,3 +5,4 @@ pub mod Outputs
 pub mod Naming
 pub mod Addresses
 pub mod Blanks
+pub mod Recording

@@ -9,7 +9,10 @@ mod held;
 mod names;
 mod object;
 mod past;
+mod recorder;
+mod recording;
 mod remember;
+mod telling;
 mod values;
 mod world;
 
@@ -19,5 +22,6 @@ pub use event::{Change, Event, Item, Showing};
 pub use names::{Named, Names, Roll, same_id};
 pub use object::{Born, Frame, Object, cells_at, copy_numbers, object_at};
 pub use past::{Past, Trail};
+pub use recorder::{Entry, Machine, Recorder};
 pub use sc_mem_store::{Cell, Content, Place};
 pub use world::{Layout, World};

@@ -15,6 +15,7 @@ use crate::held::Held;
 use crate::names::Names;
 use crate::object::{Born, Frame, Object};
 use crate::past::Past;
+use crate::recorder::Recorder;
 use sc_base::{Bytes, Duplicate, Items, Key, Kind, Name, NoMemory, Shared, Stack, Word};
 use sc_meaning::Spot;
 use sc_meaning_values::Value;
@@ -43,20 +44,21 @@ pub struct World {
     alloc: Global,
     stack: u64,
     heap: u64,
-    objects: Held,
+    pub(crate) objects: Held,
     places: Names,
     used: u64,
     free: Items<u64>,
     made: u64,
     input: Stack<u8>,
     seed: u32,
-    frames: Stack<Frame>,
+    pub(crate) frames: Stack<Frame>,
     names: Names,
     enters: u64,
     count: u64,
     begun: u64,
     past: Past,
     beside: Beside,
+    pub(crate) recorder: Recorder,
 }
 
 impl Model for World {
@@ -173,6 +175,7 @@ impl World {
             input,
             Held::nowhere(alloc),
             Names::new(alloc),
+            Recorder::unheard(alloc),
         )
     }
 
@@ -186,8 +189,30 @@ impl World {
     ) -> Result<World, NoMemory>
         ensures { IfOk result (λ w. w ≡ record { stack = stack; heap = heap; objects = []; used = 0; free = replicate 29 0; made = 0; input = input; seed = 1; frames = []; names = []; enters = 0; count = 0; begun = 0; trail = []; beside = nothing_beside }) }
     {
-        let objects = Held::new(alloc, stack, heap, layout.functions)?;
-        World::with(alloc, stack, heap, input, objects, layout.places)
+        let Layout { functions, places } = layout;
+        let objects = Held::new(alloc, stack, heap, functions)?;
+        let recorder = Recorder::unheard(alloc);
+        World::with(alloc, stack, heap, input, objects, places, recorder)
+    }
+
+    /// The same where somebody listens: all that happens is recorded, behind the note `Start`.
+    ///
+    /// # Errors
+    ///
+    /// `NoMemory` also where the stack's or the heap's bytes are no number of 32 bits.
+    pub fn heard(
+        alloc: Global,
+        stack: u64,
+        heap: u64,
+        input: Items<u8>,
+        layout: Layout,
+    ) -> Result<World, NoMemory>
+        ensures { IfOk result (λ w. w ≡ record { stack = stack; heap = heap; objects = []; used = 0; free = replicate 29 0; made = 0; input = input; seed = 1; frames = []; names = []; enters = 0; count = 0; begun = 0; trail = []; beside = nothing_beside }) }
+    {
+        let Layout { functions, places } = layout;
+        let recorder = Recorder::heard(alloc, stack, heap, functions.as_slice())?;
+        let objects = Held::new(alloc, stack, heap, functions)?;
+        World::with(alloc, stack, heap, input, objects, places, recorder)
     }
 
     // A world in which only these objects are there.
@@ -198,6 +223,7 @@ impl World {
         input: Items<u8>,
         objects: Held,
         places: Names,
+        recorder: Recorder,
     ) -> Result<World, NoMemory>
         ensures { IfOk result (λ w. w ≡ record { stack = stack; heap = heap; objects = objects; used = 0; free = replicate 29 0; made = 0; input = input; seed = 1; frames = []; names = []; enters = 0; count = 0; begun = 0; trail = []; beside = nothing_beside }) }
     {
@@ -222,6 +248,7 @@ impl World {
             begun: 0,
             past: Past::new(alloc),
             beside: Beside::nothing(),
+            recorder,
         })
     }
 
@@ -241,6 +268,11 @@ impl World {
         Ok(())
     }
 
+    /// Whether objects stand at addresses.
+    pub fn has_memory(&self) -> bool {
+        self.objects.has_memory()
+    }
+
     /// How many functions have numbers, where the world has a memory.
     pub fn functions(&self) -> usize {
         self.objects.functions()
@@ -254,7 +286,11 @@ impl World {
     pub fn number(&mut self, more: &[Shared<Key>]) -> Result<(), NoMemory>
         ensures { self.new ≡ self.old }
     {
-        self.objects.number(more)
+        self.objects.number(more)?;
+        if self.recorder.listens() {
+            self.recorder.number(more)?;
+        }
+        Ok(())
     }
 
     /// Static objects and literals that are born from here on stand at these addresses. Nothing else changes.
@@ -477,11 +513,19 @@ impl World {
         self.count = more(self.count)?;
         match &event.showing {
             Showing::Enter(_, _) => self.enters = more(self.enters)?,
-            Showing::At(_, line, _) => put_line(&mut self.frames, *line)?,
+            Showing::At(_, line, _) => self.reach(*line)?,
             Showing::Leave => (),
             Showing::Out(_) => (),
         }
         self.note(Change::Happens(event))
+    }
+
+    // A line of the innermost call is reached.
+    fn reach(&mut self, line: u32) -> Result<(), NoMemory>
+        ensures { IfOk result (λ _. self.new ≡ record self.old { frames = spec.on_innermost (λ f. record f { line = line }) self.old.frames }) }
+    {
+        put_line(&mut self.frames, line)?;
+        self.tell_line(line)
     }
 
     // Where an object outside the heap will stand; without a memory anywhere.
@@ -510,7 +554,8 @@ impl World {
         ensures { IfOk result (λ _. self.new ≡ spec.pass (spec.Birth size kind spot.now) self.old) }
     {
         self.bear(size, kind, spot)?;
-        self.note(Change::Birth(size, kind, Snapshot::of(spot)))
+        self.note(Change::Birth(size, kind, Snapshot::of(spot)))?;
+        self.tell_birth(size, kind)
     }
 
     /// An object dies.
@@ -518,7 +563,8 @@ impl World {
         ensures { IfOk result (λ _. self.new ≡ spec.pass (spec.Death id) self.old) }
     {
         self.objects.death(id)?;
-        self.note(Change::Death(id))
+        self.note(Change::Death(id))?;
+        self.tell_death(id)
     }
 
     /// Bytes are written into an object from an offset on.
@@ -526,6 +572,7 @@ impl World {
         ensures { IfOk result (λ _. self.new ≡ spec.pass (spec.Put id at new) self.old) }
     {
         self.note(Change::Put(id, at, Snapshot::of(&new)))?;
+        self.tell_put(id, at, new.as_slice())?;
         self.objects.put(id, at, new)
     }
 
@@ -534,7 +581,8 @@ impl World {
         ensures { IfOk result (λ _. self.new ≡ spec.pass (spec.Put id at (value.cells_of n v.now)) self.old) }
     {
         self.note(Change::Store(id, at, n, Snapshot::of(v)))?;
-        self.objects.store(id, at, n, v)
+        self.objects.store(id, at, n, v)?;
+        self.tell_store(id, at, n, v)
     }
 
     /// So many bytes go to an object and offset from an object and offset.
@@ -542,7 +590,8 @@ impl World {
         ensures { IfOk result (λ _. self.new ≡ spec.pass (spec.Copy to at from off n) self.old) }
     {
         self.objects.copy(to, at, from, off, n)?;
-        self.note(Change::Copy(to, at, from, off, n))
+        self.note(Change::Copy(to, at, from, off, n))?;
+        self.tell_copy(to, at, from, off, n)
     }
 
     /// A free heap block of a class is taken.
@@ -603,7 +652,8 @@ impl World {
         ensures { IfOk result (λ _. self.new ≡ spec.pass (spec.Push frame) self.old) }
     {
         self.note(Change::Push(Snapshot::of(&frame)))?;
-        self.frames.push(frame)
+        self.frames.push(frame)?;
+        self.tell_enter()
     }
 
     /// The innermost call is no longer active.
@@ -611,7 +661,8 @@ impl World {
         ensures { IfOk result (λ _. self.new ≡ spec.pass spec.Pop self.old) }
     {
         drop(self.frames.pop());
-        self.note(Change::Pop)
+        self.note(Change::Pop)?;
+        self.tell_leave()
     }
 
     /// A block is entered in the innermost call.
@@ -695,6 +746,8 @@ impl World {
         requires { IsSize size }
         ensures { self.new ≡ self.old }
     {
-        self.objects.keep(at, size, w)
+        let kept = self.objects.keep(at, size, w)?;
+        self.tell_kept(at, size, w, kept.is_some())?;
+        Ok(kept)
     }
 }

@@ -7,3 +7,4 @@ pub mod Stepping
 pub mod Sources
 pub mod Growing
 mod Changing
+pub mod Telling

@@ -128,3 +128,7 @@ executes_upto i most c w count how s v result next d some (all_went is on h) p =
     all_upto i most most c w c.regs s count v result next d refl refl some is h (subst (λ (x : Went). AfterLast x count (with_registers s c) v result next d) on p)
 executes_upto i most c w count how s v result next d some (one_last k q u is few h instr) p =
     ends_upto i most k c w q u count how s v result next d is few h instr p
+
+-- where the record of what they do has no room the run is lost, as the first of them may say
+pub no_room_upto : (i : Image) (most : ℕ) (c : Calls) (w v : World) (next : Next) (d : Calls) → 0 < most → ExecutesUpto i most c w (Err (Meant stop.NoRoom)) next d v
+no_room_upto i most c w v next d some = record { count = 0; few = some; regs = c.regs; world = w; ran = ran_none c.regs w; last = refl }

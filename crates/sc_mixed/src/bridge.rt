@@ -84,9 +84,9 @@ fn enter_code(stub: u32, calls: &mut Calls, world: &World) -> Result<(), NoMemor
     Ok(())
 }
 
-/// Compiled code is called: its arguments are where it finds them, and the next instruction is that of the function's stub. The
-/// interpreted callers wait for it.
-pub fn call_code(
+// Compiled code is called: its arguments are where it finds them, and the next instruction is that of the function's stub. The
+// interpreted callers wait for it.
+fn call_stub(
     key: &Key,
     vs: &[Value],
     image: &Image,
@@ -101,6 +101,21 @@ pub fn call_code(
     put_arguments(vs, &mut calls.regs, world)?;
     enter_code(stub, calls, world)?;
     Ok(Next::Executes)
+}
+
+/// Compiled code is called, which is told with the registers that it finds.
+pub fn call_code(
+    key: &Key,
+    vs: &[Value],
+    image: &Image,
+    calls: &mut Calls,
+    world: &mut World,
+) -> Result<Next, NoMemory>
+    ensures { IfOk result (λ next. spec.Calling image.now key.now vs.now calls.old world.old next calls.new world.new) }
+{
+    let next = call_stub(key, vs, image, calls, world)?;
+    world.enter_code(key, calls.regs.pc(), calls.regs.words())?;
+    Ok(next)
 }
 
 // A call of this value goes to compiled code.
@@ -169,9 +184,10 @@ fn resume_code(
     regs: Regs,
     given: Option<Answer>,
     calls: &mut Calls,
-    world: &World,
+    world: &mut World,
 ) -> Result<Next, NoMemory>
-    ensures { IfOk result (λ next. spec.Resumes a.now regs given calls.old.lower calls.old next calls.new) }
+    ensures resumes { IfOk result (λ next. spec.Resumes a.now regs given calls.old.lower calls.old next calls.new) }
+    ensures stays { world.new ≡ world.old }
 {
     let word = result_word(a, world)?;
     let back = regs.get(RA).bits;
@@ -179,12 +195,14 @@ fn resume_code(
     drop(mem::replace(&mut calls.given, given));
     calls.regs.set(RESULT, word);
     calls.regs.set_pc(back);
+    world.return_to_code(calls.regs.pc(), calls.regs.words())?;
     Ok(Next::Executes)
 }
 
 /// The answer of the last interpreted call goes to what waits below. Where nothing does it is the run's.
-pub fn give_back(a: Answer, calls: &mut Calls, world: &World) -> Result<Next, NoMemory>
-    ensures { IfOk result (λ next. spec.GivesBack a calls.old.lower calls.old next calls.new) }
+pub fn give_back(a: Answer, calls: &mut Calls, world: &mut World) -> Result<Next, NoMemory>
+    ensures gives { IfOk result (λ next. spec.GivesBack a calls.old.lower calls.old next calls.new) }
+    ensures stays { world.new ≡ world.old }
 {
     match calls.lower.pop() {
         None => Ok(Next::Steps(Going::Answers(a))),

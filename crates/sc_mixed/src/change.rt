@@ -161,6 +161,25 @@ impl MixedRun {
     }
 }
 
+/// What is born from here on in a run of interpreted modules stands where it is placed, and the functions have these numbers, where the
+/// objects of the run have addresses. Nothing else changes.
+///
+/// # Errors
+///
+/// `NoMemory` alone.
+pub fn place_run(run: &mut Run, placed: &[Placed], functions: &[Key]) -> Result<(), NoMemory>
+    ensures { run.new ≡ run.old }
+{
+    if !run.has_memory() {
+        return Ok(());
+    }
+    let alloc = run.world().alloc();
+    let ids = placed_ids(alloc, placed)?;
+    let places = names_of(alloc, ids.as_slice())?;
+    let more = shared_behind(alloc, run.world().functions(), functions)?;
+    run.place(more.as_slice(), places)
+}
+
 // The world of a run gets a memory.
 fn remembered(
     alloc: Global,
@@ -176,6 +195,22 @@ fn remembered(
     let places = names_of(alloc, ids.as_slice())?;
     let functions = shared_behind(alloc, 0, functions)?;
     run.remember(Layout { functions, places }, bases.as_slice())
+}
+
+// The same where it has none.
+fn given_memory(
+    alloc: Global,
+    run: &mut Run,
+    held: &[Text],
+    placed: &[Placed],
+    functions: &[Key],
+) -> Result<(), NoMemory>
+    ensures { run.new ≡ run.old }
+{
+    if run.has_memory() {
+        return Ok(());
+    }
+    remembered(alloc, run, held, placed, functions)
 }
 
 // How a run goes on that has become one of both forms.
@@ -217,9 +252,10 @@ fn taken(alloc: Global, run: Run, image: Image) -> MixedRun
     }
 }
 
-/// A run of interpreted modules alone becomes one of both forms, in this image. Its objects get addresses: those of static storage
-/// duration where they are placed, the automatic ones in the slots of their frames, and those of the heap in blocks. `held` are the texts
-/// that active calls run; `placed` and `functions` those of the version whose objects live.
+/// A run of interpreted modules alone becomes one of both forms, in this image. Its objects get addresses, where they have none: those of
+/// static storage duration where they are placed, the automatic ones in the slots of their frames, and those of the heap in blocks. `held`
+/// are the texts that active calls run; `placed` and `functions` those of the version whose objects live. A run to which somebody listens has
+/// its addresses, and its record goes on.
 ///
 /// # Errors
 ///
@@ -236,7 +272,7 @@ pub fn take_over(
     ensures err { IfErr result (λ back. back ≡ run) }
 {
     let mut run = run;
-    if remembered(alloc, &mut run, held, placed, functions).is_err() {
+    if given_memory(alloc, &mut run, held, placed, functions).is_err() {
         drop(image);
         return Err(run);
     }

@@ -1,11 +1,11 @@
 // An instruction over the world.
-ghost use Rattle.std.specs.Prelude.{◌≡◌, ◌<◌};
+ghost use Rattle.std.specs.Prelude.{◌≡◌, ◌<◌, IfOk};
 ghost use Rattle.sc_emu.specs.Operations.{loaded, sum};
 ghost use Rattle.sc_emu.specs.Registers.{with_word};
 ghost use Rattle.sc_mem.specs.Words.{IsSize};
 ghost use Rattle.sc_mixed.specs.Instructions as spec;
 
-use sc_base::Word;
+use sc_base::{NoMemory, Note, Word};
 use sc_emu::{Crash, Need, Regs, Step, begin, load_size, pass, take};
 use sc_interp_world::World;
 use sc_isa::LoadOp;
@@ -83,10 +83,10 @@ pub struct Executed {
     pub went: Went,
 }
 
-/// Instructions one after another, so many at most, up to the first that does not simply go on. The loop is tight, since nothing that
-/// they do halts a run.
+// Instructions one after another, so many at most, up to the first that does not simply go on. The loop is tight, since nothing that
+// they do halts a run.
 #[tactic(auto, using(crate::proofs::Running::none_yet, crate::proofs::Running::one_more, crate::proofs::Running::went_all, crate::proofs::Running::went_last))]
-pub fn execute_some(image: &Image, most: u64, regs: &mut Regs, world: &mut World) -> Executed
+fn execute_some(image: &Image, most: u64, regs: &mut Regs, world: &mut World) -> Executed
     ensures { spec.RanUpto image.now most regs.old world.old result.count result.went regs.new world.new }
 {
     for k in 0..most {
@@ -102,4 +102,99 @@ pub fn execute_some(image: &Image, most: u64, regs: &mut Regs, world: &mut World
         count: most,
         went: Went::On,
     }
+}
+
+// An instruction that was carried out is told, the asking `ecall` too.
+fn tell(pc: u32, went: Went, image: &Image, world: &mut World) -> Result<(), NoMemory>
+    ensures { world.new ≡ world.old }
+{
+    let Some(word) = image.word(pc) else {
+        return Ok(());
+    };
+    match went {
+        Went::On | Went::Asks(_) => world.record(Note::Exec { pc, word }),
+        Went::Returned | Went::Stopped(_) | Went::NoRoom => Ok(()),
+    }
+}
+
+// The same where somebody listens. The instruction's note tells what it stores, too.
+fn execute_told(image: &Image, regs: &mut Regs, world: &mut World) -> Result<Went, NoMemory>
+    ensures { IfOk result (λ went. spec.Instruction image.now regs.old world.old went regs.new world.new) }
+{
+    let pc = regs.pc();
+    world.hush(true);
+    let went = execute(image, regs, world);
+    world.hush(false);
+    tell(pc, went, image, world)?;
+    Ok(went)
+}
+
+// Instructions one after another, each of which is told.
+#[tactic(auto, using(crate::proofs::Running::none_yet, crate::proofs::Running::one_more, crate::proofs::Running::went_all, crate::proofs::Running::went_last))]
+fn execute_heard(
+    image: &Image,
+    most: u64,
+    regs: &mut Regs,
+    world: &mut World,
+) -> Result<Executed, NoMemory>
+    ensures { IfOk result (λ done. spec.RanUpto image.now most regs.old world.old done.count done.went regs.new world.new) }
+{
+    for k in 0..most {
+        let went = execute_told(image, regs, world)?;
+        match went {
+            Went::On => (),
+            other => return Ok(Executed {
+                count: k + 1,
+                went: other,
+            }),
+        }
+    }
+    Ok(Executed {
+        count: most,
+        went: Went::On,
+    })
+}
+
+// The same in the loop that serves.
+fn execute_either(
+    image: &Image,
+    most: u64,
+    regs: &mut Regs,
+    world: &mut World,
+) -> Result<Executed, NoMemory>
+    ensures { IfOk result (λ done. spec.RanUpto image.now most regs.old world.old done.count done.went regs.new world.new) }
+{
+    if world.is_recorded() {
+        execute_heard(image, most, regs, world)
+    } else {
+        Ok(execute_some(image, most, regs, world))
+    }
+}
+
+// How many of the instructions were carried out: the last one is not where it has no next state, or stands where calls from
+// outside return to.
+fn carried_out(done: Executed) -> u64 {
+    match done.went {
+        Went::On | Went::Asks(_) => done.count,
+        Went::Returned | Went::Stopped(_) | Went::NoRoom => done.count.saturating_sub(1),
+    }
+}
+
+/// Instructions one after another, so many at most, up to the first that does not simply go on. Where somebody listens each one that
+/// was carried out is told.
+///
+/// # Errors
+///
+/// `NoMemory` where the record has no room. Nothing is known of the registers and the world then.
+pub fn execute_counted(
+    image: &Image,
+    most: u64,
+    regs: &mut Regs,
+    world: &mut World,
+) -> Result<Executed, NoMemory>
+    ensures { IfOk result (λ done. spec.RanUpto image.now most regs.old world.old done.count done.went regs.new world.new) }
+{
+    let done = execute_either(image, most, regs, world)?;
+    world.executed(carried_out(done));
+    Ok(done)
 }

@@ -21,7 +21,8 @@ mod serve;
 mod service;
 mod turn;
 
-pub use change::{kept_keys, take_over};
+pub use change::{kept_keys, place_run, take_over};
 pub use ended::MixedEnd;
 pub use laws::{interpreted_programs_go_as_before, moves_add_to_what_happened};
+pub use layout::layout_of;
 pub use run::MixedRun;

@@ -11,7 +11,7 @@ ghost use Rattle.sc_world.specs.Turns.{IsBefore};
 use crate::bridge::{give_back, goes_to_code, make_in_code, return_code};
 use crate::broken::Break;
 use crate::calls::{Calls, Moved, Next};
-use crate::execute::{Executed, Went, execute_some};
+use crate::execute::{Executed, Went, execute_counted};
 use crate::serve::serve;
 use sc_base::NoMemory;
 use sc_core_held::Text;
@@ -85,8 +85,9 @@ fn taken(going: &mut Going) -> Going
 }
 
 // The answer of the last interpreted call goes to what waits below.
-fn back(going: Going, calls: &mut Calls, world: &World) -> Result<Next, NoMemory>
-    ensures { IfOk result (λ next. spec.GivesAnswer going calls.old next calls.new) }
+fn back(going: Going, calls: &mut Calls, world: &mut World) -> Result<Next, NoMemory>
+    ensures gives { IfOk result (λ next. spec.GivesAnswer going calls.old next calls.new) }
+    ensures stays { world.new ≡ world.old }
 {
     match going {
         Going::Answers(a) => give_back(a, calls, world),
@@ -147,21 +148,30 @@ fn after_return(
     }
 }
 
-// What the instructions came to, where the last of them stands.
-fn after(done: Executed, next: &mut Next, calls: &mut Calls, world: &World) -> Result<Moved, Break>
-    ensures { parts.AfterLast done.went done.count calls.old world.now result next.new calls.new }
+// What the instructions came to, where the last of them stands. Where compiled code returned, its registers are kept.
+fn after(
+    done: Executed,
+    next: &mut Next,
+    calls: &mut Calls,
+    world: &mut World,
+) -> Result<Moved, Break>
+    ensures last { parts.AfterLast done.went done.count calls.old world.old result next.new calls.new }
+    ensures stays { world.new ≡ world.old }
 {
     match done.went {
         Went::On => Ok(so_many(Next::Executes, done.count, next)),
         Went::Asks(n) => Ok(so_many(Next::Serves(n), done.count, next)),
-        Went::Returned => after_return(done.count, next, calls, world),
+        Went::Returned => {
+            world.leave_code(calls.regs.pc(), calls.regs.words());
+            after_return(done.count, next, calls, world)
+        }
         Went::Stopped(crash) => Err(Break::Crashed(calls.regs.pc(), crash)),
         Went::NoRoom => Err(Break::Meant(Stop::NoRoom)),
     }
 }
 
 // So many instructions at most. Each is a move.
-#[tactic(auto, using(crate::proofs::Running::executes_upto))]
+#[tactic(auto, using(crate::proofs::Running::executes_upto, crate::proofs::Running::no_room_upto))]
 fn execute_all(
     image: &Image,
     most: u64,
@@ -172,8 +182,10 @@ fn execute_all(
     requires { 0 < most }
     ensures { parts.ExecutesUpto image.now most calls.old world.old result next.new calls.new world.new }
 {
-    let done = execute_some(image, most, &mut calls.regs, world);
-    after(done, next, calls, world)
+    match execute_counted(image, most, &mut calls.regs, world) {
+        Ok(done) => after(done, next, calls, world),
+        Err(_) => Err(Break::Meant(Stop::NoRoom)),
+    }
 }
 
 /// A step of interpreted calls, a crossing of the bridge, a service, or so many instructions at most.

@@ -1,6 +1,7 @@
 // A run of both forms that is kept between goes.
-ghost use Rattle.std.specs.Prelude.{◌≡◌, ◌⊎◌, IfOk, MatchOption, None, Some, reverse};
+ghost use Rattle.std.specs.Prelude.{◌≡◌, ◌⊎◌, [], IfOk, MatchOption, None, Some, replicate, reverse};
 ghost use Rattle.sc_interp_world.specs.Outputs.{output};
+ghost use Rattle.sc_meaning.specs.Beside.{nothing_beside};
 ghost use Rattle.sc_meaning.specs.Laws.{Leads};
 ghost use Rattle.sc_mixed.specs.Goes.{GoesTo};
 ghost use Rattle.sc_mixed.specs.declared.ended.MixedEnd as ends;
@@ -10,7 +11,7 @@ ghost use Rattle.sc_world.specs.Declaring as objects;
 
 use crate::begin::begun;
 use crate::broken::{Break, end_of};
-use crate::calls::{Calls, Next};
+use crate::calls::{Calls, Lower, Next};
 use crate::course::Course;
 use crate::ended::MixedEnd;
 use crate::going::goes_from;
@@ -22,7 +23,7 @@ use sc_interp::{Going, Shown};
 use sc_interp_access::{Ended, Stop};
 use sc_interp_machine::Doing;
 use sc_interp_parts::id_of;
-use sc_interp_world::{Frame, World};
+use sc_interp_world::{Entry, Frame, Layout, Machine, World};
 use sc_isa_image::Image;
 use sc_words::{StopAt, Walk};
 use sc_world::{Halt, Marks, Want};
@@ -117,9 +118,37 @@ fn declaring_at(course: &Course) -> Option<u32>
     }
 }
 
+// A world in which nothing is there yet, and objects will stand at addresses; whether somebody listens to it is given.
+fn world_of(
+    alloc: Global,
+    stack: u64,
+    heap: u64,
+    input: Items<u8>,
+    layout: Layout,
+    heard: bool,
+) -> Result<World, NoMemory>
+    ensures { IfOk result (λ w. w ≡ record { stack = stack; heap = heap; objects = []; used = 0; free = replicate 29 0; made = 0; input = input; seed = 1; frames = []; names = []; enters = 0; count = 0; begun = 0; trail = []; beside = nothing_beside }) }
+{
+    if heard {
+        World::heard(alloc, stack, heap, input, layout)
+    } else {
+        World::new(alloc, stack, heap, input, layout)
+    }
+}
+
+// Whether compiled code is innermost: interpreted calls wait right below.
+fn is_in_code(calls: &Calls) -> bool {
+    match calls.lower.top() {
+        None => false,
+        Some(Lower::InBodies { .. }) => true,
+        Some(Lower::InCode { .. }) => false,
+    }
+}
+
 impl MixedRun {
     /// A run of these texts from its start on, in this image of them: the static objects are born, and the call of `main` goes out. Its
-    /// input and the bytes that stack and heap may have are given. A run that is over at once says so at its first go.
+    /// input and the bytes that stack and heap may have are given. Where it is `heard` all that happens is recorded. A run that is over at
+    /// once says so at its first go.
     ///
     /// # Errors
     ///
@@ -131,11 +160,12 @@ impl MixedRun {
         stack: u64,
         heap: u64,
         input: Items<u8>,
+        heard: bool,
     ) -> Result<MixedRun, NoMemory>
         ensures { IfOk result (λ r. starting.Starts texts.now image stack heap input r) }
     {
         let layout = layout_of(alloc, texts, &image)?;
-        let mut world = World::new(alloc, stack, heap, input, layout)?;
+        let mut world = world_of(alloc, stack, heap, input, layout, heard)?;
         let mut calls = no_calls(alloc);
         let first = begun(texts, &image, &mut calls, &mut world);
         let course = course_of(first)?;
@@ -206,6 +236,27 @@ impl MixedRun {
         ensures { result ≡ spec.declaring_at self.now.course }
     {
         declaring_at(&self.course)
+    }
+
+    /// What was recorded of the run since its start or the last call of this, in order. Nothing is kept where nobody listens.
+    pub fn take_record(&mut self) -> Items<Entry>
+        ensures { self.new ≡ self.old }
+    {
+        self.world.take_record()
+    }
+
+    /// The registers as compiled code has them, or last left them where it is not innermost; and how many instructions were carried out
+    /// since the start.
+    pub fn machine(&self) -> Machine {
+        let left = *self.world.machine();
+        if !is_in_code(&self.calls) {
+            return left;
+        }
+        Machine {
+            pc: self.calls.regs.pc(),
+            words: *self.calls.regs.words(),
+            executed: left.executed,
+        }
     }
 
     /// The bytes that the program wrote since its start.

@@ -12,13 +12,14 @@ ghost use Rattle.sc_mixed.specs.Machine as spec;
 ghost use Rattle.sc_mixed.specs.Parts as parts;
 ghost use Rattle.sc_mixed.specs.Serving.{service};
 ghost use Rattle.sc_mixed.specs.declared.broken.Break.TheVariants as broken;
+ghost use Rattle.sc_services.specs.Copying.{CopiesBytes};
 ghost use Rattle.sc_world.specs.Costs as costs;
 ghost use Rattle.sc_world.specs.Standing.{state_of};
 
 use crate::broken::Break;
 use crate::calls::{Calls, Lower, Moved, Next};
 use crate::service::{Service, service_of};
-use sc_base::{Items, Key, NoMemory};
+use sc_base::{Key, NoMemory, Note};
 use sc_core_held::Text;
 use sc_emu::{Crash, Regs};
 use sc_interp::{Going, Shown, entry, key_next};
@@ -133,6 +134,7 @@ fn call_out(
 ) -> Result<Moved, Break>
     ensures { parts.CallsKeyOut (spec.called_state texts.now key vs.now calls.old.callers world.old) calls.old world.old result next.new calls.new world.new }
 {
+    world.leave_code(calls.regs.pc(), calls.regs.words());
     match wait(calls) {
         Ok(()) => (),
         Err(_) => {
@@ -290,10 +292,36 @@ fn serve_tag(calls: &mut Calls, world: &World) -> Result<Moved, Break>
     }
 }
 
+// The bytes that a copy was of are told.
+fn tell_copy(copied: Copied, regs: &Regs, world: &mut World) -> Result<(), NoMemory>
+    ensures { world.new ≡ world.old }
+{
+    match copied {
+        Copied::Bytes(size) => {
+            let to = regs.get(RESULT).bits;
+            let from = regs.get(RESULT + 1).bits;
+            world.record(Note::Copy { to, from, size })
+        }
+        Copied::Refused => Ok(()),
+    }
+}
+
+// Bytes are copied, and one note tells of all of them.
+fn copy_told(regs: &Regs, world: &mut World) -> Result<Copied, NoMemory>
+    ensures { IfOk result (λ copied. CopiesBytes regs.now world.old copied world.new) }
+{
+    world.hush(true);
+    let done = copy(regs, world);
+    world.hush(false);
+    let copied = done?;
+    tell_copy(copied, regs, world)?;
+    Ok(copied)
+}
+
 fn serve_copy(calls: &Calls, world: &mut World) -> Result<Moved, Break>
     ensures { spec.ServesCopy calls.now world.old result world.new }
 {
-    match copy(&calls.regs, world) {
+    match copy_told(&calls.regs, world) {
         Ok(Copied::Bytes(n)) => Ok(Moved {
             shown: Shown::Nothing,
             turns: u64::from(n) + 1,

@@ -1,5 +1,5 @@
 // Moves one after another, up to a place where a go ends.
-ghost use Rattle.std.specs.Prelude.{◌<◌, ◌-◌};
+ghost use Rattle.std.specs.Prelude.{◌≡◌, ◌<◌, ◌+◌, ◌-◌, IfOk};
 ghost use Rattle.sc_mixed.specs.Parts as parts;
 ghost use Rattle.sc_mixed.specs.Standing.{standing_on};
 
@@ -7,12 +7,60 @@ use crate::broken::Break;
 use crate::calls::{Calls, Next};
 use crate::moves::move_on;
 use crate::rest::rests;
+use crate::service::{Service, service_of};
+use sc_base::{NoMemory, Note};
 use sc_core_held::Text;
 use sc_interp::Shown;
 use sc_interp_access::Stop;
 use sc_interp_world::World;
 use sc_isa_image::Image;
 use sc_world::{Halt, Want};
+
+/// The register of a result.
+const RESULT: u8 = 10;
+
+// Whether the service that tags a0 is served next.
+fn tags_next(next: &Next) -> bool {
+    match next {
+        Next::Serves(n) => match service_of(*n) {
+            Service::Tag => true,
+            _ => false,
+        },
+        Next::Steps(_) => false,
+        Next::Executes => false,
+    }
+}
+
+// A tag that a0 got is told. The service itself cannot want for memory.
+fn tell_tag(calls: &Calls, world: &mut World) -> Result<(), NoMemory>
+    ensures { world.new ≡ world.old }
+{
+    let word = calls.regs.get(RESULT);
+    world.record(Note::Tag { word })
+}
+
+// A move that is done: the turns so far have its turns too, and its tag is told where it gave one.
+fn counted(
+    tags: bool,
+    turns: u64,
+    calls: &Calls,
+    world: &mut World,
+    took: &mut u64,
+) -> Result<(), NoMemory>
+    ensures counts { IfOk result (λ _. took.new ≡ took.old + turns) }
+    ensures stays { world.new ≡ world.old }
+{
+    if tags {
+        tell_tag(calls, world)?;
+    }
+    match took.checked_add(turns) {
+        Some(n) => {
+            *took = n;
+            Ok(())
+        }
+        None => Err(NoMemory),
+    }
+}
 
 // One move, or instructions up to where the turns are taken: what it shows.
 fn moved(
@@ -27,13 +75,11 @@ fn moved(
     requires { 0 < most }
     ensures { parts.MovedUpto texts.now image.now most next.old calls.old world.old took.old result next.new calls.new world.new took.new }
 {
+    let tags = tags_next(next);
     match move_on(texts, image, most, next, calls, world) {
-        Ok(moved) => match took.checked_add(moved.turns) {
-            Some(n) => {
-                *took = n;
-                Ok(moved.shown)
-            }
-            None => Err(Break::Meant(Stop::NoRoom)),
+        Ok(moved) => match counted(tags, moved.turns, calls, world, took) {
+            Ok(()) => Ok(moved.shown),
+            Err(_) => Err(Break::Meant(Stop::NoRoom)),
         },
         Err(broken) => Err(broken),
     }

@@ -66,7 +66,10 @@ deed_asks (deed.Stop place) session = refl
 deed_asks (deed.Delete k) session = refl
 deed_asks deed.Frames session = refl
 deed_asks (deed.Print name) session = refl
+deed_asks deed.Machine session = refl
 deed_asks deed.List session = refl
+deed_asks (deed.Report k) session = refl
+deed_asks (deed.Drop k) session = refl
 deed_asks deed.Reset session = refl
 deed_asks deed.Quit session = refl
 
@@ -112,7 +115,10 @@ unasked command.Next session d denied = refl
 unasked command.Cont session d denied = refl
 unasked command.Frames session d denied = refl
 unasked (command.Print name) session d denied = refl
+unasked command.Machine session d denied = refl
 unasked command.List session d denied = refl
+unasked (command.Report k) session d denied = refl
+unasked (command.Drop k) session d denied = refl
 unasked command.Reset session d denied = refl
 unasked command.Quit session d denied = refl
 

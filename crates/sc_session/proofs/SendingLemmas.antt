@@ -338,6 +338,8 @@ begun_answers old file bytes front now held new main input same (answer.Edited n
 begun_answers old file bytes front now held new main input same (answer.Compiled name) p = absurd p
 begun_answers old file bytes front now held new main input same (answer.StopSet k place) p = absurd p
 begun_answers old file bytes front now held new main input same (answer.Deleted k) p = absurd p
+begun_answers old file bytes front now held new main input same (answer.Reported k text) p = absurd p
+begun_answers old file bytes front now held new main input same (answer.Dropped k) p = absurd p
 begun_answers old file bytes front now held new main input same (answer.Shown lines) p = absurd p
 begun_answers old file bytes front now held new main input same answer.Reset p = absurd p
 begun_answers old file bytes front now held new main input same answer.Bye p = absurd p
@@ -368,6 +370,7 @@ input_denied old (Some file) now denied.NotAtStop main p = absurd p
 input_denied old (Some file) now denied.NoMain main p = absurd p
 input_denied old (Some file) now (denied.Space a) main p = absurd p
 input_denied old (Some file) now (denied.NotVisible name) main p = absurd p
+input_denied old (Some file) now (denied.NoProbe k) main p = absurd p
 input_denied old (Some file) now (denied.NoStop k) main p = absurd p
 
 pub run_denied : (sink : Option (List ℕ)) (old : Moment) (file : Option (List ℕ)) (now : ℕ) (held : Option FileMap) (d : Denied) → has_main (texts old.session.modules) ≡ true → held ≡ old.held → InputDenied old.held file old.faults now d
@@ -429,7 +432,10 @@ writes_first old (command.Stop place) front p = p
 writes_first old (command.Delete k) front p = p
 writes_first old command.Frames front p = p
 writes_first old (command.Print name) front p = p
+writes_first old command.Machine front p = p
 writes_first old command.List front p = p
+writes_first old (command.Report k) front p = p
+writes_first old (command.Drop k) front p = p
 writes_first old command.Reset front p = p
 writes_first old command.Quit front p = p
 
@@ -451,7 +457,10 @@ quiet_so old command.Next said new p = absurd p
 quiet_so old command.Cont said new p = absurd p
 quiet_so old command.Frames said new p = (refl, p)
 quiet_so old (command.Print name) said new p = (refl, p)
+quiet_so old command.Machine said new p = (refl, p)
 quiet_so old command.List said new p = (refl, p)
+quiet_so old (command.Report k) said new p = (refl, p)
+quiet_so old (command.Drop k) said new p = (refl, p)
 quiet_so old command.Reset said new p = (refl, p)
 quiet_so old command.Quit said new p = (refl, p)
 

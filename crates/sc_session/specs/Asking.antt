@@ -36,7 +36,10 @@ deed_command (deed.Stop place) = command.Stop place
 deed_command (deed.Delete k) = command.Delete k
 deed_command deed.Frames = command.Frames
 deed_command (deed.Print name) = command.Print name
+deed_command deed.Machine = command.Machine
 deed_command deed.List = command.List
+deed_command (deed.Report k) = command.Report k
+deed_command (deed.Drop k) = command.Drop k
 deed_command deed.Reset = command.Reset
 deed_command deed.Quit = command.Quit
 

@@ -12,4 +12,5 @@ pub mod Compiling
 pub mod Linking
 pub mod Swapping
 pub mod Mixing
+pub mod Probing
 pub mod Transcript

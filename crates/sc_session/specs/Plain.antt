@@ -25,5 +25,7 @@ pub record Plain : Type 0 where
   pub state : State
   -- whether the last byte that was written is a program's and no LF, so that an answer has to end its line first
   pub in_line : Bool
+  -- how many probes there are
+  pub probes : ℕ
   -- whether `quit` was accepted
   pub over : Bool

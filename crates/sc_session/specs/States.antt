@@ -1,7 +1,7 @@
 -- Yardstick: to be compared with what it restates (docs/TRUST.md).
 -- Which commands are refused before they are carried out: by how a run stands, by the modules that are present, and by the stops
 -- that are set.
-use Rattle.std.specs.Prelude.{ℕ, Bool, ◌==◌, if◌then◌else◌, List, Option, Some, None}
+use Rattle.std.specs.Prelude.{ℕ, Bool, ◌&&◌, ◌==◌, nat_lt, if◌then◌else◌, List, Option, Some, None}
 use Rattle.std.specs.List.{list_any}
 use Rattle.sc_meaning.specs.Versions.{Text}
 use Rattle.sc_session_conflicts.specs.Clashes.{is_present}
@@ -62,6 +62,15 @@ continuing (state.StoppedMixed w) = None
 continuing (state.PausedMixed w) = None
 continuing state.Ended = Some denied.NotAtStop
 
+-- why the machine cannot be looked at
+abbrev pub machining : State → Option Denied
+machining state.Idle = Some denied.NoRun
+machining (state.Stopped r) = None
+machining (state.Paused r) = None
+machining (state.StoppedMixed w) = None
+machining (state.PausedMixed w) = None
+machining state.Ended = None
+
 abbrev pub or_else : Option Denied → Option Denied → Option Denied
 or_else (Some d) later = Some d
 or_else None later = later
@@ -84,6 +93,13 @@ is_numbered k s = s.number == k
 abbrev pub if_unset : ℕ → List Stop → Option Denied
 if_unset k stops = if list_any (is_numbered k) stops then None else Some (denied.NoStop k)
 
+-- probes are counted from 0; the first cannot be dropped
+abbrev pub if_no_probe : ℕ → ℕ → Option Denied
+if_no_probe k probes = if nat_lt k probes then None else Some (denied.NoProbe k)
+
+abbrev pub if_not_droppable : ℕ → ℕ → Option Denied
+if_not_droppable k probes = if nat_lt 0 k && nat_lt k probes then None else Some (denied.NoProbe k)
+
 -- why a command is refused before it is carried out, if it is
 abbrev pub refusal_of : Plain → Command → Option Denied
 refusal_of session command.Nothing = None
@@ -102,6 +118,9 @@ refusal_of session command.Next = stepping session.state
 refusal_of session command.Cont = continuing session.state
 refusal_of session command.Frames = stepping session.state
 refusal_of session (command.Print name) = stepping session.state
+refusal_of session command.Machine = machining session.state
 refusal_of session command.List = None
+refusal_of session (command.Report k) = if_no_probe k session.probes
+refusal_of session (command.Drop k) = if_not_droppable k session.probes
 refusal_of session command.Reset = None
 refusal_of session command.Quit = None

@@ -1,6 +1,6 @@
 -- Yardstick: to be compared with what it restates (docs/TRUST.md).
 -- What a session answers to each command, and the session behind it.
-use Rattle.std.specs.Prelude.{◌≡◌, ◌⊎◌, ℕ, ◌+◌, ◌&&◌, Bool, true, false, if◌then◌else◌, List, [], take, Option, Some, None, Result, Ok, Err}
+use Rattle.std.specs.Prelude.{◌≡◌, ◌⊎◌, ℕ, ◌+◌, Bool, true, false, if◌then◌else◌, List, [], take, Option, Some, None, Result, Ok, Err}
 use Rattle.sc_base.specs.declared.key.Key.{Key}
 use Rattle.sc_base.specs.declared.memory.Form.{Form}
 use Rattle.sc_base.specs.declared.memory.Form.TheVariants as form
@@ -37,9 +37,10 @@ use Rattle.sc_session.specs.declared.present.Present.{Present}
 use Rattle.sc_session.specs.States.{refusal_of}
 use Rattle.sc_session.specs.Loading.{file_of, file_or, conflict, numbers_with, with_module, in_place, without}
 use Rattle.sc_session.specs.Stopping.{Sets, without_stop}
+use Rattle.sc_session.specs.Probing.{Drops, Reports, ShowsMachine}
 use Rattle.sc_session.specs.Showing.{Lists}
 use Rattle.sc_session.specs.Compiling.{Compiles, object_file}
-use Rattle.sc_session.specs.Going.{in_state, has_main, IsInput, InputDenied, IsCutOff, IsGivenUp, Gains, WalkFirst, Begins, BeginFirst}
+use Rattle.sc_session.specs.Going.{in_state, stays_in_line, has_main, IsInput, InputDenied, IsCutOff, IsGivenUp, Gains, WalkFirst, Begins, BeginFirst}
 use Rattle.sc_session.specs.Linking.{HasRoom, LacksRoom, with_form}
 use Rattle.sc_session.specs.Mixing.{is_mixed, Becomes, MixedBegins, NeedsImage, Settles, ShowsCallsBy, ShowsValueBy, Unsettled, WalksBy, returned}
 use Rattle.sc_session.specs.Swapping.{HasBytes, NotKept}
@@ -57,9 +58,9 @@ moment session held faults = record { session = session; held = held; faults = f
 abbrev pub limits_of : Options → Limits
 limits_of options = record { stack = options.stack; heap = options.heap; turns = options.turns }
 
--- the session that stands, with no module, as it begins
-abbrev pub empty : Limits → Plain
-empty limits = record {
+-- the session that stands, with no module and so many probes, as it begins
+abbrev pub empty : Limits → ℕ → Plain
+empty limits probes = record {
   limits = limits;
   modules = [];
   past = [];
@@ -70,6 +71,7 @@ empty limits = record {
   last = 0;
   state = state.Idle;
   in_line = false;
+  probes = probes;
   over = false;
 }
 
@@ -312,7 +314,10 @@ Does old (command.Stop p) said new = Sets old.session p said new.session × Same
 Does old (command.Delete k) said new = (said ≡ answer.Deleted k) × (new.session ≡ without_stop k old.session) × SameFiles old new
 Does old command.Frames said new = ShowsCallsBy (is_mixed old.session.state) old.session said × (new ≡ old)
 Does old (command.Print name) said new = ShowsValueBy (is_mixed old.session.state) old.session name said × (new ≡ old)
+Does old command.Machine said new = ShowsMachine said × (new ≡ old)
 Does old command.List said new = Lists old.session said × (new ≡ old)
+Does old (command.Report k) said new = Reports k said × (new ≡ old)
+Does old (command.Drop k) said new = Drops k old.session said new.session × SameFiles old new
 Does old command.Reset said new = (said ≡ answer.Reset) × (new.session ≡ at_rest old.session) × SameFiles old new
 Does old command.Quit said new = (said ≡ answer.Bye) × (new.session ≡ record old.session { over = true }) × SameFiles old new
 Does old _ said new = ⊥
@@ -392,11 +397,18 @@ Speaks sink gained old c said new = Gains sink gained (λ front. AnswersTo old c
 abbrev pub BreaksOff : Option (List ℕ) → Option (List ℕ) → Moment → Command → Option FileMap → Type 0
 BreaksOff sink gained old c held = (held ≡ old.held) × Gains sink gained (λ front. GoFirst old c front)
 
+-- Whether a line is open behind an answer, where one was open before it: the text of a probe may end within one, and any other answer ends
+-- its line.
+abbrev pub is_open : Bool → Answer → Bool
+is_open within answer.Silent = within
+is_open within (answer.Reported k text) = stays_in_line false text
+is_open within _ = false
+
 -- nothing is answered
 abbrev pub is_silent : Answer → Bool
 is_silent answer.Silent = true
 is_silent _ = false
 
--- the session behind an answer that was given: each answer ends its line
+-- the session behind an answer that was given
 abbrev pub told : Answer → Plain → Plain
-told said session = record session { in_line = session.in_line && is_silent said }
+told said session = record session { in_line = is_open session.in_line said }

@@ -25,7 +25,13 @@ pub enum Deed {
     /// The active calls are shown.
     Frames,
     Print(Name),
+    /// The registers are shown.
+    Machine,
     List,
+    /// The text of a probe is shown.
+    Report(u32),
+    /// A probe is dropped.
+    Drop(u32),
     Reset,
     Quit,
 }
@@ -59,7 +65,10 @@ pub fn ask_for(command: Command) -> Asked
         Command::Cont => Asked::Go(Go::Walk(Walk::Cont)),
         Command::Frames => Asked::Do(Deed::Frames),
         Command::Print(name) => Asked::Do(Deed::Print(name)),
+        Command::Machine => Asked::Do(Deed::Machine),
         Command::List => Asked::Do(Deed::List),
+        Command::Report(k) => Asked::Do(Deed::Report(k)),
+        Command::Drop(k) => Asked::Do(Deed::Drop(k)),
         Command::Reset => Asked::Do(Deed::Reset),
         Command::Quit => Asked::Do(Deed::Quit),
     }

@@ -9,6 +9,7 @@ ghost use Rattle.sc_session.specs.Modules.{texts};
 ghost use Rattle.sc_session.specs.declared.going.Lost.TheVariants as lost;
 ghost use Rattle.sc_world.specs.declared.post.Unsent.TheVariants as unsent;
 
+use crate::hearing::{Heard, heard_in};
 use crate::present::{Present, texts_of};
 use crate::state::State;
 use sc_base::{Bytes, Key, Name, NoMemory};
@@ -21,11 +22,12 @@ use sc_words::{StopAt, Walk};
 use sc_world::{Halt, Halted, Run, Unsent, behind};
 use std::alloc::Global;
 
-/// What is told of a go, and the state behind it.
+/// What is told of a go, the state behind it, and what it recorded.
 #[derive(Drop)]
 pub struct Told {
     pub text: Bytes,
     pub state: State,
+    pub heard: Heard,
 }
 
 fn main_key(alloc: Global) -> Result<Key, NoMemory>
@@ -140,7 +142,7 @@ pub enum Lost {
 }
 
 // Whether a line is open behind bytes; one was or was not before them.
-fn stays_in_line(before: bool, bytes: &[u8]) -> bool
+pub fn stays_in_line(before: bool, bytes: &[u8]) -> bool
     ensures { result ≡ spec.stays_in_line before bytes.now }
 {
     match bytes.last() {
@@ -221,10 +223,14 @@ pub fn gone<K: Sink>(
     let before = run.world().output().len();
     match run.go(texts, stops, walk, turns, out) {
         Ok(halted) => match told_text(alloc, before, halted, &run) {
-            Ok(text) => Ok(Told {
-                text,
-                state: state_after(halted.halt, run),
-            }),
+            Ok(text) => {
+                let heard = heard_in(&mut run);
+                Ok(Told {
+                    text,
+                    state: state_after(halted.halt, run),
+                    heard,
+                })
+            }
             Err(_) => {
                 let lost = untold(before, halted, &run, within);
                 drop(run);

@@ -5,6 +5,7 @@ mod asking;
 mod changing;
 mod compiling;
 mod going;
+mod hearing;
 mod input;
 mod joining;
 mod limits;

@@ -79,6 +79,42 @@ pub fn continuing(state: &State) -> Option<Denied>
     }
 }
 
+/// Why the machine cannot be looked at.
+pub fn machining(state: &State) -> Option<Denied>
+    ensures { result ≡ spec.machining state.now }
+{
+    match state {
+        State::Idle => Some(Denied::NoRun),
+        State::Stopped(_) => None,
+        State::Paused(_) => None,
+        State::StoppedMixed(_) => None,
+        State::PausedMixed(_) => None,
+        State::Ended => None,
+    }
+}
+
+/// Why there is no probe of this number, of so many, if there is none.
+pub fn if_no_probe(k: u32, probes: usize) -> Option<Denied>
+    ensures { result ≡ spec.if_no_probe k probes }
+{
+    if (k as usize) < probes {
+        None
+    } else {
+        Some(Denied::NoProbe(k))
+    }
+}
+
+/// Why a probe cannot be dropped, if it cannot: the first never is.
+pub fn if_not_droppable(k: u32, probes: usize) -> Option<Denied>
+    ensures { result ≡ spec.if_not_droppable k probes }
+{
+    if 0 < k && (k as usize) < probes {
+        None
+    } else {
+        Some(Denied::NoProbe(k))
+    }
+}
+
 fn if_present(name: &Name, modules: &[Present]) -> Option<Denied>
     ensures { result ≡ spec.if_present name.now (texts modules.now) }
 {

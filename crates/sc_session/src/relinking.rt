@@ -29,6 +29,17 @@ pub struct Plan {
     pub placed: Items<Placements>,
 }
 
+impl Plan {
+    /// Nothing is placed.
+    pub fn nowhere(alloc: Global) -> Plan {
+        Plan {
+            functions: Items::new(alloc),
+            held: Items::new(alloc),
+            placed: Items::new(alloc),
+        }
+    }
+}
+
 // Whether a run in a state has to go over to an image, where all modules are interpreted or not.
 fn needs_image(state: &State, sources: bool) -> bool
     ensures { result ≡ spec.needs_image sources state.now }

@@ -11,20 +11,22 @@ ghost use Rattle.sc_session.specs.Transcript as spec;
 ghost use Rattle.sc_session.specs.Transcript.{moment};
 ghost use Rattle.sc_world.specs.declared.post.Unsent.TheVariants as unsent;
 
-use crate::going::{Lost, gone, has_main, run_out_of};
+use crate::going::{Lost, gone, has_main, run_in, run_out_of};
+use crate::hearing::mixed_heard_in;
 use crate::input::{Input, input_of};
 use crate::linking::{ImageFault, linked};
 use crate::mixing::{is_fresh, is_mixed, mixed_go_through, mixed_out_of, mixed_state};
 use crate::present::texts_of;
-use crate::relinking::placed_from;
+use crate::relinking::{Plan, placed_from};
 use crate::session::Session;
 use crate::state::{State, put_state};
 use crate::stops::places;
 use crate::versions::{go_through, versions_from};
-use sc_base::{Items, Name};
+use sc_base::{Items, Name, NoMemory};
 use sc_core_held::Text;
+use sc_interp_world::Layout;
 use sc_isa_image::Image;
-use sc_mixed::MixedRun;
+use sc_mixed::{MixedRun, layout_of};
 use sc_outside::{Files, Sink};
 use sc_session_forms::{are_sources, mixed_gone};
 use sc_words::{Answer, Denied, StopAt, Walk};
@@ -109,7 +111,9 @@ impl Session {
     {
         match mixed_gone(alloc, texts, stops, walk, self.limits.turns, run) {
             Ok(told) => {
-                put_state(&mut self.state, mixed_state(told.halt, told.run));
+                let mut run = told.run;
+                self.heard = mixed_heard_in(&mut run);
+                put_state(&mut self.state, mixed_state(told.halt, run));
                 self.catch_up();
                 Answer::Ran(told.text)
             }
@@ -148,6 +152,7 @@ impl Session {
             out,
         ) {
             Ok(told) => {
+                self.heard = told.heard;
                 put_state(&mut self.state, told.state);
                 self.catch_up();
                 Ok(Answer::Ran(told.text))
@@ -171,8 +176,16 @@ impl Session {
         let Ok(versions) = self.versions(alloc) else {
             return None;
         };
+        let Ok(plan) = self.plan_heard(alloc) else {
+            return None;
+        };
         let mut run = run_out_of(mem::replace(&mut self.state, State::Ended));
-        match go_through(&mut run, versions_from(versions.as_slice(), self.come)) {
+        match go_through(
+            &mut run,
+            versions_from(versions.as_slice(), self.come),
+            placed_from(plan.placed.as_slice(), self.come),
+            plan.functions.as_slice(),
+        ) {
             Ok(()) => Some(run),
             Err(_) => {
                 drop(run);
@@ -268,7 +281,15 @@ impl Session {
         };
         let stack = u64::from(self.limits.stack);
         let heap = u64::from(self.limits.heap);
-        let Ok(run) = MixedRun::start(alloc, texts.as_slice(), image, stack, heap, input) else {
+        let Ok(run) = MixedRun::start(
+            alloc,
+            texts.as_slice(),
+            image,
+            stack,
+            heap,
+            input,
+            self.listened,
+        ) else {
             return Answer::NoMemory;
         };
         // No start of a run writes: this cannot be.
@@ -325,6 +346,29 @@ impl Session {
         }
     }
 
+    // Where the program stands in memory, where some probe listens: it is told of addresses.
+    fn layout_heard(&self, alloc: Global, texts: &Items<Text>) -> Result<Option<Layout>, NoMemory> {
+        if !self.listened {
+            return Ok(None);
+        }
+        match linked(alloc, self.modules.as_slice(), &self.numbers) {
+            Ok(image) => Ok(Some(layout_of(alloc, texts.as_slice(), &image)?)),
+            // The modules were found to have room as they were loaded: it is memory.
+            Err(_) => Err(NoMemory),
+        }
+    }
+
+    // Where the modules of the versions are placed for a run whose objects have addresses; for another nothing.
+    fn plan_heard(&self, alloc: Global) -> Result<Plan, ImageFault>
+        requires { going.IsGoing self.now.state }
+    {
+        if run_in(&self.state).has_memory() {
+            self.plan(alloc)
+        } else {
+            Ok(Plan::nowhere(alloc))
+        }
+    }
+
     // The run of the program goes from its start on.
     fn start<K: Sink>(
         &mut self,
@@ -344,7 +388,10 @@ impl Session {
         };
         let stack = u64::from(self.limits.stack);
         let heap = u64::from(self.limits.heap);
-        let Ok(run) = Run::start(alloc, texts.as_slice(), stack, heap, input) else {
+        let Ok(layout) = self.layout_heard(alloc, &texts) else {
+            return Ok(Answer::NoMemory);
+        };
+        let Ok(run) = Run::start(alloc, texts.as_slice(), stack, heap, input, layout) else {
             return Ok(Answer::NoMemory);
         };
         put_state(&mut self.state, State::Ended);
@@ -359,6 +406,7 @@ impl Session {
             out,
         ) {
             Ok(told) => {
+                self.heard = told.heard;
                 put_state(&mut self.state, told.state);
                 Ok(Answer::Ran(told.text))
             }

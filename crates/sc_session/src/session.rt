@@ -10,6 +10,7 @@ ghost use Rattle.sc_session.specs.Going as going;
 ghost use Rattle.sc_session.specs.Mixing as mixing;
 ghost use Rattle.sc_session.specs.Modules.{texts};
 ghost use Rattle.sc_session.specs.Plain.{Plain};
+ghost use Rattle.sc_session.specs.Probing as probing;
 ghost use Rattle.sc_session.specs.Showing as showing;
 ghost use Rattle.sc_session.specs.States.{if_absent, refusal_of};
 ghost use Rattle.sc_session.specs.Stopping as stopping;
@@ -19,29 +20,34 @@ ghost use Rattle.sc_world.specs.declared.post.Unsent.TheVariants as unsent;
 
 use crate::asking::{Asked, Deed, Go, ask_for};
 use crate::compiling::write_compiled;
-use crate::going::run_in;
+use crate::going::{run_in, stays_in_line};
+use crate::hearing::{Heard, shown_machine};
 use crate::limits::Limits;
 use crate::listing::{Sight, calls_told, list_text, value_told};
 use crate::mixing::{is_mixed, mixed_calls_told, mixed_in, mixed_value_told};
 use crate::present::{Present, object_named, texts_of};
 use crate::refusal::{
-    continuing, deleting, if_absent, loading, replacing, setting, starting, stepping,
+    continuing, deleting, if_absent, if_no_probe, if_not_droppable, loading, machining, replacing,
+    setting, starting, stepping,
 };
 use crate::state::{State, is_over, put_state};
 use crate::stops::{Stop, delete_stop, put_stop};
 use crate::versions::{kept_count, scopes_at, stays, texts_held, versions_from, versions_of};
-use sc_base::{Duplicate, Items, Name, NoMemory};
+use sc_base::{Bytes, Duplicate, Items, Name, NoMemory};
 use sc_core_held::{Numbers, Text};
+use sc_interp_world::Entry;
 use sc_outside::{Files, Sink};
 use sc_session_conflicts::waits;
 use sc_words::{Answer, Command, Denied, Options, StopAt, Walk};
 use sc_world::Unsent;
 use std::alloc::Global;
 use std::marker::Model;
+use std::mem;
 
 /// The modules that are present, in the order in which they were loaded; what they were before each change of a run that goes on, and how
-/// many of these changes it has gone through; how many texts were loaded; the functions that have numbers; the stops; and how a run
-/// stands.
+/// many of these changes it has gone through; how many texts were loaded; the functions that have numbers; the stops; how a run
+/// stands; and how many probes there are. Beside that, whether some probe listens to a run that begins, what
+/// the last go recorded with the registers behind it, and the text of a probe that a report is asked of.
 #[derive(Drop)]
 pub struct Session {
     pub(crate) limits: Limits,
@@ -54,7 +60,11 @@ pub struct Session {
     pub(crate) last: u32,
     pub(crate) state: State,
     pub(crate) in_line: bool,
+    pub(crate) probes: usize,
     pub(crate) over: bool,
+    pub(crate) listened: bool,
+    pub(crate) heard: Heard,
+    pub(crate) report: Option<Bytes>,
 }
 
 impl Model for Session {
@@ -70,13 +80,13 @@ impl Model for Session {
 
     ghost coded = { Prim.hlevel (codes, images.the_row.coded, types.the_row.coded, signatures.the_row.coded, expressions.the_row.coded, statements.the_row.coded) };
 
-    ghost view = { λ s. record { limits = s.limits; modules = s.modules.items; past = s.past.items; come = s.come; loaded = s.loaded; numbers = s.numbers; stops = s.stops.items; last = s.last; state = s.state; in_line = s.in_line; over = s.over } };
+    ghost view = { λ s. record { limits = s.limits; modules = s.modules.items; past = s.past.items; come = s.come; loaded = s.loaded; numbers = s.numbers; stops = s.stops.items; last = s.last; state = s.state; in_line = s.in_line; probes = s.probes; over = s.over } };
 }
 
 impl Session {
-    /// A session without a module. Each of its runs has these bytes of stack and heap, and each go so many turns.
-    pub fn new(alloc: Global, options: &Options) -> Self
-        ensures { result ≡ spec.empty (spec.limits_of options.now) }
+    /// A session without a module, beside so many probes. Each of its runs has these bytes of stack and heap, and each go so many turns.
+    pub fn new(alloc: Global, options: &Options, probes: usize) -> Self
+        ensures { result ≡ spec.empty (spec.limits_of options.now) probes }
     {
         Session {
             limits: Limits {
@@ -93,7 +103,11 @@ impl Session {
             last: 0,
             state: State::Idle,
             in_line: false,
+            probes,
             over: false,
+            listened: false,
+            heard: Heard::nothing(alloc),
+            report: None,
         }
     }
 
@@ -111,11 +125,33 @@ impl Session {
         self.in_line
     }
 
-    /// An answer was given: no line is open behind it. A command without an answer leaves all as it is.
+    /// An answer was given: no line is open behind it, but where a probe's text ends within one. A command without an answer leaves
+    /// all as it is.
     pub fn tell(&mut self, said: &Answer)
         ensures { self.new ≡ spec.told said.now self.old }
     {
-        self.in_line = self.in_line && is_silent(said);
+        self.in_line = is_open(self.in_line, said);
+    }
+
+    /// Whether some probe listens: a run that begins from here on is recorded, or is not.
+    pub fn listen(&mut self, yes: bool)
+        ensures { self.new ≡ self.old }
+    {
+        self.listened = yes;
+    }
+
+    /// What was recorded of the last go, and was not taken yet.
+    pub fn take_record(&mut self, alloc: Global) -> Items<Entry>
+        ensures { self.new ≡ self.old }
+    {
+        mem::replace(&mut self.heard.record, Items::new(alloc))
+    }
+
+    /// The text of the probe of which the next command asks for a report.
+    pub fn put_report(&mut self, text: Option<Bytes>)
+        ensures { self.new ≡ self.old }
+    {
+        drop(mem::replace(&mut self.report, text));
     }
 
     /// Lets the session go, with all that it holds.
@@ -123,7 +159,7 @@ impl Session {
         drop(self);
     }
 
-    /// Carries out a command. A refused one leaves the session as it was, but that `run` forgets a run that ended. What the program
+    /// Carries out a command. A refused command leaves the session as it was, but that `run` forgets a run that ended. What the program
     /// writes goes out while it goes on, whenever much of it waits: the answer is what is left to be written behind it.
     ///
     /// # Errors
@@ -285,7 +321,10 @@ impl Session {
             Deed::Delete(k) => deleting(&self.state, *k, self.stops.as_slice()),
             Deed::Frames => stepping(&self.state),
             Deed::Print(_) => stepping(&self.state),
+            Deed::Machine => machining(&self.state),
             Deed::List => None,
+            Deed::Report(k) => if_no_probe(*k, self.probes),
+            Deed::Drop(k) => if_not_droppable(*k, self.probes),
             Deed::Reset => None,
             Deed::Quit => None,
         }
@@ -309,7 +348,10 @@ impl Session {
             Deed::Delete(k) => self.delete(k),
             Deed::Frames => self.frames(alloc),
             Deed::Print(name) => self.print(alloc, name),
+            Deed::Machine => shown_machine(alloc, &self.heard.machine),
             Deed::List => self.list(alloc),
+            Deed::Report(k) => self.report(k),
+            Deed::Drop(k) => self.drop_probe(k),
             Deed::Reset => self.reset(),
             Deed::Quit => self.quit(),
         }
@@ -357,6 +399,24 @@ impl Session {
     {
         delete_stop(&mut self.stops, k);
         Answer::Deleted(k)
+    }
+
+    // The text of the probe, which was asked for it before.
+    fn report(&mut self, k: u32) -> Answer
+        ensures answer { probing.Reports k result }
+        ensures session { self.new ≡ self.old }
+    {
+        match self.report.take() {
+            Some(text) => Answer::Reported(k, text),
+            None => Answer::NoMemory,
+        }
+    }
+
+    fn drop_probe(&mut self, k: u32) -> Answer
+        ensures { probing.Drops k self.old result self.new }
+    {
+        self.probes = self.probes.saturating_sub(1);
+        Answer::Dropped(k)
     }
 
     fn list(&self, alloc: Global) -> Answer
@@ -513,6 +573,17 @@ pub fn is_go(command: &Command) -> bool
         command,
         Command::Run(_) | Command::Step | Command::Next | Command::Cont
     )
+}
+
+// Whether a line is open behind an answer, where one was open before it or not.
+fn is_open(within: bool, said: &Answer) -> bool
+    ensures { result ≡ spec.is_open within said.now }
+{
+    match said {
+        Answer::Silent => within,
+        Answer::Reported(_, text) => stays_in_line(false, text.as_slice()),
+        _ => false,
+    }
 }
 
 /// Whether nothing is answered.

@@ -4,10 +4,12 @@ ghost use Rattle.sc_session.specs.Changing as spec;
 
 use crate::present::{Present, compiled_of, scopes_numbered, texts_of};
 use crate::state::State;
-use sc_base::{Items, NoMemory};
+use sc_base::{Items, Key, NoMemory};
 use sc_core_held::Text;
 use sc_core_names::Scopes;
+use sc_image::Placements;
 use sc_interp_world::World;
+use sc_mixed::place_run;
 use sc_session_forms::Compiled;
 use sc_world::Run;
 use std::alloc::Global;
@@ -71,28 +73,60 @@ pub fn versions_from(versions: &[Items<Text>], come: usize) -> &[Items<Text>]
     rest
 }
 
-fn through(run: &mut Run, first: &Items<Text>, later: &[Items<Text>]) -> Result<(), NoMemory>
+// What the next version bears stands where its modules are placed, where they are: the objects of a run to which nobody listens have no
+// addresses. The placements of the versions behind it are given back.
+fn place_next<'a>(
+    run: &mut Run,
+    placed: &'a [Placements],
+    functions: &[Key],
+) -> Result<&'a [Placements], NoMemory>
+    ensures { run.new ≡ run.old }
+{
+    match placed {
+        [] => Ok(placed),
+        [next, later @ ..] => {
+            place_run(run, next.as_slice(), functions)?;
+            Ok(later)
+        }
+    }
+}
+
+fn through(
+    run: &mut Run,
+    first: &Items<Text>,
+    later: &[Items<Text>],
+    placed: &[Placements],
+    functions: &[Key],
+) -> Result<(), NoMemory>
     ensures { IfOk result (λ _. run.new ≡ spec.through first.now later.now run.old) }
 {
     let mut old = first;
+    let mut rest = placed;
     for new in later {
+        rest = place_next(run, rest, functions)?;
         run.change(old.as_slice(), new.as_slice())?;
         old = new;
     }
     Ok(())
 }
 
-/// A run of the first of some versions goes through the others, one after the other.
+/// A run of the first of some versions goes through the others, one after the other. Where its objects have addresses, `placed` says where
+/// the modules of the others are placed.
 ///
 /// # Errors
 ///
 /// `NoMemory`. Nothing is known of the run then.
-pub fn go_through(run: &mut Run, versions: &[Items<Text>]) -> Result<(), NoMemory>
+pub fn go_through(
+    run: &mut Run,
+    versions: &[Items<Text>],
+    placed: &[Placements],
+    functions: &[Key],
+) -> Result<(), NoMemory>
     ensures { IfOk result (λ _. run.new ≡ spec.gone_through versions.now run.old) }
 {
     match versions {
         [] => Ok(()),
-        [first, later @ ..] => through(run, first, later),
+        [first, later @ ..] => through(run, first, later, placed, functions),
     }
 }
 

@@ -3,3 +3,4 @@ pub mod Differences
 pub mod Calls
 pub mod Forms
 pub mod Halts
+pub mod Machines

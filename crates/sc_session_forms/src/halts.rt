@@ -36,7 +36,7 @@ fn digit_of(n: u32, unit: u32) -> u8
     digit((n / unit % 16) as u8)
 }
 
-fn put_hexadecimal(text: &mut Vec<u8>, n: u32) -> Result<(), NoMemory>
+pub(crate) fn put_hexadecimal(text: &mut Vec<u8>, n: u32) -> Result<(), NoMemory>
     ensures { OnOk result (text.new.items ≡ text.old.items ++ spec.hexadecimal n) }
 {
     let digits = [

@@ -5,8 +5,10 @@ mod calls;
 mod differing;
 mod forms;
 mod halts;
+mod machine;
 
 pub use calls::{Compiled, call_lines, innermost_source};
 pub use differing::difference;
 pub use forms::{are_sources, functions_by, is_source};
 pub use halts::{MixedTold, mixed_gone};
+pub use machine::machine_lines;

@@ -39,6 +39,7 @@ use Rattle.sc_session.specs.Linking.{with_form}
 use Rattle.sc_session.specs.Mixing.{is_mixed, mixed_state, Becomes, MixedWalks, MixedWent, Relinks, WalksBy}
 use Rattle.sc_session.specs.Going as going
 use Rattle.sc_session.specs.Going.{in_state, IsCutOff, IsGivenUp, cut_off, RunsIn, Went}
+use Rattle.sc_session.specs.Probing.{Drops, without_probe}
 use Rattle.sc_session.specs.Transcript.{Moment, moment, empty, Loads, Edits, Swaps, joined, replaced, unloaded, swapped, forgotten, past_going, unended, asked, Unloads, RunFirst, Runs, MixedRuns, RunsBy, Carried, Decides, AnswersTo}
 use Rattle.sc_session_laws.specs.Courses.{Begins, Course, Stays, Stands, StandsBy, StandsIn, StandsSo, is_changed, is_untold, RunsSoBy, WalksSoBy, RunTells, WalkTells, Tells, IsTold}
 use Rattle.sc_session_laws.specs.Follows.{course_of, Follows, FollowsBy, FollowsIn, Keeps}
@@ -306,6 +307,11 @@ module _ (old : Moment) (run : Option Course) (k : Keeps old.session run) where
   sets place answer.NoMemory new e = moved old.session new run e k
   sets place _ new p = absurd p
 
+  drops : (n : ℕ) (said : Answer) (new : Plain) → Drops n old.session said new → Keeps new run
+  drops n (answer.Dropped m) new (is, e) = moved (without_probe old.session) new run e k
+  drops n answer.NoMemory new e = moved old.session new run e k
+  drops n _ new p = absurd p
+
   same_session : (new : Moment) → new ≡ old → (after : Option Course) × Stays run after × Keeps new.session after
   same_session new e = (run, same_run run, moved old.session new.session run (ap (λ m. m.session) e) k)
 
@@ -382,7 +388,10 @@ carried old run k command.Next front said new free a p = walks old run k walk.Ne
 carried old run k command.Cont front said new free a p = walks old run k walk.Cont front said new.session p.0
 carried old run k command.Frames front said new free a (none, p) = same_session old run k new p.1
 carried old run k (command.Print name) front said new free a (none, p) = same_session old run k new p.1
+carried old run k command.Machine front said new free a (none, p) = same_session old run k new p.1
 carried old run k command.List front said new free a (none, p) = same_session old run k new p.1
+carried old run k (command.Report n) front said new free a (none, p) = same_session old run k new p.1
+carried old run k (command.Drop n) front said new free a (none, p) = (run, same_run run, drops old run k n said new.session p.0)
 carried old run k command.Reset front said new free a (none, p) = (None, no_run run, moved (at_rest old.session) new.session None p.1 (k.0, refl))
 carried old run k command.Quit front said new free a (none, p) = (run, same_run run, moved (record old.session { over = true }) new.session run p.1 k)
 carried old run k command.Unknown front said new free a (none, p) = absurd p
@@ -402,8 +411,8 @@ answers_tell old run c front said new k p = decided (refusal_of (asked c old.ses
 
 -- ---- the start of a session, and where it stands
 
-pub nothing_yet : (limits : Limits) → Keeps (empty limits) None
-nothing_yet limits = (tt, refl)
+pub nothing_yet : (limits : Limits) (probes : ℕ) → Keeps (empty limits probes) None
+nothing_yet limits probes = (tt, refl)
 
 follows_stands : (modules : List Text) (r : Option Standing) (run : Option Course) → Follows modules r run → StandsIn r run
 follows_stands modules r run f =

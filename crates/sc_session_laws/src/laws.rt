@@ -12,7 +12,7 @@ ghost use Rattle.sc_session_laws.specs.Follows.{Keeps};
 /// does from its start on, whatever the commands are. A run is one of the meaning's here as long as its modules stay.
 #[tactic(auto)]
 pub fn answers_tell_the_meaning()
-    ensures first { (limits : Limits) → Keeps (empty limits) None }
+    ensures first { (limits : Limits) (probes : ℕ) → Keeps (empty limits probes) None }
     ensures tells { (old : Moment) (run : Option Course) (c : Command) (front : List ℕ) (said : Answer) (new : Moment) → Keeps old.session run → AnswersTo old c front said new → (after : Option Course) × Tells old run c front said after × Keeps new.session after }
     ensures stands { (session : Plain) (run : Option Course) → Keeps session run → StandsSo session run }
 {}

@@ -7,17 +7,17 @@ use std::test::Fail;
 
 // The objects in memory of one session.
 #[derive(Drop)]
-struct Outside {
-    source: MemSource,
-    sink: MemSink,
-    files: MemFiles,
+pub struct Outside {
+    pub source: MemSource,
+    pub sink: MemSink,
+    pub files: MemFiles,
 }
 
 const SCRIPT: &[u8] = b"load m\ncompile m\nswap m object\nrun\nquit\n";
 
 const WHOLE: &[u8] = b"> loaded m\n> compiled m\n> m object\n> exit 7\n> bye\n";
 
-fn made_outside(alloc: Global, commands: &[u8]) -> Result<Outside, AllocError> {
+pub fn made_outside(alloc: Global, commands: &[u8]) -> Result<Outside, AllocError> {
     Ok(Outside {
         source: MemSource::new(commands.to_vec(alloc)?, Vec::new(alloc)),
         sink: MemSink::new(alloc, Vec::new(alloc)),
@@ -34,6 +34,23 @@ fn ended(alloc: Global, words: &[String], outside: &mut Outside) -> Status {
         &mut outside.sink,
         &mut outside.files,
         &mut probes,
+    )
+}
+
+// The status of a session without words, beside these probes.
+pub fn ended_with(
+    alloc: Global,
+    outside: &mut Outside,
+    probes: &mut Vec<Box<dyn Probe>>,
+) -> Status {
+    let words: Vec<String> = Vec::new(alloc);
+    saber(
+        alloc,
+        words.as_slice(),
+        &mut outside.source,
+        &mut outside.sink,
+        &mut outside.files,
+        probes,
     )
 }
 

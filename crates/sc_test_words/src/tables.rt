@@ -6,8 +6,8 @@ use sc_words::{
 use std::alloc::{AllocError, Global};
 use std::test::Fail;
 
-// What a session might answer.
-fn answer_to(command: Command) -> Answer {
+// What a session might answer, with these lines where it shows some.
+fn answer_to(command: Command, lines: Bytes) -> Answer {
     match command {
         Command::Nothing => Answer::Silent,
         Command::Load(name) => Answer::Loaded(name),
@@ -20,6 +20,10 @@ fn answer_to(command: Command) -> Answer {
         Command::Delete(number) => Answer::Deleted(number),
         Command::Step | Command::Next | Command::Cont => Answer::Refused(Denied::NoRun),
         Command::Frames | Command::List => Answer::Refused(Denied::NotAtStop),
+        Command::Machine => Answer::Shown(lines),
+        Command::Report(number) => Answer::Reported(number, lines),
+        Command::Drop(0) => Answer::Refused(Denied::NoProbe(0)),
+        Command::Drop(number) => Answer::Dropped(number),
         Command::Print(name) => Answer::Refused(Denied::NotVisible(name)),
         Command::Reset => Answer::Reset,
         Command::Quit => Answer::Bye,
@@ -30,11 +34,12 @@ fn answer_to(command: Command) -> Answer {
 
 fn answered(alloc: Global, line: &[u8]) -> Result<Bytes, NoMemory> {
     let command = read_command(alloc, line)?;
-    answer_text(alloc, &answer_to(command))
+    let lines = Bytes::from_slice(alloc, b"put 2\nat 1")?;
+    answer_text(alloc, &answer_to(command, lines))
 }
 
 // Lines, and how they are answered.
-const LINES: [(&[u8], &[u8]); 35] = [
+const LINES: [(&[u8], &[u8]); 46] = [
     (b"", b""),
     (b" \t\r", b""),
     (b" #load m", b""),
@@ -68,6 +73,17 @@ const LINES: [(&[u8], &[u8]); 35] = [
     (b"where 1", b"> refused C2\n"),
     (b"list", b"> refused C12\n"),
     (b"print while", b"> refused C16 while\n"),
+    (b"machine", b"put 2\nat 1"),
+    (b"machine 0", b"> refused C2\n"),
+    (b"report 7", b"> report 7\nput 2\nat 1"),
+    (b"\treport  000\r", b"> report 0\nput 2\nat 1"),
+    (b"report", b"> refused C2\n"),
+    (b"report 1 2", b"> refused C2\n"),
+    (b"report m", b"> refused C2\n"),
+    (b"drop 010", b"> dropped 10\n"),
+    (b"drop 0", b"> refused C17 0\n"),
+    (b"drop 1234567890", b"> refused C2\n"),
+    (b"drop -1", b"> refused C2\n"),
     (b"reset", b"> reset\n"),
     (b"quit", b"> bye\n"),
 ];
@@ -97,15 +113,35 @@ fn shown(alloc: Global, options: &Options) -> Result<String, AllocError> {
         turns,
         dir,
         make,
+        trace,
+        coverage,
+        count,
     } = options;
     let made = match make {
         Some(count) => format!(in alloc; " {count}")?,
         None => String::new(alloc),
     };
-    format!(in alloc; "{stack} {heap} {turns} {}{made}", dir.as_slice().len())
+    let flags = shown_flags(*trace, *coverage, *count);
+    format!(in alloc;
+        "{stack} {heap} {turns} {}{made}{flags}",
+        dir.as_slice().len()
+    )
 }
 
-// What the words ask for: the three numbers, and the length of the folder's name.
+fn shown_flags(trace: bool, coverage: bool, count: bool) -> &'static str {
+    match (trace, coverage, count) {
+        (false, false, false) => "",
+        (false, false, true) => " count",
+        (false, true, false) => " coverage",
+        (false, true, true) => " coverage count",
+        (true, false, false) => " trace",
+        (true, false, true) => " trace count",
+        (true, true, false) => " trace coverage",
+        (true, true, true) => " trace coverage count",
+    }
+}
+
+// What the words ask for: the three numbers, the length of the folder's name, the modules to make, and the flags.
 fn read(alloc: Global, text: &str) -> Result<String, AllocError> {
     let words = words_of(alloc, text)?;
     match read_words(alloc, words.as_slice()) {
@@ -116,7 +152,7 @@ fn read(alloc: Global, text: &str) -> Result<String, AllocError> {
 }
 
 // Words, and what they ask for.
-const WORDS: [(&str, &str); 24] = [
+const WORDS: [(&str, &str); 37] = [
     ("", "1048576 4194304 50000000 1"),
     ("--turns 1000", "1048576 4194304 1000 1"),
     ("--dir abc --heap 0032 --stack 4096", "4096 32 50000000 3"),
@@ -141,7 +177,29 @@ const WORDS: [(&str, &str); 24] = [
     ("--stack +4096", "bad"),
     ("--stack", "bad"),
     ("--dir -", "bad"),
-    ("--trace", "bad"),
+    ("--trace", "1048576 4194304 50000000 1 trace"),
+    (
+        "--count --coverage --trace",
+        "1048576 4194304 50000000 1 trace coverage count",
+    ),
+    (
+        "--coverage --turns 7 --count",
+        "1048576 4194304 7 1 coverage count",
+    ),
+    (
+        "--make 2 --trace --heap 16",
+        "1048576 16 50000000 1 2 trace",
+    ),
+    ("--dir count --count", "1048576 4194304 50000000 5 count"),
+    ("--trace --trace", "bad"),
+    ("--count --turns 7 --count", "bad"),
+    ("--trace 5", "bad"),
+    ("--trace=5", "bad"),
+    ("--trace=", "bad"),
+    ("--coverage --", "bad"),
+    ("--stack --count 4096", "bad"),
+    ("--dir --trace", "bad"),
+    ("--trac", "bad"),
     ("--help", "bad"),
     ("-- --stack 4096", "bad"),
 ];
@@ -208,6 +266,8 @@ fn refusals_have_their_place(rt: HostRuntime) -> Result<(), Fail> {
 fn help_names_options_and_commands(rt: HostRuntime) -> Result<(), Fail> {
     let help = help_text(rt.alloc())?;
     assert!(rt; help.as_str().contains("--turns"), "{help}");
+    assert!(rt; help.as_str().contains("--coverage"), "{help}");
     assert!(rt; help.as_str().contains("print NAME"), "{help}");
+    assert!(rt; help.as_str().contains("report K"), "{help}");
     Ok(())
 }

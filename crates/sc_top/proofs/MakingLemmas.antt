@@ -18,25 +18,25 @@ carried : (R : List ℕ → List ℕ → ℕ → Status → Type 0) (left comman
 carried R left commands written faults how l w f d r =
     subst (λ s. R commands [] 0 s) d (subst (λ n. R commands [] n how) f (subst (λ x. R commands x faults how) w (subst (λ x. R x written faults how) l r)))
 
-pub answered_with : (limits : Limits) (count : ℕ) (left written answered : List ℕ) (folder : FileMap) (faults : ℕ) (after : Option FileMap × ℕ) (how : Status)
+pub answered_with : (limits : Limits) (probes count : ℕ) (left written answered : List ℕ) (folder : FileMap) (faults : ℕ) (after : Option FileMap × ℕ) (how : Status)
     → left ≡ made_commands count → written ≡ [] → faults ≡ 0 → ((name : List ℕ) → folder name ≡ made_folder count count name)
-    → Ended (Some left) (Some written) (Some answered) (moment (empty limits) (Some folder) faults) after how
-    → EndedAsMeant (Some left) (Some written) (Some answered) (moment (empty limits) (Some folder) faults) after how
-    → how ≡ status.Done → IsAnsweredWith limits count answered
-answered_with limits count left written answered folder faults after how l w f files ended meant done = record {
+    → Ended (Some left) (Some written) (Some answered) (moment (empty limits probes) (Some folder) faults) after how
+    → EndedAsMeant (Some left) (Some written) (Some answered) (moment (empty limits probes) (Some folder) faults) after how
+    → how ≡ status.Done → IsAnsweredWith limits probes count answered
+answered_with limits probes count left written answered folder faults after how l w f files ended meant done = record {
   folder = folder;
   files = files;
   after = after;
-  ended = carried (λ x y n s. Ended (Some x) (Some y) (Some answered) (moment (empty limits) (Some folder) n) after s) left (made_commands count) written faults how l w f done ended;
-  meant = carried (λ x y n s. EndedAsMeant (Some x) (Some y) (Some answered) (moment (empty limits) (Some folder) n) after s) left (made_commands count) written faults how l w f done meant;
+  ended = carried (λ x y n s. Ended (Some x) (Some y) (Some answered) (moment (empty limits probes) (Some folder) n) after s) left (made_commands count) written faults how l w f done ended;
+  meant = carried (λ x y n s. EndedAsMeant (Some x) (Some y) (Some answered) (moment (empty limits probes) (Some folder) n) after s) left (made_commands count) written faults how l w f done meant;
 }
 
 -- the line was written, or some of it
-pub line_told : (limits : Limits) (count : ℕ) (answered bytes line : List ℕ) (old new : Option (List ℕ)) → IsAnsweredWith limits count answered → bytes ≡ line → line ≡ made_line count answered → Appends old new bytes → Tells limits count old new
-line_told limits count answered bytes line old new is same told gains = (answered, is, subst (Appends old new) (same ∙ told) gains)
+pub line_told : (limits : Limits) (probes count : ℕ) (answered bytes line : List ℕ) (old new : Option (List ℕ)) → IsAnsweredWith limits probes count answered → bytes ≡ line → line ≡ made_line count answered → Appends old new bytes → Tells limits probes count old new
+line_told limits probes count answered bytes line old new is same told gains = (answered, is, subst (Appends old new) (same ∙ told) gains)
 
-pub line_told_some : (limits : Limits) (count : ℕ) (answered bytes line : List ℕ) (old new : Option (List ℕ)) → IsAnsweredWith limits count answered → bytes ≡ line → line ≡ made_line count answered → AppendsSome old new bytes → TellsSome limits count old new
-line_told_some limits count answered bytes line old new is same told gains = (answered, is, subst (λ b. AppendsSome old new b) (same ∙ told) gains)
+pub line_told_some : (limits : Limits) (probes count : ℕ) (answered bytes line : List ℕ) (old new : Option (List ℕ)) → IsAnsweredWith limits probes count answered → bytes ≡ line → line ≡ made_line count answered → AppendsSome old new bytes → TellsSome limits probes count old new
+line_told_some limits probes count answered bytes line old new is same told gains = (answered, is, subst (λ b. AppendsSome old new b) (same ∙ told) gains)
 
 -- what is so of the options that were read is so of those that the words ask for
 same_asked : (a b : Asked) → Some a ≡ Some b → a ≡ b

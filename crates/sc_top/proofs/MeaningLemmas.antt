@@ -39,5 +39,5 @@ are_meant commands old new first after status k (inl e) = record { way = inl (e,
 are_meant commands old new first after status k (inr (text, front, broken, gains)) = record { way = inr (text, front, broken, run_means first None broken.lines text broken.last k broken.answered.run, gains) }
 
 -- a session that begins without a module
-pub as_meant : (limits : Limits) (commands old new : Option (List ℕ)) (held : Option FileMap) (faults : ℕ) (after : Option FileMap × ℕ) (status : Status) → Ended commands old new (moment (empty limits) held faults) after status → EndedAsMeant commands old new (moment (empty limits) held faults) after status
-as_meant limits commands old new held faults after status e = are_meant commands old new (moment (empty limits) held faults) after status (nothing_yet limits) e
+pub as_meant : (limits : Limits) (probes : ℕ) (commands old new : Option (List ℕ)) (held : Option FileMap) (faults : ℕ) (after : Option FileMap × ℕ) (status : Status) → Ended commands old new (moment (empty limits probes) held faults) after status → EndedAsMeant commands old new (moment (empty limits probes) held faults) after status
+as_meant limits probes commands old new held faults after status e = are_meant commands old new (moment (empty limits probes) held faults) after status (nothing_yet limits probes) e

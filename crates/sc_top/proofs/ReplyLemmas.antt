@@ -59,7 +59,10 @@ no_go old (command.Stop place) front p q = q
 no_go old (command.Delete k) front p q = q
 no_go old command.Frames front p q = q
 no_go old (command.Print name) front p q = q
+no_go old command.Machine front p q = q
 no_go old command.List front p q = q
+no_go old (command.Report k) front p q = q
+no_go old (command.Drop k) front p q = q
 no_go old command.Reset front p q = q
 no_go old command.Quit front p q = q
 

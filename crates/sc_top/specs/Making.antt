@@ -12,24 +12,24 @@ use Rattle.sc_top.specs.Sessions.{Ended}
 use Rattle.sc_top.specs.declared.status.Status.{Status}
 use Rattle.sc_top.specs.declared.status.Status.TheVariants as status
 
--- A session with the made commands and files, and with these limits, is done with this text.
-pub record IsAnsweredWith (limits : Limits) (count : ℕ) (answered : List ℕ) : Type 0 where
+-- A session with the made commands and files, with these limits and so many probes, is done with this text.
+pub record IsAnsweredWith (limits : Limits) (probes count : ℕ) (answered : List ℕ) : Type 0 where
   pub folder : FileMap
   pub files : (name : List ℕ) → folder name ≡ made_folder count count name
   pub after : Option FileMap × ℕ
-  pub ended : Ended (Some (made_commands count)) (Some []) (Some answered) (moment (empty limits) (Some folder) 0) after status.Done
-  pub meant : EndedAsMeant (Some (made_commands count)) (Some []) (Some answered) (moment (empty limits) (Some folder) 0) after status.Done
+  pub ended : Ended (Some (made_commands count)) (Some []) (Some answered) (moment (empty limits probes) (Some folder) 0) after status.Done
+  pub meant : EndedAsMeant (Some (made_commands count)) (Some []) (Some answered) (moment (empty limits probes) (Some folder) 0) after status.Done
 
 -- the line was written, or some of it from the front
-abbrev pub Tells : Limits → ℕ → Option (List ℕ) → Option (List ℕ) → Type 0
-Tells limits count old new = (answered : List ℕ) × IsAnsweredWith limits count answered × Appends old new (made_line count answered)
+abbrev pub Tells : Limits → ℕ → ℕ → Option (List ℕ) → Option (List ℕ) → Type 0
+Tells limits probes count old new = (answered : List ℕ) × IsAnsweredWith limits probes count answered × Appends old new (made_line count answered)
 
-abbrev pub TellsSome : Limits → ℕ → Option (List ℕ) → Option (List ℕ) → Type 0
-TellsSome limits count old new = (answered : List ℕ) × IsAnsweredWith limits count answered × AppendsSome old new (made_line count answered)
+abbrev pub TellsSome : Limits → ℕ → ℕ → Option (List ℕ) → Option (List ℕ) → Type 0
+TellsSome limits probes count old new = (answered : List ℕ) × IsAnsweredWith limits probes count answered × AppendsSome old new (made_line count answered)
 
 -- how telling of a made program ended; where memory ran out, perhaps before the line was begun
-abbrev pub IsMade : Limits → ℕ → Option (List ℕ) → Option (List ℕ) → Status → Type 0
-IsMade limits count old new status.Done = Tells limits count old new
-IsMade limits count old new status.WriteFault = TellsSome limits count old new
-IsMade limits count old new status.NoMemory = Appends old new [] ⊎ TellsSome limits count old new
-IsMade limits count old new _ = ⊥
+abbrev pub IsMade : Limits → ℕ → ℕ → Option (List ℕ) → Option (List ℕ) → Status → Type 0
+IsMade limits probes count old new status.Done = Tells limits probes count old new
+IsMade limits probes count old new status.WriteFault = TellsSome limits probes count old new
+IsMade limits probes count old new status.NoMemory = Appends old new [] ⊎ TellsSome limits probes count old new
+IsMade limits probes count old new _ = ⊥

@@ -1,5 +1,6 @@
 // A session over a made program, which one line tells of.
-ghost use Rattle.std.specs.Prelude.{◌≡◌, ◌≢◌, ◌≤◌, []};
+ghost use Rattle.std.specs.Prelude.{◌≡◌, ◌≢◌, ◌≤◌, ℕ, [], length};
+ghost use Rattle.sc_top.specs.Hearing.{AreHeard};
 ghost use Rattle.sc_outside.specs.Causes.{Rose};
 ghost use Rattle.sc_outside.specs.Memory.{bytes_written};
 ghost use Rattle.sc_session.specs.declared.limits.Limits.{Limits};
@@ -21,8 +22,8 @@ fn answer_made(
     probes: &mut Vec<Box<dyn Probe>>,
 ) -> Status
     requires { bytes_written answers.old ≡ [] }
-    ensures answered { result ≡ Status.Done → IsAnsweredWith (limits_of options.now) count (bytes_written answers.new) }
-    ensures probes { probes.new ≡ probes.old }
+    ensures answered { result ≡ Status.Done → IsAnsweredWith (limits_of options.now) (length probes.old.items) count (bytes_written answers.new) }
+    ensures probes { AreHeard (λ p. notes p) probes.old.items probes.new.items }
 {
     let Ok(commands) = made_commands(alloc, count) else {
         return Status::NoMemory;
@@ -43,11 +44,11 @@ pub fn tell_made<K: Sink>(
     out: &mut K,
     probes: &mut Vec<Box<dyn Probe>>,
 ) -> Status
-    ensures told { IsMade (limits_of options.now) count (K.written out.old) (K.written out.new) result }
+    ensures told { IsMade (limits_of options.now) (length probes.old.items) count (K.written out.old) (K.written out.new) result }
     ensures write_fault { result ≡ Status.WriteFault → Rose (K.faults out.old) (K.faults out.new) }
     ensures write_later { K.faults out.old ≤ K.faults out.new }
     ensures words { (result ≢ Status.BadWords) × (result ≢ Status.ReadFault) }
-    ensures probes { probes.new ≡ probes.old }
+    ensures probes { AreHeard (λ p. notes p) probes.old.items probes.new.items }
 {
     let mut answers = MemSink::new(alloc, Vec::new(alloc));
     match answer_made(alloc, options, count, &mut answers, probes) {
@@ -58,7 +59,7 @@ pub fn tell_made<K: Sink>(
 
 // Writes the line on these answers.
 fn tell_answers<K: Sink>(alloc: Global, count: u32, answers: &[u8], out: &mut K) -> Status
-    ensures told { (limits : Limits) → IsAnsweredWith limits count answers.now → IsMade limits count (K.written out.old) (K.written out.new) result }
+    ensures told { (limits : Limits) (probes : ℕ) → IsAnsweredWith limits probes count answers.now → IsMade limits probes count (K.written out.old) (K.written out.new) result }
     ensures write_fault { result ≡ Status.WriteFault → Rose (K.faults out.old) (K.faults out.new) }
     ensures write_later { K.faults out.old ≤ K.faults out.new }
     ensures words { (result ≢ Status.BadWords) × (result ≢ Status.ReadFault) }

@@ -1,4 +1,5 @@
 pub mod ClapLemmas
+pub mod FoundLemmas
 pub mod CommandLemmas
 pub mod LineLemmas
 pub mod NumberLemmas

@@ -1,14 +1,15 @@
 -- What is found in rows to which one more is added.
-use Rattle.std.proofs.Common.{◌≡◌, ◌∙◌, ◌||◌, Bool, true, false, List, [], ◌∷◌, ◌++◌, Option, Some, None, cond, refl, ap, true≢false, append-nil}
+use Rattle.std.proofs.Common.{◌≡◌, ◌∙◌, ◌||◌, Bool, true, false, List, [], ◌∷◌, ◌++◌, Option, Some, None, inl, inr, cond, refl, sym, ap, true≢false, append-nil}
 use Rattle.std.specs.List.{find}
-use Rattle.std.specs.Option.{option_or, option_and_then}
-use Rattle.std.specs.Prelude.{slice_get}
+use Rattle.std.specs.Option.{option_or}
 use Rattle.std.specs.Str.{bytes_eq}
 use Rattle.std.proofs.lemmas.List.Folds.{find-append, list_any-append}
-use Rattle.clap.specs.Words.{Row, Text, first_of}
-use Rattle.clap.specs.Walk.{at_row, has_row}
+use Rattle.std.proofs.lemmas.Slice.Eq.{bytes_eq-Decides}
+use Rattle.clap.specs.Words.{Row, Text}
+use Rattle.clap.specs.Walk.{at_row, has_row, without}
+use Rattle.sc_words.proofs.OptionLemmas.{cases}
 
-pub either : (a b : Bool) → (a || b) ≡ false → (a ≡ false) × (b ≡ false)
+either : (a b : Bool) → (a || b) ≡ false → (a ≡ false) × (b ≡ false)
 either true b e = absurd (true≢false e)
 either false b e = (refl, e)
 
@@ -20,6 +21,9 @@ pub or_none : {X : Type 0} (o : Option X) → option_or o None ≡ o
 or_none None = refl
 or_none (Some x) = refl
 
+pub same_text : (a b : Text) → bytes_eq a b ≡ true → a ≡ b
+same_text a b = (bytes_eq-Decides a b).0
+
 -- what is absent is added at the end
 pub at_row-absent : (id : Text) (change : Row → List Row) (missing rows : List Row) → has_row id rows ≡ false → at_row id change missing rows ≡ rows ++ missing
 at_row-absent id change missing [] e = refl
@@ -27,35 +31,26 @@ at_row-absent id change missing (r ∷ rows) e =
     let parts = either (bytes_eq r.id id) (has_row id rows) e in
     rw (parts.0) (ap (λ rs. r ∷ rs) (at_row-absent id change missing rows parts.1))
 
-pub without-absent : (id : Text) (rows : List Row) → has_row id rows ≡ false → at_row id (λ _. []) [] rows ≡ rows
+without-absent : (id : Text) (rows : List Row) → has_row id rows ≡ false → without id rows ≡ rows
 without-absent id rows e = at_row-absent id (λ _. []) [] rows e ∙ append-nil rows
+
+pub with_row : (id : Text) (r : Row) (change : Row → List Row) (rows : List Row) → has_row id rows ≡ false → at_row id change (r ∷ []) (without id rows) ≡ rows ++ r ∷ []
+with_row id r change rows e = ap (at_row id change (r ∷ [])) (without-absent id rows e) ∙ at_row-absent id change (r ∷ []) rows e
 
 pub has_row-added : (id : Text) (rows : List Row) (r : Row) → has_row id (rows ++ r ∷ []) ≡ (has_row id rows || (bytes_eq r.id id || false))
 has_row-added id rows r = list_any-append (λ row. bytes_eq row.id id) rows (r ∷ [])
 
--- what is absent is not found
-pub find-absent : (id : Text) (rows : List Row) → has_row id rows ≡ false → find (λ r. bytes_eq r.id id) rows ≡ None
-find-absent id [] e = refl
-find-absent id (r ∷ rows) e =
-    let parts = either (bytes_eq r.id id) (has_row id rows) e in
-    rw (parts.0) (find-absent id rows parts.1)
+-- what is found with one row more
+pub shown : (id : Text) (rows : List Row) (r : Row) → find (λ row. bytes_eq row.id id) (rows ++ r ∷ []) ≡ option_or (find (λ row. bytes_eq row.id id) rows) (cond (bytes_eq r.id id) (Some r) None)
+shown id rows r = find-append (λ row. bytes_eq row.id id) rows (r ∷ [])
 
-pub first_of-absent : (id : Text) (rows : List Row) → has_row id rows ≡ false → first_of id rows ≡ None
-first_of-absent id rows e = ap (option_and_then (λ (r : Row). slice_get r.values 0)) (find-absent id rows e)
-
-first_found : (o : Option Row) (r : Row) (b : Bool) → b ≡ false → option_or o (cond b (Some r) None) ≡ o
-first_found o r b e = rw e (or_none o)
-
-pub first_of-other : (id : Text) (rows : List Row) (r : Row) → bytes_eq r.id id ≡ false → first_of id (rows ++ r ∷ []) ≡ first_of id rows
-first_of-other id rows r e =
-    ap (option_and_then (λ (row : Row). slice_get row.values 0))
-    (find-append (λ row. bytes_eq row.id id) rows (r ∷ []) ∙ first_found (find (λ row. bytes_eq row.id id) rows) r (bytes_eq r.id id) e)
-
-last_found : (o : Option Row) (r : Row) (b : Bool) → o ≡ None → b ≡ true → option_or o (cond b (Some r) None) ≡ Some r
-last_found o r b n e = rw (n, e) refl
-
-pub first_of-new : (id : Text) (rows : List Row) (r : Row) → has_row id rows ≡ false → bytes_eq r.id id ≡ true → first_of id (rows ++ r ∷ []) ≡ slice_get r.values 0
-first_of-new id rows r absent e =
-    ap (option_and_then (λ (row : Row). slice_get row.values 0))
-    (find-append (λ row. bytes_eq row.id id) rows (r ∷ [])
-    ∙ last_found (find (λ row. bytes_eq row.id id) rows) r (bytes_eq r.id id) (find-absent id rows absent) e)
+-- what is there is found, whatever comes behind it
+pub found_first : (id : Text) (rows : List Row) (o : Option Row) → has_row id rows ≡ true → option_or (find (λ row. bytes_eq row.id id) rows) o ≡ find (λ row. bytes_eq row.id id) rows
+found_first id [] o e = absurd (true≢false (sym e))
+found_first id (r ∷ rows) o e =
+    elim (cases (bytes_eq r.id id)) [
+      | inl h ↦ rw h refl
+      | inr h ↦
+          let rest : has_row id rows ≡ true = sym (ap (λ b. b || has_row id rows) h) ∙ e in
+          rw h (found_first id rows o rest)
+    ]

@@ -1,6 +1,7 @@
 -- Yardstick: to be compared with what it restates (docs/TRUST.md).
 -- What a line asks for.
 use Rattle.std.specs.Prelude.{◌≡◌, ℕ, Bool, true, false, ◌&&◌, List, [], ◌∷◌, length, if◌then◌else◌, ◌==◌, nat_le, codes, Option, Some, None}
+use Rattle.std.specs.Option.{option_map_or}
 use Rattle.std.specs.Str.{bytes_eq}
 use Rattle.sc_base.specs.declared.memory.Form.{Form}
 use Rattle.sc_base.specs.declared.memory.Form.TheVariants as form
@@ -29,8 +30,11 @@ verb_of word =
     else (if bytes_eq word (codes "where") then Some verb.Where
     else (if bytes_eq word (codes "print") then Some verb.Print
     else (if bytes_eq word (codes "list") then Some verb.List
+    else (if bytes_eq word (codes "machine") then Some verb.Machine
+    else (if bytes_eq word (codes "report") then Some verb.Report
+    else (if bytes_eq word (codes "drop") then Some verb.Drop
     else (if bytes_eq word (codes "reset") then Some verb.Reset
-    else (if bytes_eq word (codes "quit") then Some verb.Quit else None)))))))))))))))
+    else (if bytes_eq word (codes "quit") then Some verb.Quit else None))))))))))))))))))
 
 -- ---- the further words
 
@@ -94,10 +98,19 @@ stop_of (how ∷ place ∷ []) =
     else (if bytes_eq how (codes "at") then at_line (parts_of place) else command.BadArguments)
 stop_of _ = command.BadArguments
 
+-- a number alone
+abbrev pub number_alone : List (List ℕ) → Option ℕ
+number_alone (number ∷ []) = if is_numeral 9 number then Some (number_of number) else None
+number_alone _ = None
+
 abbrev pub delete_of : List (List ℕ) → Command
-delete_of (number ∷ []) =
-    if is_numeral 9 number then command.Delete (number_of number) else command.BadArguments
-delete_of _ = command.BadArguments
+delete_of words = option_map_or (λ number. command.Delete number) (number_alone words) command.BadArguments
+
+abbrev pub report_of : List (List ℕ) → Command
+report_of words = option_map_or (λ number. command.Report number) (number_alone words) command.BadArguments
+
+abbrev pub drop_of : List (List ℕ) → Command
+drop_of words = option_map_or (λ number. command.Drop number) (number_alone words) command.BadArguments
 
 abbrev pub print_of : List (List ℕ) → Command
 print_of (name ∷ []) = if is_identifier name then command.Print name else command.BadArguments
@@ -120,6 +133,9 @@ command_by verb.Cont words = alone command.Cont words
 command_by verb.Where words = alone command.Frames words
 command_by verb.Print words = print_of words
 command_by verb.List words = alone command.List words
+command_by verb.Machine words = alone command.Machine words
+command_by verb.Report words = report_of words
+command_by verb.Drop words = drop_of words
 command_by verb.Reset words = alone command.Reset words
 command_by verb.Quit words = alone command.Quit words
 

@@ -2,6 +2,7 @@
 pub mod CommandLine
 pub mod Commands
 pub mod Lines
+pub mod Listing
 pub mod Options
 pub mod Parts
 pub mod Stops

@@ -1,6 +1,6 @@
 -- Yardstick: to be compared with what it restates (docs/TRUST.md).
 -- The language of the words behind the program's name, and what they ask for.
-use Rattle.std.specs.Prelude.{ℕ, ◌%◌, Bool, true, false, not, ◌&&◌, List, [], ◌∷◌, if◌then◌else◌, ◌==◌, nat_le, codes, Option, Some, None, is_some, option_map}
+use Rattle.std.specs.Prelude.{ℕ, ◌%◌, Bool, true, false, not, ◌&&◌, ◌||◌, List, [], ◌∷◌, if◌then◌else◌, ◌==◌, nat_le, codes, Option, Some, None, is_some, option_map, option_and_then, find}
 use Rattle.std.specs.Option.{option_map_or}
 use Rattle.std.specs.Str.{bytes_eq}
 use Rattle.sc_words.specs.Parts.{is_numeral, number_of}
@@ -8,9 +8,39 @@ use Rattle.sc_words.specs.declared.options.Options.{Options}
 use Rattle.sc_words.specs.declared.range.Range.{Range}
 use Rattle.sc_words.specs.declared.listed.Left.{Left}
 
+-- an option that has no value
+abbrev pub is_flag : List ℕ → Bool
+is_flag name = bytes_eq name (codes "--trace") || bytes_eq name (codes "--coverage") || bytes_eq name (codes "--count")
+
+-- an option's name, and the value behind it
+abbrev pub Given : Type 0
+Given = List ℕ × Option (List ℕ)
+
+-- The options that words give: a flag is one word, and any other is two, its name and the value behind it.
+abbrev pub given : List (List ℕ) → List Given
+given [] = []
+given (name ∷ []) = (name, None) ∷ []
+given (name ∷ value ∷ words) =
+    if is_flag name then (name, None) ∷ given (value ∷ words) else (name, Some value) ∷ given words
+
 -- the options that may still be given
 abbrev pub all : Left
-all = record { stack = true; heap = true; turns = true; dir = true; make = true }
+all = record {
+  stack = true;
+  heap = true;
+  turns = true;
+  dir = true;
+  make = true;
+  trace = true;
+  coverage = true;
+  count = true;
+}
+
+abbrev pub flag_taken : Left → List ℕ → Option Left
+flag_taken left name =
+    if bytes_eq name (codes "--trace") then (if left.trace then Some (record left { trace = false }) else None)
+    else (if bytes_eq name (codes "--coverage") then (if left.coverage then Some (record left { coverage = false }) else None)
+    else (if bytes_eq name (codes "--count") then (if left.count then Some (record left { count = false }) else None) else None))
 
 -- those that may be given after this one, where it may be given
 abbrev pub taken : Left → List ℕ → Option Left
@@ -19,7 +49,8 @@ taken left name =
     else (if bytes_eq name (codes "--heap") then (if left.heap then Some (record left { heap = false }) else None)
     else (if bytes_eq name (codes "--turns") then (if left.turns then Some (record left { turns = false }) else None)
     else (if bytes_eq name (codes "--dir") then (if left.dir then Some (record left { dir = false }) else None)
-    else (if bytes_eq name (codes "--make") then (if left.make then Some (record left { make = false }) else None) else None))))
+    else (if bytes_eq name (codes "--make") then (if left.make then Some (record left { make = false }) else None)
+    else flag_taken left name))))
 
 -- a value does not begin with `-`
 abbrev pub is_value : List ℕ → Bool
@@ -61,20 +92,30 @@ fits name value =
     else (if bytes_eq name (codes "--make") then is_some (number_in make_range value)
     else is_folder value)))
 
--- options, each behind it a value that fits it, in any order, each at most once
-abbrev pub is_listed : Left → List (List ℕ) → Bool
+-- a flag has no value, and any other option has one that fits it
+abbrev pub is_right : Given → Bool
+is_right (name, None) = is_flag name
+is_right (name, Some value) = not (is_flag name) && (is_value value && fits name value)
+
+-- options that are right, in any order, each at most once
+abbrev pub is_listed : Left → List Given → Bool
 is_listed left [] = true
-is_listed left (name ∷ []) = false
-is_listed left (name ∷ value ∷ words) =
-    (is_value value && fits name value) && option_map_or (λ fewer. is_listed fewer words) (taken left name) false
+is_listed left (option ∷ options) =
+    is_right option && option_map_or (λ fewer. is_listed fewer options) (taken left option.0) false
 
 -- ---- what they ask for
 
--- the value behind an option
-abbrev pub value_of : List ℕ → List (List ℕ) → Option (List ℕ)
-value_of name [] = None
-value_of name (word ∷ []) = None
-value_of name (word ∷ value ∷ words) = if bytes_eq word name then Some value else value_of name words
+-- the option of a name
+abbrev pub named : List ℕ → List Given → Option Given
+named name options = find (λ option. bytes_eq option.0 name) options
+
+-- the value behind it
+abbrev pub value_of : List ℕ → List Given → Option (List ℕ)
+value_of name options = option_and_then (λ option. option.1) (named name options)
+
+-- it is given
+abbrev pub has_flag : List ℕ → List Given → Bool
+has_flag name options = is_some (named name options)
 
 -- the number that is meant where nothing is said, or the one that the value says
 abbrev pub number_or : ℕ → Range → Option (List ℕ) → Option ℕ
@@ -91,20 +132,42 @@ abbrev pub folder_or : Option (List ℕ) → List ℕ
 folder_or None = codes "."
 folder_or (Some folder) = folder
 
-abbrev pub options_by : Option ℕ → Option ℕ → Option ℕ → Option (Option ℕ) → List ℕ → Option Options
-options_by (Some stack) (Some heap) (Some turns) (Some make) dir =
-    Some (record { stack = stack; heap = heap; turns = turns; dir = dir; make = make })
-options_by _ _ _ _ dir = None
+-- the three flags, each given or not
+pub record Flags : Type 0 where
+  pub trace : Bool
+  pub coverage : Bool
+  pub count : Bool
 
--- by the values of the five options
-abbrev pub options_from : Option (List ℕ) → Option (List ℕ) → Option (List ℕ) → Option (List ℕ) → Option (List ℕ) → Option Options
-options_from stack heap turns dir make = options_by (number_or 1048576 stack_range stack)
-    (number_or 4194304 heap_range heap) (number_or 50000000 turns_range turns) (modules_or make) (folder_or dir)
+abbrev pub options_by : Option ℕ → Option ℕ → Option ℕ → Option (Option ℕ) → List ℕ → Flags → Option Options
+options_by (Some stack) (Some heap) (Some turns) (Some make) dir flags = Some (record {
+  stack = stack;
+  heap = heap;
+  turns = turns;
+  dir = dir;
+  make = make;
+  trace = flags.trace;
+  coverage = flags.coverage;
+  count = flags.count;
+})
+options_by _ _ _ _ dir flags = None
 
-abbrev pub options_in : List (List ℕ) → Option Options
-options_in words = options_from (value_of (codes "--stack") words) (value_of (codes "--heap") words)
-    (value_of (codes "--turns") words) (value_of (codes "--dir") words) (value_of (codes "--make") words)
+-- by the values of the five options, and the flags
+abbrev pub options_from : Option (List ℕ) → Option (List ℕ) → Option (List ℕ) → Option (List ℕ) → Option (List ℕ) → Flags → Option Options
+options_from stack heap turns dir make flags = options_by (number_or 1048576 stack_range stack)
+    (number_or 4194304 heap_range heap) (number_or 50000000 turns_range turns) (modules_or make) (folder_or dir) flags
+
+abbrev pub flags_in : List Given → Flags
+flags_in options = record {
+  trace = has_flag (codes "--trace") options;
+  coverage = has_flag (codes "--coverage") options;
+  count = has_flag (codes "--count") options;
+}
+
+abbrev pub options_in : List Given → Option Options
+options_in options = options_from (value_of (codes "--stack") options) (value_of (codes "--heap") options)
+    (value_of (codes "--turns") options) (value_of (codes "--dir") options) (value_of (codes "--make") options)
+    (flags_in options)
 
 -- what the words ask for, where they are in the language
 abbrev pub options_of : List (List ℕ) → Option Options
-options_of words = if is_listed all words then options_in words else None
+options_of words = if is_listed all (given words) then options_in (given words) else None

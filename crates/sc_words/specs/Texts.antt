@@ -59,6 +59,7 @@ denied_text denied.NoMain = codes "C13"
 denied_text (denied.Space a) = area_text a
 denied_text (denied.FileFault file) = codes "C15 " ++ file
 denied_text (denied.NotVisible name) = codes "C16 " ++ name
+denied_text (denied.NoProbe number) = codes "C17 " ++ decimal number
 denied_text (denied.NoStop number) = codes "C18 " ++ decimal number
 denied_text (denied.TooLong file) = codes "C19 " ++ file
 
@@ -87,6 +88,8 @@ text_of (answer.StopSet number place) = codes "> stop " ++ decimal number ++ sto
 text_of (answer.Deleted number) = codes "> deleted " ++ decimal number ++ codes "\n"
 text_of (answer.Ran text) = text
 text_of (answer.Shown lines) = lines
+text_of (answer.Reported number text) = codes "> report " ++ decimal number ++ codes "\n" ++ text
+text_of (answer.Dropped number) = codes "> dropped " ++ decimal number ++ codes "\n"
 text_of answer.Reset = codes "> reset\n"
 text_of answer.Bye = codes "> bye\n"
 text_of (answer.Refused d) = codes "> refused " ++ denied_text d ++ codes "\n"

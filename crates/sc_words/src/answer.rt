@@ -24,6 +24,9 @@ pub enum Answer {
     Ran(Bytes),
     /// What a command shows, as lines that are written already.
     Shown(Bytes),
+    /// What the probe of a number tells, as a text: its lines, the last of which may lack its line feed.
+    Reported(u32, Bytes),
+    Dropped(u32),
     Reset,
     Bye,
     Refused(Denied),
@@ -149,6 +152,7 @@ fn denied_text(alloc: Global, denied: &Denied) -> Result<Vec<u8>, NoMemory>
         Denied::Space(area) => words(alloc, area_text(*area)),
         Denied::FileFault(file) => with_word(alloc, b"C15 ", file.as_slice()),
         Denied::NotVisible(name) => with_word(alloc, b"C16 ", name.as_slice()),
+        Denied::NoProbe(number) => with_number(alloc, b"C17 ", *number),
         Denied::NoStop(number) => with_number(alloc, b"C18 ", *number),
         Denied::TooLong(file) => with_word(alloc, b"C19 ", file.as_slice()),
     }
@@ -235,6 +239,23 @@ fn deleted_line(alloc: Global, number: u32) -> Result<Bytes, NoMemory>
     line_of(alloc, b"> deleted ", digits.as_bytes())
 }
 
+// A probe's number, and its text as it is.
+fn report_text(alloc: Global, number: u32, text: &Bytes) -> Result<Bytes, NoMemory>
+    ensures { IfOk result (λ report. report ≡ codes "> report " ++ decimal number ++ codes "\n" ++ text.now) }
+{
+    let mut report = with_number(alloc, b"> report ", number)?;
+    put(&mut report, b"\n")?;
+    put(&mut report, text.as_slice())?;
+    Ok(Bytes::from_vec(report))
+}
+
+fn dropped_line(alloc: Global, number: u32) -> Result<Bytes, NoMemory>
+    ensures { IfOk result (λ text. text ≡ codes "> dropped " ++ decimal number ++ codes "\n") }
+{
+    let digits = number.to_string(alloc)?;
+    line_of(alloc, b"> dropped ", digits.as_bytes())
+}
+
 /// The text of an answer: one line behind `> `, or the lines that it carries.
 pub fn answer_text(alloc: Global, answer: &Answer) -> Result<Bytes, NoMemory>
     ensures { IfOk result (λ text. text ≡ spec.text_of answer.now) }
@@ -254,6 +275,8 @@ pub fn answer_text(alloc: Global, answer: &Answer) -> Result<Bytes, NoMemory>
         Answer::Deleted(number) => deleted_line(alloc, *number),
         Answer::Ran(text) => Bytes::from_slice(alloc, text.as_slice()),
         Answer::Shown(lines) => Bytes::from_slice(alloc, lines.as_slice()),
+        Answer::Reported(number, text) => report_text(alloc, *number, text),
+        Answer::Dropped(number) => dropped_line(alloc, *number),
         Answer::Reset => Bytes::from_slice(alloc, b"> reset\n"),
         Answer::Bye => Bytes::from_slice(alloc, b"> bye\n"),
         Answer::Refused(denied) => refused_line(alloc, denied),

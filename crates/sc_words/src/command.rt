@@ -2,7 +2,7 @@
 ghost use Rattle.std.specs.Prelude.{◌≡◌, true, [], ◌∷◌, IfOk, OnErr, IfSome, IfNone};
 ghost use Rattle.sc_words.specs.Lines.{words_of};
 ghost use Rattle.sc_words.specs.Parts.{is_module_name, parts_of};
-ghost use Rattle.sc_words.specs.Commands.{command_of, command_by, alone, load_of, unload_of, swap_of, swap_to, form_of, edit_of, compile_of, run_of, stop_of, in_function, at_line, delete_of, print_of, is_comment, IsNamed, IsAnswered};
+ghost use Rattle.sc_words.specs.Commands.{command_of, command_by, alone, load_of, unload_of, swap_of, swap_to, form_of, edit_of, compile_of, run_of, stop_of, in_function, at_line, number_alone, delete_of, report_of, drop_of, print_of, is_comment, IsNamed, IsAnswered};
 
 use crate::line::next_word;
 use crate::part::{
@@ -46,6 +46,11 @@ pub enum Command {
     /// `print NAME`
     Print(Name),
     List,
+    Machine,
+    /// `report K`
+    Report(u32),
+    /// `drop K`
+    Drop(u32),
     Reset,
     Quit,
     /// The first word is no command.
@@ -104,6 +109,9 @@ fn command_by(alloc: Global, verb: Verb, rest: &[u8]) -> Result<Command, NoMemor
         Verb::Cont => Ok(alone(Command::Cont, rest)),
         Verb::Where => Ok(alone(Command::Frames, rest)),
         Verb::List => Ok(alone(Command::List, rest)),
+        Verb::Machine => Ok(alone(Command::Machine, rest)),
+        Verb::Report => Ok(report_of(rest)),
+        Verb::Drop => Ok(drop_of(rest)),
         Verb::Reset => Ok(alone(Command::Reset, rest)),
         Verb::Quit => Ok(alone(Command::Quit, rest)),
     }
@@ -310,16 +318,42 @@ fn at_line(alloc: Global, place: &[u8]) -> Result<Command, NoMemory>
     Ok(Command::Stop(StopAt::AtLine(module, line)))
 }
 
+// The number that is the only word.
+fn number_alone(rest: &[u8]) -> Option<u32>
+    ensures { result ≡ number_alone (words_of rest.now) }
+{
+    let (digits, rest) = next_word(rest)?;
+    if next_word(rest).is_some() || !is_numeral(9, digits) {
+        return None;
+    }
+    Some(small_number_of(digits))
+}
+
 fn delete_of(rest: &[u8]) -> Command
     ensures { result ≡ delete_of (words_of rest.now) }
 {
-    let Some((digits, rest)) = next_word(rest) else {
-        return Command::BadArguments;
-    };
-    if next_word(rest).is_some() || !is_numeral(9, digits) {
-        return Command::BadArguments;
+    match number_alone(rest) {
+        Some(number) => Command::Delete(number),
+        None => Command::BadArguments,
     }
-    Command::Delete(small_number_of(digits))
+}
+
+fn report_of(rest: &[u8]) -> Command
+    ensures { result ≡ report_of (words_of rest.now) }
+{
+    match number_alone(rest) {
+        Some(number) => Command::Report(number),
+        None => Command::BadArguments,
+    }
+}
+
+fn drop_of(rest: &[u8]) -> Command
+    ensures { result ≡ drop_of (words_of rest.now) }
+{
+    match number_alone(rest) {
+        Some(number) => Command::Drop(number),
+        None => Command::BadArguments,
+    }
 }
 
 fn print_of(alloc: Global, rest: &[u8]) -> Result<Command, NoMemory>

@@ -1,8 +1,8 @@
 // The options, as `clap` reads and explains them.
-ghost use Rattle.std.specs.Prelude.{◌≡◌, true, false, IfOk, IfErr, map, string_bytes, codes};
-ghost use Rattle.clap.specs.Words.{app_of, kind_of, rows_of, found_of, rule_of, first_value};
-ghost use Rattle.sc_words.specs.CommandLine.{option_rule, saber, takes_words, rows_in};
-ghost use Rattle.sc_words.specs.Options.{is_listed, all, value_of};
+ghost use Rattle.std.specs.Prelude.{◌≡◌, true, false, IfOk, IfErr, map, string_bytes};
+ghost use Rattle.clap.specs.Words.{app_of, kind_of, rows_of, found_of, rule_of};
+ghost use Rattle.sc_words.specs.CommandLine.{option_rule, flag_rule, with_options, saber, takes_words, rows_in, IsFound};
+ghost use Rattle.sc_words.specs.Options.{is_listed, all, given};
 
 use clap::error::ErrorKind;
 use clap::{Arg, ArgAction, ArgMatches, Command, Error};
@@ -28,6 +28,9 @@ const COMMANDS: &str = "Commands, one on each line of the standard input:
   where           shows the active functions, from the innermost
   print NAME      shows a value
   list            shows modules, functions, stops and the state
+  machine         shows the registers, and how many instructions were carried out
+  report K        shows what a probe tells
+  drop K          takes a probe away
   reset           gives the run up
   quit            ends
 A line that begins with # has no answer.";
@@ -42,8 +45,19 @@ fn option_named<'a>(alloc: Global, name: &'a str, help: &'a str) -> Arg<'a>
         .action(ArgAction::Set)
 }
 
-fn command<'a>(alloc: Global) -> Result<Command<'a>, AllocError>
-    ensures { IfOk result (λ command. app_of command ≡ saber) }
+fn flag_named<'a>(alloc: Global, name: &'a str, help: &'a str) -> Arg<'a>
+    ensures rule { rule_of result ≡ flag_rule name.entry.now }
+    ensures global { result.global ≡ false }
+{
+    Arg::new(alloc, name)
+        .long(name)
+        .help(help)
+        .action(ArgAction::SetTrue)
+}
+
+// The command with the options that have values.
+fn with_options<'a>(alloc: Global) -> Result<Command<'a>, AllocError>
+    ensures { IfOk result (λ command. app_of command ≡ with_options) }
 {
     let stack = option_named(alloc, "stack", "bytes of the stack [default: 1048576]");
     let heap = option_named(alloc, "heap", "bytes of the heap [default: 4194304]");
@@ -65,6 +79,24 @@ fn command<'a>(alloc: Global) -> Result<Command<'a>, AllocError>
         .arg(make)
 }
 
+fn command<'a>(alloc: Global) -> Result<Command<'a>, AllocError>
+    ensures { IfOk result (λ command. app_of command ≡ saber) }
+{
+    let trace = flag_named(alloc, "trace", "adds a probe that keeps the notes of runs");
+    let coverage = flag_named(
+        alloc,
+        "coverage",
+        "adds a probe that counts how often each line was reached",
+    );
+    let count = flag_named(
+        alloc,
+        "count",
+        "adds a probe that counts the notes of runs by kind",
+    );
+    let command = with_options(alloc)?;
+    command.arg(trace)?.arg(coverage)?.arg(count)
+}
+
 /// What the options mean, and the commands, for `--help`.
 pub fn help_text(alloc: Global) -> Result<String, NoMemory> {
     let mut command = command(alloc)?.about(ABOUT).after_help(COMMANDS);
@@ -81,15 +113,36 @@ fn parsed<'a>(alloc: Global, words: &'a [String]) -> Result<ArgMatches<'a>, Erro
     command.try_get_matches_from(words)
 }
 
-/// The values of the options in words that are options with their values. Only memory fails.
-pub fn matches_of<'a>(alloc: Global, words: &'a [String]) -> Result<ArgMatches<'a>, Error>
-    requires { is_listed all (map string_bytes words.now) ≡ true }
-    ensures stack { IfOk result (λ matches. first_value (found_of matches) (codes "stack") ≡ value_of (codes "--stack") (map string_bytes words.entry.now)) }
-    ensures heap { IfOk result (λ matches. first_value (found_of matches) (codes "heap") ≡ value_of (codes "--heap") (map string_bytes words.entry.now)) }
-    ensures turns { IfOk result (λ matches. first_value (found_of matches) (codes "turns") ≡ value_of (codes "--turns") (map string_bytes words.entry.now)) }
-    ensures dir { IfOk result (λ matches. first_value (found_of matches) (codes "dir") ≡ value_of (codes "--dir") (map string_bytes words.entry.now)) }
-    ensures make { IfOk result (λ matches. first_value (found_of matches) (codes "make") ≡ value_of (codes "--make") (map string_bytes words.entry.now)) }
+/// What was found for the options: the values of five, and whether each of the three flags is given.
+#[derive(Clone, Copy)]
+pub struct Found<'a> {
+    pub stack: Option<&'a str>,
+    pub heap: Option<&'a str>,
+    pub turns: Option<&'a str>,
+    pub dir: Option<&'a str>,
+    pub make: Option<&'a str>,
+    pub trace: bool,
+    pub coverage: bool,
+    pub count: bool,
+}
+
+/// What is found for the options in words that are in the language. Only memory fails.
+pub fn found_in<'a>(alloc: Global, words: &'a [String]) -> Result<Found<'a>, Error>
+    requires { is_listed all (given (map string_bytes words.now)) ≡ true }
+    ensures found { IfOk result (λ found. IsFound found (given (map string_bytes words.entry.now))) }
     ensures memory { IfErr result (λ e. kind_of e ≡ ErrorKind.OutOfMemory) }
 {
-    parsed(alloc, words)
+    match parsed(alloc, words) {
+        Ok(matches) => Ok(Found {
+            stack: matches.get_str("stack"),
+            heap: matches.get_str("heap"),
+            turns: matches.get_str("turns"),
+            dir: matches.get_str("dir"),
+            make: matches.get_str("make"),
+            trace: matches.get_flag("trace"),
+            coverage: matches.get_flag("coverage"),
+            count: matches.get_flag("count"),
+        }),
+        Err(error) => Err(error),
+    }
 }

@@ -50,6 +50,8 @@ pub enum Denied {
     FileFault(Bytes),
     /// The name stands for nothing that can be shown.
     NotVisible(Name),
+    /// There is no probe of that number.
+    NoProbe(u32),
     /// There is no stop of that number.
     NoStop(u32),
     /// The file has more than 8,388,608 bytes.

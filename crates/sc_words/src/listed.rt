@@ -1,6 +1,7 @@
-// Whether words are options with their values.
-ghost use Rattle.std.specs.Prelude.{◌≡◌, map, string_bytes};
-ghost use Rattle.sc_words.specs.Options.{is_listed, is_value, fits, taken, all};
+// Whether words are options, those with a value with one that is right.
+ghost use Rattle.std.specs.Prelude.{◌≡◌, ◌≤◌, length, IfSome, map, option_map, string_bytes};
+ghost use Rattle.sc_words.specs.Options.{is_flag, is_listed, is_value, fits, taken, flag_taken, all, given};
+ghost use Rattle.sc_words.specs.Listing.{behind};
 
 use crate::range::{heap_in, make_in, stack_in, turns_in};
 
@@ -12,6 +13,9 @@ pub struct Left {
     turns: bool,
     dir: bool,
     make: bool,
+    trace: bool,
+    coverage: bool,
+    count: bool,
 }
 
 // Those that may be given after this one, where it may be given.
@@ -19,53 +23,66 @@ fn taken(left: Left, name: &[u8]) -> Option<Left>
     ensures { result ≡ taken left name.now }
 {
     if name == b"--stack".as_slice() {
-        return if left.stack {
-            Some(Left {
-                stack: false,
-                ..left
-            })
-        } else {
-            None
-        };
+        return left.stack.then_some(Left {
+            stack: false,
+            ..left
+        });
     }
     if name == b"--heap".as_slice() {
-        return if left.heap {
-            Some(Left {
-                heap: false,
-                ..left
-            })
-        } else {
-            None
-        };
+        return left.heap.then_some(Left {
+            heap: false,
+            ..left
+        });
     }
     if name == b"--turns".as_slice() {
-        return if left.turns {
-            Some(Left {
-                turns: false,
-                ..left
-            })
-        } else {
-            None
-        };
+        return left.turns.then_some(Left {
+            turns: false,
+            ..left
+        });
     }
     if name == b"--dir".as_slice() {
-        return if left.dir {
-            Some(Left { dir: false, ..left })
-        } else {
-            None
-        };
+        return left.dir.then_some(Left { dir: false, ..left });
     }
     if name == b"--make".as_slice() {
-        return if left.make {
-            Some(Left {
-                make: false,
-                ..left
-            })
-        } else {
-            None
-        };
+        return left.make.then_some(Left {
+            make: false,
+            ..left
+        });
+    }
+    flag_taken(left, name)
+}
+
+// The same of a flag.
+fn flag_taken(left: Left, name: &[u8]) -> Option<Left>
+    ensures { result ≡ flag_taken left name.now }
+{
+    if name == b"--trace".as_slice() {
+        return left.trace.then_some(Left {
+            trace: false,
+            ..left
+        });
+    }
+    if name == b"--coverage".as_slice() {
+        return left.coverage.then_some(Left {
+            coverage: false,
+            ..left
+        });
+    }
+    if name == b"--count".as_slice() {
+        return left.count.then_some(Left {
+            count: false,
+            ..left
+        });
     }
     None
+}
+
+fn is_flag(name: &[u8]) -> bool
+    ensures { result ≡ is_flag name.now }
+{
+    name == b"--trace".as_slice()
+        || name == b"--coverage".as_slice()
+        || name == b"--count".as_slice()
 }
 
 fn is_value(word: &[u8]) -> bool
@@ -96,10 +113,27 @@ fn fits(name: &[u8], value: &[u8]) -> bool
     !value.is_empty()
 }
 
-/// Whether the words are options, each at most once and each with a value behind it that fits it and does not begin
-/// with `-`.
+// The words behind an option of this name and its value, where it has one; none where that is wrong or missing.
+fn behind<'a>(name: &[u8], words: &'a [String]) -> Option<&'a [String]>
+    ensures behind { option_map (λ rest. map string_bytes rest.now) result ≡ behind name.now (map string_bytes words.entry.now) }
+    ensures fewer { IfSome result (λ rest. length rest.now ≤ length words.entry.now) }
+{
+    if is_flag(name) {
+        return Some(words);
+    }
+    let (value, rest) = words.split_first()?;
+    let value = value.as_bytes();
+    if is_value(value) && fits(name, value) {
+        Some(rest)
+    } else {
+        None
+    }
+}
+
+/// Whether the words are options, each at most once: a flag alone, and any other with a value behind it that fits it and
+/// does not begin with `-`.
 pub fn are_listed(words: &[String]) -> bool
-    ensures { result ≡ is_listed all (map string_bytes words.now) }
+    ensures { result ≡ is_listed all (given (map string_bytes words.now)) }
 {
     let mut left = Left {
         stack: true,
@@ -107,21 +141,21 @@ pub fn are_listed(words: &[String]) -> bool
         turns: true,
         dir: true,
         make: true,
+        trace: true,
+        coverage: true,
+        count: true,
     };
     let mut rest = words;
-    'pairs: while let Some((name, behind)) = rest.split_first() {
-        let Some((value, behind)) = behind.split_first() else {
+    'options: while let Some((name, words)) = rest.split_first() {
+        let name = name.as_bytes();
+        let Some(fewer) = taken(left, name) else {
             return false;
         };
-        let (name, value) = (name.as_bytes(), value.as_bytes());
-        if !is_value(value) || !fits(name, value) {
+        let Some(words) = behind(name, words) else {
             return false;
-        }
-        match taken(left, name) {
-            Some(fewer) => left = fewer,
-            None => return false,
-        }
-        rest = behind;
+        };
+        left = fewer;
+        rest = words;
     }
     true
 }

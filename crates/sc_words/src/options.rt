@@ -1,15 +1,16 @@
 // What the words behind the program's name ask for.
 ghost use Rattle.std.specs.Prelude.{◌≡◌, ◌↔◌, None, Some, IfOk, IsErrOf, map, option_map, string_bytes};
-ghost use Rattle.sc_words.specs.Options.{options_of, options_from, number_or, modules_or, folder_or, stack_range, heap_range, turns_range};
+ghost use Rattle.sc_words.specs.Options.{options_of, number_or, modules_or, folder_or, stack_range, heap_range, turns_range};
+ghost use Rattle.sc_words.specs.CommandLine.{options_found};
 
-use crate::command_line::matches_of;
+use crate::command_line::{Found, found_in};
 use crate::listed::are_listed;
 use crate::range::{heap_in, make_in, stack_in, turns_in};
 use sc_base::Bytes;
 use std::alloc::Global;
 
-/// What the workspace was asked for: the bytes of the stack and of the heap, the turns of each go, the folder, and how many
-/// modules it is to make and run in place of reading commands.
+/// What the workspace was asked for: the bytes of the stack and of the heap, the turns of each go, the folder, how many
+/// modules it is to make and run in place of reading commands, and which probes it has.
 #[derive(Debug, Drop, PartialEq, Eq)]
 pub struct Options {
     /// 4,096 to 16,777,216 bytes, a multiple of 16; 1,048,576 where nothing is said.
@@ -22,6 +23,12 @@ pub struct Options {
     pub dir: Bytes,
     /// 1 to 64 modules; none where nothing is said.
     pub make: Option<u32>,
+    /// A probe keeps the notes of runs.
+    pub trace: bool,
+    /// A probe counts how often each line is reached.
+    pub coverage: bool,
+    /// A probe counts the notes of runs by kind.
+    pub count: bool,
 }
 
 /// Why words ask for nothing.
@@ -80,49 +87,41 @@ fn folder_or<'a>(value: Option<&'a str>) -> &'a [u8]
     }
 }
 
-// What the values of the five options ask for.
-fn options_from(
-    alloc: Global,
-    stack: Option<&str>,
-    heap: Option<&str>,
-    turns: Option<&str>,
-    dir: Option<&str>,
-    make: Option<&str>,
-) -> Result<Options, WordsFault>
-    ensures ok { IfOk result (λ options. options_from (option_map (λ text. text.now) stack.entry) (option_map (λ text. text.now) heap.entry)
-        (option_map (λ text. text.now) turns.entry) (option_map (λ text. text.now) dir.entry)
-        (option_map (λ text. text.now) make.entry) ≡ Some options) }
-    ensures bad { IsErrOf result WordsFault.Bad ↔ (options_from (option_map (λ text. text.now) stack.entry) (option_map (λ text. text.now) heap.entry)
-        (option_map (λ text. text.now) turns.entry) (option_map (λ text. text.now) dir.entry)
-        (option_map (λ text. text.now) make.entry) ≡ None) }
+// What was found for the options asks for.
+fn options_from(alloc: Global, found: Found) -> Result<Options, WordsFault>
+    ensures ok { IfOk result (λ options. options_found found.entry ≡ Some options) }
+    ensures bad { IsErrOf result WordsFault.Bad ↔ (options_found found.entry ≡ None) }
 {
-    let Some(stack) = stack_or(stack) else {
+    let Some(stack) = stack_or(found.stack) else {
         return Err(WordsFault::Bad);
     };
-    let Some(heap) = heap_or(heap) else {
+    let Some(heap) = heap_or(found.heap) else {
         return Err(WordsFault::Bad);
     };
-    let Some(turns) = turns_or(turns) else {
+    let Some(turns) = turns_or(found.turns) else {
         return Err(WordsFault::Bad);
     };
-    let Some(make) = modules_or(make) else {
+    let Some(make) = modules_or(found.make) else {
         return Err(WordsFault::Bad);
     };
-    match Bytes::from_slice(alloc, folder_or(dir)) {
+    match Bytes::from_slice(alloc, folder_or(found.dir)) {
         Ok(dir) => Ok(Options {
             stack,
             heap,
             turns,
             dir,
             make,
+            trace: found.trace,
+            coverage: found.coverage,
+            count: found.count,
         }),
         Err(_) => Err(WordsFault::NoMemory),
     }
 }
 
-/// What the words behind the program's name ask for. They are options with their values, in any order, each at most
-/// once: `--stack N` and `--heap N` (bytes, multiples of 16), `--turns N`, `--dir D` and `--make N` (modules). A value
-/// does not begin with `-`, and a number has 1 to 10 decimal digits.
+/// What the words behind the program's name ask for. They are options in any order, each at most once: with a value
+/// behind it `--stack N` and `--heap N` (bytes, multiples of 16), `--turns N`, `--dir D` and `--make N` (modules), and
+/// alone `--trace`, `--coverage` and `--count`. A value does not begin with `-`, and a number has 1 to 10 decimal digits.
 pub fn read_words(alloc: Global, words: &[String]) -> Result<Options, WordsFault>
     ensures ok { IfOk result (λ options. options_of (map string_bytes words.now) ≡ Some options) }
     ensures bad { IsErrOf result WordsFault.Bad ↔ (options_of (map string_bytes words.now) ≡ None) }
@@ -130,15 +129,8 @@ pub fn read_words(alloc: Global, words: &[String]) -> Result<Options, WordsFault
     if !are_listed(words) {
         return Err(WordsFault::Bad);
     }
-    match matches_of(alloc, words) {
-        Ok(matches) => options_from(
-            alloc,
-            matches.get_str("stack"),
-            matches.get_str("heap"),
-            matches.get_str("turns"),
-            matches.get_str("dir"),
-            matches.get_str("make"),
-        ),
+    match found_in(alloc, words) {
+        Ok(found) => options_from(alloc, found),
         Err(_) => Err(WordsFault::NoMemory),
     }
 }

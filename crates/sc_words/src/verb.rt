@@ -18,6 +18,9 @@ pub enum Verb {
     Where,
     Print,
     List,
+    Machine,
+    Report,
+    Drop,
     Reset,
     Quit,
 }
@@ -66,6 +69,15 @@ pub fn verb_of(word: &[u8]) -> Option<Verb>
     }
     if word == b"list".as_slice() {
         return Some(Verb::List);
+    }
+    if word == b"machine".as_slice() {
+        return Some(Verb::Machine);
+    }
+    if word == b"report".as_slice() {
+        return Some(Verb::Report);
+    }
+    if word == b"drop".as_slice() {
+        return Some(Verb::Drop);
     }
     if word == b"reset".as_slice() {
         return Some(Verb::Reset);

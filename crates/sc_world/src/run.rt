@@ -1,6 +1,7 @@
 // A run that is kept between goes (ANSI 2.1.2.2, 2.1.2.3).
-ghost use Rattle.std.specs.Prelude.{◌≡◌, ◌<◌, ◌≤◌, ℕ, Err, IfOk, MatchOption, MatchResult, None, OnErr, Some, false, reverse};
+ghost use Rattle.std.specs.Prelude.{◌≡◌, ◌<◌, ◌≤◌, ℕ, [], Err, IfOk, MatchOption, MatchResult, None, OnErr, Some, false, replicate, reverse};
 ghost use Rattle.sc_meaning.specs.Behaviour as behaviour;
+ghost use Rattle.sc_meaning.specs.Beside.{nothing_beside};
 ghost use Rattle.sc_meaning.specs.World as worlds;
 ghost use Rattle.sc_interp.specs.Ends.{end_of, start_of};
 ghost use Rattle.sc_interp_world.specs.Outputs.{output};
@@ -25,11 +26,11 @@ use crate::look::Want;
 use crate::marks::Marks;
 use crate::post::Unsent;
 use crate::rest::goes_from;
-use sc_base::{Items, NoMemory, Stack};
+use sc_base::{Items, Key, NoMemory, Shared, Stack};
 use sc_core_held::Text;
 use sc_interp::Caller;
 use sc_interp_access::Ended;
-use sc_interp_world::{Frame, Layout, World};
+use sc_interp_world::{Entry, Frame, Layout, Machine, Names, World};
 use sc_outside::Sink;
 use sc_words::{StopAt, Walk};
 use std::alloc::Global;
@@ -71,9 +72,26 @@ impl Model for Run {
     ghost view = { λ r. spec.standing r.course r.callers r.world r.count };
 }
 
+// A world in which nothing is there yet. Where it is heard its objects will stand at addresses.
+fn world_of(
+    alloc: Global,
+    stack: u64,
+    heap: u64,
+    input: Items<u8>,
+    heard: Option<Layout>,
+) -> Result<World, NoMemory>
+    ensures { IfOk result (λ w. w ≡ record { stack = stack; heap = heap; objects = []; used = 0; free = replicate 29 0; made = 0; input = input; seed = 1; frames = []; names = []; enters = 0; count = 0; begun = 0; trail = []; beside = nothing_beside }) }
+{
+    match heard {
+        None => World::nowhere(alloc, stack, heap, input),
+        Some(layout) => World::heard(alloc, stack, heap, input, layout),
+    }
+}
+
 impl Run {
     /// A run of these texts from its start on: the static objects are born, and the call of `main` goes out. Its input and
-    /// the bytes that stack and heap may have are given. A run that is over at once says so at its first go.
+    /// the bytes that stack and heap may have are given. Where somebody listens to it, it is `heard` with the addresses at which
+    /// static objects stand, and all that happens is recorded. A run that is over at once says so at its first go.
     ///
     /// # Errors
     ///
@@ -84,11 +102,12 @@ impl Run {
         stack: u64,
         heap: u64,
         input: Items<u8>,
+        heard: Option<Layout>,
     ) -> Result<Run, NoMemory>
         ensures starts { IfOk result (λ r. r ≡ Some (started texts.now stack heap input)) }
         ensures meant { IfOk result (λ r. IsRunOf (start_of texts.now stack heap input) texts.now r) }
     {
-        let mut world = World::nowhere(alloc, stack, heap, input)?;
+        let mut world = world_of(alloc, stack, heap, input, heard)?;
         let callers = Stack::new(alloc);
         let first = begun(texts, &callers, &mut world);
         let course = course_of(first)?;
@@ -184,6 +203,41 @@ impl Run {
         ensures { self.new ≡ self.old }
     {
         self.world.remember(layout, bases)
+    }
+
+    /// Whether the objects of the run have addresses.
+    pub fn has_memory(&self) -> bool {
+        self.world.has_memory()
+    }
+
+    /// More functions get the next numbers, and static objects that are born from here on stand at these places, where the objects of
+    /// the run have addresses. Nothing else changes.
+    ///
+    /// # Errors
+    ///
+    /// `NoMemory` as for `World::number`.
+    pub fn place(&mut self, more_functions: &[Shared<Key>], places: Names) -> Result<(), NoMemory>
+        ensures { self.new ≡ self.old }
+    {
+        if !self.has_memory() {
+            drop(places);
+            return Ok(());
+        }
+        self.world.number(more_functions)?;
+        self.world.set_places(places);
+        Ok(())
+    }
+
+    /// What was recorded of the run since its start or the last call of this, in order. Nothing is kept where nobody listens.
+    pub fn take_record(&mut self) -> Items<Entry>
+        ensures { self.new ≡ self.old }
+    {
+        self.world.take_record()
+    }
+
+    /// The registers as a run begins, since no compiled code runs, and how many instructions were carried out, which are none.
+    pub fn machine(&self) -> Machine {
+        *self.world.machine()
     }
 
     /// The parts of the run.

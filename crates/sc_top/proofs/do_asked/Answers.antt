@@ -1,4 +1,4 @@
-use Rattle.std.proofs.Common.{refl}
+use Rattle.std.proofs.Common.{length, refl}
 use Rattle.sc_session.proofs.FileLemmas.{keeps_none}
 use Rattle.sc_session.specs.Transcript.{limits_of}
 use Rattle.sc_top.specs.Making.{IsMade}
@@ -15,7 +15,7 @@ pub returns-in-Some-clause-made : goal.returns-in-Some-clause-made
 returns-in-Some-clause-made g c = λ count is. (
   refl,
   refl,
-  as_counted (λ k. IsMade (limits_of c.args.options.now) k (g.K.Sink.written c.args.out.now) (g.K.Sink.written c.tell_made.new.out) c.tell_made.result) c.args.options.now.make c.in-Some.count count c.in-Some.is c.tell_made.ensures.told is,
+  as_counted (λ k. IsMade (limits_of c.args.options.now) (length c.args.probes.now.items) k (g.K.Sink.written c.args.out.now) (g.K.Sink.written c.tell_made.new.out) c.tell_made.result) c.args.options.now.make c.in-Some.count count c.in-Some.is c.tell_made.ensures.told is,
 )
 
 pub returns-in-Some-clause-sources : goal.returns-in-Some-clause-sources

@@ -1,4 +1,5 @@
-use Rattle.std.proofs.Common.{◌≡◌, Some, None, inl, refl}
+use Rattle.std.proofs.Common.{◌≡◌, Some, None, inl, length, refl}
+use Rattle.sc_top.proofs.Lasting.{heard_same}
 use Rattle.sc_session.proofs.FileLemmas.{keeps_none}
 use Rattle.sc_session.specs.Transcript.{moment, empty, limits_of}
 use Rattle.sc_words.specs.declared.options.Options.{Options as Asked}
@@ -13,7 +14,7 @@ use Rattle.sc_top.proofs.WaitingLemmas.{appends_none}
 use Rattle.sc_top.proofs.saber.Goals as goal
 
 pub returns-in-Err-NoMemory-clause-ended : goal.returns-in-Err-NoMemory-clause-ended
-returns-in-Err-NoMemory-clause-ended g c = λ asked is none. inl (unbegun (limits_of asked) _ _ _ _)
+returns-in-Err-NoMemory-clause-ended g c = λ asked is none. inl (unbegun (limits_of asked) _ _ _ _ _)
 
 pub returns-in-Err-Bad-clause-sources : goal.returns-in-Err-Bad-clause-sources
 returns-in-Err-Bad-clause-sources g c = keeps_none (g.F.Files.held c.args.files.now)
@@ -22,7 +23,7 @@ pub returns-in-Err-NoMemory-clause-sources : goal.returns-in-Err-NoMemory-clause
 returns-in-Err-NoMemory-clause-sources g c = keeps_none (g.F.Files.held c.args.files.now)
 
 pub returns-in-Err-NoMemory-clause-meaning : goal.returns-in-Err-NoMemory-clause-meaning
-returns-in-Err-NoMemory-clause-meaning g c = λ asked is none. as_meant (limits_of asked) _ _ _ _ _ _ status.NoMemory (inl (unbegun (limits_of asked) _ _ _ _))
+returns-in-Err-NoMemory-clause-meaning g c = λ asked is none. as_meant (limits_of asked) _ _ _ _ _ _ _ status.NoMemory (inl (unbegun (limits_of asked) _ _ _ _ _))
 
 pub returns-in-Err-NoMemory-clause-made : goal.returns-in-Err-NoMemory-clause-made
 returns-in-Err-NoMemory-clause-made g c = λ asked count is some. (refl, refl, inl (appends_none (g.K.Sink.written c.args.out.now)))
@@ -30,17 +31,23 @@ returns-in-Err-NoMemory-clause-made g c = λ asked count is some. (refl, refl, i
 pub returns-in-Ok-clause-ended : goal.returns-in-Ok-clause-ended
 returns-in-Ok-clause-ended g c =
     as_asked (λ (o : Asked). o.make ≡ None → Ended (g.S.Source.left c.args.commands.now) (g.K.Sink.written c.args.out.now) (g.K.Sink.written c.do_asked.new.out)
-    (moment (empty (limits_of o)) (g.F.Files.held c.args.files.now) (g.F.Files.faults c.args.files.now)) (g.F.Files.held c.do_asked.new.files, g.F.Files.faults c.do_asked.new.files) c.do_asked.result)
+    (moment (empty (limits_of o) (length c.args.probes.now.items)) (g.F.Files.held c.args.files.now) (g.F.Files.faults c.args.files.now)) (g.F.Files.held c.do_asked.new.files, g.F.Files.faults c.do_asked.new.files) c.do_asked.result)
     _ c.in-Ok.options c.in-Ok.ensures.ok c.do_asked.ensures.ended
 
 pub returns-in-Ok-clause-meaning : goal.returns-in-Ok-clause-meaning
 returns-in-Ok-clause-meaning g c =
     as_asked (λ (o : Asked). o.make ≡ None → EndedAsMeant (g.S.Source.left c.args.commands.now) (g.K.Sink.written c.args.out.now) (g.K.Sink.written c.do_asked.new.out)
-    (moment (empty (limits_of o)) (g.F.Files.held c.args.files.now) (g.F.Files.faults c.args.files.now)) (g.F.Files.held c.do_asked.new.files, g.F.Files.faults c.do_asked.new.files) c.do_asked.result)
+    (moment (empty (limits_of o) (length c.args.probes.now.items)) (g.F.Files.held c.args.files.now) (g.F.Files.faults c.args.files.now)) (g.F.Files.held c.do_asked.new.files, g.F.Files.faults c.do_asked.new.files) c.do_asked.result)
     _ c.in-Ok.options c.in-Ok.ensures.ok c.do_asked.ensures.meaning
 
 pub returns-in-Ok-clause-made : goal.returns-in-Ok-clause-made
 returns-in-Ok-clause-made g c = λ asked count is.
     as_asked (λ (o : Asked). o.make ≡ Some count → (c.do_asked.new.commands ≡ c.args.commands.now) × (c.do_asked.new.files ≡ c.args.files.now)
-    × IsMade (limits_of o) count (g.K.Sink.written c.args.out.now) (g.K.Sink.written c.do_asked.new.out) c.do_asked.result)
+    × IsMade (limits_of o) (length c.args.probes.now.items) count (g.K.Sink.written c.args.out.now) (g.K.Sink.written c.do_asked.new.out) c.do_asked.result)
     _ c.in-Ok.options c.in-Ok.ensures.ok (c.do_asked.ensures.made count) asked is
+
+pub returns-in-Err-Bad-clause-probes : goal.returns-in-Err-Bad-clause-probes
+returns-in-Err-Bad-clause-probes g c = heard_same _ c.args.probes.now.items
+
+pub returns-in-Err-NoMemory-clause-probes : goal.returns-in-Err-NoMemory-clause-probes
+returns-in-Err-NoMemory-clause-probes g c = heard_same _ c.args.probes.now.items

@@ -5,4 +5,4 @@ use Rattle.sc_top.proofs.serve.Goals as goal
 pub returns-clause-meaning : goal.returns-clause-meaning
 returns-clause-meaning g c =
     let ended = rw c.new-session.ensures at c.answer_all-status.ensures.ended in
-    as_meant (limits_of c.args.options.now) _ _ _ _ _ _ _ ended
+    as_meant (limits_of c.args.options.now) _ _ _ _ _ _ _ _ ended

@@ -1,5 +1,6 @@
 use Rattle.std.proofs.Common.{refl, arith, ◌∙◌, sym}
 use Rattle.sc_outside.specs.declared.sink.Sent.TheVariants as sent
+use Rattle.sc_top.proofs.Lasting.{heard_same}
 use Rattle.sc_session.proofs.FileLemmas.{keeps_none}
 use Rattle.sc_session.specs.Transcript.{moment}
 use Rattle.sc_top.proofs.ReplyLemmas.{replies_so, replies_behind, unread, unflushed}
@@ -12,15 +13,15 @@ returns-in-Err-clause-replies g c =
 
 pub returns-then-not-is_go-clause-replies : goal.returns-then-not-is_go-clause-replies
 returns-then-not-is_go-clause-replies g c =
-    replies_so (moment c.args.session.now (g.F.Files.held c.args.files.now) (g.F.Files.faults c.args.files.now)) (moment c.carry_out.new.self (g.F.Files.held c.carry_out.new.files) (g.F.Files.faults c.carry_out.new.files))
-    c.args.line.now c.in-Ok.command c.carry_out.result (g.K.Sink.written c.args.out.now) (g.K.Sink.written c.carry_out.new.out) c.args.outbox.now
-    c.in-Ok.ensures.command c.carry_out.ensures.later (sym c.is_go.ensures ∙ c.if-not-is_go.true) c.carry_out.ensures.step
+    replies_so (moment c.args.session.now (g.F.Files.held c.args.files.now) (g.F.Files.faults c.args.files.now)) (moment c.carried.new.session (g.F.Files.held c.carried.new.files) (g.F.Files.faults c.carried.new.files))
+    c.args.line.now c.in-Ok.command c.carried.result (g.K.Sink.written c.args.out.now) (g.K.Sink.written c.carried.new.out) c.args.outbox.now
+    c.in-Ok.ensures.command c.carried.ensures.later (sym c.is_go.ensures ∙ c.if-not-is_go.true) c.carried.ensures.step
 
 pub returns-in-Done-clause-replies : goal.returns-in-Done-clause-replies
 returns-in-Done-clause-replies g c =
-    replies_behind (moment c.args.session.now (g.F.Files.held c.args.files.now) (g.F.Files.faults c.args.files.now)) (moment c.carry_out-in-Done.new.self (g.F.Files.held c.carry_out-in-Done.new.files) (g.F.Files.faults c.carry_out-in-Done.new.files))
-    c.args.line.now c.in-Ok.command c.carry_out-in-Done.result (g.K.Sink.written c.args.out.now) (g.K.Sink.written c.flush.new.out) (g.K.Sink.written c.carry_out-in-Done.new.out) c.args.outbox.now c.flush.new.self
-    c.in-Ok.ensures.command c.carry_out-in-Done.ensures.later c.flush.ensures.emptied c.in-Done.ensures.bytes c.carry_out-in-Done.ensures.step
+    replies_behind (moment c.args.session.now (g.F.Files.held c.args.files.now) (g.F.Files.faults c.args.files.now)) (moment c.carried-in-Done.new.session (g.F.Files.held c.carried-in-Done.new.files) (g.F.Files.faults c.carried-in-Done.new.files))
+    c.args.line.now c.in-Ok.command c.carried-in-Done.result (g.K.Sink.written c.args.out.now) (g.K.Sink.written c.flush.new.out) (g.K.Sink.written c.carried-in-Done.new.out) c.args.outbox.now c.flush.new.self
+    c.in-Ok.ensures.command c.carried-in-Done.ensures.later c.flush.ensures.emptied c.in-Done.ensures.bytes c.carried-in-Done.ensures.step
 
 pub returns-in-Failed-clause-replies : goal.returns-in-Failed-clause-replies
 returns-in-Failed-clause-replies g c =
@@ -40,3 +41,12 @@ returns-in-Failed-clause-sources g c = keeps_none (g.F.Files.held c.args.files.n
 
 pub returns-in-NoMemory-clause-sources : goal.returns-in-NoMemory-clause-sources
 returns-in-NoMemory-clause-sources g c = keeps_none (g.F.Files.held c.args.files.now)
+
+pub returns-in-Err-clause-probes : goal.returns-in-Err-clause-probes
+returns-in-Err-clause-probes g c = heard_same _ c.args.probes.now.items
+
+pub returns-in-Failed-clause-probes : goal.returns-in-Failed-clause-probes
+returns-in-Failed-clause-probes g c = heard_same _ c.args.probes.now.items
+
+pub returns-in-NoMemory-clause-probes : goal.returns-in-NoMemory-clause-probes
+returns-in-NoMemory-clause-probes g c = heard_same _ c.args.probes.now.items

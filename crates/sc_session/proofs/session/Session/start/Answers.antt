@@ -11,6 +11,9 @@ returns-in_default-clause-begins g c = begin_unbegun (g.K.Sink.written c.args.ou
 pub returns-in_default-places-clause-begins : goal.returns-in_default-places-clause-begins
 returns-in_default-places-clause-begins g c = begin_unbegun (g.K.Sink.written c.args.out.now) c.args.self.now c.args.self.now c.args.input refl
 
+pub returns-in_default-layout_heard-clause-begins : goal.returns-in_default-layout_heard-clause-begins
+returns-in_default-layout_heard-clause-begins g c = begin_unbegun (g.K.Sink.written c.args.out.now) c.args.self.now c.args.self.now c.args.input refl
+
 pub returns-in_default-start-clause-begins : goal.returns-in_default-start-clause-begins
 returns-in_default-start-clause-begins g c = begin_unbegun (g.K.Sink.written c.args.out.now) c.args.self.now c.args.self.now c.args.input refl
 

@@ -1,0 +1,60 @@
+// What a go recorded, and what is answered from it.
+ghost use Rattle.std.specs.Prelude.{◌≡◌};
+ghost use Rattle.sc_session.specs.Probing as spec;
+
+use sc_base::Items;
+use sc_interp_world::{Entry, Machine};
+use sc_mixed::MixedRun;
+use sc_session_forms::machine_lines;
+use sc_words::Answer;
+use sc_world::Run;
+use std::alloc::Global;
+
+/// What a go recorded, where some probe listens, and the registers behind it.
+#[derive(Drop)]
+pub struct Heard {
+    pub record: Items<Entry>,
+    pub machine: Machine,
+}
+
+impl Heard {
+    /// Nothing was recorded, and no instruction was carried out.
+    pub fn nothing(alloc: Global) -> Heard {
+        Heard {
+            record: Items::new(alloc),
+            machine: Machine::new(),
+        }
+    }
+}
+
+/// What a go of a run of interpreted modules recorded.
+pub fn heard_in(run: &mut Run) -> Heard
+    ensures { run.new ≡ run.old }
+{
+    let machine = run.machine();
+    Heard {
+        record: run.take_record(),
+        machine,
+    }
+}
+
+/// What a go of a run of both forms recorded.
+pub fn mixed_heard_in(run: &mut MixedRun) -> Heard
+    ensures { run.new ≡ run.old }
+{
+    let machine = run.machine();
+    Heard {
+        record: run.take_record(),
+        machine,
+    }
+}
+
+/// The answer to `machine`.
+pub fn shown_machine(alloc: Global, machine: &Machine) -> Answer
+    ensures { spec.ShowsMachine result }
+{
+    match machine_lines(alloc, machine) {
+        Ok(lines) => Answer::Shown(lines),
+        Err(_) => Answer::NoMemory,
+    }
+}

@@ -1,0 +1,6 @@
+int add(int a, int b);
+
+int twice(int n)
+{
+    return add(n, n);
+}
