@@ -23,14 +23,14 @@ takes_none (Some before) (Some after) n noted.NoMemory q k = ([], n, [], refl, k
 pub lost_note : {told told' : Option (List Note)} {lost lost' : ℕ} {n : Note} (r : Noted) → r ≢ noted.Kept → KeepsNote told told' n r → Rose lost lost' → Hears told told' lost lost' (n ∷ []) false
 lost_note r q k rose = record { notes = takes_none _ _ _ r q k; faults = rose }
 
-takes_both : (told told' told'' : Option (List Note)) (xs ys : List Note) → Takes told told' xs true → Takes told' told'' ys true → Takes told told'' (xs ++ ys) true
+pub takes_both : (told told' told'' : Option (List Note)) (xs ys : List Note) → Takes told told' xs true → Takes told' told'' ys true → Takes told told'' (xs ++ ys) true
 takes_both None told' told'' xs ys p q = tt
 takes_both (Some a) None told'' xs ys p q = absurd p
 takes_both (Some a) (Some b) None xs ys p q = q
 takes_both (Some a) (Some b) (Some c) xs ys p q = q ∙ ap (λ zs. zs ++ ys) p ∙ append_assoc a xs ys
 
 -- the second part was not kept whole
-takes_part : (told told' told'' : Option (List Note)) (xs ys : List Note) → Takes told told' xs true → Takes told' told'' ys false → Takes told told'' (xs ++ ys) false
+pub takes_part : (told told' told'' : Option (List Note)) (xs ys : List Note) → Takes told told' xs true → Takes told' told'' ys false → Takes told told'' (xs ++ ys) false
 takes_part None told' told'' xs ys p q = tt
 takes_part (Some a) None told'' xs ys p q = absurd p
 takes_part (Some a) (Some b) None xs ys p q = q
@@ -38,13 +38,13 @@ takes_part (Some a) (Some b) (Some c) xs ys p (front, lost, rest, split, grown) 
     (xs ++ front, lost, rest, ap (λ zs. xs ++ zs) split ∙ sym (append_assoc xs front (lost ∷ rest)), grown ∙ ap (λ zs. zs ++ front) p ∙ append_assoc a xs front)
 
 -- what stands behind a lost note makes no difference
-takes_more : (told told' : Option (List Note)) (xs ys : List Note) → Takes told told' xs false → Takes told told' (xs ++ ys) false
+pub takes_more : (told told' : Option (List Note)) (xs ys : List Note) → Takes told told' xs false → Takes told told' (xs ++ ys) false
 takes_more None told' xs ys p = tt
 takes_more (Some a) None xs ys p = p
 takes_more (Some a) (Some b) xs ys (front, lost, rest, split, grown) =
     (front, lost, rest ++ ys, ap (λ zs. zs ++ ys) split ∙ append_assoc front (lost ∷ rest) ys, grown)
 
-takes_nothing : (told : Option (List Note)) → Takes told told [] true
+pub takes_nothing : (told : Option (List Note)) → Takes told told [] true
 takes_nothing None = tt
 takes_nothing (Some a) = sym (append-nil a)
 

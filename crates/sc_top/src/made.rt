@@ -1,6 +1,6 @@
 // A session over a made program, which one line tells of.
 ghost use Rattle.std.specs.Prelude.{◌≡◌, ◌≢◌, ◌≤◌, ℕ, [], length};
-ghost use Rattle.sc_top.specs.Hearing.{AreHeard};
+ghost use Rattle.sc_top.specs.Hearing.{AreTold};
 ghost use Rattle.sc_outside.specs.Causes.{Rose};
 ghost use Rattle.sc_outside.specs.Memory.{bytes_written};
 ghost use Rattle.sc_session.specs.declared.limits.Limits.{Limits};
@@ -23,7 +23,7 @@ fn answer_made(
 ) -> Status
     requires { bytes_written answers.old ≡ [] }
     ensures answered { result ≡ Status.Done → IsAnsweredWith (limits_of options.now) (length probes.old.items) count (bytes_written answers.new) }
-    ensures probes { AreHeard (λ p. notes p) probes.old.items probes.new.items }
+    ensures probes { AreTold (λ p. notes p) (λ p. faults p) probes.old.items probes.new.items }
 {
     let Ok(commands) = made_commands(alloc, count) else {
         return Status::NoMemory;
@@ -48,7 +48,7 @@ pub fn tell_made<K: Sink>(
     ensures write_fault { result ≡ Status.WriteFault → Rose (K.faults out.old) (K.faults out.new) }
     ensures write_later { K.faults out.old ≤ K.faults out.new }
     ensures words { (result ≢ Status.BadWords) × (result ≢ Status.ReadFault) }
-    ensures probes { AreHeard (λ p. notes p) probes.old.items probes.new.items }
+    ensures probes { AreTold (λ p. notes p) (λ p. faults p) probes.old.items probes.new.items }
 {
     let mut answers = MemSink::new(alloc, Vec::new(alloc));
     match answer_made(alloc, options, count, &mut answers, probes) {

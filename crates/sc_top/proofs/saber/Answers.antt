@@ -1,5 +1,5 @@
 use Rattle.std.proofs.Common.{◌≡◌, Some, None, inl, length, refl}
-use Rattle.sc_top.proofs.Lasting.{heard_same}
+use Rattle.sc_top.proofs.Gaining.{told_same}
 use Rattle.sc_session.proofs.FileLemmas.{keeps_none}
 use Rattle.sc_session.specs.Transcript.{moment, empty, limits_of}
 use Rattle.sc_words.specs.declared.options.Options.{Options as Asked}
@@ -47,7 +47,7 @@ returns-in-Ok-clause-made g c = λ asked count is.
     _ c.in-Ok.options c.in-Ok.ensures.ok (c.do_asked.ensures.made count) asked is
 
 pub returns-in-Err-Bad-clause-probes : goal.returns-in-Err-Bad-clause-probes
-returns-in-Err-Bad-clause-probes g c = heard_same _ c.args.probes.now.items
+returns-in-Err-Bad-clause-probes g c = told_same _ _ c.args.probes.now.items
 
 pub returns-in-Err-NoMemory-clause-probes : goal.returns-in-Err-NoMemory-clause-probes
-returns-in-Err-NoMemory-clause-probes g c = heard_same _ c.args.probes.now.items
+returns-in-Err-NoMemory-clause-probes g c = told_same _ _ c.args.probes.now.items

@@ -1,4 +1,5 @@
 use Rattle.sc_session.specs.Transcript.{limits_of}
+use Rattle.sc_top.proofs.Gaining.{told_over}
 use Rattle.sc_top.proofs.MeaningLemmas.{as_meant}
 use Rattle.sc_top.proofs.serve.Goals as goal
 
@@ -6,3 +7,6 @@ pub returns-clause-meaning : goal.returns-clause-meaning
 returns-clause-meaning g c =
     let ended = rw c.new-session.ensures at c.answer_all-status.ensures.ended in
     as_meant (limits_of c.args.options.now) _ _ _ _ _ _ _ _ ended
+
+pub returns-clause-probes : goal.returns-clause-probes
+returns-clause-probes g c = told_over _ _ _ _ _ _ c.new-deaf.ensures c.answer_all-status.ensures.probes

@@ -1,7 +1,7 @@
 use Rattle.std.proofs.Common.{MatchResult}
 use Rattle.sc_session.specs.Transcript.{moment, BreaksOff, Speaks}
 use Rattle.sc_top.proofs.HearingLemmas.{heard_step}
-use Rattle.sc_top.proofs.Lasting.{heard_on}
+use Rattle.sc_top.proofs.Gaining.{marked_alike, marked_on}
 use Rattle.sc_top.proofs.line.carried.Goals as goal
 
 pub returns-clause-step : goal.returns-clause-step
@@ -11,4 +11,4 @@ returns-clause-step g c =
     c.args.session.now c.listen.new.self c.put_report.new.self c.carry_out-said.new.self c.take_record-record.new.self c.listen.ensures c.put_report.ensures c.take_record-record.ensures c.carry_out-said.ensures.step
 
 pub returns-clause-probes : goal.returns-clause-probes
-returns-clause-probes g c = heard_on _ _ _ _ c.told_by.ensures (heard_on _ _ _ _ c.hand_out.ensures c.take_out.ensures)
+returns-clause-probes g c = marked_on (marked_alike _ _ _ _ _ c.told_by.ensures.notes c.told_by.ensures.faults) (marked_on c.hand_out.ensures c.take_out.ensures)

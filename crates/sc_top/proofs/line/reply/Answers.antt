@@ -1,6 +1,6 @@
 use Rattle.std.proofs.Common.{refl, arith, ◌∙◌, sym}
 use Rattle.sc_outside.specs.declared.sink.Sent.TheVariants as sent
-use Rattle.sc_top.proofs.Lasting.{heard_same}
+use Rattle.sc_top.proofs.Gaining.{marked_same}
 use Rattle.sc_session.proofs.FileLemmas.{keeps_none}
 use Rattle.sc_session.specs.Transcript.{moment}
 use Rattle.sc_top.proofs.ReplyLemmas.{replies_so, replies_behind, unread, unflushed}
@@ -43,10 +43,10 @@ pub returns-in-NoMemory-clause-sources : goal.returns-in-NoMemory-clause-sources
 returns-in-NoMemory-clause-sources g c = keeps_none (g.F.Files.held c.args.files.now)
 
 pub returns-in-Err-clause-probes : goal.returns-in-Err-clause-probes
-returns-in-Err-clause-probes g c = heard_same _ c.args.probes.now.items
+returns-in-Err-clause-probes g c = marked_same _ _ c.args.probes.now.items c.args.deaf.now
 
 pub returns-in-Failed-clause-probes : goal.returns-in-Failed-clause-probes
-returns-in-Failed-clause-probes g c = heard_same _ c.args.probes.now.items
+returns-in-Failed-clause-probes g c = marked_same _ _ c.args.probes.now.items c.args.deaf.now
 
 pub returns-in-NoMemory-clause-probes : goal.returns-in-NoMemory-clause-probes
-returns-in-NoMemory-clause-probes g c = heard_same _ c.args.probes.now.items
+returns-in-NoMemory-clause-probes g c = marked_same _ _ c.args.probes.now.items c.args.deaf.now

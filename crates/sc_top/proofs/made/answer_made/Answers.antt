@@ -1,6 +1,6 @@
 use Rattle.std.proofs.Common.{ap, ◌∙◌, Some, length}
 use Rattle.std.specs.BTreeMap.{get_by_text}
-use Rattle.sc_top.proofs.Lasting.{heard_same}
+use Rattle.sc_top.proofs.Gaining.{told_same}
 use Rattle.sc_outside.specs.Memory.{bytes_left, bytes_written, file_map}
 use Rattle.sc_session.specs.Transcript.{limits_of}
 use Rattle.sc_top.proofs.MakingLemmas.{answered_with}
@@ -14,7 +14,7 @@ returns-clause-answered g c = λ done.
     c.serve.ensures.ended c.serve.ensures.meaning done
 
 pub returns-in_default-clause-probes : goal.returns-in_default-clause-probes
-returns-in_default-clause-probes g c = heard_same _ c.args.probes.now.items
+returns-in_default-clause-probes g c = told_same _ _ c.args.probes.now.items
 
 pub returns-in_default-made_folder-clause-probes : goal.returns-in_default-made_folder-clause-probes
-returns-in_default-made_folder-clause-probes g c = heard_same _ c.args.probes.now.items
+returns-in_default-made_folder-clause-probes g c = told_same _ _ c.args.probes.now.items
