@@ -13,7 +13,27 @@ import tempfile
 
 HERE = os.path.dirname(os.path.abspath(__file__))
 PROGRAM = os.path.abspath(sys.argv[1])
-ANSWER = re.compile(rb"> (loaded \w+|refused C\d+[^\n]*)\Z")
+KIND = rb"X([1-8]|(9|10) [a-z]+)"
+LISTED = [b"> module m source", b"> fun 39 main", b"> idle"]
+TEXT = b"""/* Copies a text to memory of its own. */
+#include <stdlib.h>
+#include <string.h>
+
+static int copies = 'a' - 97;
+
+char *copy(const char *s)
+{
+    char *p = malloc(strlen(s) + 1);
+
+    if (p)
+        strcpy(p, s); /* the last byte, '\\0',
+                         too */
+    copies++;
+    return p;
+}
+"""
+PIECE = re.compile(rb"/\*.*?(?P<closed>\*/|\Z)|(?P<directive>#[^\n]*)|'(\\.|[^'\\\n])'|\w+|\S", re.S)
+DIRECTIVES = (b"#", b"#include <stdlib.h>", b"#include <string.h>")
 faults = 0
 checks = 0
 
@@ -60,24 +80,62 @@ def many_stops(folder):
     check("all of them listed", len([line for line in said if line.startswith(b"> stop ") and line.endswith(b" in f")]) == 2 * count - 1)
 
 
+def wanted_of(front):
+    """The kind and the line with which a front of TEXT has to be refused, or nothing where it is a unit. It is one where its comments,
+    directives and brackets are closed and its last token ends a declaration or a function. The line is that of what is not closed, or
+    of the last token."""
+    depth, last, line = 0, b";", 0
+    for piece in PIECE.finditer(front):
+        text, here = piece.group(), 1 + front.count(b"\n", 0, piece.start())
+        if piece["closed"] == b"":
+            return b"X1", b"%d" % here
+        if piece["directive"] and text.rstrip() not in DIRECTIVES:
+            return b"X2", b"%d" % here
+        if not piece["closed"] and not piece["directive"]:
+            depth += (text in b"({") - (text in b")}")
+            last, line = text, here
+    if depth == 0 and last in (b";", b"}"):
+        return None
+    return b"(X5|X9 [a-z]+)", b"%d" % line
+
+
+def is_loaded(k, lines):
+    return lines == [b"> loaded p%d" % k, b"> unloaded p%d" % k, *LISTED]
+
+
+def is_refused(k, lines, kind=KIND, line=rb"\d+"):
+    return re.fullmatch(rb"> refused C5 %s p%d\.c:%s" % (kind, k, line), lines[0]) and lines[1:] == [b"> refused C3", *LISTED]
+
+
+def fronts_loaded(folder, text):
+    """What is said of each front of a text: as it is loaded, as it is taken away, and then by `list`."""
+    for k in range(len(text) + 1):
+        with open(os.path.join(folder, "p%d.c" % k), "wb") as file:
+            file.write(text[:k])
+    ran = run(folder, b"load m\n" + b"".join(b"load p%d\nunload p%d\nlist\n" % (k, k) for k in range(len(text) + 1)))
+    said = ran.stdout.splitlines()[1:]
+    whole = ran.returncode == 0 and len(said) == 5 * len(text) + 5
+    return [said[5 * k : 5 * k + 5] for k in range(len(text) + 1)] if whole else []
+
+
 def prefixes(folder):
     example = os.path.join(HERE, "..", "examples", "queue")
     for name in os.listdir(example):
         if name.endswith(".h"):
             shutil.copy(os.path.join(example, name), folder)
-    text = open(os.path.join(example, "queue.c"), "rb").read()
-    for k in range(len(text) + 1):
-        with open(os.path.join(folder, "p%d.c" % k), "wb") as file:
-            file.write(text[:k])
-    commands = b"load m\n" + b"".join(b"load p%d\nunload p%d\n" % (k, k) for k in range(len(text) + 1)) + b"list\n"
-    ran = run(folder, commands)
-    said = ran.stdout.splitlines()
-    loads = [line for line in said if not line.startswith(b"> unloaded") and line != b"> refused C3"]
-    loads, listed = loads[1 : len(text) + 2], loads[len(text) + 2 :]
-    named = [line for line in loads if ANSWER.match(line)]
-    check("each prefix of a module", ran.returncode == 0 and len(named) == len(text) + 1, "%d prefixes" % len(named))
-    check("the module itself", loads[-1] == b"> loaded p%d" % len(text))
-    check("only the first module stays", listed == [b"> module m source", b"> fun 39 main", b"> idle"], b" ".join(listed).decode()[:99])
+    with open(os.path.join(example, "queue.c"), "rb") as file:
+        text = file.read()
+    answers = fronts_loaded(folder, text)
+    named = [k for k, lines in enumerate(answers) if is_loaded(k, lines) or is_refused(k, lines)]
+    check("each prefix of a module", len(named) == len(text) + 1, "%d prefixes" % len(named))
+    check("the module itself", named and is_loaded(len(text), answers[-1]))
+
+
+def fronts(folder):
+    wanted = [wanted_of(TEXT[:k]) for k in range(len(TEXT) + 1)]
+    answers = fronts_loaded(folder, TEXT)
+    right = [k for k, lines in enumerate(answers) if (is_refused(k, lines, *wanted[k]) if wanted[k] else is_loaded(k, lines))]
+    check("each front of a text", len(right) == len(wanted), "%d fronts, %d of them units" % (len(right), wanted.count(None)))
 
 
 def vanishing_files(folder):
@@ -132,6 +190,7 @@ def main():
         long_lines(folder)
         many_stops(folder)
         prefixes(folder)
+        fronts(folder)
         vanishing_files(folder)
         object_prefixes(folder)
     print("%d passed, %d failed" % (checks - faults, faults))
