@@ -11,9 +11,11 @@ use sc_mixed::{MixedEnd, MixedRun};
 use sc_object::{BlockTable, FrameTable, Object, Section, SectionKind, Symbol};
 use sc_types::{CType, Signature, Structs};
 use sc_words::Walk;
-use sc_world::Halt;
 use std::alloc::Global;
 use std::test::Fail;
+
+// Where the text of `main` begins.
+const TEXT: u32 = 0x0010_0000;
 
 // A text of `main`: its words; how many of them are carried out; the address and the cause of the crash; and the program counter and
 // register 5 then.
@@ -23,32 +25,11 @@ const CASES: [(&[u32], usize, u32, Crash, u32, u32); 8] = [
     // jalr x0, 2(x0)
     (&[0x0020_0067], 1, 2, Crash::Misfetch, 2, 0),
     // no instruction
-    (
-        &[0x0000_0000],
-        0,
-        0x0010_0000,
-        Crash::Illegal,
-        0x0010_0000,
-        0,
-    ),
+    (&[0x0000_0000], 0, TEXT, Crash::Illegal, TEXT, 0),
     // lw x5, 1(x2)
-    (
-        &[0x0011_2283],
-        0,
-        0x0010_0000,
-        Crash::Misaligned,
-        0x0010_0000,
-        0,
-    ),
+    (&[0x0011_2283], 0, TEXT, Crash::Misaligned, TEXT, 0),
     // sw x0, 0(x0)
-    (
-        &[0x0000_2023],
-        0,
-        0x0010_0000,
-        Crash::Outside,
-        0x0010_0000,
-        0,
-    ),
+    (&[0x0000_2023], 0, TEXT, Crash::Outside, TEXT, 0),
     // addi x5, x0, 9; ecall: there is no such service
     (
         &[0x0090_0293, 0x0000_0073],
@@ -68,19 +49,8 @@ const CASES: [(&[u32], usize, u32, Crash, u32, u32); 8] = [
         3,
     ),
     // jalr x0, 0(x1): the call was not left
-    (
-        &[0x0000_8067],
-        1,
-        0x0000_f000,
-        Crash::Service,
-        0x0000_f000,
-        0,
-    ),
+    (&[0x0000_8067], 1, 0xf000, Crash::Service, 0xf000, 0),
 ];
-
-fn plain(bits: u32) -> Word {
-    Word { bits, tag: 0 }
-}
 
 // What is told up to the text of `main`, which is function 0: it is called, to return to 0x0000f000, and its stub leads to the text, by
 // `lui x6, 0x100` and `jalr x0, 0(x6)`.
@@ -123,11 +93,12 @@ fn text_section(alloc: Global, words: &[u32]) -> Result<Section, NoMemory> {
     for word in words {
         bytes.extend_from_slice(&word.to_le_bytes())?;
     }
+    let size = u32::try_from(bytes.len()).map_err(|_| NoMemory)?;
     Ok(Section {
         name: Bytes::from_slice(alloc, b"main")?,
         kind: SectionKind::Text,
-        size: bytes.len() as u32,
         bytes: Bytes::from_vec(bytes),
+        size,
     })
 }
 
@@ -239,7 +210,7 @@ fn told(alloc: Global, words: &[u32], done: usize) -> Result<Vec<Entry>, NoMemor
     for note in &FRONT {
         told.push(Entry::One(*note))?;
     }
-    let mut pc = 0x0010_0000_u32;
+    let mut pc = TEXT;
     for word in words.iter().take(done) {
         told.push(Entry::One(Note::Exec { pc, word: *word }))?;
         pc = pc.wrapping_add(4);
@@ -247,28 +218,50 @@ fn told(alloc: Global, words: &[u32], done: usize) -> Result<Vec<Entry>, NoMemor
     Ok(told)
 }
 
+// A run of `main` with these words, as far as it goes.
+fn gone(alloc: Global, texts: &[Text], words: &[u32]) -> Result<MixedRun, NoMemory> {
+    let image = image(alloc, words)?;
+    let input = Items::new(alloc);
+    let mut run = MixedRun::start(alloc, texts, image, 4096, 64, input, true)?;
+    run.go(texts, &[], Walk::Cont, 100);
+    Ok(run)
+}
+
+fn plain(bits: u32) -> Word {
+    Word { bits, tag: 0 }
+}
+
+// The registers then: where the call returns to, the end of the stack, and what the text and the stub have set.
+fn registers(t0: u32) -> [Word; 32] {
+    let mut words = [plain(0); 32];
+    words[1] = plain(0xf000);
+    words[2] = plain(0x2000_0000);
+    words[5] = plain(t0);
+    words[6] = plain(TEXT);
+    words
+}
+
 #[test]
 fn compiled_code_that_cannot_go_on_says_where_and_why(rt: HostRuntime) -> Result<(), Fail> {
     let alloc = rt.alloc();
     let texts = texts(alloc)?;
     for (words, done, at, cause, pc, t0) in &CASES {
-        let image = image(alloc, words)?;
-        let input = Items::new(alloc);
-        let mut run = MixedRun::start(alloc, texts.as_slice(), image, 4096, 64, input, true)?;
-        let halt = run.go(texts.as_slice(), &[], Walk::Cont, 100);
-        assert!(rt; matches!(halt, Halt::Ended));
+        let mut run = gone(alloc, texts.as_slice(), words)?;
         assert_eq!(rt; crash_of(&run), Some((*at, *cause)));
-        let told = told(alloc, words, *done)?;
-        assert_eq!(rt; run.take_record().as_slice(), told.as_slice());
         let machine = run.machine();
-        let mut registers = [plain(0); 32];
-        registers[1] = plain(0x0000_f000);
-        registers[2] = plain(0x2000_0000);
-        registers[5] = plain(*t0);
-        registers[6] = plain(0x0010_0000);
-        assert_eq!(rt; machine.pc, *pc);
-        assert_eq!(rt; machine.words, registers);
-        assert_eq!(rt; machine.executed, *done as u64 + 2);
+        assert_eq!(rt; machine.pc, *pc, "{cause:?} at {at}");
+        assert_eq!(rt; machine.words, registers(*t0), "{cause:?} at {at}");
+        assert_eq!(rt;
+            machine.executed,
+            (*done as u64).wrapping_add(2),
+            "{cause:?} at {at}"
+        );
+        let told = told(alloc, words, *done)?;
+        assert_eq!(rt;
+            run.take_record().as_slice(),
+            told.as_slice(),
+            "{cause:?} at {at}"
+        );
     }
     Ok(())
 }
