@@ -48,7 +48,7 @@ pub fn tell_made<K: Sink>(
     ensures write_fault { result ≡ Status.WriteFault → Rose (K.faults out.old) (K.faults out.new) }
     ensures write_later { K.faults out.old ≤ K.faults out.new }
     ensures words { (result ≢ Status.BadWords) × (result ≢ Status.ReadFault) }
-    ensures probes { AreTold (λ p. notes p) (λ p. faults p) probes.old.items probes.new.items }
+    ensures probes { AreTold (λ p. notes p) (λ p. (⟦<dyn Probe as Probe>⟧ p.vtable).faults p.value) probes.old.items probes.new.items }
 {
     let mut answers = MemSink::new(alloc, Vec::new(alloc));
     match answer_made(alloc, options, count, &mut answers, probes) {
