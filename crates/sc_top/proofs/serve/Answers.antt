@@ -5,7 +5,8 @@ use Rattle.sc_top.proofs.serve.Goals as goal
 
 pub returns-clause-meaning : goal.returns-clause-meaning
 returns-clause-meaning g c =
-    let ended = rw c.new-session.ensures at c.answer_all-status.ensures.ended in
+    let begun = rw c.new-session.ensures at c.answer_all-status.ensures.ended in
+    let ended = rw c.len.ensures at begun in
     as_meant (limits_of c.args.options.now) _ _ _ _ _ _ _ _ ended
 
 pub returns-clause-probes : goal.returns-clause-probes
