@@ -1,3 +1,4 @@
+use Rattle.std.proofs.Common.{◌≡◌, length, rules}
 use Rattle.sc_session.specs.Transcript.{limits_of}
 use Rattle.sc_top.proofs.Gaining.{told_over}
 use Rattle.sc_top.proofs.MeaningLemmas.{as_meant}
@@ -6,7 +7,8 @@ use Rattle.sc_top.proofs.serve.Goals as goal
 pub returns-clause-meaning : goal.returns-clause-meaning
 returns-clause-meaning g c =
     let begun = rw c.new-session.ensures at c.answer_all-status.ensures.ended in
-    let ended = rw c.len.ensures at begun in
+    let counted : c.len.result ≡ length c.args.probes.now.items = search rules in
+    let ended = rw counted at begun in
     as_meant (limits_of c.args.options.now) _ _ _ _ _ _ _ _ ended
 
 pub returns-clause-probes : goal.returns-clause-probes
