@@ -1,5 +1,5 @@
 -- Where the modules of a run are placed, and which area has no room for them.
-use Rattle.std.proofs.Common.{◌≡◌, ◌<◌, ◌≤◌, ◌+◌, ◌-◌, ℕ, zero, suc, List, [], ◌∷◌, ◌++◌, drop, get_or, length, map, slice_get, Option, Some, Result, IfErr, IfOk, inl, inr, refl, sym, ap, subst, ◌∙◌, arith}
+use Rattle.std.proofs.Common.{◌≡◌, ◌<◌, ◌≤◌, ◌+◌, ◌-◌, ℕ, zero, suc, List, [], ◌∷◌, ◌++◌, drop, get_or, length, map, slice_get, Option, Some, Result, Ok, Err, IfErr, IfOk, inl, inr, refl, sym, ap, subst, ◌∙◌, arith}
 use Rattle.std.proofs.lemmas.List.{drop_more}
 use Rattle.sc_base.specs.declared.key.Key.{Key}
 use Rattle.sc_image.specs.Placing.{IsFull}
@@ -22,11 +22,14 @@ use Rattle.sc_session.specs.Placing.{IsLacking, IsLast, LacksAfter, LacksAmong, 
 -- ---- which area has no room
 
 -- what the linker says of it
-pub lacking_so : (Says : LinkFault → Type 0) (f : LinkFault) → Says f → IsLacking (λ a. Says (fault.Space a)) (image_fault f)
+lacking_so : (Says : LinkFault → Type 0) (f : LinkFault) → Says f → IsLacking (λ a. Says (fault.Space a)) (image_fault f)
 lacking_so Says (fault.Space place.Stubs) p = p
 lacking_so Says (fault.Space place.Text) p = p
 lacking_so Says (fault.Space place.Static) p = p
 lacking_so Says fault.NoMemory p = tt
+
+pub fault_lacks : (Says : LinkFault → Type 0) (f : LinkFault) (g : ImageFault) → g ≡ image_fault f → Says f → IsLacking (λ a. Says (fault.Space a)) g
+fault_lacks Says f g is p = subst (IsLacking (λ a. Says (fault.Space a))) (sym is) (lacking_so Says f p)
 
 pub lacking_by : (Lacks More : Place → Type 0) → ((a : Place) → Lacks a → More a) → (f : ImageFault) → IsLacking Lacks f → IsLacking More f
 lacking_by Lacks More more (short.Space area.Modules) p = absurd p
@@ -152,12 +155,21 @@ module _ (funs : List Key) (first : List Present) (later : List (List Present)) 
   versions_lack new rest left f is to lacking =
       lacking_by (LacksIn funs old new now) (LacksPlaces (first ∷ later) modules funs) (λ a p. to.lacks a (subst (λ xs. LacksAfter funs old (xs ++ modules ∷ []) now a) (sym is) (inl p))) f lacking
 
-  pub versions_end : (left : List (List Present)) (f : ImageFault) → left ≡ [] → VersionsTo funs first later modules all old left now → IsLacking (LacksAfter funs old (modules ∷ []) now) f → IsLacking (LacksPlaces (first ∷ later) modules funs) f
-  versions_end left f is to lacking =
-      lacking_by (LacksAfter funs old (modules ∷ []) now) (LacksPlaces (first ∷ later) modules funs) (λ a p. to.lacks a (subst (λ xs. LacksAfter funs old (xs ++ modules ∷ []) now a) (sym is) p)) f lacking
+  -- behind all of them only the present modules are left
+  module _ (left : List (List Present)) (listed : List Present) (is : left ≡ []) (same : listed ≡ old) (to : VersionsTo funs first later modules all old left now) where
+    pub versions_ok : (r : Result (List (List Placed)) ImageFault) → IfOk r (λ more. more ≡ all ++ each_over listed (modules ∷ []) now) → IfOk r (λ more. more ≡ each_placed (first ∷ later) modules)
+    versions_ok (Ok more) p =
+        p ∙ ap (λ ms. all ++ each_over ms (modules ∷ []) now) same ∙ sym (ap (λ xs. all ++ each_over old (xs ++ modules ∷ []) now) is) ∙ to.same
+    versions_ok (Err f) p = p
 
-  pub versions_all : (left : List (List Present)) (more : List (List Placed)) → left ≡ [] → VersionsTo funs first later modules all old left now → more ≡ all ++ each_over old (modules ∷ []) now → more ≡ each_placed (first ∷ later) modules
-  versions_all left more is to added = added ∙ sym (ap (λ xs. all ++ each_over old (xs ++ modules ∷ []) now) is) ∙ to.same
+    lacks_end : (f : ImageFault) → IsLacking (LacksAfter funs listed (modules ∷ []) now) f → IsLacking (LacksPlaces (first ∷ later) modules funs) f
+    lacks_end f p =
+        lacking_by (LacksAfter funs old (modules ∷ []) now) (LacksPlaces (first ∷ later) modules funs) (λ a q. to.lacks a (subst (λ xs. LacksAfter funs old (xs ++ modules ∷ []) now a) (sym is) q)) f
+        (subst (λ ms. IsLacking (LacksAfter funs ms (modules ∷ []) now) f) same p)
+
+    pub versions_short : (r : Result (List (List Placed)) ImageFault) → IfErr r (IsLacking (LacksAfter funs listed (modules ∷ []) now)) → IfErr r (IsLacking (LacksPlaces (first ∷ later) modules funs))
+    versions_short (Ok more) p = p
+    versions_short (Err f) p = lacks_end f p
 
 -- the modules with which the run begins
 pub first_lacks : (funs : List Key) (first : List Present) (later : List (List Present)) (modules listed : List Present) (f : ImageFault) → listed ≡ first → IsLacking (IsFull (map linking_of listed) funs) f

@@ -60,7 +60,7 @@ unlinked session (short.Space a) needs lacks = (needs, lacks)
 unlinked session short.NoMemory needs lacks = tt
 
 -- what the code finds of a run that goes over to an image, and what becomes of the session
-abbrev Found : Plain → Result (Unit {0}) ImageFault → Plain → Type 0
+abbrev pub Found : Plain → Result (Unit {0}) ImageFault → Plain → Type 0
 Found session r new = MatchResult r (λ _. BecomesBy false session new) (λ f. IsLacking (LacksOver session.past session.modules (functions_by session.numbers)) f × (new ≡ session))
 
 pub relinked : (session new : Plain) (r : Result (Unit {0}) ImageFault) → needs_image (are_sources (texts session.modules)) session.state ≡ true → Found session r new

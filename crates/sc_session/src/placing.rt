@@ -115,16 +115,6 @@ fn formed(
     }
 }
 
-fn copied(alloc: Global, placed: &Placements) -> Result<Placements, ImageFault>
-    ensures ok { IfOk result (λ es. es ≡ placed.now) }
-    ensures short { IfErr result (λ f. f ≡ ImageFault.NoMemory) }
-{
-    match placed.copy(alloc) {
-        Ok(same) => Ok(same),
-        Err(_) => Err(ImageFault::NoMemory),
-    }
-}
-
 // A module behind all that was placed before it.
 fn placed_so(
     alloc: Global,
@@ -141,7 +131,10 @@ fn placed_so(
         Way::New => with_module(alloc, placed, p, &[], functions),
         Way::Again => with_module(alloc, placed, p, kept, functions),
         Way::Formed => formed(alloc, placed, p, functions),
-        Way::Same => copied(alloc, placed),
+        Way::Same => match placed.copy(alloc) {
+            Ok(same) => Ok(same),
+            Err(_) => Err(ImageFault::NoMemory),
+        },
     }
 }
 
@@ -271,19 +264,13 @@ fn with_both(
     all: Items<Placements>,
     placed: Placements,
     last: Placements,
-) -> Result<Items<Placements>, ImageFault>
-    ensures ok { IfOk result (λ more. more ≡ all ++ placed ∷ last ∷ []) }
-    ensures short { IfErr result (λ f. f ≡ ImageFault.NoMemory) }
+) -> Result<Items<Placements>, NoMemory>
+    ensures { IfOk result (λ more. more ≡ all ++ placed ∷ last ∷ []) }
 {
     let mut all = all;
-    let Ok(_) = add(&mut all, placed) else {
-        drop(last);
-        return Err(ImageFault::NoMemory);
-    };
-    match add(&mut all, last) {
-        Ok(_) => Ok(all),
-        Err(_) => Err(ImageFault::NoMemory),
-    }
+    add(&mut all, placed)?;
+    add(&mut all, last)?;
+    Ok(all)
 }
 
 // The present modules behind all versions before them.
@@ -299,7 +286,10 @@ fn last_placed(
     ensures short { IfErr result (spec.IsLacking (spec.LacksAfter functions.now old.now (modules.now ∷ []) placed)) }
 {
     match version_placed(alloc, &placed, old, modules, functions) {
-        Ok(last) => with_both(all, placed, last),
+        Ok(last) => match with_both(all, placed, last) {
+            Ok(more) => Ok(more),
+            Err(_) => Err(ImageFault::NoMemory),
+        },
         Err(fault) => Err(fault),
     }
 }
