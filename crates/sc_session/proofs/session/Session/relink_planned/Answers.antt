@@ -11,6 +11,6 @@ returns-in-Ok-last_image c =
     (planned c.args.self.now c.in-Ok.plan c.as_slice.result.now c.as_slice-2.result.now c.in-Ok-last_image.image c.in-Ok.ensures.ok c.as_slice.ensures c.as_slice-2.ensures c.in-Ok-last_image.ensures.image)
     c.go_over.ensures
 
-pub returns-in-Err-last_image : goal.returns-in-Err-last_image
-returns-in-Err-last_image c =
+pub returns : goal.returns
+returns c =
     (planned_lacks c.args.self.now c.in-Ok.plan c.as_slice.result.now c.as_slice-2.result.now c.in-Err-last_image.fault c.in-Ok.ensures.ok c.as_slice.ensures c.as_slice-2.ensures c.in-Err-last_image.ensures.short, refl)
