@@ -1,4 +1,4 @@
-use Rattle.std.proofs.Common.{◌∷◌, ◌++◌, [], drop}
+use Rattle.std.proofs.Common.{drop}
 use Rattle.sc_session.proofs.PlacingLemmas.{VersionsTo}
 use Rattle.sc_session.proofs.placing.all_placed.Given as goal
 

@@ -9,8 +9,8 @@ returns-then-stays c =
 
 pub returns-in-None : goal.returns-in-None
 returns-in-None c =
-    room_reforms c.args.self.now c.args.name c.in-Ok.full c.reform.result c.reform.new.self c.in-None.is (found_room _ c.args.self.now c.args.name c.as_slice-modules.result.now c.in-Ok.full c.self.view_is c.as_slice-modules.ensures.value c.in-Ok.ensures)
-    c.reform.ensures
+    room_reforms c.args.self.now c.args.name c.in-Ok.full c.reform-in-None.result c.reform-in-None.new.self c.in-None.is (found_room _ c.args.self.now c.args.name c.as_slice-modules.result.now c.in-Ok.full c.self.view_is c.as_slice-modules.ensures.value c.in-Ok.ensures)
+    c.reform-in-None.ensures
 
 pub returns-in-Some : goal.returns-in-Some
 returns-in-Some c =
