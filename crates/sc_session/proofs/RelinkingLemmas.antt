@@ -56,7 +56,7 @@ becomes_same session new needs is =
 
 unlinked : (session : Plain) (f : ImageFault) → needs_image (are_sources (texts session.modules)) session.state ≡ true
     → IsLacking (LacksOver session.past session.modules (functions_by session.numbers)) f → IsUnlinked session f
-unlinked session (short.Space a) needs lacks = (needs, lacks)
+unlinked session (short.Space a) needs lacks = (needs, record { lacks = lacks })
 unlinked session short.NoMemory needs lacks = tt
 
 -- what the code finds of a run that goes over to an image, and what becomes of the session
@@ -90,9 +90,11 @@ given_back old v s t is back put = ap (λ x. record v { state = x }) (put ∙ ba
 
 pub planned : (session : Plain) (plan : Plan) (placed : List (List Placed)) (funs : List Key) (i : Image) → plan ≡ plan_of session → placed ≡ plan.placed → funs ≡ plan.functions
     → IsLast placed funs i → IsImageOver session.past session.modules session.numbers i
-planned session plan placed funs i is at by p =
-    linked_last session.past session.modules (functions_by session.numbers) i
-    (subst (λ fs. IsLast (each_placed session.past session.modules) fs i) (by ∙ ap (λ (q : Plan). q.functions) is) (subst (λ xs. IsLast xs funs i) (at ∙ ap (λ (q : Plan). q.placed) is) p))
+planned session plan placed funs i is at by p = record {
+  linked =
+      linked_last session.past session.modules (functions_by session.numbers) i
+      (subst (λ fs. IsLast (each_placed session.past session.modules) fs i) (by ∙ ap (λ (q : Plan). q.functions) is) (subst (λ xs. IsLast xs funs i) (at ∙ ap (λ (q : Plan). q.placed) is) p));
+}
 
 pub planned_lacks : (session : Plain) (plan : Plan) (placed : List (List Placed)) (funs : List Key) (f : ImageFault) → plan ≡ plan_of session → placed ≡ plan.placed → funs ≡ plan.functions
     → IsLacking (LacksLast placed funs) f → IsLacking (LacksOver session.past session.modules (functions_by session.numbers)) f

@@ -89,8 +89,8 @@ placed_over [] modules = placed_first modules
 placed_over (first ∷ past) modules = versions_over first (past ++ modules ∷ []) (placed_first first)
 
 -- an image is that of all this, with the functions by their numbers
-abbrev pub IsImageOver : List (List Present) → List Present → List Key → Image → Type 0
-IsImageOver past modules numbers i = IsLinked (placed_over past modules) (functions_by numbers) i
+pub record IsImageOver (past : List (List Present)) (modules : List Present) (numbers : List Key) (i : Image) : Type 0 where
+  pub linked : IsLinked (placed_over past modules) (functions_by numbers) i
 
 -- ---- which area has no room
 
@@ -136,8 +136,8 @@ InArea Lacks area.Stubs = Lacks place.Stubs
 InArea Lacks area.Text = Lacks place.Text
 InArea Lacks area.Static = Lacks place.Static
 
-abbrev pub LacksRoomOver : List (List Present) → List Present → List Key → Area → Type 0
-LacksRoomOver past modules numbers a = InArea (LacksOver past modules (functions_by numbers)) a
+pub record LacksRoomOver (past : List (List Present)) (modules : List Present) (numbers : List Key) (a : Area) : Type 0 where
+  pub lacks : InArea (LacksOver past modules (functions_by numbers)) a
 
 -- ---- what the code finds
 
