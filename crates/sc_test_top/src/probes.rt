@@ -24,7 +24,7 @@ fn a_full_trace_changes_no_other_answer(rt: HostRuntime) -> Result<(), Fail> {
     assert_eq!(rt; status, Status::Done);
     assert_eq!(rt;
         outside.sink.bytes(),
-        b"> loaded m\n> exit 7\n> report 0\nnotes 4\n> report 1\nnotes 3\n> bye\n"
+        b"> loaded m\n> exit 7\n> report 0\nnotes 4\n> report 1\nnotes 3\n> bye\n".as_slice()
     );
     Ok(())
 }
@@ -41,7 +41,7 @@ fn a_dropped_probe_takes_none_with_it(rt: HostRuntime) -> Result<(), Fail> {
     assert_eq!(rt; status, Status::Done);
     assert_eq!(rt;
         outside.sink.bytes(),
-        b"> loaded m\n> dropped 1\n> exit 7\n> report 1\nstart 1 call 0 back 0 enter 1 leave 1 at 1 exec 0 put 0 birth 0 death 0 copy 0 setreg 0 tag 0 lib 0\n> refused C17 2\n> refused C17 0\n> bye\n"
+        b"> loaded m\n> dropped 1\n> exit 7\n> report 1\nstart 1 call 0 back 0 enter 1 leave 1 at 1 exec 0 put 0 birth 0 death 0 copy 0 setreg 0 tag 0 lib 0\n> refused C17 2\n> refused C17 0\n> bye\n".as_slice()
     );
     assert_eq!(rt; probes.len(), 2);
     Ok(())
