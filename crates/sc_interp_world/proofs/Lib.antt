@@ -4,3 +4,4 @@ pub mod Naming
 pub mod Storing
 pub mod Filling
 pub mod RecordLemmas
+pub mod ToldLemmas

@@ -1,5 +1,5 @@
 -- Names that are given and taken back, where they are found by their hashes.
-use Rattle.std.proofs.Common.{◌≡◌, ℕ, ◌&&◌, Bool, true, false, cond, if◌then◌else◌, List, [], ◌∷◌, refl, sym, ap, ◌∙◌, Option, Some, None, true≢false}
+use Rattle.std.proofs.Common.{◌≡◌, ℕ, ◌&&◌, Bool, true, false, cond, if◌then◌else◌, List, [], ◌∷◌, refl, sym, ap, ◌∙◌, Option, Some, None, is_none, subst, true≢false}
 use Rattle.std.proofs.lemmas.Bool.{and_parts}
 use Rattle.std.proofs.lemmas.Slice.Eq.{bytes_eq-Decides}
 use Rattle.std.specs.Option.{option_eq}
@@ -9,6 +9,7 @@ use Rattle.sc_meaning.specs.Values.{same_key, same_module}
 use Rattle.sc_meaning.specs.World.{named_in, same_id, without_name}
 use Rattle.sc_interp_world.specs.declared.names.Literal.{Literal}
 use Rattle.sc_interp_world.specs.Naming.{IsFound, key_eq, literal_eq}
+use Rattle.sc_interp_world.specs.Told.{Numbers}
 use Rattle.sc_program.specs.declared.storage.StaticId.{StaticId}
 use Rattle.sc_program.specs.declared.storage.StaticId.TheVariants as id
 
@@ -45,7 +46,7 @@ key_one j k e =
     let n = bytes_one j.name k.name p.1 in
     λ t. record { «module» = m t; name = n t }
 
-id_one : (a b : StaticId) → same_id a b ≡ true → a ≡ b
+pub id_one : (a b : StaticId) → same_id a b ≡ true → a ≡ b
 id_one (id.Named j) (id.Named k) e = ap id.Named (key_one j k e)
 id_one (id.Named j) (id.Literal n b) e = absurd (true≢false (sym e))
 id_one (id.Literal m a) (id.Named k) e = absurd (true≢false (sym e))
@@ -110,3 +111,26 @@ module _ (declared : Key → Option ℕ) (literals : Literal → Option ℕ) (ns
         taken q ∙ ap (λ r. cond (bytes_eq m q.home && bytes_eq b q.bytes) None r) (found.of_literal q)
         ∙ sym (named_without ns (id.Literal m b) (id.Literal q.home q.bytes));
   }
+
+-- ---- a name that is given for the first time
+
+none_when : (found : Option ℕ) → is_none found ≡ true → found ≡ None
+none_when None e = refl
+none_when (Some n) e = absurd (true≢false (sym e))
+
+pub numbers_all : (fs gs : List (StaticId × ℕ)) → gs ≡ fs → Numbers fs gs
+numbers_all fs gs is = subst (Numbers fs) (sym is) (λ key fun e. e)
+
+pub numbers_more : (fs gs hs : List (StaticId × ℕ)) → Numbers fs gs → Numbers gs hs → Numbers fs hs
+numbers_more fs gs hs p q key fun e = q key fun (p key fun e)
+
+not_some : (n : ℕ) → None ≡ Some n → ⊥
+not_some n p = absurd (cc)
+
+-- all others keep theirs
+pub numbers_put : (fs : List (StaticId × ℕ)) (key : Key) (n : ℕ) → is_none (named_in fs (id.Named key)) ≡ true → Numbers fs ((id.Named key, n) ∷ fs)
+numbers_put fs key n new k fun e = by (same_id (id.Named key) (id.Named k)) refl
+  where
+    by : (b : Bool) → same_id (id.Named key) (id.Named k) ≡ b → (if b then Some n else named_in fs (id.Named k)) ≡ Some fun
+    by true same = absurd (not_some fun (sym (none_when (named_in fs (id.Named key)) new) ∙ ap (named_in fs) (id_one (id.Named key) (id.Named k) same) ∙ e))
+    by false other = e

@@ -6,3 +6,4 @@ pub mod Naming
 pub mod Addresses
 pub mod Blanks
 pub mod Recording
+pub mod Told

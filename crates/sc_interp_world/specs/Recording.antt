@@ -1,6 +1,7 @@
 -- Inside: plumbing, a representation, an invariant or a promise beside the claim (docs/TRUST.md).
 -- What the record of a run gains.
-use Rattle.std.specs.Prelude.{◌≡◌, ℕ, nat_lt, false, zero, suc, ◌==◌, ◌&&◌, ◌++◌, ◌∷◌, [], Bool, List, if◌then◌else◌, Option, None, Some, slice_index_or}
+use Rattle.std.specs.Prelude.{◌≡◌, ⊤, ℕ, nat_lt, true, false, zero, suc, ◌==◌, ◌&&◌, ◌++◌, ◌∷◌, [], Bool, List, if◌then◌else◌, Option, None, Some, slice_index_or}
+use Rattle.std.specs.List.{filter}
 use Rattle.sc_base.specs.declared.key.Key.{Key}
 use Rattle.sc_base.specs.declared.memory.Word.{Word}
 use Rattle.sc_base.specs.declared.note.Note.{Note}
@@ -21,10 +22,59 @@ with_entry e r = record r { entries = r.entries ++ e ∷ [] }
 abbrev pub noted : Note → Recorder → Recorder
 noted n r = with_entry (entries.One n) r
 
--- some entries more, and nothing else
+-- a note of a call or a line; of what passes between compiled code and a call; of a register; or another one
+pub data Family : Type 0 where
+  OfCalls : Family
+  Passes : Family
+  Sets : Family
+  Plain : Family
+
+abbrev pub family : Note → Family
+family (notes.Enter fun form) = OfCalls
+family (notes.Leave fun) = OfCalls
+family (notes.At fun line) = OfCalls
+family (notes.Call fun) = Passes
+family (notes.Back fun) = Passes
+family (notes.SetReg n w) = Sets
+family n = Plain
+
+abbrev pub family_of : Entry → Family
+family_of (entries.One n) = family n
+family_of (entries.Fill at count byte) = Plain
+
+abbrev pub is_of_calls : Family → Bool
+is_of_calls OfCalls = true
+is_of_calls Passes = false
+is_of_calls Sets = false
+is_of_calls Plain = false
+
+abbrev pub tells_calls : Entry → Bool
+tells_calls e = is_of_calls (family_of e)
+
+-- Registers are set in a group right behind a note of what passes: whether one may be set here, and behind a note.
+abbrev pub may_stand : Bool → Family → Bool
+may_stand here OfCalls = true
+may_stand here Passes = true
+may_stand here Sets = here
+may_stand here Plain = true
+
+abbrev pub opens : Bool → Family → Bool
+opens here OfCalls = false
+opens here Passes = true
+opens here Sets = here
+opens here Plain = false
+
+-- each of some entries may stand where it does
+abbrev pub AreGrouped : Bool → List Entry → Type 0
+AreGrouped here [] = ⊤
+AreGrouped here (e ∷ es) = (may_stand here (family_of e) ≡ true) × AreGrouped (opens here (family_of e)) es
+
+-- some entries more, which tell of no call and no line and may stand anywhere, and nothing else
 pub record Adds (old new : Recorder) : Type 0 where
   pub more : List Entry
   pub added : new ≡ record old { entries = old.entries ++ more }
+  pub other : filter tells_calls more ≡ []
+  pub grouped : (here : Bool) → AreGrouped here more
 
 -- a number, and 0 where there is none
 abbrev pub or_zero : Option ℕ → ℕ

@@ -2,6 +2,7 @@
 //! the single changes, which a trail keeps. It may be slow.
 #![tactic(auto)]
 
+mod account;
 mod beside;
 mod cells;
 mod event;
@@ -16,6 +17,7 @@ mod telling;
 mod values;
 mod world;
 
+pub use account::{Account, Taken};
 pub use beside::Beside;
 pub use cells::{copy_cells, unwritten};
 pub use event::{Change, Event, Item, Showing};

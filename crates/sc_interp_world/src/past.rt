@@ -167,11 +167,12 @@ impl Past {
         Ok(())
     }
 
-    /// Some units of work were done. Nothing happens more often, so no item is made for it.
+    /// Some units of work were done. Where memory runs out, none were. Nothing happens more often, so no item is made for it.
     #[inline(always)]
     #[tactic(auto, using(crate::proofs::Outputs::output_worked, crate::proofs::Outputs::work_last, crate::proofs::Outputs::bytes_moved_worked))]
     pub fn worked(&mut self, n: u32) -> Result<(), NoMemory>
-        ensures { IfOk result (λ _. self.new ≡ self.old ++ spec.Work n ∷ []) }
+        ensures ok { OnOk result (self.new ≡ self.old ++ spec.Work n ∷ []) }
+        ensures err { OnErr result (self.new ≡ self.old) }
     {
         let work = sum(self.work, u64::from(n))?;
         self.work = work;

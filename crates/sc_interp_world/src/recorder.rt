@@ -4,6 +4,7 @@ ghost use Rattle.sc_base.specs.declared.note.Note.TheVariants as notes;
 ghost use Rattle.sc_program.specs.declared.storage.StaticId.TheVariants as id;
 ghost use Rattle.sc_meaning.specs.World.{named_in};
 ghost use Rattle.sc_interp_world.specs.Recording as spec;
+ghost use Rattle.sc_interp_world.specs.Told.{Enters, IsNumbered, Numbers};
 ghost use Rattle.sc_interp_world.specs.declared.recorder.Entry.TheVariants as entry;
 
 use crate::names::Names;
@@ -84,7 +85,9 @@ fn number_all(
     functions: &mut Names,
     numbered: u32,
     more: &[Shared<Key>],
-) -> Result<u32, NoMemory> {
+) -> Result<u32, NoMemory>
+    ensures { IfOk result (λ _. Numbers functions.old functions.new) }
+{
     let mut next = numbered;
     for key in more {
         let key = key.get();
@@ -102,7 +105,7 @@ fn number_all(
 impl Recorder {
     /// Nobody listens. It takes no memory.
     pub fn unheard(alloc: Global) -> Recorder
-        ensures { (result.listens ≡ false) × (result.entries ≡ []) }
+        ensures { (result.listens ≡ false) × (result.entries ≡ []) × (result.active ≡ []) }
     {
         Recorder {
             alloc,
@@ -125,7 +128,7 @@ impl Recorder {
         heap: u64,
         functions: &[Shared<Key>],
     ) -> Result<Recorder, NoMemory>
-        ensures { IfOk result (λ r. (r.listens ≡ true) × (r.entries ≡ entry.One (notes.Start stack heap) ∷ [])) }
+        ensures { IfOk result (λ r. (r.listens ≡ true) × (r.entries ≡ entry.One (notes.Start stack heap) ∷ []) × (r.active ≡ [])) }
     {
         let (Ok(stack), Ok(heap)) = (u32::try_from(stack), u32::try_from(heap)) else {
             return Err(NoMemory);
@@ -160,9 +163,10 @@ impl Recorder {
         self.hushed = yes;
     }
 
-    /// More functions get the next numbers.
+    /// More functions get the next numbers. A function that has one keeps it.
     pub fn number(&mut self, more: &[Shared<Key>]) -> Result<(), NoMemory>
-        ensures { (self.new.listens ≡ self.old.listens) × (self.new.entries ≡ self.old.entries) }
+        ensures same { (self.new.listens ≡ self.old.listens) × (self.new.entries ≡ self.old.entries) × (self.new.active ≡ self.old.active) }
+        ensures numbers { IfOk result (λ _. Numbers self.old.functions self.new.functions) }
     {
         self.numbered = number_all(self.alloc, &mut self.functions, self.numbered, more)?;
         Ok(())
@@ -205,7 +209,8 @@ impl Recorder {
     /// A call becomes active.
     #[inline(never)]
     pub fn enter(&mut self, frame: &Frame) -> Result<(), NoMemory>
-        ensures { OnOk result (self.new ≡ spec.entered (spec.number_in self.old.functions frame.now.key) frame.now self.old) }
+        ensures entered { OnOk result (self.new ≡ spec.entered (spec.number_in self.old.functions frame.now.key) frame.now self.old) }
+        ensures numbered { IfOk result (λ _. IsNumbered self.old.functions (Enters frame.now.key frame.now.form)) }
     {
         let fun = self.number_of(&frame.key)?;
         self.active.push(fun)?;

@@ -8,14 +8,14 @@ ghost use Rattle.sc_mem_store.specs.Living.{IsLiveAt, IsLiving};
 ghost use Rattle.sc_interp_world.specs.Happenings.{item_of};
 ghost use Rattle.sc_interp_world.specs.Addresses.{address};
 ghost use Rattle.sc_interp_world.specs.Outputs.{bytes_moved, output};
+ghost use Rattle.sc_interp_world.specs.Told.{Other, step_of};
 
+use crate::account::Account;
 use crate::beside::Beside;
 use crate::event::{Change, Event, Item, Showing};
 use crate::held::Held;
 use crate::names::Names;
 use crate::object::{Born, Frame, Object};
-use crate::past::Past;
-use crate::recorder::Recorder;
 use sc_base::{Bytes, Duplicate, Items, Key, Kind, Name, NoMemory, Shared, Stack, Word};
 use sc_meaning::Spot;
 use sc_meaning_values::Value;
@@ -56,9 +56,8 @@ pub struct World {
     enters: u64,
     count: u64,
     begun: u64,
-    past: Past,
     beside: Beside,
-    pub(crate) recorder: Recorder,
+    pub(crate) account: Account,
 }
 
 impl Model for World {
@@ -66,7 +65,7 @@ impl Model for World {
 
     ghost Value = { spec.World };
 
-    ghost view = { λ w. record { stack = w.stack; heap = w.heap; objects = w.objects; used = w.used; free = w.free; made = w.made; input = w.input; seed = w.seed; frames = w.frames; names = w.names; enters = w.enters; count = w.count; begun = w.begun; trail = w.past; beside = w.beside.told } };
+    ghost view = { λ w. record { stack = w.stack; heap = w.heap; objects = w.objects; used = w.used; free = w.free; made = w.made; input = w.input; seed = w.seed; frames = w.frames; names = w.names; enters = w.enters; count = w.count; begun = w.begun; trail = w.account; beside = w.beside.told } };
 }
 
 // One more.
@@ -175,7 +174,7 @@ impl World {
             input,
             Held::nowhere(alloc),
             Names::new(alloc),
-            Recorder::unheard(alloc),
+            Account::unheard(alloc),
         )
     }
 
@@ -191,8 +190,8 @@ impl World {
     {
         let Layout { functions, places } = layout;
         let objects = Held::new(alloc, stack, heap, functions)?;
-        let recorder = Recorder::unheard(alloc);
-        World::with(alloc, stack, heap, input, objects, places, recorder)
+        let account = Account::unheard(alloc);
+        World::with(alloc, stack, heap, input, objects, places, account)
     }
 
     /// The same where somebody listens: all that happens is recorded, behind the note `Start`.
@@ -210,12 +209,12 @@ impl World {
         ensures { IfOk result (λ w. w ≡ record { stack = stack; heap = heap; objects = []; used = 0; free = replicate 29 0; made = 0; input = input; seed = 1; frames = []; names = []; enters = 0; count = 0; begun = 0; trail = []; beside = nothing_beside }) }
     {
         let Layout { functions, places } = layout;
-        let recorder = Recorder::heard(alloc, stack, heap, functions.as_slice())?;
+        let account = Account::heard(alloc, stack, heap, functions.as_slice())?;
         let objects = Held::new(alloc, stack, heap, functions)?;
-        World::with(alloc, stack, heap, input, objects, places, recorder)
+        World::with(alloc, stack, heap, input, objects, places, account)
     }
 
-    // A world in which only these objects are there.
+    // A world in which only these objects are there, and nothing happened.
     fn with(
         alloc: Global,
         stack: u64,
@@ -223,8 +222,9 @@ impl World {
         input: Items<u8>,
         objects: Held,
         places: Names,
-        recorder: Recorder,
+        account: Account,
     ) -> Result<World, NoMemory>
+        requires { account ≡ [] }
         ensures { IfOk result (λ w. w ≡ record { stack = stack; heap = heap; objects = objects; used = 0; free = replicate 29 0; made = 0; input = input; seed = 1; frames = []; names = []; enters = 0; count = 0; begun = 0; trail = []; beside = nothing_beside }) }
     {
         let free = no_block(alloc)?;
@@ -246,9 +246,8 @@ impl World {
             enters: 0,
             count: 0,
             begun: 0,
-            past: Past::new(alloc),
             beside: Beside::nothing(),
-            recorder,
+            account,
         })
     }
 
@@ -287,10 +286,7 @@ impl World {
         ensures { self.new ≡ self.old }
     {
         self.objects.number(more)?;
-        if self.recorder.listens() {
-            self.recorder.number(more)?;
-        }
-        Ok(())
+        self.account.number(more)
     }
 
     /// Static objects and literals that are born from here on stand at these addresses. Nothing else changes.
@@ -427,30 +423,31 @@ impl World {
     pub fn output(&self) -> &[u8]
         ensures { result.now ≡ output self.now.trail }
     {
-        self.past.written()
+        self.account.written()
     }
 
     /// The units of work that were done so far.
     pub fn work_done(&self) -> u64
         ensures { result ≡ spec.work self.now.trail }
     {
-        self.past.work()
+        self.account.work()
     }
 
     /// The bytes that births and copies of structures touched so far.
     pub fn moved(&self) -> u64
         ensures { result ≡ bytes_moved self.now.trail }
     {
-        self.past.moved()
+        self.account.moved()
     }
 
-    // The trail keeps what happened.
+    // The trail keeps what happened, which no note on a call or a line tells.
     #[inline(always)]
     fn note(&mut self, change: Change) -> Result<(), NoMemory>
+        requires { step_of (item_of change) ≡ Other }
         ensures { IfOk result (λ _. self.new ≡ record self.old { trail = self.old.trail ++ item_of change ∷ [] }) }
     {
         let item = Item { change };
-        let kept = self.past.push(&item);
+        let kept = self.account.push(&item);
         drop(item);
         kept
     }
@@ -459,7 +456,7 @@ impl World {
     pub fn work(&mut self, n: u32) -> Result<(), NoMemory>
         ensures { IfOk result (λ _. self.new ≡ spec.pass (spec.Work n) self.old) }
     {
-        self.past.worked(n)
+        self.account.worked(n)
     }
 
     /// One unit of work.
@@ -513,19 +510,11 @@ impl World {
         self.count = more(self.count)?;
         match &event.showing {
             Showing::Enter(_, _) => self.enters = more(self.enters)?,
-            Showing::At(_, line, _) => self.reach(*line)?,
+            Showing::At(_, line, _) => put_line(&mut self.frames, *line)?,
             Showing::Leave => (),
             Showing::Out(_) => (),
         }
-        self.note(Change::Happens(event))
-    }
-
-    // A line of the innermost call is reached.
-    fn reach(&mut self, line: u32) -> Result<(), NoMemory>
-        ensures { IfOk result (λ _. self.new ≡ record self.old { frames = spec.on_innermost (λ f. record f { line = line }) self.old.frames }) }
-    {
-        put_line(&mut self.frames, line)?;
-        self.tell_line(line)
+        self.account.happens(event)
     }
 
     // Where an object outside the heap will stand; without a memory anywhere.
@@ -555,7 +544,7 @@ impl World {
     {
         self.bear(size, kind, spot)?;
         self.note(Change::Birth(size, kind, Snapshot::of(spot)))?;
-        self.tell_birth(size, kind)
+        self.account.tell_birth(&self.objects, size, kind)
     }
 
     /// An object dies.
@@ -564,7 +553,7 @@ impl World {
     {
         self.objects.death(id)?;
         self.note(Change::Death(id))?;
-        self.tell_death(id)
+        self.account.tell_death(id)
     }
 
     /// Bytes are written into an object from an offset on.
@@ -572,7 +561,8 @@ impl World {
         ensures { IfOk result (λ _. self.new ≡ spec.pass (spec.Put id at new) self.old) }
     {
         self.note(Change::Put(id, at, Snapshot::of(&new)))?;
-        self.tell_put(id, at, new.as_slice())?;
+        self.account
+            .tell_put(&self.objects, id, at, new.as_slice())?;
         self.objects.put(id, at, new)
     }
 
@@ -582,7 +572,7 @@ impl World {
     {
         self.note(Change::Store(id, at, n, Snapshot::of(v)))?;
         self.objects.store(id, at, n, v)?;
-        self.tell_store(id, at, n, v)
+        self.account.tell_store(&self.objects, id, at, n, v)
     }
 
     /// So many bytes go to an object and offset from an object and offset.
@@ -591,7 +581,7 @@ impl World {
     {
         self.objects.copy(to, at, from, off, n)?;
         self.note(Change::Copy(to, at, from, off, n))?;
-        self.tell_copy(to, at, from, off, n)
+        self.account.tell_copy(&self.objects, to, at, from, off, n)
     }
 
     /// A free heap block of a class is taken.
@@ -651,9 +641,8 @@ impl World {
     pub fn push(&mut self, frame: Frame) -> Result<(), NoMemory>
         ensures { IfOk result (λ _. self.new ≡ spec.pass (spec.Push frame) self.old) }
     {
-        self.note(Change::Push(Snapshot::of(&frame)))?;
-        self.frames.push(frame)?;
-        self.tell_enter()
+        self.account.enter(&frame)?;
+        self.frames.push(frame)
     }
 
     /// The innermost call is no longer active.
@@ -661,8 +650,7 @@ impl World {
         ensures { IfOk result (λ _. self.new ≡ spec.pass spec.Pop self.old) }
     {
         drop(self.frames.pop());
-        self.note(Change::Pop)?;
-        self.tell_leave()
+        self.account.leave()
     }
 
     /// A block is entered in the innermost call.
@@ -747,7 +735,7 @@ impl World {
         ensures { self.new ≡ self.old }
     {
         let kept = self.objects.keep(at, size, w)?;
-        self.tell_kept(at, size, w, kept.is_some())?;
+        self.account.tell_kept(at, size, w, kept.is_some())?;
         Ok(kept)
     }
 }

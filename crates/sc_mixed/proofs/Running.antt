@@ -62,6 +62,23 @@ went_all i most k r s w v h is = all_went refl refl (subst (λ (n : ℕ). Ran i 
 pub went_last : (i : Image) (most k : ℕ) (r q s : Registers) (w u v : World) (how : Went) → k < most → Ran i k r w q u → Instruction i q u how s v → RanUpto i most r w (k + 1) how s v
 went_last i most k r q s w u v how few h instr = one_last k q u refl few h instr
 
+-- ---- one alone
+
+ran_nothing : (i : Image) (n : ℕ) (r s : Registers) (w v : World) → n ≡ 0 → Ran i n r w s v → (r ≡ s) × (w ≡ v)
+ran_nothing i n r s w v none (ran_none r2 w2) = (refl, refl)
+ran_nothing i n r s w v none (ran_further k r2 q s2 w2 u v2 h instr) = absurd (omega (arith, none))
+
+from_here : (i : Image) (r q s : Registers) (w u v : World) (how : Went) → (r ≡ q) × (w ≡ u) → Instruction i q u how s v → Instruction i r w how s v
+from_here i r q s w u v how same instr = subst (λ (x : Registers). Instruction i x w how s v) (sym same.0) (subst (λ (x : World). Instruction i q x how s v) (sym same.1) instr)
+
+ran_one : (i : Image) (n : ℕ) (r s : Registers) (w v : World) → n ≡ 1 → Ran i n r w s v → Instruction i r w went.On s v
+ran_one i n r s w v one (ran_none r2 w2) = absurd (omega (arith, one))
+ran_one i n r s w v one (ran_further k r2 q s2 w2 u v2 h instr) = from_here i r q s w u v went.On (ran_nothing i k r q w u (omega (arith, one)) h) instr
+
+pub one_alone : (i : Image) (r s : Registers) (w v : World) (count : ℕ) (how : Went) → RanUpto i 1 r w count how s v → Instruction i r w how s v
+one_alone i r s w v count how (all_went is on h) = subst (λ (x : Went). Instruction i r w x s v) (sym on) (ran_one i 1 r s w v refl h)
+one_alone i r s w v count how (one_last k q u is few h instr) = from_here i r q s w u v how (ran_nothing i k r q w u (omega (arith, few)) h) instr
+
 -- ---- the last of them is a move
 
 -- a memory, whatever it is

@@ -117,16 +117,18 @@ fn tell(pc: u32, went: Went, image: &Image, world: &mut World) -> Result<(), NoM
     }
 }
 
-// The same where somebody listens. The instruction's note tells what it stores, too.
+// The next instruction alone, where somebody listens. Its note tells what it stores, too. It is the loop's, so that the instruction
+// stands in the program once, in that loop.
+#[tactic(auto, using(crate::proofs::Running::one_alone))]
 fn execute_told(image: &Image, regs: &mut Regs, world: &mut World) -> Result<Went, NoMemory>
     ensures { IfOk result (λ went. spec.Instruction image.now regs.old world.old went regs.new world.new) }
 {
     let pc = regs.pc();
     world.hush(true);
-    let went = execute(image, regs, world);
+    let done = execute_some(image, 1, regs, world);
     world.hush(false);
-    tell(pc, went, image, world)?;
-    Ok(went)
+    tell(pc, done.went, image, world)?;
+    Ok(done.went)
 }
 
 // Instructions one after another, each of which is told.

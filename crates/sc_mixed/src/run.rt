@@ -1,6 +1,7 @@
 // A run of both forms that is kept between goes.
-ghost use Rattle.std.specs.Prelude.{◌≡◌, ◌⊎◌, [], IfOk, MatchOption, None, Some, replicate, reverse};
+ghost use Rattle.std.specs.Prelude.{◌≡◌, ◌⊎◌, [], true, IfOk, MatchOption, None, Some, replicate, reverse};
 ghost use Rattle.sc_interp_world.specs.Outputs.{output};
+ghost use Rattle.sc_interp_world.specs.Told.{TellsBehind};
 ghost use Rattle.sc_meaning.specs.Beside.{nothing_beside};
 ghost use Rattle.sc_meaning.specs.Laws.{Leads};
 ghost use Rattle.sc_mixed.specs.Goes.{GoesTo};
@@ -23,7 +24,7 @@ use sc_interp::{Going, Shown};
 use sc_interp_access::{Ended, Stop};
 use sc_interp_machine::Doing;
 use sc_interp_parts::id_of;
-use sc_interp_world::{Entry, Frame, Layout, Machine, World};
+use sc_interp_world::{Frame, Layout, Machine, Taken, World};
 use sc_isa_image::Image;
 use sc_words::{StopAt, Walk};
 use sc_world::{Halt, Marks, Want};
@@ -238,9 +239,12 @@ impl MixedRun {
         declaring_at(&self.course)
     }
 
-    /// What was recorded of the run since its start or the last call of this, in order. Nothing is kept where nobody listens.
-    pub fn take_record(&mut self) -> Items<Entry>
-        ensures { self.new ≡ self.old }
+    /// What was recorded of the run since its start or the last call of this, in order. Nothing is kept where nobody listens. Where it is
+    /// whole, the entries that tell of calls and lines are the notes by which all that happened in the run is told, but for those that
+    /// were taken before.
+    pub fn take_record(&mut self) -> Taken
+        ensures same { self.new ≡ self.old }
+        ensures rest { result.whole ≡ true → TellsBehind result.before result.entries self.old.world.trail }
     {
         self.world.take_record()
     }

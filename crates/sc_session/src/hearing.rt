@@ -1,9 +1,12 @@
 // What a go recorded, and what is answered from it.
-ghost use Rattle.std.specs.Prelude.{◌≡◌};
+ghost use Rattle.std.specs.Prelude.{◌≡◌, Some, true};
+ghost use Rattle.sc_interp_world.specs.Told.{TellsBehind};
+ghost use Rattle.sc_meaning.specs.World as worlds;
+ghost use Rattle.sc_world.specs.Standing.{world_in};
 ghost use Rattle.sc_session.specs.Probing as spec;
 
 use sc_base::Items;
-use sc_interp_world::{Entry, Machine};
+use sc_interp_world::{Machine, Taken};
 use sc_mixed::MixedRun;
 use sc_session_forms::machine_lines;
 use sc_words::Answer;
@@ -13,15 +16,24 @@ use std::alloc::Global;
 /// What a go recorded, where some probe listens, and the registers behind it.
 #[derive(Drop)]
 pub struct Heard {
-    pub record: Items<Entry>,
+    pub record: Taken,
     pub machine: Machine,
+}
+
+/// Nothing was recorded.
+pub fn nothing_taken(alloc: Global) -> Taken {
+    Taken {
+        entries: Items::new(alloc),
+        before: 0,
+        whole: false,
+    }
 }
 
 impl Heard {
     /// Nothing was recorded, and no instruction was carried out.
     pub fn nothing(alloc: Global) -> Heard {
         Heard {
-            record: Items::new(alloc),
+            record: nothing_taken(alloc),
             machine: Machine::new(),
         }
     }
@@ -29,7 +41,8 @@ impl Heard {
 
 /// What a go of a run of interpreted modules recorded.
 pub fn heard_in(run: &mut Run) -> Heard
-    ensures { run.new ≡ run.old }
+    ensures same { run.new ≡ run.old }
+    ensures rest { (w : worlds.World) → world_in run.old ≡ Some w → result.record.whole ≡ true → TellsBehind result.record.before result.record.entries w.trail }
 {
     let machine = run.machine();
     Heard {
@@ -40,7 +53,8 @@ pub fn heard_in(run: &mut Run) -> Heard
 
 /// What a go of a run of both forms recorded.
 pub fn mixed_heard_in(run: &mut MixedRun) -> Heard
-    ensures { run.new ≡ run.old }
+    ensures same { run.new ≡ run.old }
+    ensures rest { result.record.whole ≡ true → TellsBehind result.record.before result.record.entries run.old.world.trail }
 {
     let machine = run.machine();
     Heard {

@@ -21,7 +21,7 @@ ghost use Rattle.sc_world.specs.declared.post.Unsent.TheVariants as unsent;
 use crate::asking::{Asked, Deed, Go, ask_for};
 use crate::compiling::write_compiled;
 use crate::going::{run_in, stays_in_line};
-use crate::hearing::{Heard, shown_machine};
+use crate::hearing::{Heard, nothing_taken, shown_machine};
 use crate::limits::Limits;
 use crate::listing::{Sight, calls_told, list_text, value_told};
 use crate::mixing::{is_mixed, mixed_calls_told, mixed_in, mixed_value_told};
@@ -144,7 +144,7 @@ impl Session {
     pub fn take_record(&mut self, alloc: Global) -> Items<Entry>
         ensures { self.new ≡ self.old }
     {
-        mem::replace(&mut self.heard.record, Items::new(alloc))
+        mem::replace(&mut self.heard.record, nothing_taken(alloc)).entries
     }
 
     /// The text of the probe of which the next command asks for a report.

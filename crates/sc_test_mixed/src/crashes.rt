@@ -258,7 +258,7 @@ fn compiled_code_that_cannot_go_on_says_where_and_why(rt: HostRuntime) -> Result
         );
         let told = told(alloc, words, *done)?;
         assert_eq!(rt;
-            run.take_record().as_slice(),
+            run.take_record().entries.as_slice(),
             told.as_slice(),
             "{cause:?} at {at}"
         );

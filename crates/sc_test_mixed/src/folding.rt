@@ -234,6 +234,7 @@ struct Fold {
     active: Vec<(u32, Form)>,
     executed: u64,
     fills: u32,
+    calls: u64,
     last: Last,
 }
 
@@ -253,6 +254,7 @@ fn begun(alloc: Global) -> Result<Fold, NoMemory> {
         active: Vec::new(alloc),
         executed: 0,
         fills: 0,
+        calls: 0,
         last: Last::Nothing,
     })
 }
@@ -432,6 +434,9 @@ impl Fold {
     fn entry(&mut self, image: &Image, entry: Entry) -> Result<bool, NoMemory> {
         let last = self.last;
         self.last = Last::Nothing;
+        if let Entry::One(Note::Enter { .. } | Note::Leave { .. } | Note::At { .. }) = entry {
+            self.calls = self.calls.wrapping_add(1);
+        }
         match entry {
             Entry::One(note) => self.note(image, last, note),
             Entry::Fill { at, count, byte } => {
@@ -452,11 +457,12 @@ impl Fold {
     }
 }
 
-// What does not hold: an entry may not stand where it stands; or an object, the address of some byte, or the registers are not as
+// What does not hold: an entry may not stand where it stands; more or fewer notes of calls and lines were taken before; or an object, the address of some byte, or the registers are not as
 // in the run.
 #[derive(Clone, Copy, Debug, PartialEq, Eq)]
 enum Odd {
     Told(Entry),
+    Before(u64),
     Object(u32),
     Byte(u32),
     Registers,
@@ -535,8 +541,11 @@ impl Fold {
 
     // What is recorded is folded on.
     fn odd_now(&mut self, image: &Image, run: &mut MixedRun) -> Result<Option<Odd>, NoMemory> {
-        let entries = run.take_record();
-        match self.odd_entry(image, entries.as_slice())? {
+        let taken = run.take_record();
+        if !taken.whole || taken.before != self.calls {
+            return Ok(Some(Odd::Before(taken.before)));
+        }
+        match self.odd_entry(image, taken.entries.as_slice())? {
             Some(entry) => Ok(Some(Odd::Told(entry))),
             None => Ok(self.odd_in(run)),
         }

@@ -1,10 +1,11 @@
 // A run that is kept between goes (ANSI 2.1.2.2, 2.1.2.3).
-ghost use Rattle.std.specs.Prelude.{◌≡◌, ◌<◌, ◌≤◌, ℕ, [], Err, IfOk, MatchOption, MatchResult, None, OnErr, Some, false, replicate, reverse};
+ghost use Rattle.std.specs.Prelude.{◌≡◌, ◌<◌, ◌≤◌, ℕ, [], Err, IfOk, MatchOption, MatchResult, None, OnErr, Some, false, true, replicate, reverse};
 ghost use Rattle.sc_meaning.specs.Behaviour as behaviour;
 ghost use Rattle.sc_meaning.specs.Beside.{nothing_beside};
 ghost use Rattle.sc_meaning.specs.World as worlds;
 ghost use Rattle.sc_interp.specs.Ends.{end_of, start_of};
 ghost use Rattle.sc_interp_world.specs.Outputs.{output};
+ghost use Rattle.sc_interp_world.specs.Told.{TellsBehind};
 ghost use Rattle.sc_world.specs.Changing.{changed_run};
 ghost use Rattle.sc_world.specs.Declaring.{declaring_at};
 ghost use Rattle.sc_world.specs.Goes.{Goes, started, want_of};
@@ -30,7 +31,7 @@ use sc_base::{Items, Key, NoMemory, Shared, Stack};
 use sc_core_held::Text;
 use sc_interp::Caller;
 use sc_interp_access::Ended;
-use sc_interp_world::{Entry, Frame, Layout, Machine, Names, World};
+use sc_interp_world::{Frame, Layout, Machine, Names, Taken, World};
 use sc_outside::Sink;
 use sc_words::{StopAt, Walk};
 use std::alloc::Global;
@@ -228,9 +229,12 @@ impl Run {
         Ok(())
     }
 
-    /// What was recorded of the run since its start or the last call of this, in order. Nothing is kept where nobody listens.
-    pub fn take_record(&mut self) -> Items<Entry>
-        ensures { self.new ≡ self.old }
+    /// What was recorded of the run since its start or the last call of this, in order. Nothing is kept where nobody listens. Where it is
+    /// whole, the entries that tell of calls and lines are the notes by which all that happened in the run is told, but for those that
+    /// were taken before.
+    pub fn take_record(&mut self) -> Taken
+        ensures same { self.new ≡ self.old }
+        ensures rest { (w : worlds.World) → standing.world_in self.old ≡ Some w → result.whole ≡ true → TellsBehind result.before result.entries w.trail }
     {
         self.world.take_record()
     }
