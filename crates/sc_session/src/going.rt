@@ -224,7 +224,7 @@ pub fn gone<K: Sink>(
     match run.go(texts, stops, walk, turns, out) {
         Ok(halted) => match told_text(alloc, before, halted, &run) {
             Ok(text) => {
-                let heard = heard_in(&mut run);
+                let heard = heard_in(alloc, &mut run, halted.halt);
                 Ok(Told {
                     text,
                     state: state_after(halted.halt, run),

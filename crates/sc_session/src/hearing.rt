@@ -1,27 +1,29 @@
 // What a go recorded, and what is answered from it.
-ghost use Rattle.std.specs.Prelude.{◌≡◌, Some, true};
-ghost use Rattle.sc_interp_world.specs.Told.{TellsBehind};
-ghost use Rattle.sc_meaning.specs.World as worlds;
-ghost use Rattle.sc_world.specs.Standing.{world_in};
+ghost use Rattle.std.specs.Prelude.{◌≡◌, None, false, MatchOption};
 ghost use Rattle.sc_session.specs.Probing as spec;
 
+use crate::state::State;
 use sc_base::Items;
 use sc_interp_world::{Machine, Taken};
 use sc_mixed::MixedRun;
 use sc_session_forms::machine_lines;
 use sc_words::Answer;
-use sc_world::Run;
+use sc_world::{Halt, Run};
 use std::alloc::Global;
 
-/// What a go recorded, where some probe listens, and the registers behind it.
+/// What a go recorded, where some probe listens: whether it is still to be handed on; the record of a run that ended, since that of one that
+/// stays is in the run; and the registers behind the go.
 #[derive(Drop)]
 pub struct Heard {
+    pub due: bool,
     pub record: Taken,
     pub machine: Machine,
 }
 
 /// Nothing was recorded.
-pub fn nothing_taken(alloc: Global) -> Taken {
+pub fn nothing_taken(alloc: Global) -> Taken
+    ensures { result.whole ≡ false }
+{
     Taken {
         entries: Items::new(alloc),
         before: 0,
@@ -33,33 +35,57 @@ impl Heard {
     /// Nothing was recorded, and no instruction was carried out.
     pub fn nothing(alloc: Global) -> Heard {
         Heard {
+            due: false,
             record: nothing_taken(alloc),
             machine: Machine::new(),
         }
     }
 }
 
-/// What a go of a run of interpreted modules recorded.
-pub fn heard_in(run: &mut Run) -> Heard
-    ensures same { run.new ≡ run.old }
-    ensures rest { (w : worlds.World) → world_in run.old ≡ Some w → result.record.whole ≡ true → TellsBehind result.record.before result.record.entries w.trail }
+/// What a go of a run of interpreted modules recorded that halted so.
+pub fn heard_in(alloc: Global, run: &mut Run, halt: Halt) -> Heard
+    ensures { run.new ≡ run.old }
 {
     let machine = run.machine();
+    let record = match halt {
+        Halt::Ended => run.take_record(),
+        Halt::Entered | Halt::AtLine | Halt::Paused(_) => nothing_taken(alloc),
+    };
     Heard {
-        record: run.take_record(),
+        due: true,
+        record,
         machine,
     }
 }
 
-/// What a go of a run of both forms recorded.
-pub fn mixed_heard_in(run: &mut MixedRun) -> Heard
-    ensures same { run.new ≡ run.old }
-    ensures rest { result.record.whole ≡ true → TellsBehind result.record.before result.record.entries run.old.world.trail }
+/// What a go of a run of both forms recorded that halted so.
+pub fn mixed_heard_in(alloc: Global, run: &mut MixedRun, halt: Halt) -> Heard
+    ensures { run.new ≡ run.old }
 {
     let machine = run.machine();
+    let record = match halt {
+        Halt::Ended => run.take_record(),
+        Halt::Entered | Halt::AtLine | Halt::Paused(_) => nothing_taken(alloc),
+    };
     Heard {
-        record: run.take_record(),
+        due: true,
+        record,
         machine,
+    }
+}
+
+/// The record of a run that stays.
+pub fn taken_in(state: &mut State) -> Option<Taken>
+    ensures same { state.new ≡ state.old }
+    ensures taken { MatchOption result (spec.staying state.old ≡ None) (λ taken. spec.IsRecordOf state.old taken) }
+{
+    match state {
+        State::Stopped(run) => Some(run.take_record()),
+        State::Paused(run) => Some(run.take_record()),
+        State::StoppedMixed(run) => Some(run.take_record()),
+        State::PausedMixed(run) => Some(run.take_record()),
+        State::Idle => None,
+        State::Ended => None,
     }
 }
 

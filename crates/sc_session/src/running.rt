@@ -112,7 +112,7 @@ impl Session {
         match mixed_gone(alloc, texts, stops, walk, self.limits.turns, run) {
             Ok(told) => {
                 let mut run = told.run;
-                self.heard = mixed_heard_in(&mut run);
+                self.heard = mixed_heard_in(alloc, &mut run, told.halt);
                 put_state(&mut self.state, mixed_state(told.halt, run));
                 self.catch_up();
                 Answer::Ran(told.text)

@@ -21,7 +21,7 @@ ghost use Rattle.sc_world.specs.declared.post.Unsent.TheVariants as unsent;
 use crate::asking::{Asked, Deed, Go, ask_for};
 use crate::compiling::write_compiled;
 use crate::going::{run_in, stays_in_line};
-use crate::hearing::{Heard, nothing_taken, shown_machine};
+use crate::hearing::{Heard, nothing_taken, shown_machine, taken_in};
 use crate::limits::Limits;
 use crate::listing::{Sight, calls_told, list_text, value_told};
 use crate::mixing::{is_mixed, mixed_calls_told, mixed_in, mixed_value_told};
@@ -35,7 +35,7 @@ use crate::stops::{Stop, delete_stop, put_stop};
 use crate::versions::{kept_count, scopes_at, stays, texts_held, versions_from, versions_of};
 use sc_base::{Bytes, Duplicate, Items, Name, NoMemory};
 use sc_core_held::{Numbers, Text};
-use sc_interp_world::Entry;
+use sc_interp_world::Taken;
 use sc_outside::{Files, Sink};
 use sc_session_conflicts::waits;
 use sc_words::{Answer, Command, Denied, Options, StopAt, Walk};
@@ -140,11 +140,20 @@ impl Session {
         self.listened = yes;
     }
 
-    /// What was recorded of the last go, and was not taken yet.
-    pub fn take_record(&mut self, alloc: Global) -> Items<Entry>
-        ensures { self.new ≡ self.old }
+    /// What was recorded of the last go, and was not taken yet. Of a run that stays it is, where it is whole, the record of all that happened
+    /// in the run since it was last taken.
+    pub fn take_record(&mut self, alloc: Global) -> Taken
+        ensures same { self.new ≡ self.old }
+        ensures record { probing.IsRecordOf self.old.state result }
     {
-        mem::replace(&mut self.heard.record, nothing_taken(alloc)).entries
+        if !self.heard.due {
+            return nothing_taken(alloc);
+        }
+        self.heard.due = false;
+        match taken_in(&mut self.state) {
+            Some(taken) => taken,
+            None => mem::replace(&mut self.heard.record, nothing_taken(alloc)),
+        }
     }
 
     /// The text of the probe of which the next command asks for a report.
