@@ -10,4 +10,5 @@ pub mod SwappingLemmas
 pub mod MixingLemmas
 pub mod FormLemmas
 pub mod AskingLemmas
+pub mod PlacingLemmas
 pub mod RelinkingLemmas

@@ -15,11 +15,12 @@ use Rattle.sc_session.specs.declared.linking.ImageFault.{ImageFault}
 use Rattle.sc_session.specs.declared.linking.ImageFault.TheVariants as short
 use Rattle.sc_session.specs.declared.present.Present.{Present}
 use Rattle.sc_session.specs.Changing.{stays}
-use Rattle.sc_session.specs.Linking.{HasRoom, LacksRoom, with_form}
+use Rattle.sc_session.specs.Linking.{HasRoom, LacksRoom, RoomSaid, with_form}
+use Rattle.sc_session.specs.Mixing.{IsUnlinked, LacksImage}
 use Rattle.sc_session.specs.Modules.{object_named}
 use Rattle.sc_session.specs.Plain.{Plain}
 use Rattle.sc_session.specs.Swapping.{Compares, ComparesBytes, HasBytes, NotOursSaid}
-use Rattle.sc_session.specs.Transcript.{Forms, HasRoomBy, IsKept, LacksRoomBy, Moment, Reforms, Swaps, moment, unformed}
+use Rattle.sc_session.specs.Transcript.{Forms, HasRoomBy, IsKept, LacksRoomBy, Moment, Reforms, Swaps, moment, swapped, unformed}
 use Rattle.sc_words.specs.declared.answer.Answer.{Answer}
 use Rattle.sc_words.specs.declared.answer.Answer.TheVariants as answer
 use Rattle.sc_words.specs.declared.denied.Area.{Area}
@@ -63,39 +64,55 @@ forms_swaps old name f said new is forms = subst (λ g. Swaps old name g said (m
     by _ p = absurd p
 
 -- why a module does not get a form
-pub forms_failed : (session : Plain) (name : List ℕ) (f : Form) (fault : ImageFault) (said : Answer) (new : Plain) → stays session.state ≡ true → said ≡ unformed f fault → new ≡ session → Forms session name f said new
-forms_failed session name f fault said new stayed is same = subst (λ a. Forms session name f a new) (sym is) (by f fault)
+pub forms_failed : (session : Plain) (name : List ℕ) (f : Form) (fault : ImageFault) (said : Answer) (new : Plain) → stays session.state ≡ true → IsUnlinked (swapped session name f) fault → said ≡ unformed f fault → new ≡ session
+    → Forms session name f said new
+forms_failed session name f fault said new stayed unlinked is same = subst (λ a. Forms session name f a new) (sym is) (by f fault unlinked)
   where
-    by : (f : Form) (fault : ImageFault) → Forms session name f (unformed f fault) new
-    by form.Source fault = same
-    by form.Object (short.Space a) = (refl, stayed, same)
-    by form.Object short.NoMemory = same
+    by : (f : Form) (fault : ImageFault) → IsUnlinked (swapped session name f) fault → Forms session name f (unformed f fault) new
+    by form.Source fault lacks = same
+    by form.Object (short.Space a) lacks = (refl, stayed, lacks, same)
+    by form.Object short.NoMemory lacks = same
 
 has_by : (b : Bool) (modules : List Present) (numbers : List Key) → b ≡ true → HasRoomBy b modules numbers
 has_by true modules numbers e = tt
 has_by false modules numbers e = absurd (cc)
 
-lacks_by : (b : Bool) (modules : List Present) (numbers : List Key) (a : Area) → b ≡ true → LacksRoomBy b modules numbers a
-lacks_by true modules numbers a e = tt
-lacks_by false modules numbers a e = absurd (cc)
+lacks_by : (b : Bool) (changed : Plain) (a : Area) → b ≡ true → LacksImage changed a → LacksRoomBy b changed a
+lacks_by true changed a e p = p
+lacks_by false changed a e p = absurd (cc)
 
 -- in a run, and outside of one
 pub has_room : (b : Bool) (modules : List Present) (numbers : List Key) → HasRoom modules numbers → HasRoomBy b modules numbers
 has_room true modules numbers p = tt
 has_room false modules numbers p = p
 
-pub lacks_room : (b : Bool) (modules : List Present) (numbers : List Key) (a : Area) → LacksRoom modules numbers a → LacksRoomBy b modules numbers a
-lacks_room true modules numbers a p = tt
-lacks_room false modules numbers a p = p
+pub lacks_room : (b : Bool) (changed : Plain) (a : Area) → b ≡ false → LacksRoom changed.modules changed.numbers a → LacksRoomBy b changed a
+lacks_room true changed a e p = absurd (cc)
+lacks_room false changed a e p = p
 
 pub forms_reforms : (session : Plain) (name : List ℕ) (said : Answer) (new : Plain) → HasRoomBy (stays session.state) (with_form name form.Object session.modules) session.numbers → Forms session name form.Object said new → Reforms session name said new
 forms_reforms session name (answer.Swapped m g) new room p = (p.0, p.1, room, p.2)
 forms_reforms session name answer.NoMemory new room p = p
-forms_reforms session name (answer.Refused (denied.Space a)) new room p = (p.2, lacks_by (stays session.state) (with_form name form.Object session.modules) session.numbers a p.1)
+forms_reforms session name (answer.Refused (denied.Space a)) new room (is, stayed, lacks, same) = (same, lacks_by (stays session.state) (swapped session name form.Object) a stayed lacks)
 forms_reforms session name _ new room p = absurd p
 
 pub stays_reforms : (session : Plain) (name : List ℕ) (said : Answer) (new : Plain) → stays session.state ≡ true → Forms session name form.Object said new → Reforms session name said new
 stays_reforms session name said new stayed p = forms_reforms session name said new (has_by (stays session.state) (with_form name form.Object session.modules) session.numbers stayed) p
+
+-- the room that the code finds outside of a run
+pub found_room : (v session : Plain) (name : List ℕ) (modules : List Present) (full : Option Area) → v ≡ session → modules ≡ v.modules → RoomSaid (with_form name form.Object modules) v.numbers full → RoomSaid (with_form name form.Object session.modules) session.numbers full
+found_room v session name modules full is same p =
+    subst (λ (s : Plain). RoomSaid (with_form name form.Object s.modules) s.numbers full) is (subst (λ ms. RoomSaid (with_form name form.Object ms) v.numbers full) same p)
+
+pub room_reforms : (session : Plain) (name : List ℕ) (full : Option Area) (said : Answer) (new : Plain) → full ≡ None → RoomSaid (with_form name form.Object session.modules) session.numbers full → Forms session name form.Object said new → Reforms session name said new
+room_reforms session name full said new is found p =
+    forms_reforms session name said new
+    (has_room (stays session.state) (with_form name form.Object session.modules) session.numbers (subst (RoomSaid (with_form name form.Object session.modules) session.numbers) is found)) p
+
+pub full_refused : (session : Plain) (name : List ℕ) (full : Option Area) (a : Area) → stays session.state ≡ false → full ≡ Some a → RoomSaid (with_form name form.Object session.modules) session.numbers full
+    → Reforms session name (answer.Refused (denied.Space a)) session
+full_refused session name full a rests is found =
+    (refl, lacks_room (stays session.state) (swapped session name form.Object) a rests (subst (RoomSaid (with_form name form.Object session.modules) session.numbers) is found))
 
 -- ---- the file
 

@@ -1,12 +1,12 @@
 -- The modules change: the session behind it, of what became of its fields.
-use Rattle.std.proofs.Common.{◌≡◌, ◌⊎◌, ℕ, ◌+◌, Bool, true, false, List, [], ◌∷◌, ◌++◌, length, take, Option, None, Some, inl, inr, refl, sym, ap, subst, ◌∙◌}
+use Rattle.std.proofs.Common.{◌≡◌, ℕ, ◌+◌, Bool, true, false, List, [], ◌∷◌, ◌++◌, length, take, Option, None, Some, inl, inr, refl, sym, ap, subst, ◌∙◌}
 use Rattle.sc_base.specs.declared.key.Key.{Key}
 use Rattle.sc_base.specs.declared.memory.Form.{Form}
 use Rattle.sc_build.specs.declared.building.Built.{Built}
 use Rattle.sc_meaning.specs.Versions.{Text}
+use Rattle.sc_isa_image.specs.declared.image.Image.{Image}
 use Rattle.sc_session_forms.specs.Forms.{are_sources}
 use Rattle.sc_words.specs.declared.denied.Denied.{Denied}
-use Rattle.sc_words.specs.declared.denied.Denied.TheVariants as denied
 use Rattle.sc_session.specs.declared.joining.Taken.{Taken}
 use Rattle.sc_session.specs.declared.joining.Taken.TheVariants as taken
 use Rattle.sc_session.specs.declared.linking.ImageFault.{ImageFault}
@@ -16,11 +16,12 @@ use Rattle.sc_session.specs.declared.state.State.{State}
 use Rattle.sc_session.specs.declared.state.State.TheVariants as state
 use Rattle.sc_session.specs.Changing.{at_rest, come_with, kept, past_with, state_with, stays, versions, with_modules}
 use Rattle.sc_session.specs.Going.{in_state}
-use Rattle.sc_session.specs.Mixing.{Becomes, NeedsImage, Relinks, Settles, Unsettled, returned}
+use Rattle.sc_session.specs.Mixing.{Becomes, IsUnlinked, LacksImage, Relinks, Settles, Unsettled, returned}
+use Rattle.sc_session.specs.Placing.{IsImageOver}
 use Rattle.sc_session.specs.Plain.{Plain}
 use Rattle.sc_session.specs.Loading.{Takes, conflict, in_place, numbers_with, with_module}
 use Rattle.sc_session.specs.Modules.{present_of, texts}
-use Rattle.sc_session.specs.Transcript.{Changes, Closes, Joins, LacksImage, LacksPlace, TakesPlace, changed_to, said_of, text_conflict}
+use Rattle.sc_session.specs.Transcript.{Changes, Closes, Joins, TakesPlace, changed_to, said_of, text_conflict}
 
 taken_back : {A : Type 0} (xs ys : List A) → take (length xs) (xs ++ ys) ≡ xs
 taken_back [] ys = refl
@@ -42,13 +43,13 @@ changed_by b session loaded numbers placed = record session {
 }
 
 -- where no run goes on, all is as it is
-rests_so : (b : Bool) → Relinks b state.Idle state.Idle
-rests_so b = refl
+rests_so : (Is : Image → Type 0) (b : Bool) → Relinks Is b state.Idle state.Idle
+rests_so Is b = refl
 
 settled_so : (b : Bool) (old : Plain) (loaded : ℕ) (numbers : List Key) (placed : List Present) (after : Plain)
     → Settles b (record (kept b old) { modules = placed; numbers = numbers; loaded = loaded }) after → Becomes (changed_by b old loaded numbers placed) after
 settled_so true old loaded numbers placed after settles = settles
-settled_so false old loaded numbers placed after settles = (state.Idle, rests_so (are_sources (texts placed)), settles)
+settled_so false old loaded numbers placed after settles = (state.Idle, rests_so (IsImageOver [] placed numbers) (are_sources (texts placed)), settles)
 
 kept_modules : (b : Bool) (session : Plain) → (kept b session).modules ≡ session.modules
 kept_modules true session = refl
@@ -80,7 +81,20 @@ modules_changed old mid after b change modules is stayed changed settles =
   where
     by : (b : Bool) → Settles b (record (kept b old) { modules = change old.modules }) after → Becomes (changed_by b old old.loaded old.numbers (change old.modules)) after
     by true p = p
-    by false p = (state.Idle, rests_so (are_sources (texts (change old.modules))), p)
+    by false p = (state.Idle, rests_so (IsImageOver [] (change old.modules) old.numbers) (are_sources (texts (change old.modules))), p)
+
+-- what has no room for that is as the modules would be
+pub modules_unlinked : (old mid : Plain) (b : Bool) (change : List Present → List Present) (modules : List Present) (f : ImageFault) → mid ≡ kept b old → b ≡ stays old.state
+    → modules ≡ change mid.modules → Unsettled b (record mid { modules = modules }) f → IsUnlinked (with_modules (change old.modules) old) f
+modules_unlinked old mid b change modules f is stayed changed unsettled =
+    let placed : modules ≡ change old.modules = changed ∙ ap (λ s. change s.modules) is ∙ ap change (kept_modules b old) in
+    let here : Unsettled b (record (kept b old) { modules = change old.modules }) f =
+    subst (λ s. Unsettled b (record s { modules = change old.modules }) f) is (subst (λ ps. Unsettled b (record mid { modules = ps }) f) placed unsettled) in
+    subst (λ x. IsUnlinked (changed_by x old old.loaded old.numbers (change old.modules)) f) stayed (by b here)
+  where
+    by : (b : Bool) → Unsettled b (record (kept b old) { modules = change old.modules }) f → IsUnlinked (changed_by b old old.loaded old.numbers (change old.modules)) f
+    by true p = p
+    by false p = absurd p
 
 pub modules_back : (old mid after : Plain) (b : Bool) (back modules : List Present) (before n : ℕ) (f : ImageFault) → (b ≡ true → back ≡ old.modules) → mid ≡ kept b old → before ≡ length old.past → n ≡ length old.numbers
     → Unsettled b (record mid { modules = modules }) f → after ≡ returned back before n (record mid { modules = modules }) → after ≡ old
@@ -116,13 +130,13 @@ module _ (old : Plain) (b : Bool) (among : List (List Text)) (back : List Presen
   )
 
   -- it had no room in the image of the run, or no memory was left
-  unplaced : (b : Bool) (f : ImageFault) (modules : List Present) (numbers : List Key) → (b ≡ true → back ≡ old.modules) → modules ≡ place old.modules new → take n numbers ≡ old.numbers
-      → Unsettled b (record (kept b old) { modules = modules; numbers = numbers }) f → after ≡ returned back before n (record (kept b old) { modules = modules; numbers = numbers })
+  unplaced : (b : Bool) (f : ImageFault) (modules : List Present) (numbers : List Key) → (b ≡ true → back ≡ old.modules) → b ≡ stays old.state → modules ≡ place old.modules new → numbers ≡ numbers_with old.numbers new.text.core
+      → take n numbers ≡ old.numbers → Unsettled b (record (kept b old) { modules = modules; numbers = numbers }) f → after ≡ returned back before n (record (kept b old) { modules = modules; numbers = numbers })
       → Changes old loaded new (place old.modules new) (said_of f) after
-  unplaced true (short.Space a) modules numbers same placed again unsettled is =
-      (inr (subst (λ ps. NeedsImage (are_sources (texts ps)) old.state) placed unsettled), back_so true old back modules numbers before n (short.Space a) after same at again unsettled is)
-  unplaced true short.NoMemory modules numbers same placed again unsettled is = back_so true old back modules numbers before n short.NoMemory after same at again unsettled is
-  unplaced false f modules numbers same placed again unsettled is = absurd unsettled
+  unplaced true (short.Space a) modules numbers same stayed placed numbered again unsettled is =
+      (inr (subst (λ s. LacksImage s a) (λ i. changed_by (stayed i) old loaded (numbered i) (placed i)) unsettled), back_so true old back modules numbers before n (short.Space a) after same at again unsettled is)
+  unplaced true short.NoMemory modules numbers same stayed placed numbered again unsettled is = back_so true old back modules numbers before n short.NoMemory after same at again unsettled is
+  unplaced false f modules numbers same stayed placed numbered again unsettled is = absurd unsettled
 
   undone_by : (modules : List Present) (numbers : List Key) → modules ≡ old.modules → numbers ≡ old.numbers
       → after ≡ record (kept b old) { modules = modules; numbers = numbers; past = take before (kept b old).past } → after ≡ old
@@ -135,7 +149,7 @@ module _ (old : Plain) (b : Bool) (among : List (List Text)) (back : List Presen
       subst (λ t. Changes old loaded new (place old.modules new) t after) (sym is) (joined_by modules numbers takes settles)
   by_taken taken.Joined said modules numbers (goes, placed, (numbered, front)) (inr (f, unsettled, is, put)) =
       subst (λ t. Changes old loaded new (place old.modules new) t after) (sym is)
-      (unplaced b f modules numbers same placed (ap (λ k. take k numbers) many ∙ front) unsettled put)
+      (unplaced b f modules numbers same stayed placed numbered (ap (λ k. take k numbers) many ∙ front) unsettled put)
   by_taken (taken.Denied d) said modules numbers (denied, placed, numbered) (is, settled) =
       subst (λ t. Changes old loaded new (place old.modules new) t after) (sym is) (inl (denied_so d denied), undone_by modules numbers placed numbered settled)
   by_taken taken.NoMemory said modules numbers (placed, numbered) (is, settled) =
@@ -151,14 +165,6 @@ module _ (old : Plain) (b : Bool) (among : List (List Text)) (back : List Presen
       (subst (λ s. Takes among s.modules s.numbers new (place s.modules new) t modules numbers) is takes)))
       (subst (λ s. Closes (record s { modules = modules; numbers = numbers }) back before n b loaded t said after) is closes)
 
-lacks_new : (old : Plain) (new : Present) (d : Denied) → LacksPlace old (with_module old.modules new) d → LacksImage old new d
-lacks_new old new (denied.Space a) p = inl p
-lacks_new old new _ p = absurd p
-
-lacks_anew : (old : Plain) (new : Present) (d : Denied) → LacksPlace old (in_place old.modules new) d → LacksImage old new d
-lacks_anew old new (denied.Space a) p = inr p
-lacks_anew old new _ p = absurd p
-
 -- a module that was translated
 pub joins : (old : Plain) (built : Built) (loaded : ℕ) (new : Present) (t : Taken) (after : Plain) → loaded ≡ old.loaded + 1 → new ≡ present_of old.loaded built
     → Changes old loaded new (with_module old.modules new) t after → Joins old built t after
@@ -167,14 +173,9 @@ joins old built loaded new t after more made changes =
     (subst (λ n. Changes old n (present_of old.loaded built) (with_module old.modules (present_of old.loaded built)) t after) more
     (subst (λ p. Changes old loaded p (with_module old.modules p) t after) made changes))
   where
-    denied_by : (d : Denied) → ((text_conflict old (present_of old.loaded built).text ≡ Some d) ⊎ LacksPlace old (with_module old.modules (present_of old.loaded built)) d)
-        → (text_conflict old (present_of old.loaded built).text ≡ Some d) ⊎ LacksImage old (present_of old.loaded built) d
-    denied_by d (inl e) = inl e
-    denied_by d (inr p) = inr (lacks_new old (present_of old.loaded built) d p)
-
     by : (t : Taken) → Changes old (old.loaded + 1) (present_of old.loaded built) (with_module old.modules (present_of old.loaded built)) t after → Joins old built t after
     by taken.Joined p = p
-    by (taken.Denied d) p = (denied_by d p.0, p.1)
+    by (taken.Denied d) p = p
     by taken.NoMemory p = p
 
 pub takes_place : (old : Plain) (built : Built) (loaded : ℕ) (new : Present) (t : Taken) (after : Plain) → loaded ≡ old.loaded + 1 → new ≡ present_of old.loaded built
@@ -184,12 +185,7 @@ takes_place old built loaded new t after more made changes =
     (subst (λ n. Changes old n (present_of old.loaded built) (in_place old.modules (present_of old.loaded built)) t after) more
     (subst (λ p. Changes old loaded p (in_place old.modules p) t after) made changes))
   where
-    denied_by : (d : Denied) → ((text_conflict old (present_of old.loaded built).text ≡ Some d) ⊎ LacksPlace old (in_place old.modules (present_of old.loaded built)) d)
-        → (text_conflict old (present_of old.loaded built).text ≡ Some d) ⊎ LacksImage old (present_of old.loaded built) d
-    denied_by d (inl e) = inl e
-    denied_by d (inr p) = inr (lacks_anew old (present_of old.loaded built) d p)
-
     by : (t : Taken) → Changes old (old.loaded + 1) (present_of old.loaded built) (in_place old.modules (present_of old.loaded built)) t after → TakesPlace old built t after
     by taken.Joined p = p
-    by (taken.Denied d) p = (denied_by d p.0, p.1)
+    by (taken.Denied d) p = p
     by taken.NoMemory p = p

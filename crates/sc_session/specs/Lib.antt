@@ -10,6 +10,7 @@ pub mod Showing
 pub mod Going
 pub mod Compiling
 pub mod Linking
+pub mod Placing
 pub mod Swapping
 pub mod Mixing
 pub mod Probing

@@ -16,6 +16,7 @@ use Rattle.sc_session_forms.specs.Halts.{MixedGone}
 use Rattle.sc_session_show.specs.Visible.{print_line_in}
 use Rattle.sc_words.specs.declared.answer.Answer.{Answer}
 use Rattle.sc_words.specs.declared.answer.Answer.TheVariants as answer
+use Rattle.sc_words.specs.declared.denied.Area.{Area}
 use Rattle.sc_words.specs.declared.denied.Denied.TheVariants as denied
 use Rattle.sc_words.specs.declared.stop.StopAt.{StopAt}
 use Rattle.sc_words.specs.declared.stop.Walk.{Walk}
@@ -33,6 +34,7 @@ use Rattle.sc_session.specs.Changing.{at_rest, caught_up, compiled_held, scopes_
 use Rattle.sc_session.specs.Going.{IsGivenUp, Walks, in_state}
 use Rattle.sc_session.specs.Linking.{IsImage, LacksRoom}
 use Rattle.sc_session.specs.Modules.{texts}
+use Rattle.sc_session.specs.Placing.{IsImageOver, LacksRoomOver}
 use Rattle.sc_session.specs.Plain.{Plain}
 use Rattle.sc_session.specs.Showing.{ShowsCalls, ShowsValue, sight_of}
 use Rattle.sc_session.specs.Stopping.{places}
@@ -57,24 +59,27 @@ IsActive _ = Unit {0}
 
 -- ---- a change of the modules
 
--- a run of interpreted modules goes on as one, or as one of both forms over an image, where some module has object form
-abbrev pub GoesOver : Bool → Option Alone → State → Type 0
-GoesOver true r s = s ≡ state.Stopped r
-GoesOver false r s = (i : Image) × (m : Standing) × IsTakenFrom r i m × (s ≡ state.StoppedMixed m)
+-- a run of interpreted modules goes on as one, or as one of both forms over such an image, where some module has object form
+abbrev pub GoesOver : (Image → Type 0) → Bool → Option Alone → State → Type 0
+GoesOver Is true r s = s ≡ state.Stopped r
+GoesOver Is false r s = (i : Image) × (m : Standing) × Is i × IsTakenFrom r i m × (s ≡ state.StoppedMixed m)
 
 -- what a run becomes that stands at a stop as the modules change, by whether all of them are interpreted then; a run of both forms goes on
--- over another image
-abbrev pub Relinks : Bool → State → State → Type 0
-Relinks b (state.Stopped r) s = GoesOver b r s
-Relinks b (state.StoppedMixed m) s = (i : Image) × (s ≡ state.StoppedMixed (record m { image = i }))
-Relinks b state.Idle s = s ≡ state.Idle
-Relinks b (state.Paused r) s = s ≡ state.Paused r
-Relinks b (state.PausedMixed m) s = s ≡ state.PausedMixed m
-Relinks b state.Ended s = s ≡ state.Ended
+-- over another such image
+abbrev pub Relinks : (Image → Type 0) → Bool → State → State → Type 0
+Relinks Is b (state.Stopped r) s = GoesOver Is b r s
+Relinks Is b (state.StoppedMixed m) s = (i : Image) × Is i × (s ≡ state.StoppedMixed (record m { image = i }))
+Relinks Is b state.Idle s = s ≡ state.Idle
+Relinks Is b (state.Paused r) s = s ≡ state.Paused r
+Relinks Is b (state.PausedMixed m) s = s ≡ state.PausedMixed m
+Relinks Is b state.Ended s = s ≡ state.Ended
 
--- the session is this one, but for the image of its run
+abbrev pub BecomesOver : (Image → Type 0) → Bool → Plain → Plain → Type 0
+BecomesOver Is b session new = (s : State) × Relinks Is b session.state s × (new ≡ in_state s session)
+
+-- the session is this one, but for the image of its run: that is the one of all that is placed, linked from scratch
 abbrev pub BecomesBy : Bool → Plain → Plain → Type 0
-BecomesBy b session new = (s : State) × Relinks b session.state s × (new ≡ in_state s session)
+BecomesBy b session new = BecomesOver (IsImageOver session.past session.modules session.numbers) b session new
 
 abbrev pub Becomes : Plain → Plain → Type 0
 Becomes session new = BecomesBy (are_sources (texts session.modules)) session new
@@ -93,9 +98,12 @@ Settles false session new = new ≡ at_rest session
 abbrev pub NeedsImage : Bool → State → Type 0
 NeedsImage b s = needs_image b s ≡ true
 
--- why it does not: an area has no room, or no memory was left
+-- why it does not: this area has no room for what its modules place; or no memory was left
+abbrev pub LacksImage : Plain → Area → Type 0
+LacksImage session a = NeedsImage (are_sources (texts session.modules)) session.state × LacksRoomOver session.past session.modules session.numbers a
+
 abbrev pub IsUnlinked : Plain → ImageFault → Type 0
-IsUnlinked session (short.Space a) = NeedsImage (are_sources (texts session.modules)) session.state
+IsUnlinked session (short.Space a) = LacksImage session a
 IsUnlinked session short.NoMemory = Unit {0}
 
 abbrev pub Unsettled : Bool → Plain → ImageFault → Type 0

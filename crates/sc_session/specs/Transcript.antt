@@ -42,7 +42,7 @@ use Rattle.sc_session.specs.Showing.{Lists}
 use Rattle.sc_session.specs.Compiling.{Compiles, object_file}
 use Rattle.sc_session.specs.Going.{in_state, stays_in_line, has_main, IsInput, InputDenied, IsCutOff, IsGivenUp, Gains, WalkFirst, Begins, BeginFirst}
 use Rattle.sc_session.specs.Linking.{HasRoom, LacksRoom, with_form}
-use Rattle.sc_session.specs.Mixing.{is_mixed, Becomes, MixedBegins, NeedsImage, Settles, ShowsCallsBy, ShowsValueBy, Unsettled, WalksBy, returned}
+use Rattle.sc_session.specs.Mixing.{is_mixed, Becomes, LacksImage, MixedBegins, Settles, ShowsCallsBy, ShowsValueBy, Unsettled, WalksBy, returned}
 use Rattle.sc_session.specs.Swapping.{HasBytes, NotKept}
 
 -- A session between two commands, what the files hold then where they tell it, and how often they have failed.
@@ -103,19 +103,6 @@ text_conflict session new = conflict (versions session) (texts session.modules) 
 abbrev pub conflicts : Plain → Built → Option Denied
 conflicts session built = text_conflict session (present_of session.loaded built).text
 
--- a run that stays, of which some module is compiled, has no room for it in its image
-abbrev pub LacksImage : Plain → Present → Denied → Type 0
-LacksImage session new (denied.Space a) = NeedsImage (are_sources (texts (with_module session.modules new))) session.state ⊎ NeedsImage (are_sources (texts (in_place session.modules new))) session.state
-LacksImage session new d = ⊥
-
--- why the module of a file does not go with the others
-abbrev pub Clashes : Moment → List ℕ → List ℕ → Denied → Type 0
-Clashes old file name d =
-    (built : Built) × Builds old.held file name built × ((conflicts old.session built ≡ Some d) ⊎ LacksImage old.session (present_of old.session.loaded built) d)
-
-abbrev pub FileDenied : Moment → List ℕ → List ℕ → ℕ → Denied → Type 0
-FileDenied old file name now d = NotBuilt old.held old.faults now file name d ⊎ Clashes old file name d
-
 -- the module of a file, which goes with the others
 pub record Fits (old : Moment) (file name : List ℕ) (built : Built) : Type 0 where
   pub builds : Builds old.held file name built
@@ -141,19 +128,32 @@ unloaded session name = with_modules (without name session.modules) session
 abbrev pub swapped : Plain → List ℕ → Form → Plain
 swapped session name f = with_modules (with_form name f session.modules) session
 
+-- The session would be this one, but its run, which stays, has no room for that in its image.
+abbrev pub LacksPlace : Plain → Denied → Type 0
+LacksPlace changed (denied.Space a) = LacksImage changed a
+LacksPlace changed d = ⊥
+
+-- why the module of a file does not go with the others, where the session would be this one with it
+abbrev pub Clashes : Moment → (Plain → Built → Plain) → List ℕ → List ℕ → Denied → Type 0
+Clashes old changed file name d =
+    (built : Built) × Builds old.held file name built × ((conflicts old.session built ≡ Some d) ⊎ LacksPlace (changed old.session built) d)
+
+abbrev pub FileDenied : Moment → (Plain → Built → Plain) → List ℕ → List ℕ → ℕ → Denied → Type 0
+FileDenied old changed file name now d = NotBuilt old.held old.faults now file name d ⊎ Clashes old changed file name d
+
 -- the file of the module's object is the object that the session keeps
 abbrev pub IsKept : Moment → List ℕ → Type 0
 IsKept old name = (object : Object) × (object_named old.session.modules name ≡ Some object) × HasBytes old.held (object_file name) (spelled object)
 
--- outside of a run the image of the modules has room or not; in one that stays it goes by all that was placed since its start, of which
--- nothing is said here
+-- Outside of a run the image of the modules has room or not. In one that stays it goes by all that was placed since its start; where there
+-- is room, the run has that image (`Becomes`).
 abbrev pub HasRoomBy : Bool → List Present → List Key → Type 0
 HasRoomBy true modules numbers = Unit {0}
 HasRoomBy false modules numbers = HasRoom modules numbers
 
-abbrev pub LacksRoomBy : Bool → List Present → List Key → Area → Type 0
-LacksRoomBy true modules numbers a = Unit {0}
-LacksRoomBy false modules numbers a = LacksRoom modules numbers a
+abbrev pub LacksRoomBy : Bool → Plain → Area → Type 0
+LacksRoomBy true changed a = LacksImage changed a
+LacksRoomBy false changed a = LacksRoom changed.modules changed.numbers a
 
 -- a module may have a form: any may be interpreted; the object of one that is not has to be in its file, and to have room
 abbrev pub Allows : Moment → List ℕ → Form → Type 0
@@ -162,7 +162,7 @@ Allows old name form.Object = IsKept old name × HasRoomBy (stays old.session.st
 
 -- why it may not
 abbrev pub SwapDenied : Moment → List ℕ → ℕ → Denied → Type 0
-SwapDenied old name now (denied.Space a) = IsKept old name × LacksRoomBy (stays old.session.state) (with_form name form.Object old.session.modules) old.session.numbers a
+SwapDenied old name now (denied.Space a) = IsKept old name × LacksRoomBy (stays old.session.state) (swapped old.session name form.Object) a
 SwapDenied old name now d =
     (object : Object) × (object_named old.session.modules name ≡ Some object) × NotKept old.held (object_file name) object old.faults now d
 
@@ -183,7 +183,7 @@ unformed form.Object short.NoMemory = answer.NoMemory
 abbrev pub Reforms : Plain → List ℕ → Answer → Plain → Type 0
 Reforms session name (answer.Swapped m g) new =
     (m ≡ name) × (g ≡ form.Object) × HasRoomBy (stays session.state) (with_form name form.Object session.modules) session.numbers × Becomes (swapped session name form.Object) new
-Reforms session name (answer.Refused (denied.Space a)) new = (new ≡ session) × LacksRoomBy (stays session.state) (with_form name form.Object session.modules) session.numbers a
+Reforms session name (answer.Refused (denied.Space a)) new = (new ≡ session) × LacksRoomBy (stays session.state) (swapped session name form.Object) a
 Reforms session name answer.NoMemory new = new ≡ session
 Reforms session name _ new = ⊥
 
@@ -197,7 +197,7 @@ Unloads session name _ new = ⊥
 abbrev pub Loads : Moment → List ℕ → List ℕ → Answer → Moment → Type 0
 Loads old name file (answer.Loaded m) new =
     (m ≡ name) × ((built : Built) × Fits old file name built × Becomes (joined old.session built) new.session × (new.held ≡ old.held))
-Loads old name file (answer.Refused d) new = Leaves old new old.session × FileDenied old file name new.faults d
+Loads old name file (answer.Refused d) new = Leaves old new old.session × FileDenied old joined file name new.faults d
 Loads old name file answer.NoMemory new = Leaves old new old.session
 Loads old name file _ new = ⊥
 
@@ -205,25 +205,21 @@ Loads old name file _ new = ⊥
 abbrev pub Edits : Moment → List ℕ → List ℕ → Answer → Moment → Type 0
 Edits old name file (answer.Edited m) new =
     (m ≡ name) × ((built : Built) × Fits old file name built × Becomes (replaced old.session built) new.session × (new.held ≡ old.held))
-Edits old name file (answer.Refused d) new = Leaves old new old.session × FileDenied old file name new.faults d
+Edits old name file (answer.Refused d) new = Leaves old new old.session × FileDenied old replaced file name new.faults d
 Edits old name file answer.NoMemory new = Leaves old new old.session
 Edits old name file _ new = ⊥
 
 -- a module gets a form where nothing speaks against it
 abbrev pub Forms : Plain → List ℕ → Form → Answer → Plain → Type 0
 Forms session name f (answer.Swapped m g) new = (m ≡ name) × (g ≡ f) × Becomes (swapped session name f) new
-Forms session name f (answer.Refused (denied.Space a)) new = (f ≡ form.Object) × (stays session.state ≡ true) × (new ≡ session)
+Forms session name f (answer.Refused (denied.Space a)) new = (f ≡ form.Object) × (stays session.state ≡ true) × LacksImage (swapped session name f) a × (new ≡ session)
 Forms session name f answer.NoMemory new = new ≡ session
 Forms session name f _ new = ⊥
-
-abbrev pub LacksPlace : Plain → List Present → Denied → Type 0
-LacksPlace session placed (denied.Space a) = NeedsImage (are_sources (texts placed)) session.state
-LacksPlace session placed d = ⊥
 
 -- what became of a text that has this number of a next one behind it, where the modules are placed so with it
 abbrev pub Changes : Plain → ℕ → Present → List Present → Taken → Plain → Type 0
 Changes session loaded new placed taken.Joined after = (text_conflict session new.text ≡ None) × Becomes (changed_to session loaded new placed) after
-Changes session loaded new placed (taken.Denied d) after = ((text_conflict session new.text ≡ Some d) ⊎ LacksPlace session placed d) × (after ≡ session)
+Changes session loaded new placed (taken.Denied d) after = ((text_conflict session new.text ≡ Some d) ⊎ LacksPlace (changed_to session loaded new placed) d) × (after ≡ session)
 Changes session loaded new placed taken.NoMemory after = after ≡ session
 
 -- the modules have changed, and the session is closed behind that; or all is as it was kept
@@ -246,13 +242,13 @@ Closes session back before n stayed loaded taken.NoMemory said new = (said ≡ t
 -- what became of a module that was translated
 abbrev pub Joins : Plain → Built → Taken → Plain → Type 0
 Joins old built taken.Joined new = (conflicts old built ≡ None) × Becomes (joined old built) new
-Joins old built (taken.Denied d) new = ((conflicts old built ≡ Some d) ⊎ LacksImage old (present_of old.loaded built) d) × (new ≡ old)
+Joins old built (taken.Denied d) new = ((conflicts old built ≡ Some d) ⊎ LacksPlace (joined old built) d) × (new ≡ old)
 Joins old built taken.NoMemory new = new ≡ old
 
 -- and of one that was translated anew
 abbrev pub TakesPlace : Plain → Built → Taken → Plain → Type 0
 TakesPlace old built taken.Joined new = (conflicts old built ≡ None) × Becomes (replaced old built) new
-TakesPlace old built (taken.Denied d) new = ((conflicts old built ≡ Some d) ⊎ LacksImage old (present_of old.loaded built) d) × (new ≡ old)
+TakesPlace old built (taken.Denied d) new = ((conflicts old built ≡ Some d) ⊎ LacksPlace (replaced old built) d) × (new ≡ old)
 TakesPlace old built taken.NoMemory new = new ≡ old
 
 -- why `run` is refused

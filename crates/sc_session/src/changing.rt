@@ -3,7 +3,6 @@ ghost use Rattle.std.specs.Prelude.{◌≡◌, ◌≤◌, true, None, MatchResul
 ghost use Rattle.sc_words.specs.Commands.{IsFile};
 ghost use Rattle.sc_words.specs.Parts.{is_module_name};
 ghost use Rattle.sc_session.specs.Changing as changing;
-ghost use Rattle.sc_session.specs.Linking as linking;
 ghost use Rattle.sc_session.specs.Loading as loading;
 ghost use Rattle.sc_session.specs.Mixing as mixing;
 ghost use Rattle.sc_session.specs.Modules.{texts};
@@ -23,7 +22,7 @@ use crate::versions::{kept_count, put_version, stays};
 use sc_base::{Form, Items, Name, NoMemory};
 use sc_build::{Built, build};
 use sc_outside::Files;
-use sc_words::{Answer, Area, Denied};
+use sc_words::{Answer, Denied};
 use std::alloc::Global;
 use std::mem;
 
@@ -392,26 +391,11 @@ impl Session {
         if stays(&self.state) {
             return self.reform(alloc, name, Form::Object);
         }
-        match full_with(
-            alloc,
-            &name,
-            Form::Object,
-            self.modules.as_slice(),
-            &self.numbers,
-        ) {
-            Ok(full) => self.swap_where(alloc, name, full),
-            Err(_) => {
-                drop(name);
-                Answer::NoMemory
-            }
-        }
-    }
-
-    // The same by the area that has no room, if one has none.
-    fn swap_where(&mut self, alloc: Global, name: Name, full: Option<Area>) -> Answer
-        requires { linking.RoomSaid (linking.with_form name Form.Object self.old.modules) self.old.numbers full }
-        ensures { spec.Reforms self.old name result self.new }
-    {
+        let modules = self.modules.as_slice();
+        let Ok(full) = full_with(alloc, &name, Form::Object, modules, &self.numbers) else {
+            drop(name);
+            return Answer::NoMemory;
+        };
         match full {
             None => self.reform(alloc, name, Form::Object),
             Some(area) => {

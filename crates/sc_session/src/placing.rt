@@ -1,16 +1,24 @@
 // Where the modules of a run are placed, version by version.
+ghost use Rattle.std.specs.Prelude.{◌≡◌, ◌++◌, ◌∷◌, [], map, IfErr, IfOk, MatchOption, None, OnOk, Some};
+ghost use Rattle.sc_image.specs.Placing.{IsFull};
+ghost use Rattle.sc_image.specs.Running as running;
+ghost use Rattle.sc_mixed.specs.Changing as changing;
+ghost use Rattle.sc_session.specs.Linking.{linking_of};
+ghost use Rattle.sc_session.specs.Modules.{texts};
+ghost use Rattle.sc_session.specs.Placing as spec;
+
 use crate::linking::{ImageFault, image_fault, linking, linkings};
 use crate::present::{Present, is_named, texts_of};
-use sc_base::{Form, Items, Key, NoMemory};
-use sc_image::{Linking, Placements};
-use sc_link::LinkFault;
+use sc_base::{Form, Items, Key, Name, NoMemory};
+use sc_image::Placements;
 use sc_mixed::kept_keys;
 use std::alloc::Global;
 
-// The module of a version that has a module's name.
-fn former<'a>(new: &Present, old: &'a [Present]) -> Option<&'a Present> {
-    let name = &new.text.core.get().name;
-    for p in old {
+// The module of a version with a name.
+fn named<'a>(name: &Name, modules: &'a [Present]) -> Option<&'a Present>
+    ensures { MatchOption result (spec.named name.now modules.now ≡ None) (λ p. spec.named name.now modules.now ≡ Some p.now) }
+{
+    for p in modules {
         if is_named(name, p) {
             return Some(p);
         }
@@ -18,110 +26,211 @@ fn former<'a>(new: &Present, old: &'a [Present]) -> Option<&'a Present> {
     None
 }
 
-fn same_form(a: Form, b: Form) -> bool {
-    match a {
-        Form::Source => match b {
-            Form::Source => true,
-            Form::Object => false,
+/// What a module is beside that of its name in the version before: new; translated anew; in another form; or the same.
+#[derive(Clone, Copy)]
+pub enum Way {
+    New,
+    Again,
+    Formed,
+    Same,
+}
+
+fn way_by_form(before: Form, form: Form) -> Way
+    ensures { result ≡ spec.way_by_form before form }
+{
+    match before {
+        Form::Source => match form {
+            Form::Source => Way::Same,
+            Form::Object => Way::Formed,
         },
-        Form::Object => match b {
-            Form::Source => false,
-            Form::Object => true,
+        Form::Object => match form {
+            Form::Source => Way::Formed,
+            Form::Object => Way::Same,
         },
+    }
+}
+
+// Two texts with one number are the same text.
+fn way_from(before: &Present, p: &Present) -> Way
+    ensures { result ≡ spec.way_from (Some before.now) p.now }
+{
+    if before.text.number == p.text.number {
+        way_by_form(before.text.form, p.text.form)
+    } else {
+        Way::Again
+    }
+}
+
+fn way_of(old: &[Present], p: &Present) -> Way
+    ensures { result ≡ spec.way_of old.now p.now }
+{
+    match named(&p.text.core.get().name, old) {
+        Some(before) => way_from(before, p),
+        None => Way::New,
     }
 }
 
 // The keys of the objects that stay as one version follows another.
-fn kept_between(alloc: Global, old: &[Present], new: &[Present]) -> Result<Items<Key>, NoMemory> {
+fn kept_between(alloc: Global, old: &[Present], new: &[Present]) -> Result<Items<Key>, NoMemory>
+    ensures { IfOk result (λ keys. keys ≡ changing.kept_keys (texts old.now) (texts new.now)) }
+{
     let old = texts_of(alloc, old)?;
     let new = texts_of(alloc, new)?;
     kept_keys(alloc, old.as_slice(), new.as_slice())
-}
-
-fn fault(placed: Result<Placements, LinkFault>) -> Result<Placements, ImageFault> {
-    match placed {
-        Ok(placed) => Ok(placed),
-        Err(fault) => Err(image_fault(fault)),
-    }
 }
 
 // A module more, or one that is translated anew.
 fn with_module(
     alloc: Global,
     placed: &Placements,
-    new: &Present,
+    p: &Present,
     kept: &[Key],
     functions: &[Key],
-) -> Result<Placements, ImageFault> {
-    match linking(alloc, new, new.text.form) {
-        Ok(module) => fault(placed.with(alloc, &module, kept, functions)),
-        Err(_) => Err(ImageFault::NoMemory),
+) -> Result<Placements, ImageFault>
+    ensures ok { IfOk result (λ es. es ≡ running.with_module placed.now (linking_of p.now) kept.now) }
+    ensures short { IfErr result (spec.IsLacking (spec.LacksFor placed.now functions.now p.now kept.now)) }
+{
+    let Ok(module) = linking(alloc, p, p.text.form) else {
+        return Err(ImageFault::NoMemory);
+    };
+    match placed.with(alloc, &module, kept, functions) {
+        Ok(next) => Ok(next),
+        Err(fault) => Err(image_fault(fault)),
     }
 }
 
-fn copied(alloc: Global, placed: &Placements) -> Result<Placements, ImageFault> {
-    match placed.copy(alloc) {
-        Ok(same) => Ok(same),
-        Err(_) => Err(ImageFault::NoMemory),
+// A module in another form.
+fn formed(
+    alloc: Global,
+    placed: &Placements,
+    p: &Present,
+    functions: &[Key],
+) -> Result<Placements, ImageFault>
+    ensures ok { IfOk result (λ es. es ≡ running.in_form p.now.text.core.name p.now.text.form placed.now) }
+    ensures short { IfErr result (spec.IsLacking (spec.LacksFormed placed.now functions.now p.now)) }
+{
+    match placed.formed(alloc, &p.text.core.get().name, p.text.form, functions) {
+        Ok(next) => Ok(next),
+        Err(fault) => Err(image_fault(fault)),
     }
 }
 
-// One module of a version, behind those of the version before.
+// A module behind all that was placed before it.
+fn placed_so(
+    alloc: Global,
+    placed: &Placements,
+    way: Way,
+    p: &Present,
+    kept: &[Key],
+    functions: &[Key],
+) -> Result<Placements, ImageFault>
+    ensures ok { IfOk result (λ es. es ≡ spec.placed_so way kept.now p.now placed.now) }
+    ensures short { IfErr result (spec.IsLacking (spec.LacksSo way functions.now kept.now p.now placed.now)) }
+{
+    match way {
+        Way::New => with_module(alloc, placed, p, &[], functions),
+        Way::Again => with_module(alloc, placed, p, kept, functions),
+        Way::Formed => formed(alloc, placed, p, functions),
+        Way::Same => match placed.copy(alloc) {
+            Ok(same) => Ok(same),
+            Err(_) => Err(ImageFault::NoMemory),
+        },
+    }
+}
+
+// The same of a module of a version, where the modules of the version before were these.
 fn module_placed(
     alloc: Global,
     placed: &Placements,
     old: &[Present],
-    new: &Present,
+    p: &Present,
     kept: &[Key],
     functions: &[Key],
-) -> Result<Placements, ImageFault> {
-    let Some(before) = former(new, old) else {
-        return with_module(alloc, placed, new, &[], functions);
-    };
-    if before.text.number != new.text.number {
-        return with_module(alloc, placed, new, kept, functions);
-    }
-    if same_form(before.text.form, new.text.form) {
-        return copied(alloc, placed);
-    }
-    let name = &new.text.core.get().name;
-    fault(placed.formed(alloc, name, new.text.form, functions))
+) -> Result<Placements, ImageFault>
+    ensures ok { IfOk result (λ es. es ≡ spec.placed_so (spec.way_of old.now p.now) kept.now p.now placed.now) }
+    ensures short { IfErr result (spec.IsLacking (spec.LacksSo (spec.way_of old.now p.now) functions.now kept.now p.now placed.now)) }
+{
+    let way = way_of(old, p);
+    placed_so(alloc, placed, way, p, kept, functions)
 }
 
-// The modules of the version before that are gone.
+// The modules of a version, behind those of the version before.
+fn modules_placed(
+    alloc: Global,
+    placed: &Placements,
+    old: &[Present],
+    new: &[Present],
+    kept: &[Key],
+    functions: &[Key],
+) -> Result<Placements, ImageFault>
+    ensures ok { IfOk result (λ es. es ≡ spec.modules_over old.now kept.now new.now placed.now) }
+    ensures short { IfErr result (spec.IsLacking (spec.LacksAmong old.now functions.now kept.now new.now placed.now)) }
+{
+    let Ok(same) = placed.copy(alloc) else {
+        return Err(ImageFault::NoMemory);
+    };
+    let mut next = same;
+    for p in new {
+        match module_placed(alloc, &next, old, p, kept, functions) {
+            Ok(more) => next = more,
+            Err(fault) => return Err(fault),
+        }
+    }
+    Ok(next)
+}
+
+// Without a module of the version before, where it is gone.
+fn without_if(
+    alloc: Global,
+    placed: Placements,
+    p: &Present,
+    new: &[Present],
+) -> Result<Placements, NoMemory>
+    ensures { IfOk result (λ es. es ≡ spec.without_if (spec.named p.now.text.core.name new.now) p.now.text.core.name placed) }
+{
+    let name = &p.text.core.get().name;
+    match named(name, new) {
+        Some(_) => Ok(placed),
+        None => placed.without(alloc, name),
+    }
+}
+
+// Without all of them that are gone.
 fn without_gone(
     alloc: Global,
     placed: Placements,
     old: &[Present],
     new: &[Present],
-) -> Result<Placements, NoMemory> {
+) -> Result<Placements, NoMemory>
+    ensures { IfOk result (λ es. es ≡ spec.without_gone old.now new.now placed) }
+{
     let mut placed = placed;
     for p in old {
-        if former(p, new).is_none() {
-            placed = placed.without(alloc, &p.text.core.get().name)?;
-        }
+        placed = without_if(alloc, placed, p, new)?;
     }
     Ok(placed)
 }
 
-// The modules of a version, behind those of the version before.
+// A version behind the one before it.
 fn version_placed(
     alloc: Global,
     placed: &Placements,
     old: &[Present],
     new: &[Present],
     functions: &[Key],
-) -> Result<Placements, ImageFault> {
+) -> Result<Placements, ImageFault>
+    ensures ok { IfOk result (λ es. es ≡ spec.version_over old.now new.now placed.now) }
+    ensures short { IfErr result (spec.IsLacking (spec.LacksIn functions.now old.now new.now placed.now)) }
+{
     let Ok(kept) = kept_between(alloc, old, new) else {
         return Err(ImageFault::NoMemory);
     };
-    let mut next = copied(alloc, placed)?;
-    for p in new {
-        next = module_placed(alloc, &next, old, p, kept.as_slice(), functions)?;
-    }
-    match without_gone(alloc, next, old, new) {
-        Ok(next) => Ok(next),
-        Err(_) => Err(ImageFault::NoMemory),
+    match modules_placed(alloc, placed, old, new, kept.as_slice(), functions) {
+        Ok(next) => match without_gone(alloc, next, old, new) {
+            Ok(next) => Ok(next),
+            Err(_) => Err(ImageFault::NoMemory),
+        },
+        Err(fault) => Err(fault),
     }
 }
 
@@ -130,17 +239,58 @@ fn first_placed(
     alloc: Global,
     modules: &[Present],
     functions: &[Key],
-) -> Result<Placements, ImageFault> {
-    let Ok(modules): Result<Items<Linking>, NoMemory> = linkings(alloc, modules) else {
+) -> Result<Placements, ImageFault>
+    ensures ok { IfOk result (λ es. es ≡ spec.placed_first modules.now) }
+    ensures short { IfErr result (spec.IsLacking (IsFull (map linking_of modules.now) functions.now)) }
+{
+    let Ok(modules) = linkings(alloc, modules) else {
         return Err(ImageFault::NoMemory);
     };
-    fault(Placements::start(alloc, modules.as_slice(), functions))
+    match Placements::start(alloc, modules.as_slice(), functions) {
+        Ok(placed) => Ok(placed),
+        Err(fault) => Err(image_fault(fault)),
+    }
 }
 
-fn add(all: &mut Items<Placements>, placed: Placements) -> Result<(), ImageFault> {
-    match all.push(placed) {
-        Ok(()) => Ok(()),
-        Err(_) => Err(ImageFault::NoMemory),
+fn add(all: &mut Items<Placements>, placed: Placements) -> Result<(), NoMemory>
+    ensures { OnOk result (all.new ≡ all.old ++ placed ∷ []) }
+{
+    all.push(placed)?;
+    Ok(())
+}
+
+// Some lists with two more.
+fn with_both(
+    all: Items<Placements>,
+    placed: Placements,
+    last: Placements,
+) -> Result<Items<Placements>, NoMemory>
+    ensures { IfOk result (λ more. more ≡ all ++ placed ∷ last ∷ []) }
+{
+    let mut all = all;
+    add(&mut all, placed)?;
+    add(&mut all, last)?;
+    Ok(all)
+}
+
+// The present modules behind all versions before them.
+fn last_placed(
+    alloc: Global,
+    all: Items<Placements>,
+    placed: Placements,
+    old: &[Present],
+    modules: &[Present],
+    functions: &[Key],
+) -> Result<Items<Placements>, ImageFault>
+    ensures ok { IfOk result (λ more. more ≡ all ++ spec.each_over old.now (modules.now ∷ []) placed) }
+    ensures short { IfErr result (spec.IsLacking (spec.LacksAfter functions.now old.now (modules.now ∷ []) placed)) }
+{
+    match version_placed(alloc, &placed, old, modules, functions) {
+        Ok(last) => match with_both(all, placed, last) {
+            Ok(more) => Ok(more),
+            Err(_) => Err(ImageFault::NoMemory),
+        },
+        Err(fault) => Err(fault),
     }
 }
 
@@ -150,20 +300,47 @@ fn all_placed(
     later: &[Items<Present>],
     modules: &[Present],
     functions: &[Key],
-) -> Result<Items<Placements>, ImageFault> {
+) -> Result<Items<Placements>, ImageFault>
+    ensures ok { IfOk result (λ all. all ≡ spec.each_placed (first.now ∷ later.now) modules.now) }
+    ensures short { IfErr result (spec.IsLacking (spec.LacksPlaces (first.now ∷ later.now) modules.now functions.now)) }
+{
     let mut all = Items::new(alloc);
     let mut old = first;
-    let mut placed = first_placed(alloc, old.as_slice(), functions)?;
+    let mut placed = match first_placed(alloc, first.as_slice(), functions) {
+        Ok(start) => start,
+        Err(fault) => return Err(fault),
+    };
     for new in later {
-        let next = version_placed(alloc, &placed, old.as_slice(), new.as_slice(), functions)?;
-        add(&mut all, placed)?;
+        let next = match version_placed(alloc, &placed, old.as_slice(), new.as_slice(), functions) {
+            Ok(next) => next,
+            Err(fault) => return Err(fault),
+        };
+        let Ok(_) = add(&mut all, placed) else {
+            return Err(ImageFault::NoMemory);
+        };
         placed = next;
         old = new;
     }
-    let last = version_placed(alloc, &placed, old.as_slice(), modules, functions)?;
-    add(&mut all, placed)?;
-    add(&mut all, last)?;
-    Ok(all)
+    last_placed(alloc, all, placed, old.as_slice(), modules, functions)
+}
+
+fn one_placed(
+    alloc: Global,
+    modules: &[Present],
+    functions: &[Key],
+) -> Result<Items<Placements>, ImageFault>
+    ensures ok { IfOk result (λ all. all ≡ spec.placed_first modules.now ∷ []) }
+    ensures short { IfErr result (spec.IsLacking (IsFull (map linking_of modules.now) functions.now)) }
+{
+    let placed = match first_placed(alloc, modules, functions) {
+        Ok(placed) => placed,
+        Err(fault) => return Err(fault),
+    };
+    let mut all = Items::new(alloc);
+    match add(&mut all, placed) {
+        Ok(_) => Ok(all),
+        Err(_) => Err(ImageFault::NoMemory),
+    }
 }
 
 /// Where the modules of each version of a run are placed: those before its changes, and the present ones.
@@ -172,13 +349,12 @@ pub fn placed_versions(
     past: &[Items<Present>],
     modules: &[Present],
     functions: &[Key],
-) -> Result<Items<Placements>, ImageFault> {
+) -> Result<Items<Placements>, ImageFault>
+    ensures ok { IfOk result (λ all. all ≡ spec.each_placed past.now modules.now) }
+    ensures short { IfErr result (spec.IsLacking (spec.LacksPlaces past.now modules.now functions.now)) }
+{
     match past {
-        [] => {
-            let mut all = Items::new(alloc);
-            add(&mut all, first_placed(alloc, modules, functions)?)?;
-            Ok(all)
-        }
+        [] => one_placed(alloc, modules, functions),
         [first, later @ ..] => all_placed(alloc, first, later, modules, functions),
     }
 }

@@ -1,8 +1,8 @@
 // A run that stands at a stop goes over to another image.
-ghost use Rattle.std.specs.Prelude.{◌≡◌, false, IfErr, IfOk, MatchResult};
-ghost use Rattle.sc_session_forms.specs.Forms as forms;
+ghost use Rattle.std.specs.Prelude.{◌≡◌, ◌+◌, [], false, drop, slice_get, IfErr, IfOk, MatchOption, MatchResult, None, Some};
+ghost use Rattle.sc_session_forms.specs.Forms.{functions_by};
 ghost use Rattle.sc_session.specs.Mixing as spec;
-ghost use Rattle.sc_session.specs.Modules.{texts};
+ghost use Rattle.sc_session.specs.Placing as placing;
 
 use crate::linking::{ImageFault, image_fault};
 use crate::placing::placed_versions;
@@ -31,7 +31,9 @@ pub struct Plan {
 
 impl Plan {
     /// Nothing is placed.
-    pub fn nowhere(alloc: Global) -> Plan {
+    pub fn nowhere(alloc: Global) -> Plan
+        ensures { result ≡ record { functions = []; held = []; placed = [] } }
+    {
         Plan {
             functions: Items::new(alloc),
             held: Items::new(alloc),
@@ -54,7 +56,7 @@ fn needs_image(state: &State, sources: bool) -> bool
     }
 }
 
-// A state whose run goes over to an image. Where no memory is left the state is given back.
+// A state whose run goes over to this image. Where no memory is left the state is given back.
 fn gone_over(
     alloc: Global,
     state: State,
@@ -63,7 +65,7 @@ fn gone_over(
     placed: &[Placed],
     functions: &[Key],
 ) -> Result<State, State>
-    ensures ok { IfOk result (spec.Relinks false state) }
+    ensures ok { IfOk result (spec.Relinks (λ i. i ≡ image) false state) }
     ensures err { IfErr result (λ back. back ≡ state) }
 {
     match state {
@@ -96,7 +98,9 @@ fn gone_over(
 }
 
 // The entries of the version with a number.
-fn placed_at(placed: &[Placements], i: usize) -> Option<&[Placed]> {
+fn placed_at(placed: &[Placements], i: usize) -> Option<&[Placed]>
+    ensures { MatchOption result (slice_get placed.now i ≡ None) (λ es. slice_get placed.now i ≡ Some es.now) }
+{
     match placed.get(i) {
         Some(p) => Some(p.as_slice()),
         None => None,
@@ -104,17 +108,36 @@ fn placed_at(placed: &[Placements], i: usize) -> Option<&[Placed]> {
 }
 
 /// The entries of the versions behind the one with a number.
-pub fn placed_from(placed: &[Placements], come: usize) -> &[Placements] {
-    match placed.split_at_checked(come) {
-        Some((_, [_, later @ ..])) => later,
-        Some((_, [])) => &[],
-        None => &[],
+pub fn placed_from(placed: &[Placements], come: usize) -> &[Placements]
+    ensures { result.now ≡ drop (come + 1) placed.now }
+{
+    if come >= placed.len() {
+        return &[];
+    }
+    let (_, later) = placed.split_at(come + 1);
+    later
+}
+
+// The image of what is placed behind the last version.
+fn last_image(alloc: Global, placed: &[Placements], functions: &[Key]) -> Result<Image, ImageFault>
+    ensures image { IfOk result (placing.IsLast placed.now functions.now) }
+    ensures short { IfErr result (placing.IsLacking (placing.LacksLast placed.now functions.now)) }
+{
+    let Some(last) = placed.last() else {
+        return Err(ImageFault::NoMemory);
+    };
+    match last.image(alloc, functions) {
+        Ok(image) => Ok(image),
+        Err(fault) => Err(image_fault(fault)),
     }
 }
 
 impl Session {
     /// What the image of a run is for that stays.
-    pub(crate) fn plan(&self, alloc: Global) -> Result<Plan, ImageFault> {
+    pub(crate) fn plan(&self, alloc: Global) -> Result<Plan, ImageFault>
+        ensures ok { IfOk result (λ plan. plan ≡ placing.plan_of self.now) }
+        ensures short { IfErr result (placing.IsLacking (placing.LacksPlaces self.now.past self.now.modules (functions_by self.now.numbers))) }
+    {
         let past = self.past.as_slice();
         let modules = self.modules.as_slice();
         let Ok(functions) = functions_by(alloc, &self.numbers) else {
@@ -123,12 +146,14 @@ impl Session {
         let Ok(held) = texts_held(alloc, past, modules) else {
             return Err(ImageFault::NoMemory);
         };
-        let placed = placed_versions(alloc, past, modules, functions.as_slice())?;
-        Ok(Plan {
-            functions,
-            held,
-            placed,
-        })
+        match placed_versions(alloc, past, modules, functions.as_slice()) {
+            Ok(placed) => Ok(Plan {
+                functions,
+                held,
+                placed,
+            }),
+            Err(fault) => Err(fault),
+        }
     }
 
     // A run that stays, and needs an image, goes over to that of the present modules.
@@ -146,23 +171,20 @@ impl Session {
     }
 
     fn relink_planned(&mut self, alloc: Global) -> Result<(), ImageFault>
-        ensures { MatchResult result (λ _. spec.BecomesBy false self.old self.new) (λ _. self.new ≡ self.old) }
+        ensures { MatchResult result (λ _. spec.BecomesBy false self.old self.new) (λ f. placing.IsLacking (placing.LacksOver self.old.past self.old.modules (functions_by self.old.numbers)) f × (self.new ≡ self.old)) }
     {
         let plan = match self.plan(alloc) {
             Ok(plan) => plan,
             Err(fault) => return Err(fault),
         };
-        let Some(last) = plan.placed.as_slice().last() else {
-            return Err(ImageFault::NoMemory);
-        };
-        match last.image(alloc, plan.functions.as_slice()) {
+        match last_image(alloc, plan.placed.as_slice(), plan.functions.as_slice()) {
             Ok(image) => self.go_over(alloc, image, &plan),
-            Err(fault) => Err(image_fault(fault)),
+            Err(fault) => Err(fault),
         }
     }
 
     fn go_over(&mut self, alloc: Global, image: Image, plan: &Plan) -> Result<(), ImageFault>
-        ensures { MatchResult result (λ _. spec.BecomesBy false self.old self.new) (λ _. self.new ≡ self.old) }
+        ensures { MatchResult result (λ _. spec.BecomesOver (λ i. i ≡ image) false self.old self.new) (λ f. (f ≡ ImageFault.NoMemory) × (self.new ≡ self.old)) }
     {
         let Some(placed) = placed_at(plan.placed.as_slice(), self.come) else {
             drop(image);

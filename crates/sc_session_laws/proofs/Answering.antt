@@ -37,6 +37,7 @@ use Rattle.sc_session.specs.declared.present.Present.{Present}
 use Rattle.sc_session.specs.Stopping.{Sets, places, with_stop, without_stop}
 use Rattle.sc_session.specs.Linking.{with_form}
 use Rattle.sc_session.specs.Mixing.{is_mixed, mixed_state, Becomes, MixedWalks, MixedWent, Relinks, WalksBy}
+use Rattle.sc_session.specs.Placing.{IsImageOver}
 use Rattle.sc_session.specs.Going as going
 use Rattle.sc_session.specs.Going.{in_state, IsCutOff, IsGivenUp, cut_off, RunsIn, Went}
 use Rattle.sc_session.specs.Probing.{Drops, without_probe}
@@ -115,10 +116,11 @@ none_follows [] modules s f = f
 none_follows (before ∷ past) modules s f = refl
 
 -- where the modules changed there is none, or none of which something is told
-relinked_follows : (b c : Bool) (past : List (List Present)) (before : List Present) (modules : List Text) (old s : State) → Relinks c (state_with b old) s → FollowsBy (past_with b past before) modules s None
-relinked_follows true c [] before modules old s p = refl
-relinked_follows true c (ps ∷ past) before modules old s p = refl
-relinked_follows false c past before modules old s p = subst (λ x. FollowsIn modules x None) (sym p) refl
+relinked_follows : (session : Plain) (b c : Bool) (past : List (List Present)) (before : List Present) (modules : List Text) (old s : State) → Relinks (IsImageOver session.past session.modules session.numbers) c (state_with b old) s
+    → FollowsBy (past_with b past before) modules s None
+relinked_follows session true c [] before modules old s p = refl
+relinked_follows session true c (ps ∷ past) before modules old s p = refl
+relinked_follows session false c past before modules old s p = subst (λ x. FollowsIn modules x None) (sym p) refl
 
 -- a run that ended is forgotten
 over_follows : (past : List (List Present)) (modules : List Text) (s : State) (run : Option Course) → (FollowsIn modules s run → run ≡ None) → FollowsBy past modules s run → run ≡ None
@@ -271,7 +273,8 @@ module _ (old : Moment) (run : Option Course) (k : Keeps old.session run) where
     moved (in_state s session) new None e (
       formed,
       subst (λ x. FollowsBy x (texts session.modules) s None) (sym past)
-          (relinked_follows (stays old.session.state) (are_sources (texts session.modules)) old.session.past old.session.modules (texts session.modules) old.session.state s (subst (λ x. Relinks (are_sources (texts session.modules)) x s) is relinks)),
+          (relinked_follows session (stays old.session.state) (are_sources (texts session.modules)) old.session.past old.session.modules (texts session.modules) old.session.state s
+          (subst (λ x. Relinks (IsImageOver session.past session.modules session.numbers) (are_sources (texts session.modules)) x s) is relinks)),
     ),
   )
 
