@@ -119,7 +119,6 @@ fn tell(pc: u32, went: Went, image: &Image, world: &mut World) -> Result<(), NoM
 
 // The next instruction alone, where somebody listens. Its note tells what it stores, too. It is the loop's, so that the instruction
 // stands in the program once, in that loop.
-#[tactic(auto, using(crate::proofs::Running::one_alone))]
 fn execute_told(image: &Image, regs: &mut Regs, world: &mut World) -> Result<Went, NoMemory>
     ensures { IfOk result (λ went. spec.Instruction image.now regs.old world.old went regs.new world.new) }
 {
