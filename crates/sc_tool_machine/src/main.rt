@@ -1,5 +1,5 @@
 //! Runs the machine on what the input says, for tests and for measuring. With no argument each line of the input is a
-//! word in hexadecimal digits, and the program prints what instruction it is read as. With `rows` each line has a word
+//! word in hexadecimal digits, and the program prints the instruction that it is read as. With `rows` each line has a word
 //! and what a1 and a2 hold, and the program prints what one step of the word comes to. With a number of steps the words
 //! are one text, and the program runs it for at most so many steps.
 #![tactic(auto)]
@@ -9,7 +9,8 @@ ghost use Rattle.std.specs.Prelude.{◌≡◌};
 mod run;
 
 use run::{row, run};
-use sc_isa::decode;
+use sc_base::{Bytes, NoMemory};
+use sc_disas::{assemble, comes_back, text};
 use std::alloc::Global;
 use std::io;
 use std::io::{BufRead, BufReader, Write};
@@ -49,15 +50,29 @@ fn words(rt: &HostRuntime, alloc: Global) -> io::Result<Vec<u32>> {
     Ok(words)
 }
 
-// What each word is read as, one a line.
+// The text of each word's instruction, one a line.
 fn instructions(alloc: Global, words: &[u32]) -> io::Result<Vec<u8>> {
-    let mut text = Vec::new(alloc);
+    let mut lines = Vec::new(alloc);
     for word in words {
-        let read = decode(*word);
-        let line = format!(in alloc; "{read:?}\n")?;
-        text.extend_from_slice(line.as_bytes())?;
+        if let Ok(line) = shown(alloc, *word) {
+            lines.extend_from_slice(line.as_slice())?;
+        }
+        lines.push(b'\n')?;
     }
-    Ok(text)
+    Ok(lines)
+}
+
+// The text of a word's instruction, once it was assembled to it again. A word that is none has none.
+fn shown(alloc: Global, word: u32) -> Result<Bytes, NoMemory> {
+    let Some(read) = comes_back(word) else {
+        return Bytes::from_slice(alloc, b"none");
+    };
+    let line = text(alloc, read)?;
+    if assemble(line.as_slice()) == Some(read) {
+        Ok(line)
+    } else {
+        Bytes::from_slice(alloc, b"assembled otherwise")
+    }
 }
 
 // What one step comes to for each three numbers, one a line.
