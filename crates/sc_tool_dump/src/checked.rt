@@ -1,5 +1,5 @@
 // What the grammar and the checker make of a unit.
-use crate::told::{put_fault, put_line, put_unread};
+use crate::output::{put_fault, put_line, put_unread};
 use sc_base::{Fault, Name, NoMemory};
 use sc_check::check;
 use sc_core::Core;

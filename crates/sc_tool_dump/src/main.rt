@@ -5,7 +5,7 @@
 
 mod checked;
 mod tokens;
-mod told;
+mod output;
 mod work;
 
 use checked::{put_core, put_tree};
@@ -14,7 +14,7 @@ use std::alloc::Global;
 use std::io;
 use std::io::Write;
 use std::process::ExitCode;
-use told::put_line;
+use output::put_line;
 use tokens::put_tokens;
 use work::put_work;
 

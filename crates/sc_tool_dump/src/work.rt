@@ -1,6 +1,6 @@
 // How a unit runs as a program of one module.
 use crate::checked::{core_of, unit_of};
-use crate::told::put_line;
+use crate::output::put_line;
 use sc_base::{Form, Items, NoMemory};
 use sc_core::Core;
 use sc_core_held::Text;
