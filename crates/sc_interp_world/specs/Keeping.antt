@@ -28,6 +28,10 @@ keeping objects store = record { objects = objects; memory = option_map memory_o
 abbrev pub beside_of : Keeping → List (StaticId × ℕ) → Beside
 beside_of k places = record { functions = k.functions; places = places; memory = k.memory }
 
+-- other functions have numbers
+abbrev pub renumbered : List Key → Kept → Kept
+renumbered fs k = record { objects = k.objects; memory = k.memory; functions = fs }
+
 -- a memory is moved, and the objects that it holds
 abbrev pub moved : (List Object → List Object) → (Store → Store) → Kept → Kept
 moved f g k = record { objects = f k.objects; memory = g k.memory; functions = k.functions }

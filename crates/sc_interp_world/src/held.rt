@@ -1,15 +1,16 @@
 // The objects of a run, and the one memory that has their bytes at addresses.
-ghost use Rattle.std.specs.Prelude.{◌≡◌, true, false, ◌∷◌, ◌++◌, [], Some, None, option_map, IfOk, IfSome, MatchOption};
+ghost use Rattle.std.specs.Prelude.{◌≡◌, true, false, ◌∷◌, ◌++◌, [], Some, None, option_map, IfOk, IfSome, MatchOption, MatchResult};
 ghost use Rattle.sc_meaning.specs.Beside as beside;
 ghost use Rattle.sc_meaning.specs.Beside.{born_in, died_in, empty_memory, kept_in, put_in, word_of};
 ghost use Rattle.sc_mem.specs.Safe as mem;
 ghost use Rattle.sc_mem.specs.Flat.{raw_read};
-ghost use Rattle.sc_interp_world.specs.Keeping.{moved, moving};
+ghost use Rattle.sc_interp_world.specs.Keeping.{functions_of, moved, moving, renumbered};
 ghost use Rattle.sc_meaning.specs.Values as value;
 ghost use Rattle.sc_meaning.specs.World as spec;
 ghost use Rattle.sc_mem.specs.Words.{IsSize};
 ghost use Rattle.sc_mem_store.specs.Holding.{value_at};
 ghost use Rattle.sc_mem_store.specs.Living.{IsLiveAt, IsLiving};
+ghost use Rattle.sc_mem_store.specs.Stray.{HasNoStray};
 
 use crate::cells::{copy_cells, unwritten};
 use crate::object::{Object, cells_at};
@@ -100,7 +101,7 @@ impl Held {
         heap: u64,
         functions: Items<Shared<Key>>,
     ) -> Result<(), NoMemory>
-        ensures { IfOk result (λ _. (s : mem.Store) × (self.new ≡ record { objects = self.old.objects; memory = Some s; functions = functions })) }
+        ensures { MatchResult result (λ _. (s : mem.Store) × (self.new ≡ record { objects = self.old.objects; memory = Some s; functions = functions })) (λ _. self.new ≡ self.old) }
     {
         if !self.whole || self.memory.is_some() {
             drop(functions);
@@ -133,15 +134,13 @@ impl Held {
     /// `NoMemory` also where a live object holds a word with the functions' tag that leads to no function, which only compiled
     /// code can have stored in an undefined step: it may be one of these functions now.
     pub fn number(&mut self, more: &[Shared<Key>]) -> Result<(), NoMemory>
-        ensures { IfOk result (λ _. MatchOption self.old.memory (self.new ≡ self.old) (λ _. self.new ≡ record self.old { functions = self.old.functions ++ more.now })) }
+        ensures same { self.new ≡ record self.old { functions = self.new.functions } }
+        ensures more { IfOk result (λ _. MatchOption self.old.memory (self.new ≡ self.old) (λ _. self.new ≡ record self.old { functions = self.old.functions ++ more.now })) }
     {
         if !self.whole || has_stray(self.objects.as_slice()) {
             return Err(NoMemory);
         }
-        match &mut self.memory {
-            None => Ok(()),
-            Some(memory) => memory.number(more),
-        }
+        number_in(&mut self.memory, more)
     }
 
     /// An object outside the heap is born at an address, its bytes unwritten. Without a memory the address is not looked at.
@@ -291,15 +290,12 @@ impl Held {
     /// Writes a word to the `size` bytes at an address that belong to no live object, where there are such bytes.
     pub fn keep(&mut self, at: u32, size: u8, w: Word) -> Result<Option<()>, NoMemory>
         requires { IsSize size }
-        ensures { IfOk result (λ kept. MatchOption kept (self.new ≡ self.old) (λ _. self.new ≡ moving (λ os. os) (kept_in at size w) self.old)) }
+        ensures { MatchResult result (λ kept. MatchOption kept (self.new ≡ self.old) (λ _. self.new ≡ moving (λ os. os) (kept_in at size w) self.old)) (λ _. self.new ≡ self.old) }
     {
         if !self.whole {
             return Err(NoMemory);
         }
-        match &mut self.memory {
-            Some(memory) => memory.keep(at, size, w),
-            None => Ok(None),
-        }
+        keep_in(&mut self.memory, at, size, w)
     }
 }
 
@@ -403,5 +399,28 @@ fn store_in_memory(
     match memory {
         None => Ok(()),
         Some(memory) => memory.store(id, at, n, v),
+    }
+}
+
+// A word is kept beside the objects of a memory, where there is one.
+fn keep_in(memory: &mut Option<Store>, at: u32, size: u8, w: Word) -> Result<Option<()>, NoMemory>
+    requires { IsSize size }
+    ensures { MatchResult result (λ kept. MatchOption kept (memory.new ≡ memory.old) (λ _. memory.new ≡ option_map (moved (λ os. os) (kept_in at size w)) memory.old)) (λ _. memory.new ≡ memory.old) }
+{
+    match memory {
+        None => Ok(None),
+        Some(memory) => memory.keep(at, size, w),
+    }
+}
+
+// More functions get the next numbers in a memory, where there is one.
+fn number_in(memory: &mut Option<Store>, more: &[Shared<Key>]) -> Result<(), NoMemory>
+    requires { IfSome memory.old (λ k. HasNoStray k.objects) }
+    ensures same { memory.new ≡ option_map (renumbered (functions_of memory.new)) memory.old }
+    ensures more { IfOk result (λ _. memory.new ≡ option_map (λ k. renumbered (k.functions ++ more.now) k) memory.old) }
+{
+    match memory {
+        None => Ok(()),
+        Some(memory) => memory.number(more),
     }
 }

@@ -1,5 +1,5 @@
 // The world of a run, and the single changes to it.
-ghost use Rattle.std.specs.Prelude.{◌≡◌, true, false, not, ℕ, ◌+◌, ◌-◌, ◌∷◌, ◌++◌, [], List, length, reverse, IfOk, IfSome, MatchOption, None, Some, slice_index, slice_set, replicate};
+ghost use Rattle.std.specs.Prelude.{◌≡◌, true, false, not, ℕ, ◌+◌, ◌-◌, ◌∷◌, ◌++◌, [], List, length, reverse, IfOk, IfSome, MatchOption, MatchResult, None, Some, slice_index, slice_set, replicate};
 ghost use Rattle.sc_meaning.specs.Beside.{born_in, empty_memory, kept_in, nothing_beside, with_memory, word_of};
 ghost use Rattle.sc_mem.specs.Safe as mem;
 ghost use Rattle.sc_mem.specs.Flat.{raw_read};
@@ -259,7 +259,7 @@ impl World {
     ///
     /// `NoMemory` also where there is a memory already, and where an object cannot stand at its address. Nothing is changed then.
     pub fn remember(&mut self, layout: Layout, bases: &[u32]) -> Result<(), NoMemory>
-        ensures { IfOk result (λ _. (s : mem.Store) × (self.new ≡ record self.old { beside = record { functions = layout.functions; places = layout.places; memory = Some s } })) }
+        ensures { MatchResult result (λ _. (s : mem.Store) × (self.new ≡ record self.old { beside = record { functions = layout.functions; places = layout.places; memory = Some s } })) (λ _. self.new ≡ self.old) }
     {
         let Layout { functions, places } = layout;
         self.objects
@@ -286,7 +286,8 @@ impl World {
     ///
     /// `NoMemory` also where a live object holds a word with the functions' tag that leads to no function.
     pub fn number(&mut self, more: &[Shared<Key>]) -> Result<(), NoMemory>
-        ensures { IfOk result (λ _. MatchOption self.old.beside.memory (self.new ≡ self.old) (λ _. self.new ≡ record self.old { beside = record self.old.beside { functions = self.old.beside.functions ++ more.now } })) }
+        ensures same { self.new ≡ record self.old { beside = record self.old.beside { functions = self.new.beside.functions } } }
+        ensures more { IfOk result (λ _. MatchOption self.old.beside.memory (self.new ≡ self.old) (λ _. self.new ≡ record self.old { beside = record self.old.beside { functions = self.old.beside.functions ++ more.now } })) }
     {
         self.objects.number(more)?;
         self.account.number(more)
@@ -746,7 +747,8 @@ impl World {
     /// has the tag of an object that was not born.
     pub fn keep(&mut self, at: u32, size: u8, w: Word) -> Result<Option<()>, NoMemory>
         requires { IsSize size }
-        ensures { IfOk result (λ kept. MatchOption kept (self.new ≡ self.old) (λ _. self.new ≡ record self.old { beside = with_memory (kept_in at size w) self.old.beside })) }
+        ensures same { self.new ≡ record self.old { beside = record self.old.beside { memory = self.new.beside.memory } } }
+        ensures kept { IfOk result (λ kept. MatchOption kept (self.new ≡ self.old) (λ _. self.new ≡ record self.old { beside = with_memory (kept_in at size w) self.old.beside })) }
     {
         let kept = self.objects.keep(at, size, w)?;
         self.account.tell_kept(at, size, w, kept.is_some())?;

@@ -292,7 +292,7 @@ impl Store {
     #[tactic(auto, using(crate::proofs::Numbering::holds_numbered))]
     fn number_one(&mut self, key: Shared<Key>) -> Result<(), NoMemory>
         requires { HasNoStray self.old.objects }
-        ensures { IfOk result (λ _. self.new ≡ record self.old { functions = self.old.functions ++ key ∷ [] }) }
+        ensures { MatchResult result (λ _. self.new ≡ record self.old { functions = self.old.functions ++ key ∷ [] }) (λ _. self.new ≡ self.old) }
     {
         self.functions.push(key)?;
         Ok(())
@@ -302,7 +302,8 @@ impl Store {
     /// are in no live object.
     pub fn number(&mut self, more: &[Shared<Key>]) -> Result<(), NoMemory>
         requires { HasNoStray self.old.objects }
-        ensures { IfOk result (λ _. self.new ≡ record self.old { functions = self.old.functions ++ more.now }) }
+        ensures same { self.new ≡ record self.old { functions = self.new.functions } }
+        ensures more { IfOk result (λ _. self.new ≡ record self.old { functions = self.old.functions ++ more.now }) }
     {
         for key in more {
             self.number_one(key.share()?)?;
@@ -366,7 +367,7 @@ impl Store {
     #[tactic(auto, using(crate::proofs::Living::holds_kept, crate::proofs::Memories::kept_stored))]
     pub fn keep(&mut self, at: u32, size: u8, w: Word) -> Result<Option<()>, NoMemory>
         requires { IsSize size }
-        ensures { IfOk result (λ kept. MatchOption kept (self.new ≡ self.old) (λ _. self.new ≡ record self.old { memory = kept_in at size w self.old.memory })) }
+        ensures { MatchResult result (λ kept. MatchOption kept (self.new ≡ self.old) (λ _. self.new ≡ record self.old { memory = kept_in at size w self.old.memory })) (λ _. self.new ≡ self.old) }
     {
         match place_at(&self.memory, at) {
             Some(_) => Ok(None),
