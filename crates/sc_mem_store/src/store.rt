@@ -2,7 +2,7 @@
 ghost use Rattle.std.specs.Prelude.{◌≡◌, ◌+◌, ◌<◌, ◌∷◌, ◌++◌, [], length, OnErr, IfOk, IfSome, IsSome, MatchOption, MatchResult, None, Some};
 ghost use Rattle.sc_objects.specs.declared.objects.Obj.{Obj};
 ghost use Rattle.sc_objects.specs.Numbered.{IsLive};
-ghost use Rattle.sc_mem.specs.Flat.{place, raw_read, with_death, written_at};
+ghost use Rattle.sc_mem.specs.Flat.{aligned_place, place, raw_read, with_death, written_at};
 ghost use Rattle.sc_meaning.specs.Beside as words;
 ghost use Rattle.sc_meaning.specs.Beside.{born_in, died_in, empty_memory, kept_in, put_in};
 ghost use Rattle.sc_mem_store.specs.Holding.{value_at};
@@ -367,7 +367,8 @@ impl Store {
     #[tactic(auto, using(crate::proofs::Living::holds_kept, crate::proofs::Memories::kept_stored))]
     pub fn keep(&mut self, at: u32, size: u8, w: Word) -> Result<Option<()>, NoMemory>
         requires { IsSize size }
-        ensures { MatchResult result (λ kept. MatchOption kept (self.new ≡ self.old) (λ _. self.new ≡ record self.old { memory = kept_in at size w self.old.memory })) (λ _. self.new ≡ self.old) }
+        ensures kept { MatchResult result (λ kept. MatchOption kept (self.new ≡ self.old) (λ _. self.new ≡ record self.old { memory = kept_in at size w self.old.memory })) (λ _. self.new ≡ self.old) }
+        ensures place { IfOk result (λ kept. IfSome kept (λ _. IsSome (aligned_place self.old.memory.flat at size))) }
     {
         match place_at(&self.memory, at) {
             Some(_) => Ok(None),
