@@ -8,7 +8,7 @@ ghost use Rattle.sc_meaning.specs.Values as value;
 ghost use Rattle.sc_meaning.specs.World as spec;
 ghost use Rattle.sc_mem.specs.Words.{IsSize};
 ghost use Rattle.sc_mem_store.specs.Holding.{value_at};
-ghost use Rattle.sc_mem_store.specs.Living.{IsLiveAt, IsLiving};
+ghost use Rattle.sc_mem_store.specs.Living.{IsByteOf, IsLiveAt, IsLiving};
 ghost use Rattle.sc_mem_store.specs.Stray.{HasNoStray};
 
 use crate::cells::{copy_cells, unwritten};
@@ -295,7 +295,8 @@ impl Held {
     /// The byte of a live object that stands at an address: `None` where the byte there belongs to no live object, and behind
     /// a change that was given up half done.
     pub fn live_at(&self, address: u32) -> Option<Place>
-        ensures { IfSome result (λ p. IsLiveAt self.now.objects p.id p.offset) }
+        ensures lives { IfSome result (λ p. IsLiveAt self.now.objects p.id p.offset) }
+        ensures place { IfSome result (λ p. IfSome self.now.memory (λ m. IsByteOf m.flat.objects p.id p.offset address)) }
     {
         if !self.whole {
             return None;

@@ -6,7 +6,7 @@ ghost use Rattle.sc_meaning.specs.Values as value;
 ghost use Rattle.sc_meaning.specs.World as spec;
 ghost use Rattle.sc_mem.specs.Words.{IsSize};
 ghost use Rattle.sc_mem_store.specs.Holding.{value_at};
-ghost use Rattle.sc_mem_store.specs.Living.{IsLiveAt, IsLiving};
+ghost use Rattle.sc_mem_store.specs.Living.{IsByteOf, IsLiveAt, IsLiving};
 ghost use Rattle.sc_interp_world.specs.Keeping.{beside_of};
 ghost use Rattle.sc_interp_world.specs.Happenings.{item_of};
 ghost use Rattle.sc_interp_world.specs.Outputs.{bytes_moved, output};
@@ -742,7 +742,8 @@ impl World {
     /// The byte of a live object that stands at an address: `None` where the byte there belongs to no live object, as just
     /// behind the last byte of one. Also `None` behind a change that was given up for want of memory.
     pub fn live_at(&self, address: u32) -> Option<Place>
-        ensures { IfSome result (λ p. IsLiveAt self.now.objects p.id p.offset) }
+        ensures lives { IfSome result (λ p. IsLiveAt self.now.objects p.id p.offset) }
+        ensures place { IfSome result (λ p. IfSome self.now.beside.memory (λ m. IsByteOf m.flat.objects p.id p.offset address)) }
     {
         self.objects.live_at(address)
     }

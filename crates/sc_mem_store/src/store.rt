@@ -313,7 +313,7 @@ impl Store {
 }
 
 impl Store {
-    ghost use Rattle.sc_mem_store.specs.Living.{IsLiveAt, IsLiving};
+    ghost use Rattle.sc_mem_store.specs.Living.{IsByteOf, IsLiveAt, IsLiving};
 
     /// The address of a live object's first byte: `None` exactly where no live object has this number.
     #[tactic(auto, using(crate::proofs::Living::living))]
@@ -327,9 +327,10 @@ impl Store {
     }
 
     /// The byte of a live object that stands at an address: `None` exactly where the byte there belongs to no live object.
-    #[tactic(auto, using(crate::proofs::Living::live_at))]
+    #[tactic(auto, using(crate::proofs::Living::live_at, crate::proofs::Living::byte_there))]
     pub fn live_at(&self, address: u32) -> Option<Place>
-        ensures { IfSome result (λ p. IsLiveAt self.now.objects p.id p.offset) }
+        ensures lives { IfSome result (λ p. IsLiveAt self.now.objects p.id p.offset) }
+        ensures place { IfSome result (λ p. IsByteOf self.now.memory.flat.objects p.id p.offset address) }
     {
         place_at(&self.memory, address)
     }
