@@ -8,7 +8,7 @@ ghost use Rattle.sc_meaning.specs.Values as value;
 ghost use Rattle.sc_meaning.specs.World as spec;
 ghost use Rattle.sc_mem.specs.Words.{IsSize};
 ghost use Rattle.sc_mem_store.specs.Holding.{value_at};
-ghost use Rattle.sc_mem_store.specs.Living.{IsByteOf, IsLiveAt, IsLiving};
+ghost use Rattle.sc_mem_store.specs.Living.{IsBare, IsByteOf, IsLiveAt, IsLiving};
 ghost use Rattle.sc_mem_store.specs.Stray.{HasNoStray};
 
 use crate::cells::{copy_cells, unwritten};
@@ -342,7 +342,7 @@ impl Held {
     pub fn keep(&mut self, at: u32, size: u8, w: Word) -> Result<Option<()>, NoMemory>
         requires { IsSize size }
         ensures kept { MatchResult result (λ kept. MatchOption kept (self.new ≡ self.old) (λ _. self.new ≡ moving (λ os. os) (kept_in at size w) self.old)) (λ _. self.new ≡ self.old) }
-        ensures place { IfOk result (λ kept. IfSome kept (λ _. MatchOption self.old.memory ⊥ (λ m. IsSome (aligned_place m.flat at size)))) }
+        ensures place { IfOk result (λ kept. IfSome kept (λ _. MatchOption self.old.memory ⊥ (λ m. IsSome (aligned_place m.flat at size) × IsBare m.flat.objects at))) }
     {
         if !self.whole {
             return Err(NoMemory);
@@ -458,7 +458,7 @@ fn store_in_memory(
 fn keep_in(memory: &mut Option<Store>, at: u32, size: u8, w: Word) -> Result<Option<()>, NoMemory>
     requires { IsSize size }
     ensures kept { MatchResult result (λ kept. MatchOption kept (memory.new ≡ memory.old) (λ _. memory.new ≡ option_map (moved (λ os. os) (kept_in at size w)) memory.old)) (λ _. memory.new ≡ memory.old) }
-    ensures place { IfOk result (λ kept. IfSome kept (λ _. MatchOption memory.old ⊥ (λ k. IsSome (aligned_place k.memory.flat at size)))) }
+    ensures place { IfOk result (λ kept. IfSome kept (λ _. MatchOption memory.old ⊥ (λ k. IsSome (aligned_place k.memory.flat at size) × IsBare k.memory.flat.objects at))) }
 {
     match memory {
         None => Ok(None),

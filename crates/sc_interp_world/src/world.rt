@@ -6,7 +6,7 @@ ghost use Rattle.sc_meaning.specs.Values as value;
 ghost use Rattle.sc_meaning.specs.World as spec;
 ghost use Rattle.sc_mem.specs.Words.{IsSize};
 ghost use Rattle.sc_mem_store.specs.Holding.{value_at};
-ghost use Rattle.sc_mem_store.specs.Living.{IsByteOf, IsLiveAt, IsLiving};
+ghost use Rattle.sc_mem_store.specs.Living.{IsBare, IsByteOf, IsLiveAt, IsLiving};
 ghost use Rattle.sc_interp_world.specs.Keeping.{beside_of};
 ghost use Rattle.sc_interp_world.specs.Happenings.{item_of};
 ghost use Rattle.sc_interp_world.specs.Outputs.{bytes_moved, output};
@@ -784,7 +784,7 @@ impl World {
         requires { IsSize size }
         ensures same { self.new ≡ record self.old { beside = record self.old.beside { memory = self.new.beside.memory } } }
         ensures kept { IfOk result (λ kept. MatchOption kept (self.new ≡ self.old) (λ _. self.new ≡ record self.old { beside = with_memory (kept_in at size w) self.old.beside })) }
-        ensures place { IfOk result (λ kept. IfSome kept (λ _. MatchOption self.old.beside.memory ⊥ (λ m. IsSome (aligned_place m.flat at size)))) }
+        ensures place { IfOk result (λ kept. IfSome kept (λ _. MatchOption self.old.beside.memory ⊥ (λ m. IsSome (aligned_place m.flat at size) × IsBare m.flat.objects at))) }
     {
         let kept = self.objects.keep(at, size, w)?;
         self.account.tell_kept(at, size, w, kept.is_some())?;

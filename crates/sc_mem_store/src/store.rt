@@ -313,7 +313,7 @@ impl Store {
 }
 
 impl Store {
-    ghost use Rattle.sc_mem_store.specs.Living.{IsByteOf, IsLiveAt, IsLiving};
+    ghost use Rattle.sc_mem_store.specs.Living.{IsBare, IsByteOf, IsLiveAt, IsLiving};
 
     /// The address of a live object's first byte: `None` exactly where no live object has this number.
     #[tactic(auto, using(crate::proofs::Living::living))]
@@ -369,7 +369,7 @@ impl Store {
     pub fn keep(&mut self, at: u32, size: u8, w: Word) -> Result<Option<()>, NoMemory>
         requires { IsSize size }
         ensures kept { MatchResult result (λ kept. MatchOption kept (self.new ≡ self.old) (λ _. self.new ≡ record self.old { memory = kept_in at size w self.old.memory })) (λ _. self.new ≡ self.old) }
-        ensures place { IfOk result (λ kept. IfSome kept (λ _. IsSome (aligned_place self.old.memory.flat at size))) }
+        ensures place { IfOk result (λ kept. IfSome kept (λ _. IsSome (aligned_place self.old.memory.flat at size) × IsBare self.old.memory.flat.objects at)) }
     {
         match place_at(&self.memory, at) {
             Some(_) => Ok(None),
