@@ -1,11 +1,17 @@
 -- What the answers to commands tell of a session's run.
-use Rattle.std.proofs.Common.{◌≡◌, inl, inr, ℕ, zero, suc, ◌||◌, Bool, true, false, if◌then◌else◌, List, [], ◌∷◌, drop, refl, ◌∙◌, sym, ap, subst, Option, Some, None}
+use Rattle.std.proofs.Common.{◌≡◌, inl, inr, ℕ, zero, suc, ◌+◌, ◌≤◌, ◌&&◌, Bool, true, false, if◌then◌else◌, List, [], ◌∷◌, ◌++◌, drop, length, refl, ◌∙◌, sym, ap, subst, arith, Option, Some, None}
 use Rattle.std.specs.List.{filter}
+use Rattle.std.proofs.lemmas.List.{length-append}
 use Rattle.std.specs.Str.{bytes_eq}
 use Rattle.sc_base.specs.declared.memory.Form.{Form}
 use Rattle.sc_core_formed.specs.Modules.{formed}
 use Rattle.sc_meaning.specs.Versions.{Text}
+use Rattle.sc_meaning.specs.World.{World}
+use Rattle.sc_meaning.specs.Behaviour.{Start}
+use Rattle.sc_meaning.specs.Laws.{with_history}
+use Rattle.sc_isa_image.specs.declared.image.Image.{Image}
 use Rattle.sc_interp.specs.Ends.{start_of}
+use Rattle.sc_interp.specs.Steady.{alone}
 use Rattle.sc_words.specs.declared.answer.Answer.{Answer}
 use Rattle.sc_words.specs.declared.answer.Answer.TheVariants as answer
 use Rattle.sc_words.specs.declared.command.Command.{Command}
@@ -17,7 +23,12 @@ use Rattle.sc_mixed.specs.Standing.{Standing as Mixed}
 use Rattle.sc_words.specs.declared.stop.Walk.{Walk}
 use Rattle.sc_words.specs.declared.stop.Walk.TheVariants as walk
 use Rattle.sc_world.specs.Goes.{started}
-use Rattle.sc_world.specs.Standing.{Standing}
+use Rattle.sc_world.specs.Changing.{changed_run, changed_standing}
+use Rattle.sc_world.specs.Standing.{Standing, world_of}
+use Rattle.sc_world_change_laws.specs.Still.{IsStill}
+use Rattle.sc_world_change_laws.specs.Through.{with_version}
+use Rattle.sc_world_change_laws.proofs.Still.{still, still_at, still_here, still_lean, still_on}
+use Rattle.sc_world_change_laws.proofs.Through.{begins_through, change_behind, change_through}
 use Rattle.sc_world_laws.specs.Formed.{AreFormed}
 use Rattle.sc_world_laws.proofs.LeanFormed.{formed_lean}
 use Rattle.sc_world_laws.proofs.Pausing.{starts_lean}
@@ -29,24 +40,24 @@ use Rattle.sc_session.specs.declared.limits.Limits.{Limits}
 use Rattle.sc_session.specs.declared.state.State.{State}
 use Rattle.sc_session.specs.declared.state.State.TheVariants as state
 use Rattle.sc_session.specs.Plain.{Plain}
-use Rattle.sc_session.specs.Changing.{at_rest, caught_up, gone_through, is_over, past_with, settled, state_with, stays, versions_by}
+use Rattle.sc_session.specs.Changing.{all_texts, at_rest, caught_up, come_with, gone_through, is_over, past_with, settled, state_with, stays, through, versions_by}
 use Rattle.sc_session.specs.States.{refusal_of, starting}
 use Rattle.sc_session.specs.Loading.{in_place, with_module, file_of, file_or}
 use Rattle.sc_session.specs.Modules.{texts, present_of}
 use Rattle.sc_session.specs.declared.present.Present.{Present}
 use Rattle.sc_session.specs.Stopping.{Sets, places, with_stop, without_stop}
 use Rattle.sc_session.specs.Linking.{with_form}
-use Rattle.sc_session.specs.Mixing.{is_mixed, mixed_state, Becomes, MixedWalks, MixedWent, Relinks, WalksBy}
+use Rattle.sc_session.specs.Mixing.{is_mixed, mixed_state, Becomes, GoesOver, MixedWalks, MixedWent, Relinks, WalksBy}
 use Rattle.sc_session.specs.Placing.{IsImageOver}
 use Rattle.sc_session.specs.Going as going
 use Rattle.sc_session.specs.Going.{in_state, IsCutOff, IsGivenUp, cut_off, RunsIn, Went}
 use Rattle.sc_session.specs.Probing.{Drops, without_probe}
-use Rattle.sc_session.specs.Transcript.{Moment, moment, empty, Loads, Edits, Swaps, joined, replaced, unloaded, swapped, forgotten, past_going, unended, asked, Unloads, RunFirst, Runs, MixedRuns, RunsBy, Carried, Decides, AnswersTo}
-use Rattle.sc_session_laws.specs.Courses.{Begins, Course, Stays, Stands, StandsBy, StandsIn, StandsSo, is_changed, is_untold, RunsSoBy, WalksSoBy, RunTells, WalkTells, Tells, IsTold}
-use Rattle.sc_session_laws.specs.Follows.{course_of, Follows, FollowsBy, FollowsIn, Keeps}
+use Rattle.sc_session.specs.Transcript.{Moment, moment, empty, Loads, Edits, Swaps, joined, replaced, unloaded, swapped, forgotten, come_going, past_going, unended, asked, Unloads, RunFirst, Runs, MixedRuns, RunsBy, Carried, Decides, AnswersTo}
+use Rattle.sc_session_laws.specs.Courses.{Begins, ChangesSo, ChangeTells, Course, Stays, Stands, StandsIn, StandsSo, changed_by, changed_course, RunsSoBy, WalksSoBy, RunTells, WalkTells, Tells, IsTold}
+use Rattle.sc_session_laws.specs.Follows.{behind_changes, course_of, Follows, FollowsIn, FollowsOn, FollowsThere, Keeps}
 use Rattle.sc_session_laws.proofs.Going.{begins, went}
 use Rattle.sc_session_laws.proofs.Starting.{starts_fresh}
-use Rattle.sc_session_laws.proofs.Working.{starts_earned}
+use Rattle.sc_session_laws.proofs.Working.{change_earned, starts_earned}
 
 -- ---- the modules stay checked
 
@@ -83,7 +94,7 @@ swapped_formed name f (q ∷ qs) p = present_formed (bytes_eq q.text.core.name n
 
 -- an answer that tells nothing of a go, and the session behind it
 abbrev pub Tells_on : Moment → Option Course → Command → List ℕ → Answer → Plain → Type 0
-Tells_on old run c front said session = (after : Option Course) × Tells old run c front said after × Keeps session after
+Tells_on old run c front said session = (after : Option Course) × Tells old run c front said (texts session.modules) after × Keeps session after
 
 same_run : (run : Option Course) → Stays run run
 same_run run = inl refl
@@ -95,117 +106,212 @@ moved : (session new : Plain) (run : Option Course) → new ≡ session → Keep
 moved session new run e k = subst (λ s. Keeps s run) (sym e) k
 
 -- a command that is refused leaves the run
-refused : (old : Moment) (run : Option Course) (c : Command) (front : List ℕ) (d : Denied) → Tells old run c front (answer.Refused d) run
-refused old run (command.Run file) front d = same_run run
-refused old run command.Step front d = same_run run
-refused old run command.Next front d = same_run run
-refused old run command.Cont front d = same_run run
-refused old run _ front d = same_run run
+refused : (old : Moment) (run : Option Course) (c : Command) (front : List ℕ) (d : Denied) (new : List Text) → Tells old run c front (answer.Refused d) new run
+refused old run (command.Run file) front d new = same_run run
+refused old run command.Step front d new = same_run run
+refused old run command.Next front d new = same_run run
+refused old run command.Cont front d new = same_run run
+refused old run (command.Load name) front d new = same_run run
+refused old run (command.Unload name) front d new = same_run run
+refused old run (command.Edit name file) front d new = same_run run
+refused old run (command.Swap name form) front d new = same_run run
+refused old run _ front d new = same_run run
 
 -- nor does want of memory before it was carried out
-pub tells_nothing : (old : Moment) (run : Option Course) (c : Command) (front : List ℕ) → Tells old run c front answer.NoMemory run
-tells_nothing old run (command.Run file) front = same_run run
-tells_nothing old run command.Step front = same_run run
-tells_nothing old run command.Next front = same_run run
-tells_nothing old run command.Cont front = same_run run
-tells_nothing old run _ front = same_run run
+pub tells_nothing : (old : Moment) (run : Option Course) (c : Command) (front : List ℕ) (new : List Text) → Tells old run c front answer.NoMemory new run
+tells_nothing old run (command.Run file) front new = same_run run
+tells_nothing old run command.Step front new = same_run run
+tells_nothing old run command.Next front new = same_run run
+tells_nothing old run command.Cont front new = same_run run
+tells_nothing old run (command.Load name) front new = same_run run
+tells_nothing old run (command.Unload name) front new = same_run run
+tells_nothing old run (command.Edit name file) front new = same_run run
+tells_nothing old run (command.Swap name form) front new = same_run run
+tells_nothing old run _ front new = same_run run
 
--- a run of which nothing is told
-none_follows : (past : List (List Present)) (modules : List Text) (s : State) → FollowsIn modules s None → FollowsBy past modules s None
-none_follows [] modules s f = f
-none_follows (before ∷ past) modules s f = refl
+-- ---- versions that wait
 
--- where the modules changed there is none, or none of which something is told
-relinked_follows : (session : Plain) (b c : Bool) (past : List (List Present)) (before : List Present) (modules : List Text) (old s : State) → Relinks (IsImageOver session.past session.modules session.numbers) c (state_with b old) s
-    → FollowsBy (past_with b past before) modules s None
-relinked_follows session true c [] before modules old s p = refl
-relinked_follows session true c (ps ∷ past) before modules old s p = refl
-relinked_follows session false c past before modules old s p = subst (λ x. FollowsIn modules x None) (sym p) refl
+through_more : (xs : List (List Text)) (x a b : List Text) (r : Option Standing) → through x (xs ++ a ∷ b ∷ []) r ≡ changed_run a b (through x (xs ++ a ∷ []) r)
+through_more [] x a b r = refl
+through_more (y ∷ ys) x a b r = through_more ys y a b (changed_run x y r)
+
+gone_more : (xs : List (List Text)) (a b : List Text) (r : Option Standing) → gone_through (xs ++ a ∷ b ∷ []) r ≡ changed_run a b (gone_through (xs ++ a ∷ []) r)
+gone_more [] a b r = refl
+gone_more (x ∷ xs) a b r = through_more xs x a b r
+
+all_more : (past : List (List Present)) (modules : List Present) (t : List Text) → all_texts (past ++ modules ∷ []) ++ t ∷ [] ≡ all_texts past ++ texts modules ∷ t ∷ []
+all_more [] modules t = refl
+all_more (p ∷ ps) modules t = ap (λ ts. texts p ∷ ts) (all_more ps modules t)
+
+-- the versions that are left, before and behind one more
+left_more : (come : ℕ) (past : List (List Present)) (modules new : List Present) → come ≤ length past → (xs : List (List Text))
+    × ((drop come (versions_by true past modules) ≡ xs ++ texts modules ∷ []) × (drop come (versions_by true (past ++ modules ∷ []) new) ≡ xs ++ texts modules ∷ texts new ∷ []))
+left_more zero past modules new le = (all_texts past, (refl, all_more past modules (texts new)))
+left_more (suc come) [] modules new le = absurd (omega (arith, le))
+left_more (suc come) (p ∷ ps) modules new le = left_more come ps modules new (omega (arith, le))
+
+waits_more : (come : ℕ) (past : List (List Present)) (modules new : List Present) (r : Option Standing) → come ≤ length past → behind_changes (past ++ modules ∷ []) come new r ≡ changed_run (texts modules) (texts new) (behind_changes past come modules r)
+waits_more come past modules new r le =
+    let l = left_more come past modules new le in
+    ap (λ vs. gone_through vs r) l.1.1 ∙ gone_more l.0 (texts modules) (texts new) r ∙ ap (λ vs. changed_run (texts modules) (texts new) (gone_through vs r)) (sym l.1.0)
+
+-- none waits where all have come
+none_left : (past : List (List Present)) (modules : List Present) → drop (length past) (versions_by true past modules) ≡ texts modules ∷ []
+none_left [] modules = refl
+none_left (p ∷ ps) modules = none_left ps modules
+
+none_waits : (past : List (List Present)) (come : ℕ) (modules : List Present) (r : Option Standing) → come ≡ length past → behind_changes past come modules r ≡ r
+none_waits past come modules r e = ap (λ n. gone_through (drop n (versions_by true past modules)) r) e ∙ ap (λ vs. gone_through vs r) (none_left past modules)
+
+no_more : (n m : ℕ) → n ≡ m → n ≤ m
+no_more n m e = omega (arith, e)
+
+-- so a run that goes on in a state goes on in a session
+follows_here : (past : List (List Present)) (come : ℕ) (modules : List Present) (s : State) (run : Option Course) → come ≡ length past → FollowsOn (texts modules) s run → FollowsIn past come modules s run
+follows_here past come modules state.Idle run e f = f
+follows_here past come modules (state.Stopped r) run e f = (no_more come (length past) e, subst (λ x. FollowsThere (texts modules) r x run) (sym (none_waits past come modules r e)) f)
+follows_here past come modules (state.Paused r) run e f = f
+follows_here past come modules (state.StoppedMixed w) run e f = f
+follows_here past come modules (state.PausedMixed w) run e f = f
+follows_here past come modules state.Ended run e f = f
+
+-- ---- the modules change where a run stands
+
+module _ (modules new : List Text) where
+  changed_follows : (r settled : Option Standing) (run : Option Course) → FollowsThere modules r settled run → FollowsThere new r (changed_run modules new settled) (changed_course new run)
+  changed_follows r settled run f =
+      let p = f.follows in
+      let w : World = world_of p.behind.state in
+      let n : Standing = changed_standing modules new p.behind in
+      let s : IsStill p.behind n = still modules new p.behind in
+      let at = still_at modules new p.behind p.old p.among f.seen in
+      let count : (world_of p.place.state).count ≡ w.count = sym p.still.counts in
+      record {
+        follows = record {
+          start = p.start;
+          history = with_version p.history new w;
+          place = p.place;
+          behind = n;
+          old = p.old;
+          known = p.known;
+          settles = ap (changed_run modules new) p.settles;
+          same = ap (changed_course new) p.same ∙ ap (λ k. Some (course_of (with_history p.start (p.history ++ record { count = k; texts = new } ∷ [])) p.place p.old)) count;
+          of = change_through p.start p.history modules new p.behind f.event;
+          still = still_on p.place p.behind n p.still s;
+          among = at.0;
+          lean = still_lean modules new p.behind p.lean;
+          earned = change_earned modules new p.behind p.earned;
+        };
+        event = change_behind p.start p.history modules new p.behind f.event;
+        seen = at.1;
+      }
+
+one_longer : (n : ℕ) (past : List (List Present)) (modules : List Present) → n ≤ length past → n ≤ length (past ++ modules ∷ [])
+one_longer n past modules le =
+    let e : length (past ++ modules ∷ []) ≡ length past + 1 = length-append past (modules ∷ []) in
+    omega (arith, e, le)
+
+no_course : (b : Bool) (new : List Text) (run : Option Course) → run ≡ None → changed_by b new run ≡ None
+no_course true new run e = ap (changed_course new) e
+no_course false new run e = refl
+
+-- by whether all modules are interpreted then
+stopped_follows : (Is : Image → Type 0) (b : Bool) (past : List (List Present)) (come : ℕ) (modules new : List Present) (r : Option Standing) (s : State) (run : Option Course)
+    → FollowsIn past come modules (state.Stopped r) run → GoesOver Is b r s → FollowsIn (past ++ modules ∷ []) come new s (changed_by b (texts new) run)
+stopped_follows Is true past come modules new r s run (le, f) e =
+    subst (λ x. FollowsIn (past ++ modules ∷ []) come new x (changed_course (texts new) run)) (sym e)
+    (one_longer come past modules le, subst (λ x. FollowsThere (texts new) r x (changed_course (texts new) run)) (sym (waits_more come past modules new r le)) (changed_follows (texts modules) (texts new) r (behind_changes past come modules r) run f))
+stopped_follows Is false past come modules new r s run f (i, m, is, taken, e) = subst (λ x. FollowsIn (past ++ modules ∷ []) come new x None) (sym e) refl
+
+relinked_follows : (Is : Image → Type 0) (b : Bool) (past : List (List Present)) (come : ℕ) (modules new : List Present) (old s : State) (run : Option Course)
+    → FollowsIn past come modules old run → Relinks Is b (state_with (stays old) old) s
+    → FollowsIn (past_with (stays old) past modules) (come_with (stays old) come) new s (changed_by (stays old && b) (texts new) run)
+relinked_follows Is b past come modules new state.Idle s run f e = subst (λ x. FollowsIn [] 0 new x None) (sym e) refl
+relinked_follows Is b past come modules new (state.Stopped r) s run f e = stopped_follows Is b past come modules new r s run f e
+relinked_follows Is b past come modules new (state.Paused r) s run f e = subst (λ x. FollowsIn [] 0 new x None) (sym e) refl
+relinked_follows Is b past come modules new (state.StoppedMixed w) s run f (i, is, e) = subst (λ x. FollowsIn (past ++ modules ∷ []) come new x (changed_by b (texts new) run)) (sym e) (no_course b (texts new) run f)
+relinked_follows Is b past come modules new (state.PausedMixed w) s run f e = subst (λ x. FollowsIn [] 0 new x None) (sym e) refl
+relinked_follows Is b past come modules new state.Ended s run f e = subst (λ x. FollowsIn [] 0 new x None) (sym e) refl
 
 -- a run that ended is forgotten
-over_follows : (past : List (List Present)) (modules : List Text) (s : State) (run : Option Course) → (FollowsIn modules s run → run ≡ None) → FollowsBy past modules s run → run ≡ None
-over_follows [] modules s run is f = is f
-over_follows (before ∷ past) modules s run is f = f
-
-unended_follows : (past : List (List Present)) (modules : List Text) (s : State) (run : Option Course) → FollowsBy past modules s run → FollowsBy (past_going (is_over s) past) modules (unended s) run
-unended_follows past modules state.Idle run f = over_follows past modules state.Idle run (λ p. p) f
-unended_follows past modules (state.Stopped r) run f = f
-unended_follows past modules (state.Paused r) run f = f
-unended_follows past modules (state.StoppedMixed w) run f = f
-unended_follows past modules (state.PausedMixed w) run f = f
-unended_follows past modules state.Ended run f = over_follows past modules state.Ended run (λ p. p) f
+unended_follows : (past : List (List Present)) (come : ℕ) (modules : List Present) (s : State) (run : Option Course) → FollowsIn past come modules s run → FollowsIn (past_going (is_over s) past) (come_going (is_over s) come) modules (unended s) run
+unended_follows past come modules state.Idle run f = f
+unended_follows past come modules (state.Stopped r) run f = f
+unended_follows past come modules (state.Paused r) run f = f
+unended_follows past come modules (state.StoppedMixed w) run f = f
+unended_follows past come modules (state.PausedMixed w) run f = f
+unended_follows past come modules state.Ended run f = f
 
 asked_keeps : (c : Command) (session : Plain) (run : Option Course) → Keeps session run → Keeps (asked c session) run
-asked_keeps (command.Run file) session run k = (k.0, unended_follows session.past (texts session.modules) session.state run k.1)
+asked_keeps (command.Run file) session run k = (k.0, unended_follows session.past session.come session.modules session.state run k.1)
 asked_keeps _ session run k = k
 
 -- another begins where no change is kept
-begins_alone : (s : State) (past : List (List Present)) → starting (unended s) ≡ None → past_going (is_over s) past ≡ []
-begins_alone state.Idle past free = refl
-begins_alone (state.Stopped r) past free = absurd (cc)
-begins_alone (state.Paused r) past free = absurd (cc)
-begins_alone (state.StoppedMixed w) past free = absurd (cc)
-begins_alone (state.PausedMixed w) past free = absurd (cc)
-begins_alone state.Ended past free = refl
+begins_alone : (s : State) (past : List (List Present)) (come : ℕ) → starting (unended s) ≡ None → (past_going (is_over s) past ≡ []) × (come_going (is_over s) come ≡ 0)
+begins_alone state.Idle past come free = (refl, refl)
+begins_alone (state.Stopped r) past come free = absurd (cc)
+begins_alone (state.Paused r) past come free = absurd (cc)
+begins_alone (state.StoppedMixed w) past come free = absurd (cc)
+begins_alone (state.PausedMixed w) past come free = absurd (cc)
+begins_alone state.Ended past come free = (refl, refl)
+
+all_come : (s : State) (past : List (List Present)) (come : ℕ) → starting (unended s) ≡ None → come_going (is_over s) come ≡ length (past_going (is_over s) past)
+all_come s past come free =
+    let p = begins_alone s past come free in
+    p.1 ∙ sym (ap length p.0)
 
 -- ---- a go
 
 -- where no memory was left, before it or in it
 cut_keeps : (First : List ℕ → Type 0) (session new : Plain) (front : List ℕ) (run : Option Course) → Keeps session run → IsCutOff First session front new → (after : Option Course) × Stays run after × Keeps new after
 cut_keeps First session new front run k (inl (none, e)) = (run, same_run run, moved session new run e k)
-cut_keeps First session new front run k (inr (first, e)) =
-    (None, no_run run, moved (cut_off front session) new None e (k.0, none_follows session.past (texts session.modules) state.Ended refl))
+cut_keeps First session new front run k (inr (first, e)) = (None, no_run run, moved (cut_off front session) new None e (k.0, refl))
 
--- the run that goes on in a state
-going_run : (modules : List Text) (s : State) (r : Option Standing) (run : Option Course) → RunsIn s r → FollowsIn modules s run → Follows modules r run
-going_run modules state.Idle r run p f = absurd p
-going_run modules (state.Stopped q) r run p f = subst (λ x. Follows modules x run) (sym p) f
-going_run modules (state.Paused q) r run p f = subst (λ x. Follows modules x run) (sym p) f
-going_run modules (state.StoppedMixed w) r run p f = absurd p
-going_run modules (state.PausedMixed w) r run p f = absurd p
-going_run modules state.Ended r run p f = absurd p
+-- the run that goes on in a state, behind the changes that wait for it
+none_elsewhere : (come : ℕ) (r : Option Standing) → gone_through (drop come []) r ≡ r
+none_elsewhere zero r = refl
+none_elsewhere (suc come) r = refl
+
+going_run : (past : List (List Present)) (come : ℕ) (modules : List Present) (s : State) (r : Option Standing) (run : Option Course) → RunsIn s r → FollowsIn past come modules s run → Follows (texts modules) r (gone_through (drop come (versions_by (stays s) past modules)) r) run
+going_run past come modules state.Idle r run p f = absurd p
+going_run past come modules (state.Stopped q) r run p f = subst (λ x. Follows (texts modules) x (behind_changes past come modules x) run) (sym p) f.1.follows
+going_run past come modules (state.Paused q) r run p f =
+    subst (λ x. Follows (texts modules) r x run) (sym (none_elsewhere come r)) (subst (λ x. Follows (texts modules) x x run) (sym p) f)
+going_run past come modules (state.StoppedMixed w) r run p f = absurd p
+going_run past come modules (state.PausedMixed w) r run p f = absurd p
+going_run past come modules state.Ended r run p f = absurd p
 
 -- one go of a run that follows
 abbrev pub Onward : Plain → Walk → Option Course → List ℕ → List ℕ → State → Type 0
 Onward session how run front text s =
-    (c : Course) × (run ≡ Some c) × ((after : Option Course) × IsTold (places session.stops) how session.limits.turns c front text after × FollowsIn (texts session.modules) s after)
+    (c : Course) × (run ≡ Some c) × ((after : Option Course) × IsTold (places session.stops) how session.limits.turns c front text after × FollowsOn (texts session.modules) s after)
 
-goes_on : (session : Plain) (how : Walk) (r : Option Standing) (run : Option Course) (front text : List ℕ) (s : State) → AreFormed (texts session.modules) → Follows (texts session.modules) r run → Went (texts session.modules) (places session.stops) how session.limits.turns r front text s → Onward session how run front text s
-goes_on session how r run front text s formed f w =
-    let here = subst (λ x. Went (texts session.modules) (places session.stops) how session.limits.turns x front text s) f.known w in
-    (course_of f.start f.place f.old, f.same, went f.start (texts session.modules) (places session.stops) how session.limits.turns formed f.place f.old f.of f.among f.lean f.earned front text s here)
+goes_on : (session : Plain) (how : Walk) (r settled : Option Standing) (run : Option Course) (front text : List ℕ) (s : State) → AreFormed (texts session.modules) → Follows (texts session.modules) r settled run
+    → Went (texts session.modules) (places session.stops) how session.limits.turns settled front text s → Onward session how run front text s
+goes_on session how r settled run front text s formed f w =
+    let here = subst (λ x. Went (texts session.modules) (places session.stops) how session.limits.turns x front text s) f.settles w in (
+      course_of (with_history f.start f.history) f.place f.old,
+      f.same,
+      went f.start f.history (texts session.modules) (places session.stops) how session.limits.turns formed f.place f.behind f.old f.of f.still f.among f.lean f.earned front text s here,
+    )
 
 -- ---- a go of a run of both forms
 
-mixed_follows : (modules : List Text) (h : Halt) (w : Mixed) → FollowsIn modules (mixed_state h w) None
-mixed_follows modules halt.Entered w = refl
-mixed_follows modules halt.AtLine w = refl
-mixed_follows modules halt.Ended w = refl
-mixed_follows modules (halt.Paused turns) w = refl
+mixed_follows : (past : List (List Present)) (come : ℕ) (modules : List Present) (h : Halt) (w : Mixed) → FollowsIn past come modules (mixed_state h w) None
+mixed_follows past come modules halt.Entered w = refl
+mixed_follows past come modules halt.AtLine w = refl
+mixed_follows past come modules halt.Ended w = refl
+mixed_follows past come modules (halt.Paused turns) w = refl
 
 -- none of the meaning's goes on behind it
 mixed_keeps : (session new : Plain) (how : Walk) (m : Mixed) (text : List ℕ) → AreFormed (texts session.modules) → MixedWent session how m text new → Keeps new None
 mixed_keeps session new how m text formed went =
     moved (in_state (mixed_state went.halts went.stands) (caught_up session)) new None went.follows
-    (formed, none_follows session.past (texts session.modules) (mixed_state went.halts went.stands) (mixed_follows (texts session.modules) went.halts went.stands))
+    (formed, mixed_follows session.past (length session.past) session.modules went.halts went.stands)
 
 given_up_keeps : (session new : Plain) (run : Option Course) → Keeps session run → IsGivenUp session new → (after : Option Course) × Stays run after × Keeps new after
 given_up_keeps session new run k (inl e) = (run, same_run run, moved session new run e k)
-given_up_keeps session new run k (inr e) =
-    (None, no_run run, moved (in_state state.Ended session) new None e (k.0, none_follows session.past (texts session.modules) state.Ended refl))
-
--- ---- a run in which nothing changed
-
-one_version : (b : Bool) (come : ℕ) (modules : List Present) (r : Option Standing) → gone_through (drop come (versions_by b [] modules)) r ≡ r
-one_version true zero modules r = refl
-one_version true (suc zero) modules r = refl
-one_version true (suc (suc come)) modules r = refl
-one_version false zero modules r = refl
-one_version false (suc come) modules r = refl
-
-settled_same : (session : Plain) (r : Option Standing) → session.past ≡ [] → settled session r ≡ r
-settled_same session r e =
-    ap (λ past. gone_through (drop session.come (versions_by (stays session.state) past session.modules)) r) e ∙ one_version (stays session.state) session.come session.modules r
+given_up_keeps session new run k (inr e) = (None, no_run run, moved (in_state state.Ended session) new None e (k.0, refl))
 
 module _ (old : Moment) (run : Option Course) (k : Keeps old.session run) where
   -- what an answer to a go tells, by whether the run is one of both forms
@@ -213,95 +319,78 @@ module _ (old : Moment) (run : Option Course) (k : Keeps old.session run) where
   WalkTellsBy b how front (answer.Ran text) after = WalksSoBy b old run how front text after
   WalkTellsBy b how front _ after = Stays run after
 
-  walk_tells : old.session.past ≡ [] → FollowsIn (texts old.session.modules) old.session.state run
-      → (how : Walk) (front : List ℕ) (said : Answer) (new : Plain) → going.Walks old.session how front said new → (after : Option Course) × WalkTellsBy false how front said after × Keeps new after
-  walk_tells none follows how front (answer.Ran text) new (r, runs, (s, w, e)) =
-      let went_on = subst (λ x. Went (texts old.session.modules) (places old.session.stops) how old.session.limits.turns x front text s) (settled_same old.session r none) w in
-      let o = goes_on old.session how r run front text s k.0 (going_run (texts old.session.modules) old.session.state r run runs follows) went_on in (
+  walk_tells : (how : Walk) (front : List ℕ) (said : Answer) (new : Plain) → going.Walks old.session how front said new → (after : Option Course) × WalkTellsBy false how front said after × Keeps new after
+  walk_tells how front (answer.Ran text) new (r, runs, (s, w, e)) =
+      let f = going_run old.session.past old.session.come old.session.modules old.session.state r run runs k.1 in
+      let o = goes_on old.session how r (settled old.session r) run front text s k.0 f w in (
         o.2.0,
         (o.0, o.1, o.2.1),
-        moved (in_state s (caught_up old.session)) new o.2.0 e (k.0, subst (λ past. FollowsBy past (texts old.session.modules) s o.2.0) (sym none) o.2.2),
+        moved (in_state s (caught_up old.session)) new o.2.0 e (k.0, follows_here old.session.past (length old.session.past) old.session.modules s o.2.0 refl o.2.2),
       )
-  walk_tells none follows how front answer.NoMemory new p = cut_keeps (going.WalkFirst old.session how) old.session new front run k p
-  walk_tells none follows how front _ new p = absurd p
+  walk_tells how front answer.NoMemory new p = cut_keeps (going.WalkFirst old.session how) old.session new front run k p
+  walk_tells how front _ new p = absurd p
 
   mixed_walk_tells : (how : Walk) (front : List ℕ) (said : Answer) (new : Plain) → MixedWalks old.session how said new → (after : Option Course) × WalkTellsBy true how front said after × Keeps new after
   mixed_walk_tells how front (answer.Ran text) new (m, stood, (n, through, went)) = (None, refl, mixed_keeps old.session new how n text k.0 went)
   mixed_walk_tells how front answer.NoMemory new p = given_up_keeps old.session new run k p
   mixed_walk_tells how front _ new p = absurd p
 
-  walk_tells_by : old.session.past ≡ [] → FollowsIn (texts old.session.modules) old.session.state run
-      → (b : Bool) (how : Walk) (front : List ℕ) (said : Answer) (new : Plain) → WalksBy b old.session how front said new → (after : Option Course) × WalkTellsBy b how front said after × Keeps new after
-  walk_tells_by none follows false how front said new p = walk_tells none follows how front said new p
-  walk_tells_by none follows true how front said new p = mixed_walk_tells how front said new p.1
-
-  -- a run in which the modules changed
-  changed_walk_tells : (before : List Present) (past : List (List Present)) → old.session.past ≡ before ∷ past
-      → (how : Walk) (front : List ℕ) (said : Answer) (new : Plain) → going.Walks old.session how front said new → (after : Option Course) × WalkTellsBy true how front said after × Keeps new after
-  changed_walk_tells before past is how front (answer.Ran text) new (r, runs, (s, w, e)) =
-      (None, refl, moved (in_state s (caught_up old.session)) new None e (k.0, subst (λ p. FollowsBy p (texts old.session.modules) s None) (sym is) refl))
-  changed_walk_tells before past is how front answer.NoMemory new p = cut_keeps (going.WalkFirst old.session how) old.session new front run k p
-  changed_walk_tells before past is how front _ new p = absurd p
-
-  changed_walks : (before : List Present) (past : List (List Present)) → old.session.past ≡ before ∷ past
-      → (b : Bool) (how : Walk) (front : List ℕ) (said : Answer) (new : Plain) → WalksBy b old.session how front said new → (after : Option Course) × WalkTellsBy true how front said after × Keeps new after
-  changed_walks before past is false how front said new p = changed_walk_tells before past is how front said new p
-  changed_walks before past is true how front said new p = mixed_walk_tells how front said new p.1
-
-  walks_past : (past : List (List Present)) → old.session.past ≡ past → FollowsBy past (texts old.session.modules) old.session.state run
-      → (how : Walk) (front : List ℕ) (said : Answer) (new : Plain) → WalksBy (is_mixed old.session.state) old.session how front said new
-      → (after : Option Course) × WalkTellsBy (is_changed past || is_mixed old.session.state) how front said after × Keeps new after
-  walks_past [] is follows how front said new p = walk_tells_by is follows (is_mixed old.session.state) how front said new p
-  walks_past (before ∷ past) is follows how front said new p = changed_walks before past is (is_mixed old.session.state) how front said new p
+  walk_tells_by : (b : Bool) (how : Walk) (front : List ℕ) (said : Answer) (new : Plain) → WalksBy b old.session how front said new → (after : Option Course) × WalkTellsBy b how front said after × Keeps new after
+  walk_tells_by false how front said new p = walk_tells how front said new p
+  walk_tells_by true how front said new p = mixed_walk_tells how front said new p.1
 
   -- the same as the law has it
-  walk_told : (how : Walk) (front : List ℕ) (said : Answer) (after : Option Course) → WalkTellsBy (is_untold old.session) how front said after → WalkTells old run how front said after
+  walk_told : (how : Walk) (front : List ℕ) (said : Answer) (after : Option Course) → WalkTellsBy (is_mixed old.session.state) how front said after → WalkTells old run how front said after
   walk_told how front (answer.Ran text) after p = p
   walk_told how front _ after p = p
 
   walks : (how : Walk) (front : List ℕ) (said : Answer) (new : Plain) → WalksBy (is_mixed old.session.state) old.session how front said new → (after : Option Course) × WalkTells old run how front said after × Keeps new after
   walks how front said new p =
-      let t = walks_past old.session.past refl k.1 how front said new p in
+      let t = walk_tells_by (is_mixed old.session.state) how front said new p in
       (t.0, walk_told how front said t.0 t.1, t.2)
 
   -- the modules changed, and the run stays or not
-  changes : (session new : Plain) → Becomes session new → session.past ≡ past_with (stays old.session.state) old.session.past old.session.modules
-      → session.state ≡ state_with (stays old.session.state) old.session.state → AreFormed (texts session.modules) → (after : Option Course) × Stays run after × Keeps new after
-  changes session new (s, relinks, e) past is formed = (
-    None,
-    no_run run,
-    moved (in_state s session) new None e (
-      formed,
-      subst (λ x. FollowsBy x (texts session.modules) s None) (sym past)
-          (relinked_follows session (stays old.session.state) (are_sources (texts session.modules)) old.session.past old.session.modules (texts session.modules) old.session.state s
-          (subst (λ x. Relinks (IsImageOver session.past session.modules session.numbers) (are_sources (texts session.modules)) x s) is relinks)),
-    ),
-  )
+  changes : (session new : Plain) → Becomes session new → session.past ≡ past_with (stays old.session.state) old.session.past old.session.modules → session.come ≡ come_with (stays old.session.state) old.session.come
+      → session.state ≡ state_with (stays old.session.state) old.session.state → AreFormed (texts session.modules) → (after : Option Course) × ChangesSo old run (texts new.modules) after × Keeps new after
+  changes session new (s, relinks, e) past come is formed =
+      let b : Bool = are_sources (texts session.modules) in
+      let after : Option Course = changed_by (stays old.session.state && b) (texts session.modules) run in
+      let there : FollowsIn (past_with (stays old.session.state) old.session.past old.session.modules) (come_with (stays old.session.state) old.session.come) session.modules s after =
+      relinked_follows (IsImageOver session.past session.modules session.numbers) b old.session.past old.session.come old.session.modules session.modules old.session.state s run k.1
+      (subst (λ x. Relinks (IsImageOver session.past session.modules session.numbers) b x s) is relinks) in (
+        after,
+        ap (λ x. changed_by (stays old.session.state && are_sources (texts x.modules)) (texts x.modules) run) (sym e),
+        moved (in_state s session) new after e (
+          formed,
+          subst (λ x. FollowsIn x session.come session.modules s after) (sym past)
+              (subst (λ x. FollowsIn (past_with (stays old.session.state) old.session.past old.session.modules) x session.modules s after) (sym come) there),
+        ),
+      )
 
   -- the commands that let no program go on
-  loads : (name file : List ℕ) (said : Answer) (new : Moment) → Loads old name file said new → (after : Option Course) × Stays run after × Keeps new.session after
+  loads : (name file : List ℕ) (said : Answer) (new : Moment) → Loads old name file said new → (after : Option Course) × ChangeTells old run said (texts new.session.modules) after × Keeps new.session after
   loads name file (answer.Loaded m) new (is, (built, fits, becomes, held)) =
-      changes (joined old.session built) new.session becomes refl refl (with_formed old.session.modules (present_of old.session.loaded built) k.0 fits.builds.formed)
+      changes (joined old.session built) new.session becomes refl refl refl (with_formed old.session.modules (present_of old.session.loaded built) k.0 fits.builds.formed)
   loads name file (answer.Refused d) new (leaves, why) = (run, same_run run, moved old.session new.session run leaves.0 k)
   loads name file answer.NoMemory new leaves = (run, same_run run, moved old.session new.session run leaves.0 k)
   loads name file _ new p = absurd p
 
-  edits : (name file : List ℕ) (said : Answer) (new : Moment) → Edits old name file said new → (after : Option Course) × Stays run after × Keeps new.session after
+  edits : (name file : List ℕ) (said : Answer) (new : Moment) → Edits old name file said new → (after : Option Course) × ChangeTells old run said (texts new.session.modules) after × Keeps new.session after
   edits name file (answer.Edited m) new (is, (built, fits, becomes, held)) =
-      changes (replaced old.session built) new.session becomes refl refl (in_formed old.session.modules (present_of old.session.loaded built) k.0 fits.builds.formed)
+      changes (replaced old.session built) new.session becomes refl refl refl (in_formed old.session.modules (present_of old.session.loaded built) k.0 fits.builds.formed)
   edits name file (answer.Refused d) new (leaves, why) = (run, same_run run, moved old.session new.session run leaves.0 k)
   edits name file answer.NoMemory new leaves = (run, same_run run, moved old.session new.session run leaves.0 k)
   edits name file _ new p = absurd p
 
-  swaps : (name : List ℕ) (f : Form) (said : Answer) (new : Moment) → Swaps old name f said new → (after : Option Course) × Stays run after × Keeps new.session after
+  swaps : (name : List ℕ) (f : Form) (said : Answer) (new : Moment) → Swaps old name f said new → (after : Option Course) × ChangeTells old run said (texts new.session.modules) after × Keeps new.session after
   swaps name f (answer.Swapped m g) new (is, same, may, becomes, held) =
-      changes (swapped old.session name f) new.session becomes refl refl (swapped_formed name f old.session.modules k.0)
+      changes (swapped old.session name f) new.session becomes refl refl refl (swapped_formed name f old.session.modules k.0)
   swaps name f (answer.Refused d) new (is, leaves, why) = (run, same_run run, moved old.session new.session run leaves.0 k)
   swaps name f answer.NoMemory new leaves = (run, same_run run, moved old.session new.session run leaves.0 k)
   swaps name f _ new p = absurd p
 
-  unloads : (name : List ℕ) (said : Answer) (new : Plain) → Unloads old.session name said new → (after : Option Course) × Stays run after × Keeps new after
-  unloads name (answer.Unloaded m) new (is, becomes) = changes (unloaded old.session name) new becomes refl refl (kept_formed _ old.session.modules k.0)
+  unloads : (name : List ℕ) (said : Answer) (new : Plain) → Unloads old.session name said new → (after : Option Course) × ChangeTells old run said (texts new.modules) after × Keeps new after
+  unloads name (answer.Unloaded m) new (is, becomes) = changes (unloaded old.session name) new becomes refl refl refl (kept_formed _ old.session.modules k.0)
   unloads name answer.NoMemory new e = (run, same_run run, moved old.session new run e k)
   unloads name _ new p = absurd p
 
@@ -320,25 +409,28 @@ module _ (old : Moment) (run : Option Course) (k : Keeps old.session run) where
 
 -- ---- the start of a run
 
-starts : (session : Plain) (bytes front text : List ℕ) (new : Plain) → session.past ≡ [] → AreFormed (texts session.modules) → going.Begins session bytes front text new
+starts : (session : Plain) (bytes front text : List ℕ) (new : Plain) → session.come ≡ length session.past → AreFormed (texts session.modules) → going.Begins session bytes front text new
     → (c : Course) × Begins (start_of (texts session.modules) session.limits.stack session.limits.heap bytes) c
     × ((after : Option Course) × IsTold (places session.stops) walk.Cont session.limits.turns c front text after × Keeps new after)
 starts session bytes front text new none formed (of, (s, w, e)) =
     let modules : List Text = texts session.modules in
     let stack : ℕ = session.limits.stack in
     let heap : ℕ = session.limits.heap in
+    let start : Start = start_of modules stack heap bytes in
+    let first : Standing = started modules stack heap bytes in
     let lean = formed_lean modules formed in
-    let went_on = went (start_of modules stack heap bytes) modules (places session.stops) walk.Cont session.limits.turns formed (started modules stack heap bytes) [] of (starts_fresh modules stack heap bytes).0 (starts_lean modules stack heap bytes lean) (starts_earned modules stack heap bytes lean) front text s w in (
-      course_of (start_of modules stack heap bytes) (started modules stack heap bytes) [],
-      begins modules stack heap bytes of,
-      (went_on.0, went_on.1, moved (in_state s session) new went_on.0 e (formed, subst (λ past. FollowsBy past modules s went_on.0) (sym none) went_on.2)),
+    let went_on = went start (alone modules) modules (places session.stops) walk.Cont session.limits.turns formed first first [] (begins_through modules stack heap bytes) (still_here first) (starts_fresh modules stack heap bytes).0
+    (starts_lean modules stack heap bytes lean) (starts_earned modules stack heap bytes lean) front text s w in (
+      course_of (with_history start (alone modules)) first [],
+      begins modules stack heap bytes,
+      (went_on.0, went_on.1, moved (in_state s session) new went_on.0 e (formed, follows_here session.past session.come session.modules s went_on.0 none went_on.2)),
     )
 
 -- the session in which a run that ended is forgotten, as another is asked for
 abbrev pub anew : Moment → Moment
 anew old = moment (forgotten old.session) old.held old.faults
 
-module _ (old : Moment) (run : Option Course) (k : Keeps (forgotten old.session) run) (none : (forgotten old.session).past ≡ []) where
+module _ (old : Moment) (run : Option Course) (k : Keeps (forgotten old.session) run) (none : (forgotten old.session).come ≡ length (forgotten old.session).past) where
   -- what an answer to `run` tells, by whether all modules are interpreted
   abbrev pub RunTellsBy : Bool → Option (List ℕ) → List ℕ → Answer → Option Course → Type 0
   RunTellsBy b file front (answer.Ran text) after = RunsSoBy b old file front text after
@@ -382,7 +474,7 @@ carried old run k (command.Load name) front said new free a (none, p) = loads ol
 carried old run k (command.Unload name) front said new free a (none, p) = unloads old run k name said new.session p.0
 carried old run k (command.Swap name form) front said new free a (none, p) = swaps old run k name form said new p
 carried old run k (command.Edit name file) front said new free a (none, p) = edits old run k name (file_or name file) said new p
-carried old run k (command.Run file) front said new free a p = runs old run a (begins_alone old.session.state old.session.past free) file front said new p
+carried old run k (command.Run file) front said new free a p = runs old run a (all_come old.session.state old.session.past old.session.come free) file front said new p
 carried old run k (command.Stop place) front said new free a (none, p) = (run, same_run run, sets old run k place said new.session p.0)
 carried old run k (command.Delete n) front said new free a (none, p) = (run, same_run run, moved (without_stop n old.session) new.session run p.1 k)
 carried old run k (command.Compile name) front said new free a (none, p) = (run, same_run run, moved old.session new.session run p.0 k)
@@ -404,12 +496,12 @@ decided : (o : Option Denied) (old : Moment) (run : Option Course) → Keeps old
     → Decides o (moment (asked c old.session) old.held old.faults) c front said new → Tells_on old run c front said new.session
 decided (Some d) old run k c front said new told (none, is, same) = (
   run,
-  subst (λ a. Tells old run c front a run) (sym is) (refused old run c front d),
+  subst (λ a. Tells old run c front a (texts new.session.modules) run) (sym is) (refused old run c front d (texts new.session.modules)),
   moved (asked c old.session) new.session run (ap (λ m. m.session) same) (asked_keeps c old.session run k),
 )
 decided None old run k c front said new told p = carried old run k c front said new told (asked_keeps c old.session run k) p
 
-pub answers_tell : (old : Moment) (run : Option Course) (c : Command) (front : List ℕ) (said : Answer) (new : Moment) → Keeps old.session run → AnswersTo old c front said new → (after : Option Course) × Tells old run c front said after × Keeps new.session after
+pub answers_tell : (old : Moment) (run : Option Course) (c : Command) (front : List ℕ) (said : Answer) (new : Moment) → Keeps old.session run → AnswersTo old c front said new → (after : Option Course) × Tells old run c front said (texts new.session.modules) after × Keeps new.session after
 answers_tell old run c front said new k p = decided (refusal_of (asked c old.session) c) old run k c front said new refl p
 
 -- ---- the start of a session, and where it stands
@@ -417,21 +509,17 @@ answers_tell old run c front said new k p = decided (refusal_of (asked c old.ses
 pub nothing_yet : (limits : Limits) (probes : ℕ) → Keeps (empty limits probes) None
 nothing_yet limits probes = (tt, refl)
 
-follows_stands : (modules : List Text) (r : Option Standing) (run : Option Course) → Follows modules r run → StandsIn r run
-follows_stands modules r run f =
-    subst (StandsIn r) (sym f.same) (subst (λ x. StandsIn x (Some (course_of f.start f.place f.old))) (sym f.known) refl)
+follows_stands : (modules : List Text) (r settled : Option Standing) (run : Option Course) → Follows modules r settled run → StandsIn r run
+follows_stands modules r settled run f =
+    subst (StandsIn r) (sym f.same) (subst (λ x. StandsIn x (Some (course_of (with_history f.start f.history) f.place f.old))) (sym f.known) refl)
 
-state_stands : (modules : List Text) (s : State) (run : Option Course) → FollowsIn modules s run → Stands s run
-state_stands modules state.Idle run f = f
-state_stands modules (state.Stopped r) run f = follows_stands modules r run f
-state_stands modules (state.Paused r) run f = follows_stands modules r run f
-state_stands modules (state.StoppedMixed w) run f = f
-state_stands modules (state.PausedMixed w) run f = f
-state_stands modules state.Ended run f = f
-
-stands_by : (past : List (List Present)) (modules : List Text) (s : State) (run : Option Course) → FollowsBy past modules s run → StandsBy past s run
-stands_by [] modules s run f = state_stands modules s run f
-stands_by (before ∷ past) modules s run f = f
+state_stands : (past : List (List Present)) (come : ℕ) (modules : List Present) (s : State) (run : Option Course) → FollowsIn past come modules s run → Stands s run
+state_stands past come modules state.Idle run f = f
+state_stands past come modules (state.Stopped r) run f = follows_stands (texts modules) r (behind_changes past come modules r) run f.1.follows
+state_stands past come modules (state.Paused r) run f = follows_stands (texts modules) r r run f
+state_stands past come modules (state.StoppedMixed w) run f = f
+state_stands past come modules (state.PausedMixed w) run f = f
+state_stands past come modules state.Ended run f = f
 
 pub session_stands : (session : Plain) (run : Option Course) → Keeps session run → StandsSo session run
-session_stands session run k = stands_by session.past (texts session.modules) session.state run k.1
+session_stands session run k = state_stands session.past session.come session.modules session.state run k.1

@@ -3,14 +3,12 @@ use Rattle.std.proofs.Common.{◌≡◌, ℕ, ◌<◌, refl, sym, ap, ◌∙◌,
 use Rattle.sc_meaning.specs.World.{World}
 use Rattle.sc_meaning.specs.Outcomes.{Ending, Exit, Undefined, StackFull, BirthLimit, world_at}
 use Rattle.sc_meaning.specs.Behaviour.{Start, ending}
-use Rattle.sc_meaning.specs.Versions.{Text}
 use Rattle.sc_interp.specs.Ends.{end_of}
 use Rattle.sc_interp_access.specs.declared.ended.Ended.{Ended}
 use Rattle.sc_interp_access.specs.declared.ended.Ended.TheVariants as ended
 use Rattle.sc_interp_machine.specs.Runs.{Ends}
 use Rattle.sc_session_texts.specs.Ends.{end_text}
 use Rattle.sc_world.specs.declared.count.Count.{Count}
-use Rattle.sc_world.specs.Meant.{Stands}
 use Rattle.sc_world.specs.Standing.{Standing, ended_so, world_of}
 
 same_end : (a b : Ending) → Some a ≡ Some b → a ≡ b
@@ -33,12 +31,11 @@ told_there ended.BirthLimit w end p = subst (λ f. end_of ended.BirthLimit (worl
 told_there ended.OutOfSteps w end p = absurd (cc)
 told_there ended.NoRoom w end p = absurd (cc)
 
-pub ends_so : (s : Start) (texts : List Text) (n : Standing) (e : Ended) (w : World) (count : Count) → Some n ≡ ended_so count (end_of e w) → Stands s texts n.steps n.state
+pub ends_so : (s : Start) (n : Standing) (e : Ended) (w : World) (count : Count) → Some n ≡ ended_so count (end_of e w) → ((end : Ending) → n.state ≡ Ends end → (b : ℕ) → n.steps < b → ending b s ≡ end)
     → (b : ℕ) → n.steps < b → end_of e (world_of n.state) ≡ Some (ending b s)
-ends_so s texts n e w count p stands b lt =
+ends_so s n e w count p over b lt =
     let q = ended_state n count (end_of e w) p in
-    let over : Stands s texts n.steps (Ends q.0) = subst (Stands s texts n.steps) q.2 stands in
-    ap (λ st. end_of e (world_of st)) q.2 ∙ told_there e w q.0 q.1 ∙ ap (λ f. Some f) (sym (over b lt))
+    ap (λ st. end_of e (world_of st)) q.2 ∙ told_there e w q.0 q.1 ∙ ap (λ f. Some f) (sym (over q.0 q.2 b lt))
 
 -- of a run for which no room was left no end is told
 pub no_end : {P : Type 0} (e : Ended) (w : World) (count : Count) (v : World) (said : List ℕ) → None ≡ ended_so count (end_of e w) → Some said ≡ end_text e v → P

@@ -1,8 +1,11 @@
 -- A go of a session's run, as the meaning has it.
 use Rattle.std.proofs.Common.{◌≡◌, ◌⊎◌, inl, inr, ℕ, zero, suc, ◌-◌, ◌<◌, ◌≤◌, Bool, true, ◌++◌, drop, length, refl, sym, ap, ◌∙◌, subst, arith, List, [], Option, Some, None}
 use Rattle.sc_meaning.specs.World.{World, Event, events}
-use Rattle.sc_meaning.specs.Behaviour.{Start}
-use Rattle.sc_meaning.specs.Versions.{Text}
+use Rattle.sc_meaning.specs.Behaviour.{Start, ending, events_upto}
+use Rattle.sc_meaning.specs.Laws.{with_history}
+use Rattle.sc_meaning.specs.Outcomes.{world_at}
+use Rattle.sc_meaning.specs.Versions.{History, Text}
+use Rattle.sc_interp.specs.Steady.{alone}
 use Rattle.sc_interp.specs.Steps.{is_over}
 use Rattle.sc_interp.specs.Ends.{start_of}
 use Rattle.sc_interp_access.specs.declared.ended.Ended.TheVariants as ended
@@ -14,28 +17,31 @@ use Rattle.sc_words.specs.declared.stop.Walk.{Walk}
 use Rattle.sc_world.specs.declared.halt.Halt.{Halt}
 use Rattle.sc_world.specs.declared.halt.Halt.TheVariants as halt
 use Rattle.sc_world.specs.Goes.{Goes, started, want_of}
-use Rattle.sc_world.specs.Meant.{IsRunOf}
+use Rattle.sc_world_change_laws.specs.Still.{IsStill}
+use Rattle.sc_world_change_laws.specs.Through.{IsRunThrough, HaltsBehind}
+use Rattle.sc_world_change_laws.proofs.Still.{still_here}
+use Rattle.sc_world_change_laws.proofs.Through.{all_events, begins_through, ends_as_meant, first_events, goes_through, through_comes, through_leads}
 use Rattle.sc_world.specs.Standing.{Standing, world_of}
 use Rattle.sc_world.specs.Wants.{Want, wanted, halts, halt_or, taken}
 use Rattle.sc_world.proofs.Pauses.{pauses}
 use Rattle.sc_world_laws.specs.Formed.{AreFormed}
-use Rattle.sc_world_laws.specs.Told.{IsAt, event_of}
-use Rattle.sc_world_laws.proofs.Shown.{run_leads}
-use Rattle.sc_world_laws.proofs.Halting.{Chosen, goes_at, goes_halt, over_ended, sel, turns_bound, wanted_chosen}
+use Rattle.sc_world_laws.specs.Told.{HaltsAt, IsAt, event_of, selects}
+use Rattle.sc_world_laws.proofs.Halting.{Chosen, goes_at, goes_halt, goes_last, over_ended, sel, turns_bound, wanted_chosen}
 use Rattle.sc_world_laws.proofs.Pausing.{goes_lean, pauses_passed}
 use Rattle.sc_world_laws.proofs.LeanFormed.{formed_lean}
 use Rattle.sc_session.specs.declared.state.State.{State}
 use Rattle.sc_session.specs.Going as going
 use Rattle.sc_session.specs.Going.{Told, Went, state_after}
 use Rattle.sc_session_laws.specs.Courses.{Course, IsMeant, Begins, PausesSo, Passes, Says, left_by, IsTold}
-use Rattle.sc_session_laws.specs.Follows.{course_of, Earned, Follows, FollowsIn}
+use Rattle.sc_session_laws.specs.Follows.{course_of, Earned, Follows, FollowsOn}
 use Rattle.sc_session_laws.proofs.Ending.{ends_so, no_end}
 use Rattle.sc_session_laws.proofs.Starting.{starts_fresh}
-use Rattle.sc_session_laws.proofs.Working.{goes_earned, passed_in_all}
+use Rattle.sc_session_laws.proofs.Working.{goes_earned, passed_before, passed_in_all}
 
-is_meant : (s : Start) (texts : List Text) (m : Standing) (old : List Event) → IsRunOf s texts (Some m) → IsAt m old → IsMeant (course_of s m old)
-is_meant s texts m old of at = record {
-  happens = λ b lt. run_leads s texts m b of lt;
+is_meant : (s : Start) (h : History) (texts : List Text) (m : Standing) (old : List Event) → IsRunThrough s h texts (Some m) → IsAt m old → IsMeant (course_of (with_history s h) m old)
+is_meant s h texts m old of at = record {
+  comes = through_comes s h texts m of;
+  happens = λ b lt. through_leads s h texts m of b lt;
   enough = λ nodes. turns_bound m old nodes at;
 }
 
@@ -70,100 +76,117 @@ enough_turns texts stops how (suc k) m n t goes =
 
 -- ---- a go
 
-module _ (s : Start) (texts : List Text) (stops : List StopAt) (how : Walk) (turns : ℕ) (formed : AreFormed texts)
-    (m : Standing) (old : List Event) (of : IsRunOf s texts (Some m)) (at : IsAt m old) (lean : IsLean m.state) (earned : Earned m) where
-  abbrev there : Standing → Course
-  there n = course_of s n (events (world_of n.state).trail)
+module _ (s : Start) (h : History) (texts : List Text) (stops : List StopAt) (how : Walk) (turns : ℕ) (formed : AreFormed texts)
+    (place m : Standing) (old : List Event) (of : IsRunThrough s h texts (Some m)) (still : IsStill place m) (at : IsAt m old) (lean : IsLean m.state) (earned : Earned m) where
+  abbrev here : Course
+  here = course_of (with_history s h) place old
 
-  pauses_so : (h : Halt) (n : Standing) → Goes texts stops how turns (Some m) h (Some n) → IsRunOf s texts (Some n) → PausesSo turns (course_of s m old) (there n) h
+  abbrev there : Standing → Course
+  there n = course_of (with_history s h) n (events (world_of n.state).trail)
+
+  pauses_so : (x : Halt) (n : Standing) → Goes texts stops how turns (Some m) x (Some n) → IsRunThrough s h texts (Some n) → PausesSo turns here (there n) x
   pauses_so halt.Entered n goes now = tt
   pauses_so halt.AtLine n goes now = tt
   pauses_so halt.Ended n goes now = tt
   pauses_so (halt.Paused t) n goes now =
       let p = enough_turns texts stops how turns m n t goes in
       record {
-        took = p.1;
+        took = p.1 ∙ ap (λ k. n.turns - k) still.turns;
         enough = p.0;
-        late = λ b lt. pauses_passed s texts stops how turns m t n b (formed_lean texts formed) lean goes now lt;
-        late_in_all = λ b lt. passed_in_all s texts n b (goes_earned texts stops how turns m (halt.Paused t) n (formed_lean texts formed) lean earned goes) now lt;
+        late = λ b lt.
+            passed_before t (world_of place.state) (world_of m.state) (world_of n.state).trail (world_at (ending b (with_history s h))).trail still.leads
+            (pauses_passed texts stops how turns m t n (world_at (ending b (with_history s h))) (formed_lean texts formed) lean goes (through_leads s h texts n now b lt));
+        late_in_all = λ b lt.
+            passed_in_all n (world_at (ending b (with_history s h))) (goes_earned texts stops how turns m (halt.Paused t) n (formed_lean texts formed) lean earned goes) (through_leads s h texts n now b lt);
       }
 
-  passes : (h : Halt) (n : Standing) → Goes texts stops how turns (Some m) h (Some n) → IsRunOf s texts (Some n) → Passes stops how turns (course_of s m old) h (there n)
-  passes h n goes now = record {
+  passes : (x : Halt) (n : Standing) → Goes texts stops how turns (Some m) x (Some n) → IsRunThrough s h texts (Some n) → Passes stops how turns here x (there n)
+  passes x n goes now = record {
     same = refl;
-    meant = is_meant s texts n (events (world_of n.state).trail) now (goes_at texts stops how turns m old h n at goes);
+    meant = is_meant s h texts n (events (world_of n.state).trail) now (goes_at texts stops how turns m old x n at goes);
     passed = refl;
-    halts = λ b lt. goes_halt s texts stops how turns m old h n b at goes now lt;
-    pauses = pauses_so h n goes now;
+    halts = λ b lt.
+        subst (λ k. HaltsAt (selects stops how k) x old (events_upto b (with_history s h)) (events (world_of n.state).trail)) still.enters
+        (goes_halt texts stops how turns m old x n (events_upto b (with_history s h)) at goes (first_events s h texts n now b lt) (λ over. all_events s h texts n now over b lt));
+    last = (goes_last texts stops how turns m old x n at goes).1;
+    pauses = pauses_so x n goes now;
   }
 
-  follows : (h : Halt) (n : Standing) → Goes texts stops how turns (Some m) h (Some n) → IsRunOf s texts (Some n) → Follows texts (Some n) (Some (there n))
-  follows h n goes now = record {
+  follows : (x : Halt) (n : Standing) → Goes texts stops how turns (Some m) x (Some n) → IsRunThrough s h texts (Some n) → Follows texts (Some n) (Some n) (Some (there n))
+  follows x n goes now = record {
     start = s;
+    history = h;
     place = n;
+    behind = n;
     old = events (world_of n.state).trail;
     known = refl;
+    settles = refl;
     same = refl;
     of = now;
-    among = goes_at texts stops how turns m old h n at goes;
-    lean = goes_lean texts stops how turns m h n (formed_lean texts formed) lean goes;
-    earned = goes_earned texts stops how turns m h n (formed_lean texts formed) lean earned goes;
+    still = still_here n;
+    among = goes_at texts stops how turns m old x n at goes;
+    lean = goes_lean texts stops how turns m x n (formed_lean texts formed) lean goes;
+    earned = goes_earned texts stops how turns m x n (formed_lean texts formed) lean earned goes;
   }
 
-  follows_in : (h : Halt) (n : Standing) → Follows texts (Some n) (Some (there n)) → FollowsIn texts (state_after h (Some n)) (left_by h (there n))
-  follows_in halt.Entered n f = f
-  follows_in halt.AtLine n f = f
-  follows_in halt.Ended n f = refl
-  follows_in (halt.Paused t) n f = f
+  follows_on : (x : Halt) (n : Standing) → Goes texts stops how turns (Some m) x (Some n) → IsRunThrough s h texts (Some n) → HaltsBehind s h texts x (Some n) → FollowsOn texts (state_after x (Some n)) (left_by x (there n))
+  unfolding follows
+  follows_on halt.Entered n goes now event = record { follows = follows halt.Entered n goes now; event = event; seen = (goes_last texts stops how turns m old halt.Entered n at goes).0 }
+  follows_on halt.AtLine n goes now event = record { follows = follows halt.AtLine n goes now; event = event; seen = (goes_last texts stops how turns m old halt.AtLine n at goes).0 }
+  follows_on halt.Ended n goes now event = refl
+  follows_on (halt.Paused t) n goes now event = follows (halt.Paused t) n goes now
 
-  says : (h : Halt) (n : Standing) (w : World) (said : List ℕ) → w ≡ world_of n.state → IsRunOf s texts (Some n) → going.Says h (Some n) w said → Says h (there n) said
+  says : (x : Halt) (n : Standing) (w : World) (said : List ℕ) → w ≡ world_of n.state → IsRunThrough s h texts (Some n) → going.Says x (Some n) w said → Says x (there n) said
   says halt.Entered n w said is now p = p ∙ ap (λ v. entered_text v.frames) is
   says halt.AtLine n w said is now p = p ∙ ap (λ v. line_text v.frames) is
   says halt.Ended n w said is now (e, (v, count, end), text) =
-      (e, (λ b lt. ends_so s texts n e v count end now.1 b lt), text ∙ ap (λ u. end_text e u) is)
+      (e, (λ b lt. ends_so (with_history s h) n e v count end (λ x is b lt. ends_as_meant s h texts n x now is b lt) b lt), text ∙ ap (λ u. end_text e u) is)
   says (halt.Paused t) n w said is now p = p ∙ ap (λ v. stop_text t ended.OutOfSteps v) is
 
   -- what a go that halted leads to
   abbrev pub LeadsTo : List ℕ → List ℕ → State → Type 0
-  LeadsTo front text after = (run : Option Course) × IsTold stops how turns (course_of s m old) front text run × FollowsIn texts after run
+  LeadsTo front text after = (run : Option Course) × IsTold stops how turns here front text run × FollowsOn texts after run
 
-  arrives : (h : Halt) (n : Standing) (first : World) (front text : List ℕ) (after : State) → Goes texts stops how turns (Some m) h (Some n) → IsRunOf s texts (Some n) → first ≡ world_of m.state → Told (length (output first.trail)) h (Some n) (front ++ text) → after ≡ state_after h (Some n) → LeadsTo front text after
-  arrives h n first front text after goes now stood told is =
-      let w : told.world ≡ world_of n.state = told.stands (world_of n.state) refl in (
-        left_by h (there n),
+  arrives : (x : Halt) (n : Standing) (first : World) (front text : List ℕ) (after : State) → Goes texts stops how turns (Some m) x (Some n) → IsRunThrough s h texts (Some n) → HaltsBehind s h texts x (Some n) → first ≡ world_of m.state
+      → Told (length (output first.trail)) x (Some n) (front ++ text) → after ≡ state_after x (Some n) → LeadsTo front text after
+  arrives x n first front text after goes now event stood told is =
+      let w : told.world ≡ world_of n.state = told.stands (world_of n.state) refl in
+      let before : output first.trail ≡ output (world_of place.state).trail = ap (λ v. output v.trail) stood ∙ still.written in (
+        left_by x (there n),
         record {
-          h = h;
+          h = x;
           new = there n;
-          passes = passes h n goes now;
+          passes = passes x n goes now;
           said = told.said;
-          says = says h n told.world told.said w now told.says;
-          whole = told.whole ∙ ap (λ v. on_new_line (drop (length (output first.trail)) (output v.trail)) told.said) w ∙ ap (λ v. on_new_line (drop (length (output v.trail)) (output (world_of n.state).trail)) told.said) stood;
+          says = says x n told.world told.said w now told.says;
+          whole = told.whole ∙ ap (λ v. on_new_line (drop (length (output first.trail)) (output v.trail)) told.said) w ∙ ap (λ bytes. on_new_line (drop (length bytes) (output (world_of n.state).trail)) told.said) before;
           left = refl;
         },
-        subst (λ a. FollowsIn texts a (left_by h (there n))) (sym is) (follows_in h n (follows h n goes now)),
+        subst (λ a. FollowsOn texts a (left_by x (there n))) (sym is) (follows_on x n goes now event),
       )
 
-  unknown : (h : Halt) (first : World) (front text : List ℕ) (after : State) → h ≡ halt.Ended → Told (length (output first.trail)) h None (front ++ text) → LeadsTo front text after
-  unknown h first front text after is told =
+  unknown : (x : Halt) (first : World) (front text : List ℕ) (after : State) → x ≡ halt.Ended → Told (length (output first.trail)) x None (front ++ text) → LeadsTo front text after
+  unknown x first front text after is told =
       let e = subst (λ g. going.Says g None told.world told.said) is told.says in
       no_end e.0 e.1.0 e.1.1 told.world told.said e.1.2 e.2
 
-  comes : (h : Halt) (r : Option Standing) (first : World) (front text : List ℕ) (after : State) → Goes texts stops how turns (Some m) h r → IsRunOf s texts r → first ≡ world_of m.state → Told (length (output first.trail)) h r (front ++ text) → after ≡ state_after h r → LeadsTo front text after
-  comes h None first front text after goes now stood told is = unknown h first front text after goes told
-  comes h (Some n) first front text after goes now stood told is = arrives h n first front text after goes now stood told is
+  comes : (x : Halt) (r : Option Standing) (first : World) (front text : List ℕ) (after : State) → Goes texts stops how turns (Some m) x r → IsRunThrough s h texts r × HaltsBehind s h texts x r → first ≡ world_of m.state
+      → Told (length (output first.trail)) x r (front ++ text) → after ≡ state_after x r → LeadsTo front text after
+  comes x None first front text after goes now stood told is = unknown x first front text after goes told
+  comes x (Some n) first front text after goes now stood told is = arrives x n first front text after goes now.0 now.1 stood told is
 
   pub went : (front text : List ℕ) (after : State) → Went texts stops how turns (Some m) front text after → LeadsTo front text after
-  went front text after w = comes w.stops_at w.new w.first front text after w.goes (w.meant s of) (w.stood (world_of m.state) refl) w.told w.follows
+  went front text after w =
+      comes w.stops_at w.new w.first front text after w.goes (goes_through s h texts stops how turns (Some m) w.stops_at w.new w.goes of) (w.stood (world_of m.state) refl) w.told w.follows
 
 -- ---- from the start on
 
-pub begins : (texts : List Text) (stack heap : ℕ) (input : List ℕ) → IsRunOf (start_of texts stack heap input) texts (Some (started texts stack heap input))
-    → Begins (start_of texts stack heap input) (course_of (start_of texts stack heap input) (started texts stack heap input) [])
-begins texts stack heap input of =
+pub begins : (texts : List Text) (stack heap : ℕ) (input : List ℕ) → Begins (start_of texts stack heap input) (course_of (with_history (start_of texts stack heap input) (alone texts)) (started texts stack heap input) [])
+begins texts stack heap input =
     let fresh = starts_fresh texts stack heap input in
     record {
       start = refl;
-      meant = is_meant (start_of texts stack heap input) texts (started texts stack heap input) [] of fresh.0;
+      meant = is_meant (start_of texts stack heap input) (alone texts) texts (started texts stack heap input) [] (begins_through texts stack heap input) fresh.0;
       untaken = refl;
       unpassed = refl;
       unwritten = fresh.1;

@@ -1,29 +1,29 @@
 -- The turns of a whole run are paid by its work.
 use Rattle.std.proofs.Common.{◌≡◌, ℕ, ◌+◌, ◌*◌, ◌/◌, ◌<◌, ◌≤◌, List, [], ◌∷◌, ◌++◌, refl, ap, ◌∙◌, subst, arith, Some}
-use Rattle.sc_meaning.specs.World.{Item, ComesBack, work, work_of}
-use Rattle.sc_meaning.specs.Outcomes.{world_at}
+use Rattle.sc_meaning.specs.World.{World, Item, ComesBack, work, work_of}
 use Rattle.sc_meaning.specs.Versions.{Text}
-use Rattle.sc_meaning.specs.Behaviour.{Start, ending}
+use Rattle.sc_meaning.specs.Laws.{Leads}
 use Rattle.sc_meaning.proofs.Trails.{trail-passed}
 use Rattle.sc_interp_machine.specs.Runs.{State, Runs, Makes, Answers, Ends}
 use Rattle.sc_interp_laws.specs.Lean.{AreLean, IsLean}
 use Rattle.sc_interp_laws.specs.Near.{near}
 use Rattle.sc_interp_laws.specs.Paid.{done}
 use Rattle.sc_interp_laws.proofs.RunNears.{near_most}
+use Rattle.sc_interp_laws.proofs.Works.{leads_work}
 use Rattle.sc_interp.specs.Steady.{alone}
 use Rattle.sc_words.specs.declared.stop.StopAt.{StopAt}
 use Rattle.sc_words.specs.declared.stop.Walk.{Walk}
 use Rattle.sc_world.specs.declared.halt.Halt.{Halt}
+use Rattle.sc_world.specs.Changing.{changed_standing}
 use Rattle.sc_world.specs.Wants.{Want}
 use Rattle.sc_world.specs.Goes.{Goes, gone, started, want_of, with_status}
-use Rattle.sc_world.specs.Meant.{IsRunOf}
 use Rattle.sc_world.specs.Standing.{Standing, world_of}
 use Rattle.sc_world_laws.specs.Halts.{total}
 use Rattle.sc_world_laws.specs.Told.{PassedEach}
 use Rattle.sc_world_laws.proofs.Halts.{paused, passed_each}
 use Rattle.sc_world_laws.proofs.Halting.{left_state}
 use Rattle.sc_world_laws.proofs.Pausing.{gone_paid, starts_lean}
-use Rattle.sc_world_laws.proofs.Shown.{run_leads}
+use Rattle.sc_world_change_laws.proofs.Still.{still, still_near}
 use Rattle.sc_session_laws.specs.Follows.{Earned}
 
 -- ---- from place to place
@@ -74,11 +74,28 @@ from_nothing : (t w : ℕ) → t / 64 ≤ w → 0 + t / 64 ≤ w
 from_nothing t w p = omega (arith, p)
 
 -- each event before which the work is below a 64th of all the turns
-pub passed_in_all : (s : Start) (texts : List Text) (n : Standing) (b : ℕ) → Earned n → IsRunOf s texts (Some n) → n.steps < b → PassedEach n.turns [] (world_of n.state).trail (world_at (ending b s)).trail
-passed_in_all s texts n b earned of lt before later e f =
+pub passed_in_all : (n : Standing) (v : World) → Earned n → Leads (world_of n.state) v → PassedEach n.turns [] (world_of n.state).trail v.trail
+passed_in_all n v earned l before later e f =
     let new : List Item = (world_of n.state).trail in
-    let all : List Item = (world_at (ending b s)).trail in
-    let l = run_leads s texts n b of lt in
-    let whole : all ≡ new ++ l.0 = ap (λ u. u.trail) l.1 ∙ trail-passed l.0 (world_of n.state) in
+    let whole : v.trail ≡ new ++ l.0 = ap (λ u. u.trail) l.1 ∙ trail-passed l.0 (world_of n.state) in
     let sum : 0 + n.turns / 64 ≤ total work_of new = subst (λ k. 0 + n.turns / 64 ≤ k) (work_total new) (from_nothing n.turns (work new) (paused n.turns 7 (work new) (omega arith) (few_turns n.turns (near n.state) (work new) earned))) in
-    passed_each Item work_of 0 (n.turns / 64) all new l.0 before later whole e sum (subst (λ k. k < 0 + n.turns / 64) (work_total before) f)
+    passed_each Item work_of 0 (n.turns / 64) v.trail new l.0 before later whole e sum (subst (λ k. k < 0 + n.turns / 64) (work_total before) f)
+
+-- ---- a change
+
+change_pays : (t u n0 n1 d0 d1 : ℕ) → u ≡ t → n1 ≤ n0 → d0 ≤ d1 → t + n0 ≤ 7 + 9 * d0 → u + n1 ≤ 7 + 9 * d1
+change_pays t u n0 n1 d0 d1 e p q r = omega (arith, e, p, q, r)
+
+-- the turns stay, the next work is no farther, and no work is taken away
+pub change_earned : (old new : List Text) (m : Standing) → Earned m → Earned (changed_standing old new m)
+change_earned old new m p =
+    let n : Standing = changed_standing old new m in
+    let s = still old new m in
+    change_pays m.turns n.turns (near m.state) (near n.state) (done (world_of m.state)) (done (world_of n.state)) s.turns (still_near old new m) (leads_work (world_of m.state) (world_of n.state) s.leads) p
+
+more_before : (k a b s : ℕ) → a ≤ b → k < a + s → k < b + s
+more_before k a b s p q = omega (arith, p, q)
+
+-- what is passed of a go that began behind changes is passed of one that began before them
+pub passed_before : (t : ℕ) (w v : World) (new all : List Item) → Leads w v → PassedEach t v.trail new all → PassedEach t w.trail new all
+passed_before t w v new all l p before later e f = p before later e (more_before (work before) (work w.trail) (work v.trail) (t / 64) (leads_work w v l) f)

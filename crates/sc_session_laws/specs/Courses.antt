@@ -1,14 +1,16 @@
 -- Yardstick: to be compared with what it restates (docs/TRUST.md).
 -- A session's run as the meaning of C has it, and what an answer tells of it. The meaning is that of a program whose modules are all
--- interpreted: of such a run all that is told is what the meaning gives, from its start on. Of a run in which some modules are in
--- object form nothing is claimed here: it is no run of the meaning's, so it is `None`, and so is what is behind each of its goes. Nor is
--- anything of a run once its modules have changed: the meaning here is that of one program from its start on.
--- What its answers tell is what holds of the world in which it stands (Mixing), and not that this world is one of the meaning's.
-use Rattle.std.specs.Prelude.{◌≡◌, ◌<◌, ◌≤◌, ◌⊎◌, ℕ, ◌+◌, ◌-◌, ◌*◌, ◌||◌, Bool, true, false, List, [], ◌∷◌, ◌++◌, length, drop, Option, Some, None}
+-- interpreted, with all versions of them that the run went through: each change of the modules at a stop is one version more of its
+-- history, at the events that have passed by then. Of such a run all that is told is what the meaning gives for its history, from its
+-- start on. Of a run in which some modules are in object form nothing is claimed here: it is no run of the meaning's, so it is `None`,
+-- and so is what is behind each of its goes. What its answers tell is what holds of the world in which it stands (Mixing), and not that
+-- this world is one of the meaning's.
+use Rattle.std.specs.Prelude.{◌≡◌, ◌<◌, ◌≤◌, ◌⊎◌, ℕ, ◌+◌, ◌-◌, ◌*◌, ◌&&◌, Bool, true, false, List, [], ◌∷◌, ◌++◌, length, drop, Option, Some, None}
 use Rattle.sc_meaning.specs.World.{World, Event, events}
 use Rattle.sc_meaning.specs.Outcomes.{world_at}
-use Rattle.sc_meaning.specs.Behaviour.{Start, ending, events_upto}
-use Rattle.sc_meaning.specs.Laws.{Leads}
+use Rattle.sc_meaning.specs.Behaviour.{Start, ending, events_upto, first_world}
+use Rattle.sc_meaning.specs.Laws.{Leads, with_history}
+use Rattle.sc_meaning.specs.Versions.{Text}
 use Rattle.sc_interp.specs.Ends.{start_of, end_of}
 use Rattle.sc_interp_access.specs.declared.ended.Ended.{Ended}
 use Rattle.sc_interp_access.specs.declared.ended.Ended.TheVariants as ended
@@ -25,10 +27,10 @@ use Rattle.sc_words.specs.declared.stop.Walk.TheVariants as walk
 use Rattle.sc_world.specs.declared.halt.Halt.{Halt}
 use Rattle.sc_world.specs.declared.halt.Halt.TheVariants as halt
 use Rattle.sc_world.specs.Standing.{Standing, world_in}
-use Rattle.sc_world_laws.specs.Told.{selects, HaltsAt, PassedEach}
+use Rattle.sc_world_laws.specs.Told.{selects, HaltsAt, IsLastAt, PassedEach}
 use Rattle.sc_session.specs.declared.state.State.{State}
 use Rattle.sc_session.specs.declared.state.State.TheVariants as state
-use Rattle.sc_session.specs.declared.present.Present.{Present}
+use Rattle.sc_session.specs.Changing.{stays}
 use Rattle.sc_session.specs.Modules.{texts}
 use Rattle.sc_session.specs.Plain.{Plain}
 use Rattle.sc_session.specs.Going.{IsInput}
@@ -36,8 +38,8 @@ use Rattle.sc_session.specs.Mixing.{is_mixed}
 use Rattle.sc_session.specs.Stopping.{places}
 use Rattle.sc_session.specs.Transcript.{Moment}
 
--- A run of a program: how it started; how many steps were done since the call of `main` went out, and how many turns they took;
--- the world behind them, with all that has happened; and the events that were passed, which a go looked at.
+-- A run of a program: how it started, with the history of its texts so far; how many steps were done since the call of `main` went out,
+-- and how many turns they took; the world behind them, with all that has happened; and the events that were passed, which a go looked at.
 pub record Course : Type 0 where
   pub start : Start
   pub steps : ℕ
@@ -45,9 +47,11 @@ pub record Course : Type 0 where
   pub world : World
   pub passed : List Event
 
--- What has happened is the beginning of all that the meaning gives, at every bound that is greater than the steps. Eight times the
--- turns and one more, for each node of the program and once more, is such a bound.
+-- All that has happened leads from the start to the world of the run, so its trail alone says what it is; and it is the beginning of all
+-- that the meaning gives, at every bound that is greater than the steps. Eight times the turns and one more, for each node of the
+-- program and once more, is such a bound.
 pub record IsMeant (c : Course) : Type 0 where
+  pub comes : Leads (first_world c.start) c.world
   pub happens : (b : ℕ) → c.steps < b → Leads c.world (world_at (ending b c.start))
   pub enough : (nodes : ℕ) → c.steps < 8 * (c.turns + 1) * (nodes + 1)
 
@@ -80,13 +84,15 @@ PausesSo turns c d halt.AtLine = Unit {0}
 PausesSo turns c d halt.Ended = Unit {0}
 PausesSo turns c d (halt.Paused t) = IsPause turns c d t
 
--- A go from one place of a run to another. Of the events that the meaning gives it passed those up to the first that a stop or the walk
--- selects, behind the old place; or all of them, where none is selected; or some, where it paused before one is.
+-- A go from one place of a run to another. Of the events that the meaning gives for its history it passed those up to the first that a
+-- stop or the walk selects, behind the old place; or all of them, where none is selected; or some, where it paused before one is. Where
+-- it halted at an event, this is the last thing that happened.
 pub record Passes (stops : List StopAt) (how : Walk) (turns : ℕ) (c : Course) (h : Halt) (d : Course) : Type 0 where
   pub same : d.start ≡ c.start
   pub meant : IsMeant d
   pub passed : d.passed ≡ events d.world.trail
   pub halts : (b : ℕ) → d.steps < b → HaltsAt (selects stops how c.world.enters) h c.passed (events_upto b d.start) d.passed
+  pub last : IsLastAt h d.world
   pub pauses : PausesSo turns c d h
 
 -- ---- what is told of it
@@ -135,19 +141,29 @@ abbrev pub RunsSoBy : Bool → Moment → Option (List ℕ) → List ℕ → Lis
 RunsSoBy true old file front text after = RunsSo old file front text after
 RunsSoBy false old file front text after = after ≡ None
 
--- the modules changed in the run that goes on
-abbrev pub is_changed : List (List Present) → Bool
-is_changed [] = false
-is_changed (before ∷ past) = true
-
--- nothing is told here of the run that goes on in a session
-abbrev pub is_untold : Plain → Bool
-is_untold session = is_changed session.past || is_mixed session.state
-
--- The same by whether a run of both forms goes on in the session, or one in which the modules changed.
+-- The same by whether a run of both forms goes on in the session.
 abbrev pub WalksSoBy : Bool → Moment → Option Course → Walk → List ℕ → List ℕ → Option Course → Type 0
 WalksSoBy false old run how front text after = WalksSo old run how front text after
 WalksSoBy true old run how front text after = after ≡ None
+
+-- ---- the modules change
+
+-- The texts become these where a run stands: its history has one version more, at the events that have passed so far.
+abbrev pub with_texts : List Text → Course → Course
+with_texts new c = record c { start = with_history c.start (c.start.history ++ record { count = c.world.count; texts = new } ∷ []) }
+
+abbrev pub changed_course : List Text → Option Course → Option Course
+changed_course new None = None
+changed_course new (Some c) = Some (with_texts new c)
+
+abbrev pub changed_by : Bool → List Text → Option Course → Option Course
+changed_by true new run = changed_course new run
+changed_by false new run = None
+
+-- The modules have changed, and their texts are these. A run that stands at a stop goes on with them as its next version, where all of
+-- them are interpreted. Else there is none any more, or one of both forms.
+abbrev pub ChangesSo : Moment → Option Course → List Text → Option Course → Type 0
+ChangesSo old run new after = after ≡ changed_by (stays old.session.state && are_sources new) new run
 
 -- The run stays where it is, or there is none any more of which something is told.
 abbrev pub Stays : Option Course → Option Course → Type 0
@@ -158,16 +174,27 @@ RunTells old run file front (answer.Ran text) after = RunsSoBy (are_sources (tex
 RunTells old run file front _ after = Stays run after
 
 abbrev pub WalkTells : Moment → Option Course → Walk → List ℕ → Answer → Option Course → Type 0
-WalkTells old run how front (answer.Ran text) after = WalksSoBy (is_untold old.session) old run how front text after
+WalkTells old run how front (answer.Ran text) after = WalksSoBy (is_mixed old.session.state) old run how front text after
 WalkTells old run how front _ after = Stays run after
 
--- What an answer tells of a session's run, behind these bytes, which went out; and where the run stands behind it.
-abbrev pub Tells : Moment → Option Course → Command → List ℕ → Answer → Option Course → Type 0
-Tells old run (command.Run file) front said after = RunTells old run file front said after
-Tells old run command.Step front said after = WalkTells old run walk.Step front said after
-Tells old run command.Next front said after = WalkTells old run walk.Next front said after
-Tells old run command.Cont front said after = WalkTells old run walk.Cont front said after
-Tells old run _ front said after = Stays run after
+abbrev pub ChangeTells : Moment → Option Course → Answer → List Text → Option Course → Type 0
+ChangeTells old run (answer.Loaded m) new after = ChangesSo old run new after
+ChangeTells old run (answer.Edited m) new after = ChangesSo old run new after
+ChangeTells old run (answer.Unloaded m) new after = ChangesSo old run new after
+ChangeTells old run (answer.Swapped m f) new after = ChangesSo old run new after
+ChangeTells old run _ new after = Stays run after
+
+-- What an answer tells of a session's run, behind these bytes, which went out; the texts of the modules then; and where the run stands.
+abbrev pub Tells : Moment → Option Course → Command → List ℕ → Answer → List Text → Option Course → Type 0
+Tells old run (command.Run file) front said new after = RunTells old run file front said after
+Tells old run command.Step front said new after = WalkTells old run walk.Step front said after
+Tells old run command.Next front said new after = WalkTells old run walk.Next front said after
+Tells old run command.Cont front said new after = WalkTells old run walk.Cont front said after
+Tells old run (command.Load name) front said new after = ChangeTells old run said new after
+Tells old run (command.Unload name) front said new after = ChangeTells old run said new after
+Tells old run (command.Edit name file) front said new after = ChangeTells old run said new after
+Tells old run (command.Swap name form) front said new after = ChangeTells old run said new after
+Tells old run _ front said new after = Stays run after
 
 -- The run of interpreted modules that goes on in a session stands in this world, in which `where` and `print` are answered.
 abbrev pub StandsIn : Option Standing → Option Course → Type 0
@@ -183,10 +210,5 @@ Stands (state.StoppedMixed w) run = run ≡ None
 Stands (state.PausedMixed w) run = run ≡ None
 Stands state.Ended run = run ≡ None
 
--- the same of a session whose modules changed in the run or not
-abbrev pub StandsBy : List (List Present) → State → Option Course → Type 0
-StandsBy [] s run = Stands s run
-StandsBy (before ∷ past) s run = run ≡ None
-
 abbrev pub StandsSo : Plain → Option Course → Type 0
-StandsSo session run = StandsBy session.past session.state run
+StandsSo session run = Stands session.state run

@@ -2,6 +2,7 @@
 use Rattle.std.proofs.Common.{inl, inr, ℕ, List, [], ◌∷◌, sym, subst, Option, None}
 use Rattle.sc_outside.specs.Stored.{FileMap}
 use Rattle.sc_session.specs.declared.limits.Limits.{Limits}
+use Rattle.sc_session.specs.Modules.{texts}
 use Rattle.sc_session.specs.Transcript.{Moment, moment, empty}
 use Rattle.sc_session_laws.specs.Courses.{Course, Tells}
 use Rattle.sc_session_laws.specs.Follows.{Keeps}
@@ -14,11 +15,11 @@ use Rattle.sc_top.specs.Meaning.{Means, RunMeans, EndedAsMeant}
 use Rattle.sc_top.specs.declared.status.Status.{Status}
 
 -- what a line is answered tells it, and so does want of memory before its command was known
-replies_tell : (old : Moment) (run : Option Course) (line front : List ℕ) (said : Answer) (mid : Moment) → Keeps old.session run → Replies old line front said mid → (after : Option Course) × Tells old run (command_of line) front said after × Keeps mid.session after
+replies_tell : (old : Moment) (run : Option Course) (line front : List ℕ) (said : Answer) (mid : Moment) → Keeps old.session run → Replies old line front said mid → (after : Option Course) × Tells old run (command_of line) front said (texts mid.session.modules) after × Keeps mid.session after
 replies_tell old run line front said mid k (inl p) = answers_tell old run (command_of line) front said mid k p
 replies_tell old run line front said mid k (inr (none, (known, no_memory, same))) = (
   run,
-  subst (λ a. Tells old run (command_of line) front a run) (sym no_memory) (tells_nothing old run (command_of line) front),
+  subst (λ a. Tells old run (command_of line) front a (texts mid.session.modules) run) (sym no_memory) (tells_nothing old run (command_of line) front (texts mid.session.modules)),
   subst (λ m. Keeps m.session run) (sym same) k,
 )
 
@@ -26,7 +27,8 @@ one_line : (old : Moment) (run : Option Course) (line answered : List ℕ) (new 
 one_line old run line answered new k a =
     let p = replies_tell old run line a.front a.said a.mid k a.replies in
     let kept : Keeps new.session p.0 = subst (λ m. Keeps m.session p.0) (sym a.after) p.2 in
-    (p.0, record { answers = a; tells = p.1; stands = session_stands new.session p.0 kept }, kept)
+    let told : Tells old run (command_of line) a.front a.said (texts new.session.modules) p.0 = subst (λ m. Tells old run (command_of line) a.front a.said (texts m.session.modules) p.0) (sym a.after) p.1 in
+    (p.0, record { answers = a; tells = told; stands = session_stands new.session p.0 kept }, kept)
 
 run_means : (old : Moment) (run : Option Course) (lines : List (List ℕ)) (text : List ℕ) (new : Moment) → Keeps old.session run → Run old lines text new → RunMeans old run lines text new
 run_means old run [] text new k r = r

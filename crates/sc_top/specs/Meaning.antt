@@ -1,9 +1,10 @@
 -- Yardstick: to be compared with what it restates (docs/TRUST.md).
--- A session whose answers are those that the meaning of C gives its runs of interpreted modules. Of a run in which some module is in
--- object form nothing is said here, nor of one once its modules have changed (Courses).
+-- A session whose answers are those that the meaning of C gives its runs of interpreted modules, with the versions that their modules
+-- went through. Of a run in which some module is or was in object form nothing is said here (Courses).
 use Rattle.std.specs.Prelude.{◌≡◌, ◌⊎◌, ℕ, false, List, [], ◌∷◌, ◌++◌, Option, None}
 use Rattle.sc_outside.specs.Stored.{FileMap}
 use Rattle.sc_outside.specs.Streams.{AppendsSome}
+use Rattle.sc_session.specs.Modules.{texts}
 use Rattle.sc_session.specs.Transcript.{Moment, moment}
 use Rattle.sc_session_laws.specs.Courses.{Course, StandsSo, Tells}
 use Rattle.sc_words.specs.Commands.{command_of}
@@ -14,7 +15,7 @@ use Rattle.sc_top.specs.declared.status.Status.{Status}
 -- A line's answer, which tells of the run what the meaning gives; the run stood where it stands before the line, and stands so behind it.
 pub record Means (old : Moment) (run : Option Course) (line answered : List ℕ) (new : Moment) (after : Option Course) : Type 0 where
   pub answers : Answers old line answered new
-  pub tells : Tells old run (command_of line) answers.front answers.said after
+  pub tells : Tells old run (command_of line) answers.front answers.said (texts new.session.modules) after
   pub stands : StandsSo new.session after
 
 -- The answers to these lines, one after the other, in a session whose run stands so.

@@ -2,13 +2,14 @@
 use Rattle.std.proofs.Common.{◌≡◌, ℕ, zero, suc, ◌+◌, ◌<◌, ◌≤◌, nat_le, Bool, true, false, if◌then◌else◌, List, [], ◌∷◌, ◌++◌, refl, ap, sym, subst, ◌∙◌, arith, add-one, Option, Some, None}
 use Rattle.sc_meaning.specs.World.{World, Event, Frame, Happens, GoesOut, ComesBack, events, pass}
 use Rattle.sc_meaning.specs.Outcomes.{Outcome, Done, Over, Ending, Exit, and_then, world_after, world_at, went}
-use Rattle.sc_meaning.specs.Versions.{Text, Version, History, version_at}
+use Rattle.sc_meaning.specs.Versions.{Text, Version, History, callee_of, version_at}
 use Rattle.sc_meaning.specs.Changes.{changed, happened, settled, statics_born}
 use Rattle.sc_meaning.specs.Expressions.{Answer}
 use Rattle.sc_meaning.specs.Calls.{call}
 use Rattle.sc_meaning.specs.Behaviour.{Start, first_world, main_key, main_called, ending, ending_of, events_upto, status_of}
 use Rattle.sc_meaning.specs.Laws.{Leads, with_history}
-use Rattle.sc_meaning.proofs.Steps.{here, one_more}
+use Rattle.sc_meaning.proofs.Steps.{here, on, one_more}
+use Rattle.sc_meaning.proofs.Runs.{ending_leads}
 use Rattle.sc_meaning.proofs.Deeper.{ending_world}
 use Rattle.sc_meaning.proofs.Changing.{settled_goes}
 use Rattle.sc_meaning.proofs.Growing.{Going, leads_then}
@@ -16,9 +17,10 @@ use Rattle.sc_interp_machine.specs.Runs as runs
 use Rattle.sc_interp_machine.specs.Runs.{Caller, State, Runs, Makes, Answers, Ends, then_goes, advance}
 use Rattle.sc_interp_machine.proofs.RunFollows.{answers_meaning, ends_meaning}
 use Rattle.sc_interp_laws.specs.Worlds.{world_of}
+use Rattle.sc_interp_world.specs.Outputs.{output}
 use Rattle.sc_interp_laws.specs.Events.{IsPrefix}
 use Rattle.sc_interp_laws.proofs.RunMeans.{leads_prefix, reached_leads}
-use Rattle.sc_interp_laws.proofs.RunSteps.{advance_leads}
+use Rattle.sc_interp_laws.proofs.RunSteps.{advance_leads, callee_go}
 use Rattle.sc_interp.specs.declared.stepped.Shown.{Shown}
 use Rattle.sc_interp.specs.declared.stepped.Shown.TheVariants as now
 use Rattle.sc_interp.specs.Shows.{shown, entry_shown}
@@ -44,7 +46,8 @@ use Rattle.sc_world.specs.Standing as standings
 use Rattle.sc_world.specs.Standing.{Standing}
 use Rattle.sc_world.specs.Wants.{Want, wanted, else_over, halt_or, else_paused, rests, taken}
 use Rattle.sc_world.specs.Goes.{Gone, gone, here_or, stepped, with_status, closed, Leaves, Goes, want_of, main_next, started}
-use Rattle.sc_world_change_laws.specs.Through.{IsAt, StandsIn, IsBehind, IsBehindEvent, IsRunThrough, HaltsBehind}
+use Rattle.sc_world_change_laws.specs.Through.{IsAt, StandsIn, IsBehind, IsBehindEvent, IsRunThrough, HaltsBehind, with_version}
+use Rattle.sc_world_change_laws.proofs.Still.{leads_output, still}
 
 -- ---- where a run is over
 
@@ -70,6 +73,15 @@ answers_so s h born v a k n p q lt =
     comes s h n born (Done a v) p (answers_meaning h k n main_key [] (pass GoesOut born) v a (omega arith) (from_first h born k ∙ q))
 
 -- ---- each step
+
+same_world : (st : State) → standings.world_of st ≡ world_of st
+same_world (Runs doing ss env a cs w) = refl
+same_world (Makes t v vs c cs w) = refl
+same_world (Answers a cs w) = refl
+same_world (Ends e) = refl
+
+as_standing : (s : Start) (h : History) (texts : List Text) (k : ℕ) (st : State) → IsBehind s h texts k st (world_of st).count → IsBehind s h texts k st (standings.world_of st).count
+as_standing s h texts k st p = subst (λ w. IsBehind s h texts k st w.count) (sym (same_world st)) p
 
 module _ (s : Start) (h : History) (texts : List Text) where
   -- a place that the call of `main` reached is meant so
@@ -124,9 +136,9 @@ module _ (s : Start) (h : History) (texts : List Text) where
   step_stands k (Answers a cs w) p = reached (k + 1) (next (Answers a cs w)) (onward k (Answers a cs w) p)
   step_stands k (Ends e) p = λ n lt. p n (omega (arith, lt))
 
-  step_behind : (k : ℕ) (st : State) → StandsIn s h texts k st → IsEvent (shown (alone texts) texts st) → (count : ℕ) × IsBehind s h texts (k + 1) (next st) count
-  step_behind k (Runs doing ss env a cs w) p e = ((world_of (next (Runs doing ss env a cs w))).count, behind k (Runs doing ss env a cs w) p e)
-  step_behind k (Makes t v vs c cs w) p e = ((world_of (next (Makes t v vs c cs w))).count, behind k (Makes t v vs c cs w) p e)
+  step_behind : (k : ℕ) (st : State) → StandsIn s h texts k st → IsEvent (shown (alone texts) texts st) → IsBehind s h texts (k + 1) (next st) (standings.world_of (next st)).count
+  step_behind k (Runs doing ss env a cs w) p e = as_standing s h texts (k + 1) (next (Runs doing ss env a cs w)) (behind k (Runs doing ss env a cs w) p e)
+  step_behind k (Makes t v vs c cs w) p e = as_standing s h texts (k + 1) (next (Makes t v vs c cs w)) (behind k (Makes t v vs c cs w) p e)
   step_behind k (Answers a cs w) p e = absurd e
   step_behind k (Ends x) p e = absurd e
 
@@ -181,9 +193,9 @@ module _ (s : Start) (h : History) (texts : List Text) where
         present = present_stays c (world_of st).count h le p.come ∙ p.present;
       })
 
-  behind_closed : (k : ℕ) (st : State) (c : ℕ) → IsBehind s h texts k st c → IsBehind s h texts k (with_status st) c
-  behind_closed k st c p =
-      subst (λ t. IsBehind s h texts k t c) (sym (ap with_status (sym p.stands) ∙ last_on h p.born k c p.shows ∙ p.stands)) p
+  behind_closed : (k : ℕ) (st : State) → IsBehind s h texts k st (standings.world_of st).count → IsBehind s h texts k (with_status st) (standings.world_of (with_status st)).count
+  behind_closed k st p =
+      subst (λ t. IsBehind s h texts k t (standings.world_of t).count) (sym (ap with_status (sym p.stands) ∙ last_on h p.born k (standings.world_of st).count p.shows ∙ p.stands)) p
 
   closed_stands : (k : ℕ) (st : State) → StandsIn s h texts k st → StandsIn s h texts k (with_status st)
   closed_stands k (Runs doing ss env a cs w) p = p
@@ -251,11 +263,9 @@ module _ (s : Start) (h : History) (texts : List Text) where
 
   closed_halts : (halt : Halt) (out : Gone) → out.0 ≡ halt → Led out → HaltsBehind s h texts halt (Some (closed out.1))
   closed_halts Entered out e p =
-      let q : IsBehindEvent s h texts out.1 = p.1 (subst IsStop (sym e) tt) in
-      (q.0, behind_closed s h texts out.1.steps out.1.state q.0 q.1)
+      behind_closed s h texts out.1.steps out.1.state (p.1 (subst IsStop (sym e) tt))
   closed_halts AtLine out e p =
-      let q : IsBehindEvent s h texts out.1 = p.1 (subst IsStop (sym e) tt) in
-      (q.0, behind_closed s h texts out.1.steps out.1.state q.0 q.1)
+      behind_closed s h texts out.1.steps out.1.state (p.1 (subst IsStop (sym e) tt))
   closed_halts Ended out e p = tt
   closed_halts (Paused n) out e p = tt
 
@@ -306,18 +316,22 @@ module _ (s : Start) (h : History) (old new : List Text) where
         shows = shows_still h v p.born k p.shows;
       }
 
-  pub change_behind : (m : Standing) (c : ℕ) → IsBehind s h old m.steps m.state c → IsBehind s (h ++ record { count = c; texts = new } ∷ []) new (changed_standing old new m).steps (changed_standing old new m).state c
-  change_behind m c p =
-      let k : History = h ++ record { count = c; texts = new } ∷ [] in
-      subst (λ n. IsBehind s k new n (changed_standing old new m).state c) (sym (to_steps old new m.state m.shown m.steps m.turns))
-      (subst (λ t. IsBehind s k new m.steps t c) (sym (to_state old new m.state m.shown m.steps m.turns)) (behind_changed m.steps m.state c p))
-
-  pub change_through : (m : Standing) (c : ℕ) → IsBehind s h old m.steps m.state c → IsRunThrough s (h ++ record { count = c; texts = new } ∷ []) new (Some (changed_standing old new m))
-  change_through m c p =
-      let k : History = h ++ record { count = c; texts = new } ∷ [] in
+  pub change_behind : (m : Standing) → IsBehindEvent s h old m → IsBehindEvent s (with_version h new (standings.world_of m.state)) new (changed_standing old new m)
+  change_behind m p =
+      let c : ℕ = (standings.world_of m.state).count in
+      let k : History = with_version h new (standings.world_of m.state) in
       let n : Standing = changed_standing old new m in
-      let q : IsBehind s k new n.steps n.state c = change_behind m c p in
-      (behind_stands s k new n.steps n.state c q, λ e. (c, q))
+      let there : IsBehind s k new n.steps n.state c =
+      subst (λ j. IsBehind s k new j n.state c) (sym (to_steps old new m.state m.shown m.steps m.turns))
+      (subst (λ t. IsBehind s k new m.steps t c) (sym (to_state old new m.state m.shown m.steps m.turns)) (behind_changed m.steps m.state c p)) in
+      subst (λ d. IsBehind s k new n.steps n.state d) (sym (still old new m).counts) there
+
+  pub change_through : (m : Standing) → IsBehindEvent s h old m → IsRunThrough s (with_version h new (standings.world_of m.state)) new (Some (changed_standing old new m))
+  change_through m p =
+      let k : History = with_version h new (standings.world_of m.state) in
+      let n : Standing = changed_standing old new m in
+      let q : IsBehindEvent s k new n = change_behind m p in
+      (behind_stands s k new n.steps n.state (standings.world_of n.state).count q, λ e. q)
 
 -- ---- the start
 
@@ -332,19 +346,17 @@ module _ (s : Start) (texts : List Text) where
   settles : settled (alone texts) (first_world s) ≡ statics_born texts (first_world s)
   settles = settled_once (statics_born texts (first_world s))
 
-  first_behind : (born : World) → statics_born texts (first_world s) ≡ Done tt born → IsEvent (entry_shown (main_next texts [] born)) → (count : ℕ) × IsBehind s (alone texts) texts 0 (main_next texts [] born) count
+  first_behind : (born : World) → statics_born texts (first_world s) ≡ Done tt born → IsEvent (entry_shown (main_next texts [] born)) → IsBehind s (alone texts) texts 0 (main_next texts [] born) (standings.world_of (main_next texts [] born)).count
   first_behind born p e =
-      let c : ℕ = (world_of (main_next texts [] born)).count in (
-        c,
-        record {
-          born = born;
-          births = settles ∙ p;
-          stands = first_steady texts born;
-          come = (omega arith, tt);
-          present = present texts c;
-          shows = subst (λ ts. Shows born.count ts c (λ g. reached_in g born 0)) (sym (present texts born.count)) (first_shows (alone texts) texts born e);
-        },
-      )
+      let c : ℕ = (world_of (main_next texts [] born)).count in
+      as_standing s (alone texts) texts 0 (main_next texts [] born) (record {
+        born = born;
+        births = settles ∙ p;
+        stands = first_steady texts born;
+        come = (omega arith, tt);
+        present = present texts c;
+        shows = subst (λ ts. Shows born.count ts c (λ g. reached_in g born 0)) (sym (present texts born.count)) (first_shows (alone texts) texts born e);
+      })
 
   first_at : (born : World) → statics_born texts (first_world s) ≡ Done tt born → StandsIn s (alone texts) texts 0 (main_next texts [] born)
   first_at born p =
@@ -360,7 +372,7 @@ module _ (s : Start) (texts : List Text) where
   births_over : (e : Ending) → statics_born texts (first_world s) ≡ Over e → (n : ℕ) → ending n (with_history s (alone texts)) ≡ e
   births_over e p n = ap (λ o. ending_of (and_then o (λ _ w. main_called n (alone texts) w))) (settles ∙ p)
 
-  first_through : (r : Outcome (Unit {0})) → statics_born texts (first_world s) ≡ r → StandsIn s (alone texts) texts 0 (first_shown r) × (IsEvent (entry_shown (first_shown r)) → (count : ℕ) × IsBehind s (alone texts) texts 0 (first_shown r) count)
+  first_through : (r : Outcome (Unit {0})) → statics_born texts (first_world s) ≡ r → StandsIn s (alone texts) texts 0 (first_shown r) × (IsEvent (entry_shown (first_shown r)) → IsBehind s (alone texts) texts 0 (first_shown r) (standings.world_of (first_shown r)).count)
   first_through (Done x born) p = (first_at born p, λ e. first_behind born p e)
   first_through (Over e) p = ((λ n lt. births_over e p n), λ q. absurd q)
 
@@ -386,11 +398,54 @@ module _ (s : Start) (h : History) (texts : List Text) where
   stands_leads k (Answers a cs w) p n lt = at_leads k (Answers a cs w) p n lt
   stands_leads k (Ends e) p n lt = subst (λ x. Leads (world_at e) (world_at x)) (sym (p n lt)) (here (world_at e))
 
-  pub first_events : (m : Standing) → IsRunThrough s h texts (Some m) → (n : ℕ) → m.steps < n → IsPrefix (events (world_of m.state).trail) (events_upto n (with_history s h))
-  first_events m p n lt = leads_prefix (world_of m.state) (world_at (ending n (with_history s h))) (stands_leads m.steps m.state p.0 n lt)
+  -- in a world of the run's own
+  pub through_leads : (m : Standing) → IsRunThrough s h texts (Some m) → (n : ℕ) → m.steps < n → Leads (standings.world_of m.state) (world_at (ending n (with_history s h)))
+  through_leads m p n lt = subst (λ w. Leads w (world_at (ending n (with_history s h)))) (sym (same_world m.state)) (stands_leads m.steps m.state p.0 n lt)
+
+  pub first_events : (m : Standing) → IsRunThrough s h texts (Some m) → (n : ℕ) → m.steps < n → IsPrefix (events (standings.world_of m.state).trail) (events_upto n (with_history s h))
+  first_events m p n lt = leads_prefix (standings.world_of m.state) (world_at (ending n (with_history s h))) (through_leads m p n lt)
+
+  pub through_written : (m : Standing) → IsRunThrough s h texts (Some m) → (n : ℕ) → m.steps < n → IsPrefix (output (standings.world_of m.state).trail) (output (world_at (ending n (with_history s h))).trail)
+  through_written m p n lt = leads_output (standings.world_of m.state) (world_at (ending n (with_history s h))) (through_leads m p n lt)
 
   over_there : (k : ℕ) (st : State) (e : Ending) → StandsIn s h texts k st → st ≡ Ends e → (n : ℕ) → k < n → ending n (with_history s h) ≡ e
   over_there k st e p q = subst (λ t. StandsIn s h texts k t) q p
 
   pub ends_as_meant : (m : Standing) (e : Ending) → IsRunThrough s h texts (Some m) → m.state ≡ Ends e → (n : ℕ) → m.steps < n → ending n (with_history s h) ≡ e
   ends_as_meant m e p q n lt = over_there m.steps m.state e p.0 q n lt
+
+  -- where it is over, all events have passed
+  over_events : (k : ℕ) (st : State) → StandsIn s h texts k st → standings.has_ended st ≡ true → (n : ℕ) → k < n → events (standings.world_of st).trail ≡ events_upto n (with_history s h)
+  over_events k (Runs doing ss env a cs w) p over n lt = absurd (cc)
+  over_events k (Makes t v vs c cs w) p over n lt = absurd (cc)
+  over_events k (Answers a cs w) p over n lt = absurd (cc)
+  over_events k (Ends e) p over n lt = ap (λ f. events (world_at f).trail) (sym (p n lt))
+
+  pub all_events : (m : Standing) → IsRunThrough s h texts (Some m) → standings.has_ended m.state ≡ true → (n : ℕ) → m.steps < n → events (standings.world_of m.state).trail ≡ events_upto n (with_history s h)
+  all_events m p over n lt = over_events m.steps m.state p.0 over n lt
+
+  -- ---- from the start
+
+  reached_comes : (born : World) (k : ℕ) → Leads (pass GoesOut born) (world_of (reached_in h born k))
+  reached_comes born zero = callee_go h main_key [] (callee_of (version_at h (pass GoesOut born).count) main_key) [] (pass GoesOut born)
+  reached_comes born (suc k) =
+      on (pass GoesOut born) (world_of (reached_in h born k)) (world_of (reached_in h born (suc k))) (reached_comes born k) (advance_leads h (reached_in h born k))
+
+  births_come : (born : World) → settled h (first_world s) ≡ Done tt born → Leads (first_world s) born
+  births_come born p = subst (λ r. Leads (first_world s) (world_after r)) p (settled_goes Going h (first_world s))
+
+  at_comes : (k : ℕ) (st : State) → IsAt s h texts k st → Leads (first_world s) (world_of st)
+  at_comes k st p =
+      let out : World = pass GoesOut p.born in
+      let called : Leads (first_world s) out = on (first_world s) p.born out (births_come p.born p.births) (one_more GoesOut p.born) in
+      on (first_world s) out (world_of st) called (subst (λ t. Leads out (world_of t)) p.stands (reached_comes p.born k))
+
+  stands_comes : (k : ℕ) (st : State) → StandsIn s h texts k st → Leads (first_world s) (standings.world_of st)
+  stands_comes k (Runs doing ss env a cs w) p = at_comes k (Runs doing ss env a cs w) p
+  stands_comes k (Makes t v vs c cs w) p = at_comes k (Makes t v vs c cs w) p
+  stands_comes k (Answers a cs w) p = at_comes k (Answers a cs w) p
+  stands_comes k (Ends e) p = subst (λ x. Leads (first_world s) (world_at x)) (p (suc k) (omega arith)) (ending_leads (suc k) (with_history s h))
+
+  -- the start leads to where a run stands
+  pub through_comes : (m : Standing) → IsRunThrough s h texts (Some m) → Leads (first_world s) (standings.world_of m.state)
+  through_comes m p = stands_comes m.steps m.state p.0

@@ -1,6 +1,6 @@
 -- Yardstick: to be compared with what it restates (docs/TRUST.md).
 -- A run whose texts change while it stands, and the meaning of its program, whose history has all versions that came.
-use Rattle.std.specs.Prelude.{◌≡◌, ℕ, ◌<◌, List, Option, Some, None}
+use Rattle.std.specs.Prelude.{◌≡◌, ℕ, ◌<◌, List, [], ◌∷◌, ◌++◌, Option, Some, None}
 use Rattle.sc_meaning.specs.World.{World}
 use Rattle.sc_meaning.specs.Outcomes.{Done}
 use Rattle.sc_meaning.specs.Versions.{Text, History, version_at}
@@ -8,11 +8,11 @@ use Rattle.sc_meaning.specs.Changes.{settled}
 use Rattle.sc_meaning.specs.Behaviour.{Start, first_world, ending}
 use Rattle.sc_meaning.specs.Laws.{with_history}
 use Rattle.sc_interp_machine.specs.Runs.{State, Runs, Makes, Answers, Ends}
-use Rattle.sc_interp_laws.specs.Worlds.{world_of}
+use Rattle.sc_interp_laws.specs.Worlds as course
 use Rattle.sc_interp_change_laws.specs.Coming.{HaveCome}
 use Rattle.sc_interp_change_laws.specs.Following.{reached_in, LastShows}
 use Rattle.sc_interp_change_laws.specs.Showing.{IsEvent}
-use Rattle.sc_world.specs.Standing.{Standing}
+use Rattle.sc_world.specs.Standing.{Standing, world_of}
 use Rattle.sc_world.specs.declared.halt.Halt.{Halt}
 use Rattle.sc_world.specs.declared.halt.Halt.TheVariants.{Entered, AtLine}
 
@@ -21,8 +21,8 @@ pub record IsAt (s : Start) (h : History) (texts : List Text) (k : ℕ) (state :
   pub born : World
   pub births : settled h (first_world s) ≡ Done tt born
   pub stands : reached_in h born k ≡ state
-  pub come : HaveCome (world_of state).count h
-  pub present : version_at h (world_of state).count ≡ texts
+  pub come : HaveCome (course.world_of state).count h
+  pub present : version_at h (course.world_of state).count ≡ texts
 
 -- so it is while the run is not over; its end is the end that the meaning has under the history, at every bound greater than its steps
 abbrev pub StandsIn : Start → History → List Text → ℕ → State → Type 0
@@ -40,8 +40,13 @@ pub record IsBehind (s : Start) (h : History) (texts : List Text) (k : ℕ) (sta
   pub present : version_at h count ≡ texts
   pub shows : LastShows h born k count
 
+-- so it stands behind the last event that passed
 abbrev pub IsBehindEvent : Start → History → List Text → Standing → Type 0
-IsBehindEvent s h texts m = (count : ℕ) × IsBehind s h texts m.steps m.state count
+IsBehindEvent s h texts m = IsBehind s h texts m.steps m.state (world_of m.state).count
+
+-- the history of a run that stands as so many events have passed, with one version more
+abbrev pub with_version : History → List Text → World → History
+with_version h new w = h ++ record { count = w.count; texts = new } ∷ []
 
 -- A run of this start through the versions of this history, the last of which are these texts. Where something was shown that no go
 -- looked at yet, the last step ended with it.

@@ -3,4 +3,7 @@
 
 mod laws;
 
-pub use laws::{runs_go_through_their_history, runs_show_what_their_history_gives};
+pub use laws::{
+    changes_leave_a_run_where_it_stands, runs_go_through_their_history,
+    runs_show_what_their_history_gives,
+};

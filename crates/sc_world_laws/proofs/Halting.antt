@@ -9,7 +9,7 @@ use Rattle.sc_meaning.specs.declared.spot.Spot.{Spot}
 use Rattle.sc_meaning.specs.Outcomes.{Outcome, Done, Over, BirthLimit, Ending, and_then, world_after, world_at, went}
 use Rattle.sc_meaning.specs.Versions.{Text, Definition, callee_of, object_in, births_of}
 use Rattle.sc_meaning.specs.Changes.{born, born_as, born_static, born_unless, born_all, unnamed, filled, filled_all, statics_born, static_contents, contents_size, kind_of}
-use Rattle.sc_meaning.specs.Behaviour.{Start, first_world, main_key, events_upto}
+use Rattle.sc_meaning.specs.Behaviour.{first_world, main_key}
 use Rattle.sc_meaning.proofs.Trails.{events-append}
 use Rattle.sc_interp_machine.specs.Runs.{State, Runs, Makes, Answers, Ends, then_goes}
 use Rattle.sc_interp_laws.specs.Worlds as course
@@ -35,11 +35,9 @@ use Rattle.sc_world.specs.Standing.{Standing, world_of, has_ended}
 use Rattle.sc_world.specs.Wants.{Want, walks, halt_if, wanted, else_over, halts, taken, halt_or, else_paused, rests}
 use Rattle.sc_world.specs.Costs.{bytes_touched}
 use Rattle.sc_world.specs.Goes.{stepped, seen, here_or, gone, with_status, closed, want_of, Goes, main_next, first_standing, started}
-use Rattle.sc_world.specs.Meant.{IsRunOf}
 use Rattle.sc_world_laws.specs.Halts.{Free, GoesFree}
-use Rattle.sc_world_laws.specs.Told.{walks_to, selects, event_of, happening, Tells, IsFramed, now, IsAt, is_entry, IsFirst, HaltsAt}
+use Rattle.sc_world_laws.specs.Told.{walks_to, selects, event_of, happening, Tells, IsFramed, now, IsAt, is_entry, IsFirst, HaltsAt, EndsWithEvent, IsLastAt}
 use Rattle.sc_world_laws.proofs.Halts.{free_on, goes_here, goes_on, halts_first, halts_free, bound}
-use Rattle.sc_world_laws.proofs.Shown.{events_begin, all_events}
 use Rattle.sc_world_laws.proofs.Tells.{step_tells, step_framed, callee_tells, callee_framed, framed_on}
 
 -- ---- one step more
@@ -291,15 +289,65 @@ goes_at texts stops walk turns m old h n p g =
     let l = gone_last want texts turns m old p in
     subst (λ k. IsAt k (events (world_of k.state).trail)) (left_state l.0 n (gone turns want texts m) l.2 g.1) (closed_at l.0 l.1 l.3)
 
-pub goes_halt : (s : Start) (texts : List Text) (stops : List StopAt) (walk : Walk) (turns : ℕ) (m : Standing) (old : List Event) (h : Halt) (n : Standing) (b : ℕ) → IsAt m old → Goes texts stops walk turns (Some m) h (Some n) → IsRunOf s texts (Some n) → n.steps < b →
-    HaltsAt (selects stops walk (world_of m.state).enters) h old (events_upto b s) (events (world_of n.state).trail)
-goes_halt s texts stops walk turns m old h n b p g r lt =
+pub goes_halt : (texts : List Text) (stops : List StopAt) (walk : Walk) (turns : ℕ) (m : Standing) (old : List Event) (h : Halt) (n : Standing) (all : List Event) → IsAt m old → Goes texts stops walk turns (Some m) h (Some n)
+    → IsPrefix (events (world_of n.state).trail) all → (has_ended n.state ≡ true → events (world_of n.state).trail ≡ all) → HaltsAt (selects stops walk (world_of m.state).enters) h old all (events (world_of n.state).trail)
+goes_halt texts stops walk turns m old h n all p g first whole =
     let want : Want = want_of stops walk turns m in
     let l = gone_last want texts turns m old p in
     let same : closed (seen l.0) ≡ n = left_state l.0 n (gone turns want texts m) l.2 g.1 in
     let passed : events (world_of n.state).trail ≡ l.1 ++ now l.0 = ap (λ k. events (world_of k.state).trail) (sym same) ∙ closed_events l.0 ∙ l.3.passed in
-    let over : is_over l.0.state ≡ true → events (world_of n.state).trail ≡ events_upto b s = λ o. all_events s texts n b r lt (ap (λ k. has_ended k.state) (sym same) ∙ status_ended l.0.state o) in
-    why_there want old l.1 l.0 n (events_upto b s) l.3 l.4 passed (events_begin s texts n b r lt) h (subst (λ k. Why want k l.0) g.0 l.5) over
+    let over : is_over l.0.state ≡ true → events (world_of n.state).trail ≡ all = λ o. whole (ap (λ k. has_ended k.state) (sym same) ∙ status_ended l.0.state o) in
+    why_there want old l.1 l.0 n all l.3 l.4 passed first h (subst (λ k. Why want k l.0) g.0 l.5) over
+
+-- ---- where a go halts at an event, it is the last thing that happened
+
+no_event : (x : Shown) (fs : List Frame) (e : Event) → length fs ≡ 0 → event_of x fs ≡ e ∷ [] → ⊥
+no_event shown.Nothing fs e p q = cc
+no_event (shown.Line line) [] e p q = cc
+no_event (shown.Line line) (f ∷ fs) e p q = cc
+no_event shown.Entered [] e p q = cc
+no_event shown.Entered (f ∷ fs) e p q = cc
+
+-- a call is active then, so nothing is put behind the trail
+status_world : (s : State) (x : Shown) (e : Event) → IsFramed s → event_of x (world_of s).frames ≡ e ∷ [] → world_of (with_status s) ≡ world_of s
+status_world (Runs doing ss env a cs w) x e p q = refl
+status_world (Makes t v vs c cs w) x e p q = refl
+status_world (Answers a [] w) x e p q = absurd (no_event x w.frames e p q)
+status_world (Answers a (c ∷ cs) w) x e p q = refl
+status_world (Ends end) x e p q = refl
+
+event_last : (last : Standing) (past : List Event) (e : Event) → IsAt last past → now last ≡ e ∷ [] → EndsWithEvent (world_of (closed (seen last)).state)
+event_last last past e p one =
+    (p.last.0, e, ap (λ w. w.trail) (status_world last.state last.shown e p.framed one) ∙ p.last.1 ∙ ap (λ es. p.last.0 ++ happening es) one)
+
+-- a go does not halt at an event for another reason
+module _ (want : Want) (last : Standing) where
+  chosen_event : (h : Halt) → (h ≡ halt.Ended → ⊥) → ((t : ℕ) → h ≡ halt.Paused t → ⊥) → Why want h last → (e : Event) × (now last ≡ e ∷ [])
+  chosen_event h over paused (inl w) = chosen (over_ended (wanted want last.shown (world_of last.state).frames) (is_over last.state) h w)
+    where
+      chosen : (wanted want last.shown (world_of last.state).frames ≡ Some h) ⊎ ((wanted want last.shown (world_of last.state).frames ≡ None) × (is_over last.state ≡ true) × (h ≡ halt.Ended)) → (e : Event) × (now last ≡ e ∷ [])
+      chosen (inl p) = let c = wanted_chosen want last.shown (world_of last.state).frames h p in (c.0, c.1)
+      chosen (inr (none, o, e)) = absurd (over e)
+  chosen_event h over paused (inr (none, e)) = absurd (paused (taken want last) e)
+
+  last_there : (past : List Event) (h : Halt) → IsAt last past → Why want h last → IsLastAt h (world_of (closed (seen last)).state)
+  last_there past halt.Entered p why =
+      let c = chosen_event halt.Entered (λ e. cc) (λ t e. cc) why in
+      event_last last past c.0 p c.1
+  last_there past halt.AtLine p why =
+      let c = chosen_event halt.AtLine (λ e. cc) (λ t e. cc) why in
+      event_last last past c.0 p c.1
+  last_there past halt.Ended p why = tt
+  last_there past (halt.Paused t) p why = tt
+
+-- what was shown was looked at
+pub goes_last : (texts : List Text) (stops : List StopAt) (walk : Walk) (turns : ℕ) (m : Standing) (old : List Event) (h : Halt) (n : Standing) → IsAt m old → Goes texts stops walk turns (Some m) h (Some n) → (now n ≡ []) × IsLastAt h (world_of n.state)
+goes_last texts stops walk turns m old h n p g =
+    let want : Want = want_of stops walk turns m in
+    let l = gone_last want texts turns m old p in
+    let same : closed (seen l.0) ≡ n = left_state l.0 n (gone turns want texts m) l.2 g.1 in
+    let why : Why want h l.0 = subst (λ k. Why want k l.0) g.0 l.5 in
+    subst (λ k. (now k ≡ []) × IsLastAt h (world_of k.state)) same (refl, last_there want l.0 l.1 h l.3 why)
 
 pub turns_bound : (m : Standing) (old : List Event) (nodes : ℕ) → IsAt m old → m.steps < 8 * (m.turns + 1) * (nodes + 1)
 turns_bound m old nodes p = omega (arith, p.counted, bound m.turns nodes)

@@ -2,11 +2,12 @@
 use Rattle.std.proofs.Common.{◌≡◌, ◌⊎◌, inl, inr, ℕ, zero, suc, ◌+◌, ◌-◌, ◌*◌, ◌/◌, ◌<◌, ◌≤◌, nat_lt, Bool, true, false, List, [], ◌∷◌, ◌++◌, slice_index_or, refl, sym, ap, ◌∙◌, subst, arith, Option, Some, None}
 use Rattle.sc_base.specs.declared.key.Key.{Key}
 use Rattle.sc_meaning.specs.World.{World, Item, Event, GoesOut, pass, work, work_of}
-use Rattle.sc_meaning.specs.Outcomes.{Outcome, Done, Over, world_at}
+use Rattle.sc_meaning.specs.Outcomes.{Outcome, Done, Over}
 use Rattle.sc_meaning.specs.Values.{Value}
 use Rattle.sc_meaning.specs.Versions.{Text, Callee, Missing, InText, InLibrary, callee_of}
 use Rattle.sc_meaning.specs.Changes.{statics_born}
-use Rattle.sc_meaning.specs.Behaviour.{Start, first_world, main_key, ending}
+use Rattle.sc_meaning.specs.Behaviour.{first_world, main_key}
+use Rattle.sc_meaning.specs.Laws.{Leads}
 use Rattle.sc_meaning.specs.Calls.{parameters}
 use Rattle.sc_meaning.specs.Functions.{library_call}
 use Rattle.sc_meaning.specs.Expressions.{Answer}
@@ -31,11 +32,9 @@ use Rattle.sc_world.specs.Standing.{Standing, world_of}
 use Rattle.sc_world.specs.Wants.{Want, wanted, else_over, halts, taken, rests}
 use Rattle.sc_world.specs.Costs.{bytes_touched}
 use Rattle.sc_world.specs.Goes.{stepped, seen, here_or, gone, with_status, want_of, Goes, main_next, started}
-use Rattle.sc_world.specs.Meant.{IsRunOf}
 use Rattle.sc_world_laws.specs.Halts.{total}
 use Rattle.sc_world_laws.specs.Told.{event_of, PassedEach}
 use Rattle.sc_world_laws.proofs.Halts.{paused, passed_each}
-use Rattle.sc_world_laws.proofs.Shown.{run_leads}
 use Rattle.sc_world_laws.proofs.Turns.{same_world, there, touched_there}
 use Rattle.sc_world_laws.proofs.Halting.{sel, Chosen, Why, wanted_chosen, why_last, why_rests, paused_none, over_ended, left_state}
 
@@ -170,17 +169,15 @@ work_total (i ∷ is) = ap (λ n. work_of i + n) (work_total is)
 split_less : (share old new : ℕ) → share ≤ new - old → old ≤ new → old + share ≤ new
 split_less share old new p q = omega (arith, p, q)
 
-pub pauses_passed : (s : Start) (texts : List Text) (stops : List StopAt) (walk : Walk) (turns : ℕ) (m : Standing) (t : ℕ) (n : Standing) (b : ℕ) → AreLean (alone texts) → IsLean m.state → Goes texts stops walk turns (Some m) (halt.Paused t) (Some n) → IsRunOf s texts (Some n) → n.steps < b →
-    PassedEach t (world_of m.state).trail (world_of n.state).trail (world_at (ending b s)).trail
-pauses_passed s texts stops walk turns m t n b lean p g r lt before later e f =
+pub pauses_passed : (texts : List Text) (stops : List StopAt) (walk : Walk) (turns : ℕ) (m : Standing) (t : ℕ) (n : Standing) (v : World) → AreLean (alone texts) → IsLean m.state → Goes texts stops walk turns (Some m) (halt.Paused t) (Some n) → Leads (world_of n.state) v →
+    PassedEach t (world_of m.state).trail (world_of n.state).trail v.trail
+pauses_passed texts stops walk turns m t n v lean p g l before later e f =
     let old : List Item = (world_of m.state).trail in
     let new : List Item = (world_of n.state).trail in
-    let all : List Item = (world_at (ending b s)).trail in
-    let l = run_leads s texts n b r lt in
-    let whole : all ≡ new ++ l.0 = ap (λ u. u.trail) l.1 ∙ trail-passed l.0 (world_of n.state) in
+    let whole : v.trail ≡ new ++ l.0 = ap (λ u. u.trail) l.1 ∙ trail-passed l.0 (world_of n.state) in
     let q = late texts stops walk turns m t n lean p g in
     let sum : work old + t / 64 ≤ total work_of new = subst (λ k. work old + t / 64 ≤ k) (work_total new) (split_less (t / 64) (work old) (work new) q.0 q.1) in
-    passed_each Item work_of (work old) (t / 64) all new l.0 before later whole e sum (subst (λ k. k < work old + t / 64) (work_total before) f)
+    passed_each Item work_of (work old) (t / 64) v.trail new l.0 before later whole e sum (subst (λ k. k < work old + t / 64) (work_total before) f)
 
 -- ---- the start of a run is lean
 

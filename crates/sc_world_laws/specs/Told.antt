@@ -93,6 +93,16 @@ HaltsAt sel halt.AtLine old all new = IsFirst sel false old all new
 HaltsAt sel halt.Ended old all new = (new ≡ all) × Free sel (drop (length old) all)
 HaltsAt sel (halt.Paused t) old all new = IsPrefix new all × Free sel (drop (length old) new)
 
+-- Where it halted at an event, this is the last thing that happened.
+abbrev pub EndsWithEvent : World → Type 0
+EndsWithEvent w = (front : List Item) × (e : Event) × (w.trail ≡ front ++ Happens e ∷ [])
+
+abbrev pub IsLastAt : Halt → World → Type 0
+IsLastAt halt.Entered w = EndsWithEvent w
+IsLastAt halt.AtLine w = EndsWithEvent w
+IsLastAt halt.Ended w = Unit {0}
+IsLastAt (halt.Paused t) w = Unit {0}
+
 -- ---- turns and work
 
 -- Each event before which a go's work is below a 64th of its turns was passed: of all that happens, these items had happened as

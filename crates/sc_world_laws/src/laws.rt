@@ -1,8 +1,8 @@
 // What holds of every run that is kept between goes. Each function here does nothing: its contract is the law.
-ghost use Rattle.std.specs.Prelude.{◌≡◌, ◌+◌, ◌*◌, ◌<◌, ◌≤◌, ◌-◌, ◌/◌, List, Some, true, ℕ};
+ghost use Rattle.std.specs.Prelude.{◌≡◌, ◌+◌, ◌*◌, ◌<◌, ◌≤◌, ◌-◌, ◌/◌, List, Some, [], true, ℕ};
 ghost use Rattle.sc_words.specs.declared.stop.StopAt.{StopAt};
 ghost use Rattle.sc_words.specs.declared.stop.Walk.{Walk};
-ghost use Rattle.sc_meaning.specs.World.{Event, events, work};
+ghost use Rattle.sc_meaning.specs.World.{Event, World, events, work};
 ghost use Rattle.sc_meaning.specs.Outcomes.{world_at};
 ghost use Rattle.sc_meaning.specs.Versions.{Text};
 ghost use Rattle.sc_meaning.specs.Behaviour.{Start, ending, events_upto};
@@ -17,7 +17,7 @@ ghost use Rattle.sc_interp_laws.specs.Worlds as course;
 ghost use Rattle.sc_interp_machine.specs.Runs.{State};
 ghost use Rattle.sc_world_laws.specs.Formed.{AreFormed};
 ghost use Rattle.sc_world_laws.specs.Turns.{after};
-ghost use Rattle.sc_world_laws.specs.Told.{HaltsAt, IsAt, IsFramed, PassedEach, Tells, event_of, selects};
+ghost use Rattle.sc_world_laws.specs.Told.{HaltsAt, IsAt, IsFramed, IsLastAt, PassedEach, Tells, event_of, now, selects};
 ghost use Rattle.sc_world.specs.declared.halt.Halt.{Halt};
 ghost use Rattle.sc_world.specs.declared.halt.Halt.TheVariants.{Paused};
 ghost use Rattle.sc_interp_laws.specs.Lean.{AreLean, IsLean};
@@ -60,11 +60,18 @@ pub fn runs_stand_among_their_events()
     ensures goes_on { (texts : List Text) (stops : List StopAt) (walk : Walk) (turns : ℕ) (m : Standing) (old : List Event) (halt : Halt) (n : Standing) → IsAt m old → Goes texts stops walk turns (Some m) halt (Some n) → IsAt n (events (world_of n.state).trail) }
 {}
 
-/// A go halts at the first event that is selected behind the old place, of those that the meaning gives: at a stop or where the
-/// walk selects; or it passes none that is selected, to the end or to where its turns were taken.
+/// A go halts at the first event that is selected behind the old place, of any events of which those that passed are the first, and
+/// all where the run is over: at a stop or where the walk selects; or it passes none that is selected, to the end or to where its
+/// turns were taken.
 #[tactic(auto, using(crate::proofs::Halting::goes_halt))]
 pub fn goes_halt_at_the_first_selected_event()
-    ensures { (s : Start) (texts : List Text) (stops : List StopAt) (walk : Walk) (turns : ℕ) (m : Standing) (old : List Event) (halt : Halt) (n : Standing) (b : ℕ) → IsAt m old → Goes texts stops walk turns (Some m) halt (Some n) → IsRunOf s texts (Some n) → n.steps < b → HaltsAt (selects stops walk (world_of m.state).enters) halt old (events_upto b s) (events (world_of n.state).trail) }
+    ensures { (texts : List Text) (stops : List StopAt) (walk : Walk) (turns : ℕ) (m : Standing) (old : List Event) (halt : Halt) (n : Standing) (all : List Event) → IsAt m old → Goes texts stops walk turns (Some m) halt (Some n) → IsPrefix (events (world_of n.state).trail) all → (has_ended n.state ≡ true → events (world_of n.state).trail ≡ all) → HaltsAt (selects stops walk (world_of m.state).enters) halt old all (events (world_of n.state).trail) }
+{}
+
+/// A go that halts at an event halts right behind it: that is the last thing that happened. All that was shown was looked at then.
+#[tactic(auto, using(crate::proofs::Halting::goes_last))]
+pub fn goes_halt_right_behind_events()
+    ensures { (texts : List Text) (stops : List StopAt) (walk : Walk) (turns : ℕ) (m : Standing) (old : List Event) (halt : Halt) (n : Standing) → IsAt m old → Goes texts stops walk turns (Some m) halt (Some n) → (now n ≡ []) × IsLastAt halt (world_of n.state) }
 {}
 
 /// A bound on the meaning that is enough for a run's turns, whatever number of nodes its program is said to have.
@@ -73,12 +80,13 @@ pub fn turns_bound_the_meaning()
     ensures { (m : Standing) (old : List Event) (nodes : ℕ) → IsAt m old → m.steps < 8 * (m.turns + 1) * (nodes + 1) }
 {}
 
-/// In a run whose program is lean a go that pauses has passed each event before which its work is below a 64th of its turns. The
+/// In a run whose program is lean a go that pauses has passed each event before which its work is below a 64th of its turns, of all
+/// that happens in any world to which it leads. The
 /// start of such a run is lean, and so is each place that a go leads to.
 #[tactic(auto)]
 pub fn pauses_come_late()
     ensures work { (texts : List Text) (stops : List StopAt) (walk : Walk) (turns : ℕ) (m : Standing) (t : ℕ) (n : Standing) → AreLean (alone texts) → IsLean m.state → Goes texts stops walk turns (Some m) (Paused t) (Some n) → t / 64 ≤ work (world_of n.state).trail - work (world_of m.state).trail }
-    ensures passed { (s : Start) (texts : List Text) (stops : List StopAt) (walk : Walk) (turns : ℕ) (m : Standing) (t : ℕ) (n : Standing) (b : ℕ) → AreLean (alone texts) → IsLean m.state → Goes texts stops walk turns (Some m) (Paused t) (Some n) → IsRunOf s texts (Some n) → n.steps < b → PassedEach t (world_of m.state).trail (world_of n.state).trail (world_at (ending b s)).trail }
+    ensures passed { (texts : List Text) (stops : List StopAt) (walk : Walk) (turns : ℕ) (m : Standing) (t : ℕ) (n : Standing) (v : World) → AreLean (alone texts) → IsLean m.state → Goes texts stops walk turns (Some m) (Paused t) (Some n) → Leads (world_of n.state) v → PassedEach t (world_of m.state).trail (world_of n.state).trail v.trail }
     ensures starts { (texts : List Text) (stack : ℕ) (heap : ℕ) (input : List ℕ) → AreLean (alone texts) → IsLean (started texts stack heap input).state }
     ensures keeps { (texts : List Text) (stops : List StopAt) (walk : Walk) (turns : ℕ) (m : Standing) (halt : Halt) (n : Standing) → AreLean (alone texts) → IsLean m.state → Goes texts stops walk turns (Some m) halt (Some n) → IsLean n.state }
 {}
