@@ -14,7 +14,7 @@ use Rattle.sc_meaning.proofs.Deeper.{ending_world}
 use Rattle.sc_meaning.proofs.Changing.{settled_goes}
 use Rattle.sc_meaning.proofs.Growing.{Going, leads_then}
 use Rattle.sc_interp_machine.specs.Runs as runs
-use Rattle.sc_interp_machine.specs.Runs.{Caller, State, Runs, Makes, Answers, Ends, then_goes, advance}
+use Rattle.sc_interp_machine.specs.Runs.{State, Runs, Makes, Answers, Ends, then_goes, advance}
 use Rattle.sc_interp_machine.proofs.RunFollows.{answers_meaning, ends_meaning}
 use Rattle.sc_interp_laws.specs.Worlds.{world_of}
 use Rattle.sc_interp_world.specs.Outputs.{output}
