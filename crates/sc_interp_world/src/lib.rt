@@ -3,7 +3,6 @@
 #![tactic(auto)]
 
 mod account;
-mod beside;
 mod cells;
 mod event;
 mod held;
@@ -18,7 +17,6 @@ mod values;
 mod world;
 
 pub use account::{Account, Taken};
-pub use beside::Beside;
 pub use cells::{copy_cells, unwritten};
 pub use event::{Change, Event, Item, Showing};
 pub use names::{Named, Names, Roll, same_id};
