@@ -1,7 +1,7 @@
 -- A go of a session's run, as the meaning has it.
 use Rattle.std.proofs.Common.{◌≡◌, ◌⊎◌, inl, inr, ℕ, zero, suc, ◌-◌, ◌<◌, ◌≤◌, Bool, true, ◌++◌, drop, length, refl, sym, ap, ◌∙◌, subst, arith, List, [], Option, Some, None}
 use Rattle.sc_meaning.specs.World.{World, Event, events}
-use Rattle.sc_meaning.specs.Behaviour.{Start, ending, events_upto}
+use Rattle.sc_meaning.specs.Behaviour.{Start, ending, events_upto, first_world}
 use Rattle.sc_meaning.specs.Laws.{with_history}
 use Rattle.sc_meaning.specs.Outcomes.{world_at}
 use Rattle.sc_meaning.specs.Versions.{History, Text}
@@ -26,7 +26,7 @@ use Rattle.sc_world.specs.Wants.{Want, wanted, halts, halt_or, taken}
 use Rattle.sc_world.proofs.Pauses.{pauses}
 use Rattle.sc_world_laws.specs.Formed.{AreFormed}
 use Rattle.sc_world_laws.specs.Told.{HaltsAt, IsAt, event_of, selects}
-use Rattle.sc_world_laws.proofs.Halting.{Chosen, goes_at, goes_halt, goes_last, over_ended, sel, turns_bound, wanted_chosen}
+use Rattle.sc_world_laws.proofs.Halting.{Chosen, goes_at, goes_halt, goes_last, goes_seen, over_ended, sel, turns_bound, wanted_chosen}
 use Rattle.sc_world_laws.proofs.Pausing.{goes_lean, pauses_passed}
 use Rattle.sc_world_laws.proofs.LeanFormed.{formed_lean}
 use Rattle.sc_session.specs.declared.state.State.{State}
@@ -108,7 +108,7 @@ module _ (s : Start) (h : History) (texts : List Text) (stops : List StopAt) (ho
     halts = λ b lt.
         subst (λ k. HaltsAt (selects stops how k) x old (events_upto b (with_history s h)) (events (world_of n.state).trail)) still.enters
         (goes_halt texts stops how turns m old x n (events_upto b (with_history s h)) at goes (first_events s h texts n now b lt) (λ over. all_events s h texts n now over b lt));
-    last = (goes_last texts stops how turns m old x n at goes).1;
+    last = goes_last texts stops how turns m old x n (first_world (with_history s h)) at goes refl (through_comes s h texts n now);
     pauses = pauses_so x n goes now;
   }
 
@@ -131,8 +131,8 @@ module _ (s : Start) (h : History) (texts : List Text) (stops : List StopAt) (ho
 
   follows_on : (x : Halt) (n : Standing) → Goes texts stops how turns (Some m) x (Some n) → IsRunThrough s h texts (Some n) → HaltsBehind s h texts x (Some n) → FollowsOn texts (state_after x (Some n)) (left_by x (there n))
   unfolding follows
-  follows_on halt.Entered n goes now event = record { follows = follows halt.Entered n goes now; event = event; seen = (goes_last texts stops how turns m old halt.Entered n at goes).0 }
-  follows_on halt.AtLine n goes now event = record { follows = follows halt.AtLine n goes now; event = event; seen = (goes_last texts stops how turns m old halt.AtLine n at goes).0 }
+  follows_on halt.Entered n goes now event = record { follows = follows halt.Entered n goes now; event = event; seen = goes_seen texts stops how turns m old halt.Entered n at goes }
+  follows_on halt.AtLine n goes now event = record { follows = follows halt.AtLine n goes now; event = event; seen = goes_seen texts stops how turns m old halt.AtLine n at goes }
   follows_on halt.Ended n goes now event = refl
   follows_on (halt.Paused t) n goes now event = follows (halt.Paused t) n goes now
 

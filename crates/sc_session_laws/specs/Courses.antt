@@ -2,8 +2,8 @@
 -- A session's run as the meaning of C has it, and what an answer tells of it. The meaning is that of a program whose modules are all
 -- interpreted, with all versions of them that the run went through: each change of the modules at a stop is one version more of its
 -- history, at the events that have passed by then. Of such a run all that is told is what the meaning gives for its history, from its
--- start on. Of a run in which some modules are in object form nothing is claimed here: it is no run of the meaning's, so it is `None`,
--- and so is what is behind each of its goes. What its answers tell is what holds of the world in which it stands (Mixing), and not that
+-- start on. Of a run in which some modules are or were in object form nothing is claimed here: it is no run of the meaning's, so it is
+-- `None`, and so is what is behind each of its goes. What its answers tell is what holds of the world in which it stands (Mixing), and not that
 -- this world is one of the meaning's.
 use Rattle.std.specs.Prelude.{◌≡◌, ◌<◌, ◌≤◌, ◌⊎◌, ℕ, ◌+◌, ◌-◌, ◌*◌, ◌&&◌, Bool, true, false, List, [], ◌∷◌, ◌++◌, length, drop, Option, Some, None}
 use Rattle.sc_meaning.specs.World.{World, Event, events}
@@ -86,7 +86,8 @@ PausesSo turns c d (halt.Paused t) = IsPause turns c d t
 
 -- A go from one place of a run to another. Of the events that the meaning gives for its history it passed those up to the first that a
 -- stop or the walk selects, behind the old place; or all of them, where none is selected; or some, where it paused before one is. Where
--- it halted at an event, this is the last thing that happened.
+-- it halted at an event, this is the last thing that happened, and it is the innermost call's: so what is said of that call is what the
+-- event tells.
 pub record Passes (stops : List StopAt) (how : Walk) (turns : ℕ) (c : Course) (h : Halt) (d : Course) : Type 0 where
   pub same : d.start ≡ c.start
   pub meant : IsMeant d

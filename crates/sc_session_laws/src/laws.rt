@@ -1,5 +1,5 @@
 // What holds of a session from its start on. Each function here does nothing: its contract is the law.
-ghost use Rattle.std.specs.Prelude.{◌≡◌, List, Option, None, ℕ};
+ghost use Rattle.std.specs.Prelude.{List, Option, None, ℕ};
 ghost use Rattle.sc_words.specs.declared.answer.Answer.{Answer};
 ghost use Rattle.sc_words.specs.declared.command.Command.{Command};
 ghost use Rattle.sc_session.specs.declared.limits.Limits.{Limits};

@@ -4,13 +4,15 @@ use Rattle.std.proofs.lemmas.List.{append-nil}
 use Rattle.sc_program.specs.declared.storage.StaticId.{StaticId}
 use Rattle.sc_program.specs.declared.storage.StaticId.TheVariants.{Named, Literal}
 use Rattle.sc_base.specs.declared.memory.Kind.{Kind}
-use Rattle.sc_meaning.specs.World.{World, Frame, Item, Event, Enter, Leave, At, Out, Birth, Put, Name, GoesOut, ComesBack, pass, events, named_in}
+use Rattle.sc_meaning.specs.World.{World, Frame, Item, Event, Enter, Leave, At, Out, Birth, Put, Name, GoesOut, ComesBack, Happens, pass, passed, on_innermost, events, named_in}
 use Rattle.sc_meaning.specs.declared.spot.Spot.{Spot}
 use Rattle.sc_meaning.specs.Outcomes.{Outcome, Done, Over, BirthLimit, Ending, and_then, world_after, world_at, went}
 use Rattle.sc_meaning.specs.Versions.{Text, Definition, callee_of, object_in, births_of}
 use Rattle.sc_meaning.specs.Changes.{born, born_as, born_static, born_unless, born_all, unnamed, filled, filled_all, statics_born, static_contents, contents_size, kind_of}
 use Rattle.sc_meaning.specs.Behaviour.{first_world, main_key}
-use Rattle.sc_meaning.proofs.Trails.{events-append}
+use Rattle.sc_meaning.specs.Laws.{Leads}
+use Rattle.sc_meaning.proofs.Steps.{passed-append}
+use Rattle.sc_meaning.proofs.Trails.{events-append, told}
 use Rattle.sc_interp_machine.specs.Runs.{State, Runs, Makes, Answers, Ends, then_goes}
 use Rattle.sc_interp_laws.specs.Worlds as course
 use Rattle.sc_interp_laws.specs.Events.{IsPrefix}
@@ -36,7 +38,7 @@ use Rattle.sc_world.specs.Wants.{Want, walks, halt_if, wanted, else_over, halts,
 use Rattle.sc_world.specs.Costs.{bytes_touched}
 use Rattle.sc_world.specs.Goes.{stepped, seen, here_or, gone, with_status, closed, want_of, Goes, main_next, first_standing, started}
 use Rattle.sc_world_laws.specs.Halts.{Free, GoesFree}
-use Rattle.sc_world_laws.specs.Told.{walks_to, selects, event_of, happening, Tells, IsFramed, now, IsAt, is_entry, IsFirst, HaltsAt, EndsWithEvent, IsLastAt}
+use Rattle.sc_world_laws.specs.Told.{walks_to, selects, event_of, happening, Tells, IsFramed, now, IsAt, is_entry, IsFirst, HaltsAt, IsLastAt}
 use Rattle.sc_world_laws.proofs.Halts.{free_on, goes_here, goes_on, halts_first, halts_free, bound}
 use Rattle.sc_world_laws.proofs.Tells.{step_tells, step_framed, callee_tells, callee_framed, framed_on}
 
@@ -316,38 +318,100 @@ status_world (Answers a [] w) x e p q = absurd (no_event x w.frames e p q)
 status_world (Answers a (c ∷ cs) w) x e p q = refl
 status_world (Ends end) x e p q = refl
 
-event_last : (last : Standing) (past : List Event) (e : Event) → IsAt last past → now last ≡ e ∷ [] → EndsWithEvent (world_of (closed (seen last)).state)
-event_last last past e p one =
-    (p.last.0, e, ap (λ w. w.trail) (status_world last.state last.shown e p.framed one) ∙ p.last.1 ∙ ap (λ es. p.last.0 ++ happening es) one)
+not_both : false ≡ true → ⊥
+not_both p = cc
+
+abbrev is_entry_first : List Event → Bool
+is_entry_first [] = true
+is_entry_first (e ∷ es) = is_entry e
+
+-- an event that was shown is one of the innermost call
+entry_innermost : (x : Shown) (fs : List Frame) (e : Event) → event_of x fs ≡ e ∷ [] → is_entry e ≡ true → (f : Frame) × (callers : List Frame) × (fs ≡ f ∷ callers) × (event_of x fs ≡ Enter f.key f.home ∷ [])
+entry_innermost shown.Nothing fs e p q = absurd (cc)
+entry_innermost (shown.Line line) [] e p q = absurd (cc)
+entry_innermost (shown.Line line) (f ∷ fs) e p q = absurd (not_both (ap is_entry_first p ∙ q))
+entry_innermost shown.Entered [] e p q = absurd (cc)
+entry_innermost shown.Entered (f ∷ fs) e p q = (f, fs, refl, refl)
+
+line_innermost : (x : Shown) (fs : List Frame) (e : Event) → event_of x fs ≡ e ∷ [] → is_entry e ≡ false → (f : Frame) × (callers : List Frame) × (line : ℕ) × (fs ≡ f ∷ callers) × (event_of x fs ≡ At f.home line f.enter ∷ [])
+line_innermost shown.Nothing fs e p q = absurd (cc)
+line_innermost (shown.Line line) [] e p q = absurd (cc)
+line_innermost (shown.Line line) (f ∷ fs) e p q = (f, fs, line, refl, refl)
+line_innermost shown.Entered [] e p q = absurd (cc)
+line_innermost shown.Entered (f ∷ fs) e p q = absurd (not_both (sym (ap is_entry_first p ∙ q)))
+
+-- a world whose last event came to a line has it in its innermost call
+abbrev line_first : List Frame → ℕ
+line_first [] = 0
+line_first (f ∷ fs) = f.line
+
+line_set : (line : ℕ) (fs : List Frame) (f : Frame) (callers : List Frame) → on_innermost (λ g. record g { line = line }) fs ≡ f ∷ callers → f.line ≡ line
+line_set line [] f callers p = absurd (cc)
+line_set line (g ∷ gs) f callers p = sym (ap line_first p)
+
+line_of_last : (v w : World) (front : List Item) (f : Frame) (callers : List Frame) (home : List ℕ) (line enter : ℕ) → v.trail ≡ [] → Leads v w → w.frames ≡ f ∷ callers → w.trail ≡ front ++ Happens (At home line enter) ∷ [] → f.line ≡ line
+line_of_last v w front f callers home line enter none leads frames last =
+    let whole : w ≡ passed (front ++ Happens (At home line enter) ∷ []) v = told v w leads none ∙ ap (λ is. passed is v) last in
+    let came : w ≡ pass (Happens (At home line enter)) (passed front v) = whole ∙ passed-append front (Happens (At home line enter) ∷ []) v in
+    line_set line (passed front v).frames f callers (sym (ap (λ u. u.frames) came) ∙ frames)
 
 -- a go does not halt at an event for another reason
 module _ (want : Want) (last : Standing) where
-  chosen_event : (h : Halt) → (h ≡ halt.Ended → ⊥) → ((t : ℕ) → h ≡ halt.Paused t → ⊥) → Why want h last → (e : Event) × (now last ≡ e ∷ [])
+  chosen_event : (h : Halt) → (h ≡ halt.Ended → ⊥) → ((t : ℕ) → h ≡ halt.Paused t → ⊥) → Why want h last → Chosen (sel want) h (now last)
   chosen_event h over paused (inl w) = chosen (over_ended (wanted want last.shown (world_of last.state).frames) (is_over last.state) h w)
     where
-      chosen : (wanted want last.shown (world_of last.state).frames ≡ Some h) ⊎ ((wanted want last.shown (world_of last.state).frames ≡ None) × (is_over last.state ≡ true) × (h ≡ halt.Ended)) → (e : Event) × (now last ≡ e ∷ [])
-      chosen (inl p) = let c = wanted_chosen want last.shown (world_of last.state).frames h p in (c.0, c.1)
+      chosen : (wanted want last.shown (world_of last.state).frames ≡ Some h) ⊎ ((wanted want last.shown (world_of last.state).frames ≡ None) × (is_over last.state ≡ true) × (h ≡ halt.Ended)) → Chosen (sel want) h (now last)
+      chosen (inl p) = wanted_chosen want last.shown (world_of last.state).frames h p
       chosen (inr (none, o, e)) = absurd (over e)
   chosen_event h over paused (inr (none, e)) = absurd (paused (taken want last) e)
 
-  last_there : (past : List Event) (h : Halt) → IsAt last past → Why want h last → IsLastAt h (world_of (closed (seen last)).state)
-  last_there past halt.Entered p why =
-      let c = chosen_event halt.Entered (λ e. cc) (λ t e. cc) why in
-      event_last last past c.0 p c.1
-  last_there past halt.AtLine p why =
-      let c = chosen_event halt.AtLine (λ e. cc) (λ t e. cc) why in
-      event_last last past c.0 p c.1
-  last_there past halt.Ended p why = tt
-  last_there past (halt.Paused t) p why = tt
+-- the last place of a go, and the world behind it
+module _ (want : Want) (last : Standing) (past : List Event) (here : IsAt last past) where
+  abbrev end : World
+  end = world_of (closed (seen last)).state
+
+  same_end : (e : Event) → now last ≡ e ∷ [] → end ≡ world_of last.state
+  same_end e one = status_world last.state last.shown e here.framed one
+
+  last_trail : (e e' : Event) → now last ≡ e ∷ [] → now last ≡ e' ∷ [] → end.trail ≡ here.last.0 ++ Happens e' ∷ []
+  last_trail e e' one it = ap (λ w. w.trail) (same_end e one) ∙ here.last.1 ∙ ap (λ es. here.last.0 ++ happening es) it
+
+  entered_there : Chosen (sel want) halt.Entered (now last) → IsLastAt halt.Entered end
+  entered_there (e, one, chosen, inl (kind, entry)) =
+      let p = entry_innermost last.shown (world_of last.state).frames e one entry in
+      (here.last.0, p.0, p.1, ap (λ w. w.frames) (same_end e one) ∙ p.2, last_trail e (Enter p.0.key p.0.home) one p.3)
+  entered_there (e, one, chosen, inr (kind, line)) = absurd (cc)
+
+  line_there : (v : World) → v.trail ≡ [] → Leads v end → Chosen (sel want) halt.AtLine (now last) → IsLastAt halt.AtLine end
+  line_there v none leads (e, one, chosen, inl (kind, entry)) = absurd (cc)
+  line_there v none leads (e, one, chosen, inr (kind, line)) =
+      let p = line_innermost last.shown (world_of last.state).frames e one line in
+      let f : Frame = p.0 in
+      let frames : end.frames ≡ f ∷ p.1 = ap (λ w. w.frames) (same_end e one) ∙ p.3 in
+      let trail : end.trail ≡ here.last.0 ++ Happens (At f.home p.2 f.enter) ∷ [] = last_trail e (At f.home p.2 f.enter) one p.4 in
+      let same : f.line ≡ p.2 = line_of_last v end here.last.0 f p.1 f.home p.2 f.enter none leads frames trail in
+      (here.last.0, f, p.1, frames, trail ∙ ap (λ n. here.last.0 ++ Happens (At f.home n f.enter) ∷ []) (sym same))
+
+  last_there : (v : World) (h : Halt) → v.trail ≡ [] → Leads v end → Why want h last → IsLastAt h end
+  last_there v halt.Entered none leads why = entered_there (chosen_event want last halt.Entered (λ e. cc) (λ t e. cc) why)
+  last_there v halt.AtLine none leads why = line_there v none leads (chosen_event want last halt.AtLine (λ e. cc) (λ t e. cc) why)
+  last_there v halt.Ended none leads why = tt
+  last_there v (halt.Paused t) none leads why = tt
 
 -- what was shown was looked at
-pub goes_last : (texts : List Text) (stops : List StopAt) (walk : Walk) (turns : ℕ) (m : Standing) (old : List Event) (h : Halt) (n : Standing) → IsAt m old → Goes texts stops walk turns (Some m) h (Some n) → (now n ≡ []) × IsLastAt h (world_of n.state)
-goes_last texts stops walk turns m old h n p g =
+pub goes_seen : (texts : List Text) (stops : List StopAt) (walk : Walk) (turns : ℕ) (m : Standing) (old : List Event) (h : Halt) (n : Standing) → IsAt m old → Goes texts stops walk turns (Some m) h (Some n) → now n ≡ []
+goes_seen texts stops walk turns m old h n p g =
+    let want : Want = want_of stops walk turns m in
+    let l = gone_last want texts turns m old p in
+    subst (λ k. now k ≡ []) (left_state l.0 n (gone turns want texts m) l.2 g.1) refl
+
+pub goes_last : (texts : List Text) (stops : List StopAt) (walk : Walk) (turns : ℕ) (m : Standing) (old : List Event) (h : Halt) (n : Standing) (v : World) → IsAt m old → Goes texts stops walk turns (Some m) h (Some n) → v.trail ≡ [] → Leads v (world_of n.state) → IsLastAt h (world_of n.state)
+goes_last texts stops walk turns m old h n v p g none leads =
     let want : Want = want_of stops walk turns m in
     let l = gone_last want texts turns m old p in
     let same : closed (seen l.0) ≡ n = left_state l.0 n (gone turns want texts m) l.2 g.1 in
     let why : Why want h l.0 = subst (λ k. Why want k l.0) g.0 l.5 in
-    subst (λ k. (now k ≡ []) × IsLastAt h (world_of k.state)) same (refl, last_there want l.0 l.1 h l.3 why)
+    subst (λ k. IsLastAt h (world_of k.state)) same (last_there want l.0 l.1 l.3 v h none (subst (λ k. Leads v (world_of k.state)) (sym same) leads) why)
 
 pub turns_bound : (m : Standing) (old : List Event) (nodes : ℕ) → IsAt m old → m.steps < 8 * (m.turns + 1) * (nodes + 1)
 turns_bound m old nodes p = omega (arith, p.counted, bound m.turns nodes)

@@ -1,4 +1,3 @@
-pub mod Shown
 pub mod Turns
 pub mod Halts
 pub mod Tells

@@ -14,7 +14,7 @@ use Rattle.sc_meaning.specs.Expressions.{Answer}
 use Rattle.sc_meaning.proofs.Trails.{trail-passed}
 use Rattle.sc_core.specs.declared.module.Fun.{Fun}
 use Rattle.sc_interp_machine.specs.Runs as runs
-use Rattle.sc_interp_machine.specs.Runs.{Caller, State, Runs, Makes, Answers, Ends, then_goes}
+use Rattle.sc_interp_machine.specs.Runs.{State, Runs, Makes, Answers, Ends, then_goes}
 use Rattle.sc_interp_laws.specs.Worlds as course
 use Rattle.sc_interp_laws.specs.Paid.{done}
 use Rattle.sc_interp_laws.specs.Lean.{LeanCallee, LeanStmt, AreLean, IsLean}

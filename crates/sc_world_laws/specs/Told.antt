@@ -93,13 +93,14 @@ HaltsAt sel halt.AtLine old all new = IsFirst sel false old all new
 HaltsAt sel halt.Ended old all new = (new ≡ all) × Free sel (drop (length old) all)
 HaltsAt sel (halt.Paused t) old all new = IsPrefix new all × Free sel (drop (length old) new)
 
--- Where it halted at an event, this is the last thing that happened.
-abbrev pub EndsWithEvent : World → Type 0
-EndsWithEvent w = (front : List Item) × (e : Event) × (w.trail ≡ front ++ Happens e ∷ [])
+-- the last thing that happened is this event of the innermost call
+abbrev pub EndsWith : (Frame → Event) → World → Type 0
+EndsWith event w = (front : List Item) × (f : Frame) × (callers : List Frame) × (w.frames ≡ f ∷ callers) × (w.trail ≡ front ++ Happens (event f) ∷ [])
 
+-- Where it halted at an event, this is the last thing that happened: the innermost call was entered, or came to its present line.
 abbrev pub IsLastAt : Halt → World → Type 0
-IsLastAt halt.Entered w = EndsWithEvent w
-IsLastAt halt.AtLine w = EndsWithEvent w
+IsLastAt halt.Entered w = EndsWith (λ f. Enter f.key f.home) w
+IsLastAt halt.AtLine w = EndsWith (λ f. At f.home f.line f.enter) w
 IsLastAt halt.Ended w = Unit {0}
 IsLastAt (halt.Paused t) w = Unit {0}
 

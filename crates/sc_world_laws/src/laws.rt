@@ -3,17 +3,13 @@ ghost use Rattle.std.specs.Prelude.{◌≡◌, ◌+◌, ◌*◌, ◌<◌, ◌≤
 ghost use Rattle.sc_words.specs.declared.stop.StopAt.{StopAt};
 ghost use Rattle.sc_words.specs.declared.stop.Walk.{Walk};
 ghost use Rattle.sc_meaning.specs.World.{Event, World, events, work};
-ghost use Rattle.sc_meaning.specs.Outcomes.{world_at};
 ghost use Rattle.sc_meaning.specs.Versions.{Text};
-ghost use Rattle.sc_meaning.specs.Behaviour.{Start, ending, events_upto};
 ghost use Rattle.sc_meaning.specs.Laws.{Leads};
-ghost use Rattle.sc_interp_world.specs.Outputs.{output};
 ghost use Rattle.sc_interp_laws.specs.Events.{IsPrefix};
 ghost use Rattle.sc_interp_laws.specs.Inside.{AreHidden};
 ghost use Rattle.sc_interp_laws.specs.Paid.{AllPay, credit, done, pays};
 ghost use Rattle.sc_interp.specs.Steady.{alone, advance};
 ghost use Rattle.sc_interp.specs.Shows.{shown};
-ghost use Rattle.sc_interp_laws.specs.Worlds as course;
 ghost use Rattle.sc_interp_machine.specs.Runs.{State};
 ghost use Rattle.sc_world_laws.specs.Formed.{AreFormed};
 ghost use Rattle.sc_world_laws.specs.Turns.{after};
@@ -22,19 +18,7 @@ ghost use Rattle.sc_world.specs.declared.halt.Halt.{Halt};
 ghost use Rattle.sc_world.specs.declared.halt.Halt.TheVariants.{Paused};
 ghost use Rattle.sc_interp_laws.specs.Lean.{AreLean, IsLean};
 ghost use Rattle.sc_world.specs.Goes.{Goes, started, stepped};
-ghost use Rattle.sc_world.specs.Meant.{IsRunOf};
 ghost use Rattle.sc_world.specs.Standing.{Standing, has_ended, world_of};
-
-/// At every bound greater than a run's steps, the events that passed so far are the first of those that the meaning gives, the bytes that
-/// were written so far are the first of those that are written there, and what happened so far is the beginning of all that
-/// happens there. Where the run is over, the events are all of them.
-#[tactic(auto, using(crate::proofs::Shown::all_events))]
-pub fn runs_show_the_first_of_their_events()
-    ensures so_far { (s : Start) (texts : List Text) (m : Standing) (n : ℕ) → IsRunOf s texts (Some m) → m.steps < n → IsPrefix (events (world_of m.state).trail) (events_upto n s) }
-    ensures written { (s : Start) (texts : List Text) (m : Standing) (n : ℕ) → IsRunOf s texts (Some m) → m.steps < n → IsPrefix (output (world_of m.state).trail) (output (world_at (ending n s)).trail) }
-    ensures happens { (s : Start) (texts : List Text) (m : Standing) (n : ℕ) → IsRunOf s texts (Some m) → m.steps < n → Leads (world_of m.state) (world_at (ending n s)) }
-    ensures over { (s : Start) (texts : List Text) (m : Standing) (n : ℕ) → IsRunOf s texts (Some m) → m.steps < n → has_ended m.state ≡ true → events (world_of m.state).trail ≡ events_upto n s }
-{}
 
 /// The turns that a step takes, its bytes among them, are paid by credit that it uses up and by work, of which a unit pays five turns;
 /// and so are those of any number of steps. It may only not be a step that is made for nothing (`pays`), and a run
@@ -68,10 +52,12 @@ pub fn goes_halt_at_the_first_selected_event()
     ensures { (texts : List Text) (stops : List StopAt) (walk : Walk) (turns : ℕ) (m : Standing) (old : List Event) (halt : Halt) (n : Standing) (all : List Event) → IsAt m old → Goes texts stops walk turns (Some m) halt (Some n) → IsPrefix (events (world_of n.state).trail) all → (has_ended n.state ≡ true → events (world_of n.state).trail ≡ all) → HaltsAt (selects stops walk (world_of m.state).enters) halt old all (events (world_of n.state).trail) }
 {}
 
-/// A go that halts at an event halts right behind it: that is the last thing that happened. All that was shown was looked at then.
-#[tactic(auto, using(crate::proofs::Halting::goes_last))]
+/// A go that halts at an event halts right behind it: that is the last thing that happened, and the innermost call was entered by
+/// it, or came by it to its present line. All that was shown was looked at then.
+#[tactic(auto)]
 pub fn goes_halt_right_behind_events()
-    ensures { (texts : List Text) (stops : List StopAt) (walk : Walk) (turns : ℕ) (m : Standing) (old : List Event) (halt : Halt) (n : Standing) → IsAt m old → Goes texts stops walk turns (Some m) halt (Some n) → (now n ≡ []) × IsLastAt halt (world_of n.state) }
+    ensures seen { (texts : List Text) (stops : List StopAt) (walk : Walk) (turns : ℕ) (m : Standing) (old : List Event) (halt : Halt) (n : Standing) → IsAt m old → Goes texts stops walk turns (Some m) halt (Some n) → now n ≡ [] }
+    ensures last { (texts : List Text) (stops : List StopAt) (walk : Walk) (turns : ℕ) (m : Standing) (old : List Event) (halt : Halt) (n : Standing) (v : World) → IsAt m old → Goes texts stops walk turns (Some m) halt (Some n) → v.trail ≡ [] → Leads v (world_of n.state) → IsLastAt halt (world_of n.state) }
 {}
 
 /// A bound on the meaning that is enough for a run's turns, whatever number of nodes its program is said to have.
