@@ -4,17 +4,17 @@
 #![tactic(auto)]
 
 mod checked;
-mod tokens;
 mod output;
+mod tokens;
 mod work;
 
 use checked::{put_core, put_tree};
+use output::put_line;
 use sc_base::NoMemory;
 use std::alloc::Global;
 use std::io;
 use std::io::Write;
 use std::process::ExitCode;
-use output::put_line;
 use tokens::put_tokens;
 use work::put_work;
 

@@ -1,5 +1,5 @@
 // The tokens of a unit after preprocessing: kind, line, spelling.
-use crate::output::{put_unread};
+use crate::output::put_unread;
 use sc_base::NoMemory;
 use sc_lex::{Token, TokenKind};
 use sc_outside::Folder;

@@ -49,7 +49,9 @@ fn measured(alloc: Global, what: &str, count: &str, steps: &str) -> io::Result<V
     let steps = steps.parse().unwrap_or(0);
     let line = match measure(alloc, what.as_bytes(), count, steps) {
         Some(sum) => format!(in alloc; "{sum}\n")?,
-        None => format!(in alloc; "load, store, at, births, value or word; how many; how many steps\n")?,
+        None => format!(in alloc;
+            "load, store, at, births, value or word; how many; how many steps\n"
+        )?,
     };
     Vec::from_slice(alloc, line.as_bytes()).map_err(io::Error::from)
 }
