@@ -6,6 +6,7 @@ usage: tests/index.py            checks, and says what is not as the sources hav
 
 docs/index has a page for each layer of docs/ARCHITECTURE.md: each public call of its crates, the first sentence of its
 comment, and its clauses. A clause has a name, or else its text, or the definitions that it cites where that is long.
+A call without a clause has to be named in docs/OPEN.md.
 The last line is 'N passed, M failed'.
 """
 import pathlib
@@ -14,6 +15,7 @@ import sys
 
 ROOT = pathlib.Path(__file__).resolve().parent.parent
 PAGE = ROOT / "docs" / "ARCHITECTURE.md"
+OPEN = ROOT / "docs" / "OPEN.md"
 FOLDER = ROOT / "docs" / "index"
 LAYER = re.compile(r"^### ([^:\n]*): ([^\n]*)\n(.*?)(?=^##)", re.M | re.S)
 ROW = re.compile(r"^\| `(sc_\w+)` \|([^|]*)\|([^|]*)\|$", re.M)
@@ -156,12 +158,21 @@ def pages(text):
     return made
 
 
+def without_clause(text):
+    """The calls of docs/index that ensure nothing."""
+    crates = [name for title, _, body in LAYER.findall(text) if title not in LEFT_OUT for name, _, _ in ROW.findall(body)]
+    crates = [it for it in crates if (ROOT / "crates" / it / "src" / "lib.rt").is_file()]
+    return [name for crate in crates for name, _, _, ensured in calls(crate) if not ensured]
+
+
 def faults(text, below):
     wrong = [f"docs/index/{name} is not as the sources have it" for name, page in pages(text).items()
              if not (FOLDER / name).is_file() or (FOLDER / name).read_text() != page]
     wrong += [f"docs/index/{it.name} is of no layer" for it in FOLDER.glob("*") if it.name not in pages(text)]
     wrong += [f"docs/ARCHITECTURE.md: {name} stands on {column(name, below)}" for name, told, _ in ROW.findall(text)
               if told.strip() != column(name, below)]
+    wrong += [f"docs/OPEN.md: {name} has no clause, and is not named" for name in without_clause(text)
+              if f"`{name}`" not in OPEN.read_text()]
     known = [name for name, _, _ in ROW.findall(text)]
     wrong += [f"docs/ARCHITECTURE.md: {name} stands there {known.count(name)} times" for name in below if known.count(name) != 1]
     wrong += [f"docs/ARCHITECTURE.md: there is no {name}" for name in known if name not in below]
