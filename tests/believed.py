@@ -2,7 +2,8 @@
 """Counts the definitions that a reader of the claim has to believe: those that the contract of `saber` names, those
 that they name, and so on.
 
-usage: tests/believed.py            compares the counts of docs/TRUST.md with the sources: each is right to a twentieth
+usage: tests/believed.py            compares the counts of docs/TRUST.md and docs/CLAIM.md with the sources: each has to be
+                                    right to a twentieth
        tests/believed.py --write    writes them
 
 It goes by names, so a figure may be a few lines off. Lines are those without comments, imports and blanks. The kinds
@@ -13,10 +14,22 @@ import pathlib
 import re
 import sys
 
+from index import LAYER, PAGE as LAYERS, ROW
 from trust import below_program
 
 ROOT = pathlib.Path(__file__).resolve().parent.parent
-PAGE = ROOT / "docs" / "TRUST.md"
+ORIGINALS = {
+    "Edge": "[COMMANDS](COMMANDS.md): words, answers; the traits of the outside",
+    "Language, text": "ANSI 2.1.1.2, 3.1, 3.8",
+    "Language, grammar": "ANSI 3.3 to 3.7; half of it says why a text is refused",
+    "Typed tree": "what a checked module is and keeps",
+    "Language, types": "ANSI 3.1.2, 3.2 to 3.7",
+    "Meaning": "ANSI 2.1.2.3, 3.3, 3.6, 4; the rules of [VIOLATIONS](VIOLATIONS.md)",
+    "Memory": "the same tests by addresses",
+    "Interpreter": "nothing: steps that theorems tie to the meaning",
+    "Compiler": "the RISC-V manual, ELF32; the generator with nothing yet",
+    "Session": "[COMMANDS](COMMANDS.md); runs of both forms with nothing yet",
+}
 KINDS = ("Yardstick", "Machine", "Inside")
 MARKS = ("<!-- tests/believed.py: begin -->\n", "<!-- tests/believed.py: end -->")
 LEADING = {"abbrev", "pub", "record", "data", "unfoldable", "pattern", "axiom", "module", "rewrite", "private"}
@@ -105,47 +118,63 @@ def reached(files):
     return found
 
 
-def counts():
-    """The rows of the table: for each kind the files below the program with their lines, and what the contract reaches."""
-    files, below = all_files(), below_program()
-    got = reached(files)
-    rows = []
+def kinds(files, got):
+    """The rows of docs/TRUST.md: for each kind the files below the program with their lines, and what the contract reaches."""
+    below, rows = below_program(), []
     for kind in KINDS:
-        mine = {key: it for key, it in files.items() if it.kind == kind and key[0] in below}
+        mine = [it for key, it in files.items() if it.kind == kind and key[0] in below]
         hit = [it for it in got if files[it[:2]].kind == kind]
-        rows.append((kind, len(mine), sum(it.lines() for it in mine.values()), len(hit),
-                     sum(len(files[it[:2]].parts[it[2]]) for it in hit)))
-    rows.append(("all", *(sum(row[at] for row in rows) for at in range(1, 5))))
-    return rows, len({it[0] for it in got})
+        rows.append((kind, len(mine), sum(it.lines() for it in mine), len(hit), size(files, hit)))
+    return [*rows, ("all", *(sum(row[at] for row in rows) for at in range(1, 5)))]
 
 
-def block():
-    rows, crates = counts()
-    lines = ["| Kind | Files below the program | Lines | Definitions that the contract of `saber` reaches | Lines |", "|---|---|---|---|---|"]
+def size(files, got):
+    return sum(len(files[it[:2]].parts[it[2]]) for it in got)
+
+
+def table(head, rows):
+    lines = ["| " + " | ".join(head) + " |", "|" + "---|" * len(head)]
     lines += ["| " + " | ".join(f"{it:,}" if isinstance(it, int) else it for it in row) + " |" for row in rows]
-    return "\n".join(lines) + f"\n\nThe definitions that are reached stand in {crates} crates.\n"
+    return "\n".join(lines) + "\n"
+
+
+def blocks():
+    """What stands between the marks of each page."""
+    files = all_files()
+    got = reached(files)
+    head = ("Kind", "Files below the program", "Lines", "Definitions that the contract of `saber` reaches", "Lines")
+    crates = f"\nThe definitions that are reached stand in {len({it[0] for it in got})} crates.\n"
+    layers = [(title, {name for name, _, _ in ROW.findall(body)}) for title, _, body in LAYER.findall(LAYERS.read_text())]
+    rows = [(title, size(files, [it for it in got if it[0] in names]), ORIGINALS[title]) for title, names in layers if title in ORIGINALS]
+    return {"TRUST.md": table(head, kinds(files, got)) + crates, "CLAIM.md": table(("Layer", "Lines", "Compare with"), rows)}
 
 
 def numbers(text):
-    return [int(it.replace(",", "")) for it in re.findall(r"\d[\d,]*", text)]
+    return [int(it.replace(",", "")) for it in re.findall(r"(?<=\| )\d[\d,]*(?= \|)|(?<=in )\d+", text)]
+
+
+def agree(now, then):
+    return len(now) == len(then) and all(abs(a - b) * 20 <= max(a, b) for a, b in zip(now, then))
 
 
 def main():
-    page = PAGE.read_text()
-    before, _, rest = page.partition(MARKS[0])
-    told, _, after = rest.partition(MARKS[1])
-    if sys.argv[1:] == ["--write"]:
-        PAGE.write_text(before + MARKS[0] + block() + MARKS[1] + after)
-        return 0
-    if sys.argv[1:]:
+    if sys.argv[1:] not in ([], ["--write"]):
         sys.exit(__doc__)
-    now, then = numbers(block()), numbers(told)
-    print(block(), end="")
-    is_right = len(now) == len(then) and all(abs(a - b) * 20 <= max(a, b) for a, b in zip(now, then))
-    if not is_right:
-        print("docs/TRUST.md has other counts: tests/believed.py --write")
-    print(f"{int(is_right)} passed, {int(not is_right)} failed")
-    return 0 if is_right else 1
+    wrong = 0
+    for name, block in blocks().items():
+        page = ROOT / "docs" / name
+        before, _, rest = page.read_text().partition(MARKS[0])
+        told, _, after = rest.partition(MARKS[1])
+        if sys.argv[1:]:
+            page.write_text(before + MARKS[0] + block + MARKS[1] + after)
+            continue
+        print(block, end="")
+        if not agree(numbers(block), numbers(told)):
+            print(f"docs/{name} has other counts: tests/believed.py --write")
+            wrong += 1
+    if not sys.argv[1:]:
+        print(f"{2 - wrong} passed, {wrong} failed")
+    return wrong
 
 
 if __name__ == "__main__":
