@@ -3,12 +3,14 @@
 
 usage: tests/hollow.py CRATE FOLDER
 
-Of the crates below, types, definitions, contracts and the statements of lemmas stay. Bodies are `unreachable!()`, and
-proofs go. In FOLDER/crates/CRATE then
+Of the crates below, types, definitions, contracts and the statements of lemmas stay. Bodies become `unreachable!()`,
+proofs of functions go, and lemmas become axioms. Then
 
-    rt check --only FUNCTION --allow-holes
+    FOLDER/check FUNCTION        checks one function of the crate, by its path in it (a::b::f)
+    FOLDER/check                 checks the whole crate
 
-begins within minutes. A function that calls a hollow one "depends on a hole": that is no fault, and no verdict either.
+A function that calls a hollow one "depends on a hole in" it: that is no fault, and no verdict either. What else stays
+open would stay open over the real crates too.
 """
 import pathlib
 import re
@@ -74,9 +76,43 @@ def hollowed(text):
     return "\n".join(out), made
 
 
+def blocks(lines):
+    """The parts of a file of lemmas: a line, with the lines that are deeper inside and those that close a bracket."""
+    at = 0
+    while at < len(lines):
+        deep, end = len(lines[at]) - len(lines[at].lstrip()), at + 1
+        if lines[at].strip() and not lines[at].lstrip().startswith(("--", "use ", "pub use ")):
+            is_head = re.match(r"\s*(pub )?module\b", lines[at])
+            while end < len(lines) and is_head and not lines[end - 1].rstrip().endswith("where"):
+                end += 1
+            while end < len(lines) and not is_head and lines[end].strip():
+                inside = len(lines[end]) - len(lines[end].lstrip())
+                if inside < deep or inside == deep and lines[end].strip()[0] not in ")}":
+                    break
+                end += 1
+        yield lines[at:end]
+        at = end
+
+
 def stated(text):
-    """A file of lemmas in which each proof is an axiom; definitions stay."""
-    return text
+    """A file of lemmas in which each lemma is an axiom; definitions stay."""
+    out, stays = [], {}
+    for block in blocks(text.split("\n")):
+        first = block[0].strip()
+        name = re.match(r"(?:(?:unfoldable|pattern|abbrev|pub|record|data) )*([^\s:(]*)", first)[1]
+        is_typed = re.match(r"(?:pub )?[^\s:(]+(?: \{[^}]*\})? :(?: |$)", first)
+        if not first or first.startswith(("--", "use ", "pub use ")) or re.match(r"(pub )?module\b", first):
+            out += block
+        elif re.match(r"(?:(?:unfoldable|pattern|pub) )*(?:abbrev|record|data)\b", first):
+            stays[name] = True
+            out += block
+        elif is_typed:
+            stays[name] = False
+            indent = block[0][:len(block[0]) - len(block[0].lstrip())]
+            out += [f"{indent}axiom {first}", *(it for it in block[1:] if not it.strip().startswith("unfolding "))]
+        elif stays.get(name, True) and name != "unfolding":
+            out += block
+    return "\n".join(out)
 
 
 def hollow(crate, target):
@@ -94,6 +130,31 @@ def hollow(crate, target):
             folder = target.joinpath("proofs", *module, *([owner] if owner else []), name)
             folder.mkdir(parents=True, exist_ok=True)
             (folder / "Answers.antt").write_text("unreachable-requires = ?\n")
+    if (source / "proofs" / "Lib.antt").is_file():
+        for name in re.findall(r"^(?:pub )?mod (\w+)", (source / "proofs" / "Lib.antt").read_text(), re.M):
+            copy_lemmas(source / "proofs" / f"{name}.antt", target / "proofs" / f"{name}.antt")
+        shutil.copy(source / "proofs" / "Lib.antt", target / "proofs" / "Lib.antt")
+
+
+def copy_lemmas(source, target):
+    target.parent.mkdir(parents=True, exist_ok=True)
+    target.write_text(stated(source.read_text()))
+
+
+def checking(crate, names, known):
+    """A script that checks the crate over the hollow ones, by their sources."""
+    kit = sorted({it for name in [crate, *names] for it in known[name] if it not in known} | {"core"})
+    folder = pathlib.Path(__file__).name
+    lines = ["#!/bin/sh", f"# Written by {folder}: checks {crate} over hollow crates. It gives no verdict.",
+             'here=$(dirname "$(readlink -f "$0")")', 'kit=$(dirname "$(rt doc)")', f'cd "$here/crates/{crate}" || exit 1',
+             'only=', '[ -z "$1" ] || only="--only $1"',
+             f'exec rattle check --crate-name {crate} src/{"lib" if (ROOT / "crates" / crate / "src" / "lib.rt").is_file() else "main"}.rt \\']
+    lines += [f'    --extern {it}="$kit/rlibs/{it}.rlib" \\' for it in kit]
+    lines += ['    -L dependency="$kit/rlibs" \\']
+    lines += [f'    --lib {it}:{",".join(["core", *known[it]])}="$here/crates/{it}/src/lib.rt" \\' for it in names]
+    lines += ['    --antt-project "$kit/rattle/logic/antt-project.json" --logic-built "$kit/logic_built" \\',
+              '    --incremental "$here/kept" --jobs 1 --allow-holes $only']
+    return "\n".join(lines) + "\n"
 
 
 def main():
@@ -111,6 +172,8 @@ def main():
     shutil.copytree(ROOT / "crates" / crate, room / "crates" / crate, ignore=shutil.ignore_patterns("out", "must-fail"))
     (room / "crates.txt").write_text("".join(f"{it}: {' '.join(known[it])}\n" for it in [*names, crate]))
     shutil.copy(ROOT / "HANDLES", room / "HANDLES")
+    (room / "check").write_text(checking(crate, names, known))
+    (room / "check").chmod(0o755)
     print(f"{len(names)} hollow crates below {crate} in {room}")
 
 
