@@ -34,14 +34,17 @@ class Trouble(Exception):
         self.status = status
 
 
+class Early(Trouble):
+    """A session that ended: its exit status, its last line on standard error, and what it told since the last answer."""
+
+    def __init__(self, status, said, told):
+        super().__init__(f"the session ended early with status {status}: {said or 'nothing was said'}", 3)
+        self.program_status, self.said, self.told = status, said, told
+
+
 def refused(text):
     """Trouble with what the user gave: status 2."""
     return Trouble(text, 2)
-
-
-def ended(text):
-    """Trouble with the session itself: status 3."""
-    return Trouble(text, 3)
 
 
 @dataclass(frozen=True)
@@ -110,8 +113,17 @@ class Session:
     def ask(self, command, show=None):
         """The answer to one command; `show` is given the program's bytes while they come, if it is named."""
         self._send([command])
-        told = self._told(show)
-        return split_answer(command, told)
+        told, shown = self._told(show)
+        answer = split_answer(command, told)
+        if show and len(answer.output) > shown:
+            show(answer.output[shown:])
+        return answer
+
+    def ask_raw(self, command, show):
+        """Shows what one command brings, while it comes, and gives the last part of it, which holds the answer."""
+        self._send([command])
+        told, shown = self._told(show)
+        return told[shown:]
 
     def ask_all(self, commands):
         """The answers to many commands, in their order."""
@@ -119,7 +131,7 @@ class Session:
         for at in range(0, len(commands), MOST_IN_A_BATCH):
             batch = commands[at:at + MOST_IN_A_BATCH]
             self._send(batch)
-            answers += [split_answer(command, self._told(None)) for command in batch]
+            answers += [split_answer(command, self._told(None)[0]) for command in batch]
         return answers
 
     def close(self):
@@ -141,13 +153,13 @@ class Session:
     def _send(self, commands):
         self.lines += 2 * len(commands)
         try:
-            self.child.stdin.write(b"".join(it.encode() + self._ask_for_mark for it in commands))
+            self.child.stdin.write(b"".join(it.encode(errors="surrogateescape") + self._ask_for_mark for it in commands))
             self.child.stdin.flush()
         except OSError:
             self._early()
 
     def _told(self, show):
-        """The bytes up to the next mark, which is taken off."""
+        """The bytes up to the next mark, which is taken off, and how many of them were shown."""
         shown = 0
         while (at := self._held.find(self._mark, max(0, shown - len(self._mark)))) < 0:
             if show:
@@ -157,9 +169,7 @@ class Session:
                 self._early()
             self._held += more
         told, self._held = self._held[:at], self._held[at + len(self._mark):]
-        if show:
-            show(told[shown:told.rfind(b"\n", 0, len(told) - 1) + 1])
-        return told
+        return told, shown
 
     def _show(self, show, shown):
         """Shows what waits but for up to two last lines that may be an answer and a mark; tells how many bytes that were."""
@@ -173,10 +183,10 @@ class Session:
         return count
 
     def _early(self):
-        """Raises what is known of a session that ended too early."""
+        """Raises what is known of a session that ended."""
         status = self.child.wait()
         said = self.child.stderr.read().decode(errors="replace").strip().splitlines()
-        raise ended(f"the session ended early with status {status}: {said[-1] if said else 'nothing was said'}")
+        raise Early(status, said[-1] if said else "", self._held)
 
 
 @dataclass(frozen=True)
