@@ -20,10 +20,9 @@ all:
 	@echo "nothing is built: 'make install' installs $(PROGRAM)"
 
 install:
-	install -d $(ROOT)/bin $(SHARE)/release $(SHARE)/completion $(DOCS) $(MANUAL) $(WORDS)
+	install -d $(ROOT)/bin $(SHARE)/release $(DOCS) $(MANUAL) $(WORDS)
 	install -m 755 $(PROGRAM) $(ROOT)/bin/saber
 	ln -sf ../../../bin/saber $(SHARE)/release/saber
-	install -m 644 completion/saber.words $(SHARE)/completion
 	install -m 644 completion/saber.bash $(WORDS)/saber
 	for page in docs/*.1 docs/man/*.1; do \
 	    [ ! -f $$page ] || install -m 644 $$page $(MANUAL)/$$(basename $$page | tr A-Z a-z); done

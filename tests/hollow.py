@@ -143,7 +143,7 @@ def copy_lemmas(source, target):
 
 def checking(crate, names, known):
     """A script that checks the crate over the hollow ones, by their sources."""
-    kit = sorted({it for name in [crate, *names] for it in known[name] if it not in known} | {"core"})
+    kit = sorted({it for name in [crate, *names] for it in known[name] if it not in known} | {"core", "std"})
     folder = pathlib.Path(__file__).name
     lines = ["#!/bin/sh", f"# Written by {folder}: checks {crate} over hollow crates. It gives no verdict.",
              'here=$(dirname "$(readlink -f "$0")")', 'kit=$(dirname "$(rt doc)")', f'cd "$here/crates/{crate}" || exit 1',
@@ -151,7 +151,7 @@ def checking(crate, names, known):
              f'exec rattle check --crate-name {crate} src/{"lib" if (ROOT / "crates" / crate / "src" / "lib.rt").is_file() else "main"}.rt \\']
     lines += [f'    --extern {it}="$kit/rlibs/{it}.rlib" \\' for it in kit]
     lines += ['    -L dependency="$kit/rlibs" \\']
-    lines += [f'    --lib {it}:{",".join(["core", *known[it]])}="$here/crates/{it}/src/lib.rt" \\' for it in names]
+    lines += [f'    --lib {it}:{",".join(["core", "std", *known[it]])}="$here/crates/{it}/src/lib.rt" \\' for it in names]
     lines += ['    --antt-project "$kit/rattle/logic/antt-project.json" --logic-built "$kit/logic_built" \\',
               '    --incremental "$here/kept" --jobs 1 --allow-holes $only']
     return "\n".join(lines) + "\n"

@@ -23,12 +23,16 @@ TOURS = {
 }
 
 
+def blocks(text):
+    """The lines of each indented block of a text."""
+    return [[it[4:] for it in block.splitlines()] for block in re.findall(r"(?:^    [^\n]*\n)+", text, re.M)]
+
+
 def told(place):
-    """The lines of a tour's blocks."""
+    """The lines of a tour's blocks, but for those with commands of the shell."""
     file, title = place
     section = re.search(rf"^## {title}\n(.*?)^## ", (ROOT / file).read_text(), re.M | re.S)
-    lines = [it[4:] for it in section[1].splitlines() if it.startswith("    ")]
-    return lines
+    return [line for block in blocks(section[1]) if not block[0].startswith("$ ") for line in block]
 
 
 def answered(program, folder):
@@ -53,9 +57,7 @@ def agree(tour, lines):
 
 def shown(file):
     """The blocks of a page that begin with a command of the shell: the command, and the lines below it."""
-    blocks = re.findall(r"(?:^    [^\n]*\n)+", (ROOT / file).read_text(), re.M)
-    lines = [[it[4:] for it in block.splitlines()] for block in blocks]
-    return [(it[0][2:], it[1:]) for it in lines if it[0].startswith("$ ")]
+    return [(it[0][2:], it[1:]) for it in blocks((ROOT / file).read_text()) if it[0].startswith("$ ")]
 
 
 def printed(program, command):
@@ -65,7 +67,7 @@ def printed(program, command):
         pathlib.Path(room, "tools").symlink_to(ROOT / "tools")
         pathlib.Path(room, "saber").symlink_to(program)
         ran = subprocess.run(["sh", "-c", command], capture_output=True, text=True, cwd=room, timeout=120,
-                             env={**os.environ, "SABER": str(program)})
+                             env={**os.environ, "SABER_PROGRAM": str(program)})
     return ran.stdout.splitlines()
 
 
@@ -74,11 +76,11 @@ def main():
         sys.exit(__doc__)
     program = pathlib.Path(sys.argv[1]).resolve()
     failed = [place for place, folder in TOURS.items() if not agree(told(place), answered(program, folder))]
-    blocks = [(file, *it) for file in ("README.md", "docs/TOUR.md") for it in shown(file)]
-    failed += [(file, command) for file, command, lines in blocks if not agree(lines, printed(program, command))]
+    commands = [(file, *it) for file in ("README.md", "docs/TOUR.md") for it in shown(file)]
+    failed += [(file, command) for file, command, lines in commands if not agree(lines, printed(program, command))]
     for file, title in failed:
         print(f"FAIL: {file}, {title}: it is not what the program answers")
-    print(f"{len(TOURS) + len(blocks) - len(failed)} passed, {len(failed)} failed")
+    print(f"{len(TOURS) + len(commands) - len(failed)} passed, {len(failed)} failed")
     return 1 if failed else 0
 
 
