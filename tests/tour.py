@@ -18,6 +18,7 @@ import tempfile
 ROOT = pathlib.Path(__file__).resolve().parent.parent
 TOURS = {
     ("README.md", "A tour"): ROOT / "examples" / "queue",
+    ("docs/TOUR.md", "A run looked at by hand"): ROOT / "examples" / "queue",
     ("docs/TOUR.md", "One module suspect, the rest compiled"): ROOT / "examples" / "library",
     ("docs/COMMANDS.md", "Mending a program while it runs"): ROOT / "examples" / "service",
 }
