@@ -6,7 +6,7 @@ usage: tests/index.py            checks, and says what is not as the sources hav
 
 docs/index has a page for each layer of docs/ARCHITECTURE.md: each public call of its crates, the first sentence of its
 comment, and its clauses. A clause has a name, or else its text, or the definitions that it cites where that is long.
-A call without a clause has to be named in docs/OPEN.md.
+A call without a clause has to be named in docs/OPEN.md, and a function that this page names has to be there.
 The last line is 'N passed, M failed'.
 """
 import pathlib
@@ -165,6 +165,16 @@ def without_clause(text):
     return [name for crate in crates for name, _, _, ensured in calls(crate) if not ensured]
 
 
+def gone():
+    """The functions that docs/OPEN.md names in the rows of a crate, and that are in none of its crates any more."""
+    for crates, functions in re.findall(r"^\| (`sc_\w+`[^|]*) \| ([^|]*) \|", OPEN.read_text(), re.M):
+        folders = [ROOT / "crates" / it / "src" for it in re.findall(r"`(sc_\w+)`", crates)]
+        text = "".join(file.read_text() for folder in folders for file in folder.rglob("*.rt"))
+        for name in re.findall(r"(?<!of )`(\w+)`", functions):
+            if not re.search(rf"\bfn {name}\b", text):
+                yield f"{name} of {crates}"
+
+
 def faults(text, below):
     wrong = [f"docs/index/{name} is not as the sources have it" for name, page in pages(text).items()
              if not (FOLDER / name).is_file() or (FOLDER / name).read_text() != page]
@@ -173,6 +183,7 @@ def faults(text, below):
               if told.strip() != column(name, below)]
     wrong += [f"docs/OPEN.md: {name} has no clause, and is not named" for name in without_clause(text)
               if f"`{name}`" not in OPEN.read_text()]
+    wrong += [f"docs/OPEN.md: there is no {it}" for it in gone()]
     known = [name for name, _, _ in ROW.findall(text)]
     wrong += [f"docs/ARCHITECTURE.md: {name} stands there {known.count(name)} times" for name in below if known.count(name) != 1]
     wrong += [f"docs/ARCHITECTURE.md: there is no {name}" for name in known if name not in below]
