@@ -1,4 +1,4 @@
--- Yardstick: to be compared with what it restates (docs/TRUST.md).
+-- Machine: the program once more; a theorem ties it to a yardstick (docs/TRUST.md).
 -- The machine of a run of both forms: one move, by what comes next. Interpreted calls go by the meaning's step as it stands, compiled ones by
 -- instructions and services, and the bridge between them is a move of its own. Where memory ran out nothing is said.
 use Rattle.std.specs.Prelude.{◌≡◌, ◌⊎◌, ⊤, ℕ, ◌+◌, ◌-◌, ◌≤◌, ◌==◌, if◌then◌else◌, Bool, true, false, List, [], ◌∷◌, length, Result, Ok, Err, Option, Some, None}
