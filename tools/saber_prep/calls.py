@@ -14,7 +14,7 @@ CORE = set(
     "strcat strcmp strncmp strchr strrchr isalnum isalpha iscntrl isdigit isgraph islower isprint ispunct isspace isupper isxdigit "
     "tolower toupper _assert_fail".split()
 )
-SUPPORT = INCLUDE.parent / "saberlib.c"
+SUPPORT = [INCLUDE.parent / "saberlib.c", INCLUDE.parent / "saberio.c"]
 FRAME = [
     "void saber_open ( void ) ;", "void saber_number ( unsigned long ) ;", "void saber_pointer ( const void * ) ;",
     "void saber_close ( void ) ;", "unsigned long saber_close_number ( unsigned long ) ;", "void * saber_close_pointer ( const void * ) ;",
@@ -24,8 +24,8 @@ FORMATTED = {"printf": 0, "fprintf": 1, "sprintf": 1, "snprintf": 2, "vprintf": 
 
 
 def supported() -> set[str]:
-    """The functions of saberlib.c."""
-    return set(re.findall(r"^[a-z][\w \*]*?\b(\w+)\([^;]*\)\n\{", SUPPORT.read_text(), re.M)) if SUPPORT.exists() else set()
+    """The functions of the support modules."""
+    return {name for file in SUPPORT for name in re.findall(r"^[a-z][\w \*]*?\b(\w+)\([^;]*\)\n\{", file.read_text(), re.M)}
 
 
 def callee(node: Node) -> Node | None:

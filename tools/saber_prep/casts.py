@@ -4,6 +4,7 @@ from __future__ import annotations
 import re
 
 from .edits import Span
+from .initialisers import is_static
 from .notes import Weight
 from .tree import Node
 from .unit import QUALIFIERS, Unit
@@ -80,8 +81,43 @@ def between_numbers(unit: Unit, node: Node, kind: str) -> None:
         inner = inner.inner[0]
     if kind == "IntegralToPointer" and inner.kind == "IntegerLiteral" and inner.data.get("value") == "0":
         return
-    what = "number to pointer" if kind == "IntegralToPointer" else "pointer to number"
-    unit.note(Weight.PROBLEM, node.first, f"conversion from {what}", "keep the pointer; a test of alignment has often a macro that switches it off")
+    if kind == "IntegralToPointer" and small_number(unit, node, inner):
+        return
+    if is_function(node.plain) or is_function(node.inner[-1].plain) or not in_function(node):
+        what = "number to pointer" if kind == "IntegralToPointer" else "pointer to number"
+        unit.note(Weight.PROBLEM, node.first, f"conversion from {what}", "keep the pointer")
+        return
+    value = node.inner[-1]
+    if kind == "IntegralToPointer":
+        unit.need("void * saber_place ( unsigned long ) ;")
+        unit.edits.replace(node.first, node.last, f"( ( {node.type} ) saber_place (", Span(value.first, value.last), ") )")
+        unit.note(Weight.LEFT_OUT, node.first, "a pointer made of a number", "null, 1 to 255 and -1 have places in saberlib; a run that makes another one ends there")
+    else:
+        unit.need("unsigned long saber_place_number ( const void * ) ;")
+        unit.edits.replace(node.first, node.last, f"( ( {node.type} ) saber_place_number (", Span(value.first, value.last), ") )")
+        unit.note(Weight.LEFT_OUT, node.first, "the address of an object as a number", "a run that asks for one ends in saberlib; a test of alignment has often a macro that switches it off")
+
+
+def in_function(node: Node) -> bool:
+    """Whether an expression is computed in a run, and is no constant of a static object."""
+    owner = next((it for it in node.above() if it.kind in ("VarDecl", "CompoundStmt")), None)
+    return owner is not None and (owner.kind == "CompoundStmt" or not is_static(owner))
+
+
+def small_number(unit: Unit, node: Node, inner: Node) -> bool:
+    """A number from -1 to 255 that is kept in a pointer gets a place of its own in saberlib."""
+    sign = ""
+    if inner.kind == "UnaryOperator" and inner.data.get("opcode") == "-":
+        sign, inner = "-", inner.inner[0]
+    if inner.kind != "IntegerLiteral" or pointee(node.plain) is None:
+        return False
+    value = int(sign + inner.data.get("value", "999"))
+    if not -1 <= value <= 255:
+        return False
+    unit.need("extern char saber_places [ 257 ] ;")
+    unit.edits.replace(node.first, node.last, f"( ( {node.type} ) ( saber_places + {value % 257} ) )")
+    unit.note(Weight.TOLD, node.first, f"the number {value} as a pointer", "it is a place in saberlib, other than all objects and null")
+    return True
 
 
 def functions(unit: Unit, node: Node) -> None:

@@ -6,7 +6,7 @@ from .unit import Item, Unit
 
 
 def keep_used(unit: Unit) -> None:
-    """Drops the unused declarations of headers, and stray `;`.
+    """Drops the unused declarations of headers, unused types and `extern` objects of the file itself, and stray `;`.
 
     A header may declare what the core does not have; it only matters where it is used.
     """
@@ -25,12 +25,14 @@ def keep_used(unit: Unit) -> None:
                 needed |= names_in(unit, item)
     dropped = sum(not it.kept for it in unit.items)
     if dropped:
-        unit.note(Weight.PLAIN, 0, f"{dropped} unused declarations of headers dropped")
+        unit.note(Weight.PLAIN, 0, f"{dropped} unused declarations dropped")
 
 
 def rooted(item: Item) -> bool:
     if all(it.kind in ("EmptyDecl", "StaticAssertDecl") for it in item.nodes):
         return False
+    if all(it.kind == "TypedefDecl" or it.kind == "VarDecl" and it.data.get("storageClass") == "extern" for it in item.nodes):
+        return False  # tests of sizes are often written as such declarations
     if not item.header:
         return True
     return item.defines() and not item.is_static()

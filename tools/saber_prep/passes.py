@@ -3,7 +3,7 @@ from __future__ import annotations
 
 import pathlib
 
-from . import bits, calls, casts, initialisers, keep, oldstyle, problems, statements, types, words
+from . import bits, calls, casts, flatten, initialisers, keep, oldstyle, problems, statements, structs, types, words
 from .notes import Notes, Weight
 from .source import Options, read
 from .tree import deep, parsed
@@ -36,6 +36,7 @@ def all_passes(unit: Unit) -> None:
     types.aliases(unit)
     calls.calls(unit)
     calls.undeclared(unit)
+    structs.structures(unit)
     casts.void_arithmetic(unit)
     casts.casts(unit)
     types.booleans(unit)
@@ -44,12 +45,11 @@ def all_passes(unit: Unit) -> None:
     initialisers.compound_literals(unit)
     oldstyle.old_style(unit)
     oldstyle.implicit_int(unit)
+    flatten.flatten(unit)
     statements.statements(unit)
     calls.main_with_arguments(unit)
     calls.names_of_library(unit)
-    problems.structure_values(unit)
     problems.problems(unit)
-    problems.jumps(unit)
     if unit.options.leave_out:
         problems.leave_out(unit)
     keep.keep_used(unit)

@@ -32,41 +32,12 @@ def problems(unit: Unit) -> None:
                 unit.note(Weight.PROBLEM, node.first, "members of a structure without a name", "give it a name, and use it")
 
 
-def jumps(unit: Unit) -> None:
-    """Labels that are reached from outside of their block, and cases below the list of their switch."""
-    for function in unit.functions():
-        labels = {it.data.get("declId"): it for it in function.walk() if it.kind == "LabelStmt"}
-        for node in function.walk():
-            if node.kind == "GotoStmt":
-                label = labels.get(node.data.get("targetLabelDeclId"))
-                block = holder(label) if label is not None else None
-                if block is not None and block not in list(node.above()):
-                    unit.note(Weight.PROBLEM, node.first, f"goto {label.name} into a block", "move the label out, or write a loop")
-            elif node.kind in ("CaseStmt", "DefaultStmt"):
-                body = holder(node)
-                if body is None or body.parent is None or body.parent.kind != "SwitchStmt":
-                    unit.note(Weight.PROBLEM, node.first, "case inside of another statement", "put the case into the list of the switch")
-
-
 def holder(node: Node) -> Node | None:
     """The block in whose list a label stands."""
     above = node.parent
     while above is not None and above.kind in ("LabelStmt", "CaseStmt", "DefaultStmt"):
         above = above.parent
     return above if above is not None and above.kind == "CompoundStmt" else None
-
-
-def structure_values(unit: Unit) -> None:
-    """Structures as parameters and results."""
-    for node in unit.nodes:
-        if node.kind != "FunctionDecl":
-            continue
-        result = node.type[: node.type.index("(")].strip() if "(" in node.type else ""
-        if unit.record_of(result) is not None:
-            unit.note(Weight.PROBLEM, node.place, f"{node.name} gives a structure", "give it a pointer to one to fill")
-        for parameter in node.inner:
-            if parameter.kind == "ParmVarDecl" and unit.is_record(parameter):
-                unit.note(Weight.PROBLEM, node.place, f"{node.name} takes a structure", "give it a pointer to one")
 
 
 def leave_out(unit: Unit) -> None:

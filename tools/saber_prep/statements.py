@@ -14,6 +14,8 @@ def statements(unit: Unit) -> None:
     """Brings the declarations of each function to the beginnings of blocks."""
     for root in unit.nodes:
         for node in root.walk():
+            if id(node) in unit.flattened:
+                continue
             if node.kind == "CompoundStmt":
                 block(unit, node)
             elif node.kind == "ForStmt" and node.inner and node.inner[0].kind == "DeclStmt":
@@ -34,7 +36,7 @@ def block(unit: Unit, node: Node) -> None:
         if child.kind != "DeclStmt":
             seen = True
         elif seen and any(it.kind in LABELS for it in node.inner[number:]):
-            to_the_front(unit, node, child)
+            assign_in_place(unit, node, child)
         else:
             if seen:
                 unit.edits.put_before(child.first, "{")
@@ -75,8 +77,12 @@ def equals_sign(unit: Unit, variable: Node) -> int:
     return place
 
 
-def to_the_front(unit: Unit, outer: Node, node: Node) -> None:
-    """Declares at the front of the block, and assigns in the place of the declaration."""
+def assign_in_place(unit: Unit, outer: Node, node: Node, whole: Node | None = None) -> None:
+    """Declares at the front of a block, and assigns in the place of the declaration.
+
+    `whole` is the function, if the block is not the one that the declaration stands in: then a name that means something
+    else anywhere in it gets another one.
+    """
     if any(it.kind != "VarDecl" or it.data.get("storageClass") in ("static", "extern") for it in node.inner):
         unit.edits.put_behind(outer.first, Span(node.first, node.last - 1, moved=True), ";")
         unit.edits.replace(node.first, node.last, ";")
@@ -85,20 +91,13 @@ def to_the_front(unit: Unit, outer: Node, node: Node) -> None:
     front: list[Part] = []
     begin = node.first
     for variable in node.inner:
-        rename_hidden(unit, outer, node, variable)
+        name = name_at_front(unit, outer, node, variable, whole)
         value = initialiser(variable)
         if value is None:
             continue
-        sign = equals_sign(unit, variable)
-        front.append(Span(begin, sign - 1, moved=True))
+        front.append(Span(begin, equals_sign(unit, variable) - 1, moved=True))
         begin = value.last + 1
-        if value.kind == "InitListExpr":
-            parts += assignments(unit, variable.name, value, zeros=True)
-        elif value.kind == "StringLiteral" and variable.plain.endswith("]"):
-            parts += [f"memcpy ( {variable.name} ,", Span(value.first, value.last), f", sizeof ( {variable.name} ) ) ;"]
-            unit.need("void * memcpy ( void * , const void * , unsigned int ) ;")
-        else:
-            parts += [variable.name, "=", Span(value.first, value.last), ";"]
+        parts += set_by(unit, name, variable, value)
         if variable.type.startswith("const ") and "*" not in variable.type or variable.type.endswith("const"):
             without_const(unit, node, variable)
     if begin <= node.last - 1:
@@ -108,18 +107,31 @@ def to_the_front(unit: Unit, outer: Node, node: Node) -> None:
     unit.note(Weight.PLAIN, node.first, "declaration behind a statement")
 
 
-def rename_hidden(unit: Unit, outer: Node, node: Node, variable: Node) -> None:
-    """A name that means something else between the front of the block and its declaration gets another one."""
-    between = range(outer.first, node.first)
+def set_by(unit: Unit, name: str, variable: Node, value: Node) -> list[Part]:
+    """The statements that give an object its first value."""
+    if value.kind == "InitListExpr":
+        return assignments(unit, name, value, zeros=True)
+    if value.kind == "StringLiteral" and variable.plain.endswith("]"):
+        unit.need("void * memcpy ( void * , const void * , unsigned int ) ;")
+        return [f"memcpy ( {name} ,", Span(value.first, value.last), f", sizeof ( {name} ) ) ;"]
+    return [name, "=", Span(value.first, value.last), ";"]
+
+
+def name_at_front(unit: Unit, outer: Node, node: Node, variable: Node, whole: Node | None) -> str:
+    """The name of an object at the front: another one if its own means something else in between."""
+    between = list(range(outer.first, node.first))
+    if whole is not None:
+        own = next(it for it in node.above() if it.kind in ("CompoundStmt", "ForStmt"))
+        between = [it for it in range(whole.place, whole.last) if not own.first <= it <= own.last]
     if not any(unit.text(it) == variable.name and unit.text(it - 1) not in (".", "->") for it in between):
-        return
+        return variable.name
     name = unit.name(variable.name)
     unit.edits.replace(variable.place, variable.place, name)
     for it in outer.walk():
         if it.kind == "DeclRefExpr" and it.target == variable.id:
             unit.edits.replace(it.first, it.last, name)
     unit.note(Weight.TOLD, variable.place, f"the inner object {variable.name}", f"it is called {name}")
-    variable.name = name
+    return name
 
 
 def loop(unit: Unit, node: Node) -> None:

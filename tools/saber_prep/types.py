@@ -10,6 +10,7 @@ from .tree import Node
 from .unit import Unit
 
 LONG_CONSTANT = re.compile(r"(0[xX][0-9a-fA-F]+|\d+)([uUlL]*)$")
+FUNCTION_TYPE = re.compile(r"[^()]*\((?!\*)")
 WIDE_TYPES = ("long long", "unsigned long long")
 NARROW_ADVICE = "values above 32 bits are lost"
 WIDE_ADVICE = "--narrow reads it as 32 bits; or leave it out"
@@ -106,7 +107,9 @@ def type_of(unit: Unit) -> None:
         declared = next((it for it in unit.nodes if it.kind == "FunctionDecl" and it.first <= place < it.place), None)
         if meant is None:
             unit.note(Weight.PROBLEM, place, "typeof", "write the type")
-        elif declared is not None and meant.endswith(")") and "(*" not in meant:
+        elif declared is not None and any(unit.is_record(it) for it in declared.inner):
+            unit.note(Weight.PROBLEM, place, "typeof of a function with structures", "write its declaration")
+        elif declared is not None and FUNCTION_TYPE.match(meant):
             unit.edits.replace(place, declared.place, function_named(meant, declared.name))
             unit.note(Weight.PLAIN, place, "typeof")
         else:
@@ -139,8 +142,6 @@ def meant_type(unit: Unit, first: int, last: int) -> str | None:
 def function_named(text: str, name: str) -> str:
     """The declaration of a function from its type, `int (char *)`."""
     place = text.index("(")
-    if text[place : place + 2] == "(*":
-        place = text.rindex("(", 0, len(text) - 1)
     return spaced(f"{text[:place]} {name} {text[place:]}")
 
 
@@ -168,7 +169,7 @@ def aliases(unit: Unit) -> None:
         found = re.search(r'(?:__alias__|alias) \( "(\w+)" \)', unit.texts(item.first, item.last))
         wanted = found[1] if found else ""
         target = next((it for it in unit.nodes if it.kind == "FunctionDecl" and it.name == wanted), None)
-        if target is None or "(*" in target.plain[: target.plain.index("(") + 2]:
+        if target is None or not FUNCTION_TYPE.match(target.plain):
             unit.note(Weight.PROBLEM, node.place, "another name for a function", "write a function that calls it")
             continue
         unit.tail.append(forwarding(node.name, target))

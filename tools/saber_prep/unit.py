@@ -51,6 +51,7 @@ class Unit:
     prelude: list[str] = field(default_factory=list)  # declarations in front of everything
     tail: list[list[Part]] = field(default_factory=list)  # functions behind everything
     told: list[tuple[int, Note]] = field(default_factory=list)
+    flattened: set[int] = field(default_factory=set)  # blocks and loops that are no more
     fresh: int = 0
 
     def __post_init__(self) -> None:
