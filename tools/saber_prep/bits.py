@@ -65,12 +65,13 @@ def cut(width: int, signed: bool, value: list[Part]) -> list[Part]:
 
 
 def computed(unit: Unit, node: Node, width: int, signed: bool, operator: str, by: list[Part]) -> None:
+    """`x.f += n` and `x.f++`; the value of the latter is that before."""
     left = node.inner[0]
-    effects = any(it.kind == "CallExpr" or it.data.get("opcode") in ("++", "--", "=") for it in left.walk())
-    used = node.data.get("isPostfix") and node.parent is not None and node.parent.kind not in ("CompoundStmt", "ForStmt")
-    if effects or used:
-        unit.note(Weight.PROBLEM, node.first, "change of a bit-field inside of an expression", "write it as a statement of its own")
+    if any(it.kind == "CallExpr" or it.data.get("opcode") in ("++", "--", "=") for it in left.walk()):
+        unit.note(Weight.PROBLEM, node.first, "change of a bit-field that is computed", "keep a pointer to the structure")
         return
     place = Span(left.first, left.last)
-    value = cut(width, signed, [place, operator, "(", *by, ")"])
-    unit.edits.replace(node.first, node.last, "(", place, "=", *value, ")")
+    step: list[Part] = ["(", place, "=", *cut(width, signed, [place, operator, "(", *by, ")"]), ")"]
+    if node.data.get("isPostfix"):
+        step = cut(width, signed, [*step, "+" if operator == "-" else "-", "1"])
+    unit.edits.replace(node.first, node.last, *step)

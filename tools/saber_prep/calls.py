@@ -25,7 +25,7 @@ FORMATTED = {"printf": 0, "fprintf": 1, "sprintf": 1, "snprintf": 2, "vprintf": 
 
 def supported() -> set[str]:
     """The functions of the support modules."""
-    return {name for file in SUPPORT for name in re.findall(r"^[a-z][\w \*]*?\b(\w+)\([^;]*\)\n\{", file.read_text(), re.M)}
+    return {name for file in SUPPORT for name in re.findall(r"^[a-z][^\n;{]*?\b(\w+)\([^\n;]*\)\n\{", file.read_text(), re.M)}
 
 
 def callee(node: Node) -> Node | None:

@@ -35,6 +35,8 @@ def casts(unit: Unit) -> None:
 def implicit(unit: Unit, node: Node) -> None:
     """Writes a cast where a pointer becomes one to another type, or loses `const`."""
     source, wanted = node.inner[0].plain, node.plain
+    if is_null(node.inner[0]):
+        return
     if is_function(source) != is_function(wanted):
         functions(unit, node)
         return
@@ -50,6 +52,13 @@ def implicit(unit: Unit, node: Node) -> None:
     differs = bare_left != bare_right and "void" not in (bare_left, bare_right)
     if loses or differs and node.data.get("castKind") == "BitCast":
         cast_to(unit, node)
+
+
+def is_null(node: Node) -> bool:
+    """Whether an expression is the constant 0, or that as a `void *`."""
+    while node.kind in ("ParenExpr", "CStyleCastExpr", "ImplicitCastExpr") and node.inner:
+        node = node.inner[0]
+    return node.kind == "IntegerLiteral" and node.data.get("value") == "0"
 
 
 def cast_to(unit: Unit, node: Node) -> None:
@@ -123,7 +132,7 @@ def small_number(unit: Unit, node: Node, inner: Node) -> bool:
 def functions(unit: Unit, node: Node) -> None:
     """A cast between a function's address and an object's."""
     source, wanted = node.inner[-1].plain, node.plain
-    if is_function(source) != is_function(wanted):
+    if is_function(source) != is_function(wanted) and not is_null(node.inner[-1]):
         unit.note(Weight.PROBLEM, node.first, "conversion between a function's address and an object's", "keep it in a pointer to functions")
 
 

@@ -5,12 +5,13 @@ import argparse
 import pathlib
 import re
 import sys
-from dataclasses import dataclass
+from dataclasses import dataclass, field
 
 from .layout import laid_out, map_of
 from .notes import Failure, Notes, Weight
 from .passes import unit_of
 from .source import Options
+from .support import names_defined, names_used, needed, without
 from .tree import read_file
 
 LONGEST = 31
@@ -60,7 +61,15 @@ def module_names(files: list[pathlib.Path]) -> list[str]:
     return names
 
 
-def written(words: Words, file: pathlib.Path, name: str) -> int:
+@dataclass
+class Names:
+    """What all files of a call use and define."""
+
+    used: set[str] = field(default_factory=set)
+    own: set[str] = field(default_factory=set)
+
+
+def written(words: Words, file: pathlib.Path, name: str, names: Names) -> int:
     """Makes one module; answers the exit status for it."""
     read_file(file)
     target = words.output / f"{name}.c"
@@ -74,6 +83,8 @@ def written(words: Words, file: pathlib.Path, name: str) -> int:
         (words.output / f"{name}.map.json").write_text(map_of(unit, name, lines))
     except OSError as fault:
         raise Failure(f"{target}: {fault.strerror}", 2) from None
+    names.used |= names_used(unit)
+    names.own |= names_defined(unit)
     tell(words, file, name, unit.notes)
     return 1 if unit.notes.of(Weight.PROBLEM) else 0
 
@@ -95,10 +106,15 @@ def tell(words: Words, file: pathlib.Path, name: str, notes: Notes) -> None:
 def main(given: list[str] | None = None) -> int:
     words = words_of(sys.argv[1:] if given is None else given)
     status = 0
+    names = Names()
     for file, name in zip(words.files, module_names(words.files)):
         try:
-            status = max(status, written(words, file, name))
+            status = max(status, written(words, file, name, names))
         except Failure as fault:
             print(f"saber-prep: {fault}", file=sys.stderr)
             status = max(status, fault.status)
+    for file in needed(names.used, names.own):
+        (words.output / file.name).write_text(without(file.read_text(), names.own))
+        if not words.quiet:
+            print(f"{file.name}: module {file.stem}, which the others need")
     return status

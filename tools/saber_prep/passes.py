@@ -30,6 +30,7 @@ def all_passes(unit: Unit) -> None:
     words.drop_words(unit)
     words.literals(unit)
     types.wide_integers(unit)
+    types.wide_shifts(unit)
     types.floating(unit)
     types.type_of(unit)
     types.open_arrays(unit)

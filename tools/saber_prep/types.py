@@ -3,7 +3,7 @@ from __future__ import annotations
 
 import re
 
-from .edits import Part
+from .edits import Part, Span
 from .notes import Weight
 from .oldstyle import SPECIFIERS
 from .tree import Node
@@ -59,6 +59,46 @@ def constant(unit: Unit, place: int, text: str) -> None:
     unit.edits.replace(place, place, (hex(kept) if digits[:2].lower() == "0x" else str(kept)) + tail)
     lost = f"it becomes {kept}" if kept != value else NARROW_ADVICE
     unit.note(Weight.NARROW, place, f"{text} is read with 32 bits", lost)
+
+
+def wide_shifts(unit: Unit) -> None:
+    """With --narrow a shift by 32 or more gives what it gives for 64 bits of which the upper half is 0 (or the sign)."""
+    if not unit.options.narrow:
+        return
+    for root in unit.nodes:
+        for node in root.walk():
+            operator = node.data.get("opcode", "")
+            if node.kind in ("BinaryOperator", "CompoundAssignOperator") and operator[:2] in ("<<", ">>") and node.inner[0].plain in WIDE_TYPES:
+                shift(unit, node, operator)
+
+
+def shift(unit: Unit, node: Node, operator: str) -> None:
+    left, right = node.inner
+    value, count = Span(left.first, left.last), Span(right.first, right.last)
+    keeps_sign = operator[0] == ">" and left.plain == "long long"
+    assigns = operator.endswith("=")
+    sign = operator if keeps_sign else ("&=" if assigns else "&")
+    far: list[Part] = ["(", *(["(", value, ")"] if not assigns else [value]), sign, "31" if keeps_sign else "0", ")"]
+    known = next((int(it.data["value"]) for it in [strip(right)] if it.kind == "IntegerLiteral"), None)
+    if known is not None and known < 32:
+        return
+    if known is not None:
+        unit.edits.replace(node.first, node.last, *far)
+    elif is_pure(right) and (not assigns or is_pure(left)):
+        near: list[Part] = ["(", value, ")", operator, "(", count, ")"] if not assigns else [value, operator, "(", count, ")"]
+        unit.edits.replace(node.first, node.last, "( (", count, ") > 31 ?", *far, ": (", *near, ") )")
+    unit.note(Weight.NARROW, node.first, f"a shift {operator} of 64 bits", "the upper 32 bits are read as 0, or as the sign")
+
+
+def strip(node: Node) -> Node:
+    while node.kind in ("ParenExpr", "ImplicitCastExpr", "ConstantExpr") and node.inner:
+        node = node.inner[0]
+    return node
+
+
+def is_pure(node: Node) -> bool:
+    """Whether an expression may be computed twice."""
+    return not any(it.kind in ("CallExpr", "CompoundAssignOperator") or it.data.get("opcode") in ("++", "--", "=") for it in node.walk())
 
 
 def floating(unit: Unit) -> None:
