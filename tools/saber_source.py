@@ -112,7 +112,7 @@ def names_in(lines):
 
 def block_around(lines, number):
     """The lines, as a range of numbers, of the definition at file scope that a line belongs to."""
-    first, line, depth, is_directive, before = 1, 1, 0, False, ""
+    first, line, depth, is_directive, before = 0, 1, 0, False, ""
     for token in TOKEN.findall("\n".join(lines)):
         if token == "\n":
             is_directive = is_directive and before == "\\"
@@ -120,10 +120,11 @@ def block_around(lines, number):
             is_directive = True
         elif not is_directive and token in "{}":
             depth = max(0, depth + (1 if token == "{" else -1))
+        first = line if not first and not token.isspace() else first
         line += token.count("\n")
         before = token
         if depth == 0 and not is_directive and token in (";", "}"):
             if number <= line:
                 return range(first, line + 1)
-            first = line
-    return range(first, len(lines) + 1)
+            first = 0
+    return range(first or number, len(lines) + 1)
