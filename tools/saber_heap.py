@@ -92,10 +92,10 @@ def is_same(violation, other):
         all(b - a in (0, ADDED_OBJECTS) for a, b in zip(violation.numbers, other.numbers))
 
 
-def find_block(setup, modules, given, violation, number):
+def find_block(setup, violation, number):
     """What is to be known of an object, if it is a heap block; else nothing."""
     try:
-        with HeapCopy(modules, given) as view:
+        with HeapCopy(setup.view.modules, setup.view.given) as view:
             return _followed(Setup(setup.program, view, setup.options), violation, number)
     except Trouble:
         return None

@@ -56,6 +56,23 @@ class Sources:
         text = lines[line - 1] if 0 < line <= len(lines) else self.line(name, number)
         return Place(file, line, text.strip())
 
+    def lines_from(self, path):
+        """Pairs of a line of a file and its place (module, line), for all lines of modules that come from that file."""
+        path, found = pathlib.Path(path).resolve(), []
+        for name, own in self._paths.items():
+            self._original(name, 0)
+            for first, last, file, line in self._maps[name]:
+                if (own.parent / file).resolve() == path:
+                    found += [(line + at - first, (name, at)) for at in range(first, last + 1)]
+            if not self._maps[name] and own.resolve() == path:
+                found += [(at, (name, at)) for at in range(1, len(self.lines(name)) + 1)]
+        return found
+
+    def path(self, name, place):
+        """The path of a place's file."""
+        own = self._paths[name]
+        return own if place.file == own.name else (own.parent / place.file).resolve()
+
     def _original(self, name, number):
         if name not in self._maps:
             self._maps[name] = read_map(self._paths.get(name))
@@ -91,3 +108,23 @@ def names_in(lines):
         if is_name and (at == 0 or tokens[at - 1] not in (".", "->")) and tokens[at + 1:at + 2] != ["("]:
             found.append(token)
     return list(dict.fromkeys(found))
+
+
+def block_around(lines, number):
+    """The lines, as a range of numbers, of the definition at file scope that a line belongs to."""
+    first, line, depth, is_directive, before = 0, 1, 0, False, ""
+    for token in TOKEN.findall("\n".join(lines)):
+        if token == "\n":
+            is_directive = is_directive and before == "\\"
+        elif token == "#":
+            is_directive = True
+        elif not is_directive and token in "{}":
+            depth = max(0, depth + (1 if token == "{" else -1))
+        first = line if not first and not token.isspace() else first
+        line += token.count("\n")
+        before = token
+        if depth == 0 and not is_directive and token in (";", "}"):
+            if number <= line:
+                return range(first, line + 1)
+            first = 0
+    return range(first or number, len(lines) + 1)
