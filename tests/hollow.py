@@ -76,18 +76,23 @@ def hollowed(text):
     return "\n".join(out), made
 
 
+def depth(line):
+    return len(line) - len(line.lstrip())
+
+
 def blocks(lines):
-    """The parts of a file of lemmas: a line, with the lines that are deeper inside and those that close a bracket."""
+    """The parts of a file of lemmas: a line, with what stands deeper below it and the brackets that it closes."""
     at = 0
     while at < len(lines):
-        deep, end = len(lines[at]) - len(lines[at].lstrip()), at + 1
-        if lines[at].strip() and not lines[at].lstrip().startswith(("--", "use ", "pub use ")):
-            is_head = re.match(r"\s*(pub )?module\b", lines[at])
-            while end < len(lines) and is_head and not lines[end - 1].rstrip().endswith("where"):
+        deep, end = depth(lines[at]), at + 1
+        is_head = re.match(r"\s*(pub )?module\s", lines[at])
+        if is_head:
+            while not lines[end - 1].rstrip().endswith("where"):
                 end += 1
-            while end < len(lines) and not is_head and lines[end].strip():
-                inside = len(lines[end]) - len(lines[end].lstrip())
-                if inside < deep or inside == deep and lines[end].strip()[0] not in ")}":
+        elif lines[at].strip() and not lines[at].lstrip().startswith(("--", "use ", "pub use ")):
+            while end < len(lines):
+                rest = [it for it in lines[end:] if it.strip()]
+                if not rest or depth(rest[0]) < deep or depth(rest[0]) == deep and rest[0].strip()[0] not in ")}]":
                     break
                 end += 1
         yield lines[at:end]
@@ -101,7 +106,7 @@ def stated(text):
         first = block[0].strip()
         name = re.match(r"(?:(?:unfoldable|pattern|abbrev|pub|record|data) )*([^\s:(]*)", first)[1]
         is_typed = re.match(r"(?:pub )?[^\s:(]+(?: \{[^}]*\})? :(?: |$)", first)
-        if not first or first.startswith(("--", "use ", "pub use ")) or re.match(r"(pub )?module\b", first):
+        if not first or first.startswith(("--", "use ", "pub use ")) or re.match(r"(pub )?module\s", first):
             out += block
         elif re.match(r"(?:(?:unfoldable|pattern|pub) )*(?:abbrev|record|data)\b", first):
             stays[name] = True
