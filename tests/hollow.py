@@ -55,16 +55,17 @@ def body_of(lines, at):
 
 def hollowed(text):
     """A text with hollow bodies, and the functions that have one: (owner, name)."""
-    lines, out, made, owner, at = text.split("\n"), [], [], None, 0
+    lines, out, made, owner, stays, at = text.split("\n"), [], [], None, False, 0
     while at < len(lines):
         line = lines[at]
         of = OWNER.match(line)
         if of and line.rstrip().endswith("{"):
-            owner = of[3] + (of[2] or "")
+            # a conversion is a line, and its folder would be named by its types
+            owner, stays = of[3] + (of[2] or ""), of[2] == "From"
         if line == "}":
-            owner = None
+            owner, stays = None, False
         fun = FUN.match(line)
-        body = body_of(lines, at) if fun else None
+        body = body_of(lines, at) if fun and not stays else None
         if not body:
             if not re.match(r"\s*#\[(cycle|tactic|inline)\b", line):
                 out.append(line)
