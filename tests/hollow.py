@@ -67,10 +67,11 @@ def hollowed(text):
         fun = FUN.match(line)
         body = body_of(lines, at) if fun and not stays else None
         if not body:
-            if not re.match(r"\s*#\[(cycle|tactic|inline)\b", line):
-                out.append(line)
+            out.append(line)
             at += 1
             continue
+        while re.match(r"\s*#\[(cycle|tactic|inline)\b", out[-1]):
+            out.pop()
         out += [*lines[at:body[0] + 1], fun[1] + "    unreachable!()", lines[body[1]]]
         made.append((owner if fun[1] else None, fun[2]))
         at = body[1] + 1
