@@ -8,7 +8,7 @@ DESTDIR =
 PROGRAM = release/saber
 OUT = dist
 # the documents for users
-PAGES = COMMANDS LANGUAGE VIOLATIONS TOUR STATUS
+PAGES = COMMANDS LANGUAGE LOADING VIOLATIONS TOUR STATUS
 
 ROOT = $(DESTDIR)$(PREFIX)
 SHARE = $(ROOT)/share/saber
@@ -27,7 +27,7 @@ install:
 	for page in docs/*.1 docs/man/*.1; do \
 	    [ ! -f $$page ] || install -m 644 $$page $(MANUAL)/$$(basename $$page | tr A-Z a-z); done
 	install -m 644 README.md CHANGELOG.md LICENSE $(DOCS)
-	for page in $(PAGES); do install -m 644 docs/$$page.md $(DOCS); done
+	for page in $(PAGES); do [ ! -f docs/$$page.md ] || install -m 644 docs/$$page.md $(DOCS); done
 	cp -R examples $(DOCS)
 	[ ! -d tools ] || cp -R tools $(SHARE)
 	for tool in tools/saber-*; do [ ! -x $$tool ] || ln -sf ../share/saber/$$tool $(ROOT)/bin; done

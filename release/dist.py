@@ -23,7 +23,8 @@ LINK = re.compile(r"\[([^\]]+)\]\(([^)\s:#]+)(#[^)]*)?\)")
 def pages():
     """The documents for users, and the man pages."""
     names = re.search(r"^PAGES = (.*)", (ROOT / "Makefile").read_text(), re.M)[1].split()
-    return [ROOT / "docs" / f"{it}.md" for it in names] + sorted([*(ROOT / "docs").glob("*.1"), *(ROOT / "docs" / "man").glob("*.1")])
+    found = [ROOT / "docs" / f"{it}.md" for it in names if (ROOT / "docs" / f"{it}.md").is_file()]
+    return found + sorted([*(ROOT / "docs").glob("*.1"), *(ROOT / "docs" / "man").glob("*.1")])
 
 
 def shipped():

@@ -55,39 +55,46 @@ def body_of(lines, at):
 
 def hollowed(text):
     """A text with hollow bodies, and the functions that have one: (owner, name)."""
-    lines, out, made, owner, at = text.split("\n"), [], [], None, 0
+    lines, out, made, owner, stays, at = text.split("\n"), [], [], None, False, 0
     while at < len(lines):
         line = lines[at]
         of = OWNER.match(line)
         if of and line.rstrip().endswith("{"):
-            owner = of[3] + (of[2] or "")
+            # a conversion is a line, and its folder would be named by its types
+            owner, stays = of[3] + (of[2] or ""), of[2] == "From"
         if line == "}":
-            owner = None
+            owner, stays = None, False
         fun = FUN.match(line)
-        body = body_of(lines, at) if fun else None
+        body = body_of(lines, at) if fun and not stays else None
         if not body:
-            if not re.match(r"\s*#\[(cycle|tactic|inline)\b", line):
-                out.append(line)
+            out.append(line)
             at += 1
             continue
+        while re.match(r"\s*#\[(cycle|tactic|inline)\b", out[-1]):
+            out.pop()
         out += [*lines[at:body[0] + 1], fun[1] + "    unreachable!()", lines[body[1]]]
         made.append((owner if fun[1] else None, fun[2]))
         at = body[1] + 1
     return "\n".join(out), made
 
 
+def depth(line):
+    return len(line) - len(line.lstrip())
+
+
 def blocks(lines):
-    """The parts of a file of lemmas: a line, with the lines that are deeper inside and those that close a bracket."""
+    """The parts of a file of lemmas: a line, with what stands deeper below it and the brackets that it closes."""
     at = 0
     while at < len(lines):
-        deep, end = len(lines[at]) - len(lines[at].lstrip()), at + 1
-        if lines[at].strip() and not lines[at].lstrip().startswith(("--", "use ", "pub use ")):
-            is_head = re.match(r"\s*(pub )?module\b", lines[at])
-            while end < len(lines) and is_head and not lines[end - 1].rstrip().endswith("where"):
+        deep, end = depth(lines[at]), at + 1
+        is_head = re.match(r"\s*(pub )?module\s", lines[at])
+        if is_head:
+            while not lines[end - 1].rstrip().endswith("where"):
                 end += 1
-            while end < len(lines) and not is_head and lines[end].strip():
-                inside = len(lines[end]) - len(lines[end].lstrip())
-                if inside < deep or inside == deep and lines[end].strip()[0] not in ")}":
+        elif lines[at].strip() and not lines[at].lstrip().startswith(("--", "use ", "pub use ")):
+            while end < len(lines):
+                rest = [it for it in lines[end:] if it.strip()]
+                if not rest or depth(rest[0]) < deep or depth(rest[0]) == deep and rest[0].strip()[0] not in ")}]":
                     break
                 end += 1
         yield lines[at:end]
@@ -101,7 +108,7 @@ def stated(text):
         first = block[0].strip()
         name = re.match(r"(?:(?:unfoldable|pattern|abbrev|pub|record|data) )*([^\s:(]*)", first)[1]
         is_typed = re.match(r"(?:pub )?[^\s:(]+(?: \{[^}]*\})? :(?: |$)", first)
-        if not first or first.startswith(("--", "use ", "pub use ")) or re.match(r"(pub )?module\b", first):
+        if not first or first.startswith(("--", "use ", "pub use ")) or re.match(r"(pub )?module\s", first):
             out += block
         elif re.match(r"(?:(?:unfoldable|pattern|pub) )*(?:abbrev|record|data)\b", first):
             stays[name] = True

@@ -39,6 +39,16 @@ has_tools() {
     done
 }
 
+# explains PREFIX: that saber-why, as installed, tells where the object of the example's report was born
+explains() {
+    [ -x "$1/bin/saber-why" ] || return 0
+    rm -rf "$work/room"
+    cp -R "$1/share/doc/saber/examples/queue" "$work/room"
+    (cd "$work/room" && env -i PATH=/usr/bin:/bin "$1/bin/saber-why" queue demo > "$work/why")
+    [ $? = 1 ] && grep -q '^-- object 17 is a heap block of 4 bytes' "$work/why" \
+        && grep -q '^ *queue:grow at queue:18 ' "$work/why"
+}
+
 if command -v rt > /dev/null; then
     "$here/../release/strip.sh" "$program" "$work/saber" || cp "$program" "$work/saber"
 else
@@ -58,6 +68,7 @@ expect 'the examples run from the tarball' runs "$work/empty/saber" "$work/empty
 expect 'make install' env -i PATH=/usr/bin:/bin make -s -C "$work/empty" install PREFIX="$work/prefix"
 expect 'the examples run as installed' runs "$work/prefix/bin/saber" "$work/prefix/share/doc/saber/examples"
 expect 'the tools are installed' has_tools "$work/prefix"
+expect 'saber-why explains as installed' explains "$work/prefix"
 expect 'make uninstall' env -i PATH=/usr/bin:/bin make -s -C "$work/empty" uninstall PREFIX="$work/prefix"
 expect 'nothing of it stays' [ -z "$(find "$work/prefix" ! -type d)" ]
 if command -v dpkg-deb > /dev/null; then
