@@ -1,9 +1,9 @@
 #!/bin/sh
 # What preprocessing, parsing and checking cost: host instructions for units of growing numbers of like parts.
 # usage: bench/check.sh [PROGRAM]
-# Needs valgrind. The program is the built crates/sc_tool_core (rt run in its folder builds it).
+# Needs valgrind. The program is the built crates/sc_tool_dump (rt run in its folder builds it).
 here=$(dirname "$(readlink -f "$0")")
-program=$(readlink -f "${1:-$here/../crates/sc_tool_core/out/sc_tool_core}")
+program=$(readlink -f "${1:-$here/../crates/sc_tool_dump/out/sc_tool_dump}")
 work=$(mktemp -d) || exit 1
 trap 'rm -rf "$work"' EXIT
 cd "$work" || exit 1
@@ -20,7 +20,7 @@ parts() {
     last=0 size=0
     for count in "$@"; do
         { echo "$before"; repeat "$count" "$text"; echo "$behind"; } > m.c
-        cost=$(valgrind --tool=callgrind --callgrind-out-file=/dev/null "$program" m.c 2>&1 >answer | sed -n 's/.*Collected : *//p')
+        cost=$(valgrind --tool=callgrind --callgrind-out-file=/dev/null "$program" core m.c 2>&1 >answer | sed -n 's/.*Collected : *//p')
         bytes=$(wc -c < m.c)
         echo "$name $count, $bytes bytes, $(head -c 40 answer | head -n 1): $cost instructions, $(((cost - last) / (bytes - size))) for each byte more"
         last=$cost size=$bytes

@@ -1,6 +1,6 @@
 #!/bin/sh
 # What a line of commands costs: host instructions and peak memory for 100,000, 200,000 and 400,000 comment lines.
-# Needs valgrind. The program must be built (./saber --version builds it).
+# Needs valgrind. The program must be built (./saber --build builds it).
 here=$(dirname "$(readlink -f "$0")")
 program=$here/../crates/sc_cli/out/sc_cli
 work=$(mktemp -d) || exit 1

@@ -1,7 +1,7 @@
 #!/bin/sh
 # What preprocessing and parsing cost: host instructions for about 64, 128 and 256 KiB of C text, made of copies of a C file.
 # usage: bench/parse.sh FILE.c [PROGRAM]
-# Needs valgrind. The program is the built crates/sc_tool_tree (rt run in its folder builds it).
+# Needs valgrind. The program is the built crates/sc_tool_dump (rt run in its folder builds it).
 here=$(dirname "$(readlink -f "$0")")
 . "$here/copies.sh"
-copies "$1" "${2:-$here/../crates/sc_tool_tree/out/sc_tool_tree}" cat
+copies "$1" "${2:-$here/../crates/sc_tool_dump/out/sc_tool_dump}" tree cat

@@ -1,8 +1,8 @@
 #!/bin/sh
 # What one step of memory or of the image costs: host instructions of callgrind for 20,000 steps more, by the number of
-# live objects, of functions or of texts. Needs valgrind, and the program built (`rt run` in crates/sc_tool_bench).
+# live objects, of functions or of texts. Needs valgrind, and the program built (`rt run` in crates/sc_tool_machine).
 here=$(dirname "$(readlink -f "$0")")
-program=$here/../crates/sc_tool_bench/out/sc_tool_bench
+program=$here/../crates/sc_tool_machine/out/sc_tool_machine
 cost() {
     valgrind --tool=callgrind --callgrind-out-file=/dev/null "$program" "$@" 2>&1 >/dev/null | sed -n 's/.*Collected : *//p'
 }

@@ -4,7 +4,7 @@ _saber() {
     case $before in
         --dir) mapfile -t COMPREPLY < <(compgen -d -- "$word") ;;
         --stack | --heap | --turns | --make) COMPREPLY=() ;;
-        *) mapfile -t COMPREPLY < <(compgen -W '--stack --heap --turns --dir --make --trace --coverage --count --help --version' -- "$word") ;;
+        *) mapfile -t COMPREPLY < <(compgen -W '--stack --heap --turns --dir --make --trace --coverage --count --help --version --build' -- "$word") ;;
     esac
 }
 complete -F _saber saber

@@ -1,6 +1,7 @@
 #!/bin/sh
-# Prints the sum of the sources that the program is built from: the toolchain's line, crates.txt, and the folders of
-# sc_cli and of all crates below it, without what is built and without wrong bodies.
+# Prints the sum of the sources that the program is built from: the toolchain's line, crates.txt, and what `rt` reads in
+# the folders of sc_cli and of all crates below it: *.rt and *.antt, without what is built and without wrong bodies.
+# Other files there, as an editor's swap files and backups, change nothing.
 # usage: release/sum.sh 'LINE OF rt version'
 LC_ALL=C
 export LC_ALL
@@ -20,11 +21,11 @@ folders=$(awk -F: '
                 }
         }
     }' crates.txt)
-# (the names of crates and of their files have no blanks)
-# shellcheck disable=SC2086
-files=$(find $folders \( -name out -o -name must-fail \) -prune -o -type f -print | sort)
+# (the names of crates have no blanks)
 # shellcheck disable=SC2086
 {
     printf '%s\n' "$1"
-    sha256sum crates.txt $files
+    sha256sum crates.txt
+    find $folders \( -name out -o -name must-fail -o -name '.*' \) -prune -o -type f \( -name '*.rt' -o -name '*.antt' \) -print0 |
+        sort -z | xargs -0 sha256sum
 } | sha256sum | cut -d ' ' -f 1

@@ -3,7 +3,7 @@
 
 usage: tests/compare_check.py PROGRAM FOLDER READING
 
-PROGRAM is the built crates/sc_tool_core. FOLDER is searched for .c files; each is a unit in its own folder. READING is a folder with the
+PROGRAM is the built crates/sc_tool_dump. FOLDER is searched for .c files; each is a unit in its own folder. READING is a folder with the
 second reading: pp.py (`preprocess(name, files)`), parse.py (`parse(tokens)`) and check.py (`check(unit, module)`). Compared are kind,
 word and line of a refusal, and of a unit that is taken its births in their order and, in any order, the frames of its functions, its
 objects with their bytes, and its declarations.
@@ -72,4 +72,4 @@ def differences(want, got):
 
 
 if __name__ == '__main__':
-    main(__doc__, text_of, differences)
+    main(__doc__, 'core', text_of, differences)

@@ -3,7 +3,7 @@
 
 usage: tests/compare_parse.py PROGRAM FOLDER READING
 
-PROGRAM is the built crates/sc_tool_tree. FOLDER is searched for .c files; each is a unit in its own folder. READING is a folder with the
+PROGRAM is the built crates/sc_tool_dump. FOLDER is searched for .c files; each is a unit in its own folder. READING is a folder with the
 second reading: pp.py (`preprocess(name, files)`) and parse.py (`parse(tokens)`). Compared are the number of functions and declarations
 of a unit that is read, and kind, word and line of a refusal; the file too where preprocessing refuses.
 """
@@ -19,4 +19,4 @@ def differences(want, got):
 
 
 if __name__ == '__main__':
-    main(__doc__, text_of, differences)
+    main(__doc__, 'tree', text_of, differences)

@@ -68,10 +68,20 @@ printf '' | { "$program" --make 1 > /dev/full 2> err; echo $? > code; }
 code=$(cat code)
 : > out
 expect 'made modules and a full disk' 4 ''
-for words in '--turns 0' '--heap=32' '--stack -4096' '--stack 4097' '--turns' '--dir' '--make 0' '--make 65' '--make -1'; do
+for words in '--turns 0' '--turns 1000000001' '--heap=32' '--heap=32 --' '--heap 33' '--heap 00000000032' \
+    '--stack -4096' '--stack +4096' '--stack 4080' '--stack 4097' '--stack' '--turns' '--stack 4096 --stack 4096' \
+    '--dir' '--dir -' '--dir --trace' '--make' '--make 0' '--make 65' '--make -1' '--make 4 --make 4' \
+    '--trace --trace' '--trace 5' '--trace=5' '--trace=' '--trac' '--coverage --' '--count --turns 7 --count' \
+    '--stack --count 4096' '-- --stack 4096'; do
     # shellcheck disable=SC2086
     run $words < /dev/null
     expect "bad words: $words" 2 ''
+done
+for words in '--turns 1000' '--dir folder --heap 0032 --stack 4096' '--heap 67108864 --turns 1000000000 --stack 16777216' \
+    '--trace' '--count --coverage --trace' '--coverage --turns 7 --count' '--dir count --count' '--heap 16'; do
+    # shellcheck disable=SC2086
+    run $words < /dev/null
+    expect "good words: $words" 0 ''
 done
 run --dir '' < /dev/null
 expect 'bad words: an empty folder' 2 ''

@@ -23,8 +23,8 @@ def read(folder, name, text_of):
         return refused(refusal, name)
 
 
-def main(usage, text_of, differences):
-    """Compares the program, on the units of the folder, with the second reading that the command line names."""
+def main(usage, stage, text_of, differences):
+    """Compares a stage of the program, on the units of the folder, with the second reading that the command line names."""
     if len(sys.argv) != 4:
         sys.exit(usage)
     program, folder, reading = sys.argv[1:]
@@ -33,4 +33,4 @@ def main(usage, text_of, differences):
     import common
     # labels, `goto` and unions are left out
     common.Stage.now = 3
-    sys.exit(compare(program, folder, lambda where, name: read(where, name, text_of), differences))
+    sys.exit(compare(program, stage, folder, lambda where, name: read(where, name, text_of), differences))

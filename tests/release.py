@@ -5,8 +5,8 @@ usage: tests/release.py PROGRAM
 
 If it is of the sources of this tree and of this toolchain, it is compared with the built program, without symbols, and
 gives every stored transcript: those of tests/programs.py, tests/violations.py and tests/tour.py. If the two programs
-differ it is said where; the transcripts decide then. A release of other sources is not run by the script `saber`, and
-is held to its sum alone.
+differ it is said where; the transcripts decide then. A release of other sources, which the script `saber`
+runs with a warning, is held to its sum alone.
 The last line is 'N passed, M failed'.
 """
 import hashlib

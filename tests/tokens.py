@@ -3,7 +3,7 @@
 
 usage: tests/tokens.py PROGRAM FOLDER [--reading FOLDER]
 
-PROGRAM is the built crates/sc_tool_tokens. FOLDER is searched for .c files; each is a unit in its own folder. The tokens are compared, up to
+PROGRAM is the built crates/sc_tool_dump. FOLDER is searched for .c files; each is a unit in its own folder. The tokens are compared, up to
 white space, with `gcc -E -P -std=c89 -undef`, which is given the built-in headers in place of its own; and, with --reading, kind for
 kind and line for line with the lists of a second reading, a folder with pp.py (and its `preprocess(name, files)`).
 Where gcc refuses the unit, or the unit is refused here, the pair is counted apart.
@@ -36,9 +36,9 @@ def headers(folder):
 
 def own(program, folder, name):
     """The lines that the program prints, and whether the unit is refused."""
-    run = subprocess.run([program, name], cwd=folder, capture_output=True)
+    run = subprocess.run([program, 'tokens', name], cwd=folder, capture_output=True)
     lines = run.stdout.decode('latin-1').split('\n')[:-1]
-    is_refused = run.returncode != 0 or (len(lines) == 1 and re.match(r'refused X\d+.*:\d+$|missing$|too long$', lines[0]))
+    is_refused = run.returncode != 0 or (len(lines) == 1 and re.match(r'X\d+.*:\d+$|missing$|too long$', lines[0]))
     return lines, bool(is_refused)
 
 
@@ -52,7 +52,7 @@ def second(pp, folder, name):
     try:
         return ['%s %d %s' % (t.kind, t.line, t.text) for t in pp.preprocess(name, Files(folder))]
     except Refusal as refusal:
-        return ['refused ' + refused(refusal, name)]
+        return [refused(refusal, name)]
 
 
 def main():

@@ -1,5 +1,6 @@
 #!/usr/bin/env python3
-"""Holds docs/TRUST.md to the repository: each file of definitions is in its table once, and each law is named in it.
+"""Holds docs/TRUST.md to the repository: each file of definitions is in its table once, and each law is named in it, with
+whether the program stands on its crate.
 
 usage: tests/trust.py            checks, and says what is missing
        tests/trust.py --tag      writes the first line of each file by the table, if the table has the file
@@ -20,6 +21,7 @@ TAGS = {
     "inside": "-- Inside: plumbing, a representation, an invariant or a promise beside the claim (docs/TRUST.md).",
 }
 ROW = re.compile(r"^\| `(sc_\w+)` \| ([^|]*) \| ([^|]*) \| ([^|]*) \|$", re.M)
+LAW_ROW = re.compile(r"^\| `(\w+)` \| `(sc_\w+)` \| [^|]* \| (yes|no) \|$", re.M)
 # A public function without parameters and without a body, which has a contract.
 LAW = re.compile(r"^pub fn (\w+)\(\)(?:\n    ensures [^\n]*)+\n\{\n?\}", re.M)
 
@@ -58,6 +60,19 @@ def laws():
     return found
 
 
+def below_program():
+    """The crates on which the program stands, and its own."""
+    lines = [it.split("#")[0].split(":") for it in (ROOT / "crates.txt").read_text().splitlines() if ":" in it.split("#")[0]]
+    below = {name.strip(): rest.split() for name, rest in lines}
+    found, todo = set(), ["sc_cli"]
+    while todo:
+        name = todo.pop()
+        if name in below and name not in found:
+            found.add(name)
+            todo += below[name]
+    return found
+
+
 def tagged(file):
     first = file.read_text().split("\n", 1)[0]
     return next((kind for kind, tag in TAGS.items() if first == tag), None)
@@ -93,9 +108,11 @@ def faults(kinds):
     if any(told.values()):
         wrong += [f"{crate}: the first line of {name} says {told[crate, name]}" for crate, name in found
                   if told[crate, name] != kind_of((crate, name), kinds)]
-    rows = PAGE.read_text()
-    wrong += [f"{crate}: the law {name} is missing" for crate, name in laws()
-              if f"| `{name}` | `{crate}` |" not in rows]
+    told = {(crate, name): below for name, crate, below in LAW_ROW.findall(PAGE.read_text())}
+    below = below_program()
+    wrong += [f"{crate}: the law {name} is missing" for crate, name in laws() if (crate, name) not in told]
+    wrong += [f"{crate}: of the law {name} it says '{said}' on whether it is below the program" for (crate, name), said in told.items()
+              if said != ("yes" if crate in below else "no")]
     return wrong
 
 

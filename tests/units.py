@@ -32,16 +32,16 @@ def units(folder):
                 yield root, name
 
 
-def given(program, folder, name):
-    """What the program prints for a unit of a folder."""
-    run = subprocess.run([program, name], cwd=folder, capture_output=True)
+def given(program, stage, folder, name):
+    """What the program prints of a stage for a unit of a folder."""
+    run = subprocess.run([program, stage, name], cwd=folder, capture_output=True)
     if run.returncode:
         return 'status %d' % run.returncode
     return run.stdout.decode('latin-1').rstrip('\n')
 
 
-def compare(program, folder, wanted, differences):
-    """Runs the program on each unit of a folder and prints where it differs from `wanted(folder, name)`, a text that begins with `ok`
+def compare(program, stage, folder, wanted, differences):
+    """Runs a stage of the program on each unit of a folder and prints where it differs from `wanted(folder, name)`, a text that begins with `ok`
     or is a refusal. `differences(want, got)` gives the lines to print, none where the two agree. The result is the exit status."""
     program = os.path.abspath(program)
     read = refusals = differ = 0
@@ -49,7 +49,7 @@ def compare(program, folder, wanted, differences):
         want = wanted(where, name)
         read += want.startswith('ok')
         refusals += not want.startswith('ok')
-        lines = differences(want, given(program, where, name))
+        lines = differences(want, given(program, stage, where, name))
         differ += bool(lines)
         for line in lines:
             print('%s: %s' % (os.path.join(where, name), line))

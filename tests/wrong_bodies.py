@@ -4,7 +4,7 @@
 usage: tests/wrong_bodies.py CRATE..      tries the edits of these crates (those of wrong_bodies/ and of must-fail/)
        tests/wrong_bodies.py --all        tries the edits of every crate, which takes hours
        tests/wrong_bodies.py --stands     says which edits cannot be applied, without any proof
-       tests/wrong_bodies.py --table      writes docs/WRONG_BODIES.md
+       tests/wrong_bodies.py --table      prints each edit with its last trial
 
 An edit is a file wrong_bodies/CRATE/NAME.edit, or crates/CRATE/must-fail/NAME.edit where the gate tries it too:
 lines 'file: src/x.rt', then pairs 'old: TEXT' (standing once in that file) and 'new: TEXT', each TEXT on one line.
@@ -23,20 +23,12 @@ import tempfile
 ROOT = pathlib.Path(__file__).resolve().parent.parent
 FOLDER = ROOT / "wrong_bodies"
 TRIED = FOLDER / "TRIED"
-TABLE = ROOT / "docs" / "WRONG_BODIES.md"
 TOLD = re.compile(r"must-fail (\S+)/(\S+\.edit): (.*)")
 HEAD = """# Wrong bodies
 
-An edit that turns the meaning of a function has to be refused by the prover. If such an edit is still proved,
-the contract says too little. The edits stand in `wrong_bodies/CRATE/NAME.edit`. Those that turn the meaning
-most stand in `crates/CRATE/must-fail/NAME.edit`, where the gate tries them at each run ("gate" below).
-
-`tests/wrong_bodies.py CRATE..` tries the edits of crates in a copy of the tree, and `tests/wrong_bodies.py
---stands` says which no longer apply. `tests/wrong_bodies.py --table` writes this page from the edits and from
-`wrong_bodies/TRIED`. The file TRIED holds for each edit the day of its last trial, the result and a sum of
-the crate's text. "Present text" below means that the crate's sources and definitions have not changed since.
-"Earlier text" means that they have changed, or that it is not known whether they have. An edit that was never
-tried says nothing yet.
+"gate" says that the edit stands in a must-fail folder, where each gate tries it. "Present text" means that the
+sources and definitions of the crate have not changed since the trial, "earlier text" that they have, or that it is
+not known whether they have. An edit that was never tried says nothing yet.
 
 """
 
@@ -202,7 +194,9 @@ def table():
     known, text, crate = tried(), HEAD, ""
     present = edits()
     gate = sum(it.parent.name == "must-fail" for it in present.values())
-    text += f"There are {len(present)} edits, {gate} of them in the gate.\n"
+    trials = [last_trial(key, known) for key in present]
+    text += f"There are {len(present)} edits, {gate} of them in the gate; {sum('present' in it for it in trials)} were tried over the "
+    text += f"present text, {trials.count('never')} never.\n"
     for key, file in present.items():
         if key[0] != crate:
             crate = key[0]
@@ -210,7 +204,7 @@ def table():
         where = "gate" if file.parent.name == "must-fail" else "-"
         words = key[1][:-5].replace("_", " ")
         text += f"| {words} | {function_of(crate, file)} | {where} | {last_trial(key, known)} |\n"
-    TABLE.write_text(text)
+    print(text, end="")
     return True
 
 

@@ -1,6 +1,7 @@
-/* Prints what the C compiler's own operators give on 32 bits: rows of the tables in crates/sc_suite_data/src/operators/table.rt.
-   A result is its 32 bits; an undefined operation is 2^32 and the number of the rule (7: out of range, 8: division
-   by zero, 9: shift count). Build: gcc -fwrapv arith.c */
+/* Prints what the C compiler's own operators and conversions give on 32 bits, a line for each: the operator, the type, the
+   operands and the result; or `Convert`, the type, a number and the result. All numbers are in hexadecimal digits. In place of a
+   result stands the rule that an undefined operation breaks (U7: out of range, U8: division by zero, U9: shift count).
+   Build: gcc -fwrapv arith.c */
 #include <stdint.h>
 #include <stdio.h>
 
@@ -70,35 +71,24 @@ static uint64_t on_unsigned(int op, uint32_t a, uint32_t b) {
 }
 
 static void row(const char *op, const char *type, int o, int is_int) {
-    printf("    (Op::%s, Int::%s, [", op, type);
-    for (int k = 0; k < PAIRS; k++)
-        printf("%s%#llx", k ? ", " : "",
-               (unsigned long long)(is_int ? on_int(o, (int32_t)pairs[k][0], (int32_t)pairs[k][1])
-                                           : on_unsigned(o, pairs[k][0], pairs[k][1])));
-    printf("]),\n");
+    for (int k = 0; k < PAIRS; k++) {
+        uint64_t r = is_int ? on_int(o, (int32_t)pairs[k][0], (int32_t)pairs[k][1]) : on_unsigned(o, pairs[k][0], pairs[k][1]);
+        printf("%s %s %x %x ", op, type, pairs[k][0], pairs[k][1]);
+        printf(r < rule ? "%x\n" : "U%d\n", (unsigned)(r < rule ? r : r - rule));
+    }
 }
 
 int main(void) {
     static const uint32_t values[] = {0, 1, 0x7f, 0x80, 0xff, 0x7fff, 0x8000, 0x12345680, 0x7fffffff, 0x80000000, 0xffffffff};
     enum { VALUES = sizeof values / sizeof values[0] };
-    printf("// Made by tests/vectors/arith.c: what a C compiler's operators and conversions give.\nuse sc_base::{Int, Op};\n\n");
-    printf("pub const PAIRS: [(u32, u32); %d] = [", PAIRS);
-    for (int k = 0; k < PAIRS; k++) printf("%s(%#x, %#x)", k ? ", " : "", pairs[k][0], pairs[k][1]);
-    printf("];\n\npub const RESULTS: [(Op, Int, [u64; %d]); %d] = [\n", PAIRS, 2 * OPS);
     for (int o = 0; o < OPS; o++) {
-        row(ops[o], o % 2 ? "Int" : "Long", o, 1);
-        row(ops[o], o % 2 ? "ULong" : "UInt", o, 0);
+        row(ops[o], o % 2 ? "int" : "long", o, 1);
+        row(ops[o], o % 2 ? "unsigned long" : "unsigned int", o, 0);
     }
-    printf("];\n\npub const VALUES: [u32; %d] = [", VALUES);
-    for (int k = 0; k < VALUES; k++) printf("%s%#x", k ? ", " : "", values[k]);
-    printf("];\n\npub const CONVERTED: [(Int, [u32; %d]); 9] = [\n", VALUES);
 #define CONVERT(name, type) \
-    printf("    (Int::%s, [", name); \
-    for (int k = 0; k < VALUES; k++) printf("%s%#x", k ? ", " : "", (uint32_t)(type)values[k]); \
-    printf("]),\n");
-    CONVERT("Char", unsigned char) CONVERT("SChar", signed char) CONVERT("UChar", unsigned char)
-    CONVERT("Short", short) CONVERT("UShort", unsigned short) CONVERT("Int", int32_t)
-    CONVERT("UInt", uint32_t) CONVERT("Long", int32_t) CONVERT("ULong", uint32_t)
-    printf("];\n");
+    for (int k = 0; k < VALUES; k++) printf("Convert %s %x %x\n", name, values[k], (uint32_t)(type)values[k]);
+    CONVERT("char", unsigned char) CONVERT("signed char", signed char) CONVERT("unsigned char", unsigned char)
+    CONVERT("short", short) CONVERT("unsigned short", unsigned short) CONVERT("int", int32_t)
+    CONVERT("unsigned int", uint32_t) CONVERT("long", int32_t) CONVERT("unsigned long", uint32_t)
     return 0;
 }

@@ -1,6 +1,7 @@
-/* Prints the table crates/sc_suite_data/src/formats/table.rt: what the C library's printf
-   writes and its ctype calls answer. Each of the 32 sets of flags stands at each of ten values; kinds go round, and
-   widths, precisions and modifiers are taken by a generator. Build: gcc number.c */
+/* Prints what the C library's printf writes, a line for each: the format, the number and the text, with a bar behind each; or,
+   with an argument, what its ctype calls answer: the first and the last of a range of characters, and the bits of its classes.
+   Each of the 32 sets of flags stands at each of ten values; kinds go round, and widths, precisions and modifiers are taken
+   by a generator. Build: gcc number.c */
 #include <ctype.h>
 #include <stdio.h>
 #include <string.h>
@@ -19,9 +20,20 @@ static int bits(int c) {
     return bits;
 }
 
-int main(void) {
+static void print_classes(void) {
+    for (int c = 0, last; c < 256; c = last + 1) {
+        for (last = c; last < 255 && bits(last + 1) == bits(c); last++) {}
+        printf("%d %d %d\n", c, last, bits(c));
+    }
+}
+
+int main(int count, char **words) {
     unsigned state = 1;
-    printf("// Made by tests/vectors/number.c: what the C library's printf writes, and what its ctype calls answer.\n\n// A line for each: the format, the number and the text, between bars.\npub const WRITTEN: &str = \"\\\n");
+    (void)words;
+    if (count > 1) {
+        print_classes();
+        return 0;
+    }
     for (int row = 0; row < ROWS; row++) {
         char format[32] = "%", text[64];
         int flags = row % 32, kind = (row % 32 + row / 32) % 6;
@@ -42,11 +54,5 @@ int main(void) {
         sprintf(text, run, value);
         printf("%s|%u|%s|\n", format, value, text);
     }
-    printf("\";\n\n// The first and last character of a range, and the bits of its classes.\npub const CLASSES: [(u8, u8, u16); 15] = [\n");
-    for (int c = 0, last; c < 256; c = last + 1) {
-        for (last = c; last < 255 && bits(last + 1) == bits(c); last++) {}
-        printf("    (%d, %d, %d),\n", c, last, bits(c));
-    }
-    printf("];\n");
     return 0;
 }

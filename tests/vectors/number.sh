@@ -1,8 +1,9 @@
 #!/bin/sh
-# Writes the table of sc_fmt's test anew, from what the C library here writes.
+# Writes the tables of printf's numbers and of the classes of characters anew, from what the C library here gives.
 set -e
 here=$(dirname "$0")
 program=$(mktemp)
 gcc -w -o "$program" "$here/number.c"
-"$program" > "$here/../../crates/sc_test_data/src/formats/table.rt"
+"$program" > "$here/numbers.txt"
+"$program" classes > "$here/classes.txt"
 rm "$program"

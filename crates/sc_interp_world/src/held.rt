@@ -1,15 +1,14 @@
 // The objects of a run, and the one memory that has their bytes at addresses.
-ghost use Rattle.std.specs.Prelude.{◌≡◌, true, false, ◌∷◌, ◌++◌, [], Some, None, option_map, IfOk, IfSome, MatchOption, MatchResult};
+ghost use Rattle.std.specs.Prelude.{◌≡◌, true, false, ◌∷◌, ◌++◌, [], Some, None, option_map, ⊤, IfOk, IfSome, IsSome, MatchOption, MatchResult};
 ghost use Rattle.sc_meaning.specs.Beside as beside;
 ghost use Rattle.sc_meaning.specs.Beside.{born_in, died_in, empty_memory, kept_in, put_in, word_of};
-ghost use Rattle.sc_mem.specs.Safe as mem;
-ghost use Rattle.sc_mem.specs.Flat.{raw_read};
+ghost use Rattle.sc_mem.specs.Flat.{aligned_place, raw_read};
 ghost use Rattle.sc_interp_world.specs.Keeping.{functions_of, moved, moving, renumbered};
 ghost use Rattle.sc_meaning.specs.Values as value;
 ghost use Rattle.sc_meaning.specs.World as spec;
 ghost use Rattle.sc_mem.specs.Words.{IsSize};
 ghost use Rattle.sc_mem_store.specs.Holding.{value_at};
-ghost use Rattle.sc_mem_store.specs.Living.{IsLiveAt, IsLiving};
+ghost use Rattle.sc_mem_store.specs.Living.{IsBare, IsByteOf, IsLiveAt, IsLiving};
 ghost use Rattle.sc_mem_store.specs.Stray.{HasNoStray};
 
 use crate::cells::{copy_cells, unwritten};
@@ -22,13 +21,15 @@ use std::alloc::Global;
 use std::marker::Model;
 
 /// All objects that were born, the first with number 1, and the memory that holds them at addresses, where compiled code
-/// looks at it. `whole` says that no change was given up half done for want of memory. Behind such a change the two may
-/// differ, and no further one is made.
+/// looks at it. Where none does yet, but somebody listens, the memory is unseen: contracts do not speak of it, so that nothing
+/// which the meaning has no word for stands in the world of a run of interpreted modules. `whole` says that no change was given up
+/// half done for want of memory. Behind such a change the objects and a memory may differ, and no further one is made.
 #[derive(Drop)]
 pub struct Held {
     alloc: Global,
     objects: Vec<Object>,
     memory: Option<Store>,
+    unseen: Option<Store>,
     whole: bool,
 }
 
@@ -40,7 +41,7 @@ impl Model for Held {
 
     ghost view = { λ h. keeping h.objects.items h.memory };
 
-    ghost invariant = { λ h. h.whole ≡ true → IfSome h.memory (λ m. m.objects ≡ h.objects.items) };
+    ghost invariant = { λ h. h.whole ≡ true → IfSome h.memory (λ m. m.objects ≡ h.objects.items) × IfSome h.unseen (λ m. m.objects ≡ h.objects.items) };
 }
 
 impl Held {
@@ -52,6 +53,7 @@ impl Held {
             alloc,
             objects: Vec::new(alloc),
             memory: None,
+            unseen: None,
             whole: true,
         }
     }
@@ -70,6 +72,26 @@ impl Held {
             alloc,
             objects: Vec::new(alloc),
             memory: Some(memory),
+            unseen: None,
+            whole: true,
+        })
+    }
+
+    /// The same, with a memory that is not seen.
+    pub fn aside(
+        alloc: Global,
+        stack: u64,
+        heap: u64,
+        functions: Items<Shared<Key>>,
+    ) -> Result<Held, NoMemory>
+        ensures { IfOk result (λ h. h ≡ record { objects = []; memory = None; functions = [] }) }
+    {
+        let memory = Store::new(alloc, stack, heap, functions)?;
+        Ok(Held {
+            alloc,
+            objects: Vec::new(alloc),
+            memory: None,
+            unseen: Some(memory),
             whole: true,
         })
     }
@@ -81,15 +103,20 @@ impl Held {
         self.objects.as_slice()
     }
 
-    /// Whether the objects have addresses.
+    /// Whether the objects have addresses that are seen.
     pub fn has_memory(&self) -> bool
         ensures { MatchOption self.now.memory (result ≡ false) (λ _. result ≡ true) }
     {
         self.memory.is_some()
     }
 
-    /// The objects get a memory: each live one stands at the address that is given by its place in the list, one of the heap in
-    /// a block of its own. Nothing of the objects changes.
+    /// Whether the objects have addresses that are not seen.
+    pub fn has_unseen(&self) -> bool {
+        self.unseen.is_some()
+    }
+
+    /// The objects get a memory, which is not seen: each live one stands at the address that is given by its place in the list, one of
+    /// the heap in a block of its own. Nothing of the objects changes.
     ///
     /// # Errors
     ///
@@ -101,9 +128,9 @@ impl Held {
         heap: u64,
         functions: Items<Shared<Key>>,
     ) -> Result<(), NoMemory>
-        ensures { MatchResult result (λ _. (s : mem.Store) × (self.new ≡ record { objects = self.old.objects; memory = Some s; functions = functions })) (λ _. self.new ≡ self.old) }
+        ensures { self.new ≡ self.old }
     {
-        if !self.whole || self.memory.is_some() {
+        if !self.whole || self.memory.is_some() || self.unseen.is_some() {
             drop(functions);
             return Err(NoMemory);
         }
@@ -115,15 +142,28 @@ impl Held {
             heap,
             functions,
         )?;
-        self.memory = Some(memory);
+        self.unseen = Some(memory);
         Ok(())
+    }
+
+    /// The memory is seen from here on, where there is one. Nothing of the objects changes.
+    pub fn reveal(&mut self)
+        ensures { self.new.objects ≡ self.old.objects }
+    {
+        if self.memory.is_none() {
+            let memory = self.unseen.take();
+            self.memory = memory;
+        }
     }
 
     /// How many functions have numbers.
     pub fn functions(&self) -> usize {
         match &self.memory {
-            None => 0,
             Some(memory) => memory.functions(),
+            None => match &self.unseen {
+                Some(memory) => memory.functions(),
+                None => 0,
+            },
         }
     }
 
@@ -135,11 +175,13 @@ impl Held {
     /// code can have stored in an undefined step: it may be one of these functions now.
     pub fn number(&mut self, more: &[Shared<Key>]) -> Result<(), NoMemory>
         ensures same { self.new ≡ record self.old { functions = self.new.functions } }
+        ensures none { MatchOption self.old.memory (self.new ≡ self.old) (λ _. ⊤) }
         ensures more { IfOk result (λ _. MatchOption self.old.memory (self.new ≡ self.old) (λ _. self.new ≡ record self.old { functions = self.old.functions ++ more.now })) }
     {
         if !self.whole || has_stray(self.objects.as_slice()) {
             return Err(NoMemory);
         }
+        number_in(&mut self.unseen, more)?;
         number_in(&mut self.memory, more)
     }
 
@@ -152,6 +194,7 @@ impl Held {
         }
         self.whole = false;
         bear_in(&mut self.memory, size, kind, base)?;
+        bear_in(&mut self.unseen, size, kind, base)?;
         let cells = unwritten(self.alloc, size)?;
         self.objects.push(Object::living(size, kind, cells))?;
         self.whole = true;
@@ -167,6 +210,7 @@ impl Held {
         }
         self.whole = false;
         allocate_in(&mut self.memory, size)?;
+        allocate_in(&mut self.unseen, size)?;
         let cells = unwritten(self.alloc, size)?;
         self.objects.push(Object::living(size, Kind::Heap, cells))?;
         self.whole = true;
@@ -182,6 +226,7 @@ impl Held {
         }
         self.whole = false;
         end_in(&mut self.memory, id)?;
+        end_in(&mut self.unseen, id)?;
         end_object(self.alloc, &mut self.objects, id);
         self.whole = true;
         Ok(())
@@ -196,6 +241,7 @@ impl Held {
         }
         self.whole = false;
         put_in_memory(&mut self.memory, id, at, new.as_slice())?;
+        put_in_memory(&mut self.unseen, id, at, new.as_slice())?;
         write_object(self.alloc, &mut self.objects, id, at, new)?;
         self.whole = true;
         Ok(())
@@ -210,6 +256,7 @@ impl Held {
         }
         self.whole = false;
         store_in_memory(&mut self.memory, id, at, n, v)?;
+        store_in_memory(&mut self.unseen, id, at, n, v)?;
         store_in(self.alloc, &mut self.objects, id, at, n, v)?;
         self.whole = true;
         Ok(())
@@ -238,14 +285,18 @@ impl Held {
         }
         match &self.memory {
             Some(memory) => memory.base(id),
-            None => None,
+            None => match &self.unseen {
+                Some(memory) => memory.base(id),
+                None => None,
+            },
         }
     }
 
     /// The byte of a live object that stands at an address: `None` where the byte there belongs to no live object, and behind
     /// a change that was given up half done.
     pub fn live_at(&self, address: u32) -> Option<Place>
-        ensures { IfSome result (λ p. IsLiveAt self.now.objects p.id p.offset) }
+        ensures lives { IfSome result (λ p. IsLiveAt self.now.objects p.id p.offset) }
+        ensures place { IfSome result (λ p. IfSome self.now.memory (λ m. IsByteOf m.flat.objects p.id p.offset address)) }
     {
         if !self.whole {
             return None;
@@ -290,7 +341,8 @@ impl Held {
     /// Writes a word to the `size` bytes at an address that belong to no live object, where there are such bytes.
     pub fn keep(&mut self, at: u32, size: u8, w: Word) -> Result<Option<()>, NoMemory>
         requires { IsSize size }
-        ensures { MatchResult result (λ kept. MatchOption kept (self.new ≡ self.old) (λ _. self.new ≡ moving (λ os. os) (kept_in at size w) self.old)) (λ _. self.new ≡ self.old) }
+        ensures kept { MatchResult result (λ kept. MatchOption kept (self.new ≡ self.old) (λ _. self.new ≡ moving (λ os. os) (kept_in at size w) self.old)) (λ _. self.new ≡ self.old) }
+        ensures place { IfOk result (λ kept. IfSome kept (λ _. MatchOption self.old.memory ⊥ (λ m. IsSome (aligned_place m.flat at size) × IsBare m.flat.objects at))) }
     {
         if !self.whole {
             return Err(NoMemory);
@@ -405,7 +457,8 @@ fn store_in_memory(
 // A word is kept beside the objects of a memory, where there is one.
 fn keep_in(memory: &mut Option<Store>, at: u32, size: u8, w: Word) -> Result<Option<()>, NoMemory>
     requires { IsSize size }
-    ensures { MatchResult result (λ kept. MatchOption kept (memory.new ≡ memory.old) (λ _. memory.new ≡ option_map (moved (λ os. os) (kept_in at size w)) memory.old)) (λ _. memory.new ≡ memory.old) }
+    ensures kept { MatchResult result (λ kept. MatchOption kept (memory.new ≡ memory.old) (λ _. memory.new ≡ option_map (moved (λ os. os) (kept_in at size w)) memory.old)) (λ _. memory.new ≡ memory.old) }
+    ensures place { IfOk result (λ kept. IfSome kept (λ _. MatchOption memory.old ⊥ (λ k. IsSome (aligned_place k.memory.flat at size) × IsBare k.memory.flat.objects at))) }
 {
     match memory {
         None => Ok(None),

@@ -9,6 +9,7 @@ mod held;
 mod names;
 mod object;
 mod past;
+mod places;
 mod recorder;
 mod recording;
 mod remember;

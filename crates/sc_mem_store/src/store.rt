@@ -2,7 +2,7 @@
 ghost use Rattle.std.specs.Prelude.{◌≡◌, ◌+◌, ◌<◌, ◌∷◌, ◌++◌, [], length, OnErr, IfOk, IfSome, IsSome, MatchOption, MatchResult, None, Some};
 ghost use Rattle.sc_objects.specs.declared.objects.Obj.{Obj};
 ghost use Rattle.sc_objects.specs.Numbered.{IsLive};
-ghost use Rattle.sc_mem.specs.Flat.{place, raw_read, with_death, written_at};
+ghost use Rattle.sc_mem.specs.Flat.{aligned_place, place, raw_read, with_death, written_at};
 ghost use Rattle.sc_meaning.specs.Beside as words;
 ghost use Rattle.sc_meaning.specs.Beside.{born_in, died_in, empty_memory, kept_in, put_in};
 ghost use Rattle.sc_mem_store.specs.Holding.{value_at};
@@ -313,7 +313,7 @@ impl Store {
 }
 
 impl Store {
-    ghost use Rattle.sc_mem_store.specs.Living.{IsLiveAt, IsLiving};
+    ghost use Rattle.sc_mem_store.specs.Living.{IsBare, IsByteOf, IsLiveAt, IsLiving};
 
     /// The address of a live object's first byte: `None` exactly where no live object has this number.
     #[tactic(auto, using(crate::proofs::Living::living))]
@@ -327,9 +327,10 @@ impl Store {
     }
 
     /// The byte of a live object that stands at an address: `None` exactly where the byte there belongs to no live object.
-    #[tactic(auto, using(crate::proofs::Living::live_at))]
+    #[tactic(auto, using(crate::proofs::Living::live_at, crate::proofs::Living::byte_there))]
     pub fn live_at(&self, address: u32) -> Option<Place>
-        ensures { IfSome result (λ p. IsLiveAt self.now.objects p.id p.offset) }
+        ensures lives { IfSome result (λ p. IsLiveAt self.now.objects p.id p.offset) }
+        ensures place { IfSome result (λ p. IsByteOf self.now.memory.flat.objects p.id p.offset address) }
     {
         place_at(&self.memory, address)
     }
@@ -367,7 +368,8 @@ impl Store {
     #[tactic(auto, using(crate::proofs::Living::holds_kept, crate::proofs::Memories::kept_stored))]
     pub fn keep(&mut self, at: u32, size: u8, w: Word) -> Result<Option<()>, NoMemory>
         requires { IsSize size }
-        ensures { MatchResult result (λ kept. MatchOption kept (self.new ≡ self.old) (λ _. self.new ≡ record self.old { memory = kept_in at size w self.old.memory })) (λ _. self.new ≡ self.old) }
+        ensures kept { MatchResult result (λ kept. MatchOption kept (self.new ≡ self.old) (λ _. self.new ≡ record self.old { memory = kept_in at size w self.old.memory })) (λ _. self.new ≡ self.old) }
+        ensures place { IfOk result (λ kept. IfSome kept (λ _. IsSome (aligned_place self.old.memory.flat at size) × IsBare self.old.memory.flat.objects at)) }
     {
         match place_at(&self.memory, at) {
             Some(_) => Ok(None),

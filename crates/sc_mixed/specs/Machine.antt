@@ -1,4 +1,4 @@
--- Yardstick: to be compared with what it restates (docs/TRUST.md).
+-- Machine: the program once more; a theorem ties it to a yardstick (docs/TRUST.md).
 -- The machine of a run of both forms: one move, by what comes next. Interpreted calls go by the meaning's step as it stands, compiled ones by
 -- instructions and services, and the bridge between them is a move of its own. Where memory ran out nothing is said.
 use Rattle.std.specs.Prelude.{◌≡◌, ◌⊎◌, ⊤, ℕ, ◌+◌, ◌-◌, ◌≤◌, ◌==◌, if◌then◌else◌, Bool, true, false, List, [], ◌∷◌, length, Result, Ok, Err, Option, Some, None}
@@ -21,7 +21,7 @@ use Rattle.sc_meaning.specs.Outcomes.{Ending}
 use Rattle.sc_meaning.specs.Values.{Value, Number, Pointer, FunctionAt}
 use Rattle.sc_meaning.specs.Versions.{Text, callee_of}
 use Rattle.sc_meaning.specs.World.{World}
-use Rattle.sc_services.specs.Arguments.{stands}
+use Rattle.sc_services.specs.Arguments.{IsValueOf}
 use Rattle.sc_services.specs.Calling.{AsksFor}
 use Rattle.sc_services.specs.Copying.{CopiesBytes}
 use Rattle.sc_services.specs.Entering.{EntersAt}
@@ -226,7 +226,7 @@ LeavesWith block a i c w (Err (Crashed pc cause)) d v = Leaves block (cost_here 
 -- the value that a0 stands for; or nothing
 abbrev pub ServesLeave : Image → Calls → World → Result Moved Break → Calls → World → Type 0
 ServesLeave i c w (Err (Meant stopped)) d v = stopped ≡ stop.NoRoom
-ServesLeave i c w result d v = (x : Value) × (stands (register c.regs 10) x ≡ true) × LeavesWith (register c.regs 6).bits (Plain x) i c w result d v
+ServesLeave i c w result d v = (x : Value) × IsValueOf w (register c.regs 10) x × LeavesWith (register c.regs 6).bits (Plain x) i c w result d v
 
 abbrev pub ServesFall : Image → Calls → World → Result Moved Break → Calls → World → Type 0
 ServesFall i c w result d v = LeavesWith 0 Nothing i c w result d v

@@ -1,5 +1,6 @@
 pub mod Closing
 pub mod Slots
 pub mod Writing
+pub mod Reading
 pub mod Ways
 pub mod Given

@@ -12,9 +12,10 @@ use Rattle.sc_meaning.specs.Versions.{Callee, Missing, InText, InLibrary}
 use Rattle.sc_meaning.specs.World.{World}
 use Rattle.sc_meaning.specs.declared.library.LibFun.{LibFun}
 use Rattle.sc_services.specs.Frames.{is_object, stack_top}
+use Rattle.sc_services.specs.Memory.{IsValueAt, read_at}
 
 -- A word stands for a number exactly where it has no tag, and then for its own. A function's word has the functions' tag, that of a place in
--- an object the object's number. At which address the function or the object is, the world does not tell.
+-- an object the object's number.
 abbrev pub stands : Word → Value → Bool
 stands x (Number n) = (x.tag == 0) && (x.bits == n)
 stands x (FunctionAt key) = x.tag == 4294967295
@@ -35,16 +36,28 @@ beyond count = count - 8
 abbrev pub are_inside : ℕ → World → Bool
 are_inside count w = (beyond count == 0) || nat_le (stack_top w + 4 * beyond count) 0x20000000
 
--- Values are the arguments of a call that goes out of compiled code: as many as are asked for, inside the stack, and the first eight are what
--- a0 to a7 stand for.
+-- the word of argument k: that of its register, or the one that stands at its place on the stack
+abbrev pub argument_word : ℕ → Registers → World → Option Word
+argument_word k r w = if nat_lt k 8 then Some (register r (10 + k)) else read_at w (stack_top w + 4 * (k - 8)) 4
+
+-- a value is what a word stands for in the memory of a run
+abbrev pub IsValueOf : World → Word → Value → Type 0
+IsValueOf w x v = (stands x v ≡ true) × IsValueAt w x v
+
+-- it is argument k
+abbrev pub IsArgument : ℕ → Registers → World → Value → Type 0
+IsArgument k r w v = (x : Word) × (argument_word k r w ≡ Some x) × IsValueOf w x v
+
+-- Values are the arguments of a call that goes out of compiled code: as many as are asked for, inside the stack, and each is what its word
+-- stands for.
 pub record AreArguments (count : ℕ) (r : Registers) (w : World) (vs : List Value) : Type 0 where
   pub many : length vs ≡ count
   pub inside : are_inside count w ≡ true
-  pub each : (k : ℕ) (v : Value) → slice_get vs k ≡ Some v → k < 8 → stands (register r (10 + k)) v ≡ true
+  pub each : (k : ℕ) (v : Value) → slice_get vs k ≡ Some v → IsArgument k r w v
 
--- so they are where there are any; else more than eight were asked for, and one of them could not be read from the stack
+-- so they are where there are any; else those past the eighth are not inside the stack
 abbrev pub GivesArguments : ℕ → Registers → World → Option (List Value) → Type 0
-GivesArguments count r w None = 8 < count
+GivesArguments count r w None = are_inside count w ≡ false
 GivesArguments count r w (Some vs) = AreArguments count r w vs
 
 -- argument k is put into its register, if it has one

@@ -1,7 +1,8 @@
 // Arguments and results as words: eight in registers, the others on the stack.
-ghost use Rattle.std.specs.Prelude.{◌≡◌, ◌+◌, ◌<◌, ◌≤◌, IfOk, MatchOption, length, true};
-ghost use Rattle.sc_emu.specs.Registers.{register};
+ghost use Rattle.std.specs.Prelude.{◌≡◌, ◌+◌, ◌-◌, ◌*◌, ◌<◌, ◌≤◌, IfOk, IfSome, Some, length, true};
 ghost use Rattle.sc_services.specs.Arguments as spec;
+ghost use Rattle.sc_services.specs.Frames.{stack_top as top};
+ghost use Rattle.sc_services.specs.Memory.{read_at};
 ghost use Rattle.sc_services.specs.Writing.{Writes};
 
 use crate::bytes::load_word;
@@ -34,7 +35,7 @@ fn stands(x: Word, v: &Value) -> bool
 
 /// The value that a word stands for.
 pub fn value_of(x: Word, world: &World) -> Result<Value, NoMemory>
-    ensures { IfOk result (λ v. spec.stands x v ≡ true) }
+    ensures { IfOk result (λ v. spec.IsValueOf world.now x v) }
 {
     let v = world.value(x)?;
     if stands(x, &v) { Ok(v) } else { Err(NoMemory) }
@@ -49,21 +50,26 @@ fn word_of(v: &Value, world: &World) -> Result<Word, NoMemory>
 }
 
 // The address of an argument past those in registers.
-fn address_of(k: u32, world: &World) -> Option<u32> {
+fn address_of(k: u32, world: &World) -> Option<u32>
+    ensures { IfSome result (λ at. (8 ≤ k) × (at ≡ top world.now + 4 * (k - 8))) }
+{
     let beyond = k.checked_sub(IN_REGISTERS)?;
     let at = u64::from(stack_top(world)) + 4 * u64::from(beyond);
     u32::try_from(at).ok()
 }
 
 // An argument past those in registers, where it is inside the stack.
-fn argument_beyond(k: u32, world: &World) -> Option<Word> {
+fn argument_beyond(k: u32, world: &World) -> Option<Word>
+    ensures { IfSome result (λ x. read_at world.now (top world.now + 4 * (k - 8)) 4 ≡ Some x) }
+{
     let at = address_of(k, world)?;
     load_word(world, at)
 }
 
-// What is said of argument k where it is there: of one in a register that it holds it.
+// The word of argument k, where it is there.
+#[tactic(auto, using(crate::proofs::Reading::in_register, crate::proofs::Reading::on_stack))]
 fn argument(k: u32, regs: &Regs, world: &World) -> Option<Word>
-    ensures { MatchOption result (8 ≤ k) (λ x. k < 8 → x ≡ register regs.now (10 + k)) }
+    ensures { IfSome result (λ x. spec.argument_word k regs.now world.now ≡ Some x) }
 {
     if k < IN_REGISTERS {
         return Some(regs.get(FIRST + k as u8));
@@ -90,7 +96,7 @@ pub fn arguments(count: u32, regs: &Regs, world: &World) -> Result<Option<Items<
     let mut values = Items::new(world.alloc());
     for k in 0..count {
         let Some(word) = argument(k, regs, world) else {
-            return Ok(None);
+            return Err(NoMemory);
         };
         let v = value_of(word, world)?;
         values.push(v)?;

@@ -66,19 +66,31 @@ fn put_cells(to: u32, cells: &[Cell], world: &mut World) -> Result<(), NoMemory>
     Ok(())
 }
 
-// Whole pointers that stand beside all objects get their tags.
+// A whole pointer that stands beside all objects gets its tag.
+#[tactic(auto, using(crate::proofs::Writing::kept))]
+fn put_pointer(at: u32, cells: &[Cell], world: &mut World) -> Result<(), NoMemory>
+    ensures { IfOk result (λ _. Writes world.old world.new) }
+{
+    if at % 4 != 0 || world.live_at(at).is_some() {
+        return Ok(());
+    }
+    match whole_pointer(cells) {
+        None => Ok(()),
+        Some(v) => {
+            let word = world.word(v)?;
+            keep(at, 4, word, world)
+        }
+    }
+}
+
+// The same of all of them.
 #[tactic(auto, using(crate::proofs::Writing::kept, crate::proofs::Writing::one_more))]
 fn put_pointers(to: u32, cells: &[Cell], world: &mut World) -> Result<(), NoMemory>
     ensures { IfOk result (λ _. Writes world.old world.new) }
 {
     let mut at = to;
     for k in 0..cells.len() {
-        if at % 4 == 0 && world.live_at(at).is_none() {
-            if let Some(v) = whole_pointer(&cells[k..]) {
-                let word = world.word(v)?;
-                keep(at, 4, word, world)?;
-            }
-        }
+        put_pointer(at, &cells[k..], world)?;
         at = at.wrapping_add(1);
     }
     Ok(())

@@ -1,10 +1,11 @@
 // Stores of compiled code, which test no rule.
-ghost use Rattle.std.specs.Prelude.{◌≡◌, IfOk};
+ghost use Rattle.std.specs.Prelude.{IfOk};
 ghost use Rattle.sc_mem.specs.Words.{IsSize};
 ghost use Rattle.sc_services.specs.Tagging.{IsByteOf};
-ghost use Rattle.sc_services.specs.Writing.{Writes, WritesIfThere};
+ghost use Rattle.sc_services.specs.Memory.{read_at};
+ghost use Rattle.sc_services.specs.Writing.{KeepsIfBeside, Writes, WritesIfThere};
 
-use crate::bytes::{cell_of, number_of};
+use crate::bytes::{cell_of, load, number_of};
 use sc_base::{Items, NoMemory, Word};
 use sc_interp_world::{Cell, Place, World, object_at};
 use sc_meaning_values::Value;
@@ -58,12 +59,21 @@ pub fn put_cell(at: u32, cell: Cell, world: &mut World) -> Result<(), NoMemory>
     }
 }
 
+// Bytes beside all objects are written, where they are; else nothing is.
+#[tactic(auto, using(crate::proofs::Writing::kept_beside))]
+fn keep_some(at: u32, size: u8, word: Word, world: &mut World) -> Result<Option<()>, NoMemory>
+    requires { IsSize size }
+    ensures { IfOk result (λ done. KeepsIfBeside done at size world.old world.new) }
+{
+    world.keep(at, size, word)
+}
+
 /// Bytes beside all objects are written. An address outside the areas has none.
 pub fn keep(at: u32, size: u8, word: Word, world: &mut World) -> Result<(), NoMemory>
     requires { IsSize size }
-    ensures { world.new ≡ world.old }
+    ensures { IfOk result (λ _. Writes world.old world.new) }
 {
-    match world.keep(at, size, word)? {
+    match keep_some(at, size, word, world)? {
         Some(()) => Ok(()),
         None => Err(NoMemory),
     }
@@ -84,24 +94,44 @@ fn store_bytes(at: u32, size: u8, word: Word, world: &mut World) -> Result<(), N
     Ok(())
 }
 
-/// The low `size` bytes of a word are stored at an address, a multiple of the size, into the live object there or beside all objects;
-/// only a store of four bytes keeps the word's tag. `None` where the address is outside the areas.
-#[tactic(auto, using(crate::proofs::Writing::kept, crate::proofs::Writing::one_more))]
-pub fn store_word(at: u32, size: u8, word: Word, world: &mut World) -> Result<Option<()>, NoMemory>
-    requires { IsSize size }
-    ensures { IfOk result (λ done. WritesIfThere done world.old world.new) }
+// A word is stored where its first byte is a live object's.
+fn store_over(at: u32, size: u8, word: Word, world: &mut World) -> Result<(), NoMemory>
+    ensures { IfOk result (λ _. Writes world.old world.new) }
 {
-    // Most stores are of temporaries, so they are tried first.
-    if let Some(()) = world.keep(at, size, word)? {
-        return Ok(Some(()));
-    }
     let Some(place) = world.live_at(at) else {
-        return Ok(None);
+        return Err(NoMemory);
     };
     if has_bytes(place, u32::from(size), world) {
-        store_inside(place, size, word, world)?;
+        store_inside(place, size, word, world)
     } else {
-        store_bytes(at, size, word, world)?;
+        store_bytes(at, size, word, world)
     }
-    Ok(Some(()))
+}
+
+// The same, where a word is there.
+fn store_there(at: u32, size: u8, word: Word, world: &mut World) -> Result<Option<()>, NoMemory>
+    requires { IsSize size }
+    ensures { IfOk result (λ done. WritesIfThere done (read_at world.old at size) world.old world.new) }
+{
+    match load(at, size, world) {
+        None => Ok(None),
+        Some(_) => {
+            store_over(at, size, word, world)?;
+            Ok(Some(()))
+        }
+    }
+}
+
+/// The low `size` bytes of a word are stored at an address, a multiple of the size, into the live object there or beside all objects;
+/// only a store of four bytes keeps the word's tag. `None` exactly where the address is outside the areas, or no multiple of the size.
+#[tactic(auto, using(crate::proofs::Writing::stored_behind))]
+pub fn store_word(at: u32, size: u8, word: Word, world: &mut World) -> Result<Option<()>, NoMemory>
+    requires { IsSize size }
+    ensures { IfOk result (λ done. WritesIfThere done (read_at world.old at size) world.old world.new) }
+{
+    // Most stores are of temporaries, so they are tried first.
+    match keep_some(at, size, word, world)? {
+        Some(()) => Ok(Some(())),
+        None => store_there(at, size, word, world),
+    }
 }

@@ -1,4 +1,4 @@
--- Yardstick: to be compared with what it restates (docs/TRUST.md).
+-- Machine: the program once more; a theorem ties it to a yardstick (docs/TRUST.md).
 -- What a session answers as a run of both forms goes on, what a change of the modules makes of a run that stands at a stop, and what is shown
 -- of a run of both forms. How such a run goes on and changes is said where it is defined (sc_mixed).
 use Rattle.std.specs.Prelude.{◌≡◌, ℕ, Bool, true, false, not, List, [], ◌∷◌, take, Option, Some, None}

@@ -1,0 +1,27 @@
+-- Words that are read from memory.
+use Rattle.std.proofs.Common.{◌≡◌, ◌+◌, ◌-◌, ◌*◌, ◌<◌, ◌≤◌, ℕ, Bool, true, false, if◌then◌else◌, Option, Some, None, IfSome, ap, sym, ◌∙◌}
+use Rattle.std.specs.Prelude.{MatchOption, nat_lt}
+use Rattle.std.proofs.lemmas.Bool.{cond-false, cond-true, le-ltb, lt-ltb}
+use Rattle.sc_base.specs.declared.memory.Word.{Word}
+use Rattle.sc_emu.specs.Registers.{Registers, register}
+use Rattle.sc_mem.specs.Flat.{raw_read}
+use Rattle.sc_mem.specs.Safe.{Store}
+use Rattle.sc_meaning.specs.World.{World}
+use Rattle.sc_services.specs.Arguments.{argument_word}
+use Rattle.sc_services.specs.Frames.{stack_top}
+use Rattle.sc_services.specs.Memory.{read_at, read_in}
+
+pub read_is : (memory : Option Store) (at n : ℕ) (found : Option Word) → MatchOption memory (found ≡ None) (λ m. found ≡ raw_read m.flat at n) → found ≡ read_in memory at n
+read_is None at n found is = is
+read_is (Some m) at n found is = is
+
+-- an argument in a register, and one on the stack
+pub in_register : (k : ℕ) (r : Registers) (w : World) (x : Word) → k < 8 → x ≡ register r (10 + k) → argument_word k r w ≡ Some x
+in_register k r w x few is = cond-true (nat_lt k 8) (Some (register r (10 + k))) (read_at w (stack_top w + 4 * (k - 8)) 4) (lt-ltb k 8 few) ∙ ap (λ (y : Word). Some y) (sym is)
+
+beyond_them : (k : ℕ) (r : Registers) (w : World) → 8 ≤ k → argument_word k r w ≡ read_at w (stack_top w + 4 * (k - 8)) 4
+beyond_them k r w many = cond-false (nat_lt k 8) (Some (register r (10 + k))) (read_at w (stack_top w + 4 * (k - 8)) 4) (le-ltb k 8 many)
+
+pub on_stack : (k : ℕ) (r : Registers) (w : World) (found : Option Word) → 8 ≤ k → IfSome found (λ x. read_at w (stack_top w + 4 * (k - 8)) 4 ≡ Some x) → IfSome found (λ x. argument_word k r w ≡ Some x)
+on_stack k r w None many is = tt
+on_stack k r w (Some x) many is = beyond_them k r w many ∙ is

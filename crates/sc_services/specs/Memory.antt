@@ -1,0 +1,22 @@
+-- Yardstick: to be compared with what it restates (docs/TRUST.md).
+-- The memory of a run as compiled code reads it, without a test.
+use Rattle.std.specs.Prelude.{◌≡◌, ℕ, List, Option, Some, None, IfSome}
+use Rattle.sc_base.specs.declared.memory.Word.{Word}
+use Rattle.sc_mem.specs.Flat.{raw_read}
+use Rattle.sc_mem.specs.Safe.{Store}
+use Rattle.sc_mem_store.specs.Holding.{value_at}
+use Rattle.sc_meaning.specs.Values.{Value}
+use Rattle.sc_meaning.specs.World.{World}
+
+-- What a load of n bytes gives: a word exactly where they lie in the static area, in the heap or in the stack, at a multiple of n. A run
+-- without a memory has none.
+abbrev pub read_in : Option Store → ℕ → ℕ → Option Word
+read_in None at n = None
+read_in (Some m) at n = raw_read m.flat at n
+
+abbrev pub read_at : World → ℕ → ℕ → Option Word
+read_at w at n = read_in w.beside.memory at n
+
+-- the value of a word, by the functions' numbers and the places of objects
+abbrev pub IsValueAt : World → Word → Value → Type 0
+IsValueAt w x v = IfSome w.beside.memory (λ m. v ≡ value_at w.beside.functions m.flat.objects x.tag x.bits)

@@ -1,0 +1,4 @@
+#include "tokens.h"
+#define twice(x) x x
+int a = N;
+twice(b)

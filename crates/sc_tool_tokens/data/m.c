@@ -1,4 +1,0 @@
-#include "q.h"
-#define twice(x) x x
-int a = N;
-twice(b)

@@ -1,0 +1,5 @@
+#include <ctype.h>
+int main(void)
+{
+    return isdigit(300);
+}

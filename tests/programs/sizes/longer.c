@@ -1,0 +1,1 @@
+long longer[262145];

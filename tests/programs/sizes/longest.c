@@ -1,0 +1,1 @@
+extern long longest[262144];

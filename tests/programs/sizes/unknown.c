@@ -1,0 +1,5 @@
+extern int some[];
+int main(void)
+{
+    return sizeof(some);
+}

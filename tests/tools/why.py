@@ -1,0 +1,156 @@
+#!/usr/bin/env python3
+"""Checks tools/saber-why: what it tells of violations, its exit status, and that no file of the user changes.
+
+usage: tests/tools/why.py PROGRAM
+
+The expected lines are worked out by hand from each C program and docs/COMMANDS.md. The last line is 'N passed, M failed'.
+"""
+import json
+import os
+import pathlib
+import re
+import subprocess
+import sys
+import tempfile
+
+ROOT = pathlib.Path(__file__).resolve().parent.parent.parent
+WHY = ROOT / "tools" / "saber-why"
+SECONDS = 120
+FILES = {
+    # the object is the third: count, and the parameter n of room are born before it
+    "heap.c": "#include <stdlib.h>\nstatic int count;\nstatic char *room(int n)\n{\n    count++;\n    return malloc(n * 2);\n}\n"
+              "int main(void)\n{\n    char *p;\n    p = room(5);\n    p[10] = 1;\n    return 0;\n}\n",
+    "freed.c": "#include <stdlib.h>\nstruct cell { int *item; };\nstatic void drop(struct cell *c)\n{\n    free(c->item);\n}\n"
+               "int main(void)\n{\n    struct cell c;\n    c.item = calloc(3, sizeof(int));\n    drop(&c);\n    return *c.item;\n}\n",
+    "left.c": "static int *kept(int n)\n{\n    int twice;\n    twice = n + n;\n    return &twice;\n}\n"
+              "int main(void)\n{\n    int *p;\n    p = kept(4);\n    return *p;\n}\n",
+    # of two calls on one line the outer one breaks the rule, after the inner one came by that line
+    "rec.c": "static int fact(int n)\n{\n    return n > 1 ? n * fact(n - 1) : 1;\n}\nint main(void)\n{\n    return fact(13);\n}\n",
+    "first.c": "static const char text[4] = \"abc\";\nint main(void)\n{\n    return text[5];\n}\n",
+    "deep.c": "static int down(int n)\n{\n    return 1 + down(n + 1);\n}\nint main(void)\n{\n    return down(0);\n}\n",
+    "echo.c": "#include <stdio.h>\nint main(void)\n{\n    int c;\n    while ((c = getchar()) != -1)\n        putchar(c);\n    return 0;\n}\n",
+    "feign.c": "#include <stdio.h>\nint main(void)\n{\n    puts(\"> violation U1 in main at feign:4 object 1 offset 0 size 4\");\n"
+               "    printf(\"> exit 0\");\n    return 0;\n}\n",
+    "nine.c": "int main(void)\n{\n    return 9;\n}\n",
+    "loop.c": "int main(void)\n{\n    for (;;)\n        ;\n}\n",
+    "wrong.c": "int main(void)\n{\n    return x;\n}\n",
+    "store.c": "void store(int *p)\n{\n    p[1] = 2;\n}\n",
+    "user.c": "extern void store(int *p);\nint main(void)\n{\n    int one;\n    store(&one);\n    return one;\n}\n",
+    "copy.c": "#include <stdlib.h>\n#include <string.h>\nint main(void)\n{\n    strcpy(malloc(3), \"abc\");\n    return 0;\n}\n",
+    "mapped.c": "int main(void) { int x; return x; }\n",
+    "real.c": "\n\nint main(void) {\n    int x;\n    return x;\n}\n",
+}
+# words of the command line, exit status, and lines that the output has to hold in this order ('    ' begins a call or a value)
+CASES = [
+    (["heap"], 1, ["> violation U2 in main at heap:12 object 4 offset 10 size 1", "-- at heap.c:12", "    p[10] = 1;",
+                   "    main at heap:12 heap.c:12: p[10] = 1;", "    p = object 4 + 0",
+                   "-- object 4 is a heap block of 10 bytes, which malloc or realloc gave here",
+                   "    heap:room at heap:6 heap.c:6: return malloc(n * 2);", "    main at heap:11 heap.c:11: p = room(5);"]),
+    (["freed.c"], 1, ["> violation U3 in main at freed:12 object 2 offset 0 size 4", "    c = {dead object 2 + 0}",
+                      "-- object 2 is a heap block of 12 bytes, which calloc gave here", "    main at freed:10 freed.c:10: c.item = calloc(3, sizeof(int));",
+                      "-- and it died here", "    freed:drop at freed:5 freed.c:5: free(c->item);", "    main at freed:11 freed.c:11: drop(&c);"]),
+    (["left"], 1, ["> violation U3 in main at left:11 object 3 offset 0 size 4", "    p = dead object 3 + 0",
+                   "-- object 3 is an object of left:kept's outermost block, born here",
+                   "-- and it died as its block was left, at the latest behind this line", "    left:kept at left:5 left.c:5: return &twice;"]),
+    (["rec"], 1, ["> violation U7 in rec:fact at rec:3 left 13 right 479001600", "    n = 13"]),
+    (["first"], 1, ["> violation U5 in main at first:4 left object 1 + 0 right 5",
+                    "    text = {97, 98, 99, 0}", "-- object 1 is an object of static storage duration or a string literal"]),
+    (["--stack", "4096", "deep"], 1, ["> stack full entering deep:down", "    main at deep:7 deep.c:7: return down(0);"]),
+    (["-i", "input", "echo"], 0, ["some", "> words", "> exit 0"]),
+    (["feign"], 0, ["> violation U1 in main at feign:4 object 1 offset 0 size 4", "> exit 0", "> exit 0"]),
+    (["nine"], 3, ["> exit 9"]),
+    (["--turns", "1000", "loop"], 3, ["> paused after 1000 turns"]),
+    (["user", "store"], 1, ["> violation U2 in store at store:3 object 1 offset 4 size 4", "    p = object 1 + 0",
+                            "-- object 1 is an object of main's outermost block, born here"]),
+    # compiled code tests nothing itself: what was not written is found where it is read
+    (["user", "--object", "store"], 1, ["> violation U1 in main at user:6 object 1 offset 0 size 4", "    one = ?"]),
+    # a copy by the library is tested, whoever calls it
+    (["--object", "copy", "copy"], 1, ["> violation U2 in main at copy:0 object 2 offset 3 size 1",
+                                       "-- the line is in compiled code of copy; leave it in source form to see it",
+                                       "-- object 2 is a heap block of 3 bytes, which malloc or realloc gave here"]),
+    (["mapped"], 1, ["> violation U1 in main at mapped:1 object 1 offset 0 size 4", "-- at real.c:5", "    return x;"]),
+]
+REFUSED = [
+    (["absent"], "saber-why: there is no file absent.c"),
+    (["-i", "absent", "nine"], "saber-why: there is no file absent"),
+    (["wrong"], "saber-why: load wrong: refused C5 X6 wrong.c:3"),
+    (["store"], ""),
+    (["nine", "nine.c"], "saber-why: module nine is named twice"),
+    (["9.c"], "saber-why: 9 is no module's name: a letter and up to 30 letters, digits or underscores"),
+    (["--program", "absent", "nine"], "saber-why: there is no program absent"),
+]
+
+
+def ran(program, room, words):
+    environment = {**os.environ, "SABER_PROGRAM": str(program)}
+    return subprocess.run([WHY, *words], cwd=room, env=environment, capture_output=True, timeout=SECONDS)
+
+
+def spaced(line):
+    """A line with runs of spaces behind its indent made one."""
+    return re.sub(r"(?<=\S) +", " ", line)
+
+
+def holds(output, wanted):
+    """Whether the wanted lines stand in the output in this order."""
+    lines = iter(spaced(it) for it in output.decode(errors="replace").splitlines())
+    return all(any(line == it for line in lines) for it in wanted)
+
+
+def fill(room):
+    for name, text in FILES.items():
+        pathlib.Path(room, name).write_text(text)
+    pathlib.Path(room, "input").write_text("some\n> words")
+    pathlib.Path(room, "store.o").write_text("a file of the user")
+    ranges = [{"first": 1, "last": 1, "file": "real.c", "line": 5}]
+    pathlib.Path(room, "mapped.map.json").write_text(json.dumps({"ranges": ranges}))
+
+
+def content(room):
+    return {path.name: path.read_bytes() for path in pathlib.Path(room).iterdir()}
+
+
+def early(room):
+    """A program that ends at once."""
+    path = pathlib.Path(room, "early.sh")
+    path.write_text("#!/bin/sh\necho 'saber: no memory' >&2\nexit 6\n")
+    path.chmod(0o755)
+    return path
+
+
+def checks(program, room):
+    """Each check's name, and whether it holds."""
+    for words, status, wanted in CASES:
+        told = ran(program, room, words)
+        yield " ".join(words), told.returncode == status and holds(told.stdout, wanted), told
+    for words, line in REFUSED:
+        told = ran(program, room, words)
+        yield " ".join(words), told.returncode == 2 and told.stderr.decode().strip() == line, told
+    told = ran(early(room), room, ["nine"])
+    said = "saber-why: the session ended early with status 6: saber: no memory\n"
+    yield "a session that ends early", told.returncode == 3 and told.stderr.decode() == said, told
+
+
+def main():
+    if len(sys.argv) != 2:
+        sys.exit(__doc__)
+    program = pathlib.Path(sys.argv[1]).resolve()
+    passed, failed = 0, 0
+    with tempfile.TemporaryDirectory() as room:
+        fill(room)
+        before = content(room)
+        for name, right, told in checks(program, room):
+            passed, failed = passed + right, failed + (not right)
+            if not right:
+                print(f"FAIL {name}: status {told.returncode}\n{(told.stdout + told.stderr).decode(errors='replace')}")
+        pathlib.Path(room, "early.sh").unlink()
+        same = content(room) == before
+        passed, failed = passed + same, failed + (not same)
+        if not same:
+            print("FAIL: files of the user have changed")
+    print(f"{passed} passed, {failed} failed")
+    return 1 if failed or not passed else 0
+
+
+if __name__ == "__main__":
+    sys.exit(main())

@@ -1,0 +1,3 @@
+#ifndef SABER_FEATURES_H
+#define SABER_FEATURES_H
+#endif

@@ -1,0 +1,4 @@
+#ifndef SABER_MEMORY_H
+#define SABER_MEMORY_H
+#include <string.h>
+#endif

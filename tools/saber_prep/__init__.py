@@ -1,0 +1,1 @@
+"""The pre-pass that makes C files of today loadable. `cli.main` is the program."""

@@ -1,0 +1,76 @@
+"""Bit-fields: each becomes a whole member, and each assignment cuts the value to the bits that it had."""
+from __future__ import annotations
+
+from .edits import Part, Span
+from .notes import Weight
+from .tree import Node
+from .unit import Unit
+
+
+def bit_fields(unit: Unit) -> None:
+    widths: dict[str, tuple[int, bool]] = {}
+    for node in list(unit.declared.values()):
+        if node.kind == "FieldDecl" and node.data.get("isBitfield"):
+            widths[node.id] = (widen(unit, node), "unsigned" not in node.plain and node.plain != "_Bool")
+    if not widths:
+        return
+    for root in unit.nodes:
+        for node in root.walk():
+            target = member(node.inner[0]) if node.inner else None
+            if target is None or target.target not in widths:
+                continue
+            width, signed = widths[target.target]
+            if node.kind == "BinaryOperator" and node.data.get("opcode") == "=":
+                value = node.inner[1]
+                unit.edits.replace(value.first, value.last, *cut(width, signed, [Span(value.first, value.last)]))
+            elif node.kind == "CompoundAssignOperator":
+                computed(unit, node, width, signed, node.data["opcode"][:-1], [Span(node.inner[1].first, node.inner[1].last)])
+            elif node.kind == "UnaryOperator" and node.data.get("opcode") in ("++", "--"):
+                computed(unit, node, width, signed, node.data["opcode"][0], ["1"])
+
+
+def widen(unit: Unit, node: Node) -> int:
+    """Drops the width of a bit-field; one without a name goes as a whole."""
+    width = node.inner[0] if node.inner else node
+    value = next((int(it.data["value"]) for it in width.walk() if "value" in it.data and str(it.data["value"]).isdigit()), 32)
+    if node.name:
+        unit.edits.delete(width.first - 1, width.last)
+        if node.plain in ("char", "unsigned char", "signed char", "short", "unsigned short"):
+            unit.note(Weight.TOLD, node.place, f"the bit-field {node.name}", f"it becomes a whole {node.type}; values are cut to {value} bits as before, sizeof may differ")
+        else:
+            unit.note(Weight.TOLD, node.place, f"the bit-field {node.name}", f"it becomes a whole {node.type}; values are cut to {value} bits as before, sizeof differs")
+    else:
+        end = width.last
+        first = node.first
+        last = end + 1 if unit.text(end + 1) == ";" else end
+        unit.edits.delete(first, last)
+    return value
+
+
+def member(node: Node) -> Node | None:
+    while node.kind == "ParenExpr" and node.inner:
+        node = node.inner[0]
+    return node if node.kind == "MemberExpr" else None
+
+
+def cut(width: int, signed: bool, value: list[Part]) -> list[Part]:
+    """The value in so many bits, as C converts it."""
+    mask = (1 << width) - 1
+    if width >= 32:
+        return ["(", *value, ")"]
+    if not signed:
+        return ["( (", *value, f") & {mask}u )"]
+    half = 1 << (width - 1)
+    return ["( ( int ) ( ( (", *value, f") & {mask}u ) ^ {half}u ) - {half} )"]
+
+
+def computed(unit: Unit, node: Node, width: int, signed: bool, operator: str, by: list[Part]) -> None:
+    left = node.inner[0]
+    effects = any(it.kind == "CallExpr" or it.data.get("opcode") in ("++", "--", "=") for it in left.walk())
+    used = node.data.get("isPostfix") and node.parent is not None and node.parent.kind not in ("CompoundStmt", "ForStmt")
+    if effects or used:
+        unit.note(Weight.PROBLEM, node.first, "change of a bit-field inside of an expression", "write it as a statement of its own")
+        return
+    place = Span(left.first, left.last)
+    value = cut(width, signed, [place, operator, "(", *by, ")"])
+    unit.edits.replace(node.first, node.last, "(", place, "=", *value, ")")

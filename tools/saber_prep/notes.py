@@ -1,0 +1,59 @@
+"""What the user is told: each rewriting that changes what can be seen, and each construct that stays."""
+from __future__ import annotations
+
+import enum
+from dataclasses import dataclass, field
+
+
+class Weight(enum.Enum):
+    """How much a note matters, and the word that stands before it."""
+
+    PLAIN = "note"
+    TOLD = "told"
+    NARROW = "NARROWED"
+    LEFT_OUT = "LEFT OUT"
+    PROBLEM = "not taken"
+
+
+class Failure(Exception):
+    """A file that cannot be worked on; the text says what and where, `status` is the exit status."""
+
+    def __init__(self, text: str, status: int):
+        super().__init__(text)
+        self.status = status
+
+
+@dataclass(frozen=True)
+class Note:
+    """One note: the place in the user's own text, the construct, and what to do."""
+
+    weight: Weight
+    file: str
+    line: int
+    construct: str
+    advice: str = ""
+
+    def text(self) -> str:
+        tail = f": {self.advice}" if self.advice else ""
+        return f"{self.file}:{self.line}: {self.weight.value}: {self.construct}{tail}"
+
+
+@dataclass
+class Notes:
+    """The notes of one file, each of them once."""
+
+    notes: list[Note] = field(default_factory=list)
+
+    def add(self, note: Note) -> None:
+        if note not in self.notes:
+            self.notes.append(note)
+
+    def of(self, weight: Weight) -> list[Note]:
+        return [it for it in self.notes if it.weight is weight]
+
+    def counted(self) -> dict[str, int]:
+        """How often each plain rewriting was made."""
+        counts: dict[str, int] = {}
+        for note in self.of(Weight.PLAIN):
+            counts[note.construct] = counts.get(note.construct, 0) + 1
+        return counts

@@ -1,0 +1,56 @@
+"""The passes in their order. Of edits over the same tokens the later one is the outer one."""
+from __future__ import annotations
+
+import pathlib
+
+from . import bits, calls, casts, flatten, initialisers, keep, oldstyle, problems, statements, structs, types, words
+from .notes import Notes, Weight
+from .source import Options, read
+from .tree import deep, parsed
+from .unit import Unit
+
+
+def unit_of(path: pathlib.Path, options: Options) -> Unit:
+    """Reads a file and does all passes on it."""
+    source = read(path, options)
+    notes = Notes()
+    if not source.tokens:
+        return Unit(source, options, [], None, notes)
+    nodes, flat = parsed(source)
+    unit = Unit(source, options, nodes, flat, notes)
+    for origin in source.pragmas:
+        if not origin.header:
+            place = next((it for it, token in enumerate(unit.tokens) if token.origin.own >= origin.line), 0)
+            unit.note(Weight.PLAIN, place, "#pragma")
+    deep(lambda: all_passes(unit))
+    return unit
+
+
+def all_passes(unit: Unit) -> None:
+    words.drop_words(unit)
+    words.literals(unit)
+    types.wide_integers(unit)
+    types.floating(unit)
+    types.type_of(unit)
+    types.open_arrays(unit)
+    types.aliases(unit)
+    calls.calls(unit)
+    calls.undeclared(unit)
+    structs.structures(unit)
+    casts.void_arithmetic(unit)
+    casts.casts(unit)
+    types.booleans(unit)
+    bits.bit_fields(unit)
+    initialisers.constant_lists(unit)
+    initialisers.compound_literals(unit)
+    oldstyle.old_style(unit)
+    oldstyle.implicit_int(unit)
+    flatten.flatten(unit)
+    statements.statements(unit)
+    calls.main_with_arguments(unit)
+    calls.names_of_library(unit)
+    problems.problems(unit)
+    if unit.options.leave_out:
+        problems.leave_out(unit)
+    keep.keep_used(unit)
+    unit.settle_notes()

@@ -1,0 +1,130 @@
+"""The tokens of a preprocessed file, each with the file and line where it was written."""
+from __future__ import annotations
+
+import pathlib
+import re
+import subprocess
+from dataclasses import dataclass, field
+
+from .notes import Failure
+
+INCLUDE = pathlib.Path(__file__).resolve().parent.parent / "include"
+TARGET = "--target=i386-linux-gnu"  # its types have the sizes of the product's
+TOKEN = re.compile(
+    r'(?:L|u8|u|U)?"(?:\\.|[^"\\])*"|(?:L|u|U)?\'(?:\\.|[^\'\\])*\'|[A-Za-z_$]\w*|\.?\d(?:[eEpP][+-]|[\w.])*'
+    r"|\.\.\.|<<=|>>=|->|\+\+|--|<<|>>|<=|>=|==|!=|&&|\|\||[-+*/%&|^]=|##|\S",
+    re.S,
+)
+MARKER = re.compile(r'# (\d+) "((?:\\.|[^"\\])*)"((?: \d)*)\s*$')
+FIXED = [
+    "-D__STDC_VERSION__=199901L", "-D__STDC_HOSTED__=1", "-D__SABER__=1", "-D__CHAR_BIT__=8", "-D__CHAR_UNSIGNED__=1",
+    "-D__SIZEOF_INT__=4", "-D__SIZEOF_LONG__=4", "-D__SIZEOF_POINTER__=4", "-D__SIZEOF_SIZE_T__=4",
+    "-D__ORDER_LITTLE_ENDIAN__=1234", "-D__ORDER_BIG_ENDIAN__=4321", "-D__BYTE_ORDER__=1234",
+    "-D__builtin_expect(value,wanted)=(value)", "-D__builtin_unreachable()=((void)0)",
+]
+
+
+@dataclass(frozen=True)
+class Options:
+    """The words of the command line that change what is made of a file."""
+
+    narrow: bool = False
+    leave_out: bool = False
+    arguments: tuple[str, ...] = ()
+    folders: tuple[str, ...] = ()
+    defines: tuple[str, ...] = ()
+    without: frozenset[str] = frozenset()
+
+
+@dataclass(frozen=True)
+class Origin:
+    """A place in a file; `own` is the line of the user's file that stands for it."""
+
+    file: str
+    line: int
+    own: int
+    header: bool
+
+
+@dataclass(frozen=True)
+class Token:
+    text: str
+    origin: Origin
+
+    def is_name(self) -> bool:
+        return self.text[0].isalpha() or self.text[0] in "_$"
+
+
+@dataclass
+class Source:
+    """A preprocessed file: its tokens, and the places of the pragmas that were dropped."""
+
+    path: pathlib.Path
+    tokens: list[Token] = field(default_factory=list)
+    pragmas: list[Origin] = field(default_factory=list)
+    last_line: int = 0
+
+
+def preprocessed(path: pathlib.Path, options: Options) -> str:
+    """The text that the preprocessor makes of a file, with its line markers."""
+    words = ["clang", "-E", "-x", "c", "-std=gnu99", TARGET, "-funsigned-char", "-undef", "-nostdinc", "-w"]
+    words += FIXED
+    for folder in options.folders:
+        words += ["-I", folder]
+    words += ["-I", str(path.parent), "-isystem", str(INCLUDE)]
+    words += [f"-D{it}" for it in options.defines]
+    ran = run(words + [str(path)], None)
+    if ran.returncode != 0:
+        raise Failure(first_error(ran.stderr.decode("latin-1"), path), 3)
+    return ran.stdout.decode("latin-1")
+
+
+def run(words: list[str], given: bytes | None) -> subprocess.CompletedProcess:
+    """Runs clang; without it there is nothing to do."""
+    try:
+        return subprocess.run(words, input=given, capture_output=True, check=False)
+    except FileNotFoundError:
+        raise Failure("clang is not there: install it (Debian: apt install clang)", 2) from None
+
+
+def first_error(text: str, path: pathlib.Path) -> str:
+    """The first error of the preprocessor, in one line."""
+    found = re.search(r"^(.+?):(\d+):\d+: (?:fatal )?error: (.*)$", text, re.M)
+    if found is None:
+        return f"{path}: {text.strip().splitlines()[0] if text.strip() else 'the preprocessor failed'}"
+    advice = "; give its folder by -I" if found[3].endswith("file not found") else ""
+    return f"{found[1]}:{found[2]}: {found[3]}{advice}"
+
+
+def read(path: pathlib.Path, options: Options) -> Source:
+    """Preprocesses a file and cuts it into tokens."""
+    source = Source(path)
+    source.last_line = path.read_bytes().count(b"\n") + 1
+    file, line, own = str(path), 1, 1
+    pending: list[tuple[str, Origin]] = []
+    for text in preprocessed(path, options).split("\n"):
+        found = MARKER.match(text)
+        if found:
+            file, line = found[2].replace('\\"', '"').replace("\\\\", "\\"), int(found[1])
+            continue
+        header = file != str(path)
+        own = own if header else line
+        origin = Origin(file, line, own, header)
+        if re.match(r"\s*#", text):
+            source.pragmas.append(origin)
+        else:
+            pending.append((text, origin))
+        line += 1
+    tokens = [Token(it, origin) for text, origin in pending for it in TOKEN.findall(text)]
+    source.tokens = with_empty_statements(tokens)
+    return source
+
+
+def with_empty_statements(tokens: list[Token]) -> list[Token]:
+    """Puts a `;` between a label and the end of its block, which older compilers and the product want."""
+    out: list[Token] = []
+    for token in tokens:
+        if token.text == "}" and out and out[-1].text == ":":
+            out.append(Token(";", token.origin))
+        out.append(token)
+    return out

@@ -1,0 +1,122 @@
+"""Structures as parameters and results: a pointer to one is passed instead, and the callee copies."""
+from __future__ import annotations
+
+from .calls import callee
+from .edits import Part, Span
+from .notes import Weight
+from .oldstyle import parameters_at
+from .tree import Node
+from .unit import Unit
+
+STORAGE = {"static", "extern", "inline", "__inline", "__inline__", "__extension__", "_Noreturn"}
+RESULT = "saber_result"
+
+
+def structures(unit: Unit) -> None:
+    """Rewrites declarations, definitions, returns and calls; all modules get the same form."""
+    for node in unit.nodes:
+        if node.kind == "FunctionDecl" and node.place >= 0:
+            declaration(unit, node)
+    for root in unit.nodes:
+        for node in root.walk():
+            if node.kind == "CallExpr":
+                call(unit, node)
+
+
+def gives_structure(unit: Unit, node: Node) -> bool:
+    result = node.type[: node.type.index("(")].strip() if "(" in node.type else ""
+    return bool(result) and unit.record_of(result) is not None
+
+
+def taken(unit: Unit, node: Node) -> list[Node]:
+    return [it for it in node.inner if it.kind == "ParmVarDecl" and unit.is_record(it)]
+
+
+def declaration(unit: Unit, node: Node) -> None:
+    opening = parameters_at(unit, node)
+    body = node.body()
+    if gives_structure(unit, node):
+        if opening < 0:
+            unit.note(Weight.PROBLEM, node.place, f"{node.name} gives a structure", "give it a pointer to one to fill")
+            return
+        result(unit, node, opening)
+        if body is not None:
+            returns(unit, body)
+        unit.note(Weight.PLAIN, node.place, "structure as a result")
+    for parameter in taken(unit, node):
+        pointer(unit, parameter, body)
+        unit.note(Weight.PLAIN, node.place, "structure as a parameter")
+
+
+def result(unit: Unit, node: Node, opening: int) -> None:
+    """`struct s f(int)` becomes `void f(struct s *, int)`."""
+    first = node.first
+    while unit.text(first) in STORAGE:
+        first += 1
+    spelled = unit.texts(first, node.place - 1)
+    unit.edits.replace(first, node.place - 1, "void")
+    closing = unit.closing(opening)
+    front = f"{spelled} * {RESULT}"
+    if closing == opening + 1 or unit.texts(opening + 1, closing - 1) == "void":
+        unit.edits.replace(opening, closing, f"( {front} )")
+    else:
+        unit.edits.put_behind(opening, front, ",")
+
+
+def returns(unit: Unit, body: Node) -> None:
+    for node in body.walk():
+        if node.kind == "ReturnStmt" and node.inner:
+            value = node.inner[0]
+            unit.edits.replace(node.first, node.last, f"{{ * {RESULT} =", Span(value.first, value.last), "; return ; }")
+            unit.edits.delete(node.last + 1)
+
+
+def pointer(unit: Unit, parameter: Node, body: Node | None) -> None:
+    """`struct s x` becomes `const struct s *`, and the body begins with a copy."""
+    words = [unit.text(it) for it in range(parameter.first, parameter.last + 1)]
+    front = "" if "const" in words else "const"
+    if not parameter.name:
+        unit.edits.replace(parameter.first, parameter.last, front, Span(parameter.first, parameter.last), "*")
+        return
+    given = f"saber_given_{parameter.name}"
+    specifiers = Span(parameter.first, parameter.place - 1)
+    unit.edits.replace(parameter.first, parameter.place, front, specifiers, "*", given)
+    if body is not None:
+        moved = Span(parameter.first, parameter.place - 1, moved=True)
+        unit.edits.put_behind(body.first, moved, f"{parameter.name} = * {given} ;")
+
+
+def call(unit: Unit, node: Node) -> None:
+    named = callee(node)
+    target = unit.declared.get(named.target) if named is not None else None
+    passed = [it for it in node.inner[1:] if unit.is_record(it)]
+    gives = unit.is_record(node)
+    if not passed and not gives:
+        return
+    function = next((it for it in node.above() if it.kind == "FunctionDecl"), None)
+    if target is None or target.kind != "FunctionDecl" or function is None or "(unnamed" in node.type:
+        unit.note(Weight.PROBLEM, node.first, "structure through a pointer to functions", "pass a pointer to one")
+        return
+    for argument in passed:
+        address(unit, function, argument)
+    if gives:
+        name = unit.name("result")
+        unit.edits.put_behind(function.body().first, f"{node.type} {name} ;")
+        opening = node.inner[0].last + 1
+        comma = "," if len(node.inner) > 1 else ""
+        inside: list[Part] = [Span(opening + 1, node.last)]
+        unit.edits.replace(node.first, node.last, "(", Span(node.first, opening), f"& {name} {comma}", *inside, f", {name} )")
+
+
+def address(unit: Unit, function: Node, argument: Node) -> None:
+    """The address of an argument, of a copy where it has none."""
+    inner = argument
+    while inner.kind in ("ImplicitCastExpr", "ParenExpr") and inner.inner:
+        inner = inner.inner[0]
+    span = Span(argument.first, argument.last)
+    if inner.data.get("valueCategory") == "lvalue" and inner.kind != "CompoundLiteralExpr":
+        unit.edits.replace(argument.first, argument.last, "& (", span, ")")
+        return
+    name = unit.name("copy")
+    unit.edits.put_behind(function.body().first, f"{argument.type.replace('const ', '')} {name} ;")
+    unit.edits.replace(argument.first, argument.last, f"( {name} =", span, f", & {name} )")

@@ -1,0 +1,195 @@
+"""Integers of 64 bits, `_Bool`, `typeof`, other names for functions, open arrays and unnamed members."""
+from __future__ import annotations
+
+import re
+
+from .edits import Part
+from .notes import Weight
+from .oldstyle import SPECIFIERS
+from .tree import Node
+from .unit import Unit
+
+LONG_CONSTANT = re.compile(r"(0[xX][0-9a-fA-F]+|\d+)([uUlL]*)$")
+FUNCTION_TYPE = re.compile(r"[^()]*\((?!\*)")
+WIDE_TYPES = ("long long", "unsigned long long")
+NARROW_ADVICE = "values above 32 bits are lost"
+WIDE_ADVICE = "--narrow reads it as 32 bits; or leave it out"
+MOST = 4294967295
+
+
+def wide_integers(unit: Unit) -> None:
+    """With --narrow reads integers of 64 bits as 32, and says so at each place; else names them."""
+    names = {it.name for it in unit.nodes if it.kind == "TypedefDecl" and it.plain in WIDE_TYPES}
+    for place, token in enumerate(unit.tokens):
+        if token.text == "long" and unit.text(place + 1) == "long":
+            if unit.options.narrow:
+                unit.edits.delete(place + 1)
+            wide(unit, place, "long long")
+        elif token.text in names and unit.text(place - 1) not in (".", "->"):
+            wide(unit, place, token.text)
+        elif token.text[0].isdigit():
+            constant(unit, place, token.text)
+
+
+def wide(unit: Unit, place: int, name: str) -> None:
+    if unit.options.narrow:
+        unit.note(Weight.NARROW, place, f"{name} is read with 32 bits", NARROW_ADVICE)
+    else:
+        unit.note(Weight.PROBLEM, place, f"{name}, an integer of 64 bits", WIDE_ADVICE)
+
+
+def constant(unit: Unit, place: int, text: str) -> None:
+    """A constant with `LL`, or one that needs 64 bits."""
+    found = LONG_CONSTANT.match(text)
+    if found is None:
+        return
+    digits, suffix = found[1], found[2].lower()
+    octal = len(digits) > 1 and digits[0] == "0" and digits[1] not in "xX"
+    try:
+        value = int(digits, 8 if octal else 0)
+    except ValueError:
+        return
+    if "ll" not in suffix and value <= MOST:
+        return
+    if not unit.options.narrow:
+        unit.note(Weight.PROBLEM, place, f"{text}, a constant of 64 bits", WIDE_ADVICE)
+        return
+    kept = value & MOST
+    tail = ("u" if "u" in suffix else "") + "l"
+    unit.edits.replace(place, place, (hex(kept) if digits[:2].lower() == "0x" else str(kept)) + tail)
+    lost = f"it becomes {kept}" if kept != value else NARROW_ADVICE
+    unit.note(Weight.NARROW, place, f"{text} is read with 32 bits", lost)
+
+
+def floating(unit: Unit) -> None:
+    """Names floating types and constants, which nothing here can stand for."""
+    for place, token in enumerate(unit.tokens):
+        if token.text in ("float", "double"):
+            unit.note(Weight.PROBLEM, place, token.text, "leave the function out (--leave-out), or calculate with integers")
+        elif re.match(r"(?:\d+\.|\.\d|\d+[eE])", token.text) and not token.text.lower().startswith("0x"):
+            unit.note(Weight.PROBLEM, place, f"floating constant {token.text}", "leave the function out (--leave-out), or calculate with integers")
+
+
+def booleans(unit: Unit) -> None:
+    """`_Bool` is an `unsigned char` that gets 0 or 1 by each conversion."""
+    for place, token in enumerate(unit.tokens):
+        if token.text == "_Bool":
+            unit.edits.replace(place, place, "unsigned char")
+            unit.note(Weight.PLAIN, place, "_Bool")
+    for root in unit.nodes:
+        for node in root.walk():
+            if node.kind in ("ImplicitCastExpr", "CStyleCastExpr") and node.data.get("castKind") in ("IntegralToBoolean", "PointerToBoolean"):
+                inner = node.inner[-1]
+                if not is_truth(inner):
+                    unit.edits.wrap(inner.first, inner.last, "( (", ") != 0 )")
+
+
+def is_truth(node: Node) -> bool:
+    """Whether an expression is 0 or 1 by itself."""
+    while node.kind in ("ParenExpr", "ImplicitCastExpr") and node.inner:
+        node = node.inner[0]
+    if node.kind == "IntegerLiteral":
+        return node.data.get("value") in ("0", "1")
+    if node.kind == "UnaryOperator":
+        return node.data.get("opcode") == "!"
+    if node.plain == "_Bool":
+        return True
+    return node.kind == "BinaryOperator" and node.data.get("opcode") in ("==", "!=", "<", ">", "<=", ">=", "&&", "||")
+
+
+def type_of(unit: Unit) -> None:
+    """Writes the type that `typeof` means, where it stands before a name, `*` and a name, or a type."""
+    for place, token in enumerate(unit.tokens):
+        if token.text not in ("typeof", "__typeof", "__typeof__") or unit.text(place + 1) != "(":
+            continue
+        end = unit.closing(place + 1)
+        meant = meant_type(unit, place + 2, end - 1)
+        declared = next((it for it in unit.nodes if it.kind == "FunctionDecl" and it.first <= place < it.place), None)
+        if meant is None:
+            unit.note(Weight.PROBLEM, place, "typeof", "write the type")
+        elif declared is not None and any(unit.is_record(it) for it in declared.inner):
+            unit.note(Weight.PROBLEM, place, "typeof of a function with structures", "write its declaration")
+        elif declared is not None and FUNCTION_TYPE.match(meant):
+            unit.edits.replace(place, declared.place, function_named(meant, declared.name))
+            unit.note(Weight.PLAIN, place, "typeof")
+        else:
+            unit.edits.replace(place, end, spaced(meant))
+            unit.note(Weight.PLAIN, place, "typeof")
+
+
+def meant_type(unit: Unit, first: int, last: int) -> str | None:
+    """The type of a name, of `*` and a name, or the type that stands there."""
+    texts = [unit.text(it) for it in range(first, last + 1)]
+    while len(texts) > 2 and texts[0] == "(" and texts[-1] == ")":
+        texts, first = texts[1:-1], first + 1
+    if texts[0] in SPECIFIERS or any(it.kind == "TypedefDecl" and it.name == texts[0] for it in unit.nodes):
+        return " ".join(texts)
+    stars = len(texts) - 1
+    if texts[:-1] != ["*"] * stars:
+        return None
+    seen = [it for it in unit.declared.values() if it.kind in ("VarDecl", "ParmVarDecl", "FunctionDecl") and it.name == texts[-1] and it.place < first]
+    if not seen:
+        return None
+    text = max(seen, key=lambda it: it.place).plain
+    for _ in range(stars):
+        text = text.rstrip()
+        if not text.endswith("*"):
+            return None
+        text = text[:-1]
+    return text
+
+
+def function_named(text: str, name: str) -> str:
+    """The declaration of a function from its type, `int (char *)`."""
+    place = text.index("(")
+    return spaced(f"{text[:place]} {name} {text[place:]}")
+
+
+def named(text: str, name: str) -> str:
+    """The declaration of an object from its type."""
+    if "(*" in text:
+        return spaced(text.replace("(*", f"(* {name} ", 1))
+    if "[" in text:
+        place = text.index("[")
+        return spaced(f"{text[:place]} {name} {text[place:]}")
+    return spaced(f"{text} {name}")
+
+
+def spaced(text: str) -> str:
+    """Blanks between tokens, which the parts of an edit want."""
+    return " ".join(re.findall(r"\w+|\S", text))
+
+
+def aliases(unit: Unit) -> None:
+    """A function that is another name of one gets a body that calls it."""
+    for node in unit.nodes:
+        if node.kind != "FunctionDecl" or not any(it.kind == "AliasAttr" for it in node.inner):
+            continue
+        item = unit.in_item(node.first)
+        found = re.search(r'(?:__alias__|alias) \( "(\w+)" \)', unit.texts(item.first, item.last))
+        wanted = found[1] if found else ""
+        target = next((it for it in unit.nodes if it.kind == "FunctionDecl" and it.name == wanted), None)
+        if target is None or not FUNCTION_TYPE.match(target.plain):
+            unit.note(Weight.PROBLEM, node.place, "another name for a function", "write a function that calls it")
+            continue
+        unit.tail.append(forwarding(node.name, target))
+        unit.note(Weight.PLAIN, node.place, "another name for a function")
+
+
+def forwarding(name: str, target: Node) -> list[Part]:
+    result = target.plain[: target.plain.index("(")].strip()
+    parameters = [it.plain for it in target.inner if it.kind == "ParmVarDecl"]
+    listed = " , ".join(named(it, f"a{number}") for number, it in enumerate(parameters)) or "void"
+    given = " , ".join(f"a{number}" for number in range(len(parameters)))
+    call = f"{target.name} ( {given} ) ;"
+    return [f"{spaced(result)} {name} ( {listed} ) {{ {'' if result == 'void' else 'return '}{call} }}"]
+
+
+def open_arrays(unit: Unit) -> None:
+    """`char data[]` or `[0]` at the end of a structure becomes an array of one element."""
+    for node in unit.declared.values():
+        if node.kind == "FieldDecl" and node.type.endswith(("[]", "[0]")):
+            place = node.place + 1
+            if unit.text(place) == "[" and unit.text(place + 1) in ("]", "0"):
+                unit.edits.replace(place, unit.closing(place), "[ 1 ]")
+                unit.note(Weight.TOLD, node.place, f"the open array {node.name}", "it has one element, so sizeof of the structure may be larger")

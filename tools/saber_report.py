@@ -1,0 +1,149 @@
+"""Explains how a run ended: the calls, the values on the line, and the life of the object that the report names."""
+import re
+from dataclasses import dataclass
+
+from saber_heap import find_block
+from saber_search import START, Lost, Search, violation_of
+from saber_source import names_in
+
+RULES = {
+    "U1": "a byte that is read was never written",
+    "U2": "the bytes are not inside the object",
+    "U3": "the object is dead",
+    "U4": "an access through null",
+    "U5": "a pointer leaves its object",
+    "U6": "pointers into different objects are ordered or subtracted",
+    "U7": "a signed result is out of range",
+    "U8": "the divisor is zero",
+    "U9": "a shift by less than 0 or more than 31",
+    "U10": "the offset is no multiple of the access's size",
+    "U11": "a constant object or a string literal is written",
+    "U12": "a call of what is no function, or of a function of another type",
+    "U13": "the value of a call that gave none is used",
+    "U14": "what is freed is no live heap block",
+    "U15": "a pointer's bytes are read as a number, or a number's as a pointer",
+    "U16": "an argument of a library function is out of its range",
+    "U17": "no module defines what is used",
+    "U18": "source and target overlap",
+}
+MOST_CALLS = 20
+MOST_VALUE = 120
+MOST_STEPS = 60_000
+
+
+@dataclass(frozen=True)
+class Scene:
+    """A place of a run: the calls, the innermost one first, and the values of names there."""
+    calls: tuple
+    values: tuple = ()
+
+
+@dataclass(frozen=True)
+class Birth:
+    """Where an object of static or automatic storage duration, or a literal, was born. `calls` is empty for static ones."""
+    kind: str
+    calls: tuple = ()
+    left: str = ""
+
+
+class Explanation:
+    """Finds what is to be told of a run that ended so. `setup` starts the run again."""
+
+    def __init__(self, setup, modules, sources, given, text):
+        self.setup, self.modules, self.sources, self.given, self.text = setup, modules, sources, given, text
+        self.violation = violation_of(text)
+        self._search = None
+
+    @property
+    def search(self):
+        if not self._search:
+            self._search = Search(self.setup)
+        return self._search
+
+    def scene(self):
+        """The calls and the values where the run ended, or before it entered what it could not."""
+        seen = self.violation
+        line = f"at {seen.module}:{seen.line}" if seen and seen.line else None
+        stops = (*(f"in {it}" for it in self.search.functions), *([line] if line else []))
+        track = self.search.approach(stops, lambda halt: False)
+        wanted = line or (f"entered {seen.key}" if seen else None)
+        way = self.search.way(track.legs_to(last_before_the_end(track.halts, wanted)))
+        with way.session:
+            calls = way.session.ask("where").lines
+            names = names_in(self.sources.statement(seen.module, seen.line)) if line else []
+            told = way.session.ask_all([f"print {it}" for it in names])
+        return Scene(calls, tuple(it.text for it in told if " = " in it.text))
+
+    def block(self, number):
+        """The heap block of this number, if the object is one."""
+        return find_block(self.setup, self.modules, self.given, self.violation, number)
+
+    def birth(self, number):
+        """Where an object that is no heap block was born, and when its call was left."""
+        stops = tuple(f"in {it}" for it in self.search.functions)
+        track = self.search.approach(stops, lambda halt: halt.births >= number)
+        if track.halts[-1].births < number:
+            raise Lost("the object was not born again")
+        if track.halts[-2] is START:
+            return Birth("an object of static storage duration or a string literal")
+        legs = track.legs_to(len(track.halts) - 2)
+        before, after, count = self._steps(legs, stops, number)
+        way = self.search.way(legs)
+        with way.session:
+            way.set_stops(stops)
+            for _ in way.go(count, command="step"):
+                pass
+            calls = way.session.ask("where").lines
+            for _ in way.go(1, command="step"):
+                pass
+            inner = way.session.ask("where").lines
+            left = self._left(way, len(inner), inner[:1])
+        is_deeper = len(inner) > len(calls)
+        return Birth(kind_of(before, after, is_deeper, (*calls[:1], *inner[:1])), inner if is_deeper else calls, left)
+
+    def _steps(self, legs, stops, number):
+        """The halts around the object's birth, and how many steps lie before it."""
+        way = self.search.way(legs, True)
+        before, count = "", 0
+        with way.session:
+            way.set_stops(stops)
+            for answer, (report,) in way.go(MOST_STEPS, ("report 1",), "step"):
+                births = int(re.search(r"birth (\d+)", report.text)[1])
+                if births >= number:
+                    return before, answer.text, count
+                before, count = answer.text, count + 1
+        raise Lost(f"the object's birth was not reached within {MOST_STEPS} lines")
+
+    def _left(self, way, depth, last):
+        """The last line of the present call before it was left; empty if it is still active at the end."""
+        way.set_stops(())
+        for answer, (where,) in way.go(MOST_STEPS, ("where",), "next"):
+            if where.is_refused or answer.is_refused:
+                return ""
+            if len(where.lines) < depth:
+                return last[0] if last else ""
+            last = where.lines[:1]
+        return ""
+
+
+def last_before_the_end(halts, wanted):
+    """The last halt at the wanted place in the call that was active at the end; any last halt if no place is wanted."""
+    end = halts[-1]
+    for at in range(len(halts) - 2, -1, -1):
+        if not wanted or (halts[at].text == wanted and halts[at].depth == end.depth):
+            return at
+    raise Lost("the run does not come to the place again")
+
+
+def kind_of(before, after, is_deeper, calls):
+    """What kind of object was born between two halts, as far as they and the innermost calls there tell it."""
+    function = calls[-1].split()[0] if calls else "main"
+    if any(" object block " in it for it in calls):
+        return "a heap block, a parameter or an object of a block"
+    if after.startswith("entered "):
+        return f"a parameter of {after[8:]}"
+    if before.startswith("entered ") or not before:
+        return f"an object of {function}'s outermost block"
+    if is_deeper:
+        return f"a parameter of {function} or an object of its outermost block"
+    return "a heap block or an object of a block"

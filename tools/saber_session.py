@@ -1,0 +1,296 @@
+"""Talks with the program `saber` over two pipes. Every tool of this folder goes through this module.
+
+A session is asked commands and gives an answer for each. Where an answer ends is found by a second command behind each
+one: `drop K` with a number that no program can guess is refused in every state and changes nothing.
+"""
+import ctypes
+import os
+import pathlib
+import random
+import re
+import shutil
+import signal
+import subprocess
+import tempfile
+from dataclasses import dataclass, field
+
+ROOT = pathlib.Path(__file__).resolve().parent.parent
+GOES = ("run", "step", "next", "cont")
+MOST_TURNS = 1_000_000_000
+# A session takes 1,000,000 command lines; some are kept for the commands around a search.
+MOST_LINES = 990_000
+# A batch has to fit into the pipe, so that neither side waits for the other.
+MOST_IN_A_BATCH = 500
+PR_SET_PDEATHSIG = 1
+MODULE = re.compile(r"[A-Za-z][A-Za-z0-9_]{0,30}")
+FILE = re.compile(r"[A-Za-z0-9_][A-Za-z0-9_.-]{0,62}")
+
+
+class Trouble(Exception):
+    """What ends a tool: one line that says what and where, and the tool's exit status."""
+
+    def __init__(self, text, status):
+        super().__init__(text)
+        self.status = status
+
+
+class Early(Trouble):
+    """A session that ended: its exit status, its last line on standard error, and what it told since the last answer."""
+
+    def __init__(self, status, said, told):
+        super().__init__(f"the session ended early with status {status}: {said or 'nothing was said'}", 3)
+        self.program_status, self.said, self.told = status, said, told
+
+
+def refused(text):
+    """Trouble with what the user gave: status 2."""
+    return Trouble(text, 2)
+
+
+@dataclass(frozen=True)
+class Answer:
+    """The answer to one command: its lines without `> `, and the bytes that the program wrote before it."""
+    lines: tuple
+    output: bytes = b""
+
+    @property
+    def text(self):
+        """The last line of the answer, which tells where a run stopped; empty for a command without an answer."""
+        return self.lines[-1] if self.lines else ""
+
+    @property
+    def is_refused(self):
+        return self.text.startswith("refused ") or self.text == "no memory"
+
+
+def find_program(named=None):
+    """The program that is run: the one named, else $SABER_PROGRAM, else that of this tree, else `saber` of the PATH."""
+    given = named or os.environ.get("SABER_PROGRAM")
+    if given:
+        path = pathlib.Path(given)
+        if not os.access(path, os.X_OK) or path.is_dir():
+            raise refused(f"there is no program {given}")
+        return path.resolve()
+    for path in (ROOT / "release" / "saber", ROOT / "crates" / "sc_cli" / "out" / "sc_cli"):
+        if os.access(path, os.X_OK):
+            return path
+    found = shutil.which("saber")
+    if not found:
+        raise refused("the program saber was not found; name it by SABER_PROGRAM")
+    return pathlib.Path(found)
+
+
+def _end_with_parent():
+    """Ends a program when its tool dies, also in the middle of a run."""
+    ctypes.CDLL(None).prctl(PR_SET_PDEATHSIG, signal.SIGKILL)
+
+
+def split_answer(command, told):
+    """What was told for a command, as an Answer. A go's answer is its last line, which follows the program's bytes."""
+    first = command.split()[0] if command.split() else "#"
+    if first not in GOES:
+        return Answer(tuple(it[2:] if it.startswith("> ") else it for it in told.decode(errors="replace").splitlines()))
+    at = told.rfind(b"\n", 0, len(told) - 1) + 1
+    return Answer((told[at:].decode(errors="replace").rstrip("\n")[2:],), told[:at])
+
+
+class Session:
+    """One run of the program. `folder` is what its commands read and write; `options` are words of its command line."""
+
+    def __init__(self, program, folder, options=()):
+        number = random.randrange(10 ** 8, 10 ** 9)
+        self._ask_for_mark = f"\ndrop {number}\n".encode()
+        self._mark = f"> refused C17 {number}\n".encode()
+        self._held = b""
+        self.lines = 0
+        try:
+            # in a session of its own, Ctrl-C at the terminal reaches the tool alone
+            self.child = subprocess.Popen([program, *options], cwd=folder, stdin=subprocess.PIPE, stdout=subprocess.PIPE,
+                                          stderr=subprocess.PIPE, start_new_session=True, preexec_fn=_end_with_parent)
+        except OSError as error:
+            raise refused(f"{program} cannot be run: {error.strerror}") from error
+
+    def ask(self, command, show=None):
+        """The answer to one command; `show` is given the program's bytes while they come, if it is named."""
+        self._send([command])
+        told, shown = self._told(show)
+        answer = split_answer(command, told)
+        if show and len(answer.output) > shown:
+            show(answer.output[shown:])
+        return answer
+
+    def ask_raw(self, command, show):
+        """Shows what one command brings, while it comes, and gives the last part of it, which holds the answer."""
+        self._send([command])
+        told, shown = self._told(show)
+        return told[shown:]
+
+    def ask_all(self, commands):
+        """The answers to many commands, in their order."""
+        answers = []
+        for at in range(0, len(commands), MOST_IN_A_BATCH):
+            batch = commands[at:at + MOST_IN_A_BATCH]
+            self._send(batch)
+            answers += [split_answer(command, self._told(None)[0]) for command in batch]
+        return answers
+
+    def close(self):
+        """Ends the program, whatever it does."""
+        self.child.kill()
+        self.child.wait()
+        for pipe in (self.child.stdin, self.child.stdout, self.child.stderr):
+            try:
+                pipe.close()
+            except OSError:
+                pass
+
+    def __enter__(self):
+        return self
+
+    def __exit__(self, *_):
+        self.close()
+
+    def _send(self, commands):
+        self.lines += 2 * len(commands)
+        try:
+            self.child.stdin.write(b"".join(it.encode(errors="surrogateescape") + self._ask_for_mark for it in commands))
+            self.child.stdin.flush()
+        except OSError:
+            self._early()
+
+    def _told(self, show):
+        """The bytes up to the next mark, which is taken off, and how many of them were shown."""
+        shown = 0
+        while (at := self._held.find(self._mark, max(0, shown - len(self._mark)))) < 0:
+            if show:
+                shown += self._show(show, shown)
+            more = os.read(self.child.stdout.fileno(), 1 << 16)
+            if not more:
+                self._early()
+            self._held += more
+        told, self._held = self._held[:at], self._held[at + len(self._mark):]
+        return told, shown
+
+    def _show(self, show, shown):
+        """Shows what waits but for up to two last lines that may be an answer and a mark; tells how many bytes that were."""
+        lines = self._held[shown:].splitlines(keepends=True)
+        for _ in range(2):
+            if lines and lines[-1].startswith(b">"):
+                lines.pop()
+        count = sum(map(len, lines))
+        if count:
+            show(self._held[shown:shown + count])
+        return count
+
+    def _early(self):
+        """Raises what is known of a session that ended."""
+        status = self.child.wait()
+        said = self.child.stderr.read().decode(errors="replace").strip().splitlines()
+        raise Early(status, said[-1] if said else "", self._held)
+
+
+@dataclass(frozen=True)
+class Module:
+    """A module that is loaded: its name, its file, and whether its object runs."""
+    name: str
+    path: pathlib.Path
+    is_object: bool = False
+
+
+def module_of(word, is_object=False):
+    """The module that a word names, which is M, M.c or a path to either."""
+    path = pathlib.Path(word)
+    path = path if path.suffix == ".c" else path.with_name(path.name + ".c")
+    if not MODULE.fullmatch(path.stem):
+        raise refused(f"{path.stem} is no module's name: a letter and up to 30 letters, digits or underscores")
+    if not path.is_file():
+        raise refused(f"there is no file {path}")
+    return Module(path.stem, path.resolve().parent / path.name, is_object)
+
+
+def modules_of(words, objects=()):
+    """The modules that a command line names, in their order; `objects` are names or words among them."""
+    forms = {pathlib.Path(it).stem for it in objects}
+    names = [pathlib.Path(it).stem for it in words]
+    words = [*words, *(it for it in objects if pathlib.Path(it).stem not in names)]
+    modules = [module_of(it, pathlib.Path(it).stem in forms) for it in words]
+    for at, module in enumerate(modules):
+        if any(it.name == module.name for it in modules[:at]):
+            raise refused(f"module {module.name} is named twice")
+    return modules
+
+
+class View:
+    """A folder of its own that shows the files of the modules' folders by links, so that nothing of the user's changes.
+
+    Objects of modules that run as such are not shown: `compile` writes them here.
+    """
+    INPUT = "saber_input"
+
+    def __init__(self, modules, given=None):
+        self._room = tempfile.TemporaryDirectory(prefix="saber-")
+        self.folder = pathlib.Path(self._room.name)
+        self.modules, self.has_input = modules, given is not None
+        own = {f"{it.name}.c": it.path for it in modules}
+        hidden = {f"{it.name}.o" for it in modules}
+        for folder in dict.fromkeys(it.path.parent for it in modules):
+            for path in folder.iterdir():
+                if path.name not in hidden and FILE.fullmatch(path.name):
+                    self._link(own.get(path.name, path))
+        if self.has_input:
+            path = pathlib.Path(given)
+            if not path.is_file():
+                raise refused(f"there is no file {given}")
+            (self.folder / self.INPUT).symlink_to(path.resolve())
+
+    def _link(self, path):
+        link = self.folder / path.name
+        if not link.is_symlink():
+            link.symlink_to(path.resolve())
+        elif path.suffix == ".h" and link.read_bytes() != path.read_bytes():
+            raise refused(f"{link.resolve()} and {path} are two headers of one name")
+
+    def replace(self, name, text):
+        """Puts a text in the place of what the view shows under a name."""
+        (self.folder / name).unlink(missing_ok=True)
+        (self.folder / name).write_bytes(text)
+
+    def close(self):
+        self._room.cleanup()
+
+    def __enter__(self):
+        return self
+
+    def __exit__(self, *_):
+        self.close()
+
+
+@dataclass(frozen=True)
+class Setup:
+    """What every session of a tool begins with: the program, the view of the files, and the limits' words."""
+    program: pathlib.Path
+    view: View
+    options: tuple = field(default=())
+
+    @property
+    def run(self):
+        return f"run {View.INPUT}" if self.view.has_input else "run"
+
+    def start(self, *options, turns=MOST_TURNS):
+        """A session with every module loaded in its form."""
+        session = Session(self.program, self.view.folder, (*self.options, "--turns", str(turns), *options))
+        try:
+            for module in self.view.modules:
+                load(session, module)
+        except BaseException:
+            session.close()
+            raise
+        return session
+
+
+def load(session, module):
+    """Loads one module in its form, or raises its refusal."""
+    for command in (f"load {module.name}", *((f"compile {module.name}", f"swap {module.name} object") if module.is_object else ())):
+        answer = session.ask(command)
+        if answer.is_refused:
+            raise refused(f"{command}: {answer.text}")

@@ -1,0 +1,93 @@
+"""What the tools know of the texts of modules: lines, their original places, and the names on them."""
+import json
+import pathlib
+import re
+from dataclasses import dataclass
+
+KEYWORDS = frozenset("""auto break case char const continue default do double else enum extern float for goto if int long register
+return short signed sizeof static struct switch typedef union unsigned void volatile while""".split())
+# comments, strings and character constants, names, and any other character
+TOKEN = re.compile(r'/\*.*?(?:\*/|\Z)|"(?:\\.|[^"\\\n])*"|\'(?:\\.|[^\'\\\n])*\'|[A-Za-z_]\w*|\d[\w.]*|->|\n|[^\S\n]+|.', re.S)
+# A statement that goes on for longer is shown in part.
+MOST_LINES = 4
+
+
+@dataclass(frozen=True)
+class Place:
+    """A line of a file, and its text."""
+    file: str
+    line: int
+    text: str
+
+
+class Sources:
+    """The texts of modules, by name. A map `NAME.map.json` beside a module gives the places that its lines come from."""
+
+    def __init__(self, modules):
+        self._paths = {it.name: it.path for it in modules}
+        self._lines, self._maps = {}, {}
+
+    def lines(self, name):
+        """The lines of a module's text; none where the module is not known."""
+        if name not in self._lines:
+            path = self._paths.get(name)
+            self._lines[name] = lines_of(path) if path else []
+        return self._lines[name]
+
+    def line(self, name, number):
+        lines = self.lines(name)
+        return lines[number - 1] if 0 < number <= len(lines) else ""
+
+    def statement(self, name, number):
+        """The lines from this one on up to the end of the statement that begins on it, as it seems from its signs."""
+        found = []
+        for at in range(number, number + MOST_LINES):
+            found.append(self.line(name, at))
+            if re.search(r"[;{}]\s*(/\*.*\*/\s*)?$", found[-1]):
+                break
+        return [it for it in found if it.strip()]
+
+    def place(self, name, number):
+        """Where a line of a module comes from: by its map, else the module's own file and line."""
+        path = self._paths.get(name)
+        file, line = self._original(name, number) or (path.name if path else f"{name}.c", number)
+        own = path is None or file == path.name
+        lines = self.lines(name) if own else lines_of(path.parent / file)
+        text = lines[line - 1] if 0 < line <= len(lines) else self.line(name, number)
+        return Place(file, line, text.strip())
+
+    def _original(self, name, number):
+        if name not in self._maps:
+            self._maps[name] = read_map(self._paths.get(name))
+        for first, last, file, line in self._maps[name]:
+            if first <= number <= last:
+                return file, line + number - first
+        return None
+
+
+def lines_of(path):
+    """The lines of a file; none where it cannot be read, since a report is worth more than its source line."""
+    try:
+        return pathlib.Path(path).read_text(errors="replace").split("\n")
+    except OSError:
+        return []
+
+
+def read_map(path):
+    """The ranges (first line, last line, file, line) of the map beside a module; none where there is no map."""
+    try:
+        told = json.loads(path.with_name(path.stem + ".map.json").read_text())
+        return [(it["first"], it["last"], it["file"], it["line"]) for it in told["ranges"]]
+    except (OSError, ValueError, KeyError, TypeError, AttributeError):
+        return []
+
+
+def names_in(lines):
+    """The names that may stand for objects in a piece of C: in their order, without members, keywords and calls of names."""
+    tokens = [it for it in TOKEN.findall("\n".join(lines)) if not it.isspace() and not it.startswith("/*")]
+    found = []
+    for at, token in enumerate(tokens):
+        is_name = re.fullmatch(r"[A-Za-z_]\w*", token) and token not in KEYWORDS
+        if is_name and (at == 0 or tokens[at - 1] not in (".", "->")) and tokens[at + 1:at + 2] != ["("]:
+            found.append(token)
+    return list(dict.fromkeys(found))
