@@ -17,8 +17,8 @@ use Rattle.sc_meaning.specs.Violations.{load_rule, store_rule, free_rule, is_ove
 use Rattle.sc_meaning.specs.Versions.{History}
 use Rattle.sc_meaning.specs.Changes.{born, happened}
 use Rattle.sc_meaning.specs.Expressions.{Plain}
-use Rattle.sc_meaning.specs.Classes.{class_of}
-use Rattle.sc_meaning.specs.Library.{gives, value_at, argument_breach, out_of_range, byte_read, text_upto, past, text_at, writable, bytes_set, bytes_written, apart, shown, block_size, allocated, taken, given, given_back, block_size_at, block_tested}
+use Rattle.sc_meaning.specs.Classes.{class_of, block_size}
+use Rattle.sc_meaning.specs.Library.{gives, value_at, argument_breach, out_of_range, byte_read, text_upto, past, text_at, writable, bytes_set, bytes_written, apart, shown, allocated, taken, given, given_back, block_size_at, block_tested}
 use Rattle.sc_meaning.specs.Printf.{Printed, argument_in, argument, is_wrong, refused, greatest, signed, width_of, precision_of, counts_of, text_of, conversion_text, converted, piece_text, formatted, printf}
 use Rattle.sc_like.proofs.Pairs.{Pairs, Histories, read, objects_same, breach_same, access_same, same_done, done_as, stops, unless_goes, either_goes, either_as}
 use Rattle.sc_like.proofs.Leaves.{born_goes, set_alike}
