@@ -45,7 +45,7 @@ pub instruction_loads : (i : Image) (r middle s : Registers) (w : World) (need :
 instruction_loads i r middle s w need op rd at how begins is p =
     record { need = need; middle = middle; begins = begins; ends = subst (λ (n : Need). EndsSo n middle w how s w) (sym is) p }
 
-pub instruction_stores : (i : Image) (r middle s : Registers) (w v : World) (need : Need) (size at : ℕ) (word : Word) (how : Went) → ((memory : Flat) → Begins (rv_step (word_at i) (state_of r memory)) r memory middle need) → need ≡ Store size at word → Stores how (read_at w at size) middle s w v → Instruction i r w how s v
+pub instruction_stores : (i : Image) (r middle s : Registers) (w v : World) (need : Need) (size at : ℕ) (word : Word) (how : Went) → ((memory : Flat) → Begins (rv_step (word_at i) (state_of r memory)) r memory middle need) → need ≡ Store size at word → Stores how at size word middle s w v → Instruction i r w how s v
 instruction_stores i r middle s w v need size at word how begins is p =
     record { need = need; middle = middle; begins = begins; ends = subst (λ (n : Need). EndsSo n middle w how s v) (sym is) p }
 

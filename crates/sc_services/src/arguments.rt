@@ -105,7 +105,7 @@ pub fn arguments(count: u32, regs: &Regs, world: &World) -> Result<Option<Items<
 }
 
 // A word goes to the place on the stack of an argument past those in registers.
-#[tactic(auto, using(crate::proofs::Writing::kept, crate::proofs::Writing::one_more))]
+#[tactic(auto, using(crate::proofs::Writing::stores_write))]
 fn put_beyond(k: u32, word: Word, world: &mut World) -> Result<(), NoMemory>
     ensures { IfOk result (λ _. Writes world.old world.new) }
 {

@@ -16,7 +16,7 @@ const STUBS_END: u32 = STUBS + 8 * 65_536;
 
 // The tag of what stands at an address: of the live object that holds it, or of functions.
 fn tag_at(at: u32, world: &World) -> Option<u32>
-    ensures { MatchOption result (spec.is_stub at ≡ false) (λ tag. spec.IsTagAt world.now.objects at tag) }
+    ensures { MatchOption result (spec.is_stub at ≡ false) (λ tag. spec.IsTagAt world.now at tag) }
 {
     if STUBS <= at && at < STUBS_END && at % 8 == 0 {
         return Some(Word::FUNCTION);
