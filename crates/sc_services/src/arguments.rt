@@ -42,8 +42,9 @@ pub fn value_of(x: Word, world: &World) -> Result<Value, NoMemory>
 }
 
 // The word that stands for a value.
+#[tactic(auto, using(crate::proofs::Reading::word_is))]
 fn word_of(v: &Value, world: &World) -> Result<Word, NoMemory>
-    ensures { IfOk result (λ x. spec.stands x v.now ≡ true) }
+    ensures { IfOk result (λ x. spec.IsWordOf world.now v.now x) }
 {
     let x = world.word(v)?;
     if stands(x, v) { Ok(x) } else { Err(NoMemory) }
@@ -121,7 +122,7 @@ fn put_beyond(k: u32, word: Word, world: &mut World) -> Result<(), NoMemory>
 // Argument k goes to its register, or to its place on the stack.
 #[tactic(auto, using(crate::proofs::Writing::kept))]
 fn put_argument(k: u32, v: &Value, regs: &mut Regs, world: &mut World) -> Result<(), NoMemory>
-    ensures puts { IfOk result (λ _. spec.PutsOne k v.now regs.old regs.new) }
+    ensures puts { IfOk result (λ _. spec.PutsOne world.old k v.now regs.old regs.new) }
     ensures writes { IfOk result (λ _. Writes world.old world.new) }
     ensures few { k < 8 → IfOk result (λ _. world.new ≡ world.old) }
 {
@@ -136,7 +137,7 @@ fn put_argument(k: u32, v: &Value, regs: &mut Regs, world: &mut World) -> Result
 /// The arguments of a call that goes to compiled code are put where it finds them.
 #[tactic(auto, using(crate::proofs::Writing::kept, crate::proofs::Writing::one_more))]
 pub fn put_arguments(vs: &[Value], regs: &mut Regs, world: &mut World) -> Result<(), NoMemory>
-    ensures puts { IfOk result (λ _. spec.PutsArguments 0 vs.now regs.old regs.new) }
+    ensures puts { IfOk result (λ _. spec.PutsArguments world.old 0 vs.now regs.old regs.new) }
     ensures writes { IfOk result (λ _. Writes world.old world.new) }
     ensures few { length vs.now ≤ 8 → IfOk result (λ _. world.new ≡ world.old) }
 {
@@ -151,7 +152,7 @@ pub fn put_arguments(vs: &[Value], regs: &mut Regs, world: &mut World) -> Result
 
 /// The word of what a call gave: 0 where it gave no value.
 pub fn result_word(a: &Answer, world: &World) -> Result<Word, NoMemory>
-    ensures { IfOk result (λ x. spec.IsResult a.now x) }
+    ensures { IfOk result (λ x. spec.IsResult world.now a.now x) }
 {
     match &a.held {
         Held::Plain(v) => word_of(v, world),
