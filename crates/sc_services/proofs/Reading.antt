@@ -33,3 +33,8 @@ on_stack k r w (Some x) many is = beyond_them k r w many ∙ is
 pub word_is : (memory : Option Store) (functions : List Key) (v : Value) (x : Word) → IfSome memory (λ m. x ≡ word_of functions m.flat.objects v) → IfSome (option_map table_of memory) (λ table. x ≡ word_of functions table v)
 word_is None functions v x is = tt
 word_is (Some m) functions v x is = is
+
+-- a word that was found at an address
+pub found_there : (found : Option Word) (w : World) (at there : ℕ) → found ≡ read_at w at 4 → at ≡ there → IfSome found (λ x. read_at w there 4 ≡ Some x)
+found_there None w at there is same = tt
+found_there (Some x) w at there is same = ap (λ (n : ℕ). read_at w n 4) (sym same) ∙ sym is

@@ -54,17 +54,25 @@ fn word_of(v: &Value, world: &World) -> Result<Word, NoMemory>
 fn address_of(k: u32, world: &World) -> Option<u32>
     ensures { IfSome result (λ at. (8 ≤ k) × (at ≡ top world.now + 4 * (k - 8))) }
 {
-    let beyond = k.checked_sub(IN_REGISTERS)?;
-    let at = u64::from(stack_top(world)) + 4 * u64::from(beyond);
-    u32::try_from(at).ok()
+    if k < IN_REGISTERS {
+        return None;
+    }
+    let at = u64::from(stack_top(world)) + 4 * u64::from(k - IN_REGISTERS);
+    match u32::try_from(at) {
+        Ok(at) => Some(at),
+        Err(_) => None,
+    }
 }
 
 // An argument past those in registers, where it is inside the stack.
+#[tactic(auto, using(crate::proofs::Reading::found_there))]
 fn argument_beyond(k: u32, world: &World) -> Option<Word>
     ensures { IfSome result (λ x. read_at world.now (top world.now + 4 * (k - 8)) 4 ≡ Some x) }
 {
-    let at = address_of(k, world)?;
-    load_word(world, at)
+    match address_of(k, world) {
+        None => None,
+        Some(at) => load_word(world, at),
+    }
 }
 
 // The word of argument k, where it is there.

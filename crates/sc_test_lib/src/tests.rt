@@ -40,7 +40,7 @@ fn world_of(alloc: Global, first: &[u8], second: &[u8]) -> Result<World, NoMemor
         functions: Items::new(alloc),
         places: Names::new(alloc),
     };
-    let mut world = World::new(alloc, 64, 64, Items::new(alloc), layout)?;
+    let mut world = World::new(alloc, 64, 64, Items::new(alloc), layout, false)?;
     world.push(Frame {
         key: key(alloc, b"main")?,
         text: 1,
