@@ -36,6 +36,7 @@ fn told(step: Step) -> Went
     }
 }
 
+#[tactic(auto, using(crate::proofs::Running::loads_none, crate::proofs::Running::loads_some))]
 #[inline(always)]
 fn load(op: LoadOp, rd: u8, at: u32, regs: &mut Regs, world: &World) -> Went
     requires { rd < 32 }
