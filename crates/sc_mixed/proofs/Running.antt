@@ -8,7 +8,7 @@ use Rattle.sc_emu.specs.Registers.{Registers, with_word}
 use Rattle.sc_emu.specs.declared.beginning.Need.{Need}
 use Rattle.sc_emu.specs.declared.beginning.Need.TheVariants.{Done, Load, Store}
 use Rattle.sc_emu.specs.declared.outcome.Crash.{Crash}
-use Rattle.sc_emu.specs.declared.outcome.Crash.TheVariants as crash
+use Rattle.sc_emu.specs.declared.outcome.Crash.TheVariants as causes
 use Rattle.sc_emu.specs.declared.outcome.Step.{Step}
 use Rattle.sc_emu.specs.declared.outcome.Step.TheVariants as step
 use Rattle.sc_interp.specs.declared.stepped.Shown.TheVariants as shows
@@ -39,7 +39,7 @@ use Rattle.sc_mixed.specs.declared.execute.Went.TheVariants as went
 -- ---- a load
 
 pub loads_none : (w : World) (at size bytes : ℕ) (found : Option Word) (op : LoadOp) (rd : ℕ) (r s : Registers) → size ≡ bytes → found ≡ read_at w at size → found ≡ None → s ≡ r
-    → Loads (went.Stopped crash.Outside) (read_at w at bytes) (λ x. record { pc = sum r.pc 4; words = with_word r.words rd (loaded op x) }) r s w w
+    → Loads (went.Stopped causes.Outside) (read_at w at bytes) (λ x. record { pc = sum r.pc 4; words = with_word r.words rd (loaded op x) }) r s w w
 loads_none w at size bytes found op rd r s same is none stays = (refl, ap (read_at w at) (sym same) ∙ sym is ∙ none, stays, refl)
 
 pub loads_some : (w : World) (at size bytes : ℕ) (found : Option Word) (x : Word) (op : LoadOp) (rd : ℕ) (r s : Registers) → size ≡ bytes → found ≡ read_at w at size → found ≡ Some x → s ≡ record { pc = sum r.pc 4; words = with_word r.words rd (loaded op x) }
