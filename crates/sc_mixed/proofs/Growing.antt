@@ -57,7 +57,7 @@ use Rattle.sc_world.specs.Wants.{Want}
 use Rattle.sc_world.specs.declared.halt.Halt.{Halt}
 use Rattle.sc_world.proofs.Courses.{world_there}
 use Rattle.sc_mixed.specs.Adding.{Adds}
-use Rattle.sc_mixed.proofs.Adding.{adds_or, aside, happened, on_adds}
+use Rattle.sc_mixed.proofs.Adding.{adds_or, aside, happened, kept_room, on_adds}
 use Rattle.sc_mixed.specs.Bridge.{Calling, Returns, with_registers}
 use Rattle.sc_mixed.specs.Goes.{Goes, Leads, Reaches, leads_lost, leads_on, leads_over, lost_at, reaches_further, reaches_here, rested, rested_by, rested_in, rests, rests_at}
 use Rattle.sc_mixed.specs.Instructions.{EndsSo, Instruction, Loads, Stores}
@@ -98,7 +98,7 @@ over_at {A = A} w r e is l = subst (λ (x : Outcome A). Happen w (world_after x)
 
 one_written : (p : Written) (w : World) → Adds w (written p w)
 one_written (InObject id offset cells) w = happened w (pass (Put id offset cells) w) (one_more (Put id offset cells) w)
-one_written (BesideAll at size word) w = aside w (written (BesideAll at size word) w) refl
+one_written (BesideAll at size word) w = aside w (written (BesideAll at size word) w) refl (kept_room at size word w.beside.memory)
 
 are_written : (ps : List Written) (w v : World) → AreWritten ps w v → Adds w v
 are_written [] w v is = stays w v is
