@@ -1,5 +1,5 @@
 -- Words that are read from memory.
-use Rattle.std.proofs.Common.{◌≡◌, ◌+◌, ◌-◌, ◌*◌, ◌<◌, ◌≤◌, ℕ, Bool, true, false, if◌then◌else◌, List, Option, Some, None, IfSome, option_map, ap, sym, ◌∙◌}
+use Rattle.std.proofs.Common.{◌≡◌, ◌+◌, ◌-◌, ◌*◌, ◌<◌, ◌≤◌, ℕ, Bool, true, false, if◌then◌else◌, List, Option, Some, None, IfSome, option_map, ap, sym, subst, ◌∙◌}
 use Rattle.std.specs.Prelude.{MatchOption, nat_lt}
 use Rattle.std.proofs.lemmas.Bool.{cond-false, cond-true, le-ltb, lt-ltb}
 use Rattle.sc_base.specs.declared.key.Key.{Key}
@@ -9,10 +9,11 @@ use Rattle.sc_mem.specs.Flat.{raw_read}
 use Rattle.sc_mem.specs.Safe.{Store}
 use Rattle.sc_meaning.specs.Beside.{word_of}
 use Rattle.sc_meaning.specs.Values.{Value}
-use Rattle.sc_meaning.specs.World.{World}
+use Rattle.sc_meaning.specs.World.{World, Object, object_at}
 use Rattle.sc_services.specs.Arguments.{argument_word}
 use Rattle.sc_services.specs.Frames.{stack_top}
-use Rattle.sc_services.specs.Memory.{read_at, read_in, table_of}
+use Rattle.sc_services.specs.Memory.{StandsAt, read_at, read_in, size_in, table_of}
+use Rattle.sc_services.specs.Tagging.{IsByteOf, IsTag, IsTagAt, is_stub}
 
 pub read_is : (memory : Option Store) (at n : ℕ) (found : Option Word) → MatchOption memory (found ≡ None) (λ m. found ≡ raw_read m.flat at n) → found ≡ read_in memory at n
 read_is None at n found is = is
@@ -38,3 +39,14 @@ word_is (Some m) functions v x is = is
 pub found_there : (found : Option Word) (w : World) (at there : ℕ) → found ≡ read_at w at 4 → at ≡ there → IfSome found (λ x. read_at w there 4 ≡ Some x)
 found_there None w at there is same = tt
 found_there (Some x) w at there is same = ap (λ (n : ℕ). read_at w n 4) (sym same) ∙ sym is
+
+-- how many bytes an object has
+pub size_none : (os here : List Object) (id : ℕ) → here ≡ os → object_at here id ≡ None → 0 ≡ size_in (object_at os id)
+size_none os here id same is = ap size_in (sym is ∙ ap (λ (xs : List Object). object_at xs id) same)
+
+pub size_some : (os here : List Object) (id : ℕ) (o : Object) → here ≡ os → object_at here id ≡ Some o → o.size ≡ size_in (object_at os id)
+size_some os here id o same is = ap size_in (sym is ∙ ap (λ (xs : List Object). object_at xs id) same)
+
+-- the tag of what stands at an address that is no stub's
+pub tag_here : (w : World) (at id offset : ℕ) → is_stub at ≡ false → IsByteOf w.objects id offset → StandsAt w id offset at → IsTagAt w at id
+tag_here w at id offset no lives there = subst (λ (b : Bool). IsTag b w at id) (sym no) (offset, lives, there)

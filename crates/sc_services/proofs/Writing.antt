@@ -1,5 +1,5 @@
 -- What is written one after another.
-use Rattle.std.proofs.Common.{◌≡◌, ℕ, ◌==◌, Bool, true, false, IfOk, Result, Ok, Err, List, [], ◌∷◌, ◌++◌, subst, sym, ap, refl, Option, Some, None, option_map}
+use Rattle.std.proofs.Common.{◌≡◌, ℕ, ◌==◌, Bool, true, false, IfOk, Result, Ok, Err, List, [], ◌∷◌, ◌++◌, subst, sym, ap, refl, ◌∙◌, Option, Some, None, option_map}
 use Rattle.std.specs.Prelude.{IfSome, IsSome, MatchOption}
 use Rattle.sc_base.specs.declared.memory.Word.{Word}
 use Rattle.sc_mem.specs.Flat.{aligned_place, raw_read}
@@ -55,10 +55,10 @@ one_beside at n word old new can is = record { bytes = BesideAll at n word ∷ [
 
 -- ---- a store
 
-pub stored_inside : {A E : Type 0} (result : Result A E) (at n id offset : ℕ) (word : Word) (v : Value) (old new : World) → IsByteOf old.objects id offset × StandsAt old id offset at → IsStoredBy (n == 4) word old v
-    → IfOk result (λ _. new ≡ pass (Put id offset (cells_of n v)) old) → IfOk result (λ _. StoresAt at n word old new)
-stored_inside (Ok a) at n id offset word v old new h k is = InsideObject id offset v h.0 h.1 k is
-stored_inside (Err e) at n id offset word v old new h k is = is
+pub stored_inside : {A E : Type 0} (result : Result A E) (at n many id offset : ℕ) (word : Word) (v : Value) (old new : World) → IsByteOf old.objects id offset × StandsAt old id offset at → IsStoredBy (n == 4) word old v → many ≡ n
+    → IfOk result (λ _. new ≡ pass (Put id offset (cells_of many v)) old) → IfOk result (λ _. StoresAt at n word old new)
+stored_inside (Ok a) at n many id offset word v old new h k same is = InsideObject id offset v h.0 h.1 k (is ∙ ap (λ (m : ℕ). pass (Put id offset (cells_of m v)) old) same)
+stored_inside (Err e) at n many id offset word v old new h k same is = is
 
 pub stored_over : {A E : Type 0} (result : Result A E) (at n id offset : ℕ) (word : Word) (old new : World) → StandsAt old id offset at × (has_bytes old.objects id offset n ≡ false) → IfOk result (λ _. Writes old new) → IfOk result (λ _. StoresAt at n word old new)
 stored_over (Ok a) at n id offset word old new h is = OverItsEnd id offset h.0 h.1 is

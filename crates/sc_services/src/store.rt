@@ -13,6 +13,7 @@ use sc_interp_world::{Cell, Place, World, object_at};
 use sc_meaning_values::Value;
 
 // How many bytes an object has.
+#[tactic(auto, using(crate::proofs::Reading::size_none, crate::proofs::Reading::size_some))]
 fn size_of(id: u32, world: &World) -> u32
     ensures { result ≡ size_in (object_in world.now.objects id) }
 {

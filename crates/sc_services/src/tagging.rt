@@ -15,6 +15,7 @@ const STUBS: u32 = 0x0001_0000;
 const STUBS_END: u32 = STUBS + 8 * 65_536;
 
 // The tag of what stands at an address: of the live object that holds it, or of functions.
+#[tactic(auto, using(crate::proofs::Reading::tag_here))]
 fn tag_at(at: u32, world: &World) -> Option<u32>
     ensures { MatchOption result (spec.is_stub at ≡ false) (λ tag. spec.IsTagAt world.now at tag) }
 {
