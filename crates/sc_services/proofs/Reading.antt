@@ -1,6 +1,6 @@
 -- Words that are read from memory.
 use Rattle.std.proofs.Common.{◌≡◌, ◌+◌, ◌-◌, ◌*◌, ◌<◌, ◌≤◌, ℕ, Bool, true, false, if◌then◌else◌, List, Option, Some, None, IfSome, option_map, ap, sym, subst, ◌∙◌}
-use Rattle.std.specs.Prelude.{MatchOption, nat_lt}
+use Rattle.std.specs.Prelude.{IsSome, MatchOption, is_some, nat_lt}
 use Rattle.std.proofs.lemmas.Bool.{cond-false, cond-true, le-ltb, lt-ltb}
 use Rattle.sc_base.specs.declared.key.Key.{Key}
 use Rattle.sc_base.specs.declared.memory.Word.{Word}
@@ -49,4 +49,8 @@ size_some os here id o same is = ap size_in (sym is ∙ ap (λ (xs : List Object
 
 -- the tag of what stands at an address that is no stub's
 pub tag_here : (w : World) (at id offset : ℕ) → is_stub at ≡ false → IsByteOf w.objects id offset → StandsAt w id offset at → IsTagAt w at id
-tag_here w at id offset no lives there = subst (λ (b : Bool). IsTag b w at id) (sym no) (offset, lives, there)
+tag_here w at id offset off lives there = subst (λ (b : Bool). IsTag b w at id) (sym off) (offset, lives, there)
+
+-- a word is there
+pub is_there : (found there : Option Word) (x : Word) → found ≡ there → found ≡ Some x → IsSome there
+is_there found there x same is = ap is_some (sym same) ∙ ap is_some is

@@ -33,7 +33,7 @@ put_ok (Err e) id at offset cells old new h k = k
 
 can_read_at : {A B : Type 0} (place : Option A) (f : A → B) → IsSome place → IsSome (option_map f place)
 can_read_at None f there = there
-can_read_at (Some i) f there = tt
+can_read_at (Some i) f there = refl
 
 can_read : (memory : Option Store) (at n : ℕ) → MatchOption memory ⊥ (λ m. IsSome (aligned_place m.flat at n) × IsBare m.flat.objects at) → IsSome (read_in memory at n) × IfSome memory (λ m. IsBare m.flat.objects at)
 can_read None at n there = absurd there
@@ -76,3 +76,8 @@ pub stores_write : (at n : ℕ) (word : Word) (old new : World) → StoresAt at 
 stores_write at n word old new (BesideObjects can is) = one_beside at n word old new can is
 stores_write at n word old new (InsideObject id offset v h k s is) = one_put id offset offset (cells_of n v) old new h is
 stores_write at n word old new (OverItsEnd id offset k few h) = h
+
+pub stored_so : (done : Option (Unit {0})) (u : Unit {0}) (at n : ℕ) (word : Word) (old new : World) → done ≡ Some u → StoresIfThere done at n word old new → Writes old new
+stored_so done u at n word old new is h =
+    let k : IsSome (read_at old at n) × StoresAt at n word old new = subst (λ (d : Option (Unit {0})). StoresIfThere d at n word old new) is h in
+    stores_write at n word old new k.1

@@ -54,7 +54,8 @@ fn store_inside(
     ensures { IfOk result (λ _. StoresAt at size word world.old world.new) }
 {
     let v = stored(size, word, world)?;
-    world.store(place.id, place.offset, u32::from(size), &v)
+    let many = u32::from(size);
+    world.store(place.id, place.offset, many, &v)
 }
 
 /// One byte is put at an address inside the areas, into the live object there or beside all objects. Beside them a piece of a
