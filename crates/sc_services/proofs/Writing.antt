@@ -77,7 +77,7 @@ stores_write at n word old new (BesideObjects can is) = one_beside at n word old
 stores_write at n word old new (InsideObject id offset v h k s is) = one_put id offset offset (cells_of n v) old new h is
 stores_write at n word old new (OverItsEnd id offset k few h) = h
 
-pub stored_so : (done : Option (Unit {0})) (u : Unit {0}) (at n : ℕ) (word : Word) (old new : World) → done ≡ Some u → StoresIfThere done at n word old new → Writes old new
-stored_so done u at n word old new is h =
+pub stored_so : (what : Option (Unit {0})) (u : Unit {0}) (at n : ℕ) (word : Word) (old new : World) → what ≡ Some u → StoresIfThere what at n word old new → Writes old new
+stored_so what u at n word old new is h =
     let k : IsSome (read_at old at n) × StoresAt at n word old new = subst (λ (d : Option (Unit {0})). StoresIfThere d at n word old new) is h in
     stores_write at n word old new k.1
