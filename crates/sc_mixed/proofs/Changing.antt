@@ -17,13 +17,22 @@ use Rattle.sc_world.specs.Standing.{standing}
 use Rattle.sc_world.specs.Standing.{Standing as Alone}
 use Rattle.sc_world.specs.declared.count.Count.{Count}
 use Rattle.sc_world.specs.declared.course.Course.{Course as Went}
-use Rattle.sc_mixed.specs.Changing.{Changes, ChangesIf, ChangesTo, IsPlaced, IsTakenFrom, goes_on, is_short, taken_calls, taken_course}
+use Rattle.sc_mixed.specs.Changing.{Changes, ChangesIf, ChangesTo, IsPlaced, IsTakenFrom, course_by, goes_on, is_short, taken_calls, taken_course}
 use Rattle.sc_mixed.specs.Standing.{Standing, standing_over, stopped_so}
 use Rattle.sc_mixed.specs.declared.calls.Calls.{Calls}
 use Rattle.sc_mixed.specs.declared.course.Course.{Course}
+use Rattle.sc_mixed.specs.declared.course.Course.TheVariants as way
 use Rattle.sc_mixed.specs.declared.ended.MixedEnd.TheVariants.{Meant}
 
-pub is_taken : (run : Option Alone) (i : Image) (course : Went) (cs : List Caller) (w v : World) (c : Count) (calls : Calls) (next : Course) → standing course cs w c ≡ run → v ≡ record w { beside = v.beside } → calls ≡ taken_calls cs → next ≡ taken_course course
+pub seen_course : (memory : Option Store) (shown : Bool) (course : Went) → MatchOption memory (shown ≡ false) (λ _. shown ≡ true) → shown ≡ true → taken_course course ≡ course_by memory course
+seen_course None shown course is yes = absurd (true≢false (sym yes ∙ is))
+seen_course (Some m) shown course is yes = refl
+
+pub unseen_course : (memory : Option Store) (shown : Bool) (course : Went) → MatchOption memory (shown ≡ false) (λ _. shown ≡ true) → shown ≡ false → way.Over (Meant ended.NoRoom) ≡ course_by memory course
+unseen_course None shown course is no = refl
+unseen_course (Some m) shown course is no = absurd (true≢false (sym is ∙ no))
+
+pub is_taken : (run : Option Alone) (i : Image) (course : Went) (cs : List Caller) (w v : World) (c : Count) (calls : Calls) (next : Course) → standing course cs w c ≡ run → v ≡ record w { beside = v.beside } → calls ≡ taken_calls cs → next ≡ course_by v.beside.memory course
     → IsTakenFrom run i (record { world = v; image = i; calls = calls; course = next })
 is_taken run i course cs w v c calls next stood seen one two = record {
   course = course;

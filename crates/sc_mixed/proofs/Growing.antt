@@ -46,6 +46,7 @@ use Rattle.sc_services.specs.Entering.{Enters, EntersAt, EntersBlock, EntersCall
 use Rattle.sc_services.specs.Frames.{is_on_stack}
 use Rattle.sc_services.specs.Leaving.{Leaves, cost_here}
 use Rattle.sc_services.specs.Writing.{AreWritten, BesideAll, InObject, Writes, Written, written}
+use Rattle.sc_services.proofs.Writing.{stores_write}
 use Rattle.sc_services.specs.declared.copying.Copied.TheVariants as copied
 use Rattle.sc_services.specs.declared.entering.Entered.{Entered}
 use Rattle.sc_services.specs.declared.entering.Entered.TheVariants as entering
@@ -56,7 +57,7 @@ use Rattle.sc_world.specs.Wants.{Want}
 use Rattle.sc_world.specs.declared.halt.Halt.{Halt}
 use Rattle.sc_world.proofs.Courses.{world_there}
 use Rattle.sc_mixed.specs.Adding.{Adds}
-use Rattle.sc_mixed.proofs.Adding.{adds_or, aside, happened, on_adds}
+use Rattle.sc_mixed.proofs.Adding.{adds_or, aside, happened, kept_room, on_adds}
 use Rattle.sc_mixed.specs.Bridge.{Calling, Returns, with_registers}
 use Rattle.sc_mixed.specs.Goes.{Goes, Leads, Reaches, leads_lost, leads_on, leads_over, lost_at, reaches_further, reaches_here, rested, rested_by, rested_in, rests, rests_at}
 use Rattle.sc_mixed.specs.Instructions.{EndsSo, Instruction, Loads, Stores}
@@ -97,7 +98,7 @@ over_at {A = A} w r e is l = subst (λ (x : Outcome A). Happen w (world_after x)
 
 one_written : (p : Written) (w : World) → Adds w (written p w)
 one_written (InObject id offset cells) w = happened w (pass (Put id offset cells) w) (one_more (Put id offset cells) w)
-one_written (BesideAll at size word) w = aside w (written (BesideAll at size word) w) refl
+one_written (BesideAll at size word) w = aside w (written (BesideAll at size word) w) refl (kept_room at size word w.beside.memory)
 
 are_written : (ps : List Written) (w v : World) → AreWritten ps w v → Adds w v
 are_written [] w v is = stays w v is
@@ -106,9 +107,9 @@ are_written (p ∷ ps) w v (can, more) = on_adds w (written p w) v (one_written 
 writes_lead : (w v : World) → Writes w v → Adds w v
 writes_lead w v p = are_written p.bytes w v p.are
 
-copies_lead : (n : ℕ) (w v : World) → Copies n w v → Adds w v
-copies_lead n w v (InObjects to at from off p q is) = happened w v (Copy to at from off n ∷ [], is)
-copies_lead n w v (ByBytes p) = writes_lead w v p
+copies_lead : (target source n : ℕ) (w v : World) → Copies target source n w v → Adds w v
+copies_lead target source n w v (InObjects to at from off p q is) = happened w v (Copy to at from off n ∷ [], is)
+copies_lead target source n w v (ByBytes p) = writes_lead w v p
 
 slots_born_lead : (slots : List Slot) (ids : List ℕ) (w : World) → Happen w (world_after (slots_born slots ids w))
 slots_born_lead [] ids w = here w
@@ -253,7 +254,7 @@ ends_lead (need.Load op rd at) middle w (how.Stopped crash) s v some p = stays w
 ends_lead (need.Load op rd at) middle w (how.Asks n) s v some p = absurd p
 ends_lead (need.Load op rd at) middle w how.Returned s v some p = absurd p
 ends_lead (need.Load op rd at) middle w how.NoRoom s v some p = absurd p
-ends_lead (need.Store size at word) middle w how.On s v some p = writes_lead w v p.2
+ends_lead (need.Store size at word) middle w how.On s v some p = writes_lead w v (stores_write at size word w v p.2)
 ends_lead (need.Store size at word) middle w (how.Stopped crash) s v some p = stays w v p.3
 ends_lead (need.Store size at word) middle w how.NoRoom s v some p = absurd (some refl)
 ends_lead (need.Store size at word) middle w (how.Asks n) s v some p = absurd p
@@ -278,7 +279,7 @@ served_lead serving.Call texts i c w moved next d v p =
 served_lead serving.Enter texts i c w moved next d v p = happened w v (enters_lead texts i c.regs w v p.0.0 p.0.1)
 served_lead serving.Leave texts i c w moved next d v p = happened w v (leaves_lead (register c.regs 6).bits (cost_here i c.regs) w v p.0.2.1.0 p.0.2.1.1)
 served_lead serving.Tag texts i c w moved next d v p = stays w v p.1
-served_lead serving.Copy texts i c w moved next d v p = copies_lead p.0.0 w v p.0.1.2
+served_lead serving.Copy texts i c w moved next d v p = copies_lead (register c.regs 10).bits (register c.regs 11).bits p.0.0 w v p.0.1.2
 served_lead serving.Fall texts i c w moved next d v p = happened w v (leaves_lead 0 (cost_here i c.regs) w v p.0.1.0 p.0.1.1)
 served_lead serving.Unknown texts i c w moved next d v p = absurd p.0
 

@@ -8,6 +8,7 @@ use Rattle.sc_emu.specs.Registers.{Registers, with_word}
 use Rattle.sc_emu.specs.declared.beginning.Need.{Need}
 use Rattle.sc_emu.specs.declared.beginning.Need.TheVariants.{Done, Load, Store}
 use Rattle.sc_emu.specs.declared.outcome.Crash.{Crash}
+use Rattle.sc_emu.specs.declared.outcome.Crash.TheVariants as causes
 use Rattle.sc_emu.specs.declared.outcome.Step.{Step}
 use Rattle.sc_emu.specs.declared.outcome.Step.TheVariants as step
 use Rattle.sc_interp.specs.declared.stepped.Shown.TheVariants as shows
@@ -35,6 +36,16 @@ use Rattle.sc_mixed.specs.declared.calls.Next.{Next}
 use Rattle.sc_mixed.specs.declared.execute.Went.{Went}
 use Rattle.sc_mixed.specs.declared.execute.Went.TheVariants as went
 
+-- ---- a load
+
+pub loads_none : (w : World) (at size bytes : ℕ) (found : Option Word) (op : LoadOp) (rd : ℕ) (r s : Registers) → size ≡ bytes → found ≡ read_at w at size → found ≡ None → s ≡ r
+    → Loads (went.Stopped causes.Outside) (read_at w at bytes) (λ x. record { pc = sum r.pc 4; words = with_word r.words rd (loaded op x) }) r s w w
+loads_none w at size bytes found op rd r s same is none stays = (refl, ap (read_at w at) (sym same) ∙ sym is ∙ none, stays, refl)
+
+pub loads_some : (w : World) (at size bytes : ℕ) (found : Option Word) (x : Word) (op : LoadOp) (rd : ℕ) (r s : Registers) → size ≡ bytes → found ≡ read_at w at size → found ≡ Some x → s ≡ record { pc = sum r.pc 4; words = with_word r.words rd (loaded op x) }
+    → Loads went.On (read_at w at bytes) (λ x. record { pc = sum r.pc 4; words = with_word r.words rd (loaded op x) }) r s w w
+loads_some w at size bytes found x op rd r s same is some puts = ((x, ap (read_at w at) (sym same) ∙ sym is ∙ some, puts), refl)
+
 -- ---- one instruction
 
 pub instruction_done : (i : Image) (r s : Registers) (w : World) (need : Need) (now : Step) (how : Went) → ((memory : Flat) → Begins (rv_step (word_at i) (state_of r memory)) r memory s need) → need ≡ Done now → how ≡ told now → Instruction i r w how s w
@@ -45,7 +56,7 @@ pub instruction_loads : (i : Image) (r middle s : Registers) (w : World) (need :
 instruction_loads i r middle s w need op rd at how begins is p =
     record { need = need; middle = middle; begins = begins; ends = subst (λ (n : Need). EndsSo n middle w how s w) (sym is) p }
 
-pub instruction_stores : (i : Image) (r middle s : Registers) (w v : World) (need : Need) (size at : ℕ) (word : Word) (how : Went) → ((memory : Flat) → Begins (rv_step (word_at i) (state_of r memory)) r memory middle need) → need ≡ Store size at word → Stores how (read_at w at size) middle s w v → Instruction i r w how s v
+pub instruction_stores : (i : Image) (r middle s : Registers) (w v : World) (need : Need) (size at : ℕ) (word : Word) (how : Went) → ((memory : Flat) → Begins (rv_step (word_at i) (state_of r memory)) r memory middle need) → need ≡ Store size at word → Stores how at size word middle s w v → Instruction i r w how s v
 instruction_stores i r middle s w v need size at word how begins is p =
     record { need = need; middle = middle; begins = begins; ends = subst (λ (n : Need). EndsSo n middle w how s v) (sym is) p }
 

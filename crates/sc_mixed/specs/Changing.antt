@@ -1,13 +1,15 @@
 -- Yardstick: to be compared with what it restates (docs/TRUST.md).
 -- A run of both forms whose texts become others; and a run of interpreted modules that becomes one of both forms.
-use Rattle.std.specs.Prelude.{◌≡◌, if◌then◌else◌, Bool, true, false, List, [], ◌∷◌, ◌++◌, flat_map, Option, Some}
+use Rattle.std.specs.Prelude.{◌≡◌, if◌then◌else◌, Bool, true, false, List, [], ◌∷◌, ◌++◌, flat_map, Option, None, Some}
 use Rattle.sc_base.specs.declared.key.Key.{Key}
 use Rattle.sc_interp.specs.Ends.{end_of}
 use Rattle.sc_interp_access.specs.declared.ended.Ended.{Ended}
+use Rattle.sc_interp_access.specs.declared.ended.Ended.TheVariants.{NoRoom}
 use Rattle.sc_interp_access.specs.declared.stop.Stop.{Stop}
 use Rattle.sc_interp_access.specs.declared.stop.Stop.TheVariants as stop
 use Rattle.sc_interp_machine.specs.Runs.{Caller}
 use Rattle.sc_isa_image.specs.declared.image.Image.{Image}
+use Rattle.sc_mem.specs.Safe.{Store}
 use Rattle.sc_meaning.specs.Changes.{changed}
 use Rattle.sc_meaning.specs.Outcomes as outcomes
 use Rattle.sc_meaning.specs.Outcomes.{Outcome, Done}
@@ -72,6 +74,11 @@ abbrev pub taken_course : Went → Course
 taken_course (went.On going now) = On (Steps going) now
 taken_course (went.Over ended) = Over (Meant ended)
 
+-- where the objects have no places in memory the run is over for want of it
+abbrev pub course_by : Option Store → Went → Course
+course_by None course = Over (Meant NoRoom)
+course_by (Some memory) course = taken_course course
+
 abbrev pub taken_calls : List Caller → Calls
 taken_calls cs = record no_calls { callers = cs }
 
@@ -84,4 +91,4 @@ pub record IsTakenFrom (run : Option Alone) (i : Image) (m : Standing) : Type 0 
   pub world : World
   pub stood : run ≡ standing course callers world count
   pub same : m.world ≡ record world { beside = m.world.beside }
-  pub stands : m ≡ record { world = m.world; image = i; calls = taken_calls callers; course = taken_course course }
+  pub stands : m ≡ record { world = m.world; image = i; calls = taken_calls callers; course = course_by m.world.beside.memory course }

@@ -109,15 +109,15 @@ CallsCode i (going.Makes t x xs caller) c w next d v = CallsValue i x xs (with_c
 CallsCode i (going.Runs doing ss env a) c w next d v = ⊥
 CallsCode i (going.Answers a) c w next d v = ⊥
 
-abbrev pub GivesAnswer : Going → Calls → Next → Calls → Type 0
-GivesAnswer (going.Answers a) c next d = GivesBack a c.lower c next d
-GivesAnswer (going.Runs doing ss env a) c next d = ⊥
-GivesAnswer (going.Makes t x xs caller) c next d = ⊥
+abbrev pub GivesAnswer : World → Going → Calls → Next → Calls → Type 0
+GivesAnswer w (going.Answers a) c next d = GivesBack w a c.lower c next d
+GivesAnswer w (going.Runs doing ss env a) c next d = ⊥
+GivesAnswer w (going.Makes t x xs caller) c next d = ⊥
 
 abbrev pub Crosses : Way → Image → Going → Calls → World → Next → Calls → World → Type 0
 Crosses Stays i g c w next d v = ⊥
 Crosses ToCode i g c w next d v = CallsCode i g c w next d v
-Crosses Back i g c w next d v = GivesAnswer g c next d × (v ≡ w)
+Crosses Back i g c w next d v = GivesAnswer w g c next d × (v ≡ w)
 
 abbrev pub CrossesIfRoom : Way → Image → Going → Calls → World → Result Moved Break → Next → Calls → World → Type 0
 CrossesIfRoom way i g c w (Ok moved) next d v = (moved ≡ quiet) × Crosses way i g c w next d v

@@ -224,6 +224,19 @@ fn taken_course(course: Went) -> Course
     }
 }
 
+// The same where the objects have places in memory now; else the run is over.
+#[tactic(auto, using(crate::proofs::Changing::seen_course, crate::proofs::Changing::unseen_course))]
+fn course_of(course: Went, world: &World) -> Course
+    ensures { result ≡ spec.course_by world.now.beside.memory course }
+{
+    if world.shows_memory() {
+        taken_course(course)
+    } else {
+        drop(course);
+        Course::Over(MixedEnd::Meant(Ended::NoRoom))
+    }
+}
+
 // The callers of a run, and no compiled call.
 fn taken_calls(alloc: Global, callers: Stack<Caller>) -> Calls
     ensures { result ≡ spec.taken_calls callers }
@@ -246,11 +259,12 @@ fn taken(alloc: Global, run: Run, image: Image) -> MixedRun
     } = run.apart();
     let _ = count;
     world.reveal();
+    let course = course_of(course, &world);
     MixedRun {
         world,
         image,
         calls: taken_calls(alloc, callers),
-        course: taken_course(course),
+        course,
     }
 }
 

@@ -36,6 +36,7 @@ fn told(step: Step) -> Went
     }
 }
 
+#[tactic(auto, using(crate::proofs::Running::loads_none, crate::proofs::Running::loads_some))]
 #[inline(always)]
 fn load(op: LoadOp, rd: u8, at: u32, regs: &mut Regs, world: &World) -> Went
     requires { rd < 32 }
@@ -52,7 +53,7 @@ fn load(op: LoadOp, rd: u8, at: u32, regs: &mut Regs, world: &World) -> Went
 
 fn store(size: u8, at: u32, word: Word, regs: &mut Regs, world: &mut World) -> Went
     requires { IsSize size }
-    ensures { spec.Stores result (read_at world.old at size) regs.old regs.new world.old world.new }
+    ensures { spec.Stores result at size word regs.old regs.new world.old world.new }
 {
     match store_word(at, size, word, world) {
         Ok(None) => Went::Stopped(Crash::Outside),

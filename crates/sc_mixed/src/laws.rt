@@ -26,7 +26,7 @@ pub fn interpreted_programs_go_as_before()
 {}
 
 /// A move behind which the run goes on adds some things that happen to what happened before, and nothing else makes its world another, but
-/// for words of memory beside all objects; so does a go, but one in which no room was left for the run.
+/// for words of memory beside all objects; and memory stays as large as it is. So does a go, but one in which no room was left for the run.
 #[tactic(auto, using(crate::proofs::Growing::moves_lead, crate::proofs::Growing::goes_lead))]
 pub fn moves_add_to_what_happened()
     ensures moves { (texts : List Text) (i : Image) (next after : Coming) (c d : Calls) (w v : World) (moved : Moved) → Moves texts i next c w (Ok moved) after d v → Adds w v }

@@ -32,7 +32,7 @@ module _ (count : ℕ) (r : Registers) (w : World) (vs : List Value) (x : Word) 
   one_more = record { many = let c = first.many in length_push vs v ∙ ap (λ (n : ℕ). n + 1) c; each = λ k y p. each_more k y (got_last vs v y k p) }
 
 -- an argument is put, and the rest behind it
-pub puts_on : (i : ℕ) (vs : List Value) (v : Value) (first r q : Registers) → i < length vs → v ≡ get_or vs i v → PutsOne i v r q → ((s : Registers) → PutsArguments i (drop i vs) r s → PutsArguments 0 vs first s) → (s : Registers) → PutsArguments (i + 1) (drop (i + 1) vs) q s → PutsArguments 0 vs first s
-puts_on i vs v first r q inside at one on s p =
+pub puts_on : (w : World) (i : ℕ) (vs : List Value) (v : Value) (first r q : Registers) → i < length vs → v ≡ get_or vs i v → PutsOne w i v r q → ((s : Registers) → PutsArguments w i (drop i vs) r s → PutsArguments w 0 vs first s) → (s : Registers) → PutsArguments w (i + 1) (drop (i + 1) vs) q s → PutsArguments w 0 vs first s
+puts_on w i vs v first r q inside at one on s p =
     let is : drop i vs ≡ v ∷ drop (i + 1) vs = drop_more vs i v inside ∙ ap (λ (y : Value). y ∷ drop (i + 1) vs) (sym at) in
-    on s (subst (λ (xs : List Value). PutsArguments i xs r s) (sym is) (one.0, one.1, subst (λ (t : Registers). PutsArguments (i + 1) (drop (i + 1) vs) t s) one.2 p))
+    on s (subst (λ (xs : List Value). PutsArguments w i xs r s) (sym is) (one.0, one.1, subst (λ (t : Registers). PutsArguments w (i + 1) (drop (i + 1) vs) t s) one.2 p))

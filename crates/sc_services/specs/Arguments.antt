@@ -12,7 +12,7 @@ use Rattle.sc_meaning.specs.Versions.{Callee, Missing, InText, InLibrary}
 use Rattle.sc_meaning.specs.World.{World}
 use Rattle.sc_meaning.specs.declared.library.LibFun.{LibFun}
 use Rattle.sc_services.specs.Frames.{is_object, stack_top}
-use Rattle.sc_services.specs.Memory.{IsValueAt, read_at}
+use Rattle.sc_services.specs.Memory.{IsValueAt, IsWordAt, read_at}
 
 -- A word stands for a number exactly where it has no tag, and then for its own. A function's word has the functions' tag, that of a place in
 -- an object the object's number.
@@ -21,12 +21,19 @@ stands x (Number n) = (x.tag == 0) && (x.bits == n)
 stands x (FunctionAt key) = x.tag == 4294967295
 stands x (Pointer o i) = if o == 0 then not (x.tag == 0) else x.tag == o
 
+-- a value is what a word stands for in the memory of a run; and a word is that of a value
+abbrev pub IsValueOf : World → Word → Value → Type 0
+IsValueOf w x v = (stands x v ≡ true) × IsValueAt w x v
+
+abbrev pub IsWordOf : World → Value → Word → Type 0
+IsWordOf w v x = (stands x v ≡ true) × IsWordAt w v x
+
 -- the word of what a call gave: 0 where it gave no value
-abbrev pub IsResult : Answer → Word → Type 0
-IsResult (Plain v) x = stands x v ≡ true
-IsResult (Place p) x = x ≡ plain 0
-IsResult (Part v n) x = x ≡ plain 0
-IsResult Nothing x = x ≡ plain 0
+abbrev pub IsResult : World → Answer → Word → Type 0
+IsResult w (Plain v) x = IsWordOf w v x
+IsResult w (Place p) x = x ≡ plain 0
+IsResult w (Part v n) x = x ≡ plain 0
+IsResult w Nothing x = x ≡ plain 0
 
 -- how many of so many arguments registers have no room for
 abbrev pub beyond : ℕ → ℕ
@@ -40,11 +47,7 @@ are_inside count w = (beyond count == 0) || nat_le (stack_top w + 4 * beyond cou
 abbrev pub argument_word : ℕ → Registers → World → Option Word
 argument_word k r w = if nat_lt k 8 then Some (register r (10 + k)) else read_at w (stack_top w + 4 * (k - 8)) 4
 
--- a value is what a word stands for in the memory of a run
-abbrev pub IsValueOf : World → Word → Value → Type 0
-IsValueOf w x v = (stands x v ≡ true) × IsValueAt w x v
-
--- it is argument k
+-- a value is argument k
 abbrev pub IsArgument : ℕ → Registers → World → Value → Type 0
 IsArgument k r w v = (x : Word) × (argument_word k r w ≡ Some x) × IsValueOf w x v
 
@@ -64,14 +67,14 @@ GivesArguments count r w (Some vs) = AreArguments count r w vs
 abbrev pub with_argument : ℕ → Word → Registers → Registers
 with_argument k x r = if nat_lt k 8 then record { pc = r.pc; words = with_word r.words (10 + k) x } else r
 
--- a word of a value is put where argument k goes
-abbrev pub PutsOne : ℕ → Value → Registers → Registers → Type 0
-PutsOne k v r s = (x : Word) × (stands x v ≡ true) × (s ≡ with_argument k x r)
+-- the word of a value is put where argument k goes
+abbrev pub PutsOne : World → ℕ → Value → Registers → Registers → Type 0
+PutsOne w k v r s = (x : Word) × IsWordOf w v x × (s ≡ with_argument k x r)
 
 -- the words of these values, from argument k on, are put into registers one after another, and nothing else is
-abbrev pub PutsArguments : ℕ → List Value → Registers → Registers → Type 0
-PutsArguments k [] r s = s ≡ r
-PutsArguments k (v ∷ vs) r s = (x : Word) × (stands x v ≡ true) × PutsArguments (k + 1) vs (with_argument k x r) s
+abbrev pub PutsArguments : World → ℕ → List Value → Registers → Registers → Type 0
+PutsArguments w k [] r s = s ≡ r
+PutsArguments w k (v ∷ vs) r s = (x : Word) × IsWordOf w v x × PutsArguments w (k + 1) vs (with_argument k x r) s
 
 -- how many arguments a function of the library takes: as many as it has parameters; of `printf` the caller says it in t2
 abbrev pub arity_unless : Bool → LibFun → Registers → ℕ

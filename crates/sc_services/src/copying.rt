@@ -1,7 +1,6 @@
 // Service 5: bytes are copied.
 ghost use Rattle.std.specs.Prelude.{◌≡◌, IfOk, IfSome};
 ghost use Rattle.sc_services.specs.Copying as spec;
-ghost use Rattle.sc_services.specs.Tagging.{IsByteOf};
 ghost use Rattle.sc_services.specs.Writing.{Writes};
 
 use crate::arguments::FIRST;
@@ -108,7 +107,7 @@ fn copy_bytes(to: u32, from: u32, n: u32, world: &mut World) -> Result<(), NoMem
 
 // The byte of a live object at an address, from which on so many bytes are the object's.
 fn place_of(at: u32, n: u32, world: &World) -> Option<Place>
-    ensures { IfSome result (λ p. IsByteOf world.now.objects p.id p.offset) }
+    ensures { IfSome result (λ p. spec.AreAt world.now p.id p.offset n at) }
 {
     let place = world.live_at(at)?;
     if has_bytes(place, n, world) {
@@ -121,7 +120,7 @@ fn place_of(at: u32, n: u32, world: &World) -> Option<Place>
 // Bytes inside the areas go to an address.
 #[tactic(auto, using(crate::proofs::Ways::by_bytes))]
 fn copy_inside(to: u32, from: u32, n: u32, world: &mut World) -> Result<(), NoMemory>
-    ensures { IfOk result (λ _. spec.Copies n world.old world.new) }
+    ensures { IfOk result (λ _. spec.Copies to from n world.old world.new) }
 {
     match (place_of(to, n, world), place_of(from, n, world)) {
         (Some(target), Some(source)) => {
