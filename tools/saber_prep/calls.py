@@ -138,19 +138,26 @@ def better_conversion(found: re.Match) -> str:
 
 
 def undeclared(unit: Unit) -> None:
-    """Declares each function that is called without a declaration, with the types of its first call."""
-    known = {it.name for it in unit.nodes}
+    """Declares each function that is called before any declaration: as it is defined below, or as its first call has it."""
+    first: dict[str, Node] = {}
+    for it in unit.nodes:
+        if it.kind == "FunctionDecl" and it.place >= 0:
+            first.setdefault(it.name, it)
+    done: set[str] = set()
     for node in reversed(unit.inner_first()):
         named = callee(node) if node.kind == "CallExpr" else None
         if named is None or named.data["referencedDecl"].get("kind") != "FunctionDecl":
             continue
         name = named.data["referencedDecl"].get("name", "")
-        if name in known or name.startswith("__builtin"):
+        there = first.get(name)
+        if name in done or name.startswith("__builtin") or there is not None and there.place < node.first:
             continue
-        known.add(name)
-        types = " , ".join(unit.spelled(it.type) for it in node.inner[1:]) or "void"
-        unit.edits.put_before(unit.in_item(node.first).first, f"int {name} ( {types} ) ;")
-        unit.note(Weight.TOLD, node.first, f"call of {name} without a declaration", f"it is declared as int {name}({types}); include its header")
+        done.add(name)
+        types = [it.plain for it in (there.inner if there else node.inner[1:]) if there is None or it.kind == "ParmVarDecl"]
+        result = unit.spelled(there.plain[: there.plain.index("(")]) if there else "int"
+        listed = " , ".join(unit.spelled(it) for it in types) or "void"
+        unit.edits.put_before(unit.in_item(node.first).first, f"{result} {name} ( {listed} ) ;")
+        unit.note(Weight.TOLD, node.first, f"call of {name} without a declaration", f"it is declared as {result} {name}({listed})")
 
 
 def main_with_arguments(unit: Unit) -> None:

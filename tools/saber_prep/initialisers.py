@@ -1,6 +1,8 @@
 """Initialisers with designators, compound literals, and lists that are computed in a function."""
 from __future__ import annotations
 
+import re
+
 from .edits import Part, Span
 from .notes import Weight
 from .tree import Node
@@ -105,11 +107,23 @@ def assignments(unit: Unit, path: str, node: Node, zeros: bool) -> list[Part]:
         elif item.kind == "InitListExpr":
             parts += assignments(unit, below, item, zeros)
         elif item.kind == "StringLiteral" and item.plain.endswith("]"):
-            parts += ["memcpy (", below, ",", Span(item.first, item.last), f", sizeof ( {below} ) ) ;"]
-            unit.need("void * memcpy ( void * , const void * , unsigned int ) ;")
+            parts += text_copied(unit, below, item)
         else:
             parts += [below, "=", Span(item.first, item.last), ";"]
     return parts
+
+
+def text_copied(unit: Unit, path: str, node: Node) -> list[Part]:
+    """The statements that copy a string into an array of characters, with zeros behind it."""
+    unit.need("void * memcpy ( void * , const void * , unsigned int ) ;")
+    unit.need("void * memset ( void * , int , unsigned int ) ;")
+    span = Span(node.first, node.last)
+    text = "".join(it.text[it.text.index('"') + 1 : -1] for it in unit.tokens[node.first : node.last + 1])
+    length = len(re.findall(r"\\x[0-9a-fA-F]+|\\[0-7]{1,3}|\\.|.", text)) + 1
+    room = re.search(r"\[(\d+)\]", node.plain)
+    if room is not None and length > int(room[1]):
+        return [f"memcpy ( {path} ,", span, f", sizeof ( {path} ) ) ;"]
+    return [f"memset ( {path} , 0 , sizeof ( {path} ) ) ; memcpy ( {path} ,", span, f", {length} ) ;"]
 
 
 def paths(unit: Unit, path: str, node: Node) -> list[str]:
@@ -239,6 +253,6 @@ def inner_literal(unit: Unit, node: Node) -> None:
     unit.edits.put_behind(function.body().first, *flattened([declared_as(unit, node, name), ";"]))
     steps = assignments(unit, name, node.inner[0], zeros=True)
     parts: list[Part] = ["("]
-    parts += ["," if it == ";" else it[:-1] + "," if isinstance(it, str) and it.endswith(" ;") else it for it in steps]
+    parts += [it.replace(";", ",") if isinstance(it, str) else it for it in steps]
     unit.edits.replace(node.first, node.last, "( *", *parts, f"& {name} ) )")
     unit.note(Weight.PLAIN, node.first, "compound literal")

@@ -52,6 +52,7 @@ def all_passes(unit: Unit) -> None:
     calls.main_with_arguments(unit)
     calls.names_of_library(unit)
     problems.problems(unit)
+    problems.set_aside(unit)
     if unit.options.leave_out:
         problems.leave_out(unit)
     keep.keep_used(unit)

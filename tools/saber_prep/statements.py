@@ -4,7 +4,7 @@ from __future__ import annotations
 import re
 
 from .edits import Part, Span
-from .initialisers import assignments, initialiser, is_computed
+from .initialisers import assignments, initialiser, is_computed, text_copied
 from .notes import Weight
 from .tree import Node, end_of
 from .unit import Unit
@@ -124,8 +124,7 @@ def set_by(unit: Unit, name: str, variable: Node, value: Node) -> list[Part]:
     if value.kind == "InitListExpr":
         return assignments(unit, name, value, zeros=True)
     if value.kind == "StringLiteral" and variable.plain.endswith("]"):
-        unit.need("void * memcpy ( void * , const void * , unsigned int ) ;")
-        return [f"memcpy ( {name} ,", Span(value.first, value.last), f", sizeof ( {name} ) ) ;"]
+        return text_copied(unit, name, value)
     return [name, "=", Span(value.first, value.last), ";"]
 
 

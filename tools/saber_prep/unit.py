@@ -22,6 +22,7 @@ class Item:
     nodes: list[Node]
     header: bool
     kept: bool = False
+    optional: bool = False  # it holds what is not taken, and stays only if it is used
 
     @property
     def function(self) -> Node | None:
@@ -86,7 +87,8 @@ class Unit:
         for place, note in self.told:
             if note.file.startswith(str(INCLUDE)):
                 continue
-            if place == 0 or any(it.first <= place <= it.last for it in kept):
+            left_out = note.weight is Weight.LEFT_OUT and not self.origin(place).header
+            if place == 0 or left_out or any(it.first <= place <= it.last for it in kept):
                 self.notes.add(note)
 
     def spelled(self, type_text: str) -> str:
