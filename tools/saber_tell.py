@@ -46,8 +46,8 @@ class Teller:
             line = self.sources.place(violation.module, violation.line + at)
             self.say(f"    {line.text}")
 
-    def scene(self, scene):
-        self.say("-- calls, the innermost one first")
+    def scene(self, scene, is_at_end):
+        self.say("-- calls, the innermost one first" + ("" if is_at_end else ", as the last function was entered"))
         self.calls(scene.calls)
         if scene.values:
             self.say("-- values, before this line is carried out")
@@ -77,7 +77,7 @@ def explain(explanation, teller):
     if violation:
         teller.report(violation)
     try:
-        teller.scene(explanation.scene())
+        teller.scene(explanation.scene(), bool(violation and violation.line))
     except Lost as reason:
         teller.say(f"-- the calls were not found: {reason}")
     for number in violation.numbers if violation else ():
