@@ -175,7 +175,9 @@ class Debuggee:
         return answer
 
     def pause(self):
-        """Stops a go at this moment or shortly before it; gives the last halt's text."""
+        """Stops a go at this moment or shortly before it; gives the halt's text if it comes to its end or a stop before."""
+        if not self._slices and (text := self.slice()) is not None:
+            return text
         if not self._slices:
             self._end_goal()
             return ""
@@ -188,6 +190,7 @@ class Debuggee:
             text = self._ask_whole("cont").text
             self._past.append("cont")
             self.is_over = text.startswith(OVER)
+            text = text if self.is_over or text.replace("entered ", "in ") in own else ""
         self._goal, self._slices = None, 0
         self.set_stops(own)
         return text

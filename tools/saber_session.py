@@ -73,6 +73,33 @@ def status_of(text):
     return 2 if text.startswith("refused ") else 3
 
 
+def add_words_of_a_run(parser):
+    """Adds the words of a tool that runs modules once to its command line."""
+    parser.add_argument("modules", nargs="*", metavar="MODULE|FILE.c", help="a module M of the file M.c, in the order of loading")
+    parser.add_argument("-i", "--input", metavar="FILE", help="the file that the program reads as its input")
+    parser.add_argument("--object", action="append", default=[], metavar="M",
+                        help="run module M as compiled code, without checks (may stand more than once)")
+    parser.add_argument("--turns", type=int, default=MOST_TURNS, metavar="N", help=f"the most turns of the run ({MOST_TURNS})")
+    parser.add_argument("--stack", metavar="N", help="bytes of the program's stack (1048576)")
+    parser.add_argument("--heap", metavar="N", help="bytes of its heap (4194304)")
+    parser.add_argument("--program", metavar="PROGRAM", help="the program saber, in place of the one that belongs to this tool")
+
+
+def words_of_a_run(parser):
+    """The words that were given; a tool ends here where they are wrong."""
+    found = parser.parse_intermixed_args()
+    if not found.modules and not found.object:
+        parser.error("no module is named")
+    if not 1 <= found.turns <= MOST_TURNS:
+        parser.error(f"--turns takes a number from 1 to {MOST_TURNS}")
+    return found
+
+
+def sizes_of(given):
+    """The words of a command line of saber for a run's stack and heap."""
+    return tuple(it for name in ("stack", "heap") if given.get(name) is not None for it in (f"--{name}", str(given[name])))
+
+
 def find_program(named=None):
     """The program that is run: the one named, else $SABER_PROGRAM, else that of this tree, else `saber` of the PATH."""
     given = named or os.environ.get("SABER_PROGRAM")
@@ -170,8 +197,9 @@ class Session:
 
     def _told(self, show):
         """The bytes up to the next mark, which is taken off, and how many of them were shown."""
-        shown = 0
-        while (at := self._held.find(self._mark, max(0, shown - len(self._mark)))) < 0:
+        shown = begin = 0
+        while (at := self._held.find(self._mark, begin)) < 0:
+            begin = max(0, len(self._held) - len(self._mark))
             if show:
                 shown += self._show(show, shown)
             more = os.read(self.child.stdout.fileno(), 1 << 16)
@@ -215,7 +243,7 @@ def module_of(word, is_object=False, folder="."):
         raise refused(f"{path.stem} is no module's name: a letter and up to 30 letters, digits or underscores")
     if not path.is_file():
         raise refused(f"there is no file {path}")
-    return Module(path.stem, path.resolve().parent / path.name, is_object)
+    return Module(path.stem, path.parent.resolve() / path.name, is_object)
 
 
 def modules_of(words, objects=(), folder="."):
@@ -230,6 +258,15 @@ def modules_of(words, objects=(), folder="."):
     return modules
 
 
+def levels_up(folder):
+    """How many folders up the texts of a folder include files."""
+    found = [0]
+    for path in (it for ending in ("*.c", "*.h") for it in folder.glob(ending) if it.is_file()):
+        names = re.findall(rb'(?m)^[ \t]*#[ \t]*include[ \t]*"((?:\.\./)+)', path.read_bytes())
+        found += [len(it) // 3 for it in names]
+    return max(found)
+
+
 class View:
     """A folder of its own that shows the files of the modules' folders by links, so that nothing of the user's changes.
 
@@ -239,7 +276,7 @@ class View:
 
     def __init__(self, modules, given=None, folder="."):
         self._room = tempfile.TemporaryDirectory(prefix="saber-")
-        self.folder = pathlib.Path(self._room.name)
+        self.folder = self._below(modules[0].path.parent)
         self.modules, self.given = modules, None if given is None else pathlib.Path(folder, given).resolve()
         own = {f"{it.name}.c": it.path for it in modules}
         hidden = {f"{it.name}.o" for it in modules}
@@ -251,6 +288,18 @@ class View:
             if not self.given.is_file():
                 raise refused(f"there is no file {given}")
             (self.folder / self.INPUT).symlink_to(self.given)
+
+    def _below(self, folder):
+        """An empty folder above which the files of the real one's parents are seen, as far as #include "../NAME" asks."""
+        real, at = folder.resolve(), pathlib.Path(self._room.name)
+        for parent in reversed(real.parents[:levels_up(real)]):
+            child = real.relative_to(parent).parts[0]
+            for path in parent.iterdir():
+                if path.name != child:
+                    (at / path.name).symlink_to(path)
+            at = at / child
+            at.mkdir()
+        return at
 
     def _link(self, path):
         link = self.folder / path.name

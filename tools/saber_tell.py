@@ -46,8 +46,8 @@ class Teller:
             line = self.sources.place(violation.module, violation.line + at)
             self.say(f"    {line.text}")
 
-    def scene(self, scene):
-        self.say("-- calls, the innermost one first")
+    def scene(self, scene, is_at_end):
+        self.say("-- calls, the innermost one first" + ("" if is_at_end else ", as the last function was entered"))
         self.calls(scene.calls)
         if scene.values:
             self.say("-- values, before this line is carried out")
@@ -64,7 +64,8 @@ class Teller:
             self.say("-- and where it died was not seen")
 
     def birth(self, number, birth, is_dead):
-        self.say(f"-- object {number} is {birth.kind}" + (", born here" if birth.calls else ""))
+        name = f"{birth.name}, " if birth.name else ""
+        self.say(f"-- object {number} is {name}{birth.kind}" + (", born here" if birth.calls else ""))
         self.calls(birth.calls)
         if is_dead and birth.left:
             self.say("-- and it died as its block was left, at the latest behind this line")
@@ -77,7 +78,7 @@ def explain(explanation, teller):
     if violation:
         teller.report(violation)
     try:
-        teller.scene(explanation.scene())
+        teller.scene(explanation.scene(), bool(violation and violation.line))
     except Lost as reason:
         teller.say(f"-- the calls were not found: {reason}")
     for number in violation.numbers if violation else ():
@@ -88,10 +89,10 @@ def explain_object(explanation, teller, number):
     """Tells the life of an object that the report names."""
     is_dead = explanation.violation.rule == "U3" or f"dead object {number}" in explanation.text
     try:
-        block = explanation.block(number)
+        block, is_no_block = explanation.block(number)
         if block:
             teller.block(number, block, is_dead)
         else:
-            teller.birth(number, explanation.birth(number), is_dead)
+            teller.birth(number, explanation.birth(number, is_no_block), is_dead)
     except Lost as reason:
         teller.say(f"-- the birth of object {number} was not found: {reason}")
