@@ -152,13 +152,6 @@ def initialiser(node: Node) -> Node | None:
     return node.inner[-1] if node.kind == "VarDecl" and "init" in node.data and node.inner else None
 
 
-def list_of(node: Node | None) -> Node | None:
-    """The list that an initialiser is; `struct s x = (struct s){ 1 };` means the list too."""
-    if node is not None and node.kind == "CompoundLiteralExpr" and not node.type.endswith("]"):
-        return node.inner[0]
-    return node if node is not None and node.kind == "InitListExpr" else None
-
-
 def is_computed(unit: Unit, node: Node) -> bool:
     """Whether the list of an object of a function has to become assignments."""
     value = initialiser(node)
@@ -183,7 +176,8 @@ def constant_lists(unit: Unit) -> None:
             continue
         if value.kind == "InitListExpr" and has_designators(unit, value):
             if not first_members_only(unit, value):
-                unit.note(Weight.PROBLEM, value.first, "a union initialised by another member than its first", "assign it in a function, or put that member first")
+                construct = "a union initialised by another member than its first"
+                unit.note(Weight.PROBLEM, value.first, construct, "assign it in a function, or put that member first")
             unit.edits.replace(value.first, value.last, *written(unit, value))
             unit.note(Weight.PLAIN, value.first, "designators")
 
@@ -244,7 +238,9 @@ def inner_literal(unit: Unit, node: Node) -> None:
         unit.note(Weight.PROBLEM, node.first, "compound literal in a declaration", "give it a name")
         return
     if not unit.is_record(node) and not node.type.endswith("]"):
-        unit.edits.replace(node.first, node.last, "(", Span(node.first, node.inner[0].first - 1), "(", Span(node.inner[0].inner[0].first, node.inner[0].inner[0].last), ") )")
+        value = node.inner[0].inner[0]
+        cast = Span(node.first, node.inner[0].first - 1)
+        unit.edits.replace(node.first, node.last, "(", cast, "(", Span(value.first, value.last), ") )")
         return
     name = unit.name("literal")
     span = type_tokens(unit, node)
