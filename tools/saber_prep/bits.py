@@ -11,7 +11,7 @@ def bit_fields(unit: Unit) -> None:
     widths: dict[str, tuple[int, bool]] = {}
     for node in list(unit.declared.values()):
         if node.kind == "FieldDecl" and node.data.get("isBitfield"):
-            widths[node.id] = (widen(unit, node), "unsigned" not in node.plain and node.plain != "_Bool")
+            widths[node.id] = (widen(unit, node), is_signed(unit, node.plain))
     if not widths:
         return
     for node in unit.inner_first():
@@ -28,16 +28,24 @@ def bit_fields(unit: Unit) -> None:
             computed(unit, node, width, signed, node.data["opcode"][0], ["1"])
 
 
+def is_signed(unit: Unit, plain: str) -> bool:
+    """Whether a bit-field of a type has negative values; one of an enumeration only if a constant has."""
+    if not plain.startswith("enum"):
+        return "unsigned" not in plain and plain != "_Bool"
+    for node in unit.declared.values():
+        if node.kind == "EnumDecl" and plain == f"enum {node.name}":
+            values = [it.data.get("value", "0") for below in node.inner for it in below.walk() if it.kind == "ConstantExpr"]
+            return any(str(it).startswith("-") for it in values)
+    return False
+
+
 def widen(unit: Unit, node: Node) -> int:
     """Drops the width of a bit-field; one without a name goes as a whole."""
     width = node.inner[0] if node.inner else node
     value = next((int(it.data["value"]) for it in width.walk() if "value" in it.data and str(it.data["value"]).isdigit()), 32)
     if node.name:
         unit.edits.delete(width.first - 1, width.last)
-        if node.plain in ("char", "unsigned char", "signed char", "short", "unsigned short"):
-            unit.note(Weight.TOLD, node.place, f"the bit-field {node.name}", f"it becomes a whole {node.type}; values are cut to {value} bits as before, sizeof may differ")
-        else:
-            unit.note(Weight.TOLD, node.place, f"the bit-field {node.name}", f"it becomes a whole {node.type}; values are cut to {value} bits as before, sizeof differs")
+        unit.note(Weight.TOLD, node.place, f"the bit-field {node.name}", f"it becomes a whole {node.type}, cut to {value} bits as before; sizeof may differ")
     else:
         end = width.last
         first = node.first

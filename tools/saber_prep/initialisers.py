@@ -131,11 +131,12 @@ def paths(unit: Unit, path: str, node: Node) -> list[str]:
     if node.plain.endswith("]") or node.type.endswith("]"):
         return [f"{path} [ {number} ]" for number in range(len(node.inner))]
     if "field" in node.data:
-        return [f"{path} . {node.data['field'].get('name')}"]
+        member = unit.declared.get(node.data["field"].get("id", ""))
+        return [f"{path} . {unit.member_name(member) if member is not None else node.data['field'].get('name')}"]
     record = unit.record_of(node.type) or unit.record_of(node.plain)
     if record is None:
         return [path]
-    return [f"{path} . {it.name}" for it in unit.fields(record)]
+    return [f"{path} . {unit.member_name(it)}" for it in unit.fields(record)]
 
 
 def zeroed(unit: Unit, path: str, type_text: str, plain: str) -> list[Part]:
@@ -149,13 +150,6 @@ def zeroed(unit: Unit, path: str, type_text: str, plain: str) -> list[Part]:
 def initialiser(node: Node) -> Node | None:
     """The initialiser of an object."""
     return node.inner[-1] if node.kind == "VarDecl" and "init" in node.data and node.inner else None
-
-
-def list_of(node: Node | None) -> Node | None:
-    """The list that an initialiser is; `struct s x = (struct s){ 1 };` means the list too."""
-    if node is not None and node.kind == "CompoundLiteralExpr" and not node.type.endswith("]"):
-        return node.inner[0]
-    return node if node is not None and node.kind == "InitListExpr" else None
 
 
 def is_computed(unit: Unit, node: Node) -> bool:
@@ -182,7 +176,8 @@ def constant_lists(unit: Unit) -> None:
             continue
         if value.kind == "InitListExpr" and has_designators(unit, value):
             if not first_members_only(unit, value):
-                unit.note(Weight.PROBLEM, value.first, "a union initialised by another member than its first", "assign it in a function, or put that member first")
+                construct = "a union initialised by another member than its first"
+                unit.note(Weight.PROBLEM, value.first, construct, "assign it in a function, or put that member first")
             unit.edits.replace(value.first, value.last, *written(unit, value))
             unit.note(Weight.PLAIN, value.first, "designators")
 
@@ -243,7 +238,9 @@ def inner_literal(unit: Unit, node: Node) -> None:
         unit.note(Weight.PROBLEM, node.first, "compound literal in a declaration", "give it a name")
         return
     if not unit.is_record(node) and not node.type.endswith("]"):
-        unit.edits.replace(node.first, node.last, "(", Span(node.first, node.inner[0].first - 1), "(", Span(node.inner[0].inner[0].first, node.inner[0].inner[0].last), ") )")
+        value = node.inner[0].inner[0]
+        cast = Span(node.first, node.inner[0].first - 1)
+        unit.edits.replace(node.first, node.last, "(", cast, "(", Span(value.first, value.last), ") )")
         return
     name = unit.name("literal")
     span = type_tokens(unit, node)
