@@ -8,3 +8,6 @@ _saber() {
     esac
 }
 complete -F _saber saber
+# the tools beside it take modules, or their files
+complete -f -X '!*.c' -o plusdirs saber-why saber-lcov
+complete -F _saber saber-shell

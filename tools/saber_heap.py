@@ -2,7 +2,7 @@
 
 No command tells which object a call of `malloc` gave. So the run is repeated on a copy of the texts in which each call of
 `malloc`, `calloc`, `realloc` and `free` keeps its operands in objects that `print` shows, and then calls an empty
-function, at which the run stops. The copy has one line more at the top of each module, and four static objects more
+function, at which the run stops. The copy has one line more at the top of each module, and five static objects more
 behind all others. Where its run does not end with the same report, nothing is claimed.
 """
 import re
@@ -13,21 +13,23 @@ from saber_session import Module, Setup, Trouble, View
 from saber_source import TOKEN
 
 NAME = "saber_heap"
-ADDED_OBJECTS = 4
+ADDED_OBJECTS = 5
 ADDED_LINES = 1
 CALLS = ("malloc", "calloc", "realloc", "free")
+# an event takes 14 lines of a session's 1,000,000
+MOST_EVENTS = 70_000
 # The library's functions are declared again, since a text that declares them itself may not include <stdlib.h> too.
 HEADER = """extern void *malloc(unsigned int), *calloc(unsigned int, unsigned int), *realloc(void *, unsigned int);
 extern void free(void *);
-extern unsigned int saber_size, saber_items;
+extern unsigned int saber_size, saber_items, saber_caller;
 extern void *saber_block, *saber_old;
 extern void saber_born(void), saber_dies(void);
-#define saber_malloc(n) (saber_items = 1, saber_size = (n), saber_block = malloc(saber_size), saber_born(), saber_block)
-#define saber_calloc(n, s) (saber_items = (n), saber_size = (s), saber_block = calloc(saber_items, saber_size), saber_born(), saber_block)
-#define saber_realloc(p, n) (saber_old = (p), saber_size = (n), saber_items = 1, saber_dies(), saber_block = realloc(saber_old, saber_size), saber_born(), saber_block)
+#define saber_malloc(n) (saber_items = 1, saber_size = (n), saber_caller = 0, saber_block = malloc(saber_size), saber_born(), saber_block)
+#define saber_calloc(n, s) (saber_items = (n), saber_size = (s), saber_caller = 1, saber_block = calloc(saber_items, saber_size), saber_born(), saber_block)
+#define saber_realloc(p, n) (saber_old = (p), saber_size = (n), saber_items = 1, saber_dies(), saber_caller = 2, saber_block = realloc(saber_old, saber_size), saber_born(), saber_block)
 #define saber_free(p) (saber_old = (p), saber_dies(), free(saber_old))
 """
-MODULE = """unsigned int saber_size, saber_items;
+MODULE = """unsigned int saber_size, saber_items, saber_caller;
 void *saber_block, *saber_old;
 void saber_born(void) { }
 void saber_dies(void) { }
@@ -92,10 +94,10 @@ def is_same(violation, other):
         all(b - a in (0, ADDED_OBJECTS) for a, b in zip(violation.numbers, other.numbers))
 
 
-def find_block(setup, modules, given, violation, number):
+def find_block(setup, violation, number):
     """What is to be known of an object, if it is a heap block; else nothing."""
     try:
-        with HeapCopy(modules, given) as view:
+        with HeapCopy(setup.view.modules, setup.view.given) as view:
             return _followed(Setup(setup.program, view, setup.options), violation, number)
     except Trouble:
         return None
@@ -103,7 +105,7 @@ def find_block(setup, modules, given, violation, number):
 
 def _followed(setup, violation, number):
     wanted = f"object {number + ADDED_OBJECTS} + 0"
-    asked = tuple(f"print {it}" for it in ("saber_block", "saber_old", "saber_size", "saber_items")) + ("where",)
+    asked = tuple(f"print {it}" for it in ("saber_block", "saber_old", "saber_size", "saber_items", "saber_caller")) + ("where",)
     way = Way(setup, False)
     block = None
     with way.session:
@@ -116,16 +118,12 @@ def _followed(setup, violation, number):
     return None
 
 
-# an event takes 12 lines of a session's 1,000,000
-MOST_EVENTS = 80_000
-
-
 def _seen(block, event, told, wanted):
     """What is known behind one event of the heap."""
-    given, old, size, items = (it.text.partition(" = ")[2] for it in told[:4])
-    calls = tuple(as_in_original(it) for it in told[4].lines[1:])
+    given, old, size, items, caller = (it.text.partition(" = ")[2] for it in told[:5])
+    calls = tuple(as_in_original(it) for it in told[5].lines[1:])
     if event == "saber_born" and given == wanted and not block:
-        return Block(int(size) * int(items), "calloc" if items != "1" else "malloc or realloc", calls, ())
+        return Block(int(size) * int(items), CALLS[int(caller)], calls, ())
     if event == "saber_dies" and old == wanted and block:
         return Block(block.size, block.caller, block.born, calls)
     return block

@@ -9,8 +9,8 @@ import tempfile
 from dataclasses import dataclass
 from pathlib import Path
 
-from saber_session import refused
-from saber_source import TOKEN
+from saber_session import Trouble, refused
+from saber_source import TOKEN, block_around, lines_of
 
 # The types and macros of the library's headers; what they declare is of no use to a parser.
 SIZES = "typedef unsigned int size_t;\n#define NULL 0\n"
@@ -53,6 +53,28 @@ def functions_in(folder, name):
     except Exception as error:  # its class has moved between versions
         raise refused(f"pycparser cannot read {name}.c: {error}") from error
     return [Statements(text).function(it) for it in unit.ext if type(it).__name__ == "FuncDef"]
+
+
+class Lines:
+    """The lines of modules on which statements begin; all lines where a text cannot be parsed here."""
+
+    def __init__(self, folder):
+        self._folder, self._known = folder, {}
+
+    def of(self, module):
+        """The lines of a module, in their order."""
+        if module.name not in self._known:
+            try:
+                found = sorted(set().union(*(it.lines for it in functions_in(self._folder, module.name))))
+            except Trouble:
+                found = range(1, len(lines_of(module.path)) + 1)
+            self._known[module.name] = found
+        return self._known[module.name]
+
+    def around(self, module, line):
+        """Those of the definition that a line belongs to."""
+        block = block_around(lines_of(module.path), line)
+        return [it for it in self.of(module) if it in block]
 
 
 def preprocessed(folder, name):

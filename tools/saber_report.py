@@ -1,9 +1,11 @@
 """Explains how a run ended: the calls, the values on the line, and the life of the object that the report names."""
 import re
 from dataclasses import dataclass
+from functools import cached_property
 
 from saber_heap import find_block
 from saber_search import START, Lost, Search, violation_of
+from saber_session import FAULTS
 from saber_source import names_in
 
 RULES = {
@@ -26,8 +28,6 @@ RULES = {
     "U17": "no module defines what is used",
     "U18": "source and target overlap",
 }
-MOST_CALLS = 20
-MOST_VALUE = 120
 MOST_STEPS = 60_000
 
 
@@ -49,34 +49,45 @@ class Birth:
 class Explanation:
     """Finds what is to be told of a run that ended so. `setup` starts the run again."""
 
-    def __init__(self, setup, modules, sources, given, text):
-        self.setup, self.modules, self.sources, self.given, self.text = setup, modules, sources, given, text
+    def __init__(self, setup, sources, text):
+        self.setup, self.sources, self.text = setup, sources, text
         self.violation = violation_of(text)
-        self._search = None
 
     @property
-    def search(self):
-        if not self._search:
-            self._search = Search(self.setup)
-        return self._search
+    def can_be_told(self):
+        """Whether there is more to tell of this end of a run than its text."""
+        return self.text.startswith(FAULTS)
 
-    def scene(self):
-        """The calls and the values where the run ended, or before it entered what it could not."""
+    @cached_property
+    def search(self):
+        return Search(self.setup)
+
+    @cached_property
+    def _legs(self):
+        """The way to where the run ended: before the line of a violation, or to the last entry of a function."""
         seen = self.violation
         line = f"at {seen.module}:{seen.line}" if seen and seen.line else None
         stops = (*(f"in {it}" for it in self.search.functions), *([line] if line else []))
         track = self.search.approach(stops, lambda halt: False)
         wanted = line or (f"entered {seen.key}" if seen else None)
-        way = self.search.way(track.legs_to(last_before_the_end(track.halts, wanted)))
-        with way.session:
-            calls = way.session.ask("where").lines
-            names = names_in(self.sources.statement(seen.module, seen.line)) if line else []
-            told = way.session.ask_all([f"print {it}" for it in names])
+        return track.legs_to(last_before_the_end(track.halts, wanted))
+
+    def arrive(self):
+        """A session that stands where the run ended."""
+        return self.search.way(self._legs).session
+
+    def scene(self):
+        """The calls and the values where the run ended."""
+        seen = self.violation
+        names = names_in(self.sources.statement(seen.module, seen.line)) if seen and seen.line else []
+        with self.arrive() as session:
+            calls = session.ask("where").lines
+            told = session.ask_all([f"print {it}" for it in names])
         return Scene(calls, tuple(it.text for it in told if " = " in it.text))
 
     def block(self, number):
         """The heap block of this number, if the object is one."""
-        return find_block(self.setup, self.modules, self.given, self.violation, number)
+        return find_block(self.setup, self.violation, number)
 
     def birth(self, number):
         """Where an object that is no heap block was born, and when its call was left."""

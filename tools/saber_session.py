@@ -16,6 +16,7 @@ from dataclasses import dataclass, field
 
 ROOT = pathlib.Path(__file__).resolve().parent.parent
 GOES = ("run", "step", "next", "cont")
+FAULTS = ("violation ", "crashed ", "stack full")
 MOST_TURNS = 1_000_000_000
 # A session takes 1,000,000 command lines; some are kept for the commands around a search.
 MOST_LINES = 990_000
@@ -61,6 +62,42 @@ class Answer:
     @property
     def is_refused(self):
         return self.text.startswith("refused ") or self.text == "no memory"
+
+
+def status_of(text):
+    """The exit status of a tool that runs modules once: 0, 1 for a fault of the program, 2 for a refusal, 3 for the rest."""
+    if text == "exit 0":
+        return 0
+    if text.startswith(FAULTS):
+        return 1
+    return 2 if text.startswith("refused ") else 3
+
+
+def add_words_of_a_run(parser):
+    """Adds the words of a tool that runs modules once to its command line."""
+    parser.add_argument("modules", nargs="*", metavar="MODULE|FILE.c", help="a module M of the file M.c, in the order of loading")
+    parser.add_argument("-i", "--input", metavar="FILE", help="the file that the program reads as its input")
+    parser.add_argument("--object", action="append", default=[], metavar="M",
+                        help="run module M as compiled code, without checks (may stand more than once)")
+    parser.add_argument("--turns", type=int, default=MOST_TURNS, metavar="N", help=f"the most turns of the run ({MOST_TURNS})")
+    parser.add_argument("--stack", metavar="N", help="bytes of the program's stack (1048576)")
+    parser.add_argument("--heap", metavar="N", help="bytes of its heap (4194304)")
+    parser.add_argument("--program", metavar="PROGRAM", help="the program saber, in place of the one that belongs to this tool")
+
+
+def words_of_a_run(parser):
+    """The words that were given; a tool ends here where they are wrong."""
+    found = parser.parse_intermixed_args()
+    if not found.modules and not found.object:
+        parser.error("no module is named")
+    if not 1 <= found.turns <= MOST_TURNS:
+        parser.error(f"--turns takes a number from 1 to {MOST_TURNS}")
+    return found
+
+
+def sizes_of(given):
+    """The words of a command line of saber for a run's stack and heap."""
+    return tuple(it for name in ("stack", "heap") if given.get(name) is not None for it in (f"--{name}", str(given[name])))
 
 
 def find_program(named=None):
@@ -197,9 +234,9 @@ class Module:
     is_object: bool = False
 
 
-def module_of(word, is_object=False):
-    """The module that a word names, which is M, M.c or a path to either."""
-    path = pathlib.Path(word)
+def module_of(word, is_object=False, folder="."):
+    """The module that a word names, which is M, M.c or a path to either, from a folder on."""
+    path = pathlib.Path(folder, word)
     path = path if path.suffix == ".c" else path.with_name(path.name + ".c")
     if not MODULE.fullmatch(path.stem):
         raise refused(f"{path.stem} is no module's name: a letter and up to 30 letters, digits or underscores")
@@ -208,16 +245,25 @@ def module_of(word, is_object=False):
     return Module(path.stem, path.resolve().parent / path.name, is_object)
 
 
-def modules_of(words, objects=()):
-    """The modules that a command line names, in their order; `objects` are names or words among them."""
+def modules_of(words, objects=(), folder="."):
+    """The modules that words name, in their order; `objects` are names or words among them or further ones."""
     forms = {pathlib.Path(it).stem for it in objects}
     names = [pathlib.Path(it).stem for it in words]
     words = [*words, *(it for it in objects if pathlib.Path(it).stem not in names)]
-    modules = [module_of(it, pathlib.Path(it).stem in forms) for it in words]
+    modules = [module_of(it, pathlib.Path(it).stem in forms, folder) for it in words]
     for at, module in enumerate(modules):
         if any(it.name == module.name for it in modules[:at]):
             raise refused(f"module {module.name} is named twice")
     return modules
+
+
+def levels_up(folder):
+    """How many folders up the texts of a folder include files."""
+    found = [0]
+    for path in (it for ending in ("*.c", "*.h") for it in folder.glob(ending) if it.is_file()):
+        names = re.findall(rb'(?m)^[ \t]*#[ \t]*include[ \t]*"((?:\.\./)+)', path.read_bytes())
+        found += [len(it) // 3 for it in names]
+    return max(found)
 
 
 class View:
@@ -227,21 +273,32 @@ class View:
     """
     INPUT = "saber_input"
 
-    def __init__(self, modules, given=None):
+    def __init__(self, modules, given=None, folder="."):
         self._room = tempfile.TemporaryDirectory(prefix="saber-")
-        self.folder = pathlib.Path(self._room.name)
-        self.modules, self.has_input = modules, given is not None
+        self.folder = self._below(modules[0].path.parent)
+        self.modules, self.given = modules, None if given is None else pathlib.Path(folder, given).resolve()
         own = {f"{it.name}.c": it.path for it in modules}
         hidden = {f"{it.name}.o" for it in modules}
         for folder in dict.fromkeys(it.path.parent for it in modules):
             for path in folder.iterdir():
                 if path.name not in hidden and FILE.fullmatch(path.name):
                     self._link(own.get(path.name, path))
-        if self.has_input:
-            path = pathlib.Path(given)
-            if not path.is_file():
+        if self.given:
+            if not self.given.is_file():
                 raise refused(f"there is no file {given}")
-            (self.folder / self.INPUT).symlink_to(path.resolve())
+            (self.folder / self.INPUT).symlink_to(self.given)
+
+    def _below(self, folder):
+        """An empty folder above which the files of the real one's parents are seen, as far as #include "../NAME" asks."""
+        real, at = folder.resolve(), pathlib.Path(self._room.name)
+        for parent in reversed(real.parents[:levels_up(real)]):
+            child = real.relative_to(parent).parts[0]
+            for path in parent.iterdir():
+                if path.name != child:
+                    (at / path.name).symlink_to(path)
+            at = at / child
+            at.mkdir()
+        return at
 
     def _link(self, path):
         link = self.folder / path.name
@@ -274,7 +331,7 @@ class Setup:
 
     @property
     def run(self):
-        return f"run {View.INPUT}" if self.view.has_input else "run"
+        return f"run {View.INPUT}" if self.view.given else "run"
 
     def start(self, *options, turns=MOST_TURNS):
         """A session with every module loaded in its form."""

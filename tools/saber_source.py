@@ -15,9 +15,17 @@ MOST_LINES = 4
 @dataclass(frozen=True)
 class Place:
     """A line of a file, and its text."""
-    file: str
+    path: pathlib.Path
     line: int
     text: str
+
+    @property
+    def file(self):
+        """The file as it is named from the current folder on, if it lies below it."""
+        try:
+            return str(self.path.relative_to(pathlib.Path.cwd()))
+        except ValueError:
+            return str(self.path)
 
 
 class Sources:
@@ -49,12 +57,23 @@ class Sources:
 
     def place(self, name, number):
         """Where a line of a module comes from: by its map, else the module's own file and line."""
-        path = self._paths.get(name)
-        file, line = self._original(name, number) or (path.name if path else f"{name}.c", number)
-        own = path is None or file == path.name
-        lines = self.lines(name) if own else lines_of(path.parent / file)
+        own = self._paths.get(name)
+        file, line = self._original(name, number) or (own or pathlib.Path(f"{name}.c"), number)
+        lines = self.lines(name) if file == own else lines_of(file)
         text = lines[line - 1] if 0 < line <= len(lines) else self.line(name, number)
         return Place(file, line, text.strip())
+
+    def lines_from(self, path):
+        """Pairs of a line of a file and its place (module, line), for all lines of modules that come from that file."""
+        path, found = pathlib.Path(path).resolve(), []
+        for name, own in self._paths.items():
+            self._original(name, 0)
+            for first, last, file, line in self._maps[name]:
+                if file == path:
+                    found += [(line + at - first, (name, at)) for at in range(first, last + 1)]
+            if not self._maps[name] and own.resolve() == path:
+                found += [(at, (name, at)) for at in range(1, len(self.lines(name)) + 1)]
+        return found
 
     def _original(self, name, number):
         if name not in self._maps:
@@ -74,12 +93,21 @@ def lines_of(path):
 
 
 def read_map(path):
-    """The ranges (first line, last line, file, line) of the map beside a module; none where there is no map."""
+    """The ranges (first line, last line, file, line) of the map beside a module; none where there is no map.
+
+    A file is named from the folder of the module on, or from the one in which the map was made.
+    """
     try:
         told = json.loads(path.with_name(path.stem + ".map.json").read_text())
-        return [(it["first"], it["last"], it["file"], it["line"]) for it in told["ranges"]]
+        return [(it["first"], it["last"], named_from(path.parent, it["file"]), it["line"]) for it in told["ranges"]]
     except (OSError, ValueError, KeyError, TypeError, AttributeError):
         return []
+
+
+def named_from(folder, file):
+    """The path of a file that is named from a folder or from the current one."""
+    here = [it / file for it in (folder, pathlib.Path(".")) if (it / file).is_file()]
+    return (here[0] if here else folder / file).resolve()
 
 
 def names_in(lines):
@@ -91,3 +119,23 @@ def names_in(lines):
         if is_name and (at == 0 or tokens[at - 1] not in (".", "->")) and tokens[at + 1:at + 2] != ["("]:
             found.append(token)
     return list(dict.fromkeys(found))
+
+
+def block_around(lines, number):
+    """The lines, as a range of numbers, of the definition at file scope that a line belongs to."""
+    first, line, depth, is_directive, before = 0, 1, 0, False, ""
+    for token in TOKEN.findall("\n".join(lines)):
+        if token == "\n":
+            is_directive = is_directive and before == "\\"
+        elif token == "#":
+            is_directive = True
+        elif not is_directive and token in "{}":
+            depth = max(0, depth + (1 if token == "{" else -1))
+        first = line if not first and not token.isspace() else first
+        line += token.count("\n")
+        before = token
+        if depth == 0 and not is_directive and token in (";", "}"):
+            if number <= line:
+                return range(first, line + 1)
+            first = 0
+    return range(first or number, len(lines) + 1)

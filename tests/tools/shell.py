@@ -87,8 +87,10 @@ def session(program, room):
     yield "Ctrl-C in a run", "-- the run was ended; modules, forms and stops are kept" in terminal.shown()
     yield "the session is as it was", terminal.say("list") == listed
     yield "the next stop's number", terminal.say("stop in last") == "> stop 4 in last\n"
-    terminal.keys("lis\x03")
-    terminal.shown()
+    terminal.keys("lis")
+    terminal.shown(until="lis")
+    terminal.keys("\x03")
+    terminal.shown(until="\n" + PROMPT)
     yield "Ctrl-C at a prompt clears the line", terminal.say("edit loop mended.c") == "> edited loop\n"
     terminal.keys("\x1b[A")
     terminal.shown(until="edit loop mended.c")

@@ -36,6 +36,10 @@ FILES = {
     "wrong.c": "int main(void)\n{\n    return x;\n}\n",
     "store.c": "void store(int *p)\n{\n    p[1] = 2;\n}\n",
     "user.c": "extern void store(int *p);\nint main(void)\n{\n    int one;\n    store(&one);\n    return one;\n}\n",
+    "grow.c": "#include <stdlib.h>\nint main(void)\n{\n    char *p, *q;\n    q = malloc(2);\n    p = realloc(q, 6);\n    p = realloc(p, 3);\n"
+              "    p[4] = 0;\n    return 0;\n}\n",
+    "moved.c": "#include <stdlib.h>\nint main(void)\n{\n    char *p, *q;\n    q = malloc(2);\n    q[0] = 1;\n    p = realloc(q, 6);\n    return p[0] + q[0];\n}\n",
+    "crash.c": "int main(void)\n{\n    int *p;\n    p = 0;\n    return *p;\n}\n",
     "copy.c": "#include <stdlib.h>\n#include <string.h>\nint main(void)\n{\n    strcpy(malloc(3), \"abc\");\n    return 0;\n}\n",
     "mapped.c": "int main(void) { int x; return x; }\n",
     "real.c": "\n\nint main(void) {\n    int x;\n    return x;\n}\n",
@@ -44,7 +48,7 @@ FILES = {
 CASES = [
     (["heap"], 1, ["> violation U2 in main at heap:12 object 4 offset 10 size 1", "-- at heap.c:12", "    p[10] = 1;",
                    "    main at heap:12 heap.c:12: p[10] = 1;", "    p = object 4 + 0",
-                   "-- object 4 is a heap block of 10 bytes, which malloc or realloc gave here",
+                   "-- object 4 is a heap block of 10 bytes, which malloc gave here",
                    "    heap:room at heap:6 heap.c:6: return malloc(n * 2);", "    main at heap:11 heap.c:11: p = room(5);"]),
     (["freed.c"], 1, ["> violation U3 in main at freed:12 object 2 offset 0 size 4", "    c = {dead object 2 + 0}",
                       "-- object 2 is a heap block of 12 bytes, which calloc gave here", "    main at freed:10 freed.c:10: c.item = calloc(3, sizeof(int));",
@@ -64,10 +68,18 @@ CASES = [
                             "-- object 1 is an object of main's outermost block, born here"]),
     # compiled code tests nothing itself: what was not written is found where it is read
     (["user", "--object", "store"], 1, ["> violation U1 in main at user:6 object 1 offset 0 size 4", "    one = ?"]),
+    (["crash", "--object", "crash"], 1, ["-- calls, the innermost one first, as the last function was entered"]),
+    # p and q are the first objects
+    (["grow"], 1, ["> violation U5 in main at grow:8 left object 5 + 0 right 4", "-- object 5 is a heap block of 3 bytes, which realloc gave here",
+                   "    main at grow:7 grow.c:7: p = realloc(p, 3);"]),
+    (["moved"], 1, ["> violation U3 in main at moved:8 left dead object 3 + 0 right 0",
+                    "-- object 3 is a heap block of 2 bytes, which malloc gave here", "-- and it died here",
+                    "    main at moved:7 moved.c:7: p = realloc(q, 6);"]),
+    (["sub/up"], 0, ["> exit 0"]),
     # a copy by the library is tested, whoever calls it
     (["--object", "copy", "copy"], 1, ["> violation U2 in main at copy:0 object 2 offset 3 size 1",
                                        "-- the line is in compiled code of copy; leave it in source form to see it",
-                                       "-- object 2 is a heap block of 3 bytes, which malloc or realloc gave here"]),
+                                       "-- object 2 is a heap block of 3 bytes, which malloc gave here"]),
     (["mapped"], 1, ["> violation U1 in main at mapped:1 object 1 offset 0 size 4", "-- at real.c:5", "    return x;"]),
 ]
 REFUSED = [
@@ -101,13 +113,16 @@ def fill(room):
     for name, text in FILES.items():
         pathlib.Path(room, name).write_text(text)
     pathlib.Path(room, "input").write_text("some\n> words")
+    pathlib.Path(room, "sub").mkdir()
+    pathlib.Path(room, "sub", "up.c").write_text("#include \"../three.h\"\nint main(void)\n{\n    return THREE - 3 ? 1 : 0;\n}\n")
+    pathlib.Path(room, "three.h").write_text("#define THREE 3\n")
     pathlib.Path(room, "store.o").write_text("a file of the user")
     ranges = [{"first": 1, "last": 1, "file": "real.c", "line": 5}]
     pathlib.Path(room, "mapped.map.json").write_text(json.dumps({"ranges": ranges}))
 
 
 def content(room):
-    return {path.name: path.read_bytes() for path in pathlib.Path(room).iterdir()}
+    return {path: path.read_bytes() for path in pathlib.Path(room).rglob("*") if path.is_file()}
 
 
 def early(room):

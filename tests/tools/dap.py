@@ -1,0 +1,256 @@
+#!/usr/bin/env python3
+"""Checks tools/saber-dap: requests, their answers and the events, worked out by hand from the C programs.
+
+usage: tests/tools/dap.py PROGRAM
+
+The transcripts tests/tools/*.dap were taken of real clients; what such a client sent is sent again, and each answer has to
+hold what the adapter answered then. The last line is 'N passed, M failed'.
+"""
+import json
+import os
+import pathlib
+import queue
+import subprocess
+import sys
+import tempfile
+import threading
+
+ROOT = pathlib.Path(__file__).resolve().parent.parent.parent
+DAP = ROOT / "tools" / "saber-dap"
+HERE = pathlib.Path(__file__).resolve().parent
+SECONDS = 120
+FILES = {
+    "stack.c": "#include <stdlib.h>\nstatic int *room;\nstatic int used, limit = 9;\n\nvoid push(int n)\n{\n    room[used] = n;\n    used++;\n}\n\n"
+               "void begin(int n)\n{\n    room = malloc(n * sizeof(int));\n    limit = n;\n}\n",
+    "user.c": "#include <stdio.h>\nextern void push(int n);\nextern void begin(int n);\nstruct pair { int a; int b[2]; };\n\nint main(void)\n{\n"
+              "    struct pair p = { 1, { 2, 3 } };\n    int i;\n\n    begin(p.b[0]);\n    for (i = 0; i < 3; i++) {\n        printf(\"push %d\\n\", i);\n"
+              "        push(i);\n    }\n    return 0;\n}\n",
+    "spin.c": "static int turns;\nstatic void work(void)\n{\n    int i;\n    for (i = 0; i < 5; i++)\n        turns = 1;\n}\n"
+              "int main(void)\n{\n    work();\n    for (;;)\n        turns = 7;\n}\n",
+    "slow.c": "static int sum;\nstatic void work(int n)\n{\n    int i;\n    for (i = 0; i < n; i++)\n        sum = i & 7;\n}\n"
+              "int main(void)\n{\n    sum = 1;\n    work(250000);\n    sum = 2;\n    return 5;\n}\n",
+    "wrong.c": "int main(void)\n{\n    return x;\n}\n",
+}
+
+
+class Client:
+    """An editor's side of the protocol."""
+
+    def __init__(self, program, room):
+        self.child = subprocess.Popen([DAP, "--program", program], cwd=room, stdin=subprocess.PIPE, stdout=subprocess.PIPE,
+                                      stderr=subprocess.PIPE)
+        self._told, self._number, self.events = queue.Queue(), 0, []
+        threading.Thread(target=self._read, daemon=True).start()
+
+    def _read(self):
+        source = self.child.stdout
+        while head := source.readline():
+            source.readline()
+            self._told.put(json.loads(source.read(int(head.split(b":")[1]))))
+        self._told.put(None)
+
+    def send(self, message):
+        text = json.dumps(message).encode()
+        self.child.stdin.write(b"Content-Length: %d\r\n\r\n" % len(text) + text)
+        self.child.stdin.flush()
+
+    def ask(self, command, **given):
+        """The answer to a request; events that come before it are kept."""
+        self._number += 1
+        self.send({"seq": self._number, "type": "request", "command": command, "arguments": given})
+        while (told := self._next()) and told["type"] == "event":
+            self.events.append(told)
+        return told or {}
+
+    def event(self, *names):
+        """The next event of one of these names; those before it are dropped."""
+        while self.events:
+            told = self.events.pop(0)
+            if told["event"] in names:
+                return told["body"]
+        while told := self._next():
+            if told["type"] == "event" and told["event"] in names:
+                return told["body"]
+        return {}
+
+    def output(self, until):
+        """What the program wrote up to the next event of a name, and that event."""
+        text = ""
+        while body := self._any():
+            if body["event"] == until:
+                return text, body["body"]
+            if body["event"] == "output" and body["body"]["category"] == "stdout":
+                text += body["body"]["output"]
+        return text, {}
+
+    def _any(self):
+        return self.events.pop(0) if self.events else self._next()
+
+    def _next(self):
+        try:
+            return self._told.get(timeout=SECONDS)
+        except queue.Empty:
+            return None
+
+    def launched(self, **given):
+        """Launches modules, up to where breakpoints are taken; tells whether that succeeded."""
+        self.ask("initialize", adapterID="saber")
+        answer = self.ask("launch", **given)
+        return answer["success"] and self.event("initialized") == {}
+
+    def frames(self):
+        body = self.ask("stackTrace", threadId=1)["body"]
+        return [(it["name"], pathlib.Path(it["source"]["path"]).name, it["line"]) for it in body["stackFrames"]]
+
+    def values(self, number=1):
+        return {it["name"]: it["value"] for it in self.ask("variables", variablesReference=number)["body"]["variables"]}
+
+    def status(self):
+        self.child.stdin.close()
+        return self.child.wait(SECONDS)
+
+
+def breakpoints(program, room):
+    """Lines and functions, steps, values, and the end by an undefined step."""
+    client = Client(program, room)
+    yield "launch", client.launched(modules=["user", "stack.c"], cwd=str(room))
+    # line 12 is `for`, line 10 has no statement, and none begins behind line 16
+    told = client.ask("setBreakpoints", source={"path": str(room / "user.c")}, breakpoints=[{"line": 10}, {"line": 17}])
+    yield "lines", [it.get("line") for it in told["body"]["breakpoints"]] == [11, None]
+    told = client.ask("setFunctionBreakpoints", breakpoints=[{"name": "push"}, {"name": "pop"}])
+    yield "functions", [it["verified"] for it in told["body"]["breakpoints"]] == [True, False]
+    client.ask("configurationDone")
+    yield "a line", client.event("stopped")["reason"] == "breakpoint" and client.frames() == [("main", "user.c", 11)]
+    yield "values", client.values() == {"p": "{1, {2, 3}}"} | {"i": "?"}
+    yield "parts", client.values(1000) == {"[0]": "1", "[1]": "{2, 3}"}
+    yield "a name", client.ask("evaluate", expression="p", context="hover")["body"]["result"] == "{1, {2, 3}}"
+    yield "no name", not client.ask("evaluate", expression="p.a", context="hover")["success"]
+    client.ask("next")
+    yield "next goes over a call", client.event("stopped")["reason"] == "step" and client.frames() == [("main", "user.c", 12)]
+    client.ask("continue")
+    text, stopped = client.output("stopped")
+    yield "a function", text == "push 0\n" and stopped["reason"] == "function breakpoint"
+    yield "calls", client.frames() == [("push", "stack.c", 5), ("main", "user.c", 14)]
+    yield "the function's names", client.values() == {"n": "0", "room": "object 8 + 0", "used": "0"}
+    yield "the module's other names", client.values(2) == {"limit": "2"}
+    yield "names of the innermost call alone", client.ask("scopes", frameId=2)["body"]["scopes"] == []
+    client.ask("stepOut")
+    client.event("stopped")
+    yield "out", client.frames() == [("main", "user.c", 12)]
+    client.ask("setFunctionBreakpoints", breakpoints=[])
+    for line in (13, 14, 7):
+        client.ask("stepIn")
+        client.event("stopped")
+        yield f"in, to line {line}", client.frames()[0][2] == line
+    client.ask("continue")
+    text, stopped = client.output("stopped")
+    yield "an undefined step", text == "push 2\n" and stopped["reason"] == "exception" and \
+        stopped["text"] == "violation U2 in push at stack:7 object 8 offset 8 size 4"
+    yield "where it is", client.frames() == [("push", "stack.c", 7), ("main", "user.c", 14)]
+    yield "its values", client.values() == {"n": "2", "room": "object 8 + 0", "used": "2"}
+    told = client.ask("exceptionInfo", threadId=1)["body"]
+    yield "why", told["exceptionId"] == "U2" and "object 8 is a heap block of 8 bytes" in told["details"]["stackTrace"]
+    client.ask("continue")
+    yield "the end", client.event("terminated") == {} and client.ask("disconnect")["success"] and client.status() == 0
+
+
+def pauses(program, room):
+    """A run that never ends is paused, where it is."""
+    client = Client(program, room)
+    yield "launch", client.launched(modules=["spin"], cwd=str(room), stopOnEntry=True)
+    client.ask("configurationDone")
+    yield "entry", client.event("stopped")["reason"] == "entry" and client.frames() == [("main", "spin.c", 8)]
+    client.ask("continue")
+    told = client.ask("stackTrace", threadId=1)
+    yield "a run that goes on shows nothing", not told["success"] and told["message"] == "the run goes on"
+    client.ask("pause", threadId=1)
+    yield "paused", client.event("stopped")["reason"] == "pause"
+    frames = client.frames()
+    yield "where", frames in ([("main", "spin.c", 11)], [("main", "spin.c", 12)]) or print(frames)
+    client.ask("setBreakpoints", source={"path": str(room / "spin.c")}, breakpoints=[{"line": 12}])
+    client.ask("continue")
+    yield "and on", client.event("stopped")["reason"] == "breakpoint" and client.frames() == [("main", "spin.c", 12)]
+    yield "terminate", client.ask("terminate")["success"] and client.event("terminated") == {} and client.status() == 0
+
+
+def long_steps(program, room):
+    """A step over a call that takes more than a slice, and the exit status of the program."""
+    client = Client(program, room)
+    client.launched(modules=["slow"], cwd=str(room), stopOnEntry=True)
+    client.ask("configurationDone")
+    client.event("stopped")
+    for line in (10, 11, 12):
+        client.ask("next")
+        client.event("stopped")
+        yield f"over, to line {line}", client.frames() == [("main", "slow.c", line)]
+    yield "what it did", client.ask("evaluate", expression="sum")["body"]["result"] == "7"
+    client.ask("continue")
+    yield "its exit status", client.event("exited") == {"exitCode": 5} and client.event("terminated") == {}
+
+
+def denied(program, room):
+    """What cannot be done, and sessions that end early."""
+    client = Client(program, room)
+    client.ask("initialize", adapterID="saber")
+    for given, reason in (({"modules": ["absent"]}, f"there is no file {room / 'absent.c'}"), ({"modules": []}, "launch: no modules are named"),
+                          ({"modules": ["wrong"]}, "load wrong: refused C5 X6 wrong.c:3"), ({"modules": ["stack"]}, "run: refused C13")):
+        told = client.ask("launch", cwd=str(room), **given)
+        yield reason, not told["success"] and told["message"] == reason
+    told = client.ask("dance")
+    yield "no request", not told["success"] and told["message"] == "there is no request dance"
+    yield "the editor ends", client.status() == 0
+    early = room / "early.sh"
+    early.write_text("#!/bin/sh\necho 'saber: no memory' >&2\nexit 6\n")
+    early.chmod(0o755)
+    client = Client(early, room)
+    client.ask("initialize", adapterID="saber")
+    told = client.ask("launch", cwd=str(room), modules=["spin"])
+    yield "a session that ends", not told["success"] and told["message"].startswith("the session ended early with status 6")
+
+
+def replayed(program, room):
+    """Sends what real clients sent; each answer has to hold what was answered then. A text ROOM stands for the folder."""
+    for path in sorted(HERE.glob("*.dap")):
+        lines = [json.loads(it) for it in path.read_text().replace("ROOM", str(room)).splitlines() if not it.startswith("#")]
+        client, failed = Client(program, room), []
+        for line in lines:
+            if "sent" in line:
+                client.send(line["sent"])
+            elif not holds(client._any(), line["told"]):
+                failed.append(line["told"])
+                break
+        if failed:
+            print(f"not told: {failed[0]}")
+        yield path.name, lines and not failed
+
+
+def holds(told, wanted):
+    """Whether a message has all that is wanted of it, whatever it has besides."""
+    if isinstance(wanted, dict):
+        return isinstance(told, dict) and all(holds(told.get(name), it) for name, it in wanted.items())
+    if isinstance(wanted, list):
+        return isinstance(told, list) and len(told) == len(wanted) and all(holds(a, b) for a, b in zip(told, wanted))
+    return told == wanted
+
+
+def main():
+    if len(sys.argv) != 2:
+        sys.exit(__doc__)
+    program = pathlib.Path(sys.argv[1]).resolve()
+    os.environ["PYTHONDONTWRITEBYTECODE"] = "1"
+    passed, failed = 0, 0
+    for part in (breakpoints, pauses, long_steps, denied, replayed):
+        with tempfile.TemporaryDirectory() as name:
+            room = pathlib.Path(name).resolve()
+            for file, text in FILES.items():
+                (room / file).write_text(text)
+            for check, right in part(program, room):
+                passed, failed = passed + bool(right), failed + (not right)
+                if not right:
+                    print(f"FAIL {part.__name__}: {check}")
+    print(f"{passed} passed, {failed} failed")
+    return 1 if failed or not passed else 0
+
+
+if __name__ == "__main__":
+    sys.exit(main())

@@ -1,0 +1,97 @@
+"""Writes what was found about the end of a run, with the places of the user's files."""
+import re
+
+from saber_report import RULES
+from saber_search import Lost
+
+MOST_CALLS = 20
+MOST_VALUE = 120
+
+
+class Teller:
+    """Writes what was found, with the places of the user's files."""
+
+    def __init__(self, sources, sink):
+        self.sources, self._sink = sources, sink
+
+    def say(self, text):
+        """Writes a line at once, since a search may take seconds."""
+        print(text, file=self._sink, flush=True)
+
+    def call(self, line):
+        """A line of `where`, with the text of its source line."""
+        found = re.search(r" at (\w+):(\d+)$", line)
+        if not found or found[2] == "0":
+            return line
+        place = self.sources.place(found[1], int(found[2]))
+        return f"{line:<32} {place.file}:{place.line}: {place.text}"
+
+    def calls(self, lines, indent="    "):
+        shown = list(lines)
+        if len(shown) > MOST_CALLS:
+            half = MOST_CALLS // 2
+            shown = [*shown[:half], f".. {len(shown) - MOST_CALLS} more calls ..", *shown[-half:]]
+        for line in shown:
+            self.say(indent + self.call(line))
+
+    def report(self, violation):
+        """What the rule means, and the source line."""
+        self.say(f"-- {violation.rule}: {RULES[violation.rule]}")
+        if not violation.line:
+            self.say(f"-- the line is in compiled code of {violation.module}; leave it in source form to see it")
+            return
+        place = self.sources.place(violation.module, violation.line)
+        self.say(f"-- at {place.file}:{place.line}")
+        for at in range(len(self.sources.statement(violation.module, violation.line))):
+            line = self.sources.place(violation.module, violation.line + at)
+            self.say(f"    {line.text}")
+
+    def scene(self, scene, is_at_end):
+        self.say("-- calls, the innermost one first" + ("" if is_at_end else ", as the last function was entered"))
+        self.calls(scene.calls)
+        if scene.values:
+            self.say("-- values, before this line is carried out")
+            for it in scene.values:
+                self.say("    " + (it if len(it) <= MOST_VALUE else it[:MOST_VALUE] + " .."))
+
+    def block(self, number, block, is_dead):
+        self.say(f"-- object {number} is a heap block of {block.size} bytes, which {block.caller} gave here")
+        self.calls(block.born)
+        if block.died:
+            self.say("-- and it died here")
+            self.calls(block.died)
+        elif is_dead:
+            self.say("-- and where it died was not seen")
+
+    def birth(self, number, birth, is_dead):
+        self.say(f"-- object {number} is {birth.kind}" + (", born here" if birth.calls else ""))
+        self.calls(birth.calls)
+        if is_dead and birth.left:
+            self.say("-- and it died as its block was left, at the latest behind this line")
+            self.calls([birth.left])
+
+
+def explain(explanation, teller):
+    """Tells all that can be found; what cannot is said too."""
+    violation = explanation.violation
+    if violation:
+        teller.report(violation)
+    try:
+        teller.scene(explanation.scene(), bool(violation and violation.line))
+    except Lost as reason:
+        teller.say(f"-- the calls were not found: {reason}")
+    for number in violation.numbers if violation else ():
+        explain_object(explanation, teller, number)
+
+
+def explain_object(explanation, teller, number):
+    """Tells the life of an object that the report names."""
+    is_dead = explanation.violation.rule == "U3" or f"dead object {number}" in explanation.text
+    try:
+        block = explanation.block(number)
+        if block:
+            teller.block(number, block, is_dead)
+        else:
+            teller.birth(number, explanation.birth(number), is_dead)
+    except Lost as reason:
+        teller.say(f"-- the birth of object {number} was not found: {reason}")
