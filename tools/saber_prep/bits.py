@@ -14,19 +14,18 @@ def bit_fields(unit: Unit) -> None:
             widths[node.id] = (widen(unit, node), "unsigned" not in node.plain and node.plain != "_Bool")
     if not widths:
         return
-    for root in unit.nodes:
-        for node in root.walk():
-            target = member(node.inner[0]) if node.inner else None
-            if target is None or target.target not in widths:
-                continue
-            width, signed = widths[target.target]
-            if node.kind == "BinaryOperator" and node.data.get("opcode") == "=":
-                value = node.inner[1]
-                unit.edits.replace(value.first, value.last, *cut(width, signed, [Span(value.first, value.last)]))
-            elif node.kind == "CompoundAssignOperator":
-                computed(unit, node, width, signed, node.data["opcode"][:-1], [Span(node.inner[1].first, node.inner[1].last)])
-            elif node.kind == "UnaryOperator" and node.data.get("opcode") in ("++", "--"):
-                computed(unit, node, width, signed, node.data["opcode"][0], ["1"])
+    for node in unit.inner_first():
+        target = member(node.inner[0]) if node.inner else None
+        if target is None or target.target not in widths:
+            continue
+        width, signed = widths[target.target]
+        if node.kind == "BinaryOperator" and node.data.get("opcode") == "=":
+            value = node.inner[1]
+            unit.edits.replace(value.first, value.last, *cut(width, signed, [Span(value.first, value.last)]))
+        elif node.kind == "CompoundAssignOperator":
+            computed(unit, node, width, signed, node.data["opcode"][:-1], [Span(node.inner[1].first, node.inner[1].last)])
+        elif node.kind == "UnaryOperator" and node.data.get("opcode") in ("++", "--"):
+            computed(unit, node, width, signed, node.data["opcode"][0], ["1"])
 
 
 def widen(unit: Unit, node: Node) -> int:

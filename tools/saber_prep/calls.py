@@ -14,6 +14,7 @@ CORE = set(
     "strcat strcmp strncmp strchr strrchr isalnum isalpha iscntrl isdigit isgraph islower isprint ispunct isspace isupper isxdigit "
     "tolower toupper _assert_fail".split()
 )
+DEFINITION = re.compile(r"^((?!static )[a-z][^\n;{]*?\b(\w+)\([^\n;]*\))\n\{\n(?:.*\n)*?\}\n", re.M)
 SUPPORT = [INCLUDE.parent / "saberlib.c", INCLUDE.parent / "saberio.c"]
 FRAME = [
     "void saber_open ( void ) ;", "void saber_number ( unsigned long ) ;", "void saber_pointer ( const void * ) ;",
@@ -25,7 +26,7 @@ FORMATTED = {"printf": 0, "fprintf": 1, "sprintf": 1, "snprintf": 2, "vprintf": 
 
 def supported() -> set[str]:
     """The functions of the support modules."""
-    return {name for file in SUPPORT for name in re.findall(r"^[a-z][^\n;{]*?\b(\w+)\([^\n;]*\)\n\{", file.read_text(), re.M)}
+    return {it[2] for file in SUPPORT for it in DEFINITION.finditer(file.read_text())}
 
 
 def callee(node: Node) -> Node | None:
@@ -39,16 +40,15 @@ def callee(node: Node) -> Node | None:
 def calls(unit: Unit) -> None:
     """Rewrites each call that the core cannot take as it stands."""
     own = {it.name for it in unit.functions()}
-    for root in unit.nodes:
-        for node in root.walk():
-            if node.kind != "CallExpr":
-                continue
-            named = callee(node)
-            name = named.data["referencedDecl"].get("name", "") if named is not None else ""
-            if name in FORMATTED:
-                formats(unit, node, FORMATTED[name])
-            if not (name == "printf" and name not in own) and is_variadic(node):
-                variadic(unit, node)
+    for node in unit.inner_first():
+        if node.kind != "CallExpr":
+            continue
+        named = callee(node)
+        name = named.data["referencedDecl"].get("name", "") if named is not None else ""
+        if name in FORMATTED:
+            formats(unit, node, FORMATTED[name])
+        if not (name == "printf" and name not in own) and is_variadic(node):
+            variadic(unit, node)
 
 
 def is_variadic(node: Node) -> bool:
@@ -102,9 +102,9 @@ def variadic(unit: Unit, node: Node) -> None:
     if node.type == "void":
         parts += [call, ") , saber_close ( ) )"]
     elif is_pointer(node):
-        parts += [f"( {node.type} ) saber_close_pointer (", call, ") ) )"]
+        parts += [f"( {unit.spelled(node.type)} ) saber_close_pointer (", call, ") ) )"]
     else:
-        parts += [f"( {node.type} ) saber_close_number (", call, ") ) )"]
+        parts += [f"( {unit.spelled(node.type)} ) saber_close_number (", call, ") ) )"]
     unit.edits.replace(node.first, node.last, *parts)
     unit.note(Weight.PLAIN, node.first, "call with a variable number of arguments")
 
@@ -138,20 +138,26 @@ def better_conversion(found: re.Match) -> str:
 
 
 def undeclared(unit: Unit) -> None:
-    """Declares each function that is called without a declaration, with the types of its first call."""
-    known = {it.name for it in unit.nodes}
-    for root in unit.nodes:
-        for node in root.walk():
-            named = callee(node) if node.kind == "CallExpr" else None
-            if named is None or named.data["referencedDecl"].get("kind") != "FunctionDecl":
-                continue
-            name = named.data["referencedDecl"].get("name", "")
-            if name in known or name.startswith("__builtin"):
-                continue
-            known.add(name)
-            types = " , ".join(it.type for it in node.inner[1:]) or "void"
-            unit.edits.put_before(unit.in_item(root.first).first, f"int {name} ( {types} ) ;")
-            unit.note(Weight.TOLD, node.first, f"call of {name} without a declaration", f"it is declared as int {name}({types}); include its header")
+    """Declares each function that is called before any declaration: as it is defined below, or as its first call has it."""
+    first: dict[str, Node] = {}
+    for it in unit.nodes:
+        if it.kind == "FunctionDecl" and it.place >= 0:
+            first.setdefault(it.name, it)
+    done: set[str] = set()
+    for node in reversed(unit.inner_first()):
+        named = callee(node) if node.kind == "CallExpr" else None
+        if named is None or named.data["referencedDecl"].get("kind") != "FunctionDecl":
+            continue
+        name = named.data["referencedDecl"].get("name", "")
+        there = first.get(name)
+        if name in done or name.startswith("__builtin") or there is not None and there.place < node.first:
+            continue
+        done.add(name)
+        types = [it.plain for it in (there.inner if there else node.inner[1:]) if there is None or it.kind == "ParmVarDecl"]
+        result = unit.spelled(there.plain[: there.plain.index("(")]) if there else "int"
+        listed = " , ".join(unit.spelled(it) for it in types) or "void"
+        unit.edits.put_before(unit.in_item(node.first).first, f"{result} {name} ( {listed} ) ;")
+        unit.note(Weight.TOLD, node.first, f"call of {name} without a declaration", f"it is declared as {result} {name}({listed})")
 
 
 def main_with_arguments(unit: Unit) -> None:
@@ -189,15 +195,14 @@ def names_of_library(unit: Unit) -> None:
         if function.name in CORE and function.data.get("storageClass") != "static":
             unit.note(Weight.PROBLEM, function.place, f"definition of the library's {function.name}", f"give -D{function.name}=own_{function.name} for all files")
     told = set()
-    for root in unit.nodes:
-        for node in root.walk():
-            if node.kind != "DeclRefExpr" or node.data.get("referencedDecl", {}).get("kind") != "FunctionDecl":
-                continue
-            name = node.data["referencedDecl"].get("name", "")
-            target = unit.declared.get(node.target)
-            header = target is not None and unit.origin(target.first).file.startswith(str(INCLUDE))
-            if name == "printf" and not (node.parent is not None and node.parent.parent is not None and callee(node.parent.parent) is node):
-                unit.note(Weight.PROBLEM, node.first, "printf as a value", "write a function that calls it")
-            if header and name not in CORE | given | own and name not in told:
-                told.add(name)
-                unit.note(Weight.TOLD, node.first, f"{name} is in no library here", "a run that calls it ends with U17; give a module that defines it")
+    for node in unit.inner_first():
+        if node.kind != "DeclRefExpr" or node.data.get("referencedDecl", {}).get("kind") != "FunctionDecl":
+            continue
+        name = node.data["referencedDecl"].get("name", "")
+        target = unit.declared.get(node.target)
+        header = target is not None and unit.origin(target.first).file.startswith(str(INCLUDE))
+        if name == "printf" and not (node.parent is not None and node.parent.parent is not None and callee(node.parent.parent) is node):
+            unit.note(Weight.PROBLEM, node.first, "printf as a value", "write a function that calls it")
+        if header and name not in CORE | given | own and name not in told:
+            told.add(name)
+            unit.note(Weight.TOLD, node.first, f"{name} is in no library here", "a run that calls it ends with U17; give a module that defines it")

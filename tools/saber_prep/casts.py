@@ -21,15 +21,14 @@ def pointee(text: str) -> str | None:
 
 
 def casts(unit: Unit) -> None:
-    for root in unit.nodes:
-        for node in root.walk():
-            kind = node.data.get("castKind")
-            if node.kind == "ImplicitCastExpr" and kind in ("BitCast", "NoOp"):
-                implicit(unit, node)
-            elif kind in ("IntegralToPointer", "PointerToIntegral"):
-                between_numbers(unit, node, kind)
-            elif node.kind == "CStyleCastExpr" and kind == "BitCast":
-                functions(unit, node)
+    for node in unit.inner_first():
+        kind = node.data.get("castKind")
+        if node.kind == "ImplicitCastExpr" and kind in ("BitCast", "NoOp"):
+            implicit(unit, node)
+        elif kind in ("IntegralToPointer", "PointerToIntegral"):
+            between_numbers(unit, node, kind)
+        elif node.kind == "CStyleCastExpr" and kind == "BitCast":
+            functions(unit, node)
 
 
 def implicit(unit: Unit, node: Node) -> None:
@@ -66,7 +65,7 @@ def cast_to(unit: Unit, node: Node) -> None:
         unit.note(Weight.PROBLEM, node.first, "conversion to a type without a name", "give the type a name")
         return
     if any(it.kind == "CompoundStmt" for it in node.above()) or node.parent is not None:
-        unit.edits.wrap(node.first, node.last, f"( ( {node.type.replace('volatile ', '')} ) (", ") )")
+        unit.edits.wrap(node.first, node.last, f"( ( {unit.spelled(node.type)} ) (", ") )")
         unit.note(Weight.TOLD, node.first, f"conversion from {node.inner[0].type} to {node.type}", "a cast is written")
 
 
@@ -99,11 +98,11 @@ def between_numbers(unit: Unit, node: Node, kind: str) -> None:
     value = node.inner[-1]
     if kind == "IntegralToPointer":
         unit.need("void * saber_place ( unsigned long ) ;")
-        unit.edits.replace(node.first, node.last, f"( ( {node.type} ) saber_place (", Span(value.first, value.last), ") )")
+        unit.edits.replace(node.first, node.last, f"( ( {unit.spelled(node.type)} ) saber_place (", Span(value.first, value.last), ") )")
         unit.note(Weight.LEFT_OUT, node.first, "a pointer made of a number", "null, 1 to 255 and -1 have places in saberlib; a run that makes another one ends there")
     else:
         unit.need("unsigned long saber_place_number ( const void * ) ;")
-        unit.edits.replace(node.first, node.last, f"( ( {node.type} ) saber_place_number (", Span(value.first, value.last), ") )")
+        unit.edits.replace(node.first, node.last, f"( ( {unit.spelled(node.type)} ) saber_place_number (", Span(value.first, value.last), ") )")
         unit.note(Weight.LEFT_OUT, node.first, "the address of an object as a number", "a run that asks for one ends in saberlib; a test of alignment has often a macro that switches it off")
 
 
@@ -124,7 +123,7 @@ def small_number(unit: Unit, node: Node, inner: Node) -> bool:
     if not -1 <= value <= 255:
         return False
     unit.need("extern char saber_places [ 257 ] ;")
-    unit.edits.replace(node.first, node.last, f"( ( {node.type} ) ( saber_places + {value % 257} ) )")
+    unit.edits.replace(node.first, node.last, f"( ( {unit.spelled(node.type)} ) ( saber_places + {value % 257} ) )")
     unit.note(Weight.TOLD, node.first, f"the number {value} as a pointer", "it is a place in saberlib, other than all objects and null")
     return True
 
@@ -142,14 +141,13 @@ def is_void_pointer(node: Node) -> bool:
 
 def void_arithmetic(unit: Unit) -> None:
     """Arithmetic on `void *` counts bytes for many compilers; here a cast says so."""
-    for root in unit.nodes:
-        for node in root.walk():
-            if node.kind == "BinaryOperator" and node.data.get("opcode") in ("+", "-"):
-                binary(unit, node)
-            elif node.kind == "CompoundAssignOperator" and is_void_pointer(node.inner[0]):
-                moved(unit, node, node.inner[0], node.data["opcode"][0], node.inner[1])
-            elif node.kind == "UnaryOperator" and node.data.get("opcode") in ("++", "--") and is_void_pointer(node.inner[0]):
-                moved(unit, node, node.inner[0], node.data["opcode"][0], None)
+    for node in unit.inner_first():
+        if node.kind == "BinaryOperator" and node.data.get("opcode") in ("+", "-"):
+            binary(unit, node)
+        elif node.kind == "CompoundAssignOperator" and is_void_pointer(node.inner[0]):
+            moved(unit, node, node.inner[0], node.data["opcode"][0], node.inner[1])
+        elif node.kind == "UnaryOperator" and node.data.get("opcode") in ("++", "--") and is_void_pointer(node.inner[0]):
+            moved(unit, node, node.inner[0], node.data["opcode"][0], None)
 
 
 def binary(unit: Unit, node: Node) -> None:

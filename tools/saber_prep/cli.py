@@ -80,7 +80,7 @@ def written(words: Words, file: pathlib.Path, name: str, names: Names) -> int:
     try:
         words.output.mkdir(parents=True, exist_ok=True)
         target.write_bytes(lines.text().encode("latin-1"))
-        (words.output / f"{name}.map.json").write_text(map_of(unit, name, lines))
+        (words.output / f"{name}.map.json").write_text(map_of(unit, name, lines, words.output))
     except OSError as fault:
         raise Failure(f"{target}: {fault.strerror}", 2) from None
     names.used |= names_used(unit)

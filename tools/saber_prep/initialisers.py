@@ -1,6 +1,8 @@
 """Initialisers with designators, compound literals, and lists that are computed in a function."""
 from __future__ import annotations
 
+import re
+
 from .edits import Part, Span
 from .notes import Weight
 from .tree import Node
@@ -60,16 +62,21 @@ def has_designators(unit: Unit, node: Node) -> bool:
     return False
 
 
+def is_left_out(item: Node) -> bool:
+    """Whether a list leaves a member out, which is zero then."""
+    return item.kind == "ImplicitValueInitExpr" or item.first < 0
+
+
 def written(unit: Unit, node: Node) -> list[Part]:
     """A list in the order of its members, without designators."""
     parts: list[Part] = ["{"]
     items = list(node.inner)
-    while len(items) > 1 and items[-1].kind == "ImplicitValueInitExpr" and "[" not in node.type:
+    while len(items) > 1 and is_left_out(items[-1]) and "[" not in node.type:
         items.pop()
     for number, item in enumerate(items):
         if number:
             parts.append(",")
-        if item.kind == "ImplicitValueInitExpr":
+        if is_left_out(item):
             parts.append("{ 0 }" if unit.is_record(item) or item.plain.endswith("]") else "0")
         elif item.kind == "InitListExpr":
             parts += written(unit, item)
@@ -95,16 +102,28 @@ def assignments(unit: Unit, path: str, node: Node, zeros: bool) -> list[Part]:
     """The statements that do what a list does to the object `path`; with `zeros` also for what it leaves out."""
     parts: list[Part] = []
     for below, item in zip(paths(unit, path, node), node.inner):
-        if item.kind == "InitListExpr":
-            parts += assignments(unit, below, item, zeros)
-        elif item.kind == "ImplicitValueInitExpr":
+        if is_left_out(item):
             parts += zeroed(unit, below, item.type, item.plain) if zeros else []
+        elif item.kind == "InitListExpr":
+            parts += assignments(unit, below, item, zeros)
         elif item.kind == "StringLiteral" and item.plain.endswith("]"):
-            parts += ["memcpy (", below, ",", Span(item.first, item.last), f", sizeof ( {below} ) ) ;"]
-            unit.need("void * memcpy ( void * , const void * , unsigned int ) ;")
+            parts += text_copied(unit, below, item)
         else:
             parts += [below, "=", Span(item.first, item.last), ";"]
     return parts
+
+
+def text_copied(unit: Unit, path: str, node: Node) -> list[Part]:
+    """The statements that copy a string into an array of characters, with zeros behind it."""
+    unit.need("void * memcpy ( void * , const void * , unsigned int ) ;")
+    unit.need("void * memset ( void * , int , unsigned int ) ;")
+    span = Span(node.first, node.last)
+    text = "".join(it.text[it.text.index('"') + 1 : -1] for it in unit.tokens[node.first : node.last + 1])
+    length = len(re.findall(r"\\x[0-9a-fA-F]+|\\[0-7]{1,3}|\\.|.", text)) + 1
+    room = re.search(r"\[(\d+)\]", node.plain)
+    if room is not None and length > int(room[1]):
+        return [f"memcpy ( {path} ,", span, f", sizeof ( {path} ) ) ;"]
+    return [f"memset ( {path} , 0 , sizeof ( {path} ) ) ; memcpy ( {path} ,", span, f", {length} ) ;"]
 
 
 def paths(unit: Unit, path: str, node: Node) -> list[str]:
@@ -170,23 +189,22 @@ def constant_lists(unit: Unit) -> None:
 
 def compound_literals(unit: Unit) -> None:
     """Gives each compound literal an object: of the file outside of functions, of the function inside."""
-    for root in unit.nodes:
-        for node in root.walk():
-            if node.kind != "CompoundLiteralExpr":
-                continue
-            owner = next((it for it in node.above() if it.kind == "VarDecl"), None)
-            if owner is not None and is_static(owner):
-                if owner.inner[-1] is not node:
-                    outer_literal(unit, node, root)
-            else:
-                inner_literal(unit, node)
+    for node in unit.inner_first():
+        if node.kind != "CompoundLiteralExpr":
+            continue
+        owner = next((it for it in node.above() if it.kind == "VarDecl"), None)
+        if owner is not None and is_static(owner):
+            if owner.inner[-1] is not node:
+                outer_literal(unit, node)
+        else:
+            inner_literal(unit, node)
 
 
 def type_tokens(unit: Unit, node: Node) -> Span:
     return Span(node.first + 1, node.inner[0].first - 2, moved=True)
 
 
-def outer_literal(unit: Unit, node: Node, root: Node) -> None:
+def outer_literal(unit: Unit, node: Node) -> None:
     if not unit.is_record(node) and not node.type.endswith("]"):
         unit.edits.replace(node.first, node.last, "(", Span(node.inner[0].inner[0].first, node.inner[0].inner[0].last), ")")
         return
@@ -195,7 +213,7 @@ def outer_literal(unit: Unit, node: Node, root: Node) -> None:
         unit.edits.replace(node.first, node.last, *written(unit, node.inner[0]))
         return
     name = unit.name("literal")
-    item = unit.in_item(root.first)
+    item = unit.in_item(node.first)
     before = ["static", declared_as(unit, node, name), "=", *written(unit, node.inner[0]), ";"]
     unit.edits.put_before(item.first, *flattened(before))
     unit.edits.replace(node.first, node.last, name)
@@ -235,9 +253,6 @@ def inner_literal(unit: Unit, node: Node) -> None:
     unit.edits.put_behind(function.body().first, *flattened([declared_as(unit, node, name), ";"]))
     steps = assignments(unit, name, node.inner[0], zeros=True)
     parts: list[Part] = ["("]
-    parts += ["," if it == ";" else it[:-1] + "," if isinstance(it, str) and it.endswith(" ;") else it for it in steps]
-    outer = node.parent
-    unit.edits.replace(node.first, node.last, *parts, name, ")")
-    if outer is not None and outer.kind == "UnaryOperator" and outer.data.get("opcode") == "&":
-        unit.edits.replace(outer.first, outer.last, *parts, f"& {name}", ")")
+    parts += [it.replace(";", ",") if isinstance(it, str) else it for it in steps]
+    unit.edits.replace(node.first, node.last, "( *", *parts, f"& {name} ) )")
     unit.note(Weight.PLAIN, node.first, "compound literal")

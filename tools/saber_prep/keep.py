@@ -33,6 +33,8 @@ def rooted(item: Item) -> bool:
         return False
     if all(it.kind == "TypedefDecl" or it.kind == "VarDecl" and it.data.get("storageClass") == "extern" for it in item.nodes):
         return False  # tests of sizes are often written as such declarations
+    if item.optional:
+        return False
     if not item.header:
         return True
     return item.defines() and not item.is_static()

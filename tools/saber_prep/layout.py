@@ -2,6 +2,8 @@
 from __future__ import annotations
 
 import json
+import os
+import pathlib
 from dataclasses import dataclass, field
 
 from .edits import Piece
@@ -86,14 +88,19 @@ def append(lines: Lines, pieces: list[Piece]) -> None:
             lines.put(lines.last, piece.text)
 
 
-def map_of(unit: Unit, module: str, lines: Lines) -> str:
-    """The map in JSON: ranges of lines of the output with the file and the line where each begins."""
+def map_of(unit: Unit, module: str, lines: Lines, folder: pathlib.Path) -> str:
+    """The map in JSON: ranges of lines of the output with the file and the line where each begins.
+
+    A file is named from the folder of the map, so that the whole may be moved.
+    """
     ranges: list[dict] = []
+    seen: dict[str, str] = {}
     for line in range(1, lines.last + 1):
-        file, at = lines.places.get(line, (str(unit.source.path), line))
+        path, at = lines.places.get(line, (str(unit.source.path), line))
+        file = seen.setdefault(path, os.path.relpath(path, folder))
         if ranges and ranges[-1]["file"] == file and ranges[-1]["line"] + line - ranges[-1]["first"] == at:
             ranges[-1]["last"] = line
         else:
             ranges.append({"first": line, "last": line, "file": file, "line": at})
-    made = {"version": 1, "module": module, "source": str(unit.source.path), "output": module + ".c", "ranges": ranges}
+    made = {"version": 1, "module": module, "source": os.path.relpath(unit.source.path, folder), "output": module + ".c", "ranges": ranges}
     return json.dumps(made, indent=1) + "\n"

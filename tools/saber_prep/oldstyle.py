@@ -9,7 +9,8 @@ from .unit import Unit
 SPECIFIERS = set(
     "void char short int long signed unsigned float double struct union enum const volatile static extern register auto typedef _Bool inline".split()
 )
-NARROW = ("char", "signed char", "unsigned char", "short", "unsigned short", "_Bool")
+PROMOTED = {it: "int" for it in ("char", "signed char", "unsigned char", "short", "unsigned short", "_Bool")}
+NARROW = tuple(PROMOTED)
 
 
 def old_style(unit: Unit) -> None:
@@ -21,10 +22,41 @@ def old_style(unit: Unit) -> None:
         closing = unit.closing(opening)
         body = function.body().first
         between = [unit.text(it) for it in range(closing + 1, body)]
-        if ";" in between:
+        if ";" in between or bare_names(function, opening, closing):
             rewrite(unit, function, opening, closing, body)
         elif closing == opening + 1 and function.name != "main":
             unit.edits.put_behind(opening, "void")
+
+
+def bare_names(function: Node, opening: int, closing: int) -> bool:
+    """Whether a list of parameters has names without types."""
+    parameters = [it for it in function.inner if it.kind == "ParmVarDecl"]
+    return bool(parameters) and all(opening < it.first == it.place == it.last < closing for it in parameters)
+
+
+def empty_parentheses(unit: Unit) -> None:
+    """`int f();` says nothing of parameters; it gets those of another declaration of the function."""
+    whole: dict[str, Node] = {}
+    for node in unit.nodes:
+        if node.kind == "FunctionDecl" and any(it.kind == "ParmVarDecl" for it in node.inner):
+            whole[node.name] = node
+    for node in unit.nodes:
+        if node.kind != "FunctionDecl" or node.body() is not None or node.name not in whole:
+            continue
+        opening = parameters_at(unit, node)
+        if opening >= 0 and unit.text(opening + 1) == ")":
+            types = [unit.spelled(it.plain) for it in whole[node.name].inner if it.kind == "ParmVarDecl"]
+            types = [PROMOTED.get(it, it) if ";" in old_list(unit, whole[node.name]) else it for it in types]
+            unit.edits.put_behind(opening, " , ".join(types))
+            unit.note(Weight.PLAIN, node.place, "declaration without parameters")
+
+
+def old_list(unit: Unit, node: Node) -> list[str]:
+    """What stands between the list of names and the body of a definition."""
+    opening = parameters_at(unit, node)
+    if opening < 0 or node.body() is None:
+        return []
+    return [unit.text(it) for it in range(unit.closing(opening) + 1, node.body().first)]
 
 
 def parameters_at(unit: Unit, function: Node) -> int:

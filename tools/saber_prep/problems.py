@@ -5,7 +5,7 @@ import re
 
 from .notes import Weight
 from .tree import Node
-from .unit import Item, Unit
+from .unit import Unit
 
 KINDS = {
     "GCCAsmStmt": ("assembler", "write it in C, or leave it out by #if"),
@@ -40,22 +40,27 @@ def holder(node: Node) -> Node | None:
     return above if above is not None and above.kind == "CompoundStmt" else None
 
 
+def troubled(unit: Unit, first: int, last: int) -> list[str]:
+    """What is not taken in a stretch of the file."""
+    return sorted({note.construct for place, note in unit.told if first <= place <= last and note.weight is Weight.PROBLEM})
+
+
+def set_aside(unit: Unit) -> None:
+    """Declarations of functions that hold what is not taken stay only where they are used."""
+    for item in unit.items:
+        if item.function is None and all(it.kind == "FunctionDecl" for it in item.nodes):
+            item.optional = bool(troubled(unit, item.first, item.last))
+
+
 def leave_out(unit: Unit) -> None:
     """Makes a declaration of each definition in which something is not taken. A run that calls it ends with U17."""
-    troubled = [place for place, note in unit.told if note.weight is Weight.PROBLEM]
     for item in unit.items:
         function = item.function
-        if function is None:
+        reasons = troubled(unit, item.first, item.last) if function is not None else []
+        if not reasons:
             continue
         body = function.body()
-        inside = [it for it in troubled if body.first <= it <= item.last]
-        if inside:
-            cut_body(unit, item, body, set(inside))
-
-
-def cut_body(unit: Unit, item: Item, body: Node, inside: set[int]) -> None:
-    reasons = sorted({note.construct for place, note in unit.told if place in inside and note.weight is Weight.PROBLEM})
-    unit.told = [it for it in unit.told if not body.first <= it[0] <= item.last]
-    unit.edits.replace(body.first, body.last, ";")
-    function = item.function
-    unit.note(Weight.LEFT_OUT, function.place, f"the function {function.name}", f"{'; '.join(reasons)}. A run that calls it ends with U17")
+        item.optional = bool(troubled(unit, item.first, body.first - 1))
+        unit.told = [it for it in unit.told if not body.first <= it[0] <= item.last]
+        unit.edits.replace(body.first, body.last, ";")
+        unit.note(Weight.LEFT_OUT, function.place, f"the function {function.name}", f"{'; '.join(reasons)}. A run that calls it ends with U17")

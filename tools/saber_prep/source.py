@@ -12,10 +12,11 @@ INCLUDE = pathlib.Path(__file__).resolve().parent.parent / "include"
 TARGET = "--target=i386-linux-gnu"  # its types have the sizes of the product's
 TOKEN = re.compile(
     r'(?:L|u8|u|U)?"(?:\\.|[^"\\])*"|(?:L|u|U)?\'(?:\\.|[^\'\\])*\'|[A-Za-z_$]\w*|\.?\d(?:[eEpP][+-]|[\w.])*'
-    r"|\.\.\.|<<=|>>=|->|\+\+|--|<<|>>|<=|>=|==|!=|&&|\|\||[-+*/%&|^]=|##|\S",
+    r"|%:%:|%:|<:|:>|<%|%>|\.\.\.|<<=|>>=|->|\+\+|--|<<|>>|<=|>=|==|!=|&&|\|\||[-+*/%&|^]=|##|\S",
     re.S,
 )
 MARKER = re.compile(r'# (\d+) "((?:\\.|[^"\\])*)"((?: \d)*)\s*$')
+DIGRAPHS = {"<:": "[", ":>": "]", "<%": "{", "%>": "}", "%:": "#", "%:%:": "##"}
 FIXED = [
     "-D__STDC_VERSION__=199901L", "-D__STDC_HOSTED__=1", "-D__SABER__=1", "-D__CHAR_BIT__=8", "-D__CHAR_UNSIGNED__=1",
     "-D__SIZEOF_INT__=4", "-D__SIZEOF_LONG__=4", "-D__SIZEOF_POINTER__=4", "-D__SIZEOF_SIZE_T__=4",
@@ -115,7 +116,7 @@ def read(path: pathlib.Path, options: Options) -> Source:
         else:
             pending.append((text, origin))
         line += 1
-    tokens = [Token(it, origin) for text, origin in pending for it in TOKEN.findall(text)]
+    tokens = [Token(DIGRAPHS.get(it, it), origin) for text, origin in pending for it in TOKEN.findall(text)]
     source.tokens = with_empty_statements(tokens)
     return source
 

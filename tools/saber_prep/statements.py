@@ -1,8 +1,10 @@
 """Declarations behind statements and in `for`, ranges of cases, and `return` with a void value."""
 from __future__ import annotations
 
+import re
+
 from .edits import Part, Span
-from .initialisers import assignments, initialiser, is_computed
+from .initialisers import assignments, initialiser, is_computed, text_copied
 from .notes import Weight
 from .tree import Node, end_of
 from .unit import Unit
@@ -54,12 +56,21 @@ def declaration(unit: Unit, node: Node) -> bool:
         if is_computed(unit, variable):
             value = initialiser(variable)
             unit.edits.replace(value.first, value.last, "{ 0 }")
+            give_size(unit, variable)
             parts += assignments(unit, variable.name, value, zeros=False)
             without_const(unit, node, variable)
             unit.note(Weight.PLAIN, value.first, "list that is computed")
     if parts:
         unit.edits.put_behind(node.last, *parts)
     return bool(parts)
+
+
+def give_size(unit: Unit, variable: Node) -> None:
+    """An array that took its size from its initialiser gets it written."""
+    place = variable.place + 1
+    found = re.search(r"\[(\d+)\]", variable.type)
+    if found and unit.text(place) == "[" and unit.text(place + 1) == "]":
+        unit.edits.put_behind(place, found[1])
 
 
 def without_const(unit: Unit, node: Node, variable: Node) -> None:
@@ -97,6 +108,7 @@ def assign_in_place(unit: Unit, outer: Node, node: Node, whole: Node | None = No
             continue
         front.append(Span(begin, equals_sign(unit, variable) - 1, moved=True))
         begin = value.last + 1
+        give_size(unit, variable)
         parts += set_by(unit, name, variable, value)
         if variable.type.startswith("const ") and "*" not in variable.type or variable.type.endswith("const"):
             without_const(unit, node, variable)
@@ -112,8 +124,7 @@ def set_by(unit: Unit, name: str, variable: Node, value: Node) -> list[Part]:
     if value.kind == "InitListExpr":
         return assignments(unit, name, value, zeros=True)
     if value.kind == "StringLiteral" and variable.plain.endswith("]"):
-        unit.need("void * memcpy ( void * , const void * , unsigned int ) ;")
-        return [f"memcpy ( {name} ,", Span(value.first, value.last), f", sizeof ( {name} ) ) ;"]
+        return text_copied(unit, name, value)
     return [name, "=", Span(value.first, value.last), ";"]
 
 

@@ -17,10 +17,9 @@ def structures(unit: Unit) -> None:
     for node in unit.nodes:
         if node.kind == "FunctionDecl" and node.place >= 0:
             declaration(unit, node)
-    for root in unit.nodes:
-        for node in root.walk():
-            if node.kind == "CallExpr":
-                call(unit, node)
+    for node in unit.inner_first():
+        if node.kind == "CallExpr":
+            call(unit, node)
 
 
 def gives_structure(unit: Unit, node: Node) -> bool:
@@ -101,11 +100,11 @@ def call(unit: Unit, node: Node) -> None:
         address(unit, function, argument)
     if gives:
         name = unit.name("result")
-        unit.edits.put_behind(function.body().first, f"{node.type} {name} ;")
+        unit.edits.put_behind(function.body().first, f"{unit.spelled(node.type)} {name} ;")
         opening = node.inner[0].last + 1
         comma = "," if len(node.inner) > 1 else ""
         inside: list[Part] = [Span(opening + 1, node.last)]
-        unit.edits.replace(node.first, node.last, "(", Span(node.first, opening), f"& {name} {comma}", *inside, f", {name} )")
+        unit.edits.replace(node.first, node.last, "( * (", Span(node.first, opening), f"& {name} {comma}", *inside, f", & {name} ) )")
 
 
 def address(unit: Unit, function: Node, argument: Node) -> None:
@@ -118,5 +117,5 @@ def address(unit: Unit, function: Node, argument: Node) -> None:
         unit.edits.replace(argument.first, argument.last, "& (", span, ")")
         return
     name = unit.name("copy")
-    unit.edits.put_behind(function.body().first, f"{argument.type.replace('const ', '')} {name} ;")
+    unit.edits.put_behind(function.body().first, f"{unit.spelled(argument.type.replace('const ', ''))} {name} ;")
     unit.edits.replace(argument.first, argument.last, f"( {name} =", span, f", & {name} )")

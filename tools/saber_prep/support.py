@@ -4,10 +4,8 @@ from __future__ import annotations
 import pathlib
 import re
 
-from .calls import SUPPORT
+from .calls import DEFINITION, SUPPORT
 from .unit import Unit
-
-DEFINITION = re.compile(r"^([a-z][^\n;{]*?\b(\w+)\([^\n;]*\))\n\{\n(?:.*\n)*?\}\n", re.M)
 
 
 def defined_in(text: str) -> set[str]:

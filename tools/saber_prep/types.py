@@ -65,11 +65,10 @@ def wide_shifts(unit: Unit) -> None:
     """With --narrow a shift by 32 or more gives what it gives for 64 bits of which the upper half is 0 (or the sign)."""
     if not unit.options.narrow:
         return
-    for root in unit.nodes:
-        for node in root.walk():
-            operator = node.data.get("opcode", "")
-            if node.kind in ("BinaryOperator", "CompoundAssignOperator") and operator[:2] in ("<<", ">>") and node.inner[0].plain in WIDE_TYPES:
-                shift(unit, node, operator)
+    for node in unit.inner_first():
+        operator = node.data.get("opcode", "")
+        if node.kind in ("BinaryOperator", "CompoundAssignOperator") and operator[:2] in ("<<", ">>") and node.inner[0].plain in WIDE_TYPES:
+            shift(unit, node, operator)
 
 
 def shift(unit: Unit, node: Node, operator: str) -> None:
@@ -116,12 +115,11 @@ def booleans(unit: Unit) -> None:
         if token.text == "_Bool":
             unit.edits.replace(place, place, "unsigned char")
             unit.note(Weight.PLAIN, place, "_Bool")
-    for root in unit.nodes:
-        for node in root.walk():
-            if node.kind in ("ImplicitCastExpr", "CStyleCastExpr") and node.data.get("castKind") in ("IntegralToBoolean", "PointerToBoolean"):
-                inner = node.inner[-1]
-                if not is_truth(inner):
-                    unit.edits.wrap(inner.first, inner.last, "( (", ") != 0 )")
+    for node in unit.inner_first():
+        if node.kind in ("ImplicitCastExpr", "CStyleCastExpr") and node.data.get("castKind") in ("IntegralToBoolean", "PointerToBoolean"):
+            inner = node.inner[-1]
+            if not is_truth(inner):
+                unit.edits.wrap(inner.first, inner.last, "( (", ") != 0 )")
 
 
 def is_truth(node: Node) -> bool:
@@ -150,10 +148,10 @@ def type_of(unit: Unit) -> None:
         elif declared is not None and any(unit.is_record(it) for it in declared.inner):
             unit.note(Weight.PROBLEM, place, "typeof of a function with structures", "write its declaration")
         elif declared is not None and FUNCTION_TYPE.match(meant):
-            unit.edits.replace(place, declared.place, function_named(meant, declared.name))
+            unit.edits.replace(place, declared.place, function_named(unit.spelled(meant), declared.name))
             unit.note(Weight.PLAIN, place, "typeof")
         else:
-            unit.edits.replace(place, end, spaced(meant))
+            unit.edits.replace(place, end, unit.spelled(meant))
             unit.note(Weight.PLAIN, place, "typeof")
 
 
@@ -182,22 +180,17 @@ def meant_type(unit: Unit, first: int, last: int) -> str | None:
 def function_named(text: str, name: str) -> str:
     """The declaration of a function from its type, `int (char *)`."""
     place = text.index("(")
-    return spaced(f"{text[:place]} {name} {text[place:]}")
+    return f"{text[:place]} {name} {text[place:]}"
 
 
 def named(text: str, name: str) -> str:
     """The declaration of an object from its type."""
-    if "(*" in text:
-        return spaced(text.replace("(*", f"(* {name} ", 1))
+    if "( *" in text:
+        return text.replace("( *", f"( * {name} ", 1)
     if "[" in text:
         place = text.index("[")
-        return spaced(f"{text[:place]} {name} {text[place:]}")
-    return spaced(f"{text} {name}")
-
-
-def spaced(text: str) -> str:
-    """Blanks between tokens, which the parts of an edit want."""
-    return " ".join(re.findall(r"\w+|\S", text))
+        return f"{text[:place]} {name} {text[place:]}"
+    return f"{text} {name}"
 
 
 def aliases(unit: Unit) -> None:
@@ -212,17 +205,17 @@ def aliases(unit: Unit) -> None:
         if target is None or not FUNCTION_TYPE.match(target.plain):
             unit.note(Weight.PROBLEM, node.place, "another name for a function", "write a function that calls it")
             continue
-        unit.tail.append(forwarding(node.name, target))
+        unit.tail.append(forwarding(unit, node.name, target))
         unit.note(Weight.PLAIN, node.place, "another name for a function")
 
 
-def forwarding(name: str, target: Node) -> list[Part]:
-    result = target.plain[: target.plain.index("(")].strip()
-    parameters = [it.plain for it in target.inner if it.kind == "ParmVarDecl"]
+def forwarding(unit: Unit, name: str, target: Node) -> list[Part]:
+    result = unit.spelled(target.plain[: target.plain.index("(")])
+    parameters = [unit.spelled(it.plain) for it in target.inner if it.kind == "ParmVarDecl"]
     listed = " , ".join(named(it, f"a{number}") for number, it in enumerate(parameters)) or "void"
     given = " , ".join(f"a{number}" for number in range(len(parameters)))
     call = f"{target.name} ( {given} ) ;"
-    return [f"{spaced(result)} {name} ( {listed} ) {{ {'' if result == 'void' else 'return '}{call} }}"]
+    return [f"{result} {name} ( {listed} ) {{ {'' if result == 'void' else 'return '}{call} }}"]
 
 
 def open_arrays(unit: Unit) -> None:

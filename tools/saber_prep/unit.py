@@ -22,6 +22,7 @@ class Item:
     nodes: list[Node]
     header: bool
     kept: bool = False
+    optional: bool = False  # it holds what is not taken, and stays only if it is used
 
     @property
     def function(self) -> Node | None:
@@ -86,8 +87,16 @@ class Unit:
         for place, note in self.told:
             if note.file.startswith(str(INCLUDE)):
                 continue
-            if place == 0 or any(it.first <= place <= it.last for it in kept):
+            left_out = note.weight is Weight.LEFT_OUT and not self.origin(place).header
+            if place == 0 or left_out or any(it.first <= place <= it.last for it in kept):
                 self.notes.add(note)
+
+    def spelled(self, type_text: str) -> str:
+        """A type as the output has it, with blanks between its tokens."""
+        words = re.findall(r"\w+|\S", type_text)
+        text = " ".join(it for it in words if it not in ("volatile", "restrict", "__restrict"))
+        text = text.replace("_Bool", "unsigned char").replace(", . . .", "")
+        return text.replace("long long", "long") if self.options.narrow else text
 
     def in_item(self, place: int) -> Item | None:
         return next((it for it in self.items if it.first <= place <= it.last), None)
@@ -112,6 +121,10 @@ class Unit:
         """Puts a declaration in front of the file, once."""
         if declaration not in self.prelude:
             self.prelude.append(declaration)
+
+    def inner_first(self) -> list[Node]:
+        """All nodes, those below before those above: of edits over the same tokens the later one is the outer one."""
+        return [it for root in self.nodes for it in reversed(list(root.walk()))]
 
     def functions(self) -> list[Node]:
         return [it for it in self.nodes if it.kind == "FunctionDecl" and it.body() is not None]

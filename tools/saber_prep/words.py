@@ -83,19 +83,18 @@ def rewrite_constant(unit: Unit, place: int) -> None:
 
 def literals(unit: Unit) -> None:
     """Wide characters, constants of several characters, and the name of the function."""
-    for root in unit.nodes:
-        for node in root.walk():
-            if node.kind == "CharacterLiteral" and odd_character(unit.text(node.first)):
-                unit.edits.replace(node.first, node.last, str(node.data.get("value", 0)))
-                unit.note(Weight.PLAIN, node.first, "wide or long character constant")
-            elif node.kind == "PredefinedExpr" and node.inner:
-                value = node.inner[0].data.get("value", '""')
-                unit.edits.replace(node.first, node.last, Verbatim(value))
-                unit.note(Weight.PLAIN, node.first, "__func__")
-            elif node.kind == "StringLiteral" and unit.text(node.first)[0] in "LuU" and '"' in unit.text(node.first):
-                if unit.text(node.first).startswith("u8"):
-                    continue
-                wide_string(unit, node)
+    for node in unit.inner_first():
+        if node.kind == "CharacterLiteral" and odd_character(unit.text(node.first)):
+            unit.edits.replace(node.first, node.last, str(node.data.get("value", 0)))
+            unit.note(Weight.PLAIN, node.first, "wide or long character constant")
+        elif node.kind == "PredefinedExpr" and node.inner:
+            value = node.inner[0].data.get("value", '""')
+            unit.edits.replace(node.first, node.last, Verbatim(value))
+            unit.note(Weight.PLAIN, node.first, "__func__")
+        elif node.kind == "StringLiteral" and unit.text(node.first)[0] in "LuU" and '"' in unit.text(node.first):
+            if unit.text(node.first).startswith("u8"):
+                continue
+            wide_string(unit, node)
 
 
 def odd_character(text: str) -> bool:

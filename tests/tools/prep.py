@@ -1,0 +1,216 @@
+#!/usr/bin/env python3
+"""tools/saber-prep makes of C files what `load` takes, with the meaning and the lines of the originals.
+
+usage: tests/tools/prep.py PROGRAM | --renew
+
+Each program of tests/tools/prep that has a file NAME.expected is written by saber-prep, loaded and run by PROGRAM, and has to
+answer it. The file has what gcc makes of the same program; `--renew` writes these files anew by it. What is told, the lines of
+reports, names, maps and faults are tested by the functions below, against what was worked out by hand.
+"""
+import json
+import pathlib
+import re
+import sys
+import tempfile
+
+import common
+
+FOLDER = common.HERE / "prep"
+WORDS = {"words": ["--arguments", "0x11 two"]}  # further words of saber-prep for a program
+GIVEN = {"words": ["0x11", "two"]}  # the same words for the compiled program
+RUN = ["bits", "c99", "gnu", "jumps", "narrow", "oldstyle", "pointers", "structs", "variadic", "words"]
+
+
+def given_to(name):
+    path = FOLDER / f"{name}.input"
+    return path.read_bytes() if path.exists() else None
+
+
+def renew():
+    for name in RUN:
+        with tempfile.TemporaryDirectory() as folder:
+            text = common.compiled_run(FOLDER / f"{name}.c", pathlib.Path(folder), given_to(name), GIVEN.get(name, ()))
+        (FOLDER / f"{name}.expected").write_text(text, encoding="latin-1")
+
+
+def meaning(program, folder, name):
+    """A program gives what a compiler makes of it."""
+    ran = common.prepared([FOLDER / f"{name}.c"], folder, ["--narrow", *WORDS.get(name, [])])
+    if ran.returncode != 0:
+        return f"status {ran.returncode}: {ran.stderr}"
+    came = common.run_of(program, folder, common.modules_in(folder), given_to(name))
+    wanted = (FOLDER / f"{name}.expected").read_text(encoding="latin-1")
+    return None if came == wanted else common.difference(wanted, came)
+
+
+def reported_place(program, folder, name):
+    """The file and the line of a report, by the map of its module."""
+    common.prepared([FOLDER / f"{name}.c"], folder)
+    answer = common.run_of(program, folder, common.modules_in(folder))
+    found = re.match(r"> violation (U\d+) in \S+ at (\w+):(\d+) ", answer)
+    if found is None:
+        return answer
+    line = int(found[3])
+    for it in json.loads((folder / f"{found[2]}.map.json").read_text())["ranges"]:
+        if it["first"] <= line <= it["last"]:
+            return found[1], (folder / it["file"]).resolve().name, it["line"] + line - it["first"]
+    return answer
+
+
+def lines_of_own_code(program, folder):
+    """A report in the file itself has the line that it has there."""
+    place = reported_place(program, folder, "lines")
+    wanted = ("U3", "lines.c", 20)
+    return None if place == wanted else f"wanted {wanted}, came {place}"
+
+
+def lines_of_headers(program, folder):
+    """A report in code of a header has the header's name and line, by the map."""
+    place = reported_place(program, folder, "deep")
+    wanted = ("U2", "lines.h", 8)
+    return None if place == wanted else f"wanted {wanted}, came {place}"
+
+
+TAKEN = """\
+rest.c:4: not taken: double
+rest.c:6: not taken: floating constant 3.0
+rest.c:10: not taken: assembler
+rest.c:15: not taken: the array room with a size that is computed
+rest.c:28: not taken: statements in an expression
+"""
+
+
+def names_what_stays(program, folder):
+    """What is not taken is named with file and line, and with status 1."""
+    ran = common.prepared([FOLDER / "rest.c"], folder)
+    came = re.sub(r"^.*/|: [^:\n]*$", "", ran.stderr, flags=re.M)
+    came = "".join(sorted(set(it + "\n" for it in came.splitlines() if "not taken" in it), key=lambda it: int(it.split(":")[1])))
+    return None if (ran.returncode, came) == (1, TAKEN) else f"status {ran.returncode}, came {came!r}"
+
+
+def leaves_out(program, folder):
+    """With --leave-out the rest loads and runs, and a call of what was left out is told."""
+    text = (FOLDER / "rest.c").read_text().replace("({ int k = 3; k; })", "3").replace("{ 3 }", "{ VALUE }")
+    wanted = {"3": "4\n> exit 0\n", "4": "5\n> violation U17 in main at rest:28 name rest:spin\n"}
+    for value, answer in wanted.items():
+        (folder / "rest.c").write_text(text)
+        ran = common.prepared([folder / "rest.c"], folder / value, ["--leave-out", "-D", f"VALUE={value}", "-I", FOLDER])
+        if ran.returncode != 0 or "LEFT OUT: the function third" not in ran.stderr:
+            return f"status {ran.returncode}: {ran.stderr}"
+        came = common.run_of(program, folder / value, ["rest"])
+        if came != answer:
+            return common.difference(answer, came)
+    return None
+
+
+def tells_of_narrow(program, folder):
+    """Without --narrow 64 bits are named and not taken, with it each place is told."""
+    file = FOLDER / "narrow.c"
+    without, narrow = common.prepared([file], folder), common.prepared([file], folder, ["--narrow"])
+    lines = [5, 13, 15, 21, 22, 23]
+    for line in lines:
+        if f"narrow.c:{line}: NARROWED: " not in narrow.stderr or f"narrow.c:{line}: not taken: " not in without.stderr:
+            return f"line {line} is not told"
+    return None if (without.returncode, narrow.returncode) == (1, 0) else "statuses"
+
+
+def tells_what_changes(program, folder):
+    """What may change what a program does is told with its place."""
+    ran = common.prepared([FOLDER / "c99.c", FOLDER / "gnu.c", FOLDER / "bits.c"], folder)
+    for text in ("c99.c:123: told: volatile", "c99.c:77: told: the inner object n", "gnu.c:16: told: the open array data",
+                 "gnu.c:22: told: arithmetic on void *", "gnu.c:29: told: conversion from unsigned char * to char *", "bits.c:7: told: the bit-field low"):
+        if text not in ran.stderr:
+            return f"not told: {text}"
+    return None
+
+
+def names_of_modules(program, folder):
+    """Names that `load` does not take are changed, two of one name are kept apart, and both are told."""
+    names = ["with-a-dash.c", "a_name_of_more_than_thirty_one_characters.c", "9.c", "same.c", "sub/same.c"]
+    (folder / "sub").mkdir()
+    for name in names:
+        (folder / name).write_text("int main(void) { return 0; }\n")
+    ran = common.prepared([folder / it for it in names], folder / "out")
+    wanted = ["a_name_of_more_than_thirty_one_", "m9", "same", "same_2", "with_a_dash"]
+    came = common.modules_in(folder / "out")
+    if came != wanted:
+        return f"wanted {wanted}, came {came}"
+    untold = [it for it in wanted if f": module {it}\n" not in ran.stdout]
+    refused = [it for it in wanted if common.run_of(program, folder / "out", [it]) != "> exit 0\n"]
+    return f"{untold} {refused}" if untold or refused else None
+
+
+FAULTS = {
+    "no such file": (["nowhere.c"], 2, "nowhere.c: there is no such file"),
+    "a folder": (["folder"], 2, "folder: this is no file"),
+    "no header": (["header.c"], 3, "header.c:2: 'nowhere.h' file not found; give its folder by -I"),
+    "an #error": (["error.c"], 3, "error.c:1: wrong machine"),
+    "no C": (["text.c"], 3, "text.c:1: unknown type name 'This'"),
+    "a bracket": (["open.c"], 3, "open.c:1: expected '}'"),
+    "bytes": (["bytes.c"], 3, "bytes.c:1: "),
+}
+FILES = {
+    "header.c": b"int x;\n#include \"nowhere.h\"\n", "error.c": b"#error wrong machine\n", "text.c": b"This is no C.\n",
+    "open.c": b"int main(void) { return 0;\n", "bytes.c": bytes(range(1, 256)),
+}
+
+
+def faults(program, folder):
+    """A file that cannot be worked on: one line that says what and where, a status, and the user's files as they were."""
+    (folder / "folder").mkdir()
+    for name, content in FILES.items():
+        (folder / name).write_bytes(content)
+    for case, (files, status, text) in FAULTS.items():
+        ran = common.prepared([folder / it for it in files], folder / "out")
+        lines = ran.stderr.replace(f"{folder}/", "").splitlines()
+        if ran.returncode != status or len(lines) != 1 or not lines[0].startswith(f"saber-prep: {text}"):
+            return f"{case}: status {ran.returncode}, {lines}"
+    changed = [name for name, content in FILES.items() if (folder / name).read_bytes() != content]
+    return f"changed: {changed}" if changed or (folder / "out").exists() else None
+
+
+def keeps_the_source(program, folder):
+    """The output never takes the place of the file that is read, and an empty file is a module."""
+    (folder / "own.c").write_text("int main(void) { return 0; }\n")
+    (folder / "empty.c").write_text("")
+    ran = common.prepared([folder / "own.c"], folder)
+    if ran.returncode != 2 or (folder / "own.c").read_text() != "int main(void) { return 0; }\n":
+        return f"status {ran.returncode}"
+    common.prepared([folder / "own.c", folder / "empty.c"], folder / "out")
+    came = common.run_of(program, folder / "out", ["own", "empty"])
+    return None if came == "> exit 0\n" else came
+
+
+def own_functions(program, folder):
+    """A program that has a function of a support module itself keeps its own."""
+    (folder / "m.c").write_text(
+        "#include <stdio.h>\n#include <string.h>\nchar *strdup(const char *s) { return (char *)s + 1; }\n"
+        "int main(void) { puts(strdup(\"own\")); return strpbrk(\"ab\", \"b\") == NULL; }\n")
+    ran = common.prepared([folder / "m.c"], folder / "out")
+    came = common.run_of(program, folder / "out", common.modules_in(folder / "out"))
+    return None if came == "wn\n> exit 0\n" else f"{came} {ran.stderr}"
+
+
+def main():
+    if sys.argv[1:] == ["--renew"]:
+        return renew()
+    if len(sys.argv) != 2:
+        sys.exit(__doc__)
+    program = pathlib.Path(sys.argv[1]).resolve()
+    tests = [lines_of_own_code, lines_of_headers, names_what_stays, leaves_out, tells_of_narrow, tells_what_changes,
+             names_of_modules, faults, keeps_the_source, own_functions]
+    cases = {it.__name__: it for it in tests}
+    cases |= {name: lambda program, folder, name=name: meaning(program, folder, name) for name in RUN}
+    failed = 0
+    for name, test in cases.items():
+        with tempfile.TemporaryDirectory() as folder:
+            fault = test(program, pathlib.Path(folder))
+        if fault is not None:
+            failed += 1
+            print(f"FAIL: {name}: {fault}")
+    print(f"{len(cases) - failed} passed, {failed} failed")
+    return 1 if failed else 0
+
+
+if __name__ == "__main__":
+    sys.exit(main())
