@@ -95,12 +95,12 @@ def is_same(violation, other):
 
 
 def find_block(setup, violation, number):
-    """What is to be known of an object, if it is a heap block; else nothing."""
+    """What is to be known of an object, if it is a heap block, and whether it is known to be none."""
     try:
         with HeapCopy(setup.view.modules, setup.view.given) as view:
             return _followed(Setup(setup.program, view, setup.options), violation, number)
     except Trouble:
-        return None
+        return None, False
 
 
 def _followed(setup, violation, number):
@@ -114,8 +114,9 @@ def _followed(setup, violation, number):
             if answer.text.startswith("entered saber_"):
                 block = _seen(block, answer.text[8:], told, wanted)
             else:
-                return block if block and is_same(violation, violation_of(answer.text)) else None
-    return None
+                is_known = is_same(violation, violation_of(answer.text))
+                return block if is_known else None, is_known and not block
+    return None, False
 
 
 def _seen(block, event, told, wanted):

@@ -33,12 +33,16 @@ FRONTS = ("(", "*", "&", "-", "+", "!", "~", "sizeof")
 class Function:
     """A function's name, the line of its name, the lines on which its statements begin, and that of the first one.
 
+    `parameters` and `objects` are the names of what is born as it is entered, in the order of births: its parameters, and
+    the objects of its outermost block.
     `first` is 0 if that line may be reached more often than the function is entered: a loop, or more than one statement.
     """
     name: str
     line: int
     lines: frozenset
     first: int
+    parameters: tuple
+    objects: tuple
 
 
 def functions_in(folder, name):
@@ -139,7 +143,9 @@ class Statements:
         begin = next((it for it in items if any(True for _ in self._statement(it))), None)
         is_once = begin is not None and type(begin).__name__ not in ("For", "While", "DoWhile", "Label", "Compound")
         first = lines[0] if is_once and lines.count(lines[0]) == 1 else 0
-        return Function(node.decl.name, self._name_line(node.decl), frozenset(lines), first)
+        return Function(node.decl.name, self._name_line(node.decl), frozenset(lines), first,
+                        tuple(it.name for it in getattr(node.decl.type.args, "params", None) or [] if getattr(it, "name", None)),
+                        tuple(it.name for it in items if is_object(it)))
 
     def _statement(self, node):
         """The lines that a statement or declaration reaches, its parts among them, in their order."""
@@ -192,6 +198,12 @@ class Statements:
         while at is not None and at < len(self._tokens) and self._tokens[at][0] != declaration.name:
             at += 1
         return self._tokens[at][1] if at is not None and at < len(self._tokens) else declaration.coord.line
+
+
+def is_object(node):
+    """Whether an item of a block is the declaration of an object that is born with the block."""
+    is_declared = type(node).__name__ == "Decl" and node.name and type(node.type).__name__ != "FuncDecl"
+    return is_declared and not {"static", "extern"} & set(node.storage)
 
 
 def parts_of(node):

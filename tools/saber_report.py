@@ -4,8 +4,9 @@ from dataclasses import dataclass
 from functools import cached_property
 
 from saber_heap import find_block
-from saber_search import START, Lost, Search, violation_of
-from saber_session import FAULTS
+from saber_lines import functions_in
+from saber_search import START, Lost, Search, halt_of, violation_of
+from saber_session import FAULTS, Trouble
 from saber_source import names_in
 
 RULES = {
@@ -44,6 +45,7 @@ class Birth:
     kind: str
     calls: tuple = ()
     left: str = ""
+    name: str = ""
 
 
 class Explanation:
@@ -86,10 +88,10 @@ class Explanation:
         return Scene(calls, tuple(it.text for it in told if " = " in it.text))
 
     def block(self, number):
-        """The heap block of this number, if the object is one."""
+        """The heap block of this number, if the object is one, and whether it is known to be none."""
         return find_block(self.setup, self.violation, number)
 
-    def birth(self, number):
+    def birth(self, number, is_no_block):
         """Where an object that is no heap block was born, and when its call was left."""
         stops = tuple(f"in {it}" for it in self.search.functions)
         track = self.search.approach(stops, lambda halt: halt.births >= number)
@@ -98,7 +100,7 @@ class Explanation:
         if track.halts[-2] is START:
             return Birth("an object of static storage duration or a string literal")
         legs = track.legs_to(len(track.halts) - 2)
-        before, after, count = self._steps(legs, stops, number)
+        before, after, count = self._steps(legs, stops, number, track.halts[-2])
         way = self.search.way(legs)
         with way.session:
             way.set_stops(stops)
@@ -110,19 +112,36 @@ class Explanation:
             inner = way.session.ask("where").lines
             left = self._left(way, len(inner), inner[:1])
         is_deeper = len(inner) > len(calls)
-        return Birth(kind_of(before, after, is_deeper, (*calls[:1], *inner[:1])), inner if is_deeper else calls, left)
+        kind = kind_of(before.text, after.text, is_deeper, (*calls[:1], *inner[:1]), is_no_block)
+        return Birth(kind, inner if is_deeper else calls, left, self._name(kind, number, before, after, inner[0]))
 
-    def _steps(self, legs, stops, number):
-        """The halts around the object's birth, and how many steps lie before it."""
-        way = self.search.way(legs, True)
-        before, count = "", 0
+    def _name(self, kind, number, before, after, call):
+        """The name of a parameter or an object of a function's outermost block; empty where it is not known.
+
+        They are born in the order of the text: the parameters as the function is entered, the objects behind that.
+        """
+        found = re.match(r"(?:\w+:)?(\w+) at (\w+):", call)
+        if not found or not kind.startswith(("a parameter of ", "an object of ")):
+            return ""
+        try:
+            function = next(it for it in functions_in(self.setup.view.folder, found[2]) if it.name == found[1])
+        except (Trouble, StopIteration):
+            return ""
+        is_parameter = kind.startswith("a parameter of ")
+        names = function.parameters if is_parameter else function.objects
+        at = number - 1 - (after.births - len(names) if is_parameter else before.births)
+        return names[at] if 0 <= at < len(names) and (is_parameter or "outermost" in kind) else ""
+
+    def _steps(self, legs, stops, number, before):
+        """The halts around the object's birth from a halt on, and how many steps lie before it."""
+        way, count = self.search.way(legs, True), 0
         with way.session:
             way.set_stops(stops)
             for answer, (report,) in way.go(MOST_STEPS, ("report 1",), "step"):
-                births = int(re.search(r"birth (\d+)", report.text)[1])
-                if births >= number:
-                    return before, answer.text, count
-                before, count = answer.text, count + 1
+                halt = halt_of(answer, report)
+                if halt.births >= number:
+                    return before, halt, count
+                before, count = halt, count + 1
         raise Lost(f"the object's birth was not reached within {MOST_STEPS} lines")
 
     def _left(self, way, depth, last):
@@ -146,15 +165,16 @@ def last_before_the_end(halts, wanted):
     raise Lost("the run does not come to the place again")
 
 
-def kind_of(before, after, is_deeper, calls):
+def kind_of(before, after, is_deeper, calls, is_no_block):
     """What kind of object was born between two halts, as far as they and the innermost calls there tell it."""
     function = calls[-1].split()[0] if calls else "main"
+    heap = "" if is_no_block else "a heap block or "
     if any(" object block " in it for it in calls):
-        return "a heap block, a parameter or an object of a block"
+        return heap + "a parameter or an object of a block"
     if after.startswith("entered "):
         return f"a parameter of {after[8:]}"
-    if before.startswith("entered ") or not before:
+    if before.startswith("entered "):
         return f"an object of {function}'s outermost block"
     if is_deeper:
         return f"a parameter of {function} or an object of its outermost block"
-    return "a heap block or an object of a block"
+    return heap + "an object of a block"

@@ -75,9 +75,10 @@ def violation_of(text):
     return Violation(found[1], found[2], found[3], int(found[4]), tuple(numbers))
 
 
-def counts_of(answer):
-    """The numbers of a counting probe's report, by kind."""
-    return {kind: int(number) for kind, number in COUNTS.findall(answer.text)}
+def halt_of(answer, report):
+    """A halt, by the answer that tells it and a counting probe's report."""
+    counts = {kind: int(number) for kind, number in COUNTS.findall(report.text)}
+    return Halt(answer.text, counts["birth"], counts["enter"] - counts["leave"])
 
 
 def functions_of(session):
@@ -145,8 +146,7 @@ class Search:
         with way.session:
             way.set_stops(stops)
             for answer, (report,) in way.go(most, ("report 1",)):
-                counts = counts_of(report)
-                found.append(Halt(answer.text, counts["birth"], counts["enter"] - counts["leave"]))
+                found.append(halt_of(answer, report))
                 if found[-1].is_over or is_past(found[-1]):
                     return found, True
         return found, False

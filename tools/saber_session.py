@@ -197,8 +197,9 @@ class Session:
 
     def _told(self, show):
         """The bytes up to the next mark, which is taken off, and how many of them were shown."""
-        shown = 0
-        while (at := self._held.find(self._mark, max(0, shown - len(self._mark)))) < 0:
+        shown = begin = 0
+        while (at := self._held.find(self._mark, begin)) < 0:
+            begin = max(0, len(self._held) - len(self._mark))
             if show:
                 shown += self._show(show, shown)
             more = os.read(self.child.stdout.fileno(), 1 << 16)
@@ -242,7 +243,7 @@ def module_of(word, is_object=False, folder="."):
         raise refused(f"{path.stem} is no module's name: a letter and up to 30 letters, digits or underscores")
     if not path.is_file():
         raise refused(f"there is no file {path}")
-    return Module(path.stem, path.resolve().parent / path.name, is_object)
+    return Module(path.stem, path.parent.resolve() / path.name, is_object)
 
 
 def modules_of(words, objects=(), folder="."):

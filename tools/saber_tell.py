@@ -64,7 +64,8 @@ class Teller:
             self.say("-- and where it died was not seen")
 
     def birth(self, number, birth, is_dead):
-        self.say(f"-- object {number} is {birth.kind}" + (", born here" if birth.calls else ""))
+        name = f"{birth.name}, " if birth.name else ""
+        self.say(f"-- object {number} is {name}{birth.kind}" + (", born here" if birth.calls else ""))
         self.calls(birth.calls)
         if is_dead and birth.left:
             self.say("-- and it died as its block was left, at the latest behind this line")
@@ -88,10 +89,10 @@ def explain_object(explanation, teller, number):
     """Tells the life of an object that the report names."""
     is_dead = explanation.violation.rule == "U3" or f"dead object {number}" in explanation.text
     try:
-        block = explanation.block(number)
+        block, is_no_block = explanation.block(number)
         if block:
             teller.block(number, block, is_dead)
         else:
-            teller.birth(number, explanation.birth(number), is_dead)
+            teller.birth(number, explanation.birth(number, is_no_block), is_dead)
     except Lost as reason:
         teller.say(f"-- the birth of object {number} was not found: {reason}")

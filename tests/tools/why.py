@@ -40,6 +40,9 @@ FILES = {
               "    p[4] = 0;\n    return 0;\n}\n",
     "moved.c": "#include <stdlib.h>\nint main(void)\n{\n    char *p, *q;\n    q = malloc(2);\n    q[0] = 1;\n    p = realloc(q, 6);\n    return p[0] + q[0];\n}\n",
     "crash.c": "int main(void)\n{\n    int *p;\n    p = 0;\n    return *p;\n}\n",
+    "param.c": "static int *keep(int first, int second)\n{\n    int third;\n    third = first;\n    return third ? &second : 0;\n}\n"
+               "int main(void)\n{\n    int *p;\n    int q;\n    p = keep(1, 2);\n    q = *p;\n    return q;\n}\n",
+    "inner.c": "int main(void)\n{\n    int p;\n    p = 1;\n    if (p) {\n        int q;\n        p = q;\n    }\n    return p;\n}\n",
     "copy.c": "#include <stdlib.h>\n#include <string.h>\nint main(void)\n{\n    strcpy(malloc(3), \"abc\");\n    return 0;\n}\n",
     "mapped.c": "int main(void) { int x; return x; }\n",
     "real.c": "\n\nint main(void) {\n    int x;\n    return x;\n}\n",
@@ -54,7 +57,7 @@ CASES = [
                       "-- object 2 is a heap block of 12 bytes, which calloc gave here", "    main at freed:10 freed.c:10: c.item = calloc(3, sizeof(int));",
                       "-- and it died here", "    freed:drop at freed:5 freed.c:5: free(c->item);", "    main at freed:11 freed.c:11: drop(&c);"]),
     (["left"], 1, ["> violation U3 in main at left:11 object 3 offset 0 size 4", "    p = dead object 3 + 0",
-                   "-- object 3 is an object of left:kept's outermost block, born here",
+                   "-- object 3 is twice, an object of left:kept's outermost block, born here",
                    "-- and it died as its block was left, at the latest behind this line", "    left:kept at left:5 left.c:5: return &twice;"]),
     (["rec"], 1, ["> violation U7 in rec:fact at rec:3 left 13 right 479001600", "    n = 13"]),
     (["first"], 1, ["> violation U5 in main at first:4 left object 1 + 0 right 5",
@@ -65,9 +68,14 @@ CASES = [
     (["nine"], 3, ["> exit 9"]),
     (["--turns", "1000", "loop"], 3, ["> paused after 1000 turns"]),
     (["user", "store"], 1, ["> violation U2 in store at store:3 object 1 offset 4 size 4", "    p = object 1 + 0",
-                            "-- object 1 is an object of main's outermost block, born here"]),
+                            "-- object 1 is one, an object of main's outermost block, born here"]),
     # compiled code tests nothing itself: what was not written is found where it is read
     (["user", "--object", "store"], 1, ["> violation U1 in main at user:6 object 1 offset 0 size 4", "    one = ?"]),
+    # main's p and q are 1 and 2, and the parameters of keep 3 and 4
+    (["param"], 1, ["> violation U3 in main at param:12 object 4 offset 0 size 4",
+                    "-- object 4 is second, a parameter of param:keep, born here", "    main at param:11 param.c:11: p = keep(1, 2);"]),
+    (["inner"], 1, ["> violation U1 in main at inner:7 object 2 offset 0 size 4", "-- object 2 is an object of a block, born here",
+                    "    main at inner:5 inner.c:5: if (p) {"]),
     (["crash", "--object", "crash"], 1, ["-- calls, the innermost one first, as the last function was entered"]),
     # p and q are the first objects
     (["grow"], 1, ["> violation U5 in main at grow:8 left object 5 + 0 right 4", "-- object 5 is a heap block of 3 bytes, which realloc gave here",
