@@ -18,7 +18,7 @@ import common
 FOLDER = common.HERE / "prep"
 WORDS = {"words": ["--arguments", "0x11 two"]}  # further words of saber-prep for a program
 GIVEN = {"words": ["0x11", "two"]}  # the same words for the compiled program
-RUN = ["bits", "c99", "gnu", "jumps", "narrow", "oldstyle", "pointers", "structs", "variadic", "words"]
+RUN = ["bits", "c99", "gnu", "jumps", "members", "narrow", "oldstyle", "pointers", "structs", "variadic", "words"]
 
 
 def given_to(name):
@@ -170,12 +170,14 @@ def faults(program, folder):
 
 
 def keeps_the_source(program, folder):
-    """The output never takes the place of the file that is read, and an empty file is a module."""
-    (folder / "own.c").write_text("int main(void) { return 0; }\n")
+    """The output never takes the place of a file of the user, and an empty file is a module."""
+    for name in ("own.c", "with-dash.c", "with_dash.c"):
+        (folder / name).write_text("int main(void) { return 0; }\n")
     (folder / "empty.c").write_text("")
-    ran = common.prepared([folder / "own.c"], folder)
-    if ran.returncode != 2 or (folder / "own.c").read_text() != "int main(void) { return 0; }\n":
-        return f"status {ran.returncode}"
+    for name in ("own.c", "with-dash.c"):
+        ran = common.prepared([folder / name], folder)
+        if ran.returncode != 2 or not ran.stderr.startswith("saber-prep: ") or list(folder.glob("*.json")):
+            return f"status {ran.returncode}"
     common.prepared([folder / "own.c", folder / "empty.c"], folder / "out")
     came = common.run_of(program, folder / "out", ["own", "empty"])
     return None if came == "> exit 0\n" else came

@@ -11,7 +11,7 @@ def bit_fields(unit: Unit) -> None:
     widths: dict[str, tuple[int, bool]] = {}
     for node in list(unit.declared.values()):
         if node.kind == "FieldDecl" and node.data.get("isBitfield"):
-            widths[node.id] = (widen(unit, node), "unsigned" not in node.plain and node.plain != "_Bool")
+            widths[node.id] = (widen(unit, node), is_signed(unit, node.plain))
     if not widths:
         return
     for node in unit.inner_first():
@@ -26,6 +26,17 @@ def bit_fields(unit: Unit) -> None:
             computed(unit, node, width, signed, node.data["opcode"][:-1], [Span(node.inner[1].first, node.inner[1].last)])
         elif node.kind == "UnaryOperator" and node.data.get("opcode") in ("++", "--"):
             computed(unit, node, width, signed, node.data["opcode"][0], ["1"])
+
+
+def is_signed(unit: Unit, plain: str) -> bool:
+    """Whether a bit-field of a type has negative values; one of an enumeration only if a constant has."""
+    if not plain.startswith("enum"):
+        return "unsigned" not in plain and plain != "_Bool"
+    for node in unit.declared.values():
+        if node.kind == "EnumDecl" and plain == f"enum {node.name}":
+            values = [it.data.get("value", "0") for below in node.inner for it in below.walk() if it.kind == "ConstantExpr"]
+            return any(str(it).startswith("-") for it in values)
+    return False
 
 
 def widen(unit: Unit, node: Node) -> int:

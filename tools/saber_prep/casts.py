@@ -7,7 +7,7 @@ from .edits import Span
 from .initialisers import is_static
 from .notes import Weight
 from .tree import Node
-from .unit import QUALIFIERS, Unit
+from .unit import QUALIFIERS, UNNAMED, Unit
 
 VOID = re.compile(r"^(?:const |volatile )*void \*")
 
@@ -61,7 +61,7 @@ def is_null(node: Node) -> bool:
 
 
 def cast_to(unit: Unit, node: Node) -> None:
-    if "(unnamed" in node.type or "(anonymous" in node.type:
+    if UNNAMED.search(node.type):
         unit.note(Weight.PROBLEM, node.first, "conversion to a type without a name", "give the type a name")
         return
     if any(it.kind == "CompoundStmt" for it in node.above()) or node.parent is not None:

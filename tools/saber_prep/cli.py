@@ -73,8 +73,8 @@ def written(words: Words, file: pathlib.Path, name: str, names: Names) -> int:
     """Makes one module; answers the exit status for it."""
     read_file(file)
     target = words.output / f"{name}.c"
-    if target.exists() and target.samefile(file):
-        raise Failure(f"{file}: the output would take its place; give another folder by -o", 2)
+    if target.exists() and not (words.output / f"{name}.map.json").exists():
+        raise Failure(f"{target}: it is there, and was not written by saber-prep; give another folder by -o", 2)
     unit = unit_of(file, words.options)
     lines = laid_out(unit)
     try:
@@ -113,8 +113,18 @@ def main(given: list[str] | None = None) -> int:
         except Failure as fault:
             print(f"saber-prep: {fault}", file=sys.stderr)
             status = max(status, fault.status)
+    return max(status, support(words, names))
+
+
+def support(words: Words, names: Names) -> int:
+    """Writes the support modules that the files need; answers the exit status for them."""
     for file in needed(names.used, names.own):
-        (words.output / file.name).write_text(without(file.read_text(), names.own))
+        text, target = file.read_text(), words.output / file.name
+        front = text[: text.index("*/")]
+        if target.exists() and not target.read_text(errors="replace").startswith(front):
+            print(f"saber-prep: {target}: it is there, and was not written by saber-prep; give another folder by -o", file=sys.stderr)
+            return 2
+        target.write_text(without(text, names.own))
         if not words.quiet:
             print(f"{file.name}: module {file.stem}, which the others need")
-    return status
+    return 0

@@ -131,11 +131,12 @@ def paths(unit: Unit, path: str, node: Node) -> list[str]:
     if node.plain.endswith("]") or node.type.endswith("]"):
         return [f"{path} [ {number} ]" for number in range(len(node.inner))]
     if "field" in node.data:
-        return [f"{path} . {node.data['field'].get('name')}"]
+        member = unit.declared.get(node.data["field"].get("id", ""))
+        return [f"{path} . {unit.member_name(member) if member is not None else node.data['field'].get('name')}"]
     record = unit.record_of(node.type) or unit.record_of(node.plain)
     if record is None:
         return [path]
-    return [f"{path} . {it.name}" for it in unit.fields(record)]
+    return [f"{path} . {unit.member_name(it)}" for it in unit.fields(record)]
 
 
 def zeroed(unit: Unit, path: str, type_text: str, plain: str) -> list[Part]:

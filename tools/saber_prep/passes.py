@@ -3,7 +3,7 @@ from __future__ import annotations
 
 import pathlib
 
-from . import bits, calls, casts, flatten, initialisers, keep, oldstyle, problems, statements, structs, types, words
+from . import bits, calls, casts, flatten, initialisers, keep, members, oldstyle, problems, statements, structs, types, words
 from .notes import Notes, Weight
 from .source import Options, read
 from .tree import deep, parsed
@@ -44,6 +44,7 @@ def all_passes(unit: Unit) -> None:
     casts.casts(unit)
     types.booleans(unit)
     bits.bit_fields(unit)
+    members.unnamed_members(unit)
     oldstyle.old_style(unit)
     oldstyle.empty_parentheses(unit)
     oldstyle.implicit_int(unit)

@@ -28,8 +28,6 @@ def problems(unit: Unit) -> None:
                 unit.note(Weight.PROBLEM, node.first, *KINDS[node.kind])
             elif node.kind == "VarDecl" and VARIABLE_SIZE.search(node.type):
                 unit.note(Weight.PROBLEM, node.first, f"the array {node.name} with a size that is computed", "a constant size, or malloc")
-            elif node.kind in ("RecordDecl", "IndirectFieldDecl") and node.kind == "IndirectFieldDecl":
-                unit.note(Weight.PROBLEM, node.first, "members of a structure without a name", "give it a name, and use it")
 
 
 def holder(node: Node) -> Node | None:

@@ -6,7 +6,7 @@ from .edits import Part, Span
 from .notes import Weight
 from .oldstyle import parameters_at
 from .tree import Node
-from .unit import Unit
+from .unit import UNNAMED, Unit
 
 STORAGE = {"static", "extern", "inline", "__inline", "__inline__", "__extension__", "_Noreturn"}
 RESULT = "saber_result"
@@ -93,7 +93,7 @@ def call(unit: Unit, node: Node) -> None:
     if not passed and not gives:
         return
     function = next((it for it in node.above() if it.kind == "FunctionDecl"), None)
-    if target is None or target.kind != "FunctionDecl" or function is None or "(unnamed" in node.type:
+    if target is None or target.kind != "FunctionDecl" or function is None or UNNAMED.search(node.type):
         unit.note(Weight.PROBLEM, node.first, "structure through a pointer to functions", "pass a pointer to one")
         return
     for argument in passed:

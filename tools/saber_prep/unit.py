@@ -10,7 +10,7 @@ from .source import INCLUDE, Options, Origin, Source, Token
 from .tree import Flat, Node
 
 QUALIFIERS = re.compile(r"\b(?:const|volatile|restrict|__restrict|_Atomic)\b")
-UNNAMED = re.compile(r"\(unnamed(?: \w+)? at <stdin>:(\d+):(\d+)\)")
+UNNAMED = re.compile(r"\((?:unnamed|anonymous)(?: \w+)? at <stdin>:(\d+):(\d+)\)")
 
 
 @dataclass(eq=False)
@@ -176,6 +176,23 @@ class Unit:
 
     def is_record(self, node: Node) -> bool:
         return self.record_of(node.type) is not None or self.record_of(node.plain) is not None
+
+    def alignment(self, type_text: str, plain: str) -> int:
+        """The bytes to which a type is aligned: its size, and of a structure the largest of its members."""
+        text = QUALIFIERS.sub(" ", plain).split("[")[0].strip()
+        if text.endswith(("*", ")")) and not UNNAMED.search(text):
+            return 4
+        record = self.record_of(type_text.split("[")[0]) or self.record_of(text)
+        if record is not None:
+            return max((self.alignment(it.type, it.plain) for it in self.fields(record)), default=1)
+        return 1 if "char" in text or text == "_Bool" else 2 if "short" in text else 4
+
+    def member_name(self, member: Node) -> str:
+        """The name of a member; one without a name gets one by its place among those."""
+        if member.name:
+            return member.name
+        others = [it for it in member.parent.inner if it.kind == "FieldDecl" and not it.name and it.data.get("isImplicit")]
+        return f"saber_part_{others.index(member) + 1}"
 
     def fields(self, record: Node) -> list[Node]:
         return [it for it in record.inner if it.kind == "FieldDecl" and (it.name or not it.data.get("isBitfield"))]

@@ -87,6 +87,11 @@ def literals(unit: Unit) -> None:
         if node.kind == "CharacterLiteral" and odd_character(unit.text(node.first)):
             unit.edits.replace(node.first, node.last, str(node.data.get("value", 0)))
             unit.note(Weight.PLAIN, node.first, "wide or long character constant")
+        elif node.kind == "UnaryExprOrTypeTraitExpr" and node.name == "alignof":
+            meant = node.data.get("argType") or node.inner[0].data.get("type", {})
+            written = meant.get("qualType", "")
+            unit.edits.replace(node.first, node.last, f"{unit.alignment(written, meant.get('desugaredQualType', written))}u")
+            unit.note(Weight.PLAIN, node.first, "_Alignof")
         elif node.kind == "PredefinedExpr" and node.inner:
             value = node.inner[0].data.get("value", '""')
             unit.edits.replace(node.first, node.last, Verbatim(value))

@@ -41,9 +41,12 @@ int main(void)
     g = f;
     g.low = 13;
     g.middle = 9;
+    g.color = BLUE;
+    g.color++;
     printf("%d %d %d %d\n", g.low, g.middle, g.other = 7 + 2, g.bit = 6);
     i = g.low-- - 1;
     printf("%d %d %d\n", i, g.low, (int)start.color);
+    printf("%d %d\n", g.color, g.color == 3);
     printf("%d %u %d\n", start.middle, start.whole, f.other);
     return 0;
 }
