@@ -48,8 +48,8 @@ Version: $version
 Architecture: amd64
 Maintainer: $maintainer
 Installed-Size: $(du -k -s "$tree/usr" | cut -f 1)
-Depends: libc6 (>= 2.34), python3
-Suggests: gcc, rlwrap
+Depends: libc6 (>= 2.34), python3 (>= 3.11)
+Suggests: clang, gcc, python3-pycparser
 Section: devel
 Priority: optional
 Description: workspace for C modules with every step checked
