@@ -10,6 +10,5 @@ pub mod Words
 pub mod ValueBytes
 pub mod Apart
 pub mod Living
-pub mod Memories
 pub mod Numbering
 pub mod Burying

@@ -2,10 +2,7 @@
 ghost use Rattle.std.specs.Prelude.{◌≡◌, ◌+◌, ◌<◌, ◌∷◌, ◌++◌, [], length, OnErr, IfOk, IfSome, IsSome, MatchOption, MatchResult, None, Some};
 ghost use Rattle.sc_objects.specs.declared.objects.Obj.{Obj};
 ghost use Rattle.sc_objects.specs.Numbered.{IsLive};
-ghost use Rattle.sc_mem.specs.Flat.{aligned_place, place, raw_read, with_death, written_at};
-ghost use Rattle.sc_meaning.specs.Beside as words;
-ghost use Rattle.sc_meaning.specs.Beside.{born_in, died_in, empty_memory, kept_in, put_in};
-ghost use Rattle.sc_mem_store.specs.Holding.{value_at};
+ghost use Rattle.sc_mem.specs.Flat.{place, with_death, written_at};
 ghost use Rattle.sc_mem.specs.Safe.{IsSafe};
 ghost use Rattle.sc_mem.specs.Words.{IsSize};
 ghost use Rattle.sc_mem_store.specs.Changes.{buried, changed, item_of, remembered};
@@ -48,11 +45,12 @@ pub struct Store {
 }
 
 impl Model for Store {
-    ghost use Rattle.sc_mem_store.specs.Kept.{Kept};
+    ghost use Rattle.std.specs.Prelude.{List};
+    ghost use Rattle.sc_meaning.specs.World.{Object};
 
-    ghost Value = { Kept };
+    ghost Value = { List Object };
 
-    ghost view = { λ s. record { objects = s.history.objects; memory = s.memory; functions = s.functions } };
+    ghost view = { λ s. s.history.objects };
 
     ghost use Rattle.sc_mem_store.specs.Holding.{Holds};
 
@@ -60,7 +58,7 @@ impl Model for Store {
 }
 
 impl Store {
-    ghost use Rattle.sc_mem_store.specs.Holding.{IsInside, IsReached};
+    ghost use Rattle.sc_mem_store.specs.Holding.{IsInside};
 
     /// No object is born. The stack and the heap have these bytes, and the functions the numbers of their places in the list.
     #[tactic(auto, using(crate::proofs::Holding::holds_none))]
@@ -70,7 +68,7 @@ impl Store {
         heap: u64,
         functions: Items<Shared<Key>>,
     ) -> Result<Store, NoMemory>
-        ensures { IfOk result (λ s. s ≡ record { objects = []; memory = empty_memory stack heap; functions = functions }) }
+        ensures { IfOk result (λ s. s ≡ []) }
     {
         if stack > 16777216 || heap > 67108864 {
             return Err(NoMemory);
@@ -86,7 +84,7 @@ impl Store {
 
     /// How many objects were born.
     pub fn len(&self) -> u32
-        ensures { result ≡ length self.now.objects }
+        ensures { result ≡ length self.now }
     {
         self.memory.count()
     }
@@ -94,7 +92,7 @@ impl Store {
     /// The object with a number.
     #[tactic(auto, using(crate::proofs::Holding::found_held, crate::proofs::Holding::held_nowhere))]
     pub fn find(&self, id: u32) -> Option<Facts>
-        ensures { MatchOption result (object_at self.now.objects id ≡ None) (λ f. (o : Object) × (object_at self.now.objects id ≡ Some o) × (f.size ≡ o.size) × (f.kind ≡ o.kind) × (f.live ≡ o.live)) }
+        ensures { MatchOption result (object_at self.now id ≡ None) (λ f. (o : Object) × (object_at self.now id ≡ Some o) × (f.size ≡ o.size) × (f.kind ≡ o.kind) × (f.live ≡ o.live)) }
     {
         match self.memory.find(id) {
             None => None,
@@ -109,7 +107,7 @@ impl Store {
     /// The `n` bytes of a live object from an offset on, of which those outside the object are left out.
     #[tactic(auto, using(crate::proofs::Reading::read_result))]
     pub fn cells(&self, id: u32, at: u64, n: u32) -> Result<Items<Cell>, NoMemory>
-        ensures { IfOk result (λ cells. cells ≡ cells_at self.now.objects id at n) }
+        ensures { IfOk result (λ cells. cells ≡ cells_at self.now id at n) }
     {
         let span = span_of(&self.memory, id, at, n)?;
         bytes_at(
@@ -124,7 +122,7 @@ impl Store {
     /// The same for at most four bytes, without a list.
     #[tactic(auto, using(crate::proofs::Reading::read_result))]
     pub fn few(&self, id: u32, at: u64, n: u32) -> Result<Few, NoMemory>
-        ensures { IfOk result (λ few. few ≡ cells_at self.now.objects id at n) }
+        ensures { IfOk result (λ few. few ≡ cells_at self.now id at n) }
     {
         let span = span_of(&self.memory, id, at, n)?;
         few_at(
@@ -136,9 +134,9 @@ impl Store {
     }
 
     /// An object outside the heap is born at an address, its bytes unwritten.
-    #[tactic(auto, using(crate::proofs::Holding::holds_born, crate::proofs::Memories::born_at))]
+    #[tactic(auto, using(crate::proofs::Holding::holds_born))]
     pub fn birth(&mut self, size: u32, kind: Kind, base: u32) -> Result<(), NoMemory>
-        ensures ok { IfOk result (λ _. self.new ≡ record { objects = self.old.objects ++ fresh size kind ∷ []; memory = born_in size kind (Some base) self.old.memory; functions = self.old.functions }) }
+        ensures ok { IfOk result (λ _. self.new ≡ self.old ++ fresh size kind ∷ []) }
         ensures err { OnErr result (self.new ≡ self.old) }
     {
         self.memory.settle(size, kind, base)?;
@@ -147,9 +145,9 @@ impl Store {
     }
 
     /// An object of the heap is born in a block of its own, its bytes unwritten.
-    #[tactic(auto, using(crate::proofs::Holding::holds_born, crate::proofs::Memories::born_block))]
+    #[tactic(auto, using(crate::proofs::Holding::holds_born))]
     pub fn allocate(&mut self, size: u32) -> Result<(), NoMemory>
-        ensures { IfOk result (λ _. self.new ≡ record { objects = self.old.objects ++ fresh size Kind.Heap ∷ []; memory = born_in size Kind.Heap None self.old.memory; functions = self.old.functions }) }
+        ensures { IfOk result (λ _. self.new ≡ self.old ++ fresh size Kind.Heap ∷ []) }
     {
         self.memory.allocate(size)?;
         self.history = after(&self.history, Change::Birth(size, Kind::Heap));
@@ -157,9 +155,9 @@ impl Store {
     }
 
     /// A live object dies.
-    #[tactic(auto, using(crate::proofs::Holding::holds_ended, crate::proofs::Holding::held_nowhere, crate::proofs::Memories::died_nowhere))]
+    #[tactic(auto, using(crate::proofs::Holding::holds_ended, crate::proofs::Holding::held_nowhere))]
     pub fn death(&mut self, id: u32) -> Result<(), NoMemory>
-        ensures { IfOk result (λ _. self.new ≡ record { objects = ended self.old.objects id (object_at self.old.objects id); memory = died_in id self.old.memory; functions = self.old.functions }) }
+        ensures { IfOk result (λ _. self.new ≡ ended self.old id (object_at self.old id)) }
     {
         let Some(object) = self.memory.find(id) else {
             return Ok(());
@@ -173,11 +171,10 @@ impl Store {
     }
 
     // A byte is written into a live object.
-    #[tactic(auto, using(crate::proofs::Holding::holds_put, crate::proofs::Memories::put_one))]
+    #[tactic(auto, using(crate::proofs::Holding::holds_put))]
     fn put_byte(&mut self, id: u32, at: u32, cell: &Cell) -> Result<(), NoMemory>
-        ensures put { IfOk result (λ _. self.new ≡ record { objects = written self.old.objects id at (cell.now ∷ []) (object_at self.old.objects id); memory = put_in self.old.functions id at (cell.now ∷ []) self.old.memory; functions = self.old.functions }) }
-        ensures inside { IfOk result (λ _. IsInside self.old.objects id at) }
-        ensures reach { IfOk result (λ _. IsReached self.old.memory id at) }
+        ensures put { IfOk result (λ _. self.new ≡ written self.old id at (cell.now ∷ []) (object_at self.old id)) }
+        ensures inside { IfOk result (λ _. IsInside self.old id at) }
     {
         let Some(object) = self.memory.find(id) else {
             return Err(NoMemory);
@@ -195,11 +192,10 @@ impl Store {
     }
 
     /// Bytes are written into a live object from an offset on.
-    #[tactic(auto, using(crate::proofs::Writing::put_nothing, crate::proofs::Writing::put_step, crate::proofs::Writing::put_all, crate::proofs::Memories::put_in_nothing, crate::proofs::Memories::put_done))]
+    #[tactic(auto, using(crate::proofs::Writing::put_nothing, crate::proofs::Writing::put_step, crate::proofs::Writing::put_all))]
     pub fn put(&mut self, id: u32, at: u32, cells: &[Cell]) -> Result<(), NoMemory>
-        ensures { IfOk result (λ _. self.new ≡ record { objects = written self.old.objects id at cells.now (object_at self.old.objects id); memory = put_in self.old.functions id at cells.now self.old.memory; functions = self.old.functions }) }
+        ensures { IfOk result (λ _. self.new ≡ written self.old id at cells.now (object_at self.old id)) }
     {
-        let _ = self.memory.find(id);
         let mut next = at;
         for cell in cells {
             self.put_byte(id, next, cell)?;
@@ -212,14 +208,13 @@ impl Store {
     }
 
     /// A value is stored as `n` bytes of a live object from an offset on, at most four.
-    #[tactic(auto, using(crate::proofs::Writing::store_nothing, crate::proofs::Memories::store_nothing_in, crate::proofs::Memories::kept_is))]
+    #[tactic(auto, using(crate::proofs::Writing::store_nothing))]
     pub fn store(&mut self, id: u32, at: u32, n: u32, v: &Value) -> Result<(), NoMemory>
-        ensures { IfOk result (λ _. self.new ≡ record { objects = written self.old.objects id at (cells_of n v.now) (object_at self.old.objects id); memory = put_in self.old.functions id at (cells_of n v.now) self.old.memory; functions = self.old.functions }) }
+        ensures { IfOk result (λ _. self.new ≡ written self.old id at (cells_of n v.now) (object_at self.old id)) }
     {
         if n > 4 {
             return Err(NoMemory);
         }
-        let _ = self.memory.find(id);
         let mut next = at;
         for k in 0..n {
             let cell = value_byte(self.alloc, v, k)?;
@@ -234,7 +229,7 @@ impl Store {
 
     /// So many bytes go to a live object and offset from a live object and offset, as if by way of another place.
     pub fn copy(&mut self, to: u32, at: u32, from: u32, off: u32, n: u32) -> Result<(), NoMemory>
-        ensures { IfOk result (λ _. self.new ≡ record { objects = written self.old.objects to at (cells_at self.old.objects from off n) (object_at self.old.objects to); memory = put_in self.old.functions to at (cells_at self.old.objects from off n) self.old.memory; functions = self.old.functions }) }
+        ensures { IfOk result (λ _. self.new ≡ written self.old to at (cells_at self.old from off n) (object_at self.old to)) }
     {
         let cells = self.cells(from, u64::from(off), n)?;
         self.put(to, at, cells.as_slice())
@@ -250,7 +245,7 @@ impl Store {
         base: u32,
         other: u32,
     ) -> Result<(), NoMemory>
-        ensures { IfOk result (λ _. (self.new.objects ≡ self.old.objects ++ fresh size kind ∷ []) × (self.new.functions ≡ self.old.functions)) }
+        ensures { IfOk result (λ _. self.new ≡ self.old ++ fresh size kind ∷ []) }
     {
         match kind {
             Kind::Heap => self.allocate(size),
@@ -274,7 +269,7 @@ impl Store {
         other: u32,
         last: &Snapshot<Items<Cell>>,
     ) -> Result<(), NoMemory>
-        ensures { IfOk result (λ _. (self.new.objects ≡ self.old.objects ++ buried size kind last.now.value ∷ []) × (self.new.functions ≡ self.old.functions)) }
+        ensures { IfOk result (λ _. self.new ≡ self.old ++ buried size kind last.now.value ∷ []) }
     {
         self.birth_somewhere(size, kind, base, other)?;
         let id = self.len();
@@ -291,8 +286,8 @@ impl Store {
     // One more function gets the next number.
     #[tactic(auto, using(crate::proofs::Numbering::holds_numbered))]
     fn number_one(&mut self, key: Shared<Key>) -> Result<(), NoMemory>
-        requires { HasNoStray self.old.objects }
-        ensures { MatchResult result (λ _. self.new ≡ record self.old { functions = self.old.functions ++ key ∷ [] }) (λ _. self.new ≡ self.old) }
+        requires { HasNoStray self.old }
+        ensures { self.new ≡ self.old }
     {
         self.functions.push(key)?;
         Ok(())
@@ -301,9 +296,8 @@ impl Store {
     /// More functions get the next numbers. The words that were values of these functions before they had numbers
     /// are in no live object.
     pub fn number(&mut self, more: &[Shared<Key>]) -> Result<(), NoMemory>
-        requires { HasNoStray self.old.objects }
-        ensures same { self.new ≡ record self.old { functions = self.new.functions } }
-        ensures more { IfOk result (λ _. self.new ≡ record self.old { functions = self.old.functions ++ more.now }) }
+        requires { HasNoStray self.old }
+        ensures { self.new ≡ self.old }
     {
         for key in more {
             self.number_one(key.share()?)?;
@@ -313,12 +307,12 @@ impl Store {
 }
 
 impl Store {
-    ghost use Rattle.sc_mem_store.specs.Living.{IsBare, IsByteOf, IsLiveAt, IsLiving};
+    ghost use Rattle.sc_mem_store.specs.Living.{IsLiveAt, IsLiving};
 
     /// The address of a live object's first byte: `None` exactly where no live object has this number.
     #[tactic(auto, using(crate::proofs::Living::living))]
     pub fn base(&self, id: u32) -> Option<u32>
-        ensures { IfSome result (λ _. IsLiving self.now.objects id) }
+        ensures { IfSome result (λ _. IsLiving self.now id) }
     {
         match self.memory.find(id) {
             None => None,
@@ -327,10 +321,9 @@ impl Store {
     }
 
     /// The byte of a live object that stands at an address: `None` exactly where the byte there belongs to no live object.
-    #[tactic(auto, using(crate::proofs::Living::live_at, crate::proofs::Living::byte_there))]
+    #[tactic(auto, using(crate::proofs::Living::live_at))]
     pub fn live_at(&self, address: u32) -> Option<Place>
-        ensures lives { IfSome result (λ p. IsLiveAt self.now.objects p.id p.offset) }
-        ensures place { IfSome result (λ p. IsByteOf self.now.memory.flat.objects p.id p.offset address) }
+        ensures { IfSome result (λ p. IsLiveAt self.now p.id p.offset) }
     {
         place_at(&self.memory, address)
     }
@@ -339,15 +332,12 @@ impl Store {
     /// no multiple of the size. An unwritten byte reads as 0, and only the four pieces of one pointer have a tag.
     pub fn load(&self, at: u32, size: u8) -> Option<Word>
         requires { IsSize size }
-        ensures { result ≡ raw_read self.now.memory.flat at size }
     {
         self.memory.raw_load(at, size)
     }
 
     /// The value of a word: a number, the function whose stub begins there, or a place in the object that its tag names.
-    pub fn value(&self, w: Word) -> Result<Value, NoMemory>
-        ensures { IfOk result (λ v. v ≡ value_at self.now.functions self.now.memory.flat.objects w.tag w.bits) }
-    {
+    pub fn value(&self, w: Word) -> Result<Value, NoMemory> {
         value_of(self.functions.as_slice(), &self.memory, w.tag, w.bits)
     }
 
@@ -356,20 +346,17 @@ impl Store {
     /// # Errors
     ///
     /// `NoMemory` for a function without a number and for a place in an object that was not born, which no run has.
-    pub fn word(&self, v: &Value) -> Result<Word, NoMemory>
-        ensures { IfOk result (λ w. w ≡ words.word_of self.now.functions self.now.memory.flat.objects v.now) }
-    {
+    pub fn word(&self, v: &Value) -> Result<Word, NoMemory> {
         word_of(self.functions.as_slice(), &self.memory, v)
     }
 
     /// Writes a word to the `size` bytes at an address that belong to no live object: the objects stay as they are. `None`,
     /// where nothing is changed, if they are a live object's, outside the areas, or at no multiple of the size, or if the
     /// word has the tag of an object that was not born.
-    #[tactic(auto, using(crate::proofs::Living::holds_kept, crate::proofs::Memories::kept_stored))]
+    #[tactic(auto, using(crate::proofs::Living::holds_kept))]
     pub fn keep(&mut self, at: u32, size: u8, w: Word) -> Result<Option<()>, NoMemory>
         requires { IsSize size }
-        ensures kept { MatchResult result (λ kept. MatchOption kept (self.new ≡ self.old) (λ _. self.new ≡ record self.old { memory = kept_in at size w self.old.memory })) (λ _. self.new ≡ self.old) }
-        ensures place { IfOk result (λ kept. IfSome kept (λ _. IsSome (aligned_place self.old.memory.flat at size) × IsBare self.old.memory.flat.objects at)) }
+        ensures { self.new ≡ self.old }
     {
         match place_at(&self.memory, at) {
             Some(_) => Ok(None),
@@ -411,7 +398,6 @@ fn remembering(history: &History, last: &Snapshot<Items<Cell>>) -> History
 fn put_cell(memory: &mut Memory, at: u32, cell: Stored) -> Result<(), NoMemory>
     ensures safe { IsSafe memory.old }
     ensures cell { MatchResult result (λ _. IsSome (place memory.old.flat at 1) × (memory.new.flat ≡ written_at memory.old.flat (place memory.old.flat at 1) (cell ∷ []))) (λ _. memory.new.flat ≡ memory.old.flat) }
-    ensures blocks { IfOk result (λ _. memory.new.blocks ≡ memory.old.blocks) }
 {
     match memory.set_cell(at, cell) {
         Ok(Some(())) => Ok(()),
@@ -421,11 +407,9 @@ fn put_cell(memory: &mut Memory, at: u32, cell: Stored) -> Result<(), NoMemory>
 }
 
 // A live object dies, and its block is given back where it is allocated.
-#[tactic(auto, using(crate::proofs::Memories::died_heap, crate::proofs::Memories::died_other))]
 fn end_object(memory: &mut Memory, id: u32, object: Obj)
     requires { IsLive memory.old.flat.objects id object }
-    ensures flat { memory.new.flat ≡ with_death memory.old.flat id }
-    ensures all { memory.new ≡ died_in id memory.old }
+    ensures { memory.new.flat ≡ with_death memory.old.flat id }
 {
     memory.death(id);
     match object.kind {

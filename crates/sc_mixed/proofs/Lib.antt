@@ -5,7 +5,6 @@ pub mod Resting
 pub mod Reaching
 pub mod Stepping
 pub mod Sources
-pub mod Adding
 pub mod Growing
 mod Changing
 pub mod Telling

@@ -1,7 +1,5 @@
 pub mod Closing
 pub mod Slots
 pub mod Writing
-pub mod Reading
-pub mod Tables
 pub mod Ways
 pub mod Given

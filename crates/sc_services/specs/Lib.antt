@@ -1,5 +1,4 @@
 -- Inside: plumbing, a representation, an invariant or a promise beside the claim (docs/TRUST.md).
-pub mod Memory
 pub mod Frames
 pub mod Blocks
 pub mod Leaving
