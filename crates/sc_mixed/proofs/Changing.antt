@@ -25,12 +25,12 @@ use Rattle.sc_mixed.specs.declared.course.Course.TheVariants as way
 use Rattle.sc_mixed.specs.declared.ended.MixedEnd.TheVariants.{Meant}
 
 pub seen_course : (memory : Option Store) (shown : Bool) (course : Went) → MatchOption memory (shown ≡ false) (λ _. shown ≡ true) → shown ≡ true → taken_course course ≡ course_by memory course
-seen_course None shown course is yes = absurd (true≢false (sym yes ∙ is))
-seen_course (Some m) shown course is yes = refl
+seen_course None shown course is sees = absurd (true≢false (sym sees ∙ is))
+seen_course (Some m) shown course is sees = refl
 
 pub unseen_course : (memory : Option Store) (shown : Bool) (course : Went) → MatchOption memory (shown ≡ false) (λ _. shown ≡ true) → shown ≡ false → way.Over (Meant ended.NoRoom) ≡ course_by memory course
-unseen_course None shown course is no = refl
-unseen_course (Some m) shown course is no = absurd (true≢false (sym is ∙ no))
+unseen_course None shown course is hides = refl
+unseen_course (Some m) shown course is hides = absurd (true≢false (sym is ∙ hides))
 
 pub is_taken : (run : Option Alone) (i : Image) (course : Went) (cs : List Caller) (w v : World) (c : Count) (calls : Calls) (next : Course) → standing course cs w c ≡ run → v ≡ record w { beside = v.beside } → calls ≡ taken_calls cs → next ≡ course_by v.beside.memory course
     → IsTakenFrom run i (record { world = v; image = i; calls = calls; course = next })
