@@ -3,6 +3,7 @@ pub mod Outputs
 pub mod Naming
 pub mod Storing
 pub mod Moving
+pub mod Landing
 pub mod Filling
 pub mod RecordLemmas
 pub mod ToldLemmas

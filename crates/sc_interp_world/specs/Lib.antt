@@ -4,6 +4,7 @@ pub mod Happenings
 pub mod Outputs
 pub mod Naming
 pub mod Keeping
+pub mod Landing
 pub mod Blanks
 pub mod Recording
 pub mod Told

@@ -4,6 +4,7 @@ ghost use Rattle.sc_meaning.specs.Beside as beside;
 ghost use Rattle.sc_meaning.specs.Beside.{born_in, died_in, empty_memory, kept_in, put_in, word_of};
 ghost use Rattle.sc_mem.specs.Flat.{aligned_place, raw_read};
 ghost use Rattle.sc_interp_world.specs.Keeping.{functions_of, moved, moving, renumbered};
+ghost use Rattle.sc_interp_world.specs.Landing.{HasLanded, IsStoredIn};
 ghost use Rattle.sc_meaning.specs.Values as value;
 ghost use Rattle.sc_meaning.specs.World as spec;
 ghost use Rattle.sc_mem.specs.Words.{IsSize};
@@ -16,9 +17,18 @@ use crate::object::{Object, cells_at};
 use crate::remember::{has_stray, memory_of};
 use sc_base::{Items, Key, Kind, NoMemory, Shared, Word};
 use sc_meaning_values::Value;
-use sc_mem_store::{Cell, Place, Store};
+use sc_mem_store::{Cell, Landing, Place, Store};
 use std::alloc::Global;
 use std::marker::Model;
+use std::snapshot::Snapshot;
+
+/// Where a word was stored: nowhere; beside all live objects; or from a byte of one on, with the bytes that the object has of it.
+#[derive(Drop)]
+pub enum Landed {
+    Nowhere,
+    Beside,
+    Inside(u32, u32, Snapshot<Items<Cell>>),
+}
 
 /// All objects that were born, the first with number 1, and the memory that holds them at addresses, where compiled code
 /// looks at it. Where none does yet, but somebody listens, the memory is unseen: contracts do not speak of it, so that nothing
@@ -338,6 +348,35 @@ impl Held {
         }
     }
 
+    /// The low `size` bytes of a word are stored at an address without a test: in memory, and in the live object there, as far
+    /// as it has the bytes. Nothing is changed where that is nowhere.
+    #[tactic(auto, using(crate::proofs::Landing::nowhere_view, crate::proofs::Landing::nowhere_holds, crate::proofs::Landing::beside_view, crate::proofs::Landing::beside_holds, crate::proofs::Landing::inside_view, crate::proofs::Landing::inside_holds))]
+    pub fn store_word(&mut self, at: u32, size: u8, w: Word) -> Result<Landed, NoMemory>
+        requires { IsSize size }
+        ensures { IfOk result (λ landed. HasLanded at size w landed self.old self.new) }
+    {
+        if !self.whole || self.unseen.is_some() {
+            return Err(NoMemory);
+        }
+        self.whole = false;
+        match land(&mut self.memory, at, size, w)? {
+            Landing::Nowhere => {
+                self.whole = true;
+                Ok(Landed::Nowhere)
+            }
+            Landing::Beside => {
+                self.whole = true;
+                Ok(Landed::Beside)
+            }
+            Landing::Inside(id, offset, cells) => {
+                let told = Snapshot::of(&cells);
+                write_object(self.alloc, &mut self.objects, id, offset, cells)?;
+                self.whole = true;
+                Ok(Landed::Inside(id, offset, told))
+            }
+        }
+    }
+
     /// Writes a word to the `size` bytes at an address that belong to no live object, where there are such bytes.
     pub fn keep(&mut self, at: u32, size: u8, w: Word) -> Result<Option<()>, NoMemory>
         requires { IsSize size }
@@ -475,5 +514,16 @@ fn number_in(memory: &mut Option<Store>, more: &[Shared<Key>]) -> Result<(), NoM
     match memory {
         None => Ok(()),
         Some(memory) => memory.number(more),
+    }
+}
+
+// A word is stored by its address in a memory, where there is one.
+fn land(memory: &mut Option<Store>, at: u32, size: u8, w: Word) -> Result<Landing, NoMemory>
+    requires { IsSize size }
+    ensures { MatchResult result (λ landing. IsStoredIn at size w landing memory.old memory.new) (λ _. memory.new ≡ memory.old) }
+{
+    match memory {
+        None => Ok(Landing::Nowhere),
+        Some(memory) => memory.store_word(at, size, w),
     }
 }

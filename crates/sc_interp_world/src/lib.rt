@@ -3,6 +3,7 @@
 #![tactic(auto)]
 
 mod account;
+mod addressing;
 mod cells;
 mod event;
 mod held;

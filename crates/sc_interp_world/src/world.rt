@@ -477,7 +477,7 @@ impl World {
 
     // The trail keeps what happened, which no note on a call or a line tells.
     #[inline(always)]
-    fn note(&mut self, change: Change) -> Result<(), NoMemory>
+    pub(crate) fn note(&mut self, change: Change) -> Result<(), NoMemory>
         requires { step_of (item_of change) ≡ Other }
         ensures { IfOk result (λ _. self.new ≡ record self.old { trail = self.old.trail ++ item_of change ∷ [] }) }
     {

@@ -7,9 +7,11 @@ pub mod Meant
 pub mod Reading
 pub mod Writing
 pub mod Words
+pub mod WordCells
 pub mod ValueBytes
 pub mod Apart
 pub mod Living
 pub mod Memories
+pub mod Parts
 pub mod Numbering
 pub mod Burying

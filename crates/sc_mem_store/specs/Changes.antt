@@ -12,6 +12,7 @@ abbrev pub item_of : Change → Item
 item_of (change.Birth size kind) = Birth size kind Block
 item_of (change.Death id) = Death id
 item_of (change.Put id at c) = Put id at (c.value ∷ [])
+item_of (change.Row id at cells) = Put id at cells.value
 
 -- the objects after a birth, a death or a put; the place of a birth is no matter of theirs
 abbrev pub changed : List Object → Item → List Object

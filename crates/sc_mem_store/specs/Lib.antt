@@ -5,4 +5,6 @@ pub mod Changes
 pub mod Holding
 pub mod Kept
 pub mod Living
+pub mod Parts
+pub mod Storing
 pub mod Stray

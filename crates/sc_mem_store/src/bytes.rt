@@ -11,8 +11,8 @@ use sc_meaning_values::Value;
 use sc_mem::Memory;
 use std::alloc::Global;
 
-// The byte that a cell of memory stands for.
-fn byte_of(functions: &[Shared<Key>], memory: &Memory, cell: Stored) -> Result<Cell, NoMemory>
+/// The byte that a cell of memory stands for.
+pub fn byte_of(functions: &[Shared<Key>], memory: &Memory, cell: Stored) -> Result<Cell, NoMemory>
     ensures { IfOk result (λ c. c ≡ meant functions.now memory.now.flat.objects cell) }
 {
     match cell {

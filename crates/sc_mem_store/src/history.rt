@@ -15,9 +15,10 @@ pub enum Change {
     Birth(u32, Kind),
     Death(u32),
     Put(u32, u32, Snapshot<Cell>),
+    Row(u32, u32, Snapshot<Items<Cell>>),
 }
 
-/// One change: an object of a size and kind is born; one dies; a byte is put into one at an offset.
+/// One change: an object of a size and kind is born; one dies; a byte, or a row of bytes, is put into one at an offset.
 #[derive(Drop)]
 pub struct Item {
     pub change: Change,

@@ -5,6 +5,7 @@ mod bytes;
 mod cell;
 mod few;
 mod history;
+mod landing;
 mod laws;
 mod machine;
 mod pointers;
@@ -15,6 +16,7 @@ mod values;
 
 pub use cell::{Cell, Content};
 pub use few::Few;
+pub use landing::Landing;
 pub use laws::{held_objects_agree, words_have_values_of_their_own};
 pub use machine::Place;
 pub use store::{Facts, Store};

@@ -5,22 +5,26 @@ ghost use Rattle.sc_objects.specs.Numbered.{IsLive};
 ghost use Rattle.sc_mem.specs.Flat.{aligned_place, place, raw_read, with_death, written_at};
 ghost use Rattle.sc_meaning.specs.Beside as words;
 ghost use Rattle.sc_meaning.specs.Beside.{born_in, died_in, empty_memory, kept_in, put_in};
-ghost use Rattle.sc_mem_store.specs.Holding.{value_at};
+ghost use Rattle.sc_mem_store.specs.Holding.{value_at, IsTag};
+ghost use Rattle.sc_mem_store.specs.Parts.{part_of};
+ghost use Rattle.sc_mem_store.specs.Storing.{IsStored};
 ghost use Rattle.sc_mem.specs.Safe.{IsSafe};
 ghost use Rattle.sc_mem.specs.Words.{IsSize};
+ghost use Rattle.sc_mem.specs.Words.{cells_of as stored_cells};
 ghost use Rattle.sc_mem_store.specs.Changes.{buried, changed, item_of, remembered};
 ghost use Rattle.sc_mem_store.specs.Stray.{HasNoStray};
 ghost use Rattle.sc_meaning.specs.Values.{cells_of};
 ghost use Rattle.sc_meaning.specs.World.{Object, cells_at, ended, fresh, object_at, written};
 
-use crate::bytes::{bytes_at, cell_of};
+use crate::bytes::{byte_of, bytes_at, cell_of};
 use crate::cell::Cell;
 use crate::few::{Few, few_at};
 use crate::history::{Change, History, Item, Last};
+use crate::landing::Landing;
 use crate::machine::{Place, is_tag, place_at};
 use crate::pointers::{value_of, word_of};
 use crate::span::span_of;
-use crate::values::value_byte;
+use crate::values::{value_byte, word_cell};
 use sc_base::{Cell as Stored, Items, Key, Kind, NoMemory, Shared, Word};
 use sc_meaning_values::Value;
 use sc_mem::Memory;
@@ -362,10 +366,84 @@ impl Store {
         word_of(self.functions.as_slice(), &self.memory, v)
     }
 
+    /// What a store of `size` bytes of a word puts into an object from one of its bytes on: as many bytes as the object has.
+    #[tactic(auto, using(crate::proofs::WordCells::part_more, crate::proofs::WordCells::part_done))]
+    pub fn part(&self, place: Place, size: u8, w: Word) -> Result<Items<Cell>, NoMemory>
+        requires { IsSize size }
+        ensures { IfOk result (λ cells. cells ≡ part_of self.now.functions self.now.memory.flat.objects place.id place.offset (stored_cells size w)) }
+    {
+        let Some(object) = self.memory.find(place.id) else {
+            return Err(NoMemory);
+        };
+        let left = object.size.saturating_sub(place.offset);
+        let mut cells = Items::new(self.alloc);
+        for k in 0..left.min(u32::from(size)) {
+            let cell = word_cell(w, size, k);
+            cells.push(byte_of(self.functions.as_slice(), &self.memory, cell)?)?;
+        }
+        Ok(cells)
+    }
+
+    // A word is stored at an address at which no live object has a byte.
+    #[tactic(auto, using(crate::proofs::Memories::kept_stored))]
+    fn store_beside(&mut self, at: u32, size: u8, w: Word) -> Result<Landing, NoMemory>
+        requires { IsSafe self.old.memory × IsSize size × IsTag self.old.memory.flat.objects w.tag × IsBare self.old.memory.flat.objects at }
+        ensures stored { MatchResult result (λ landing. IsStored at size w landing self.old self.new) (λ _. self.new ≡ self.old) }
+    {
+        match self.memory.raw_store(at, size, w) {
+            Ok(Some(())) => Ok(Landing::Beside),
+            Ok(None) => Ok(Landing::Nowhere),
+            Err(fault) => Err(fault),
+        }
+    }
+
+    // A word is stored at the address of a byte of a live object.
+    #[tactic(auto, using(crate::proofs::Memories::kept_stored))]
+    fn store_inside(
+        &mut self,
+        place: Place,
+        at: u32,
+        size: u8,
+        w: Word,
+    ) -> Result<Landing, NoMemory>
+        requires { IsSafe self.old.memory × IsSize size × IsTag self.old.memory.flat.objects w.tag × IsByteOf self.old.memory.flat.objects place.id place.offset at }
+        ensures { MatchResult result (λ landing. IsStored at size w landing self.old self.new) (λ _. self.new ≡ self.old) }
+    {
+        let cells = self.part(place, size, w)?;
+        let change = Change::Row(place.id, place.offset, Snapshot::of(&cells));
+        let history = after(&self.history, change);
+        match self.memory.raw_store(at, size, w) {
+            Ok(Some(())) => {
+                self.history = history;
+                Ok(Landing::Inside(place.id, place.offset, cells))
+            }
+            Ok(None) => Ok(Landing::Nowhere),
+            Err(fault) => Err(fault),
+        }
+    }
+
+    /// The low `size` bytes of a word are stored at an address without a test, into the live object there or beside all
+    /// objects; only a store of four bytes keeps the word's tag. Nothing is changed where that is nowhere.
+    ///
+    /// # Errors
+    ///
+    /// `NoMemory` also for a word with the tag of an object that was not born, which no run has. Nothing is changed then.
+    pub fn store_word(&mut self, at: u32, size: u8, w: Word) -> Result<Landing, NoMemory>
+        requires { IsSize size }
+        ensures { MatchResult result (λ landing. IsStored at size w landing self.old self.new) (λ _. self.new ≡ self.old) }
+    {
+        if !is_tag(&self.memory, w.tag) {
+            return Err(NoMemory);
+        }
+        match place_at(&self.memory, at) {
+            None => self.store_beside(at, size, w),
+            Some(place) => self.store_inside(place, at, size, w),
+        }
+    }
+
     /// Writes a word to the `size` bytes at an address that belong to no live object: the objects stay as they are. `None`,
     /// where nothing is changed, if they are a live object's, outside the areas, or at no multiple of the size, or if the
     /// word has the tag of an object that was not born.
-    #[tactic(auto, using(crate::proofs::Living::holds_kept, crate::proofs::Memories::kept_stored))]
     pub fn keep(&mut self, at: u32, size: u8, w: Word) -> Result<Option<()>, NoMemory>
         requires { IsSize size }
         ensures kept { MatchResult result (λ kept. MatchOption kept (self.new ≡ self.old) (λ _. self.new ≡ record self.old { memory = kept_in at size w self.old.memory })) (λ _. self.new ≡ self.old) }
