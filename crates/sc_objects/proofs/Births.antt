@@ -1,16 +1,16 @@
--- How births and deaths change the table and the map of bases, and what the map finds at an address.
-use Rattle.std.proofs.Common.{◌≡◌, ◌≢◌, ◌⊎◌, inl, inr, ℕ, zero, suc, ◌+◌, ◌-◌, ◌<◌, ◌≤◌, true, false, List, [], ◌∷◌, length, set, refl, sym, ap, ◌∙◌, None, Some, arith, add-one}
+-- How births and deaths change the table, and what is found at an address.
+use Rattle.std.proofs.Common.{◌≡◌, ◌≢◌, ◌⊎◌, inl, inr, ℕ, zero, suc, ◌+◌, ◌-◌, ◌/◌, ◌%◌, ◌<◌, ◌≤◌, Bool, true, false, List, [], ◌∷◌, length, set, refl, sym, ap, ◌∙◌, subst, Option, None, Some, arith, add-one}
 use Rattle.std.specs.List.{slice_get}
-use Rattle.std.specs.Option.{IsSome}
-use Rattle.std.specs.Ordering.{nat_cmp}
-use Rattle.std.specs.BTreeMap.{BTreeMap, get, Updates}
+use Rattle.std.specs.Prelude.{◌↔◌, IsTrue, MatchOption}
 use Rattle.std.proofs.lemmas.Option.{slice_get_within}
 use Rattle.std.proofs.lemmas.List.{length_push, length-set}
 use Rattle.std.proofs.lemmas.Bool.{cases_eq, cases_lt}
 use Rattle.sc_objects.specs.declared.objects.Obj.{Obj}
 use Rattle.sc_objects.specs.Numbered.{object_of, IsLive, Apart, AreApart, IsClear, StandsAt, IsObjectAt, born, ended, ended_at}
+use Rattle.sc_objects.specs.declared.owners.Tract.{Tract}
+use Rattle.sc_objects.specs.Owned.{Keeps, Meets, Owns}
 use Rattle.sc_objects.specs.Kept.{Kept}
-use Rattle.sc_objects.proofs.Lists.{slice_get-front, slice_get-last, slice_get-push, slice_get-set, slice_get-set_other, is_at-apart}
+use Rattle.sc_objects.proofs.Lists.{slice_get-front, slice_get-last, slice_get-push, slice_get-set, slice_get-set_other}
 
 pub object_of-at : (objects : List Obj) (id : ℕ) → 0 < id → object_of objects id ≡ slice_get objects (id - 1)
 object_of-at objects zero h = absurd (omega arith)
@@ -48,24 +48,34 @@ apart-born objects o apart clear i j p q hp hq n =
       ]
     ]
 
-pub kept-born : (objects : List Obj) (live now : BTreeMap ℕ ℕ) (o : Obj) → Kept objects live → length objects < 4000000000 → o.live ≡ true → IsClear objects o.base o.size → Updates nat_cmp live now o.base (Some (length objects + 1)) → Kept (born objects o) now
-kept-born objects live now o k few lives clear u = record {
+-- numbers are put over addresses of no live object
+pub kept-put : (objects : List Obj) (old new : List Tract) (base size : ℕ) → Kept objects old → base % 4 ≡ 0 → IsClear objects base size → Keeps old new base (base + size) → Kept objects new
+kept-put objects old new base size k four clear keeps = record {
+  few = k.few;
+  apart = k.apart;
+  aligned = k.aligned;
+  owned = λ id a h. keeps id a (away id a h) (k.owned id a h);
+}
+  where
+    away : (id a : ℕ) → StandsAt objects id a → (a / 4 < base / 4) ⊎ ((base + size) / 4 < a / 4)
+    away id a h =
+        let o = h.0 in
+        let low = h.2 in
+        let high = h.3 in
+        let even = k.aligned id o h.1 in
+        elim (clear id o h.1) [ inl l ↦ inl (omega arith) | inr l ↦ inr (omega arith) ]
+
+pub kept-born : (objects : List Obj) (tracts : List Tract) (o : Obj) → Kept objects tracts → length objects < 4000000000 → o.base % 4 ≡ 0 → IsClear objects o.base o.size → ((a : ℕ) → o.base ≤ a → a ≤ o.base + o.size → Owns tracts (length objects + 1) a) → Kept (born objects o) tracts
+kept-born objects tracts o k few four clear owns = record {
   few = rw (length_push objects o) (omega arith);
   apart = apart-born objects o k.apart clear;
-  found = λ id p h. elim (object-born objects o id p h.0) [
-    | inl a ↦
-        let c = clear id p (a, h.1) in
-        let n : o.base ≢ p.base = λ e. elim c [ inl l ↦ omega arith | inr l ↦ omega arith ] in
-        u.2 p.base (is_at-apart o.base p.base n) ∙ k.found id p (a, h.1)
-    | inr a ↦ rw (a.1, a.0) u.1
-  ];
-  known = λ base id h. elim (cases_eq o.base base) [
-    | inl e ↦
-        let new : Some (length objects + 1) ≡ Some id = sym u.1 ∙ (ap (get nat_cmp now) e ∙ h) in
-        (o, (let same : length objects + 1 ≡ id = cc in rw (← same) (born-new objects o), lives), e)
-    | inr n ↦
-        let old = k.known base id (sym (u.2 base (is_at-apart o.base base n)) ∙ h) in
-        (old.0, (born-object objects o id old.0 old.1.0, old.1.1), old.2)
+  aligned = λ id p h. elim (object-born objects o id p h.0) [ inl a ↦ k.aligned id p (a, h.1) | inr a ↦ rw a.1 four ];
+  owned = λ id a h. elim (object-born objects o id h.0 h.1.0) [
+    | inl old ↦ k.owned id a (h.0, (old, h.1.1), h.2, h.3)
+    | inr new ↦
+        let low : o.base ≤ a = subst (λ (p : Obj). p.base ≤ a) new.1 h.2 in
+        let high : a ≤ o.base + o.size = subst (λ (p : Obj). a ≤ p.base + p.size) new.1 h.3 in
+        rw new.0 (owns a low high)
   ];
 }
 
@@ -95,23 +105,12 @@ apart-ended objects id o h apart i j p q hp hq n = apart i j p q (live-ended obj
 pub length-ended : (objects : List Obj) (id : ℕ) (o : Obj) → object_of objects id ≡ Some o → length (ended objects id) ≡ length objects
 length-ended objects id o h = rw (ended-is objects id o h) (length-set objects (id - 1) (record o { live = false }))
 
-pub kept-ended : (objects : List Obj) (live now : BTreeMap ℕ ℕ) (id : ℕ) (o : Obj) → Kept objects live → IsLive objects id o → Updates nat_cmp live now o.base None → Kept (ended objects id) now
-kept-ended objects live now id o k l u = record {
+pub kept-ended : (objects : List Obj) (tracts : List Tract) (id : ℕ) (o : Obj) → Kept objects tracts → IsLive objects id o → Kept (ended objects id) tracts
+kept-ended objects tracts id o k l = record {
   few = rw (length-ended objects id o l.0) k.few;
   apart = apart-ended objects id o l.0 k.apart;
-  found = λ other p h.
-      let old = live-ended objects id o l.0 other p h in
-      let there = k.found other p old.1 in
-      let here = k.found id o l in
-      let n : o.base ≢ p.base = λ e. old.0 (let same : Some other ≡ Some id = sym there ∙ (ap (get nat_cmp live) (sym e) ∙ here) in cc) in
-      u.2 p.base (is_at-apart o.base p.base n) ∙ there;
-  known = λ base other h. elim (cases_eq o.base base) [
-    | inl e ↦ absurd (let none : None ≡ Some other = sym u.1 ∙ (ap (get nat_cmp now) e ∙ h) in cc)
-    | inr n ↦
-        let old = k.known base other (sym (u.2 base (is_at-apart o.base base n)) ∙ h) in
-        let apart : other ≢ id = λ e. n (let same : Some old.0 ≡ Some o = sym old.1.0 ∙ (ap (object_of objects) e ∙ l.0) in let eq : old.0 ≡ o = cc in sym (ap (λ (v : Obj). v.base) eq) ∙ old.2) in
-        (old.0, ended-live objects id o l.0 other old.0 apart old.1, old.2)
-  ];
+  aligned = λ other p h. k.aligned other p (live-ended objects id o l.0 other p h).1;
+  owned = λ other a h. k.owned other a (h.0, (live-ended objects id o l.0 other h.0 h.1).1, h.2, h.3);
 }
 
 -- look-ups by address
@@ -122,77 +121,31 @@ one-at objects address id other apart h g =
       | inr n ↦ absurd (elim (apart other id g.0 h.0 g.1 h.1 n) [ inl l ↦ omega arith | inr l ↦ omega arith ])
     ]
 
-pub at-found : (objects : List Obj) (live : BTreeMap ℕ ℕ) (base id address : ℕ) (o : Obj) → Kept objects live → get nat_cmp live base ≡ Some id → object_of objects id ≡ Some o → base ≤ address → address - base ≤ o.size → IsObjectAt objects address (Some id)
-at-found objects live base id address o k g h low high =
-    let known = k.known base id g in
-    let eq : Some known.0 ≡ Some o = sym known.1.0 ∙ h in
-    let same : known.0 ≡ o = cc in
-    let here : StandsAt objects id address = (known.0, known.1, rw known.2 low, rw known.2 (rw same (omega arith))) in
-    (here, λ other there. one-at objects address id other k.apart here there)
-
-pub at-far : (objects : List Obj) (live : BTreeMap ℕ ℕ) (base id address : ℕ) (o : Obj) → Kept objects live → get nat_cmp live base ≡ Some id → object_of objects id ≡ Some o → base ≤ address → o.size < address - base → ((q : ℕ) → q ≤ address → IsSome (get nat_cmp live q) → q ≤ base) → IsObjectAt objects address None
-at-far objects live base id address o k g h low high last other (p, l, from, to) =
-    let known = k.known base id g in
-    let eq : Some known.0 ≡ Some o = sym known.1.0 ∙ h in
-    let same : known.0 ≡ o = cc in
-    let at_base : o.base ≡ base = ap (λ (v : Obj). v.base) (sym same) ∙ known.2 in
-    let found : get nat_cmp live p.base ≡ Some other = k.found other p l in
-    let below : p.base ≤ base = last p.base from (rw found refl) in
-    elim (cases_eq other id) [
-      | inl e ↦
-          let eq' : Some p ≡ Some o = sym l.0 ∙ (ap (object_of objects) e ∙ h) in
-          let same' : p ≡ o = cc in
-          let base' : p.base ≡ o.base = ap (λ (v : Obj). v.base) same' in
-          let size' : p.size ≡ o.size = ap (λ (v : Obj). v.size) same' in
-          omega arith
-      | inr n ↦
-          let live_o : IsLive objects id o = (h, ap (λ (v : Obj). v.live) (sym same) ∙ known.1.1) in
-          elim (k.apart other id p o l live_o n) [ inl a ↦ omega arith | inr a ↦ omega arith ]
-    ]
-
-pub at-nothing : (objects : List Obj) (live : BTreeMap ℕ ℕ) (address : ℕ) → Kept objects live → ((q : ℕ) → q ≤ address → get nat_cmp live q ≡ None) → IsObjectAt objects address None
-at-nothing objects live address k none other (p, l, from, to) =
-    let e : Some other ≡ None = sym (k.found other p l) ∙ none p.base from in
-    cc
+pub at-owned : (objects : List Obj) (tracts : List Tract) (address : ℕ) (r : Option ℕ) → Kept objects tracts → MatchOption r ((id : ℕ) → Owns tracts id address → StandsAt objects id address → ⊥) (λ id. StandsAt objects id address) → IsObjectAt objects address r
+at-owned objects tracts address None k none = λ id there. none id (k.owned id address there) there
+at-owned objects tracts address (Some id) k there = (there, λ other h. one-at objects address id other k.apart there h)
 
 -- places in which no live object stands
-pub clear-nothing : (objects : List Obj) (live : BTreeMap ℕ ℕ) (base size : ℕ) → Kept objects live → ((q : ℕ) → q ≤ base + size → get nat_cmp live q ≡ None) → IsClear objects base size
-clear-nothing objects live base size k none id o l =
-    elim (cases_lt (base + size) o.base) [
-      | inl far ↦ inr far
-      | inr near ↦ absurd (let e : Some id ≡ None = sym (k.found id o l) ∙ none o.base near in cc)
-    ]
+pub met-not-clear : (objects : List Obj) (base size id : ℕ) → Meets objects id base size → IsClear objects base size → ⊥
+met-not-clear objects base size id m clear =
+    let low = m.2 in
+    let high = m.3 in
+    elim (clear id m.0 m.1) [ inl l ↦ absurd (omega arith) | inr l ↦ absurd (omega arith) ]
 
-pub clear-behind : (objects : List Obj) (live : BTreeMap ℕ ℕ) (start id base size : ℕ) (o : Obj) → Kept objects live → get nat_cmp live start ≡ Some id → object_of objects id ≡ Some o → start + o.size < base → ((q : ℕ) → q ≤ base + size → IsSome (get nat_cmp live q) → q ≤ start) → IsClear objects base size
-clear-behind objects live start id base size o k g h behind last other p l =
-    let known = k.known start id g in
-    let eq : Some known.0 ≡ Some o = sym known.1.0 ∙ h in
-    let same : known.0 ≡ o = cc in
-    let at_start : o.base ≡ start = ap (λ (v : Obj). v.base) (sym same) ∙ known.2 in
-    let found : get nat_cmp live p.base ≡ Some other = k.found other p l in
-    elim (cases_eq other id) [
-      | inl e ↦
-          let eq' : Some p ≡ Some o = sym l.0 ∙ (ap (object_of objects) e ∙ h) in
-          let same' : p ≡ o = cc in
-          let base' : p.base ≡ o.base = ap (λ (v : Obj). v.base) same' in
-          let size' : p.size ≡ o.size = ap (λ (v : Obj). v.size) same' in
-          inl (omega arith)
-      | inr n ↦
-          let live_o : IsLive objects id o = (h, ap (λ (v : Obj). v.live) (sym same) ∙ known.1.1) in
-          elim (k.apart other id p o l live_o n) [
-            | inl a ↦ inl (omega arith)
-            | inr a ↦ elim (cases_lt (base + size) p.base) [
-              | inl far ↦ inr far
-              | inr near ↦ absurd (let low = last p.base near (rw found refl) in omega arith)
-            ]
-          ]
-    ]
+pub clear-owned : (objects : List Obj) (tracts : List Tract) (base size : ℕ) → Kept objects tracts → ((a id : ℕ) → base ≤ a → a ≤ base + size → Owns tracts id a → Meets objects id base size → ⊥) → IsClear objects base size
+clear-owned objects tracts base size k none id o l = elim (cases_lt (o.base + o.size) base) [
+  | inl below ↦ inl below
+  | inr high ↦ elim (cases_lt (base + size) o.base) [
+    | inl above ↦ inr above
+    | inr low ↦
+        let m : Meets objects id base size = (o, l, high, low) in
+        elim (cases_lt base o.base) [
+          | inl inner ↦ absurd (none o.base id (omega arith) (omega arith) (k.owned id o.base (o, l, omega arith, omega arith)) m)
+          | inr outer ↦ absurd (none base id (omega arith) (omega arith) (k.owned id base (o, l, omega arith, omega arith)) m)
+        ]
+  ]
+]
 
-pub clear-not : (objects : List Obj) (live : BTreeMap ℕ ℕ) (start id base size : ℕ) (o : Obj) → Kept objects live → get nat_cmp live start ≡ Some id → object_of objects id ≡ Some o → start ≤ base + size → IsClear objects base size → start + o.size < base
-clear-not objects live start id base size o k g h near clear =
-    let known = k.known start id g in
-    let eq : Some known.0 ≡ Some o = sym known.1.0 ∙ h in
-    let same : known.0 ≡ o = cc in
-    let at_start : o.base ≡ start = ap (λ (v : Obj). v.base) (sym same) ∙ known.2 in
-    let live_o : IsLive objects id o = (h, ap (λ (v : Obj). v.live) (sym same) ∙ known.1.1) in
-    elim (clear id o live_o) [ inl a ↦ omega arith | inr a ↦ absurd (omega arith) ]
+pub clear-told : (objects : List Obj) (tracts : List Tract) (base size : ℕ) (b : Bool) → Kept objects tracts → (IsTrue b → (a id : ℕ) → base ≤ a → a ≤ base + size → Owns tracts id a → Meets objects id base size → ⊥) → (b ≡ false → (id : ℕ) × Meets objects id base size) → IsTrue b ↔ IsClear objects base size
+clear-told objects tracts base size true k clear met = ((λ t. clear-owned objects tracts base size k (clear t)), (λ _. refl))
+clear-told objects tracts base size false k clear met = ((λ t. absurd (cc)), (λ c. absurd (met-not-clear objects base size (met refl).0 (met refl).1 c)))

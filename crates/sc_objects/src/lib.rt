@@ -3,6 +3,7 @@
 
 mod heap;
 mod objects;
+mod owners;
 
 pub use heap::Heap;
 pub use objects::{BirthFault, Obj, Objects};

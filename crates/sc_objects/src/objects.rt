@@ -1,10 +1,12 @@
 // The objects of a run by number, and the one live object at an address.
-ghost use Rattle.std.specs.Prelude.{◌≡◌, ◌↔◌, ◌+◌, ℕ, ◌∷◌, List, [], length, IfOk, OnErr, IsSome, IsTrue, None, Some, Err, true, ◌<◌, ◌^◌};
+ghost use Rattle.std.specs.Prelude.{◌≡◌, ◌↔◌, ◌+◌, ℕ, ◌∷◌, List, [], length, IfOk, MatchResult, OnErr, IsSome, IsTrue, None, Some, Err, true, ◌<◌, ◌^◌};
+ghost use Rattle.sc_objects.specs.Kept.{IsNext, Kept};
+ghost use Rattle.sc_objects.specs.Numbered.{born};
 ghost use Rattle.sc_objects.specs.declared.objects.Obj.{Obj};
 
+use crate::owners::Owners;
 use sc_base::{Kind, NoMemory};
 use std::alloc::Global;
-use std::collections::BTreeMap;
 use std::marker::Model;
 
 /// An object: its size in bytes, its kind, the address of its first byte, and whether it lives.
@@ -29,7 +31,7 @@ pub enum BirthFault {
 #[derive(Drop)]
 pub struct Objects {
     table: Vec<Obj>,
-    live: BTreeMap<u32, u32>,
+    owners: Owners,
 }
 
 impl Model for Objects {
@@ -42,11 +44,11 @@ impl Model for Objects {
 
     ghost use Rattle.sc_objects.specs.Kept.{Kept};
 
-    ghost invariant = { λ s. Kept s.table.items s.live };
+    ghost invariant = { λ s. Kept s.table.items s.owners.tracts.items };
 }
 
 impl Objects {
-    ghost use Rattle.sc_objects.specs.Numbered.{object_of, IsLive, AreApart, IsClear, IsObjectAt, born, ended};
+    ghost use Rattle.sc_objects.specs.Numbered.{object_of, IsLive, AreApart, IsClear, IsObjectAt, ended};
 
     /// The births of a run.
     pub const MOST: usize = 4000000000;
@@ -57,12 +59,13 @@ impl Objects {
     {
         Ok(Objects {
             table: Vec::new(alloc),
-            live: BTreeMap::new(alloc),
+            owners: Owners::new(alloc),
         })
     }
 
     /// A new live object, by its number. The addresses from `base` through `base + size` are not those of a live
-    /// object. `Limit` comes exactly at the birth after the last. After a fault the objects are as before.
+    /// object. `Limit` comes exactly at the birth after the last. After a fault the objects are as before. Objects begin at
+    /// multiples of 4: at other bases the fault is `NoMemory`.
     pub fn birth(&mut self, size: u32, kind: Kind, base: u32) -> Result<u32, BirthFault>
         requires { IsClear self.old base size }
         ensures id { IfOk result (λ id. id ≡ length self.old + 1) }
@@ -80,15 +83,12 @@ impl Objects {
             base,
             live: true,
         };
-        if self.table.push(object).is_err() {
+        if base % 4 != 0 {
             return Err(BirthFault::NoMemory);
         }
-        match self.live.insert(base, id) {
-            Ok(_) => Ok(id),
-            Err(_) => {
-                let _ = self.table.pop();
-                Err(BirthFault::NoMemory)
-            }
+        match bear(&mut self.table, &mut self.owners, id, object) {
+            Ok(()) => Ok(id),
+            Err(_) => Err(BirthFault::NoMemory),
         }
     }
 
@@ -97,10 +97,7 @@ impl Objects {
         requires { (o : Obj) × IsLive self.old id o }
         ensures { self.new ≡ ended self.old id }
     {
-        let object = &mut self.table[id as usize - 1];
-        object.live = false;
-        let base = object.base;
-        let _ = self.live.remove(&base);
+        self.table[id as usize - 1].live = false;
     }
 
     /// The object with a number: `None` exactly for a number that is not born.
@@ -133,26 +130,26 @@ impl Objects {
         requires { base + size < 2 ^ 32 }
         ensures { IsTrue result ↔ IsClear self.now base size }
     {
-        let Some((start, id)) = self.live.range(..=base + size).next_back() else {
-            return true;
-        };
-        let object = &self.table[*id as usize - 1];
-        u64::from(*start) + u64::from(object.size) < u64::from(base)
+        self.owners.is_clear(self.table.as_slice(), base, size)
     }
 
     /// The number of the one live object with `base <= address <= base + size`.
+    #[inline(always)]
     pub fn at(&self, address: u32) -> Option<u32>
         ensures object { IsObjectAt self.now address result }
         ensures apart { AreApart self.now }
     {
-        let Some((base, id)) = self.live.range(..=address).next_back() else {
-            return None;
-        };
-        let object = &self.table[*id as usize - 1];
-        if address - *base <= object.size {
-            Some(*id)
-        } else {
-            None
-        }
+        self.owners.at(self.table.as_slice(), address)
     }
+}
+
+// An object is born, and its addresses get its number.
+fn bear(table: &mut Vec<Obj>, owners: &mut Owners, id: u32, object: Obj) -> Result<(), NoMemory>
+    requires { IsNext table.old.items id object }
+    ensures table { MatchResult result (λ _. table.new.items ≡ born table.old.items object) (λ _. table.new.items ≡ table.old.items) }
+    ensures kept { Kept table.old.items owners.old.tracts.items → Kept table.new.items owners.new.tracts.items }
+{
+    owners.put(object.base, object.size, id)?;
+    table.push(object)?;
+    Ok(())
 }

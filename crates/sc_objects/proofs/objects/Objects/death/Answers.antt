@@ -8,14 +8,15 @@ use Rattle.sc_objects.proofs.objects.Objects.death.Goals as goal
 
 pub invariant_of-self : goal.invariant_of-self
 invariant_of-self c =
-    let objects = c.self.inside.table.items in
+    let s = c.self.inside in
+    let objects = s.table.items in
     let id = c.args.id in
     let o = c.requires.0 in
     let live = subst (λ (os : List Obj). IsLive os id o) (sym c.self.view_is) c.requires.1 in
     let within = object-within objects id o live.0 in
     let place : slice_get objects (id - 1) ≡ Some o = sym (object_of-at objects id within.0) ∙ live.0 in
-    let same : c.index_mut-object.result.now ≡ o = c.index_mut-object.ensures.value ∙ get_or_from_slice_get objects (id - 1) o c.index_mut-object.result.now place in
-    rw (same, ← ended-is objects id o live.0) (kept-ended objects c.self.inside.live c.remove.new.self id o c.self.invariant live (rw (← same) c.remove.ensures.updates))
+    let same : c.index_mut.result.now ≡ o = c.index_mut.ensures.value ∙ get_or_from_slice_get objects (id - 1) o c.index_mut.result.now place in
+    rw (same, ← ended-is objects id o live.0) (kept-ended objects s.owners.tracts.items id o c.self.invariant live)
 
 pub returns : goal.returns
 returns c =
@@ -25,5 +26,5 @@ returns c =
     let live = subst (λ (os : List Obj). IsLive os id o) (sym c.self.view_is) c.requires.1 in
     let within = object-within objects id o live.0 in
     let place : slice_get objects (id - 1) ≡ Some o = sym (object_of-at objects id within.0) ∙ live.0 in
-    let same : c.index_mut-object.result.now ≡ o = c.index_mut-object.ensures.value ∙ get_or_from_slice_get objects (id - 1) o c.index_mut-object.result.now place in
+    let same : c.index_mut.result.now ≡ o = c.index_mut.ensures.value ∙ get_or_from_slice_get objects (id - 1) o c.index_mut.result.now place in
     rw (same, ← c.self.view_is) (sym (ended-is objects id o live.0))
