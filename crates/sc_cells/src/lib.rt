@@ -4,5 +4,7 @@
 mod cells;
 mod page;
 mod pages;
+mod runs;
 
 pub use cells::Cells;
+pub use page::cells_of_word;

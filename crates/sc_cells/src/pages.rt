@@ -1,16 +1,15 @@
 // Cells in pages, of which those that nothing was written to take no room.
-ghost use Rattle.std.specs.Prelude.{◌≡◌, ℕ, ◌+◌, ◌*◌, ◌/◌, ◌%◌, ◌<◌, ◌≤◌, ◌^◌, ◌⊎◌, [], length, replicate, slice_index_or, slice_set, IfOk, IfSome, IsTrue, MatchResult, OnOk};
+ghost use Rattle.std.specs.Prelude.{◌≡◌, ◌⊎◌, ℕ, ◌+◌, ◌*◌, ◌/◌, ◌%◌, ◌<◌, ◌≤◌, ◌^◌, length, replicate, slice_index_or, IfOk, IfSome, IsTrue, MatchResult, OnOk, false};
 ghost use Rattle.sc_base.specs.declared.memory.Cell.{Cell as One};
-ghost use Rattle.sc_cells.specs.Pages.{AreTaken, Grows, IsPaged, IsTaken, Rewritten, SameShape, at_place, cells_in, four_in, page_of, set_place, whole_cells, with_page};
-ghost use Rattle.sc_cells.specs.Range.{range_of, with_range};
+ghost use Rattle.sc_cells.specs.Pages.{Became, Changed, Covers, Grown, Grows, HasRoom, HaveRoom, TakesByte, TakesBytes, TakesPlain, Turned, Wrote, at_place, bytes_in, no_sheet, plain_cell, sheet_of, whole_cells};
 
-use crate::page::{PAGE, Page, cells_of_word};
+use crate::page::{PAGE, Page, Room};
 use sc_base::{Cell, NoMemory, Word};
 use std::alloc::Global;
 
 /// This many pages, none of them taken.
 pub fn blank_pages(alloc: Global, count: usize) -> Result<Vec<Page>, NoMemory>
-    ensures { IfOk result (λ pages. pages.items ≡ replicate count []) }
+    ensures { IfOk result (λ pages. pages.items ≡ replicate count no_sheet) }
 {
     let mut pages = Vec::with_capacity(alloc, count)?;
     'making: for n in 0..count {
@@ -30,304 +29,218 @@ pub fn cell_at(pages: &[Page], i: usize) -> Cell
     }
 }
 
-// A cell of a row.
+/// A page.
 #[inline(always)]
-fn cell_of(row: &[Cell], j: usize) -> Cell
-    ensures { result ≡ slice_index_or row.now j One.Unwritten }
-{
-    match row.get(j) {
-        Some(cell) => *cell,
-        None => Cell::Unwritten,
-    }
-}
-
-/// Puts another cell at a place of a page that was taken.
-#[inline(always)]
-pub fn put_at(pages: &mut Vec<Page>, i: usize, c: Cell)
-    requires inside { i / 4096 < length pages.old.items }
-    requires taken { IsTaken pages.old.items (i / 4096) }
-    ensures { pages.new.items ≡ set_place pages.old.items i c }
-{
-    put_in(&mut pages[i / PAGE], i % PAGE, c);
-}
-
-#[inline(always)]
-fn put_in(page: &mut Page, j: usize, c: Cell)
-    requires { j < length page.old }
-    ensures { page.new ≡ slice_set page.old j c }
-{
-    page.set(j, c);
-}
-
-/// Makes a cell unwritten. A page that was not taken stays so.
-#[inline(always)]
-pub fn wipe_at(pages: &mut Vec<Page>, i: usize)
-    requires inside { i / 4096 < length pages.old.items }
-    requires whole { (length (page_of pages.old.items (i / 4096)) ≡ 0) ⊎ IsTaken pages.old.items (i / 4096) }
-    ensures shape { SameShape pages.old.items pages.new.items }
-    ensures cells { (n : ℕ) → i < n → cells_in n pages.new.items ≡ slice_set (cells_in n pages.old.items) i One.Unwritten }
-{
-    let len = page_len(pages.as_slice(), i / PAGE);
-    if len == 0 {
-        return;
-    }
-    put_at(pages, i, Cell::Unwritten);
-}
-
-// How many cells a page has.
-#[inline(always)]
-fn page_len(pages: &[Page], p: usize) -> usize
-    ensures { result ≡ length (page_of pages.now p) }
-{
-    match pages.get(p) {
-        Some(page) => page.len(),
-        None => 0,
-    }
-}
-
-/// Takes a page, where it was not.
-#[inline(always)]
-pub fn take_page(alloc: Global, pages: &mut Vec<Page>, p: usize) -> Result<(), NoMemory>
-    requires { p < length pages.old.items }
-    ensures { MatchResult result (λ _. pages.new.items ≡ with_page pages.old.items p) (λ _. pages.new.items ≡ pages.old.items) }
-{
-    if pages[p].is_empty() {
-        fill_page(alloc, &mut pages[p])
-    } else {
-        Ok(())
-    }
-}
-
-#[inline(never)]
-fn fill_page(alloc: Global, page: &mut Page) -> Result<(), NoMemory>
-    ensures { MatchResult result (λ _. page.new ≡ replicate 4096 One.Unwritten) (λ _. page.new ≡ page.old) }
-{
-    *page = Page::blank(alloc)?;
-    Ok(())
-}
-
-/// Takes the pages of the `n` cells from a place on.
-pub fn take_pages(alloc: Global, pages: &mut Vec<Page>, at: usize, n: usize) -> Result<(), NoMemory>
-    requires inside { at + n ≤ 4096 * length pages.old.items }
-    requires small { at + n < 2 ^ 62 }
-    requires whole { (p : ℕ) → (length (page_of pages.old.items p) ≡ 0) ⊎ IsTaken pages.old.items p }
-    ensures grows { Grows pages.old.items pages.new.items }
-    ensures taken { OnOk result (AreTaken pages.new.items at n) }
-{
-    let first = at / PAGE;
-    let end = if n == 0 {
-        first
-    } else {
-        (at + n - 1) / PAGE + 1
-    };
-    take_from(alloc, pages, first, end)
-}
-
-fn take_from(alloc: Global, pages: &mut Vec<Page>, first: usize, end: usize) -> Result<(), NoMemory>
-    requires order { first ≤ end }
-    requires inside { end ≤ length pages.old.items }
-    requires whole { (p : ℕ) → (length (page_of pages.old.items p) ≡ 0) ⊎ IsTaken pages.old.items p }
-    ensures grows { Grows pages.old.items pages.new.items }
-    ensures taken { OnOk result ((p : ℕ) → first ≤ p → p < end → IsTaken pages.new.items p) }
-{
-    'taking: for p in first..end {
-        take_page(alloc, pages, p)?;
-    }
-    Ok(())
-}
-
-/// Puts cells at the places from `at` on, whose pages were taken.
-pub fn put_row(pages: &mut Vec<Page>, at: usize, row: &[Cell])
-    requires inside { at + length row.now ≤ 4096 * length pages.old.items }
-    requires small { at + length row.now < 2 ^ 62 }
-    requires taken { AreTaken pages.old.items at (length row.now) }
-    ensures { Rewritten pages.old.items pages.new.items (at + length row.now) at (λ _. row.now) }
-{
-    'putting: for k in 0..row.len() {
-        put_at(pages, at + k, cell_of(row, k));
-    }
-}
-
-/// Copies from the lowest cell on, for a target that does not begin above its source.
-pub fn copy_upward(pages: &mut Vec<Page>, to: usize, from: usize, n: usize)
-    requires below { to ≤ from }
-    requires inside { from + n ≤ 4096 * length pages.old.items }
-    requires small { from + n < 2 ^ 62 }
-    requires taken { AreTaken pages.old.items to n }
-    ensures { Rewritten pages.old.items pages.new.items (from + n) to (λ all. range_of all from n) }
-{
-    'copying: for k in 0..n {
-        let c = cell_at(pages.as_slice(), from + k);
-        put_at(pages, to + k, c);
-    }
-}
-
-/// Copies from the highest cell down, for a target that does not begin below its source.
-pub fn copy_downward(pages: &mut Vec<Page>, to: usize, from: usize, n: usize)
-    requires above { from ≤ to }
-    requires inside { to + n ≤ 4096 * length pages.old.items }
-    requires small { to + n < 2 ^ 62 }
-    requires taken { AreTaken pages.old.items to n }
-    ensures { Rewritten pages.old.items pages.new.items (to + n) to (λ all. range_of all from n) }
-{
-    'copying: for k in (0..n).rev() {
-        let c = cell_at(pages.as_slice(), from + k);
-        put_at(pages, to + k, c);
-    }
-}
-
-/// Makes the `n` cells from a place on unwritten, and takes no page.
-pub fn wipe(pages: &mut Vec<Page>, at: usize, n: usize)
-    requires inside { at + n ≤ 4096 * length pages.old.items }
-    requires small { at + n < 2 ^ 62 }
-    requires whole { (p : ℕ) → (length (page_of pages.old.items p) ≡ 0) ⊎ IsTaken pages.old.items p }
-    ensures { Rewritten pages.old.items pages.new.items (at + n) at (λ _. replicate n One.Unwritten) }
-{
-    'wiping: for k in 0..n {
-        wipe_at(pages, at + k);
-    }
-}
-
-/// Takes the pages of a row and puts its cells there. Where memory runs out all cells stay as they are.
-pub fn write_cells(
-    alloc: Global,
-    pages: &mut Vec<Page>,
-    at: usize,
-    row: &[Cell],
-) -> Result<(), NoMemory>
-    requires inside { at + length row.now ≤ 4096 * length pages.old.items }
-    requires small { at + length row.now < 2 ^ 62 }
-    requires whole { (p : ℕ) → (length (page_of pages.old.items p) ≡ 0) ⊎ IsTaken pages.old.items p }
-    ensures paged { (size : ℕ) → IsPaged pages.old.items size → IsPaged pages.new.items size }
-    ensures cells { (size : ℕ) → at + length row.now ≤ size → MatchResult result (λ _. cells_in size pages.new.items ≡ with_range (cells_in size pages.old.items) at row.now) (λ _. cells_in size pages.new.items ≡ cells_in size pages.old.items) }
-{
-    match take_pages(alloc, pages, at, row.len()) {
-        Ok(()) => {
-            put_row(pages, at, row);
-            Ok(())
-        }
-        Err(e) => Err(e),
-    }
-}
-
-/// Takes the page of a cell and puts another one there. Where memory runs out all cells stay as they are.
-pub fn write_cell(alloc: Global, pages: &mut Vec<Page>, at: usize, c: Cell) -> Result<(), NoMemory>
-    requires inside { at + 1 ≤ 4096 * length pages.old.items }
-    requires small { at + 1 < 2 ^ 62 }
-    requires whole { (p : ℕ) → (length (page_of pages.old.items p) ≡ 0) ⊎ IsTaken pages.old.items p }
-    ensures paged { (size : ℕ) → IsPaged pages.old.items size → IsPaged pages.new.items size }
-    ensures cells { (size : ℕ) → at < size → MatchResult result (λ _. cells_in size pages.new.items ≡ slice_set (cells_in size pages.old.items) at c) (λ _. cells_in size pages.new.items ≡ cells_in size pages.old.items) }
-{
-    match take_pages(alloc, pages, at, 1) {
-        Ok(()) => {
-            put_at(pages, at, c);
-            Ok(())
-        }
-        Err(e) => Err(e),
-    }
-}
-
-/// Takes the pages of a target and copies cells there. Where memory runs out all cells stay as they are.
-pub fn copy_cells(
-    alloc: Global,
-    pages: &mut Vec<Page>,
-    to: usize,
-    from: usize,
-    n: usize,
-) -> Result<(), NoMemory>
-    requires target { to + n ≤ 4096 * length pages.old.items }
-    requires source { from + n ≤ 4096 * length pages.old.items }
-    requires small { to + n < 2 ^ 62 }
-    requires low { from + n < 2 ^ 62 }
-    requires whole { (p : ℕ) → (length (page_of pages.old.items p) ≡ 0) ⊎ IsTaken pages.old.items p }
-    ensures paged { (size : ℕ) → IsPaged pages.old.items size → IsPaged pages.new.items size }
-    ensures cells { (size : ℕ) → to + n ≤ size → from + n ≤ size → MatchResult result (λ _. cells_in size pages.new.items ≡ with_range (cells_in size pages.old.items) to (range_of (cells_in size pages.old.items) from n)) (λ _. cells_in size pages.new.items ≡ cells_in size pages.old.items) }
-{
-    match take_pages(alloc, pages, to, n) {
-        Ok(()) => {
-            copy_taken(pages, to, from, n);
-            Ok(())
-        }
-        Err(e) => Err(e),
-    }
-}
-
-fn copy_taken(pages: &mut Vec<Page>, to: usize, from: usize, n: usize)
-    requires target { to + n ≤ 4096 * length pages.old.items }
-    requires source { from + n ≤ 4096 * length pages.old.items }
-    requires small { to + n < 2 ^ 62 }
-    requires low { from + n < 2 ^ 62 }
-    requires taken { AreTaken pages.old.items to n }
-    ensures shape { SameShape pages.old.items pages.new.items }
-    ensures cells { (size : ℕ) → to + n ≤ size → from + n ≤ size → cells_in size pages.new.items ≡ with_range (cells_in size pages.old.items) to (range_of (cells_in size pages.old.items) from n) }
-{
-    if to <= from {
-        copy_upward(pages, to, from, n);
-    } else {
-        copy_downward(pages, to, from, n);
-    }
-}
-
-/// Puts the cells of a whole word at the four places from `at` on, and takes their pages. Where memory runs out all
-/// cells stay as they are.
-#[inline(always)]
-pub fn write_word(alloc: Global, pages: &mut Vec<Page>, at: usize, w: Word) -> Result<(), NoMemory>
-    requires inside { at + 4 ≤ 4096 * length pages.old.items }
-    requires small { at + 4 < 2 ^ 62 }
-    requires whole { (p : ℕ) → (length (page_of pages.old.items p) ≡ 0) ⊎ IsTaken pages.old.items p }
-    ensures paged { (size : ℕ) → IsPaged pages.old.items size → IsPaged pages.new.items size }
-    ensures cells { (size : ℕ) → at + 4 ≤ size → MatchResult result (λ _. cells_in size pages.new.items ≡ with_range (cells_in size pages.old.items) at (whole_cells w)) (λ _. cells_in size pages.new.items ≡ cells_in size pages.old.items) }
-{
-    if is_in_page(pages.as_slice(), at) {
-        put_word_at(pages, at, w);
-        Ok(())
-    } else {
-        write_cells(alloc, pages, at, &cells_of_word(w))
-    }
-}
-
-#[inline(always)]
-fn page_at(pages: &[Page], p: usize) -> &Page
+pub fn page_at(pages: &[Page], p: usize) -> &Page
     requires { p < length pages.now }
-    ensures { result.now ≡ page_of pages.now p }
+    ensures { result.now ≡ sheet_of pages.now p }
 {
     &pages[p]
 }
 
-// Whether a place is a multiple of 4 in a page that was taken.
-#[inline(always)]
-fn is_in_page(pages: &[Page], i: usize) -> bool
-    requires { i / 4096 < length pages.now }
-    ensures { IsTrue result → (i % 4 ≡ 0) × IsTaken pages.now (i / 4096) }
-{
-    i % 4 == 0 && page_at(pages, i / PAGE).len() == PAGE
-}
-
-// Puts the cells of a whole word in a page that was taken.
-#[inline(always)]
-fn put_word_at(pages: &mut Vec<Page>, i: usize, w: Word)
-    requires inside { i + 4 ≤ 4096 * length pages.old.items }
-    requires aligned { i % 4 ≡ 0 }
-    requires taken { IsTaken pages.old.items (i / 4096) }
-    ensures { pages.new.items ≡ slice_set pages.old.items (i / 4096) (four_in (page_of pages.old.items (i / 4096)) (i % 4096) (whole_cells w)) }
-{
-    put_word_in(&mut pages[i / PAGE], i % PAGE, w);
-}
-
-#[inline(always)]
-fn put_word_in(page: &mut Page, j: usize, w: Word)
-    requires aligned { j % 4 ≡ 0 }
-    requires inside { j < length page.old }
-    ensures { page.new ≡ four_in page.old j (whole_cells w) }
-{
-    page.put_word(j, w);
-}
-
-/// The whole word that the four cells from a place on are, where they stand as one.
+/// The whole word that the four cells from a place on are, which is a multiple of 4.
 #[inline(always)]
 pub fn word_at(pages: &[Page], i: usize) -> Option<Word>
-    requires { i / 4096 < length pages.now }
-    ensures { (size : ℕ) → i + 4 ≤ size → IfSome result (λ w. range_of (cells_in size pages.now) i 4 ≡ whole_cells w) }
+    requires inside { i / 4096 < length pages.now }
+    requires aligned { i % 4 ≡ 0 }
+    ensures { IfSome result (λ w. (k : ℕ) → k < 4 → at_place pages.now (i + k) ≡ slice_index_or (whole_cells w) k One.Unwritten) }
 {
     page_at(pages, i / PAGE).word(i % PAGE)
+}
+
+/// The number that the one or two cells from a place on are, where they are bytes.
+#[inline(always)]
+pub fn number_at(pages: &[Page], i: usize, n: usize) -> Option<u32>
+    requires size { (n ≡ 1) ⊎ (n ≡ 2) }
+    requires inside { i / 4096 < length pages.now }
+    requires aligned { i % n ≡ 0 }
+    ensures cells { IfSome result (λ bits. (k : ℕ) → k < n → at_place pages.now (i + k) ≡ slice_index_or (bytes_in n bits) k One.Unwritten) }
+    ensures small { IfSome result (λ bits. bits < 256 ^ n) }
+{
+    page_at(pages, i / PAGE).number(i % PAGE, n)
+}
+
+// Takes the pages from one to another, with this room.
+fn take_from(
+    alloc: Global,
+    pages: &mut Vec<Page>,
+    first: usize,
+    end: usize,
+    room: Room,
+) -> Result<(), NoMemory>
+    requires order { first ≤ end }
+    requires inside { end ≤ length pages.old.items }
+    ensures grows { Grows pages.old.items pages.new.items }
+    ensures covers { (p : ℕ) → Covers room (sheet_of pages.old.items p) → Covers room (sheet_of pages.new.items p) }
+    ensures taken { OnOk result ((p : ℕ) → first ≤ p → p < end → HasRoom room (sheet_of pages.new.items p)) }
+{
+    'taking: for p in first..end {
+        pages[p].take(alloc, room)?;
+    }
+    Ok(())
+}
+
+/// Takes the pages of the `n` cells from a place on, with this room. No cell changes.
+pub fn take_pages(
+    alloc: Global,
+    pages: &mut Vec<Page>,
+    at: usize,
+    n: usize,
+    room: Room,
+) -> Result<(), NoMemory>
+    requires inside { at + n ≤ 4096 * length pages.old.items }
+    requires small { at + n < 2 ^ 62 }
+    ensures grows { Grows pages.old.items pages.new.items }
+    ensures covers { (p : ℕ) → Covers room (sheet_of pages.old.items p) → Covers room (sheet_of pages.new.items p) }
+    ensures taken { OnOk result (HaveRoom room pages.new.items at n) }
+{
+    if n == 0 {
+        return Ok(());
+    }
+    take_from(alloc, pages, at / PAGE, (at + n - 1) / PAGE + 1, room)
+}
+
+// Room for a whole word.
+#[inline(always)]
+fn ready_word(alloc: Global, page: &mut Page, tag: u32) -> Result<(), NoMemory>
+    ensures grown { Grown page.old page.new }
+    ensures words { OnOk result (length page.new.words ≡ 1024) }
+    ensures tags { OnOk result ((tag ≡ 0) ⊎ (length page.new.tags ≡ 1024)) }
+{
+    if tag == 0 {
+        page.take_bytes(alloc)
+    } else {
+        page.take_pointers(alloc)
+    }
+}
+
+// Room for a byte.
+#[inline(always)]
+fn ready_byte(alloc: Global, page: &mut Page, j: usize) -> Result<(), NoMemory>
+    ensures grown { Grown page.old page.new }
+    ensures words { OnOk result (length page.new.words ≡ 1024) }
+    ensures byte { OnOk result (TakesByte page.new (j / 4)) }
+{
+    if page.breaks(j) {
+        page.take(alloc, Room::Pieces)
+    } else {
+        page.take_bytes(alloc)
+    }
+}
+
+// Puts the cells of a whole word into a page, which is taken for it.
+#[inline(always)]
+fn write_word_in(alloc: Global, page: &mut Page, j: usize, w: Word) -> Result<(), NoMemory>
+    requires aligned { j % 4 ≡ 0 }
+    requires inside { j < 4096 }
+    ensures { MatchResult result (λ _. Wrote page.old page.new j 4 (λ k. slice_index_or (whole_cells w) k One.Unwritten)) (λ _. Grown page.old page.new) }
+{
+    ready_word(alloc, page, w.tag)?;
+    page.put_word(j, w);
+    Ok(())
+}
+
+// Puts a byte into a page, which is taken for it.
+#[inline(always)]
+fn write_byte_in(alloc: Global, page: &mut Page, j: usize, byte: u8) -> Result<(), NoMemory>
+    requires { j < 4096 }
+    ensures { MatchResult result (λ _. Wrote page.old page.new j 1 (λ _. One.Byte byte)) (λ _. Grown page.old page.new) }
+{
+    ready_byte(alloc, page, j)?;
+    page.put_byte(j, byte);
+    Ok(())
+}
+
+// Puts two bytes of one word into a page, which is taken for them.
+#[inline(always)]
+fn write_half_in(alloc: Global, page: &mut Page, j: usize, half: u32) -> Result<(), NoMemory>
+    requires aligned { j % 2 ≡ 0 }
+    requires inside { j < 4096 }
+    ensures { MatchResult result (λ _. Wrote page.old page.new j 2 (λ k. slice_index_or (bytes_in 2 half) k One.Unwritten)) (λ _. Grown page.old page.new) }
+{
+    ready_byte(alloc, page, j)?;
+    page.put_byte(j, (half % 256) as u8);
+    page.put_byte(j + 1, (half / 256 % 256) as u8);
+    Ok(())
+}
+
+// Puts a cell into a page, which is taken for it.
+fn write_cell_in(alloc: Global, page: &mut Page, j: usize, c: Cell) -> Result<(), NoMemory>
+    requires { j < 4096 }
+    ensures { MatchResult result (λ _. Wrote page.old page.new j 1 (λ _. c)) (λ _. Grown page.old page.new) }
+{
+    match c {
+        Cell::Byte(byte) => write_byte_in(alloc, page, j, byte),
+        Cell::Unwritten => write_any_in(alloc, page, j, Cell::Unwritten),
+        Cell::Frag { whole, tag, k } => {
+            write_any_in(alloc, page, j, Cell::Frag { whole, tag, k })
+        }
+    }
+}
+
+fn write_any_in(alloc: Global, page: &mut Page, j: usize, c: Cell) -> Result<(), NoMemory>
+    requires { j < 4096 }
+    ensures { MatchResult result (λ _. Wrote page.old page.new j 1 (λ _. c)) (λ _. Grown page.old page.new) }
+{
+    page.take(alloc, Room::Pieces)?;
+    page.set(j, c);
+    Ok(())
+}
+
+/// Puts the cells of a whole word at the four places from `at` on, a multiple of 4, and takes their page. Where memory runs
+/// out all cells stay as they are.
+#[inline(always)]
+pub fn write_word(alloc: Global, pages: &mut Vec<Page>, at: usize, w: Word) -> Result<(), NoMemory>
+    requires inside { at / 4096 < length pages.old.items }
+    requires aligned { at % 4 ≡ 0 }
+    ensures { MatchResult result (λ _. Became pages.old.items pages.new.items at 4 (λ k. slice_index_or (whole_cells w) k One.Unwritten)) (λ _. Became pages.old.items pages.new.items at 0 (at_place pages.old.items)) }
+{
+    write_word_in(alloc, &mut pages[at / PAGE], at % PAGE, w)
+}
+
+// Puts the low one or two bytes of a number into a page, which is taken for them.
+#[inline(always)]
+fn write_number_in(
+    alloc: Global,
+    page: &mut Page,
+    j: usize,
+    n: usize,
+    bits: u32,
+) -> Result<(), NoMemory>
+    requires size { (n ≡ 1) ⊎ (n ≡ 2) }
+    requires aligned { j % n ≡ 0 }
+    requires inside { j < 4096 }
+    ensures { MatchResult result (λ _. Wrote page.old page.new j n (λ k. slice_index_or (bytes_in n bits) k One.Unwritten)) (λ _. Grown page.old page.new) }
+{
+    if n == 1 {
+        write_byte_in(alloc, page, j, (bits % 256) as u8)
+    } else {
+        write_half_in(alloc, page, j, bits)
+    }
+}
+
+/// Puts the low one or two bytes of a number at the places from `at` on, a multiple of as many, and takes their page. Where
+/// memory runs out all cells stay as they are.
+#[inline(always)]
+pub fn write_number(
+    alloc: Global,
+    pages: &mut Vec<Page>,
+    at: usize,
+    n: usize,
+    bits: u32,
+) -> Result<(), NoMemory>
+    requires size { (n ≡ 1) ⊎ (n ≡ 2) }
+    requires aligned { at % n ≡ 0 }
+    requires inside { at / 4096 < length pages.old.items }
+    ensures { MatchResult result (λ _. Became pages.old.items pages.new.items at n (λ k. slice_index_or (bytes_in n bits) k One.Unwritten)) (λ _. Became pages.old.items pages.new.items at 0 (at_place pages.old.items)) }
+{
+    write_number_in(alloc, &mut pages[at / PAGE], at % PAGE, n, bits)
+}
+
+/// Puts a cell at a place, and takes its page. Where memory runs out all cells stay as they are.
+pub fn write_cell(alloc: Global, pages: &mut Vec<Page>, at: usize, c: Cell) -> Result<(), NoMemory>
+    requires { at / 4096 < length pages.old.items }
+    ensures { MatchResult result (λ _. Became pages.old.items pages.new.items at 1 (λ _. c)) (λ _. Became pages.old.items pages.new.items at 0 (at_place pages.old.items)) }
+{
+    write_cell_in(alloc, &mut pages[at / PAGE], at % PAGE, c)
 }

@@ -109,3 +109,8 @@ reach_rule objects p n = orders.reach (is_null p) (is_dead objects p) (is_outsid
 -- the rules that a load breaks by the cells that it reads
 abbrev pub cells_rule : Bool → List Cell → Option Rule
 cells_rule pointer cells = orders.first_rule ((reads_unwritten cells, U1) ∷ (is_mixed pointer cells, U15) ∷ [])
+
+-- the same of the cells of a whole word: a number is read as a number, a pointer as a pointer, and 0 as either
+abbrev pub whole_rule : Bool → Word → Option Rule
+whole_rule false w = if w.tag == 0 then None else Some U15
+whole_rule true w = if w.tag == 0 then (if w.bits == 0 then None else Some U15) else None

@@ -1,10 +1,10 @@
 // The tests of accesses, on the objects and on the cells that are read.
-ghost use Rattle.std.specs.Prelude.{◌≡◌, ◌+◌, ◌^◌, ◌<◌, ◌≤◌, ◌∷◌, [], length};
+ghost use Rattle.std.specs.Prelude.{◌≡◌, ◌+◌, ◌^◌, ◌<◌, ◌≤◌, ◌∷◌, [], length, MatchResult, None, Some};
 ghost use Rattle.sc_cells.specs.Range.{range_of};
-ghost use Rattle.sc_mem.specs.Words.{IsSize};
-ghost use Rattle.sc_mem.specs.Violations.{cells_rule, is_constant, is_fragment, is_unwritten, is_zero, reach_rule};
+ghost use Rattle.sc_mem.specs.Words.{IsSize, word_of};
+ghost use Rattle.sc_mem.specs.Violations.{cells_rule, is_constant, is_fragment, is_unwritten, is_zero, reach_rule, whole_rule};
 
-use crate::words::tag_of_cells;
+use crate::words::{load_cells, tag_of_cells, whole_word};
 use sc_base::{Cell, Kind, Rule, Word};
 use sc_cells::Cells;
 use sc_objects::Objects;
@@ -62,6 +62,46 @@ pub fn rule_in(cells: &Cells, i: u32, n: u8, pointer: bool) -> Option<Rule>
     let c = cells.read(i + 2);
     let d = cells.read(i + 3);
     rule_of_four(a, b, c, d, pointer)
+}
+
+/// What a load of the `n` cells from a place on finds there: the first of U1 and U15 that it breaks, else what they hold.
+#[inline(always)]
+pub fn read_cells(cells: &Cells, i: u32, n: u8, pointer: bool) -> Result<Word, Rule>
+    requires size { IsSize n }
+    requires inside { i + n ≤ length cells.now }
+    requires fits { i < 2 ^ 31 }
+    ensures { MatchResult result (λ w. (cells_rule pointer (range_of cells.now i n) ≡ None) × (w ≡ word_of (range_of cells.now i n))) (λ rule. cells_rule pointer (range_of cells.now i n) ≡ Some rule) }
+{
+    match whole_word(cells, i, n) {
+        Some(word) => read_whole(word, pointer),
+        None => read_loose(cells, i, n, pointer),
+    }
+}
+
+// The bytes of a number, or the pieces of a pointer.
+#[inline(always)]
+fn read_whole(w: Word, pointer: bool) -> Result<Word, Rule>
+    ensures { MatchResult result (λ r. (whole_rule pointer w ≡ None) × (r ≡ w)) (λ rule. whole_rule pointer w ≡ Some rule) }
+{
+    if (w.tag != 0) == pointer || pointer && w.bits == 0 {
+        Ok(w)
+    } else {
+        Err(Rule::U15)
+    }
+}
+
+// Any cells.
+#[inline(never)]
+fn read_loose(cells: &Cells, i: u32, n: u8, pointer: bool) -> Result<Word, Rule>
+    requires size { IsSize n }
+    requires inside { i + n ≤ length cells.now }
+    requires fits { i < 2 ^ 31 }
+    ensures { MatchResult result (λ w. (cells_rule pointer (range_of cells.now i n) ≡ None) × (w ≡ word_of (range_of cells.now i n))) (λ rule. cells_rule pointer (range_of cells.now i n) ≡ Some rule) }
+{
+    match rule_in(cells, i, n, pointer) {
+        Some(rule) => Err(rule),
+        None => Ok(load_cells(cells, i, n)),
+    }
 }
 
 fn rule_of_one(a: Cell, pointer: bool) -> Option<Rule>

@@ -8,7 +8,7 @@ ghost use Rattle.sc_objects.specs.Blocks.{Blocks};
 ghost use Rattle.sc_mem.specs.Safe.{Stands};
 ghost use Rattle.std.specs.Prelude.{IsTrue};
 
-use crate::access::{constant, reach, rule_in};
+use crate::access::{constant, reach, read_cells, rule_in};
 use crate::areas::{HEAP, STACK_END, STATIC_BYTES, near_place, place};
 use crate::arithmetic::{moved, offset};
 use crate::comparison::{difference, equality, freeing, order, ordering, overlap, truth};
@@ -143,7 +143,8 @@ impl Memory {
     ghost use Rattle.sc_mem.specs.Flat.{Flat, apply, cells_at};
     ghost use Rattle.sc_mem.specs.Words.{word_of};
     ghost use Rattle.sc_mem.specs.Faults.{IsFaultOf};
-    ghost use Rattle.sc_mem.specs.Violations.{copy_rule, load_rule, offset_in, shift_rule, store_rule, target};
+    ghost use Rattle.sc_mem.specs.Violations.{cells_rule, copy_rule, load_rule, offset_in, shift_rule, store_rule, target};
+    ghost use Rattle.sc_mem.specs.Flat.{place as place_of, written_at};
 
     /// A checked load of 1, 2 or 4 bytes through a pointer, of a pointer or of a number: the first of U4, U3, U2,
     /// U10, U1 and U15 that it breaks, else what the bytes hold.
@@ -215,7 +216,7 @@ impl Memory {
         if constant(&self.objects, p) {
             return Err(StoreFault::Broken(Rule::U11));
         }
-        self.put(p.bits, size, w)?;
+        self.write(p.bits, size, w)?;
         Ok(())
     }
 
@@ -226,17 +227,44 @@ impl Memory {
         requires live { (id : ℕ) × (o : Obj) × IsLive self.old.flat.objects id o × (o.base ≤ at) × (at + size ≤ o.base + o.size) }
         ensures { MatchResult result (λ _. (self.new.flat ≡ apply self.old.flat (Put at size w)) × (self.new.blocks ≡ self.old.blocks)) (λ _. self.new ≡ self.old) }
     {
-        self.put(at, size, w)
+        self.write(at, size, w)
     }
 
-    // The effect of `Put`, aligned or not.
-    fn put(&mut self, at: u32, size: u8, w: Word) -> Result<(), NoMemory>
+    /// Writes the `size` bytes at an address, without a test, as the note `Put` does it. Nothing is changed outside the areas,
+    /// nor where memory runs out.
+    #[inline(always)]
+    pub fn write(&mut self, at: u32, size: u8, w: Word) -> Result<(), NoMemory>
         requires { IsSize size }
         ensures { MatchResult result (λ _. (self.new.flat ≡ apply self.old.flat (Put at size w)) × (self.new.blocks ≡ self.old.blocks)) (λ _. self.new ≡ self.old) }
     {
-        match place(self.heap_bytes, self.stack, at, u32::from(size)) {
+        match near_place(self.heap_bytes, self.stack, at, u32::from(size)) {
             Some(i) => store_word(&mut self.cells, i, size, w),
             None => Ok(()),
+        }
+    }
+
+    /// Writes one byte of a number to the `n` bytes from an address on, without a test, as so many notes `Put` do it.
+    /// Nothing is changed outside the areas, nor where memory runs out.
+    pub fn fill(&mut self, at: u32, n: u32, byte: u8) -> Result<(), NoMemory>
+        ensures { MatchResult result (λ _. (self.new.flat ≡ written_at self.old.flat (place_of self.old.flat at n) (replicate n (Cell.Byte byte))) × (self.new.blocks ≡ self.old.blocks)) (λ _. self.new ≡ self.old) }
+    {
+        match place(self.heap_bytes, self.stack, at, n) {
+            Some(i) => self.cells.fill(i, n, byte),
+            None => Ok(()),
+        }
+    }
+
+    /// What a load of the `size` bytes at an address finds there, of a pointer or of a number: the first of U1 and U15 that
+    /// it breaks, else what the bytes hold. Outside the areas that is 0.
+    #[inline(always)]
+    pub fn read(&self, at: u32, size: u8, pointer: bool) -> Result<Word, Rule>
+        requires { IsSize size }
+        ensures { MatchResult result (λ w. (cells_rule pointer (cells_at self.now.flat at size) ≡ None) × (w ≡ word_of (cells_at self.now.flat at size))) (λ rule. cells_rule pointer (cells_at self.now.flat at size) ≡ Some rule) }
+    {
+        let cells = &self.cells;
+        match near_place(self.heap_bytes, self.stack, at, u32::from(size)) {
+            Some(i) => read_cells(cells, i, size, pointer),
+            None => Ok(Word { bits: 0, tag: 0 }),
         }
     }
 

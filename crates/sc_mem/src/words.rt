@@ -1,12 +1,12 @@
 // Words as cells, and cells as words.
-ghost use Rattle.std.specs.Prelude.{◌≡◌, ◌+◌, ◌^◌, ◌<◌, ◌≤◌, ◌∷◌, [], length, map, slice_index, IfSome, MatchResult};
+ghost use Rattle.std.specs.Prelude.{◌≡◌, ◌⊎◌, ◌+◌, ◌%◌, ◌^◌, ◌<◌, ◌≤◌, ◌∷◌, [], length, map, slice_index, IfSome, MatchResult};
 ghost use Rattle.sc_base.specs.declared.memory.Cell.TheVariants.{Byte};
 ghost use Rattle.sc_mem.specs.Words.{IsSize, byte_of, bytes_of, cells_of, tag_of, word_of};
 ghost use Rattle.sc_mem.specs.Words.{is_piece as piece};
 ghost use Rattle.sc_cells.specs.Range.{range_of, with_range};
 
 use sc_base::{Cell, NoMemory, Word};
-use sc_cells::Cells;
+use sc_cells::{Cells, cells_of_word};
 
 /// A cell as a byte.
 pub fn byte_of_cell(cell: Cell) -> u8
@@ -104,19 +104,30 @@ pub fn load_word(cells: &Cells, i: u32, n: u8) -> Word
     }
 }
 
-// The word that four cells are whole, where it is found at once.
+/// The word that the cells are whole, where it is found at once: the bytes of a number, or the pieces of a pointer.
 #[inline(always)]
-fn whole_word(cells: &Cells, i: u32, n: u8) -> Option<Word>
-    requires { i + n ≤ length cells.now }
-    ensures { IfSome result (λ w. w ≡ word_of (range_of cells.now i n)) }
+pub fn whole_word(cells: &Cells, i: u32, n: u8) -> Option<Word>
+    requires size { IsSize n }
+    requires inside { i + n ≤ length cells.now }
+    ensures word { IfSome result (λ w. w ≡ word_of (range_of cells.now i n)) }
+    ensures cells { IfSome result (λ w. range_of cells.now i n ≡ cells_of n w) }
 {
-    if n == 4 { four_cells(cells, i) } else { None }
+    if i % u32::from(n) != 0 {
+        return None;
+    }
+    if n == 4 {
+        four_cells(cells, i)
+    } else {
+        few_cells(cells, i, n)
+    }
 }
 
 #[inline(always)]
 fn four_cells(cells: &Cells, i: u32) -> Option<Word>
-    requires { i + 4 ≤ length cells.now }
-    ensures { IfSome result (λ w. w ≡ word_of (range_of cells.now i 4)) }
+    requires aligned { i % 4 ≡ 0 }
+    requires inside { i + 4 ≤ length cells.now }
+    ensures word { IfSome result (λ w. w ≡ word_of (range_of cells.now i 4)) }
+    ensures cells { IfSome result (λ w. range_of cells.now i 4 ≡ cells_of 4 w) }
 {
     match cells.word(i) {
         Some(word) => Some(word),
@@ -124,8 +135,23 @@ fn four_cells(cells: &Cells, i: u32) -> Option<Word>
     }
 }
 
-// The same cell by cell.
-fn load_cells(cells: &Cells, i: u32, n: u8) -> Word
+#[inline(always)]
+fn few_cells(cells: &Cells, i: u32, n: u8) -> Option<Word>
+    requires size { (n ≡ 1) ⊎ (n ≡ 2) }
+    requires aligned { i % n ≡ 0 }
+    requires inside { i + n ≤ length cells.now }
+    ensures word { IfSome result (λ w. w ≡ word_of (range_of cells.now i n)) }
+    ensures cells { IfSome result (λ w. range_of cells.now i n ≡ cells_of n w) }
+{
+    match cells.number(i, u32::from(n)) {
+        Some(bits) => Some(Word { bits, tag: 0 }),
+        None => None,
+    }
+}
+
+/// The same cell by cell, whatever the cells are.
+#[inline(never)]
+pub fn load_cells(cells: &Cells, i: u32, n: u8) -> Word
     requires size { IsSize n }
     requires inside { i + n ≤ length cells.now }
     requires fits { i < 2 ^ 31 }
@@ -153,6 +179,37 @@ pub fn store_word(cells: &mut Cells, i: u32, n: u8, w: Word) -> Result<(), NoMem
     ensures cells { MatchResult result (λ _. cells.new ≡ with_range cells.old i (cells_of n w)) (λ _. cells.new ≡ cells.old) }
     ensures len { length cells.new ≡ length cells.old }
 {
+    if i % u32::from(n) == 0 {
+        store_aligned(cells, i, n, w)
+    } else {
+        store_row(cells, i, n, w)
+    }
+}
+
+// Writes a word at a multiple of its size.
+#[inline(always)]
+fn store_aligned(cells: &mut Cells, i: u32, n: u8, w: Word) -> Result<(), NoMemory>
+    requires size { IsSize n }
+    requires aligned { i % n ≡ 0 }
+    requires inside { i + n ≤ length cells.old }
+    ensures cells { MatchResult result (λ _. cells.new ≡ with_range cells.old i (cells_of n w)) (λ _. cells.new ≡ cells.old) }
+    ensures len { length cells.new ≡ length cells.old }
+{
+    if n == 4 {
+        cells.put_word(i, w)
+    } else {
+        cells.put_number(i, u32::from(n), w.bits)
+    }
+}
+
+// Writes a word at any place.
+#[inline(never)]
+fn store_row(cells: &mut Cells, i: u32, n: u8, w: Word) -> Result<(), NoMemory>
+    requires size { IsSize n }
+    requires inside { i + n ≤ length cells.old }
+    ensures cells { MatchResult result (λ _. cells.new ≡ with_range cells.old i (cells_of n w)) (λ _. cells.new ≡ cells.old) }
+    ensures len { length cells.new ≡ length cells.old }
+{
     if n == 4 {
         store_whole(cells, i, w)
     } else if n == 2 {
@@ -163,13 +220,12 @@ pub fn store_word(cells: &mut Cells, i: u32, n: u8, w: Word) -> Result<(), NoMem
 }
 
 // Writes the four cells of a whole word.
-#[inline(always)]
 fn store_whole(cells: &mut Cells, i: u32, w: Word) -> Result<(), NoMemory>
     requires { i + 4 ≤ length cells.old }
     ensures cells { MatchResult result (λ _. cells.new ≡ with_range cells.old i (cells_of 4 w)) (λ _. cells.new ≡ cells.old) }
     ensures len { length cells.new ≡ length cells.old }
 {
-    cells.put_word(i, w)
+    cells.write_row(i, &cells_of_word(w))
 }
 
 fn byte_cell(bits: u32, k: u8) -> Cell

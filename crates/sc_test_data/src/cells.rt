@@ -1,7 +1,7 @@
 // The calls on eight cells, against cells written by hand.
 ghost use Rattle.std.specs.Prelude.{◌≡◌, length, IfOk};
 
-use sc_base::{Cell, NoMemory};
+use sc_base::{Cell, NoMemory, Word};
 use sc_cells::Cells;
 use std::alloc::Global;
 use std::test::Fail;
@@ -78,6 +78,24 @@ fn clears_a_range_alone(rt: HostRuntime) -> Result<(), Fail> {
     let mut cells = sample(rt.alloc())?;
     cells.clear(1, 3);
     assert_eq!(rt; row(&cells), [10, 256, 256, 256, 902, 903, 256, 256]);
+    Ok(())
+}
+
+#[test]
+fn a_byte_takes_a_pointer_apart(rt: HostRuntime) -> Result<(), Fail> {
+    let mut cells = sample(rt.alloc())?;
+    let pointer = Word {
+        bits: 0x1000_0000,
+        tag: 7,
+    };
+    cells.put_word(4, pointer)?;
+    cells.put_number(5, 1, 12)?;
+    assert_eq!(rt; row(&cells), [10, 11, 900, 901, 900, 12, 902, 903]);
+    assert_eq!(rt; cells.word(4), None);
+    cells.fill(0, 3, 9)?;
+    cells.put_number(6, 2, 3597)?;
+    assert_eq!(rt; row(&cells), [9, 9, 9, 901, 900, 12, 13, 14]);
+    assert_eq!(rt; cells.number(6, 2), Some(3597));
     Ok(())
 }
 

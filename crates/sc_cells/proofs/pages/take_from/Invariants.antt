@@ -1,5 +1,5 @@
-use Rattle.sc_cells.proofs.Paged.{GrownTo}
+use Rattle.sc_cells.proofs.Places.{GrownTo}
 use Rattle.sc_cells.proofs.pages.take_from.Given as goal
 
 abbrev pub invariant-taking : goal.invariant-taking
-invariant-taking l = GrownTo l.initial.pages.items l.pages.items l.first l.p
+invariant-taking l = GrownTo l.fn.pages.items l.pages.items l.first l.p l.room

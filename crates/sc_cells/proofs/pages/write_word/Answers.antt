@@ -1,12 +1,17 @@
-use Rattle.std.proofs.Common.{arith}
-use Rattle.sc_cells.proofs.Paged.{paged-shape, word-written}
+use Rattle.std.proofs.Common.{◌≡◌, ◌<◌, ◌≤◌, ◌+◌, ◌/◌, ◌%◌, get_or, length, subst, arith}
+use Rattle.std.specs.Prelude.{MatchResult}
+use Rattle.sc_base.specs.declared.memory.Cell.TheVariants.{Unwritten}
+use Rattle.sc_cells.specs.Pages.{Grown, Sheet, Wrote, at_place, sheet_of, whole_cells}
+use Rattle.sc_cells.proofs.Places.{fits-page, page-is, page-written}
 use Rattle.sc_cells.proofs.pages.write_word.Goals as goal
 
-pub returns-then-is_in_page-clause-cells : goal.returns-then-is_in_page-clause-cells
-returns-then-is_in_page-clause-cells c = λ size l. rw c.put_word_at.ensures ((word-written c.args.pages.now.items c.args.at c.args.w c.requires.inside (rw c.as_slice.ensures.value at (c.is_in_page.ensures c.if-is_in_page.true)).1 (rw c.as_slice.ensures.value at (c.is_in_page.ensures c.if-is_in_page.true)).0).cells size l)
-
-pub returns-then-is_in_page-clause-paged : goal.returns-then-is_in_page-clause-paged
-returns-then-is_in_page-clause-paged c = λ size h. rw c.put_word_at.ensures (paged-shape c.args.pages.now.items _ size h (word-written c.args.pages.now.items c.args.at c.args.w c.requires.inside (rw c.as_slice.ensures.value at (c.is_in_page.ensures c.if-is_in_page.true)).1 (rw c.as_slice.ensures.value at (c.is_in_page.ensures c.if-is_in_page.true)).0).shape)
-
-pub is_in_page-requires : goal.is_in_page-requires
-is_in_page-requires c = let asked = c.requires.inside in rw c.as_slice.ensures.value (omega arith)
+pub returns : goal.returns
+returns c =
+    let pages = c.args.pages.now.items in
+    let i = c.args.at in
+    let s = c.write_word_in.new.page in
+    let r = c.write_word_in.result in
+    let l : i / 4096 < length pages = c.requires.inside in
+    let is : c.index_mut.result.now ≡ sheet_of pages (i / 4096) = page-is pages (i / 4096) c.index_mut.result.now c.index_mut.ensures.value l in
+    page-written r pages i 4 s (λ k. get_or (whole_cells c.args.w) k Unwritten) (at_place pages) l (let even = c.requires.aligned in omega arith)
+    (subst (λ (x : Sheet). MatchResult r (λ _. Wrote x s (i % 4096) 4 (λ k. get_or (whole_cells c.args.w) k Unwritten)) (λ _. Grown x s)) is c.write_word_in.ensures)

@@ -1,6 +1,6 @@
 use Rattle.std.proofs.Common.{◌≡◌, ◌∙◌, length, ap, sym, Some, arith}
 use Rattle.sc_cells.specs.Pages.{at_place}
-use Rattle.sc_cells.proofs.Paged.{length_cells, read_cell}
+use Rattle.sc_cells.proofs.Places.{length_cells, read_cell}
 use Rattle.sc_cells.proofs.cells.Cells.read.Goals as goal
 
 pub returns : goal.returns
