@@ -1,7 +1,7 @@
 -- Machine: the program once more; a theorem ties it to a yardstick (docs/TRUST.md).
 -- The flat state of memory: the cells of the three areas, and all objects by number. Each change of it is the effect
 -- of a note.
-use Rattle.std.specs.Prelude.{ℕ, ◌+◌, ◌-◌, ◌%◌, ◌==◌, ◌&&◌, Bool, true, nat_le, if◌then◌else◌, List, [], replicate, slice_get, Option, None, Some, option_map}
+use Rattle.std.specs.Prelude.{ℕ, ◌+◌, ◌-◌, ◌*◌, ◌/◌, ◌%◌, ◌==◌, ◌&&◌, Bool, true, nat_le, if◌then◌else◌, List, [], replicate, slice_get, Option, None, Some, option_map}
 use Rattle.sc_base.specs.declared.memory.Cell.{Cell}
 use Rattle.sc_base.specs.declared.memory.Cell.TheVariants.{Unwritten}
 use Rattle.sc_base.specs.declared.memory.Word.{Word}
@@ -12,8 +12,12 @@ use Rattle.sc_objects.specs.declared.objects.Obj.{Obj}
 use Rattle.sc_objects.specs.Numbered.{born, ended}
 use Rattle.sc_mem.specs.Words.{cells_of, word_of}
 
--- The bytes of the heap and of the stack; the cells of the static area, then the heap's, then the stack's; and the
--- objects, the first of which has number 1.
+-- the least multiple of 4 that is no less
+abbrev pub up : ℕ → ℕ
+up n = (n + 3) / 4 * 4
+
+-- The bytes of the heap and of the stack; the cells of the static area, then the heap's, then the stack's, the latter two
+-- up to a multiple of 4; and the objects, the first of which has number 1.
 pub record Flat : Type 0 where
   pub heap : ℕ
   pub stack : ℕ
@@ -24,12 +28,13 @@ pub record Flat : Type 0 where
 abbrev pub is_inside : ℕ → ℕ → ℕ → ℕ → Bool
 is_inside from size at n = nat_le from at && nat_le (at + n) (from + size)
 
--- where the n bytes from an address on stand among the cells, if they lie in one area
+-- where the n bytes from an address on stand among the cells, if they lie in one area. The stack's end with the last cell,
+-- so a multiple of 4 stands at one.
 abbrev pub place_in : ℕ → ℕ → ℕ → ℕ → Option ℕ
 place_in heap stack at n =
     if is_inside 0x08000000 1048576 at n then Some (at - 0x08000000)
     else if is_inside 0x10000000 heap at n then Some (1048576 + (at - 0x10000000))
-    else if is_inside (0x20000000 - stack) stack at n then Some (1048576 + heap + (at - (0x20000000 - stack)))
+    else if is_inside (0x20000000 - stack) stack at n then Some (1048576 + up heap + up stack - (0x20000000 - at))
     else None
 
 abbrev pub place : Flat → ℕ → ℕ → Option ℕ
@@ -84,7 +89,7 @@ with_death m id = record { heap = m.heap; stack = m.stack; cells = m.cells; obje
 
 -- memory as a run begins: nothing lives, and no cell is written
 abbrev pub fresh : ℕ → ℕ → Flat
-fresh stack heap = record { heap = heap; stack = stack; cells = replicate (1048576 + heap + stack) Unwritten; objects = [] }
+fresh stack heap = record { heap = heap; stack = stack; cells = replicate (1048576 + up heap + up stack) Unwritten; objects = [] }
 
 -- the effect of a note on memory
 abbrev pub apply : Flat → Note → Flat

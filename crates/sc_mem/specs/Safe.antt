@@ -7,7 +7,7 @@ use Rattle.sc_base.specs.declared.memory.Kind.TheVariants.{Heap}
 use Rattle.sc_objects.specs.declared.objects.Obj.{Obj}
 use Rattle.sc_objects.specs.Numbered.{IsLive, IsClear, AreApart}
 use Rattle.sc_objects.specs.Blocks.{Blocks, IsClass, IsTiled, Takes, block_size, class_at}
-use Rattle.sc_mem.specs.Flat.{Flat, place, with_birth}
+use Rattle.sc_mem.specs.Flat.{Flat, place, up, with_birth}
 
 -- the flat state, and the heap's blocks by places counted from 0
 pub record Store : Type 0 where
@@ -25,7 +25,7 @@ Stands b _ base size = (base + size < 0x10000000) ⊎ (0x10000000 + b.bytes < ba
 pub record IsSafe (s : Store) : Type 0 where
   pub heap : s.flat.heap ≤ 67108864
   pub stack : s.flat.stack ≤ 16777216
-  pub sized : length s.flat.cells ≡ 1048576 + s.flat.heap + s.flat.stack
+  pub sized : length s.flat.cells ≡ 1048576 + up s.flat.heap + up s.flat.stack
   pub bytes : s.blocks.bytes ≡ s.flat.heap
   pub apart : AreApart s.flat.objects
   pub within : (id : ℕ) (o : Obj) → IsLive s.flat.objects id o → IsSome (place s.flat o.base o.size)

@@ -9,7 +9,7 @@ ghost use Rattle.sc_mem.specs.Safe.{Stands};
 ghost use Rattle.std.specs.Prelude.{IsTrue};
 
 use crate::access::{constant, reach, read_cells, rule_in};
-use crate::areas::{HEAP, STACK_END, STATIC_BYTES, near_place, place};
+use crate::areas::{HEAP, STACK_END, cells_of, near_place, place};
 use crate::arithmetic::{moved, offset};
 use crate::comparison::{difference, equality, freeing, order, ordering, overlap, truth};
 use crate::fault::StoreFault;
@@ -58,7 +58,7 @@ impl Memory {
         ensures start { IfOk result (λ m. (before : Flat) → m.flat ≡ apply before (Start stack heap)) }
         ensures blocks { IfOk result (λ m. m.blocks ≡ record { bytes = heap; used = 0; taken = []; free = replicate 29 [] }) }
     {
-        let cells = Cells::new(alloc, STATIC_BYTES + heap + stack)?;
+        let cells = Cells::new(alloc, cells_of(heap, stack))?;
         let objects = Objects::new(alloc)?;
         let blocks = Heap::new(alloc, heap)?;
         Ok(Memory {

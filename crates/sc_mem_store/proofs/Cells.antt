@@ -8,7 +8,7 @@ use Rattle.sc_base.specs.declared.memory.Cell.{Cell as Stored}
 use Rattle.sc_base.specs.declared.memory.Cell.TheVariants.{Unwritten}
 use Rattle.sc_cells.specs.Range.{with_range}
 use Rattle.sc_objects.specs.declared.objects.Obj.{Obj}
-use Rattle.sc_mem.specs.Flat.{Flat, place, place_in, cell_in, cell_at, written_at, with_birth}
+use Rattle.sc_mem.specs.Flat.{Flat, place, place_in, up, cell_in, cell_at, written_at, with_birth}
 use Rattle.sc_mem.specs.Safe.{Store, IsSafe}
 use Rattle.sc_mem_store.proofs.Lists.{get-within, get-outside, get-replicate}
 
@@ -19,7 +19,7 @@ pub place-apart : (heap stack base n i b j : ℕ) → heap ≤ 67108864 → stac
 place-apart heap stack base n i b j h s e (inl l) f = grind (arith, nat_tests)
 place-apart heap stack base n i b j h s e (inr l) f = grind (arith, nat_tests)
 
-pub place-bound : (heap stack base n i : ℕ) → heap ≤ 67108864 → stack ≤ 16777216 → place_in heap stack base n ≡ Some i → i + n ≤ 1048576 + heap + stack
+pub place-bound : (heap stack base n i : ℕ) → heap ≤ 67108864 → stack ≤ 16777216 → place_in heap stack base n ≡ Some i → i + n ≤ 1048576 + up heap + up stack
 place-bound heap stack base n i h s e = grind (arith, nat_tests)
 
 pub some-is : {A : Type 0} (q : Option A) → IsSome q → (a : A) × (q ≡ Some a)

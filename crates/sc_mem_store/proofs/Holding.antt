@@ -15,7 +15,7 @@ use Rattle.sc_objects.specs.Numbered.{ended as gone}
 use Rattle.sc_objects.proofs.Lists.{slice_get-last, slice_get-set_same}
 use Rattle.sc_objects.proofs.Births.{born-object, ended-is}
 use Rattle.sc_mem.specs.Flat.{Flat, place, cell_in, cell_at, written_at, with_birth, with_death}
-use Rattle.sc_mem.specs.Flat.{fresh as empty}
+use Rattle.sc_mem.specs.Flat.{fresh as empty, up}
 use Rattle.sc_mem.specs.Safe.{Store, IsSafe, IsBirth}
 use Rattle.sc_mem.proofs.Runs.{put-one}
 use Rattle.sc_meaning.specs.Values.{Cell, Unwritten}
@@ -70,7 +70,7 @@ pub holds_none : (stack heap : ℕ) (fs : List Key) → Holds [] (empty stack he
 holds_none stack heap fs = record {
   count = refl;
   each = λ id. held-nothing (empty stack heap) fs id;
-  tagged = λ at c e. tagged-unwritten [] (1048576 + heap + stack) (place (empty stack heap) at 1) c e;
+  tagged = λ at c e. tagged-unwritten [] (1048576 + up heap + up stack) (place (empty stack heap) at 1) c e;
 }
 
 -- births
