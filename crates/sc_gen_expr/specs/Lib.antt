@@ -1,7 +1,7 @@
 -- Inside: plumbing, a representation, an invariant or a promise beside the claim (docs/TRUST.md).
-pub mod Code
-pub mod Operators
-pub mod Calls
+pub mod Places
+pub mod Plans
+pub mod Templates
 pub mod Expressions
 pub mod Words
 pub mod Emitted

@@ -16,10 +16,10 @@ use Rattle.sc_core.specs.declared.statement.CoreStmt.{CoreStmt, out-CoreStmt, ro
 use Rattle.sc_core.specs.declared.statement.CoreStmt.TheOpen.{CoreStmt-F}
 use Rattle.sc_core.specs.declared.module.Auto.{Auto}
 use Rattle.sc_core.specs.declared.module.Fun.{Fun}
-use Rattle.sc_gen_expr.specs.declared.symbolic.Symbolic.TheVariants.{Plain}
-use Rattle.sc_gen_expr.specs.declared.symbolic.Access.TheVariants as access
-use Rattle.sc_gen_expr.specs.Code.{Code, x0, ra, sp, a0, a1, t0, t1, t2, addi, apply, mv, ecall, li, near, over, skip_if, skip_unless, service, block_service, copied}
-use Rattle.sc_gen_expr.specs.Operators.{machine_type, store_of}
+use Rattle.sc_gen_code.specs.declared.symbolic.Symbolic.TheVariants.{Plain}
+use Rattle.sc_gen_code.specs.declared.symbolic.Access.TheVariants as access
+use Rattle.sc_gen_code.specs.Code.{Code, x0, ra, sp, a0, a1, t0, t1, t2, addi, apply, mv, ecall, li, near, over, skip_if, skip_unless, service, block_service, copied}
+use Rattle.sc_gen_code.specs.Operators.{machine_type, store_of}
 use Rattle.sc_gen_expr.specs.Expressions.{expression_code, slot_of}
 use Rattle.sc_gen_body.specs.declared.jumps.Place.{Place}
 use Rattle.sc_gen_body.specs.Jumps.{Around, jump, go, go_in, leaving, entering, unless_equal, labelled, label_jumps, label_rows, rows, start_of, inside, in_loop, in_switch, nowhere}

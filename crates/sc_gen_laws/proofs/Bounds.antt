@@ -11,9 +11,9 @@ use Rattle.sc_core.specs.declared.statement.CoreStmt.{CoreStmt, roll-CoreStmt, f
 use Rattle.sc_core.specs.declared.statement.CoreStmt.TheOpen.{CoreStmt-F}
 use Rattle.sc_core.specs.declared.module.Auto.{Auto}
 use Rattle.sc_core.specs.declared.module.Fun.{Fun}
-use Rattle.sc_gen_expr.specs.declared.symbolic.Access.TheVariants as access
-use Rattle.sc_gen_expr.specs.Code.{Code, a0, a1, t1, t2, mv, li, near, copied, ecall, service, block_service}
-use Rattle.sc_gen_expr.specs.Operators.{machine_type, store_of}
+use Rattle.sc_gen_code.specs.declared.symbolic.Access.TheVariants as access
+use Rattle.sc_gen_code.specs.Code.{Code, a0, a1, t1, t2, mv, li, near, copied, ecall, service, block_service}
+use Rattle.sc_gen_code.specs.Operators.{machine_type, store_of}
 use Rattle.sc_gen_expr.specs.Expressions.{slot_of}
 use Rattle.sc_gen_body.specs.declared.jumps.Place.{Place}
 use Rattle.sc_gen_body.specs.Initializers.{place_behind}

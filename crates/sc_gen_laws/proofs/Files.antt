@@ -21,11 +21,11 @@ use Rattle.sc_object.specs.declared.object.SectionKind.TheVariants.{Text, Data, 
 use Rattle.sc_object.specs.Words as words
 use Rattle.sc_object.specs.Spelling.{spelled_as}
 use Rattle.sc_object.specs.Reading.{is_name, is_word, is_kind, is_addend, is_below, is_section, is_symbol, is_reloc, is_frame, is_block, held, fits, locals_first, by_sections, is_spellable}
-use Rattle.sc_gen_expr.specs.declared.symbolic.Symbolic.{Symbolic}
-use Rattle.sc_gen_expr.specs.declared.symbolic.Symbolic.TheVariants.{Plain, Upper, Lower, Call}
-use Rattle.sc_gen_expr.specs.declared.symbolic.Target.{Target}
-use Rattle.sc_gen_expr.specs.declared.symbolic.Target.TheVariants.{Named, Literal}
-use Rattle.sc_gen_expr.specs.Code.{Code}
+use Rattle.sc_gen_code.specs.declared.symbolic.Symbolic.{Symbolic}
+use Rattle.sc_gen_code.specs.declared.symbolic.Symbolic.TheVariants.{Plain, Upper, Lower, Call}
+use Rattle.sc_gen_code.specs.declared.symbolic.Target.{Target}
+use Rattle.sc_gen_code.specs.declared.symbolic.Target.TheVariants.{Named, Literal}
+use Rattle.sc_gen_code.specs.Code.{Code}
 use Rattle.sc_gen_expr.specs.Words.{fitted, relocation, symbolic_word}
 use Rattle.sc_gen_body.specs.Functions.{function_code}
 use Rattle.sc_gen.specs.declared.definitions.Fixup.{Fixup}

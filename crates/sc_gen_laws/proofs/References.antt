@@ -22,11 +22,11 @@ use Rattle.sc_object.specs.declared.object.SectionKind.TheVariants.{Text, Data, 
 use Rattle.sc_object.specs.Parts.{is_local}
 use Rattle.sc_object.specs.Reading.{is_below, is_word, is_kind, locals_first, by_sections}
 use Rattle.sc_object.specs.Reading as reading
-use Rattle.sc_gen_expr.specs.declared.symbolic.Symbolic.{Symbolic}
-use Rattle.sc_gen_expr.specs.declared.symbolic.Symbolic.TheVariants.{Plain, Upper, Lower, Call}
-use Rattle.sc_gen_expr.specs.declared.symbolic.Target.{Target}
-use Rattle.sc_gen_expr.specs.declared.symbolic.Target.TheVariants.{Named, Literal}
-use Rattle.sc_gen_expr.specs.Code.{Code}
+use Rattle.sc_gen_code.specs.declared.symbolic.Symbolic.{Symbolic}
+use Rattle.sc_gen_code.specs.declared.symbolic.Symbolic.TheVariants.{Plain, Upper, Lower, Call}
+use Rattle.sc_gen_code.specs.declared.symbolic.Target.{Target}
+use Rattle.sc_gen_code.specs.declared.symbolic.Target.TheVariants.{Named, Literal}
+use Rattle.sc_gen_code.specs.Code.{Code}
 use Rattle.sc_gen_expr.specs.Words.{target_eq, mention, fitted, relocation}
 use Rattle.sc_gen_expr.proofs.Mentions.{Known, mention-known}
 use Rattle.sc_gen_body.specs.Functions.{function_code}

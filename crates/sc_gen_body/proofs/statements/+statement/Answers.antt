@@ -1,7 +1,7 @@
 use Rattle.std.proofs.Common.{rules, List, ◌≡◌, ℕ, ◌+◌, ◌++◌, [], ◌∷◌, length, map, take, None, Some, refl, sym, ap, ◌∙◌}
 use Rattle.sc_core.specs.declared.statement.CoreStmt.{CoreStmt, the_lemmas}
 use Rattle.sc_core.specs.declared.module.Auto.{Auto}
-use Rattle.sc_gen_expr.specs.declared.symbolic.Symbolic.{Symbolic}
+use Rattle.sc_gen_code.specs.declared.symbolic.Symbolic.{Symbolic}
 use Rattle.sc_gen_expr.specs.Expressions.{expression_code}
 use Rattle.sc_gen_body.specs.Statements as spec
 use Rattle.sc_gen_body.specs.Jumps.{Around, in_loop, in_switch, start_of, with_jumps}
@@ -16,7 +16,7 @@ use Rattle.sc_gen_body.proofs.statements.+statement.Goals as goal
 
 pub tested-returns : goal.tested-returns
 tested-returns t c =
-    let f = spec.frame c.args.f.now c.args.temporaries in
+    let f = frame_of c.args.frame.now in
     let out = spec.around c.args.text.now c.args.exits in
     let inner = c.in_ok-statement.ensures in
     let test = c.in_ok-expression.ensures ∙ ap (λ (bs : List (List Auto)). c.args.text.now.code ++ expression_code bs c.args.e.now c.args.temporaries) c.as_slice.ensures in
@@ -28,7 +28,7 @@ tested-returns t c =
 
 pub turns-returns : goal.turns-returns
 turns-returns t c =
-    let f = spec.frame c.args.f.now c.args.temporaries in
+    let f = frame_of c.args.frame.now in
     let text = c.args.text.now in
     let first = c.in_ok-put_one.ensures ∙ ap (λ (w : Symbolic). text.code ++ w ∷ []) c.over.ensures in
     let inner = c.in_ok-statement.ensures in
@@ -48,7 +48,7 @@ turns-returns t c =
 
 pub items_from-loop-s-preserved : goal.items_from-loop-s-preserved
 items_from-loop-s-preserved t c =
-    let f = spec.frame c.args.f.now c.args.temporaries in
+    let f = frame_of c.args.frame.now in
     let inv = c.loop-s.invariant in
     let one = c.in_ok-statement.ensures in
     let out = spec.around c.loop-s.text c.args.exits in
@@ -65,7 +65,7 @@ items_from-loop-s-preserved t c =
 
 pub items_from-returns : goal.items_from-returns
 items_from-returns t c =
-    let f = spec.frame c.args.f.now c.args.temporaries in
+    let f = frame_of c.args.frame.now in
     let inv = c.loop-s.invariant in
     let out = spec.around c.args.text.now c.args.exits in
     record {
@@ -79,7 +79,7 @@ items_from-returns t c =
 
 pub switch-returns : goal.switch-returns
 switch-returns t c =
-    let f = spec.frame c.args.f.now c.args.temporaries in
+    let f = frame_of c.args.frame.now in
     let text = c.args.text.now in
     let value = spec.value_or_none f (Some c.args.e.now) in
     let inner = c.in_ok-starts.ensures in
@@ -104,7 +104,7 @@ switch-returns t c =
 
 pub block-returns : goal.block-returns
 block-returns t c =
-    let f = spec.frame c.args.f.now c.args.temporaries in
+    let f = frame_of c.args.frame.now in
     let text = c.args.text.now in
     let out = spec.around text c.args.exits in
     let opened = c.in_ok-open_labels.ensures in
@@ -134,7 +134,7 @@ switch-inner-requires t c = (search (rules, the_lemmas), tt)
 
 pub inner-returns-in-Block : goal.inner-returns-in-Block
 inner-returns-in-Block t c =
-    let f = spec.frame c.args.f.now c.args.temporaries in
+    let f = frame_of c.args.frame.now in
     IfOk-weaker c.block.result _ _
     (λ found h. enters_block f c.args.s.now c.in-Block.field-0 c.in-Block.number c.in-Block.labels c.as_slice.result.now c.in-Block.items c.as_slice-in-Block.result.now
     (length c.args.text.now.code) (spec.around c.args.text.now c.args.exits) c.args.text.now c.block.new.text found c.in-Block.is c.as_slice.ensures c.as_slice-in-Block.ensures h)
@@ -142,7 +142,7 @@ inner-returns-in-Block t c =
 
 pub statement-returns-in_ok-block-in-Block : goal.statement-returns-in_ok-block-in-Block
 statement-returns-in_ok-block-in-Block t c =
-    let f = spec.frame c.args.f.now c.args.temporaries in
+    let f = frame_of c.args.frame.now in
     let mid : Text = record { code = c.entering.new.code; blocks = c.args.text.now.blocks; labels = c.args.text.now.labels } in
     adds_block f c.args.s.now c.in-Block.field-0 c.in-Block.number c.in-Block.labels c.as_slice.result.now c.in-Block.items c.as_slice-in-Block.result.now
     (spec.around c.args.text.now c.args.exits) c.args.text.now mid c.block.new.text c.in_ok-block-in-Block.field-0
@@ -150,7 +150,7 @@ statement-returns-in_ok-block-in-Block t c =
 
 pub statement-returns-in_ok-end-in-None : goal.statement-returns-in_ok-end-in-None
 statement-returns-in_ok-end-in-None t c =
-    let f = spec.frame c.args.f.now c.args.temporaries in
+    let f = frame_of c.args.frame.now in
     let new : Text = record { code = c.close.new.code; blocks = c.tested.new.text.blocks; labels = c.tested.new.text.labels } in
     let whole : c.args.s.now ≡ v.If c.in-If.field-0 c.in-If.e c.in-If.first None = c.in-If.is ∙ ap (v.If c.in-If.field-0 c.in-If.e c.in-If.first) c.in-None.is in
     adds_branch f c.args.s.now c.in-If.field-0 c.in-If.e c.get-in-None-2.result.now c.in-If.first c.get-in-None.result.now
@@ -160,7 +160,7 @@ statement-returns-in_ok-end-in-None t c =
 
 pub statement-returns-in_ok-statement-in-Some : goal.statement-returns-in_ok-statement-in-Some
 statement-returns-in_ok-statement-in-Some t c =
-    let f = spec.frame c.args.f.now c.args.temporaries in
+    let f = frame_of c.args.frame.now in
     let mid = c.tested-in-Some.new.text in
     let third : Text = record { code = c.reopen.new.code; blocks = mid.blocks; labels = mid.labels } in
     let fourth = c.statement.new.text in
@@ -176,7 +176,7 @@ statement-returns-in_ok-statement-in-Some t c =
 
 pub statement-returns-in_ok-value_or_none-in-For : goal.statement-returns-in_ok-value_or_none-in-For
 statement-returns-in_ok-value_or_none-in-For t c =
-    let f = spec.frame c.args.f.now c.args.temporaries in
+    let f = frame_of c.args.frame.now in
     let mid : Text = record { code = c.value_or_none.new.code; blocks = c.args.text.now.blocks; labels = c.args.text.now.labels } in
     on_ok_weaker c.turns-in-For.result
     (λ h. adds_for f c.args.s.now c.in-For.field-0 c.in-For.before _ c.in-For.e _ c.in-For.after _ c.in-For.body c.get-in-For.result.now c.args.exits c.args.text.now mid c.turns-in-For.new.text

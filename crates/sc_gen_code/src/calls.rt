@@ -1,8 +1,8 @@
 // The code of a call, behind that of its arguments (RISC-V calling convention).
 ghost use Rattle.std.specs.Prelude.{◌≡◌, ◌+◌, ◌-◌, ◌*◌, ◌≤◌, ◌<◌, [], ◌∷◌, ◌++◌, min, length, OnOk, None, Some, MatchOption, pos};
-ghost use Rattle.sc_gen_expr.specs.Calls as spec;
-ghost use Rattle.sc_gen_expr.specs.Code as words;
-ghost use Rattle.sc_gen_expr.specs.declared.symbolic.Symbolic.TheVariants.{Plain};
+ghost use Rattle.sc_gen_code.specs.Calls as spec;
+ghost use Rattle.sc_gen_code.specs.Code as words;
+ghost use Rattle.sc_gen_code.specs.declared.symbolic.Symbolic.TheVariants.{Plain};
 
 use crate::code::{A0, RA, SP, T0, T1, T2, addi, li, put, put_one};
 use crate::symbolic::{Symbolic, Target};
@@ -114,32 +114,16 @@ fn incoming(code: &mut Items<Symbolic>, base: Base, n: u32) -> Result<(), NoMemo
     Ok(())
 }
 
-fn last_waits(code: &mut Items<Symbolic>, n: u32) -> Result<(), NoMemory>
-    ensures { OnOk result (code.new ≡ code.old ++ spec.last_waits n) }
-{
-    if 0 < n {
-        put_one(code, addi(T1, A0, 0))
-    } else {
-        Ok(())
-    }
-}
-
-fn last_out(code: &mut Items<Symbolic>, n: u32) -> Result<(), NoMemory>
+/// The last of `n` arguments is in `a0`: it goes above `sp` where it is past the eighth, or into its register.
+fn last_placed(code: &mut Items<Symbolic>, n: u32) -> Result<(), NoMemory>
     requires { n ≤ 31 }
-    ensures { OnOk result (code.new ≡ code.old ++ spec.last_out n) }
+    ensures { OnOk result (code.new ≡ code.old ++ spec.last_placed n) }
 {
     if 8 < n {
-        put_one(code, store_argument(T1, n - 1))
-    } else {
-        Ok(())
+        return put_one(code, store_argument(A0, n - 1));
     }
-}
-
-fn last_in(code: &mut Items<Symbolic>, n: u32) -> Result<(), NoMemory>
-    ensures { OnOk result (code.new ≡ code.old ++ spec.last_in n) }
-{
-    if 0 < n && n < 9 {
-        put_one(code, addi(9 + n as u8, T1, 0))
+    if 1 < n {
+        put_one(code, addi(9 + n as u8, A0, 0))
     } else {
         Ok(())
     }
@@ -151,12 +135,10 @@ pub fn marshalled(code: &mut Items<Symbolic>, n: u32, t: u32) -> Result<(), NoMe
     ensures { OnOk result (code.new ≡ code.old ++ spec.marshalled n t) }
 {
     let base = base_of(n, t);
-    last_waits(code, n)?;
+    last_placed(code, n)?;
     based(code, n, t)?;
     outgoing(code, base, n)?;
-    last_out(code, n)?;
-    incoming(code, base, n)?;
-    last_in(code, n)
+    incoming(code, base, n)
 }
 
 fn is_printf(key: &Key) -> bool
@@ -189,16 +171,17 @@ pub fn call_direct(
     put_one(code, Instr::Jalr(RA, RA, 0))
 }
 
-/// A call of the function whose address waits in the call's first temporary.
-pub fn call_through(code: &mut Items<Symbolic>, base: Base) -> Result<(), NoMemory>
+/// The address that waits in a call's first temporary goes into `t1`.
+pub fn awaited(code: &mut Items<Symbolic>, base: Base) -> Result<(), NoMemory>
     requires { base.low < 2048 }
-    ensures { OnOk result (code.new ≡ code.old ++ spec.call_through base) }
+    ensures { OnOk result (code.new ≡ code.old ++ spec.awaited base) }
 {
-    put(
-        code,
-        &[
-            Instr::Load(LoadOp::Lw, T1, base.register, base.low as i32),
-            Instr::Jalr(RA, T1, 0),
-        ],
-    )
+    put_one(code, Instr::Load(LoadOp::Lw, T1, base.register, base.low as i32))
+}
+
+/// A call of the function whose address is in `t1`.
+pub fn call_through(code: &mut Items<Symbolic>) -> Result<(), NoMemory>
+    ensures { OnOk result (code.new ≡ code.old ++ spec.call_through) }
+{
+    put_one(code, Instr::Jalr(RA, T1, 0))
 }

@@ -1,6 +1,6 @@
 -- Machine: the program once more; a theorem ties it to a yardstick (docs/TRUST.md).
 -- Short sequences of instructions, from which the code of expressions and statements is made (RISC-V unprivileged manual, RV32IM).
-use Rattle.std.specs.Prelude.{ℕ, ◌+◌, ◌*◌, if◌then◌else◌, ◌||◌, nat_lt, nat_le, List, [], ◌∷◌, ◌++◌, ℤ, pos}
+use Rattle.std.specs.Prelude.{ℕ, ◌+◌, ◌*◌, if◌then◌else◌, ◌||◌, nat_lt, nat_le, ◌==◌, ◌&&◌, List, [], ◌∷◌, ◌++◌, Option, Some, None, ℤ, pos, ◌-ℤ◌}
 use Rattle.std.specs.Int.{w32, cast_signed}
 use Rattle.sc_isa.specs.declared.instruction.Instr.{Instr}
 use Rattle.sc_isa.specs.declared.instruction.Instr.TheVariants.{Lui, Jal, Branch, Load, Store, Imm, Reg, Ecall}
@@ -11,11 +11,11 @@ use Rattle.sc_isa.specs.declared.instruction.ImmOp.TheVariants.{Addi}
 use Rattle.sc_isa.specs.declared.instruction.RegOp.{RegOp}
 use Rattle.sc_isa.specs.declared.instruction.RegOp.TheVariants as reg
 use Rattle.sc_isa_image.specs.Stubs.{upper_of, lower_of}
-use Rattle.sc_gen_expr.specs.declared.symbolic.Symbolic.{Symbolic}
-use Rattle.sc_gen_expr.specs.declared.symbolic.Symbolic.TheVariants.{Plain, Upper, Lower}
-use Rattle.sc_gen_expr.specs.declared.symbolic.Access.{Access}
-use Rattle.sc_gen_expr.specs.declared.symbolic.Access.TheVariants as access
-use Rattle.sc_gen_expr.specs.declared.symbolic.Target.{Target}
+use Rattle.sc_gen_code.specs.declared.symbolic.Symbolic.{Symbolic}
+use Rattle.sc_gen_code.specs.declared.symbolic.Symbolic.TheVariants.{Plain, Upper, Lower}
+use Rattle.sc_gen_code.specs.declared.symbolic.Access.{Access}
+use Rattle.sc_gen_code.specs.declared.symbolic.Access.TheVariants as access
+use Rattle.sc_gen_code.specs.declared.symbolic.Target.{Target}
 
 abbrev pub Code : Type 0
 Code = List Symbolic
@@ -107,13 +107,28 @@ tagged = service 4
 abbrev pub copied : ℕ → Code
 copied size = li a2 size ++ service 5
 
--- the value of a target
+-- what is done at the value of a target
+abbrev pub at_target : Access → Target → Code
+at_target what target = Upper target ∷ Lower what target ∷ []
+
+-- a0 gets the value of a target, with its tag
 abbrev pub address : Target → Code
-address target = Upper target ∷ Lower target ∷ tagged
+address target = at_target (access.Address a0) target ++ tagged
+
+-- what a word is multiplied with as a shift, where it is a small power of two: the number of places
+abbrev pub shift_of : ℕ → Option ℤ
+shift_of n =
+    if n == 1 then Some (pos 0) else if n == 2 then Some (pos 1) else if n == 4 then Some (pos 2) else if n == 8 then Some (pos 3) else
+    if n == 16 then Some (pos 4) else if n == 32 then Some (pos 5) else if n == 64 then Some (pos 6) else if n == 128 then Some (pos 7) else
+    if n == 256 then Some (pos 8) else if n == 512 then Some (pos 9) else if n == 1024 then Some (pos 10) else None
 
 -- A jump over the next n words. One beyond the reach of any text leads nowhere.
 abbrev pub over : ℕ → Symbolic
 over n = Plain (Jal x0 (if nat_lt n 262143 then pos (4 * n + 4) else pos 0))
+
+-- The jump that stands at one place and goes to another. One out of the reach of any text goes nowhere.
+abbrev pub jump : ℕ → ℕ → Symbolic
+jump from to = Plain (Jal x0 (if nat_lt from 262144 && nat_lt to 262144 then pos (4 * to) -ℤ pos (4 * from) else pos 0))
 
 -- the next word is left out where a0 is not zero, and where it is zero
 abbrev pub skip_if : Symbolic

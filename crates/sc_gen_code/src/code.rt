@@ -1,7 +1,7 @@
 // Short sequences of instructions (RISC-V unprivileged manual, RV32IM).
-ghost use Rattle.std.specs.Prelude.{◌≡◌, ℕ, ◌+◌, ◌-◌, ◌<◌, ◌≤◌, [], ◌∷◌, ◌++◌, length, map, slice_set, OnOk, IfOk, pos};
-ghost use Rattle.sc_gen_expr.specs.Code as spec;
-ghost use Rattle.sc_gen_expr.specs.declared.symbolic.Symbolic.TheVariants.{Plain};
+ghost use Rattle.std.specs.Prelude.{◌≡◌, ℕ, ◌+◌, ◌-◌, ◌<◌, [], ◌∷◌, ◌++◌, if◌then◌else◌, length, map, slice_set, OnOk, IfOk, pos};
+ghost use Rattle.sc_gen_code.specs.Code as spec;
+ghost use Rattle.sc_gen_code.specs.declared.symbolic.Symbolic.TheVariants.{Plain};
 
 use crate::symbolic::{Access, Symbolic, Target};
 use sc_base::{Duplicate, Items, NoMemory};
@@ -63,7 +63,8 @@ pub fn li(code: &mut Items<Symbolic>, rd: u8, n: u32) -> Result<(), NoMemory>
     }
 }
 
-fn accessed(what: Access, base: u8, n: i32) -> Instr
+/// What is done at a place, by a base and what is added to it.
+pub fn accessed(what: Access, base: u8, n: i32) -> Instr
     ensures { result ≡ spec.accessed what base n }
 {
     match what {
@@ -140,14 +141,38 @@ impl Duplicate for Target {
     }
 }
 
-/// `a0` gets the value of a target.
-pub fn address(alloc: Global, code: &mut Items<Symbolic>, target: Target) -> Result<(), NoMemory>
-    ensures { OnOk result (code.new ≡ code.old ++ spec.address target) }
+/// What is done at the value of a target.
+pub fn at_target(
+    alloc: Global,
+    code: &mut Items<Symbolic>,
+    what: Access,
+    target: Target,
+) -> Result<(), NoMemory>
+    ensures { OnOk result (code.new ≡ code.old ++ spec.at_target what target) }
 {
     let again = target.copy(alloc)?;
     code.push(Symbolic::Upper(target))?;
-    code.push(Symbolic::Lower(again))?;
-    tagged(code)
+    code.push(Symbolic::Lower(what, again))
+}
+
+/// What a word is multiplied with as a shift, where it is a small power of two: the number of places.
+pub fn shift_of(n: u32) -> Option<i32>
+    ensures { result ≡ spec.shift_of n }
+{
+    match n {
+        1 => Some(0),
+        2 => Some(1),
+        4 => Some(2),
+        8 => Some(3),
+        16 => Some(4),
+        32 => Some(5),
+        64 => Some(6),
+        128 => Some(7),
+        256 => Some(8),
+        512 => Some(9),
+        1024 => Some(10),
+        _ => None,
+    }
 }
 
 /// A jump over so many words.
@@ -158,6 +183,33 @@ pub fn over(n: usize) -> Instr
         Instr::Jal(X0, (4 * n + 4) as i32)
     } else {
         Instr::Jal(X0, 0)
+    }
+}
+
+/// A jump that is written later, and its place.
+pub fn hole(code: &mut Items<Symbolic>) -> Result<usize, NoMemory>
+    ensures opened { OnOk result (code.new ≡ code.old ++ spec.over 0 ∷ []) }
+    ensures place { IfOk result (λ n. n ≡ length code.old) }
+{
+    let place = code.len();
+    put_one(code, over(0))?;
+    Ok(place)
+}
+
+/// The word at a place becomes a jump over all that stands behind it, and over one word more where that is said.
+pub fn close_behind(code: &mut Items<Symbolic>, place: usize, more: bool)
+    ensures { code.new ≡ slice_set code.old place (spec.over (length code.old - (place + 1) + (if more then 1 else 0))) }
+{
+    if place < code.len() {
+        let behind = code.len() - (place + 1);
+        code.set(
+            place,
+            Symbolic::Plain(over(if more {
+                behind + 1
+            } else {
+                behind
+            })),
+        );
     }
 }
 
@@ -173,6 +225,17 @@ pub fn skip_unless() -> Instr
     ensures { Plain result ≡ spec.skip_unless }
 {
     Instr::Branch(BranchOp::Beq, A0, X0, 8)
+}
+
+/// The jump that stands at one place and goes to another.
+pub fn jump(from: usize, to: usize) -> Instr
+    ensures { Plain result ≡ spec.jump from to }
+{
+    if from < 262144 && to < 262144 {
+        Instr::Jal(X0, 4 * to as i32 - 4 * from as i32)
+    } else {
+        Instr::Jal(X0, 0)
+    }
 }
 
 /// The word at a place becomes a jump over all that stands behind it.

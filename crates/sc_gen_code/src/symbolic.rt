@@ -16,15 +16,15 @@ pub enum Target {
 pub enum Symbolic {
     /// An instruction that waits for no address.
     Plain(Instr),
-    /// `lui a0` with the upper part of a target's value.
+    /// `lui t0` with the upper part of a target's value.
     Upper(Target),
-    /// `addi a0, a0` with the lower part of a target's value.
-    Lower(Target),
+    /// What is done at a target's value, whose upper part is in `t0`: the lower part is added.
+    Lower(Access, Target),
     /// `auipc ra`, the first word of a call of a target.
     Call(Target),
 }
 
-/// What is done at a place of the frame: a register is loaded or stored, or gets the place's address.
+/// What is done at a place: a register is loaded or stored, or gets the place's address.
 #[derive(Clone, Copy)]
 pub enum Access {
     Load(LoadOp, u8),

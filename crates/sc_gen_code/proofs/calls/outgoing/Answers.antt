@@ -1,5 +1,5 @@
-use Rattle.sc_gen_expr.proofs.Arguments.{outgoing-step}
-use Rattle.sc_gen_expr.proofs.calls.outgoing.Goals as goal
+use Rattle.sc_gen_code.proofs.Arguments.{outgoing-step}
+use Rattle.sc_gen_code.proofs.calls.outgoing.Goals as goal
 
 pub loop-i-preserved : goal.loop-i-preserved
 loop-i-preserved c =

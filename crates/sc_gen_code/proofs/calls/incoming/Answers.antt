@@ -1,5 +1,5 @@
-use Rattle.sc_gen_expr.proofs.Arguments.{incoming-step}
-use Rattle.sc_gen_expr.proofs.calls.incoming.Goals as goal
+use Rattle.sc_gen_code.proofs.Arguments.{incoming-step}
+use Rattle.sc_gen_code.proofs.calls.incoming.Goals as goal
 
 pub loop-i-preserved : goal.loop-i-preserved
 loop-i-preserved c =

@@ -7,10 +7,10 @@ use Rattle.sc_isa.specs.declared.instruction.Instr.TheVariants.{Jalr}
 use Rattle.sc_isa.specs.declared.instruction.RegOp.TheVariants as reg
 use Rattle.sc_core.specs.declared.expression.CoreExpr.{CoreExpr, out-CoreExpr}
 use Rattle.sc_core.specs.declared.expression.CoreExpr.TheOpen.{CoreExpr-F}
-use Rattle.sc_gen_expr.specs.declared.symbolic.Symbolic.TheVariants.{Plain, Call}
-use Rattle.sc_gen_expr.specs.declared.symbolic.Target.TheVariants as target
-use Rattle.sc_gen_expr.specs.declared.calls.Base.{Base}
-use Rattle.sc_gen_expr.specs.Code.{Code, ra, sp, t0, t1, t2, a0, apply, mv, lw, sw, li}
+use Rattle.sc_gen_code.specs.declared.symbolic.Symbolic.TheVariants.{Plain, Call}
+use Rattle.sc_gen_code.specs.declared.symbolic.Target.TheVariants as target
+use Rattle.sc_gen_code.specs.declared.calls.Base.{Base}
+use Rattle.sc_gen_code.specs.Code.{Code, ra, sp, t0, t1, t2, a0, apply, mv, lw, sw, li}
 
 -- the function that is called by its name
 abbrev pub named_layer : CoreExpr-F CoreExpr → Option Key
@@ -49,26 +49,15 @@ abbrev pub incoming : Base → ℕ → ℕ → Code
 incoming base i zero = []
 incoming base i (suc n) = lw (10 + i) base.register (waiting base i) ∷ incoming base (i + 1) n
 
--- the last of n arguments waits in t1, then it goes above sp, where it is past the eighth, or into its register
-abbrev pub last_waits : ℕ → Code
-last_waits n = if nat_lt 0 n then mv t1 a0 ∷ [] else []
+-- the last of n arguments, which is in a0, goes above sp where it is past the eighth, or into its register
+abbrev pub last_placed : ℕ → Code
+last_placed n =
+    if nat_lt 8 n then sw a0 sp (pos (4 * (n - 1 - 8))) ∷ [] else
+    if nat_lt 1 n then mv (9 + n) a0 ∷ [] else []
 
-abbrev pub last_out : ℕ → Code
-last_out n = if nat_lt 8 n then sw t1 sp (pos (4 * (n - 1 - 8))) ∷ [] else []
-
-abbrev pub last_in : ℕ → Code
-last_in n = if nat_lt 0 n && nat_lt n 9 then mv (9 + n) t1 ∷ [] else []
-
--- Each of n arguments goes where the callee expects it: the middle ones past the eighth, the last one where it is past the eighth, the first
--- eight, and the last one where it is among them.
+-- Each of n arguments goes where the callee expects it: the last one, the middle ones past the eighth, the first eight.
 abbrev pub marshalled : ℕ → ℕ → Code
-marshalled n t =
-    last_waits n
-    ++ (based n t
-    ++ (outgoing (base_of n t) 8 (n - 9)
-    ++ (last_out n
-    ++ (incoming (base_of n t) 0 (min (n - 1) 8)
-    ++ last_in n))))
+marshalled n t = last_placed n ++ (based n t ++ (outgoing (base_of n t) 8 (n - 9) ++ incoming (base_of n t) 0 (min (n - 1) 8)))
 
 -- the bytes of `printf`
 abbrev pub printf_name : List ℕ
@@ -85,6 +74,9 @@ counted key n = if is_printf key then li t2 n else []
 abbrev pub call_direct : Key → ℕ → Code
 call_direct key n = counted key n ++ Call (target.Named key) ∷ Plain (Jalr ra ra (pos 0)) ∷ []
 
--- a call of the function whose address waits in the call's first temporary
-abbrev pub call_through : Base → Code
-call_through base = lw t1 base.register (pos base.low) ∷ Plain (Jalr ra t1 (pos 0)) ∷ []
+-- the address that waits in a call's first temporary goes into t1, and is called
+abbrev pub awaited : Base → Code
+awaited base = lw t1 base.register (pos base.low) ∷ []
+
+abbrev pub call_through : Code
+call_through = Plain (Jalr ra t1 (pos 0)) ∷ []

@@ -1,9 +1,9 @@
 -- Loops over the arguments of a call.
 use Rattle.std.proofs.Common.{◌≡◌, ℕ, suc, ◌+◌, ◌-◌, ◌*◌, ◌<◌, [], ◌∷◌, ◌++◌, sym, ap, ◌∙◌, arith, append_assoc, pos}
-use Rattle.sc_gen_expr.specs.declared.symbolic.Symbolic.{Symbolic}
-use Rattle.sc_gen_expr.specs.declared.calls.Base.{Base}
-use Rattle.sc_gen_expr.specs.Code.{Code, t2, sp, lw, sw}
-use Rattle.sc_gen_expr.specs.Calls.{outgoing, incoming, waiting}
+use Rattle.sc_gen_code.specs.declared.symbolic.Symbolic.{Symbolic}
+use Rattle.sc_gen_code.specs.declared.calls.Base.{Base}
+use Rattle.sc_gen_code.specs.Code.{Code, t2, sp, lw, sw}
+use Rattle.sc_gen_code.specs.Calls.{outgoing, incoming, waiting}
 
 pub outgoing-more : (base : Base) (i m : ℕ) → i < m →
     outgoing base i (m - i) ≡ lw t2 base.register (waiting base i) ∷ sw t2 sp (pos (4 * (i - 8))) ∷ outgoing base (i + 1) (m - (i + 1))
