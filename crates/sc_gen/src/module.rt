@@ -19,7 +19,8 @@ use sc_base::{Bytes, Duplicate, Items, Name, NoMemory, Shared};
 use sc_core::{Core, Fun, StaticObj};
 use sc_elf_write::write_object;
 use sc_gen_body::function;
-use sc_gen_expr::{Symbolic, fitted, plain_style};
+use sc_gen_code::{Symbolic, plain_style};
+use sc_gen_expr::fitted;
 use sc_object::{Object, Section};
 use std::alloc::Global;
 

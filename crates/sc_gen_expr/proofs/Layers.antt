@@ -46,20 +46,20 @@ module _ (st : Style) (slots : List (List Auto)) (m : Mode) (x : CoreExpr) (t : 
   bare_part k a a' c0 c1 layer same e1 = e1 ∙ ap (λ (z : CoreExpr). c0 ++ own k z) same ∙ ap (λ (l : Code). c0 ++ l) (sym layer ∙ shape)
 
   -- an operand, and what is done with it
-  pub one_part : (k : Mode) (a a' : CoreExpr) (end : CoreExpr → Code) (c0 c1 c2 : Code) → layer_code st slots m y x t ≡ part_of st slots a k a t ++ end a → a' ≡ a →
-      c1 ≡ c0 ++ part_of st slots a' k a' t → c2 ≡ c1 ++ end a' → c2 ≡ c0 ++ part_of st slots x m x t
-  one_part k a a' end c0 c1 c2 layer same e1 e2 =
-      two_are c0 (own k a) (end a) c1 c2 (e1 ∙ ap (λ (z : CoreExpr). c0 ++ own k z) same) (e2 ∙ ap (λ (z : CoreExpr). c1 ++ end z) same)
+  pub one_part : (k : Mode) (a a1 a2 : CoreExpr) (end : CoreExpr → Code) (c0 c1 c2 : Code) → layer_code st slots m y x t ≡ part_of st slots a k a t ++ end a → a1 ≡ a → a2 ≡ a →
+      c1 ≡ c0 ++ part_of st slots a1 k a1 t → c2 ≡ c1 ++ end a2 → c2 ≡ c0 ++ part_of st slots x m x t
+  one_part k a a1 a2 end c0 c1 c2 layer as1 as2 e1 e2 =
+      two_are c0 (own k a) (end a) c1 c2 (e1 ∙ ap (λ (z : CoreExpr). c0 ++ own k z) as1) (e2 ∙ ap (λ (z : CoreExpr). c1 ++ end z) as2)
       ∙ ap (λ (l : Code). c0 ++ l) (sym layer ∙ shape)
 
-  -- an operand of which something is wanted, or nothing
-  pub wanted_part : (a a' : CoreExpr) (w : CoreExpr → Option Want) (w' : Option Want) (end : CoreExpr → Code) (c0 c1 c2 : Code) →
-      layer_code st slots m y x t ≡ wanted (part_of st slots a) (w a) a t ++ end a → a' ≡ a → w' ≡ w a' →
-      c1 ≡ c0 ++ wanted (part_of st slots a') w' a' t → c2 ≡ c1 ++ end a' → c2 ≡ c0 ++ part_of st slots x m x t
-  wanted_part a a' w w' end c0 c1 c2 layer same want e1 e2 =
+  -- an operand of which something is wanted, or nothing; it is taken three times
+  pub wanted_part : (a a1 a2 a3 : CoreExpr) (w : CoreExpr → Option Want) (w' : Option Want) (end : CoreExpr → Code) (c0 c1 c2 : Code) →
+      layer_code st slots m y x t ≡ wanted (part_of st slots a) (w a) a t ++ end a → a1 ≡ a → a2 ≡ a → a3 ≡ a → w' ≡ w a1 →
+      c1 ≡ c0 ++ wanted (part_of st slots a2) w' a2 t → c2 ≡ c1 ++ end a3 → c2 ≡ c0 ++ part_of st slots x m x t
+  wanted_part a a1 a2 a3 w w' end c0 c1 c2 layer as1 as2 as3 want e1 e2 =
       two_are c0 (wanted (part_of st slots a) (w a) a t) (end a) c1 c2
-      (e1 ∙ ap (λ (z : Option Want). c0 ++ wanted (part_of st slots a') z a' t) want ∙ ap (λ (z : CoreExpr). c0 ++ wanted (part_of st slots z) (w z) z t) same)
-      (e2 ∙ ap (λ (z : CoreExpr). c1 ++ end z) same)
+      (e1 ∙ ap (λ (z : Option Want). c0 ++ wanted (part_of st slots a2) z a2 t) (want ∙ ap w as1) ∙ ap (λ (z : CoreExpr). c0 ++ wanted (part_of st slots z) (w a) z t) as2)
+      (e2 ∙ ap (λ (z : CoreExpr). c1 ++ end z) as3)
       ∙ ap (λ (l : Code). c0 ++ l) (sym layer ∙ shape)
 
   -- one expression and another
@@ -69,17 +69,18 @@ module _ (st : Style) (slots : List (List Auto)) (m : Mode) (x : CoreExpr) (t : 
       two_are c0 (own j a) (own k b) c1 c2 (e1 ∙ ap (λ (z : CoreExpr). c0 ++ own j z) same) (e2 ∙ ap (λ (z : CoreExpr). c1 ++ own k z) same')
       ∙ ap (λ (l : Code). c0 ++ l) (sym layer ∙ shape)
 
-  -- two operands, and what is done with them
-  pub pair_parts : (a a' b b' : CoreExpr) (how : CoreExpr → CoreExpr → Operands) (how' : Operands) (end : Operands → CoreExpr → CoreExpr → Code) (c0 c1 c2 c3 : Code) →
-      layer_code st slots m y x t ≡ pair st slots (part_of st slots a) (part_of st slots b) a b t (how a b) (λ h. end h a b) → a' ≡ a → b' ≡ b → how' ≡ how a' b' →
-      c1 ≡ c0 ++ left_code st slots how' (part_of st slots a') a' t → c2 ≡ c1 ++ right_code st slots how' (part_of st slots b') b' t → c3 ≡ c2 ++ end how' a' b' →
+  -- two operands, and what is done with them; each is taken three times
+  pub pair_parts : (a a1 a2 a3 b b1 b2 b3 : CoreExpr) (how : CoreExpr → CoreExpr → Operands) (how' : Operands) (end : Operands → CoreExpr → CoreExpr → Code) (c0 c1 c2 c3 : Code) →
+      layer_code st slots m y x t ≡ pair st slots (part_of st slots a) (part_of st slots b) a b t (how a b) (λ h. end h a b) →
+      a1 ≡ a → a2 ≡ a → a3 ≡ a → b1 ≡ b → b2 ≡ b → b3 ≡ b → how' ≡ how a1 b1 →
+      c1 ≡ c0 ++ left_code st slots how' (part_of st slots a2) a2 t → c2 ≡ c1 ++ right_code st slots how' (part_of st slots b2) b2 t → c3 ≡ c2 ++ end how' a3 b3 →
       c3 ≡ c0 ++ part_of st slots x m x t
-  pair_parts a a' b b' how how' end c0 c1 c2 c3 layer same same' known e1 e2 e3 =
-      let whole = known ∙ ap (λ (z : CoreExpr). how z b') same ∙ ap (how a) same' in
+  pair_parts a a1 a2 a3 b b1 b2 b3 how how' end c0 c1 c2 c3 layer as1 as2 as3 bs1 bs2 bs3 known e1 e2 e3 =
+      let whole = known ∙ ap (λ (z : CoreExpr). how z b1) as1 ∙ ap (how a) bs1 in
       three_are c0 (left_code st slots (how a b) (part_of st slots a) a t) (right_code st slots (how a b) (part_of st slots b) b t) (end (how a b) a b) c1 c2 c3
-      (e1 ∙ ap (λ (h : Operands). c0 ++ left_code st slots h (part_of st slots a') a' t) whole ∙ ap (λ (z : CoreExpr). c0 ++ left_code st slots (how a b) (part_of st slots z) z t) same)
-      (e2 ∙ ap (λ (h : Operands). c1 ++ right_code st slots h (part_of st slots b') b' t) whole ∙ ap (λ (z : CoreExpr). c1 ++ right_code st slots (how a b) (part_of st slots z) z t) same')
-      (e3 ∙ ap (λ (h : Operands). c2 ++ end h a' b') whole ∙ ap (λ (z : CoreExpr). c2 ++ end (how a b) z b') same ∙ ap (λ (z : CoreExpr). c2 ++ end (how a b) a z) same')
+      (e1 ∙ ap (λ (h : Operands). c0 ++ left_code st slots h (part_of st slots a2) a2 t) whole ∙ ap (λ (z : CoreExpr). c0 ++ left_code st slots (how a b) (part_of st slots z) z t) as2)
+      (e2 ∙ ap (λ (h : Operands). c1 ++ right_code st slots h (part_of st slots b2) b2 t) whole ∙ ap (λ (z : CoreExpr). c1 ++ right_code st slots (how a b) (part_of st slots z) z t) bs2)
+      (e3 ∙ ap (λ (h : Operands). c2 ++ end h a3 b3) whole ∙ ap (λ (z : CoreExpr). c2 ++ end (how a b) z b3) as3 ∙ ap (λ (z : CoreExpr). c2 ++ end (how a b) a z) bs3)
       ∙ ap (λ (l : Code). c0 ++ l) (sym layer ∙ shape)
 
   -- && and ||

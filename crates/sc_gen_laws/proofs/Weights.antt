@@ -33,7 +33,7 @@ use Rattle.sc_gen_expr.specs.Places as places
 use Rattle.sc_gen_expr.specs.Plans as plans
 use Rattle.sc_gen_expr.specs.Plans.{Mode, As, Skips, Part, word, foot, unless, fetched_as, is_fetched, left_by, right_by, left_code, right_code, standing}
 use Rattle.sc_gen_expr.specs.Templates as templates
-use Rattle.sc_gen_expr.specs.Expressions.{place, wanted, pair, offset, logical, choice, joined, further_arguments, arguments, callee, called, part_of, expression_layer, word_layer, foot_layer, condition_layer, plain_test, test_unary, test_layer}
+use Rattle.sc_gen_expr.specs.Expressions.{place, wanted, pair, offset, logical, choice, joined, further_arguments, arguments, callee, called, part_of, expression_layer, word_layer, foot_layer, condition_layer, condition_of, plain_test, test_unary, test_layer}
 use Rattle.sc_gen_laws.specs.Nodes as nodes
 use Rattle.sc_gen_laws.specs.Counts as counts
 use Rattle.sc_gen_laws.proofs.Lengths.{if_short, app, cons, longer, same, li-short, near-short, push-short, pop-short, copied-short, convert-short, reconvert-short, moved-short, difference-short, further-short, operate-short, unary-short, next_value-short, stepped-short, changed-short, advanced_by-short, marshalled-short, call_direct-short, most, framed-short, reloaded-short}
@@ -289,9 +289,10 @@ abbrev pub spare : Mode → ℕ
 spare (As w) = 22
 spare (Skips sense) = 21
 
--- An expression has a node, and its words are fewer by some than its bound.
+-- An expression has a node, and its words are fewer by some than its bound; so are the operands of a condition.
 abbrev pub Fits : Style → List (List Auto) → CoreExpr → Type 0
-Fits st slots e = (29 ≤ bound e) × ((m : Mode) (at : Spot) → length (part_of st slots e m e at) + spare m ≤ bound e)
+Fits st slots e =
+    (29 ≤ bound e) × (((m : Mode) (at : Spot) → length (part_of st slots e m e at) + spare m ≤ bound e) × ((at : Spot) → length (condition_of st slots e at) + 22 ≤ bound e))
 
 module _ (st : Style) (slots : List (List Auto)) (style : length st.kept ≤ 4) where
   abbrev Known : Type 0
@@ -307,7 +308,7 @@ module _ (st : Style) (slots : List (List Auto)) (style : length st.kept ≤ 4) 
   own e = part_of st slots e.0
 
   word_fits : (e : Known) (w : Want) (at : Spot) → length (own e (As w) e.0 at) + 22 ≤ bound e.0
-  word_fits e w at = e.1.1 (As w) at
+  word_fits e w at = e.1.1.0 (As w) at
 
   -- operands
   first_fits : (e : Known) (w : Want) (o : Option ℕ) (at : Spot) → length (unless o (own e (As w) e.0 at)) + 17 ≤ bound e.0
@@ -361,7 +362,7 @@ module _ (st : Style) (slots : List (List Auto)) (style : length st.kept ≤ 4) 
   single_fits : (m : Mode) (a : Known) (end : Code) (k : ℕ) (at : Spot) → spare m ≡ 22 → length end ≤ k → k ≤ 29 →
       length (own a m a.0 at ++ end) + 22 ≤ 29 * (1 + nodes.expression_nodes a.0) + 3 * counts.conversions a.0
   single_fits m a end k at s h l =
-      let f = a.1.1 m at in
+      let f = a.1.1.0 m at in
       let c = app (own a m a.0 at) end (length (own a m a.0 at)) k (same (length (own a m a.0 at))) h in
       omega (arith, f, c, l, s)
 
@@ -419,7 +420,7 @@ module _ (st : Style) (slots : List (List Auto)) (style : length st.kept ≤ 4) 
       let y = own b word b.0 at in
       let z = own d word d.0 at in
       let end = over (length z) ∷ z in
-      let f = a.1.1 (Skips true) at in
+      let f = a.1.1.0 (Skips true) at in
       let g = word_fits b Word at in
       let k = word_fits d Word at in
       let h = app x (over (length y + 1) ∷ (y ++ end)) (length x) (1 + (length y + (1 + length z))) (same (length x))
@@ -432,8 +433,8 @@ module _ (st : Style) (slots : List (List Auto)) (style : length st.kept ≤ 4) 
   joined_fits more s t a b at =
       let x = own a (Skips s) a.0 at in
       let y = own b (Skips t) b.0 at in
-      let f = a.1.1 (Skips s) at in
-      let g = b.1.1 (Skips t) at in
+      let f = a.1.1.0 (Skips s) at in
+      let g = b.1.1.0 (Skips t) at in
       let w = over (length y + (if more then 1 else 0)) in
       let h = app x (w ∷ y) (length x) (1 + length y) (same (length x)) (cons y (length y) (same (length y))) in
       omega (arith, f, g, h)
@@ -649,41 +650,42 @@ module _ (st : Style) (slots : List (List Auto)) (style : length st.kept ≤ 4) 
   node_has : (na ca : ℕ) → 29 ≤ 29 * (1 + na) + 3 * ca
   node_has na ca = omega arith
 
+  -- the operands of a condition, by the code of its value
+  conditioned : (y : CoreExpr-F Known) (e : CoreExpr) (value : Code) (at : Spot) → 29 ≤ limit (plain y) → length value + 22 ≤ limit (plain y) →
+      length (condition_layer st slots value (Parts (plain y)) (plain y) e at) + 22 ≤ limit (plain y)
+  conditioned (CoreExpr-F.Binary l t o a b) e value at n h = compared_fits a b (operators.is_comparison o) (unless (places.stands st slots e) value) at (value_fits e value _ n h)
+  conditioned (CoreExpr-F.Compare l t o a b) e value at n h = compared_fits a b (operators.is_comparison o) (unless (places.stands st slots e) value) at (value_fits e value _ n h)
+  conditioned (CoreExpr-F.Number l t n) e value at n h = value_fits e value _ n h
+  conditioned (CoreExpr-F.Literal l t i) e value at n h = value_fits e value _ n h
+  conditioned (CoreExpr-F.Automatic l t b i) e value at n h = value_fits e value _ n h
+  conditioned (CoreExpr-F.Static l t key) e value at n h = value_fits e value _ n h
+  conditioned (CoreExpr-F.Function l t key) e value at n h = value_fits e value _ n h
+  conditioned (CoreExpr-F.Index l t n a b) e value at n h = value_fits e value _ n h
+  conditioned (CoreExpr-F.Call l t f es) e value at n h = value_fits e value _ n h
+  conditioned (CoreExpr-F.Member l t n a) e value at n h = value_fits e value _ n h
+  conditioned (CoreExpr-F.Arrow l t n a) e value at n h = value_fits e value _ n h
+  conditioned (CoreExpr-F.Step l t s n a) e value at n h = value_fits e value _ n h
+  conditioned (CoreExpr-F.Address l t a) e value at n h = value_fits e value _ n h
+  conditioned (CoreExpr-F.Indirection l t a) e value at n h = value_fits e value _ n h
+  conditioned (CoreExpr-F.Unary l t o a) e value at n h = value_fits e value _ n h
+  conditioned (CoreExpr-F.Cast l t a) e value at n h = value_fits e value _ n h
+  conditioned (CoreExpr-F.Offset l t o n a b) e value at n h = value_fits e value _ n h
+  conditioned (CoreExpr-F.Difference l t n a b) e value at n h = value_fits e value _ n h
+  conditioned (CoreExpr-F.And l t a b) e value at n h = value_fits e value _ n h
+  conditioned (CoreExpr-F.Or l t a b) e value at n h = value_fits e value _ n h
+  conditioned (CoreExpr-F.Conditional l t a b d) e value at n h = value_fits e value _ n h
+  conditioned (CoreExpr-F.Assign l t a b) e value at n h = value_fits e value _ n h
+  conditioned (CoreExpr-F.AssignStructure l t n a b) e value at n h = value_fits e value _ n h
+  conditioned (CoreExpr-F.Compound l t o k a b) e value at n h = value_fits e value _ n h
+  conditioned (CoreExpr-F.CompoundOffset l t o n a b) e value at n h = value_fits e value _ n h
+  conditioned (CoreExpr-F.Comma l t a b) e value at n h = value_fits e value _ n h
+  conditioned (CoreExpr-F.Convert l t a) e value at n h = value_fits e value _ n h
+
   tested : (y : CoreExpr-F Known) (e : CoreExpr) (at : Spot) (sense : Bool) → 29 ≤ limit (plain y) →
       length (plain_test st slots (Parts (plain y)) (plain y) e at sense) + 21 ≤ limit (plain y)
-  tested (CoreExpr-F.Binary l t o a b) e at sense n =
-      branch_fits _ (templates.branched (templates.comparison st slots e at) sense (pos 8)) (limit (plain (CoreExpr-F.Binary l t o a b)))
-      (compared_fits a b (operators.is_comparison o) (unless (places.stands st slots e) (word_layer st slots (Parts (plain (CoreExpr-F.Binary l t o a b))) (plain (CoreExpr-F.Binary l t o a b)) e at)) at
-      (value_fits e _ _ n (weighed (CoreExpr-F.Binary l t o a b) e at)))
-  tested (CoreExpr-F.Compare l t o a b) e at sense n =
-      branch_fits _ (templates.branched (templates.comparison st slots e at) sense (pos 8)) (limit (plain (CoreExpr-F.Compare l t o a b)))
-      (compared_fits a b (operators.is_comparison o) (unless (places.stands st slots e) (word_layer st slots (Parts (plain (CoreExpr-F.Compare l t o a b))) (plain (CoreExpr-F.Compare l t o a b)) e at)) at
-      (value_fits e _ _ n (weighed (CoreExpr-F.Compare l t o a b) e at)))
-  tested (CoreExpr-F.Number l t n) e at sense n = branch_fits _ (templates.branched (templates.comparison st slots e at) sense (pos 8)) _ (value_fits e _ _ n (weighed (CoreExpr-F.Number l t n) e at))
-  tested (CoreExpr-F.Literal l t i) e at sense n = branch_fits _ (templates.branched (templates.comparison st slots e at) sense (pos 8)) _ (value_fits e _ _ n (weighed (CoreExpr-F.Literal l t i) e at))
-  tested (CoreExpr-F.Automatic l t b i) e at sense n = branch_fits _ (templates.branched (templates.comparison st slots e at) sense (pos 8)) _ (value_fits e _ _ n (weighed (CoreExpr-F.Automatic l t b i) e at))
-  tested (CoreExpr-F.Static l t key) e at sense n = branch_fits _ (templates.branched (templates.comparison st slots e at) sense (pos 8)) _ (value_fits e _ _ n (weighed (CoreExpr-F.Static l t key) e at))
-  tested (CoreExpr-F.Function l t key) e at sense n = branch_fits _ (templates.branched (templates.comparison st slots e at) sense (pos 8)) _ (value_fits e _ _ n (weighed (CoreExpr-F.Function l t key) e at))
-  tested (CoreExpr-F.Index l t n a b) e at sense n = branch_fits _ (templates.branched (templates.comparison st slots e at) sense (pos 8)) _ (value_fits e _ _ n (weighed (CoreExpr-F.Index l t n a b) e at))
-  tested (CoreExpr-F.Call l t f es) e at sense n = branch_fits _ (templates.branched (templates.comparison st slots e at) sense (pos 8)) _ (value_fits e _ _ n (weighed (CoreExpr-F.Call l t f es) e at))
-  tested (CoreExpr-F.Member l t n a) e at sense n = branch_fits _ (templates.branched (templates.comparison st slots e at) sense (pos 8)) _ (value_fits e _ _ n (weighed (CoreExpr-F.Member l t n a) e at))
-  tested (CoreExpr-F.Arrow l t n a) e at sense n = branch_fits _ (templates.branched (templates.comparison st slots e at) sense (pos 8)) _ (value_fits e _ _ n (weighed (CoreExpr-F.Arrow l t n a) e at))
-  tested (CoreExpr-F.Step l t s n a) e at sense n = branch_fits _ (templates.branched (templates.comparison st slots e at) sense (pos 8)) _ (value_fits e _ _ n (weighed (CoreExpr-F.Step l t s n a) e at))
-  tested (CoreExpr-F.Address l t a) e at sense n = branch_fits _ (templates.branched (templates.comparison st slots e at) sense (pos 8)) _ (value_fits e _ _ n (weighed (CoreExpr-F.Address l t a) e at))
-  tested (CoreExpr-F.Indirection l t a) e at sense n = branch_fits _ (templates.branched (templates.comparison st slots e at) sense (pos 8)) _ (value_fits e _ _ n (weighed (CoreExpr-F.Indirection l t a) e at))
-  tested (CoreExpr-F.Unary l t o a) e at sense n = branch_fits _ (templates.branched (templates.comparison st slots e at) sense (pos 8)) _ (value_fits e _ _ n (weighed (CoreExpr-F.Unary l t o a) e at))
-  tested (CoreExpr-F.Cast l t a) e at sense n = branch_fits _ (templates.branched (templates.comparison st slots e at) sense (pos 8)) _ (value_fits e _ _ n (weighed (CoreExpr-F.Cast l t a) e at))
-  tested (CoreExpr-F.Offset l t o n a b) e at sense n = branch_fits _ (templates.branched (templates.comparison st slots e at) sense (pos 8)) _ (value_fits e _ _ n (weighed (CoreExpr-F.Offset l t o n a b) e at))
-  tested (CoreExpr-F.Difference l t n a b) e at sense n = branch_fits _ (templates.branched (templates.comparison st slots e at) sense (pos 8)) _ (value_fits e _ _ n (weighed (CoreExpr-F.Difference l t n a b) e at))
-  tested (CoreExpr-F.And l t a b) e at sense n = branch_fits _ (templates.branched (templates.comparison st slots e at) sense (pos 8)) _ (value_fits e _ _ n (weighed (CoreExpr-F.And l t a b) e at))
-  tested (CoreExpr-F.Or l t a b) e at sense n = branch_fits _ (templates.branched (templates.comparison st slots e at) sense (pos 8)) _ (value_fits e _ _ n (weighed (CoreExpr-F.Or l t a b) e at))
-  tested (CoreExpr-F.Conditional l t a b d) e at sense n = branch_fits _ (templates.branched (templates.comparison st slots e at) sense (pos 8)) _ (value_fits e _ _ n (weighed (CoreExpr-F.Conditional l t a b d) e at))
-  tested (CoreExpr-F.Assign l t a b) e at sense n = branch_fits _ (templates.branched (templates.comparison st slots e at) sense (pos 8)) _ (value_fits e _ _ n (weighed (CoreExpr-F.Assign l t a b) e at))
-  tested (CoreExpr-F.AssignStructure l t n a b) e at sense n = branch_fits _ (templates.branched (templates.comparison st slots e at) sense (pos 8)) _ (value_fits e _ _ n (weighed (CoreExpr-F.AssignStructure l t n a b) e at))
-  tested (CoreExpr-F.Compound l t o k a b) e at sense n = branch_fits _ (templates.branched (templates.comparison st slots e at) sense (pos 8)) _ (value_fits e _ _ n (weighed (CoreExpr-F.Compound l t o k a b) e at))
-  tested (CoreExpr-F.CompoundOffset l t o n a b) e at sense n = branch_fits _ (templates.branched (templates.comparison st slots e at) sense (pos 8)) _ (value_fits e _ _ n (weighed (CoreExpr-F.CompoundOffset l t o n a b) e at))
-  tested (CoreExpr-F.Comma l t a b) e at sense n = branch_fits _ (templates.branched (templates.comparison st slots e at) sense (pos 8)) _ (value_fits e _ _ n (weighed (CoreExpr-F.Comma l t a b) e at))
-  tested (CoreExpr-F.Convert l t a) e at sense n = branch_fits _ (templates.branched (templates.comparison st slots e at) sense (pos 8)) _ (value_fits e _ _ n (weighed (CoreExpr-F.Convert l t a) e at))
+  tested y e at sense n =
+      branch_fits (condition_layer st slots (word_layer st slots (Parts (plain y)) (plain y) e at) (Parts (plain y)) (plain y) e at) (templates.branched (templates.comparison st slots e at) sense (pos 8)) (limit (plain y))
+      (conditioned y e (word_layer st slots (Parts (plain y)) (plain y) e at) at n (weighed y e at))
 
   nots : (o : UnaryOperator) (inner plain : Code) (n : ℕ) → length inner + 21 ≤ n → length plain + 21 ≤ n → length (test_unary o inner plain) + 21 ≤ n
   nots unary.Not inner plain n h k = h
@@ -694,7 +696,7 @@ module _ (st : Style) (slots : List (List Auto)) (style : length st.kept ≤ 4) 
   told : (y : CoreExpr-F Known) (e : CoreExpr) (at : Spot) (sense : Bool) → 29 ≤ limit (plain y) →
       length (test_layer st slots (Parts (plain y)) (plain y) e at sense) + 21 ≤ limit (plain y)
   told (CoreExpr-F.Unary l t o a) e at sense n =
-      nots o (own a (Skips (not sense)) a.0 at) _ (limit (plain (CoreExpr-F.Unary l t o a))) (let h = a.1.1 (Skips (not sense)) at in omega (arith, h)) (tested (CoreExpr-F.Unary l t o a) e at sense n)
+      nots o (own a (Skips (not sense)) a.0 at) _ (limit (plain (CoreExpr-F.Unary l t o a))) (let h = a.1.1.0 (Skips (not sense)) at in omega (arith, h)) (tested (CoreExpr-F.Unary l t o a) e at sense n)
   told (CoreExpr-F.And l t a b) e at sense n = joined_fits (not sense) true sense a b at
   told (CoreExpr-F.Or l t a b) e at sense n = joined_fits sense false sense a b at
   told (CoreExpr-F.Number l t n) e at sense n = tested (CoreExpr-F.Number l t n) e at sense n
@@ -771,14 +773,32 @@ module _ (st : Style) (slots : List (List Auto)) (style : length st.kept ≤ 4) 
       let c = fold-roll-CoreExpr ℕ counts.conversions_layer x in
       omega (arith, n, c)
 
+  -- a condition of an expression that is rolled up
+  unrolled_condition : (x : CoreExpr-F CoreExpr) (at : Spot) →
+      condition_of st slots (roll-CoreExpr x) at ≡ condition_layer st slots (part_of st slots (roll-CoreExpr x) word (roll-CoreExpr x) at) (Parts x) x (roll-CoreExpr x) at
+  unrolled_condition x at =
+      ap (λ (z : CoreExpr-F CoreExpr). condition_layer st slots (part_of st slots (roll-CoreExpr x) word (roll-CoreExpr x) at) (Parts z) z (roll-CoreExpr x) at) (out-roll-CoreExpr x)
+
+  abbrev Operand : CoreExpr-F CoreExpr → CoreExpr → Code → Spot → Type 0
+  Operand x e value at = length value + 22 ≤ limit x → length (condition_layer st slots value (Parts x) x e at) + 22 ≤ limit x
+
   -- the code of an expression has at most 29 words a node and 3 a conversion
   pub expression_fits : (e : CoreExpr) → Fits st slots e
   expression_fits = ind-CoreExpr (Fits st slots)
       (λ x y is.
-      let b = limit_is x in (
+      let b = limit_is x in
+      let all : (m : Mode) (at : Spot) → length (part_of st slots (roll-CoreExpr x) m (roll-CoreExpr x) at) + spare m ≤ bound (roll-CoreExpr x) = λ m at.
+      (let u = ap length (unrolled x m at) in
+      let h = subst (λ (z : CoreExpr-F CoreExpr). Layer z (roll-CoreExpr x) m at) is (layered y (roll-CoreExpr x) m at) in
+      omega (arith, u, h, b)) in (
         (let n = subst (λ (z : CoreExpr-F CoreExpr). 29 ≤ limit z) is (noded y) in omega (arith, n, b)),
-        (λ m at.
-          let u = ap length (unrolled x m at) in
-          let h = subst (λ (z : CoreExpr-F CoreExpr). Layer z (roll-CoreExpr x) m at) is (layered y (roll-CoreExpr x) m at) in
-          omega (arith, u, h, b)),
+        (
+          all,
+          (λ at.
+            let value = part_of st slots (roll-CoreExpr x) word (roll-CoreExpr x) at in
+            let v = all word at in
+            let u = ap length (unrolled_condition x at) in
+            let h = subst (λ (z : CoreExpr-F CoreExpr). Operand z (roll-CoreExpr x) value at) is (conditioned y (roll-CoreExpr x) value at (noded y)) (omega (arith, v, b)) in
+            omega (arith, u, h, b)),
+        ),
       ))
