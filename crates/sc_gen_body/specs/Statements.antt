@@ -13,7 +13,7 @@ use Rattle.sc_core.specs.declared.statement.SwitchLabel.{SwitchLabel}
 use Rattle.sc_gen_code.specs.declared.symbolic.Symbolic.TheVariants.{Plain}
 use Rattle.sc_gen_code.specs.declared.symbolic.Access.TheVariants as access
 use Rattle.sc_gen_code.specs.Code.{Code, x0, ra, sp, t0, t1, addi, apply, li, near, over, jump, service, block_service}
-use Rattle.sc_gen_expr.specs.Places.{slot_of}
+use Rattle.sc_gen_operand.specs.Places.{slot_of}
 use Rattle.sc_gen_expr.specs.Expressions.{test_code, test_back}
 use Rattle.sc_gen_body.specs.Frames.{Frame, entered_in, value}
 use Rattle.sc_gen_body.specs.declared.jumps.Place.{Place}

@@ -2,7 +2,7 @@
 
 use sc_core::Fun;
 use sc_gen_code::{Spot, Style};
-use sc_gen_expr::Scope;
+use sc_gen_operand::Scope;
 
 /// How a function's code is written and where its objects stand, by block; where its temporaries begin; and how many bytes
 /// its frame has.

@@ -9,10 +9,10 @@ use sc_base::{Items, NoMemory};
 use sc_core::{Auto, Fun};
 use sc_core_needs::most_arguments;
 use sc_gen_code::{
-    A0, Access, Kept, RA, SP, Style, Symbolic, T0, T1, X0, addi, first_spot, li, load_of, near, put,
-    put_one, service,
+    A0, Access, Kept, RA, SP, Style, Symbolic, T0, T1, X0, addi, first_spot, li, load_of, near,
+    put, put_one, service,
 };
-use sc_gen_expr::Scope;
+use sc_gen_operand::Scope;
 use sc_isa::{Instr, RegOp, StoreOp};
 use std::alloc::Global;
 

@@ -7,8 +7,8 @@ use crate::frame::FunctionFrame;
 use sc_base::{Items, NoMemory};
 use sc_core::{AutoInit, CoreExpr};
 use sc_gen_code::{
-    A0, A1, Access, Symbolic, T1, T2, X0, addi, copied, framed, li, machine_type, near, put, put_one,
-    store_of,
+    A0, A1, Access, Symbolic, T1, T2, X0, addi, copied, framed, li, machine_type, near, put,
+    put_one, store_of,
 };
 use sc_gen_expr::expression;
 use sc_isa::{BranchOp, Instr, StoreOp};
@@ -62,7 +62,9 @@ fn value_piece(
     ensures { OnOk result (code.new ≡ code.old ++ spec.value_piece (frame_of frame.now) at of.now e.now) }
 {
     expression(alloc, &frame.scope, e, frame.temporaries, code)?;
-    framed(code, frame.scope.style,
+    framed(
+        code,
+        frame.scope.style,
         Access::Store(store_of(machine_type(of)), A0),
         at,
     )
@@ -95,19 +97,11 @@ fn piece(
 {
     match p {
         AutoInit::Value(n, of, e) => {
-            value_piece(
-                alloc, frame,
-                place_behind(at, *n),
-                of,
-                e.get(),
-                code,
-            )
+            value_piece(alloc, frame, place_behind(at, *n), of, e.get(), code)
         }
         AutoInit::Text(n, bytes) => text_bytes(code, place_behind(at, *n), bytes.as_slice()),
         AutoInit::Zero(n, count) => zero_bytes(code, place_behind(at, *n), *count),
-        AutoInit::Structure(size, e) => {
-            structure_piece(alloc, frame, at, *size, e.get(), code)
-        }
+        AutoInit::Structure(size, e) => { structure_piece(alloc, frame, at, *size, e.get(), code) }
     }
 }
 

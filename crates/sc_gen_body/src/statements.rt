@@ -14,10 +14,11 @@ use crate::jumps::{
 use sc_base::{Items, NoMemory, Shared};
 use sc_core::{CoreExpr, CoreStmt, LabelAt, SwitchLabel};
 use sc_gen_code::{
-    Access, RA, SP, Symbolic, T0, T1, X0, addi, block_service, close, entered, hole, jump, li, near,
-    over, put, put_one, reopen, service,
+    Access, RA, SP, Symbolic, T0, T1, X0, addi, block_service, close, entered, hole, jump, li,
+    near, over, put, put_one, reopen, service,
 };
-use sc_gen_expr::{expression, slot_of, test, test_back};
+use sc_gen_expr::{expression, test, test_back};
+use sc_gen_operand::slot_of;
 use sc_isa::{Instr, LoadOp, RegOp};
 use std::alloc::Global;
 
@@ -151,7 +152,10 @@ pub fn statement(
 {
     match s {
         CoreStmt::Block(_, number, labels, items) => {
-            entering(&mut text.code, entered(frame.scope.style, frame.scope.slots, *number))?;
+            entering(
+                &mut text.code,
+                entered(frame.scope.style, frame.scope.slots, *number),
+            )?;
             block(
                 alloc,
                 frame,
@@ -169,7 +173,13 @@ pub fn statement(
         }
         CoreStmt::Empty(_) => Ok(()),
         CoreStmt::Expression(_, e) => {
-            expression(alloc, &frame.scope, e.get(), frame.temporaries, &mut text.code)
+            expression(
+                alloc,
+                &frame.scope,
+                e.get(),
+                frame.temporaries,
+                &mut text.code,
+            )
         }
         CoreStmt::If(_, e, first, other) => match other {
             None => {
@@ -197,26 +207,10 @@ pub fn statement(
             )
         }
         CoreStmt::While(_, e, body) => {
-            turns(
-                alloc,
-                frame,
-                body.get(),
-                false,
-                Some(e.get()),
-                None,
-                text,
-            )
+            turns(alloc, frame, body.get(), false, Some(e.get()), None, text)
         }
         CoreStmt::Do(_, body, _, e) => {
-            turns(
-                alloc,
-                frame,
-                body.get(),
-                true,
-                Some(e.get()),
-                None,
-                text,
-            )
+            turns(alloc, frame, body.get(), true, Some(e.get()), None, text)
         }
         CoreStmt::For(_, before, e, after, body) => {
             value_or_none(alloc, frame, optional(before), &mut text.code)?;
@@ -355,7 +349,14 @@ fn tested(
 ) -> Result<usize, NoMemory>
     ensures { IfOk result (λ place. spec.Tests (frame_of frame.now) (spec.body_of (frame_of frame.now) first.now) e.now first.now (spec.around text.old exits) text.old text.new place) }
 {
-    test(alloc, &frame.scope, true, e, frame.temporaries, &mut text.code)?;
+    test(
+        alloc,
+        &frame.scope,
+        true,
+        e,
+        frame.temporaries,
+        &mut text.code,
+    )?;
     let place = hole(&mut text.code)?;
     statement(alloc, frame, first, exits, text)?;
     Ok(place)

@@ -293,7 +293,7 @@ addend s n = if is_increment s then n else (0 + (2 ^ 32 - n)) % 2 ^ 32
 abbrev pub next_value : Step → ℕ → CType → ℕ → Code
 next_value s n t rd =
     (if is_short (cast_signed w32 (addend s n)) then addi rd a0 (cast_signed w32 (addend s n)) ∷ []
-     else li t1 (addend s n) ++ apply reg.Add rd a0 t1 ∷ [])
+    else li t1 (addend s n) ++ apply reg.Add rd a0 t1 ∷ [])
     ++ convert t rd
 
 -- it ends in a0 where the operator stands in front

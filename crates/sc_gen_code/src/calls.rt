@@ -176,7 +176,10 @@ pub fn awaited(code: &mut Items<Symbolic>, base: Base) -> Result<(), NoMemory>
     requires { base.low < 2048 }
     ensures { OnOk result (code.new ≡ code.old ++ spec.awaited base) }
 {
-    put_one(code, Instr::Load(LoadOp::Lw, T1, base.register, base.low as i32))
+    put_one(
+        code,
+        Instr::Load(LoadOp::Lw, T1, base.register, base.low as i32),
+    )
 }
 
 /// A call of the function whose address is in `t1`.

@@ -204,11 +204,7 @@ pub fn close_behind(code: &mut Items<Symbolic>, place: usize, more: bool)
         let behind = code.len() - (place + 1);
         code.set(
             place,
-            Symbolic::Plain(over(if more {
-                behind + 1
-            } else {
-                behind
-            })),
+            Symbolic::Plain(over(if more { behind + 1 } else { behind })),
         );
     }
 }

@@ -8,9 +8,7 @@ mod operators;
 mod style;
 mod symbolic;
 
-pub use calls::{
-    Base, awaited, base_of, call_direct, call_through, count_of, direct, marshalled,
-};
+pub use calls::{Base, awaited, base_of, call_direct, call_through, count_of, direct, marshalled};
 pub use code::{
     A0, A1, A2, RA, SP, T0, T1, T2, X0, accessed, addi, at_target, block_service, close,
     close_behind, copied, hole, jump, li, near, open, over, pop, push, put, put_one, reopen,

@@ -209,13 +209,7 @@ fn scale(code: &mut Items<Symbolic>, r: u8, size: u32) -> Result<(), NoMemory>
 }
 
 /// A number of elements is added to a pointer, or taken away: `a0 = x op y`, where `y` is the number.
-pub fn advanced(
-    code: &mut Items<Symbolic>,
-    op: Op,
-    size: u32,
-    x: u8,
-    y: u8,
-) -> Result<(), NoMemory>
+pub fn advanced(code: &mut Items<Symbolic>, op: Op, size: u32, x: u8, y: u8) -> Result<(), NoMemory>
     ensures { OnOk result (code.new ≡ code.old ++ spec.advanced op size x y) }
 {
     if size == 1 {
@@ -412,6 +406,12 @@ fn multiplied(x: u8, n: u32) -> Option<Instr>
     }
 }
 
+fn imm_by_sign(unsigned: bool, plain: ImmOp, signed: ImmOp) -> ImmOp
+    ensures { result ≡ spec.imm_by_sign unsigned plain signed }
+{
+    if unsigned { plain } else { signed }
+}
+
 /// `x op n` as one instruction, where there is one (ANSI 3.3.5 to 3.3.12).
 pub fn immediate(op: Op, unsigned: bool, x: u8, n: u32) -> Option<Instr>
     ensures { option_map Plain result ≡ spec.immediate op unsigned x n }
@@ -422,9 +422,13 @@ pub fn immediate(op: Op, unsigned: bool, x: u8, n: u32) -> Option<Instr>
         Op::And => short(ImmOp::Andi, x, n.cast_signed()),
         Op::Or => short(ImmOp::Ori, x, n.cast_signed()),
         Op::Xor => short(ImmOp::Xori, x, n.cast_signed()),
-        Op::Lt => short(if unsigned { ImmOp::Sltiu } else { ImmOp::Slti }, x, n.cast_signed()),
+        Op::Lt => short(
+            imm_by_sign(unsigned, ImmOp::Sltiu, ImmOp::Slti),
+            x,
+            n.cast_signed(),
+        ),
         Op::Shl => shifted(ImmOp::Slli, x, n),
-        Op::Shr => shifted(if unsigned { ImmOp::Srli } else { ImmOp::Srai }, x, n),
+        Op::Shr => shifted(imm_by_sign(unsigned, ImmOp::Srli, ImmOp::Srai), x, n),
         Op::Mul => multiplied(x, n),
         Op::Eq => {
             if n == 0 {
@@ -476,14 +480,20 @@ pub fn by_bytes(op: Op, x: u8, n: u32) -> Instr
     }
 }
 
+fn branch_by_sign(unsigned: bool, plain: BranchOp, signed: BranchOp) -> BranchOp
+    ensures { result ≡ spec.branch_by_sign unsigned plain signed }
+{
+    if unsigned { plain } else { signed }
+}
+
 fn branch_op(op: Op, unsigned: bool) -> BranchOp
     ensures { result ≡ spec.branch_op op unsigned }
 {
     match op {
-        Op::Lt => if unsigned { BranchOp::Bltu } else { BranchOp::Blt },
-        Op::Gt => if unsigned { BranchOp::Bltu } else { BranchOp::Blt },
-        Op::Le => if unsigned { BranchOp::Bgeu } else { BranchOp::Bge },
-        Op::Ge => if unsigned { BranchOp::Bgeu } else { BranchOp::Bge },
+        Op::Lt => branch_by_sign(unsigned, BranchOp::Bltu, BranchOp::Blt),
+        Op::Gt => branch_by_sign(unsigned, BranchOp::Bltu, BranchOp::Blt),
+        Op::Le => branch_by_sign(unsigned, BranchOp::Bgeu, BranchOp::Bge),
+        Op::Ge => branch_by_sign(unsigned, BranchOp::Bgeu, BranchOp::Bge),
         Op::Eq => BranchOp::Beq,
         _ => BranchOp::Bne,
     }

@@ -84,11 +84,7 @@ pub fn deeper(at: Spot) -> Spot
     ensures { result ≡ spec.deeper at }
 {
     Spot {
-        depth: if at.depth < 5 {
-            at.depth + 1
-        } else {
-            at.depth
-        },
+        depth: if at.depth < 5 { at.depth + 1 } else { at.depth },
         low: at.low,
     }
 }
@@ -108,12 +104,7 @@ pub fn framed(
     }
 }
 
-fn with_copy(
-    code: &mut Items<Symbolic>,
-    what: Access,
-    offset: u32,
-    k: Kept,
-) -> Result<(), NoMemory>
+fn with_copy(code: &mut Items<Symbolic>, what: Access, offset: u32, k: Kept) -> Result<(), NoMemory>
     ensures { OnOk result (code.new ≡ code.old ++ spec.with_copy what offset k) }
 {
     match what {

@@ -13,10 +13,10 @@ use Rattle.sc_gen_code.specs.declared.style.Spot.{Spot}
 use Rattle.sc_gen_code.specs.Code.{Code, x0, a0, apply, over}
 use Rattle.sc_gen_code.specs.Styles.{behind}
 use Rattle.sc_gen_code.specs.Calls.{direct}
-use Rattle.sc_gen_expr.specs.declared.plans.Want.{Want}
-use Rattle.sc_gen_expr.specs.declared.plans.Operands.{Operands}
-use Rattle.sc_gen_expr.specs.Plans.{Mode, Skips, Part, word, left_code, right_code}
-use Rattle.sc_gen_expr.specs.Templates.{computed, transfer}
+use Rattle.sc_gen_operand.specs.declared.plans.Want.{Want}
+use Rattle.sc_gen_operand.specs.declared.plans.Operands.{Operands}
+use Rattle.sc_gen_operand.specs.Plans.{Mode, Skips, Part, word, left_code, right_code}
+use Rattle.sc_gen_operand.specs.Templates.{computed, transfer}
 use Rattle.sc_gen_expr.specs.Expressions.{part_of, expression_code, expression_layer, wanted, pair, logical, choice, joined, arguments, callee, called}
 use Rattle.sc_gen_expr.proofs.Patches.{two_are, three_are, logical_is, choice_is, joined_is}
 

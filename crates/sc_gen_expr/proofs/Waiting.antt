@@ -3,7 +3,7 @@ use Rattle.std.proofs.Common.{ℕ, zero, suc, List}
 use Rattle.sc_core.specs.declared.expression.CoreExpr.{CoreExpr}
 use Rattle.sc_gen_code.specs.declared.style.Spot.{Spot}
 use Rattle.sc_gen_code.specs.Code.{Code}
-use Rattle.sc_gen_expr.specs.Plans.{Part}
+use Rattle.sc_gen_operand.specs.Plans.{Part}
 use Rattle.sc_gen_expr.specs.Expressions.{arguments, further_arguments}
 
 abbrev pub from : ℕ → ℕ → List Part → List CoreExpr → Spot → Code

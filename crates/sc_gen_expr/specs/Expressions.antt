@@ -22,13 +22,13 @@ use Rattle.sc_gen_code.specs.Code.{Code, x0, a0, apply, li, push, tagged, at_tar
 use Rattle.sc_gen_code.specs.Operators.{convert, unary_of, further, is_comparison}
 use Rattle.sc_gen_code.specs.Styles.{behind}
 use Rattle.sc_gen_code.specs.Calls.{direct}
-use Rattle.sc_gen_expr.specs.declared.plans.Want.{Want}
-use Rattle.sc_gen_expr.specs.declared.plans.Want.TheVariants.{Word, Foot}
-use Rattle.sc_gen_expr.specs.declared.plans.Operands.{Operands}
-use Rattle.sc_gen_expr.specs.declared.templates.Compared.{Compared}
-use Rattle.sc_gen_expr.specs.Places.{reach, stands, is_passed}
-use Rattle.sc_gen_expr.specs.Plans.{Mode, As, Skips, Part, word, foot, unless, left_code, right_code, value_operands, binary_operands, offset_operands, assign_operands, structure_operands, compound_operands, moving_operands, step_wants, read_wants}
-use Rattle.sc_gen_expr.specs.Templates.{member_end, operated, offset_end, difference_end, compared_end, assign_end, structure_end, compound_end, moving_end, step_end, read_end, computed, transfer, comparison, branched, is_joined}
+use Rattle.sc_gen_operand.specs.declared.plans.Want.{Want}
+use Rattle.sc_gen_operand.specs.declared.plans.Want.TheVariants.{Word, Foot}
+use Rattle.sc_gen_operand.specs.declared.plans.Operands.{Operands}
+use Rattle.sc_gen_operand.specs.declared.templates.Compared.{Compared}
+use Rattle.sc_gen_operand.specs.Places.{reach, stands, is_passed}
+use Rattle.sc_gen_operand.specs.Plans.{Mode, As, Skips, Part, word, foot, unless, left_code, right_code, value_operands, binary_operands, offset_operands, assign_operands, structure_operands, compound_operands, moving_operands, step_wants, read_wants}
+use Rattle.sc_gen_operand.specs.Templates.{member_end, operated, offset_end, difference_end, compared_end, assign_end, structure_end, compound_end, moving_end, step_end, read_end, computed, transfer, comparison, branched, is_joined}
 
 -- the word of a place without code of its own
 abbrev pub place : Style → List (List Auto) → CoreExpr → Code

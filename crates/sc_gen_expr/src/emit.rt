@@ -6,12 +6,12 @@ ghost use Rattle.sc_gen_code.specs.Styles.{first_spot};
 ghost use Rattle.sc_gen_expr.specs.Words as spec;
 
 use crate::expressions::expression;
-use crate::places::Scope;
 use crate::words::symbolic_word;
 use indexmap::IndexSet;
 use sc_base::{Duplicate, Items, NoMemory};
 use sc_core::CoreExpr;
 use sc_gen_code::{Access, Symbolic, Target, first_spot};
+use sc_gen_operand::Scope;
 use sc_object::Reloc;
 use std::alloc::Global;
 use std::marker::Model;
@@ -165,12 +165,7 @@ pub fn write(alloc: Global, code: &[Symbolic], at: &mut Emit) -> Result<(), NoMe
 }
 
 /// The code of an expression of a function whose objects stand in these slots.
-pub fn gen_expr(
-    alloc: Global,
-    scope: &Scope,
-    e: &CoreExpr,
-    at: &mut Emit,
-) -> Result<(), NoMemory>
+pub fn gen_expr(alloc: Global, scope: &Scope, e: &CoreExpr, at: &mut Emit) -> Result<(), NoMemory>
     ensures { OnOk result (emitted.Appends (expression_code scope.now.style.now scope.now.slots.now e.now (first_spot at.old.temporaries)) at.old at.new) }
 {
     let mut code = Items::new(alloc);

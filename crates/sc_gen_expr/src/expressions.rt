@@ -2,34 +2,26 @@
 ghost use Rattle.std.specs.Prelude.{◌≡◌, ◌++◌, [], ◌∷◌, length, map, OnOk};
 ghost use Rattle.sc_gen_code.specs.Calls.{direct};
 ghost use Rattle.sc_gen_code.specs.Code as words;
-ghost use Rattle.sc_gen_expr.specs.Plans as plans;
+ghost use Rattle.sc_gen_operand.specs.Plans as plans;
 ghost use Rattle.sc_gen_expr.specs.Expressions as spec;
 
-use crate::places::{Scope, is_passed, reach};
-use crate::plans::{
-    Operands, Plan, Want, assign_operands, binary_operands, compound_operands, fetched_as,
-    is_fetched, late, moving_operands, offset_operands, read_wants, standing, step_wants,
-    structure_operands, value_operands,
-};
-use crate::templates::{
-    Compared, assign_end, compared_end, comparison, compound_end, computed, difference_end,
-    end_logical, is_joined, member_end, moving_end, offset_end, operated, read_end, step_end,
-    structure_end, transfer,
-};
 use sc_base::{Duplicate, Items, NoMemory, Op, Shared};
 use sc_core::{CoreExpr, UnaryOperator};
 use sc_gen_code::{
     A0, A1, Access, Spot, Symbolic, Target, addi, at_target, behind, close, close_behind, convert,
-    deeper, direct, further, hole, is_comparison, jump, li, open, pop, push, put_one, reopen, skip_if,
-    skip_unless, tagged, unary,
+    deeper, direct, further, hole, is_comparison, jump, li, open, pop, push, put_one, reopen,
+    skip_if, skip_unless, tagged, unary,
+};
+use sc_gen_operand::{
+    Compared, Operands, Plan, Scope, Want, assign_end, assign_operands, binary_operands,
+    compared_end, comparison, compound_end, compound_operands, computed, difference_end,
+    end_logical, fetched_as, is_fetched, is_joined, is_passed, late, member_end, moving_end,
+    moving_operands, offset_end, offset_operands, operated, reach, read_end, read_wants, standing,
+    step_end, step_wants, structure_end, structure_operands, transfer, value_operands,
 };
 use std::alloc::Global;
 
-fn address(
-    alloc: Global,
-    code: &mut Items<Symbolic>,
-    target: Target,
-) -> Result<(), NoMemory>
+fn address(alloc: Global, code: &mut Items<Symbolic>, target: Target) -> Result<(), NoMemory>
     ensures { OnOk result (code.new ≡ code.old ++ words.address target) }
 {
     at_target(alloc, code, Access::Address(A0), target)?;
@@ -69,7 +61,16 @@ pub fn expression(
             let how = offset_operands(scope.slots, Want::Word, *size, a.get(), b.get(), t);
             left(alloc, scope, how, a.get(), t, code)?;
             right(alloc, scope, how, b.get(), t, code)?;
-            offset_end(scope, how, Want::Word, Op::Add, *size, a.get(), b.get(), code)
+            offset_end(
+                scope,
+                how,
+                Want::Word,
+                Op::Add,
+                *size,
+                a.get(),
+                b.get(),
+                code,
+            )
         }
         CoreExpr::Call(_, _, function, args) => {
             callee(alloc, scope, function.get(), t, code)?;
@@ -86,7 +87,14 @@ pub fn expression(
             further(code, *n)
         }
         CoreExpr::Step(_, _, step, n, a) => {
-            wanted(alloc, scope, step_wants(scope.slots, a.get()), a.get(), t, code)?;
+            wanted(
+                alloc,
+                scope,
+                step_wants(scope.slots, a.get()),
+                a.get(),
+                t,
+                code,
+            )?;
             step_end(alloc, scope, *step, *n, a.get(), code)
         }
         CoreExpr::Address(_, _, a) => expression(alloc, scope, a.get(), t, code),
@@ -173,7 +181,14 @@ pub fn expression(
             expression(alloc, scope, b.get(), t, code)
         }
         CoreExpr::Convert(_, to, a) => {
-            wanted(alloc, scope, read_wants(scope.slots, a.get()), a.get(), t, code)?;
+            wanted(
+                alloc,
+                scope,
+                read_wants(scope.slots, a.get()),
+                a.get(),
+                t,
+                code,
+            )?;
             read_end(alloc, scope, a.get(), to, code)
         }
     }
@@ -210,7 +225,16 @@ fn foot(
             let how = offset_operands(scope.slots, Want::Foot, *size, a.get(), b.get(), t);
             left(alloc, scope, how, a.get(), t, code)?;
             right(alloc, scope, how, b.get(), t, code)?;
-            offset_end(scope, how, Want::Foot, Op::Add, *size, a.get(), b.get(), code)
+            offset_end(
+                scope,
+                how,
+                Want::Foot,
+                Op::Add,
+                *size,
+                a.get(),
+                b.get(),
+                code,
+            )
         }
         CoreExpr::Convert(_, to, a) => {
             if is_passed(a.get(), to) {

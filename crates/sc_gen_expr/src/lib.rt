@@ -3,12 +3,8 @@
 
 mod emit;
 mod expressions;
-mod places;
-mod plans;
-mod templates;
 mod words;
 
 pub use emit::{Emit, Targets, fitted, gen_expr, lower_kind, write};
 pub use expressions::{expression, test, test_back};
-pub use places::{Scope, slot_of};
 pub use words::symbolic_word;

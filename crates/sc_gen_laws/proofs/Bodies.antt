@@ -23,9 +23,9 @@ use Rattle.sc_gen_code.specs.Operators.{load_of, machine_type, store_of}
 use Rattle.sc_gen_code.specs.declared.style.Kept.{Kept}
 use Rattle.sc_gen_code.specs.declared.style.Style.{Style}
 use Rattle.sc_gen_code.specs.Styles.{IsStyle, framed, first_spot}
-use Rattle.sc_gen_expr.specs.Plans.{Skips, word}
-use Rattle.sc_gen_expr.specs.Places.{slot_of}
-use Rattle.sc_gen_expr.specs.Templates.{branched, comparison, is_joined}
+use Rattle.sc_gen_operand.specs.Plans.{Skips, word}
+use Rattle.sc_gen_operand.specs.Places.{slot_of}
+use Rattle.sc_gen_operand.specs.Templates.{branched, comparison, is_joined}
 use Rattle.sc_gen_expr.specs.Expressions.{expression_code, test_code, test_back, condition_of, branch_back, is_within}
 use Rattle.sc_gen_body.specs.declared.jumps.Place.{Place}
 use Rattle.sc_gen_body.specs.Jumps.{Around, go, go_in, leaving, entering, unless_equal, labelled, label_jumps, label_rows, rows, start_of, inside, in_loop, in_switch, nowhere}
@@ -322,9 +322,9 @@ module _ (f : Frame) (style : length f.style.kept ≤ 4) where
   condition_short e = let h = (expression_fits f.style f.slots style e).1.1 f.temporaries in omega (arith, h)
 
   turn_of : (b : Bool) (e : CoreExpr) (from top : ℕ) → Room (length (
-    if b then test_code f.style f.slots false e f.temporaries ++ jump (from + length (test_code f.style f.slots false e f.temporaries)) top ∷ []
-    else condition_of f.style f.slots e f.temporaries ++ branch_back (comparison f.style f.slots e f.temporaries) true top (from + length (condition_of f.style f.slots e f.temporaries))
-  )) (expression_nodes e) (of_expression e)
+      if b then test_code f.style f.slots false e f.temporaries ++ jump (from + length (test_code f.style f.slots false e f.temporaries)) top ∷ []
+      else condition_of f.style f.slots e f.temporaries ++ branch_back (comparison f.style f.slots e f.temporaries) true top (from + length (condition_of f.style f.slots e f.temporaries))
+      )) (expression_nodes e) (of_expression e)
   turn_of true e from top =
       let own = test_code f.style f.slots false e f.temporaries in
       spare _ (length own + 17) (expression_nodes e) (of_expression e)

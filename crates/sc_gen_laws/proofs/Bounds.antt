@@ -16,8 +16,8 @@ use Rattle.sc_gen_code.specs.Code.{Code, a0, a1, t1, t2, mv, li, near, jump, cop
 use Rattle.sc_gen_code.specs.Operators.{machine_type, store_of}
 use Rattle.sc_gen_code.specs.declared.style.Style.{Style}
 use Rattle.sc_gen_code.specs.Styles.{IsStyle, framed, first_spot}
-use Rattle.sc_gen_expr.specs.Plans.{Skips, word}
-use Rattle.sc_gen_expr.specs.Places.{slot_of}
+use Rattle.sc_gen_operand.specs.Plans.{Skips, word}
+use Rattle.sc_gen_operand.specs.Places.{slot_of}
 use Rattle.sc_gen_body.specs.declared.jumps.Place.{Place}
 use Rattle.sc_gen_body.specs.Initializers.{place_behind}
 use Rattle.sc_gen_body.specs.Jumps.{go, go_in, leaving, entering, unless_equal}

@@ -25,15 +25,15 @@ use Rattle.sc_gen_code.specs.Code.{Code, ra, sp, t0, t2, a0, a1, apply, li, push
 use Rattle.sc_gen_code.specs.Operators as operators
 use Rattle.sc_gen_code.specs.Calls as calls
 use Rattle.sc_gen_code.specs.Styles.{IsStyle, behind, deeper, first_spot, reloaded}
-use Rattle.sc_gen_expr.specs.declared.plans.Want.{Want}
-use Rattle.sc_gen_expr.specs.declared.plans.Want.TheVariants.{Word, Foot}
-use Rattle.sc_gen_expr.specs.declared.plans.Plan.{Plan}
-use Rattle.sc_gen_expr.specs.declared.plans.Plan.TheVariants.{Neither, Left, Right, Late, Register, Memory}
-use Rattle.sc_gen_expr.specs.declared.plans.Operands.{Operands}
-use Rattle.sc_gen_expr.specs.Places as places
-use Rattle.sc_gen_expr.specs.Plans as plans
-use Rattle.sc_gen_expr.specs.Plans.{Mode, As, Skips, word, foot, fetched_as, is_fetched, standing}
-use Rattle.sc_gen_expr.specs.Templates as templates
+use Rattle.sc_gen_operand.specs.declared.plans.Want.{Want}
+use Rattle.sc_gen_operand.specs.declared.plans.Want.TheVariants.{Word, Foot}
+use Rattle.sc_gen_operand.specs.declared.plans.Plan.{Plan}
+use Rattle.sc_gen_operand.specs.declared.plans.Plan.TheVariants.{Neither, Left, Right, Late, Register, Memory}
+use Rattle.sc_gen_operand.specs.declared.plans.Operands.{Operands}
+use Rattle.sc_gen_operand.specs.Places as places
+use Rattle.sc_gen_operand.specs.Plans as plans
+use Rattle.sc_gen_operand.specs.Plans.{Mode, As, Skips, word, foot, fetched_as, is_fetched, standing}
+use Rattle.sc_gen_operand.specs.Templates as templates
 use Rattle.sc_gen_expr.specs.Expressions.{place}
 use Rattle.sc_gen_laws.specs.Turns.{Way, Plain_way, With_units, unit, straight, follow, either, in_order, node, Ways, turns, leaf, into, first_by, first, left_by, right_by, pair, wanted, read, further_arguments, arguments, fetched_from, before_call, called_by, called, jumps, word_layer, foot_layer, compared, compared_layer, plain_test, test_unary, test_layer, expression_layer, ways_of, expression_way, IsPaid, Top, top_layer, top}
 use Rattle.sc_gen_laws.proofs.Lengths.{app, cons, longer, li-short, push-short, pop-short, further-short, unary-short, convert-short, reconvert-short, reloaded-short}
@@ -59,9 +59,9 @@ parts a b d f n ha hb hd hf = omega (arith, turns-append a (b ++ (d ++ f)), turn
 marshalled-parts : (n t : ℕ) → turns (calls.marshalled n t) ≤ 4 + 2 * (n - 9) + min (n - 1) 8
 marshalled-parts n t =
     parts (calls.last_placed n) (calls.based n t) (calls.outgoing (calls.base_of n t) 8 (n - 9)) (calls.incoming (calls.base_of n t) 0 (min (n - 1) 8)) n
-        (if_turns (nat_lt 8 n) (sw a0 sp (pos (4 * (n - 1 - 8))) ∷ []) (if nat_lt 1 n then mv (9 + n) a0 ∷ [] else []) 1 (omega arith)
-        (if_turns (nat_lt 1 n) (mv (9 + n) a0 ∷ []) [] 1 (omega arith) (omega arith)))
-        (based-turns n t) (outgoing-turns (calls.base_of n t) 8 (n - 9)) (incoming-turns (calls.base_of n t) 0 (min (n - 1) 8))
+    (if_turns (nat_lt 8 n) (sw a0 sp (pos (4 * (n - 1 - 8))) ∷ []) (if nat_lt 1 n then mv (9 + n) a0 ∷ [] else []) 1 (omega arith)
+    (if_turns (nat_lt 1 n) (mv (9 + n) a0 ∷ []) [] 1 (omega arith) (omega arith)))
+    (based-turns n t) (outgoing-turns (calls.base_of n t) 8 (n - 9)) (incoming-turns (calls.base_of n t) 0 (min (n - 1) 8))
 
 marshalled-turns : (n t : ℕ) → n ≤ 31 → turns (calls.marshalled n t) ≤ 56
 marshalled-turns n t h = let p = marshalled-parts n t in omega (arith, p, h)
@@ -163,6 +163,7 @@ computed_few slots es = by (nat_lt 8 (length es))
             templates.last_computed slots (i + 1) es (if b then n else i + 1) ≤ i + length (e ∷ es)
         step true p q = omega (arith, p)
         step false p q = omega (arith, q)
+
     by : (b : Bool) → (if b then length es else templates.last_computed slots 0 es 0) ≤ length es
     by true = omega arith
     by false = let r = last_few 0 es 0 (omega arith) in omega (arith, r)
@@ -420,7 +421,7 @@ module _ (st : Style) (slots : List (List Auto)) (style : IsStyle st) where
   found (CoreExpr-F.Index l t n a b) e at once =
       let how = plans.offset_operands slots Word n a.0 b.0 at in
       (omega arith, pair_fine how a b (λ how. templates.offset_end st slots how Word op.Add n a.0 b.0) 4 at (offset_end-short st slots how Word op.Add n a.0 b.0) (omega arith) once)
-  found (CoreExpr-F.Call l t f es) e at once = 
+  found (CoreExpr-F.Call l t f es) e at once =
       (omega arith, called_fine f es at (and-left (top f.0).once (list_all (λ (t : Top). t.once) (map top (all es))) once) (and-right (top f.0).once (list_all (λ (t : Top). t.once) (map top (all es))) once))
   found (CoreExpr-F.Member l t n a) e at once = (omega arith, single_fine Word a (operators.further n) 3 at (further-short n) (omega arith) once)
   found (CoreExpr-F.Arrow l t n a) e at once = (omega arith, single_fine Word a (operators.further n) 3 at (further-short n) (omega arith) once)
@@ -485,9 +486,9 @@ module _ (st : Style) (slots : List (List Auto)) (style : IsStyle st) where
   footed (CoreExpr-F.Convert l t a) e at =
       passed (places.is_passed a.0 t) (CoreExpr-F.Convert l t a.0) (own a foot a.0 at) (word_layer st slots (Parts (CoreExpr-F.Convert l t a.0)) (CoreExpr-F.Convert l t a.0) e at)
       (λ once.
-        let c = is_zero (top a.0).conversions (and-right (top a.0).once ((top a.0).conversions == 0) once) in
-        let s = a.1 (and-left (top a.0).once ((top a.0).conversions == 0) once) in
-        (omega (arith, c), wider (3 * (top a.0).conversions) (3 * (1 + (top a.0).conversions)) (own a foot a.0 at) (omega arith) (s.1 foot at)))
+      let c = is_zero (top a.0).conversions (and-right (top a.0).once ((top a.0).conversions == 0) once) in
+      let s = a.1 (and-left (top a.0).once ((top a.0).conversions == 0) once) in
+      (omega (arith, c), wider (3 * (top a.0).conversions) (3 * (1 + (top a.0).conversions)) (own a foot a.0 at) (omega arith) (s.1 foot at)))
       (convert_fine l t a e at)
   footed (CoreExpr-F.Number l t n) e at once = found (CoreExpr-F.Number l t n) e at once
   footed (CoreExpr-F.Function l t key) e at once = found (CoreExpr-F.Function l t key) e at once

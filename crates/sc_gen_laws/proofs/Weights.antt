@@ -24,15 +24,15 @@ use Rattle.sc_gen_code.specs.Code.{Code, x0, a0, a1, a2, apply, mv, li, push, po
 use Rattle.sc_gen_code.specs.Operators as operators
 use Rattle.sc_gen_code.specs.Calls as calls
 use Rattle.sc_gen_code.specs.Styles.{behind, deeper, reloaded}
-use Rattle.sc_gen_expr.specs.declared.plans.Want.{Want}
-use Rattle.sc_gen_expr.specs.declared.plans.Want.TheVariants.{Word, Foot}
-use Rattle.sc_gen_expr.specs.declared.plans.Plan.{Plan}
-use Rattle.sc_gen_expr.specs.declared.plans.Plan.TheVariants.{Neither, Left, Right, Late, Register, Memory}
-use Rattle.sc_gen_expr.specs.declared.plans.Operands.{Operands}
-use Rattle.sc_gen_expr.specs.Places as places
-use Rattle.sc_gen_expr.specs.Plans as plans
-use Rattle.sc_gen_expr.specs.Plans.{Mode, As, Skips, Part, word, foot, unless, fetched_as, is_fetched, left_by, right_by, left_code, right_code, standing}
-use Rattle.sc_gen_expr.specs.Templates as templates
+use Rattle.sc_gen_operand.specs.declared.plans.Want.{Want}
+use Rattle.sc_gen_operand.specs.declared.plans.Want.TheVariants.{Word, Foot}
+use Rattle.sc_gen_operand.specs.declared.plans.Plan.{Plan}
+use Rattle.sc_gen_operand.specs.declared.plans.Plan.TheVariants.{Neither, Left, Right, Late, Register, Memory}
+use Rattle.sc_gen_operand.specs.declared.plans.Operands.{Operands}
+use Rattle.sc_gen_operand.specs.Places as places
+use Rattle.sc_gen_operand.specs.Plans as plans
+use Rattle.sc_gen_operand.specs.Plans.{Mode, As, Skips, Part, word, foot, unless, fetched_as, is_fetched, left_by, right_by, left_code, right_code, standing}
+use Rattle.sc_gen_operand.specs.Templates as templates
 use Rattle.sc_gen_expr.specs.Expressions.{place, wanted, pair, offset, logical, choice, joined, further_arguments, arguments, callee, called, part_of, expression_layer, word_layer, foot_layer, condition_layer, condition_of, plain_test, test_unary, test_layer}
 use Rattle.sc_gen_laws.specs.Nodes as nodes
 use Rattle.sc_gen_laws.specs.Counts as counts
@@ -377,7 +377,7 @@ module _ (st : Style) (slots : List (List Auto)) (style : length st.kept ≤ 4) 
   -- a conversion has 3 words of its own, or its operand none
   read_by : (b d : Bool) (a : Known) (t : CType) (at : Spot) →
       length (wanted (own a) (if b then (if d then None else Some Foot) else Some Word) a.0 at
-          ++ ((if b then (if d then templates.taken st slots a.0 a0 else templates.loaded a.0 a0 a0) else []) ++ operators.reconvert (type_of a.0) t a0)) + 22
+      ++ ((if b then (if d then templates.taken st slots a.0 a0 else templates.loaded a.0 a0 a0) else []) ++ operators.reconvert (type_of a.0) t a0)) + 22
       ≤ 29 * nodes.expression_nodes a.0 + 3 * (1 + counts.conversions a.0)
   read_by true true a t at =
       let n = a.1.0 in
@@ -387,7 +387,7 @@ module _ (st : Style) (slots : List (List Auto)) (style : length st.kept ≤ 4) 
       let f = word_fits a Foot at in
       let end = templates.loaded a.0 a0 a0 ++ operators.reconvert (type_of a.0) t a0 in
       let h = app (own a foot a.0 at) end (length (own a foot a.0 at)) (1 + 2) (same (length (own a foot a.0 at)))
-          (app (templates.loaded a.0 a0 a0) (operators.reconvert (type_of a.0) t a0) 1 2 (omega arith) (reconvert-short (type_of a.0) t a0)) in
+      (app (templates.loaded a.0 a0 a0) (operators.reconvert (type_of a.0) t a0) 1 2 (omega arith) (reconvert-short (type_of a.0) t a0)) in
       omega (arith, f, h)
   read_by false d a t at =
       let f = word_fits a Word at in
@@ -409,7 +409,7 @@ module _ (st : Style) (slots : List (List Auto)) (style : length st.kept ≤ 4) 
       let f = word_fits a Word at in
       let g = word_fits b Word at in
       let h = app x (s ∷ over (length y) ∷ (y ++ end)) (length x) (1 + (1 + (length y + 1))) (same (length x))
-          (cons (over (length y) ∷ (y ++ end)) (1 + (length y + 1)) (cons (y ++ end) (length y + 1) (app y end (length y) 1 (same (length y)) (omega arith)))) in
+      (cons (over (length y) ∷ (y ++ end)) (1 + (length y + 1)) (cons (y ++ end) (length y + 1) (app y end (length y) 1 (same (length y)) (omega arith)))) in
       omega (arith, f, g, h)
 
   choice_fits : (a b d : Known) (at : Spot) →
@@ -424,7 +424,7 @@ module _ (st : Style) (slots : List (List Auto)) (style : length st.kept ≤ 4) 
       let g = word_fits b Word at in
       let k = word_fits d Word at in
       let h = app x (over (length y + 1) ∷ (y ++ end)) (length x) (1 + (length y + (1 + length z))) (same (length x))
-          (cons (y ++ end) (length y + (1 + length z)) (app y end (length y) (1 + length z) (same (length y)) (cons z (length z) (same (length z))))) in
+      (cons (y ++ end) (length y + (1 + length z)) (app y end (length y) (1 + length z) (same (length y)) (cons z (length z) (same (length z))))) in
       omega (arith, f, g, k, h)
 
   joined_fits : (more s t : Bool) (a b : Known) (at : Spot) →
@@ -491,6 +491,7 @@ module _ (st : Style) (slots : List (List Auto)) (style : length st.kept ≤ 4) 
           step : (b : Bool) → templates.last_computed slots (i + 1) es (if b then n else i + 1) ≤ i + length (e ∷ es)
           step true = let r = last_few (i + 1) es n (omega (arith, h)) in omega (arith, r)
           step false = let r = last_few (i + 1) es (i + 1) (omega arith) in omega (arith, r)
+
       by : (b : Bool) → min (if b then length es else templates.last_computed slots 0 es 0) 31 ≤ length es
       by true = omega arith
       by false = let r = last_few 0 es 0 (omega arith) in omega (arith, r)
@@ -795,10 +796,10 @@ module _ (st : Style) (slots : List (List Auto)) (style : length st.kept ≤ 4) 
         (
           all,
           (λ at.
-            let value = part_of st slots (roll-CoreExpr x) word (roll-CoreExpr x) at in
-            let v = all word at in
-            let u = ap length (unrolled_condition x at) in
-            let h = subst (λ (z : CoreExpr-F CoreExpr). Operand z (roll-CoreExpr x) value at) is (conditioned y (roll-CoreExpr x) value at (noded y)) (omega (arith, v, b)) in
-            omega (arith, u, h, b)),
+              let value = part_of st slots (roll-CoreExpr x) word (roll-CoreExpr x) at in
+              let v = all word at in
+              let u = ap length (unrolled_condition x at) in
+              let h = subst (λ (z : CoreExpr-F CoreExpr). Operand z (roll-CoreExpr x) value at) is (conditioned y (roll-CoreExpr x) value at (noded y)) (omega (arith, v, b)) in
+              omega (arith, u, h, b)),
         ),
       ))

@@ -14,7 +14,7 @@ use Rattle.sc_core.specs.declared.module.Fun.{Fun}
 use Rattle.sc_gen_code.specs.declared.symbolic.Access.TheVariants as access
 use Rattle.sc_gen_code.specs.Code.{a0, a1, t1, t2, mv, li, near, copied, service, block_service}
 use Rattle.sc_gen_code.specs.Operators.{machine_type, store_of}
-use Rattle.sc_gen_expr.specs.Places.{slot_of}
+use Rattle.sc_gen_operand.specs.Places.{slot_of}
 use Rattle.sc_isa.specs.declared.instruction.StoreOp.TheVariants.{Sb}
 use Rattle.sc_gen_body.specs.Initializers.{place_behind}
 use Rattle.sc_gen_code.specs.declared.style.Style.{Style}

@@ -25,14 +25,14 @@ use Rattle.sc_gen_code.specs.Code.{Code, a0, a1, li, push, pop, at_target, addre
 use Rattle.sc_gen_code.specs.Operators.{convert, reconvert, unary_of, further, is_comparison}
 use Rattle.sc_gen_code.specs.Calls.{direct, base_of, marshalled, call_direct, awaited, call_through}
 use Rattle.sc_gen_code.specs.Styles.{reloaded, behind, deeper}
-use Rattle.sc_gen_expr.specs.declared.plans.Want.{Want}
-use Rattle.sc_gen_expr.specs.declared.plans.Want.TheVariants.{Word, Foot}
-use Rattle.sc_gen_expr.specs.declared.plans.Plan.{Plan}
-use Rattle.sc_gen_expr.specs.declared.plans.Plan.TheVariants.{Neither, Left, Right, Late, Register, Memory}
-use Rattle.sc_gen_expr.specs.declared.plans.Operands.{Operands}
-use Rattle.sc_gen_expr.specs.Places.{is_direct, is_read, reach, fetch, stands, is_passed}
-use Rattle.sc_gen_expr.specs.Plans.{Mode, As, Skips, word, foot, is_fetched, fetched_as, standing, late, value_operands, binary_operands, offset_operands, assign_operands, structure_operands, compound_operands, moving_operands, step_wants}
-use Rattle.sc_gen_expr.specs.Templates.{member_end, operated, offset_end, difference_end, compared_end, assign_end, structure_end, compound_end, moving_end, step_end, taken, loaded, count, computed}
+use Rattle.sc_gen_operand.specs.declared.plans.Want.{Want}
+use Rattle.sc_gen_operand.specs.declared.plans.Want.TheVariants.{Word, Foot}
+use Rattle.sc_gen_operand.specs.declared.plans.Plan.{Plan}
+use Rattle.sc_gen_operand.specs.declared.plans.Plan.TheVariants.{Neither, Left, Right, Late, Register, Memory}
+use Rattle.sc_gen_operand.specs.declared.plans.Operands.{Operands}
+use Rattle.sc_gen_operand.specs.Places.{is_direct, is_read, reach, fetch, stands, is_passed}
+use Rattle.sc_gen_operand.specs.Plans.{Mode, As, Skips, word, foot, is_fetched, fetched_as, standing, late, value_operands, binary_operands, offset_operands, assign_operands, structure_operands, compound_operands, moving_operands, step_wants}
+use Rattle.sc_gen_operand.specs.Templates.{member_end, operated, offset_end, difference_end, compared_end, assign_end, structure_end, compound_end, moving_end, step_end, taken, loaded, count, computed}
 use Rattle.sc_gen_expr.specs.Expressions.{place}
 
 abbrev pub instruction_turns : Instr → ℕ

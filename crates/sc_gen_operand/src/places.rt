@@ -1,6 +1,6 @@
 // Places whose bytes are reached without code of their own, and operands that are used where they stand.
 ghost use Rattle.std.specs.Prelude.{◌≡◌, ◌++◌, ◌<◌, OnOk, None, Some, MatchOption};
-ghost use Rattle.sc_gen_expr.specs.Places as spec;
+ghost use Rattle.sc_gen_operand.specs.Places as spec;
 
 use sc_base::{Duplicate, Items, Key, NoMemory};
 use sc_check_operand::is_place;
@@ -97,13 +97,7 @@ pub fn constant(e: &CoreExpr) -> Option<u32>
     match e {
         CoreExpr::Number(_, _, n) => Some(*n),
         CoreExpr::Convert(_, to, a) => match a.get() {
-            CoreExpr::Number(_, from, n) => {
-                if is_free(from, to) {
-                    Some(*n)
-                } else {
-                    None
-                }
-            }
+            CoreExpr::Number(_, from, n) => { if is_free(from, to) { Some(*n) } else { None } }
             _ => None,
         },
         _ => None,
@@ -152,13 +146,7 @@ pub fn stands(scope: &Scope, e: &CoreExpr) -> Option<u8>
     ensures { result ≡ spec.stands scope.now.style.now scope.now.slots.now e.now }
 {
     match constant(e) {
-        Some(n) => {
-            if n == 0 {
-                Some(0)
-            } else {
-                None
-            }
-        }
+        Some(n) => { if n == 0 { Some(0) } else { None } }
         None => match e {
             CoreExpr::Convert(_, to, a) => {
                 if is_read(a.get()) && is_free(type_of(a.get()), to) {
@@ -246,8 +234,10 @@ pub fn is_foothold(slots: &[Items<Auto>], e: &CoreExpr) -> bool
     match e {
         CoreExpr::Automatic(_, _, _, _) => true,
         CoreExpr::Static(_, _, _) => true,
-        CoreExpr::Member(_, _, n, a) => is_kept_back(*n, away(a.get())) && is_foothold(slots, a.get()),
-        CoreExpr::Arrow(_, _, n, a) => is_kept_back(*n, away(a.get())) && is_foothold(slots, a.get()),
+        CoreExpr::Member(_, _, n, a) => is_kept_back(*n, away(a.get()))
+            && is_foothold(slots, a.get()),
+        CoreExpr::Arrow(_, _, n, a) => is_kept_back(*n, away(a.get()))
+            && is_foothold(slots, a.get()),
         CoreExpr::Address(_, _, a) => is_foothold(slots, a.get()),
         CoreExpr::Indirection(_, _, a) => is_foothold(slots, a.get()),
         CoreExpr::Index(_, _, size, a, b) => {

@@ -4,9 +4,11 @@ ghost use Rattle.sc_isa.specs.declared.instruction.RegOp.TheVariants as reg;
 ghost use Rattle.sc_gen_code.specs.Calls.{direct};
 ghost use Rattle.sc_gen_code.specs.Code.{x0, a0, apply, over};
 ghost use Rattle.sc_gen_code.specs.declared.symbolic.Symbolic.TheVariants.{Plain};
-ghost use Rattle.sc_gen_expr.specs.Templates as spec;
+ghost use Rattle.sc_gen_operand.specs.Templates as spec;
 
-use crate::places::{Scope, away, element, fetch, is_direct, is_kept_back, is_leaf, is_read, reach};
+use crate::places::{
+    Scope, away, element, fetch, is_direct, is_kept_back, is_leaf, is_read, reach,
+};
 use crate::plans::{
     Operands, Pair, Want, first_register, is_plain, pair_of, value_operands, with_number,
 };
@@ -83,7 +85,14 @@ fn moved_end(
     ensures { OnOk result (code.new ≡ code.old ++ spec.moved_end scope.now.style.now scope.now.slots.now how op size a.now b.now) }
 {
     let pair = pair_of(scope, how, a, b);
-    moved(code, op, is_pointer(type_of(a)), size, pair.left, pair.right)
+    moved(
+        code,
+        op,
+        is_pointer(type_of(a)),
+        size,
+        pair.left,
+        pair.right,
+    )
 }
 
 fn nearby(
@@ -529,7 +538,11 @@ pub fn comparison(scope: &Scope, e: &CoreExpr, at: Spot) -> Compared
         CoreExpr::Binary(_, _, op, a, b) => {
             if is_comparison(*op) {
                 let how = value_operands(scope.slots, b.get(), at);
-                pair_compared(*op, is_plain(a.get()), pair_of(scope, how, a.get(), b.get()))
+                pair_compared(
+                    *op,
+                    is_plain(a.get()),
+                    pair_of(scope, how, a.get(), b.get()),
+                )
             } else {
                 value_compared(scope, e)
             }

@@ -12,13 +12,13 @@ use Rattle.sc_gen_code.specs.declared.style.Spot.{Spot}
 use Rattle.sc_gen_code.specs.Code.{Code, a0, a1, mv, push, pop}
 use Rattle.sc_gen_code.specs.Operators.{machine_type, is_pointer, is_unsigned, immediate}
 use Rattle.sc_gen_code.specs.Styles.{behind, deeper}
-use Rattle.sc_gen_expr.specs.declared.plans.Want.{Want}
-use Rattle.sc_gen_expr.specs.declared.plans.Want.TheVariants.{Word, Foot}
-use Rattle.sc_gen_expr.specs.declared.plans.Plan.{Plan}
-use Rattle.sc_gen_expr.specs.declared.plans.Plan.TheVariants.{Neither, Left, Right, Late, Register, Memory}
-use Rattle.sc_gen_expr.specs.declared.plans.Operands.{Operands}
-use Rattle.sc_gen_expr.specs.declared.plans.Pair.{Pair}
-use Rattle.sc_gen_expr.specs.Places.{is_direct, is_read, constant, is_leaf, fetch, stands, element, is_foothold, fetch_foot, has_call}
+use Rattle.sc_gen_operand.specs.declared.plans.Want.{Want}
+use Rattle.sc_gen_operand.specs.declared.plans.Want.TheVariants.{Word, Foot}
+use Rattle.sc_gen_operand.specs.declared.plans.Plan.{Plan}
+use Rattle.sc_gen_operand.specs.declared.plans.Plan.TheVariants.{Neither, Left, Right, Late, Register, Memory}
+use Rattle.sc_gen_operand.specs.declared.plans.Operands.{Operands}
+use Rattle.sc_gen_operand.specs.declared.plans.Pair.{Pair}
+use Rattle.sc_gen_operand.specs.Places.{is_direct, is_read, constant, is_leaf, fetch, stands, element, is_foothold, fetch_foot, has_call}
 
 -- what is wanted of an expression: its word; the foot of a place or pointer; of a condition, that its truth is told
 pub data Mode : Type 0 where

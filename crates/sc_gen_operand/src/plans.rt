@@ -1,16 +1,15 @@
 // How operands are computed, the left one first, and in which registers they end (ANSI 3.3).
 ghost use Rattle.std.specs.Prelude.{◌≡◌, ◌+◌, ◌<◌, ◌++◌, is_some, OnOk, option_map};
 ghost use Rattle.sc_gen_code.specs.declared.symbolic.Symbolic.TheVariants.{Plain};
-ghost use Rattle.sc_gen_expr.specs.Plans as spec;
+ghost use Rattle.sc_gen_operand.specs.Plans as spec;
 
 use crate::places::{
-    Scope, constant, element, fetch, fetch_foot, has_call, is_direct, is_foothold, is_leaf, is_read, stands,
+    Scope, constant, element, fetch, fetch_foot, has_call, is_direct, is_foothold, is_leaf,
+    is_read, stands,
 };
 use sc_base::{Int, Items, NoMemory, Op};
 use sc_core::{Auto, CoreExpr, type_of};
-use sc_gen_code::{
-    A0, A1, Spot, Symbolic, immediate, is_pointer, is_unsigned, machine_type,
-};
+use sc_gen_code::{A0, A1, Spot, Symbolic, immediate, is_pointer, is_unsigned, machine_type};
 use sc_isa::Instr;
 use std::alloc::Global;
 
@@ -166,7 +165,11 @@ fn two(plan: Plan, left: Want, right: Want) -> Operands
 pub fn value_operands(slots: &[Items<Auto>], b: &CoreExpr, at: Spot) -> Operands
     ensures { result ≡ spec.value_operands slots.now b.now at }
 {
-    two(operand_plan(slots, Want::Word, b, at), Want::Word, Want::Word)
+    two(
+        operand_plan(slots, Want::Word, b, at),
+        Want::Word,
+        Want::Word,
+    )
 }
 
 /// Two structures.
@@ -194,13 +197,7 @@ pub fn with_number(op: Op, unsigned: bool, x: u8, b: &CoreExpr) -> Option<Instr>
 }
 
 /// Two integers.
-pub fn binary_operands(
-    scope: &Scope,
-    op: Op,
-    a: &CoreExpr,
-    b: &CoreExpr,
-    at: Spot,
-) -> Operands
+pub fn binary_operands(scope: &Scope, op: Op, a: &CoreExpr, b: &CoreExpr, at: Spot) -> Operands
     ensures { result ≡ spec.binary_operands scope.now.style.now scope.now.slots.now op a.now b.now at }
 {
     let x = first_register(scope, Want::Word, a);

@@ -1,6 +1,6 @@
 use Rattle.std.proofs.Common.{◌≡◌, ◌++◌, drop}
-use Rattle.sc_gen_expr.specs.Templates as spec
-use Rattle.sc_gen_expr.proofs.templates.fetched.Given as goal
+use Rattle.sc_gen_operand.specs.Templates as spec
+use Rattle.sc_gen_operand.proofs.templates.fetched.Given as goal
 
 abbrev pub invariant-loop-i : goal.invariant-loop-i
 invariant-loop-i l =

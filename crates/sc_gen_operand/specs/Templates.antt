@@ -21,13 +21,13 @@ use Rattle.sc_gen_code.specs.Code.{Code, x0, a0, a1, a2, mv, copied}
 use Rattle.sc_gen_code.specs.Operators.{machine_type, is_pointer, is_unsigned, load_of, store_of, load, store, convert, reconvert, operate, moved, advanced, difference, further, by_bytes, is_comparison, branch, next_value, next_register, stepped, changed}
 use Rattle.sc_gen_code.specs.Calls.{base_of, marshalled, call_direct, awaited, call_through}
 use Rattle.sc_gen_code.specs.Styles.{reloaded}
-use Rattle.sc_gen_expr.specs.declared.plans.Want.{Want}
-use Rattle.sc_gen_expr.specs.declared.plans.Want.TheVariants.{Word, Foot}
-use Rattle.sc_gen_expr.specs.declared.plans.Operands.{Operands}
-use Rattle.sc_gen_expr.specs.declared.plans.Pair.{Pair}
-use Rattle.sc_gen_expr.specs.declared.templates.Compared.{Compared}
-use Rattle.sc_gen_expr.specs.Places.{is_direct, is_read, reach, is_leaf, fetch, is_kept_back, element, away}
-use Rattle.sc_gen_expr.specs.Plans.{first_register, is_plain, with_number, pair_of, value_operands}
+use Rattle.sc_gen_operand.specs.declared.plans.Want.{Want}
+use Rattle.sc_gen_operand.specs.declared.plans.Want.TheVariants.{Word, Foot}
+use Rattle.sc_gen_operand.specs.declared.plans.Operands.{Operands}
+use Rattle.sc_gen_operand.specs.declared.plans.Pair.{Pair}
+use Rattle.sc_gen_operand.specs.declared.templates.Compared.{Compared}
+use Rattle.sc_gen_operand.specs.Places.{is_direct, is_read, reach, is_leaf, fetch, is_kept_back, element, away}
+use Rattle.sc_gen_operand.specs.Plans.{first_register, is_plain, with_number, pair_of, value_operands}
 
 -- bytes that are not kept back are added; numbers have 32 bits
 abbrev pub settle : ℕ → ℕ → Code
