@@ -1,5 +1,5 @@
 // Short sequences of instructions (RISC-V unprivileged manual, RV32IM).
-ghost use Rattle.std.specs.Prelude.{◌≡◌, ℕ, ◌+◌, ◌-◌, ◌<◌, [], ◌∷◌, ◌++◌, if◌then◌else◌, length, map, slice_set, OnOk, IfOk, pos};
+ghost use Rattle.std.specs.Prelude.{◌≡◌, ℕ, ◌+◌, ◌-◌, ◌<◌, ◌≤◌, [], ◌∷◌, ◌++◌, if◌then◌else◌, length, map, slice_set, OnOk, IfOk, pos};
 ghost use Rattle.sc_gen_code.specs.Code as spec;
 ghost use Rattle.sc_gen_code.specs.declared.symbolic.Symbolic.TheVariants.{Plain};
 
@@ -196,16 +196,20 @@ pub fn hole(code: &mut Items<Symbolic>) -> Result<usize, NoMemory>
     Ok(place)
 }
 
+fn one_if(more: bool) -> usize
+    ensures value { result ≡ (if more then 1 else 0) }
+    ensures few { result ≤ 1 }
+{
+    if more { 1 } else { 0 }
+}
+
 /// The word at a place becomes a jump over all that stands behind it, and over one word more where that is said.
 pub fn close_behind(code: &mut Items<Symbolic>, place: usize, more: bool)
     ensures { code.new ≡ slice_set code.old place (spec.over (length code.old - (place + 1) + (if more then 1 else 0))) }
 {
     if place < code.len() {
-        let behind = code.len() - (place + 1);
-        code.set(
-            place,
-            Symbolic::Plain(over(if more { behind + 1 } else { behind })),
-        );
+        let behind = code.len() - (place + 1) + one_if(more);
+        code.set(place, Symbolic::Plain(over(behind)));
     }
 }
 

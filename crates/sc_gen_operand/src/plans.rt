@@ -1,5 +1,5 @@
 // How operands are computed, the left one first, and in which registers they end (ANSI 3.3).
-ghost use Rattle.std.specs.Prelude.{◌≡◌, ◌+◌, ◌<◌, ◌++◌, is_some, OnOk, option_map};
+ghost use Rattle.std.specs.Prelude.{◌≡◌, ◌+◌, ◌<◌, ◌++◌, OnOk, option_map};
 ghost use Rattle.sc_gen_code.specs.declared.symbolic.Symbolic.TheVariants.{Plain};
 ghost use Rattle.sc_gen_operand.specs.Plans as spec;
 
