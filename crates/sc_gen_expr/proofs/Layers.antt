@@ -120,14 +120,14 @@ module _ (st : Style) (slots : List (List Auto)) (m : Mode) (x : CoreExpr) (t : 
       ∙ ap (λ (l : Code). c0 ++ l) (sym layer ∙ shape)
 
 -- a call
-pub call_parts : (st : Style) (slots : List (List Auto)) (x : CoreExpr) (t : Spot) (l : ℕ) (of : CType) (g g' : CoreExpr) (es xs : List CoreExpr) (n : ℕ) (u : Spot) (c0 c1 c2 c3 : Code) →
-    x ≡ v.Call l of g es → g' ≡ g → xs ≡ es → n ≡ computed slots xs → u ≡ behind t →
-    c1 ≡ c0 ++ callee (part_of st slots g') g' t (direct g') → c2 ≡ c1 ++ arguments n (map (part_of st slots) xs) xs u → c3 ≡ c2 ++ transfer st slots xs t.low (direct g') →
+pub call_parts : (st : Style) (slots : List (List Auto)) (x : CoreExpr) (t : Spot) (l : ℕ) (of : CType) (g g1 g2 : CoreExpr) (es xs ys zs : List CoreExpr) (n : ℕ) (u : Spot) (c0 c1 c2 c3 : Code) →
+    x ≡ v.Call l of g es → g1 ≡ g → g2 ≡ g → xs ≡ es → ys ≡ es → zs ≡ es → n ≡ computed slots xs → u ≡ behind t →
+    c1 ≡ c0 ++ callee (part_of st slots g1) g1 t (direct g1) → c2 ≡ c1 ++ arguments n (map (part_of st slots) ys) ys u → c3 ≡ c2 ++ transfer st slots zs t.low (direct g2) →
     c3 ≡ c0 ++ expression_code st slots x t
-call_parts st slots x t l of g g' es xs n u c0 c1 c2 c3 is same same_all many place e1 e2 e3 =
+call_parts st slots x t l of g g1 g2 es xs ys zs n u c0 c1 c2 c3 is same1 same2 as1 as2 as3 many place e1 e2 e3 =
     three_are c0 (callee (part_of st slots g) g t (direct g)) (arguments (computed slots es) (map (part_of st slots) es) es (behind t)) (transfer st slots es t.low (direct g)) c1 c2 c3
-    (e1 ∙ ap (λ (z : CoreExpr). c0 ++ callee (part_of st slots z) z t (direct z)) same)
-    (e2 ∙ ap (λ (k : ℕ). c1 ++ arguments k (map (part_of st slots) xs) xs u) many ∙ ap (λ (z : List CoreExpr). c1 ++ arguments (computed slots z) (map (part_of st slots) z) z u) same_all
+    (e1 ∙ ap (λ (z : CoreExpr). c0 ++ callee (part_of st slots z) z t (direct z)) same1)
+    (e2 ∙ ap (λ (k : ℕ). c1 ++ arguments k (map (part_of st slots) ys) ys u) (many ∙ ap (computed slots) as1) ∙ ap (λ (z : List CoreExpr). c1 ++ arguments (computed slots es) (map (part_of st slots) z) z u) as2
     ∙ ap (λ (z : Spot). c1 ++ arguments (computed slots es) (map (part_of st slots) es) es z) place)
-    (e3 ∙ ap (λ (z : List CoreExpr). c2 ++ transfer st slots z t.low (direct g')) same_all ∙ ap (λ (z : CoreExpr). c2 ++ transfer st slots es t.low (direct z)) same)
+    (e3 ∙ ap (λ (z : List CoreExpr). c2 ++ transfer st slots z t.low (direct g2)) as3 ∙ ap (λ (z : CoreExpr). c2 ++ transfer st slots es t.low (direct z)) same2)
     ∙ ap (λ (l : Code). c0 ++ l) (shape st slots word x t (CoreExpr-F.Call l of g es) (ap out-CoreExpr is ∙ v.outs-Call l of g es))
