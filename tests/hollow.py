@@ -19,6 +19,11 @@ import sys
 
 ROOT = pathlib.Path(__file__).resolve().parent.parent
 FUN = re.compile(r"^(\s*)(?:pub(?:\([a-z]+\))? )?(?:const |unsafe )*fn (\w+)")
+ANSWER = """use Rattle.{}.Goals as goal
+
+pub unreachable-requires : goal.unreachable-requires
+unreachable-requires = ?
+"""
 OWNER = re.compile(r"^(?:pub )?(impl|trait)\b(?:<.*?>(?= ))? ?(?:(\w+)(?:<.*>)? for )?&?(\w+)")
 
 
@@ -134,9 +139,10 @@ def hollow(crate, target):
         module = file.relative_to(target / "src").with_suffix("").parts
         module = () if module in (("lib",), ("main",)) else module
         for owner, name in made:
-            folder = target.joinpath("proofs", *module, *([owner] if owner else []), name)
+            path = [*module, *([owner] if owner else []), name]
+            folder = target.joinpath("proofs", *path)
             folder.mkdir(parents=True, exist_ok=True)
-            (folder / "Answers.antt").write_text("unreachable-requires = ?\n")
+            (folder / "Answers.antt").write_text(ANSWER.format(".".join([crate, "proofs", *path])))
     if (source / "proofs" / "Lib.antt").is_file():
         for name in re.findall(r"^(?:pub )?mod (\w+)", (source / "proofs" / "Lib.antt").read_text(), re.M):
             copy_lemmas(source / "proofs" / f"{name}.antt", target / "proofs" / f"{name}.antt")

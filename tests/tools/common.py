@@ -1,10 +1,58 @@
-"""What the tests of saber-prep and its support modules have in common: runs of the tools and of a compiler."""
+"""What the tests of the tools have in common: checks that are counted, runs of the tools, of the program and of a compiler."""
+import os
 import pathlib
 import subprocess
+import sys
+import tempfile
 
 HERE = pathlib.Path(__file__).resolve().parent
-PREP = HERE.parent.parent / "tools" / "saber-prep"
+ROOT = HERE.parent.parent
+TOOLS = ROOT / "tools"
+PREP = TOOLS / "saber-prep"
 COMPILER = ["gcc", "-m32", "-std=gnu11", "-funsigned-char", "-w"]
+
+
+def checked(usage, parts, files):
+    """Runs the parts of a script, each in a folder of its own with the files, prints what fails and the sum, and gives the exit status.
+
+    The command line names the program. A part is called with it and the folder, and gives for each check its name, whether it holds, and
+    perhaps what to show if it does not.
+    """
+    if len(sys.argv) != 2:
+        sys.exit(usage)
+    program = pathlib.Path(sys.argv[1]).resolve()
+    passed, failed = 0, 0
+    for part in parts:
+        with tempfile.TemporaryDirectory() as name:
+            room = pathlib.Path(name).resolve()
+            for file, text in files.items():
+                (room / file).parent.mkdir(parents=True, exist_ok=True)
+                (room / file).write_text(text)
+            for check, right, *told in part(program, room):
+                passed, failed = passed + bool(right), failed + (not right)
+                if not right:
+                    print(f"FAIL {check}", *told, sep="\n")
+    print(f"{passed} passed, {failed} failed")
+    return 1 if failed or not passed else 0
+
+
+def one_check(name, test):
+    """A part of one check: a test gives why it fails, or nothing."""
+    def part(program, room):
+        fault = test(program, room)
+        yield name, fault is None, fault
+    return part
+
+
+def tool_run(tool, program, room, words, **more):
+    """Runs a tool that goes by the program; what it told, in bytes."""
+    environment = {**os.environ, "SABER_PROGRAM": str(program), **more}
+    return subprocess.run([TOOLS / tool, *words], cwd=room, env=environment, capture_output=True, timeout=120)
+
+
+def told_by(ran):
+    """What a run of a tool told, for a message."""
+    return f"status {ran.returncode}\n{(ran.stdout + ran.stderr).decode(errors='replace')}"
 
 
 def prepared(files, output, words=()):

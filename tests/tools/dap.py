@@ -12,12 +12,11 @@ import pathlib
 import queue
 import subprocess
 import sys
-import tempfile
 import threading
 
-ROOT = pathlib.Path(__file__).resolve().parent.parent.parent
-DAP = ROOT / "tools" / "saber-dap"
-HERE = pathlib.Path(__file__).resolve().parent
+import common
+
+DAP = common.TOOLS / "saber-dap"
 SECONDS = 120
 FILES = {
     "stack.c": "#include <stdlib.h>\nstatic int *room;\nstatic int used, limit = 9;\n\nvoid push(int n)\n{\n    room[used] = n;\n    used++;\n}\n\n"
@@ -210,7 +209,7 @@ def denied(program, room):
 
 def replayed(program, room):
     """Sends what real clients sent; each answer has to hold what was answered then. A text ROOM stands for the folder."""
-    for path in sorted(HERE.glob("*.dap")):
+    for path in sorted(common.HERE.glob("*.dap")):
         lines = [json.loads(it) for it in path.read_text().replace("ROOM", str(room)).splitlines() if not it.startswith("#")]
         client, failed = Client(program, room), []
         for line in lines:
@@ -233,24 +232,6 @@ def holds(told, wanted):
     return told == wanted
 
 
-def main():
-    if len(sys.argv) != 2:
-        sys.exit(__doc__)
-    program = pathlib.Path(sys.argv[1]).resolve()
-    os.environ["PYTHONDONTWRITEBYTECODE"] = "1"
-    passed, failed = 0, 0
-    for part in (breakpoints, pauses, long_steps, denied, replayed):
-        with tempfile.TemporaryDirectory() as name:
-            room = pathlib.Path(name).resolve()
-            for file, text in FILES.items():
-                (room / file).write_text(text)
-            for check, right in part(program, room):
-                passed, failed = passed + bool(right), failed + (not right)
-                if not right:
-                    print(f"FAIL {part.__name__}: {check}")
-    print(f"{passed} passed, {failed} failed")
-    return 1 if failed or not passed else 0
-
-
 if __name__ == "__main__":
-    sys.exit(main())
+    os.environ["PYTHONDONTWRITEBYTECODE"] = "1"
+    sys.exit(common.checked(__doc__, [breakpoints, pauses, long_steps, denied, replayed], FILES))

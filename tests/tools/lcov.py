@@ -7,16 +7,12 @@ genhtml (Debian package lcov) has to take a tracefile, if it is installed; it is
 'N passed, M failed'.
 """
 import json
-import os
-import pathlib
 import shutil
 import subprocess
 import sys
-import tempfile
 
-ROOT = pathlib.Path(__file__).resolve().parent.parent.parent
-LCOV = ROOT / "tools" / "saber-lcov"
-SECONDS = 120
+import common
+
 FILES = {
     "own.h": "#include <stddef.h>\nstatic int twice(size_t n)\n{\n    return (int) (n + n);\n}\n",
     # line by line: each case of docs/COMMANDS.md where a line is reached, over as many lines as it may take
@@ -36,6 +32,8 @@ FILES = {
     "real.c": "/* a line */\nint main(void)\n{\n    return 0;\n}\n",
     "long.c": "int main(void)\n{\n    int i;\n    for (i = 0; i < 400000; i++)\n        ;\n    return 0;\n}\n",
     "wrong.c": "int main(void) { return x; }\n",
+    "mapped.map.json": json.dumps({"ranges": [{"first": 1, "last": 1, "file": "real.c", "line": 2}]}),
+    "input": "abc",
 }
 # the words of the command line, the exit status, and for each file its functions (line, name, calls) and lines (line, count)
 CASES = [
@@ -73,56 +71,31 @@ def text_of(room, files):
     return "\n".join(out) + "\n"
 
 
-def ran(program, room, words, **more):
-    environment = {**os.environ, "SABER_PROGRAM": str(program), **more}
-    return subprocess.run([LCOV, *words], cwd=room, env=environment, capture_output=True, text=True, timeout=SECONDS)
-
-
 def checks(program, room):
-    """Each check's name, whether it holds, and what was told."""
+    """Tracefiles, and what is refused."""
     for words, status, files in CASES:
-        told = ran(program, room, words)
-        yield " ".join(words), told.returncode == status and told.stdout == text_of(room, files), told
+        ran = common.tool_run("saber-lcov", program, room, words)
+        yield " ".join(words), ran.returncode == status and ran.stdout.decode() == text_of(room, files), common.told_by(ran)
     for words, line in REFUSED:
-        told = ran(program, room, words)
-        yield " ".join(words), told.returncode == 2 and told.stderr.strip().splitlines()[-1] == line, told
+        ran = common.tool_run("saber-lcov", program, room, words)
+        yield " ".join(words), ran.returncode == 2 and ran.stderr.decode().strip().splitlines()[-1] == line, common.told_by(ran)
     (room / "without").mkdir()
     (room / "without" / "pycparser.py").write_text("raise ImportError\n")
-    told = ran(program, room, ["mapped"], PYTHONPATH=str(room / "without"))
+    ran = common.tool_run("saber-lcov", program, room, ["mapped"], PYTHONPATH=str(room / "without"))
     said = "saber-lcov: pycparser is not installed (Debian: python3-pycparser)\n"
-    yield "without pycparser", told.returncode == 2 and told.stderr == said, told
+    yield "without pycparser", ran.returncode == 2 and ran.stderr.decode() == said, common.told_by(ran)
 
 
 def shown(program, room):
-    """Whether genhtml takes a tracefile."""
+    """genhtml takes a tracefile."""
     if not shutil.which("genhtml"):
         print("genhtml is not installed (Debian package lcov): no tracefile was shown to it")
         return
-    told = ran(program, room, ["-o", "forms.info", "-t", "by_hand", "forms"])
-    made = subprocess.run(["genhtml", "-o", "pages", "forms.info"], cwd=room, capture_output=True, text=True, timeout=SECONDS)
-    right = made.returncode == 0 and "90.9% (20 of 22 lines)" in made.stdout and "75.0% (3 of 4 functions)" in made.stdout
-    yield "genhtml", told.returncode == 0 and right, made
-
-
-def main():
-    if len(sys.argv) != 2:
-        sys.exit(__doc__)
-    program = pathlib.Path(sys.argv[1]).resolve()
-    passed, failed = 0, 0
-    with tempfile.TemporaryDirectory() as name:
-        room = pathlib.Path(name).resolve()
-        for file, text in FILES.items():
-            (room / file).write_text(text)
-        (room / "input").write_text("abc")
-        (room / "mapped.map.json").write_text(json.dumps({"ranges": [{"first": 1, "last": 1, "file": "real.c", "line": 2}]}))
-        for part in (checks, shown):
-            for check, right, told in part(program, room):
-                passed, failed = passed + right, failed + (not right)
-                if not right:
-                    print(f"FAIL {check}: status {told.returncode}\n{told.stdout}{told.stderr}")
-    print(f"{passed} passed, {failed} failed")
-    return 1 if failed or not passed else 0
+    ran = common.tool_run("saber-lcov", program, room, ["-o", "forms.info", "-t", "by_hand", "forms"])
+    made = subprocess.run(["genhtml", "-o", "pages", "forms.info"], cwd=room, capture_output=True, timeout=120)
+    right = made.returncode == 0 and b"90.9% (20 of 22 lines)" in made.stdout and b"75.0% (3 of 4 functions)" in made.stdout
+    yield "genhtml", ran.returncode == 0 and right, common.told_by(made)
 
 
 if __name__ == "__main__":
-    sys.exit(main())
+    sys.exit(common.checked(__doc__, [checks, shown], FILES))

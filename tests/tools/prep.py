@@ -7,6 +7,7 @@ Each program of tests/tools/prep that has a file NAME.expected is written by sab
 answer it. The file has what gcc makes of the same program; `--renew` writes these files anew by it. What is told, the lines of
 reports, names, maps and faults are tested by the functions below, against what was worked out by hand.
 """
+import functools
 import json
 import pathlib
 import re
@@ -193,25 +194,16 @@ def own_functions(program, folder):
     return None if came == "wn\n> exit 0\n" else f"{came} {ran.stderr}"
 
 
+TESTS = [lines_of_own_code, lines_of_headers, names_what_stays, leaves_out, tells_of_narrow, tells_what_changes,
+         names_of_modules, faults, keeps_the_source, own_functions]
+
+
 def main():
     if sys.argv[1:] == ["--renew"]:
         return renew()
-    if len(sys.argv) != 2:
-        sys.exit(__doc__)
-    program = pathlib.Path(sys.argv[1]).resolve()
-    tests = [lines_of_own_code, lines_of_headers, names_what_stays, leaves_out, tells_of_narrow, tells_what_changes,
-             names_of_modules, faults, keeps_the_source, own_functions]
-    cases = {it.__name__: it for it in tests}
-    cases |= {name: lambda program, folder, name=name: meaning(program, folder, name) for name in RUN}
-    failed = 0
-    for name, test in cases.items():
-        with tempfile.TemporaryDirectory() as folder:
-            fault = test(program, pathlib.Path(folder))
-        if fault is not None:
-            failed += 1
-            print(f"FAIL: {name}: {fault}")
-    print(f"{len(cases) - failed} passed, {failed} failed")
-    return 1 if failed else 0
+    parts = [common.one_check(it.__name__, it) for it in TESTS]
+    parts += [common.one_check(name, functools.partial(meaning, name=name)) for name in RUN]
+    return common.checked(__doc__, parts, {})
 
 
 if __name__ == "__main__":

@@ -6,16 +6,15 @@ usage: tests/tools/shell.py PROGRAM
 What is expected follows from docs/COMMANDS.md. The last line is 'N passed, M failed'.
 """
 import os
-import pathlib
 import pty
 import select
 import subprocess
 import sys
-import tempfile
 import time
 
-ROOT = pathlib.Path(__file__).resolve().parent.parent.parent
-SHELL = ROOT / "tools" / "saber-shell"
+import common
+
+SHELL = common.TOOLS / "saber-shell"
 SECONDS = 60
 PROMPT = "saber> "
 FILES = {
@@ -30,7 +29,7 @@ class Terminal:
     """A program at a pseudo-terminal of its own, with the keys that are sent to it and what it shows."""
 
     def __init__(self, words, room):
-        environment = {**os.environ, "HOME": room, "TERM": "xterm", "INPUTRC": "/dev/null"}
+        environment = {**os.environ, "HOME": str(room), "TERM": "xterm", "INPUTRC": "/dev/null"}
         environment.pop("SABER_PLAIN", None)
         child, self.screen = pty.fork()
         if child == 0:
@@ -105,7 +104,7 @@ def edited_between(program, room):
     """A module whose file is refused when the session is made again."""
     terminal = Terminal([SHELL, "--program", program, "--turns", "1000000000"], room)
     terminal.shown()
-    file = pathlib.Path(room, "again.c")
+    file = room / "again.c"
     file.write_text(FILES["loop.c"])
     yield "load again", terminal.say("load again") == "> loaded again\n"
     yield "stop in again:spin", terminal.say("stop in again:spin") == "> stop 1 in again:spin\n"
@@ -147,7 +146,7 @@ def ends(program, room):
     yield "bad words", told.endswith("saber: bad words\n") and PROMPT not in told and terminal.status() == 2
     terminal = Terminal([SHELL, "--program", "absent"], room)
     yield "no program", "saber-shell: there is no program absent\n" in terminal.shown(until="absent\n") and terminal.status() == 2
-    terminal = Terminal([ROOT / "saber", "--turns", "1000"], room)
+    terminal = Terminal([common.ROOT / "saber", "--turns", "1000"], room)
     terminal.shown()
     yield "the script", terminal.say("load loop") == "> loaded loop\n" and terminal.say("run").endswith("> paused after 1000 turns\n")
     terminal.keys("\x04")
@@ -157,22 +156,5 @@ def ends(program, room):
     yield "a pipe", piped.stdout == b"> loaded mended\n> exit 4\n> refused C8 absent.c\n" and piped.returncode == 0
 
 
-def main():
-    if len(sys.argv) != 2:
-        sys.exit(__doc__)
-    program = pathlib.Path(sys.argv[1]).resolve()
-    passed, failed = 0, 0
-    for part in (session, edited_between, completion, ends):
-        with tempfile.TemporaryDirectory() as room:
-            for name, text in FILES.items():
-                pathlib.Path(room, name).write_text(text)
-            for name, right in part(program, room):
-                passed, failed = passed + right, failed + (not right)
-                if not right:
-                    print(f"FAIL {part.__name__}: {name}")
-    print(f"{passed} passed, {failed} failed")
-    return 1 if failed or not passed else 0
-
-
 if __name__ == "__main__":
-    sys.exit(main())
+    sys.exit(common.checked(__doc__, [session, edited_between, completion, ends], FILES))

@@ -6,16 +6,11 @@ usage: tests/tools/why.py PROGRAM
 The expected lines are worked out by hand from each C program and docs/COMMANDS.md. The last line is 'N passed, M failed'.
 """
 import json
-import os
-import pathlib
 import re
-import subprocess
 import sys
-import tempfile
 
-ROOT = pathlib.Path(__file__).resolve().parent.parent.parent
-WHY = ROOT / "tools" / "saber-why"
-SECONDS = 120
+import common
+
 FILES = {
     # the object is the third: count, and the parameter n of room are born before it
     "heap.c": "#include <stdlib.h>\nstatic int count;\nstatic char *room(int n)\n{\n    count++;\n    return malloc(n * 2);\n}\n"
@@ -46,6 +41,11 @@ FILES = {
     "copy.c": "#include <stdlib.h>\n#include <string.h>\nint main(void)\n{\n    strcpy(malloc(3), \"abc\");\n    return 0;\n}\n",
     "mapped.c": "int main(void) { int x; return x; }\n",
     "real.c": "\n\nint main(void) {\n    int x;\n    return x;\n}\n",
+    "mapped.map.json": json.dumps({"ranges": [{"first": 1, "last": 1, "file": "real.c", "line": 5}]}),
+    "input": "some\n> words",
+    "three.h": "#define THREE 3\n",
+    "sub/up.c": "#include \"../three.h\"\nint main(void)\n{\n    return THREE - 3 ? 1 : 0;\n}\n",
+    "store.o": "a file of the user",
 }
 # words of the command line, exit status, and lines that the output has to hold in this order ('    ' begins a call or a value)
 CASES = [
@@ -101,11 +101,6 @@ REFUSED = [
 ]
 
 
-def ran(program, room, words):
-    environment = {**os.environ, "SABER_PROGRAM": str(program)}
-    return subprocess.run([WHY, *words], cwd=room, env=environment, capture_output=True, timeout=SECONDS)
-
-
 def spaced(line):
     """A line with runs of spaces behind its indent made one."""
     return re.sub(r"(?<=\S) +", " ", line)
@@ -117,63 +112,31 @@ def holds(output, wanted):
     return all(any(line == it for line in lines) for it in wanted)
 
 
-def fill(room):
-    for name, text in FILES.items():
-        pathlib.Path(room, name).write_text(text)
-    pathlib.Path(room, "input").write_text("some\n> words")
-    pathlib.Path(room, "sub").mkdir()
-    pathlib.Path(room, "sub", "up.c").write_text("#include \"../three.h\"\nint main(void)\n{\n    return THREE - 3 ? 1 : 0;\n}\n")
-    pathlib.Path(room, "three.h").write_text("#define THREE 3\n")
-    pathlib.Path(room, "store.o").write_text("a file of the user")
-    ranges = [{"first": 1, "last": 1, "file": "real.c", "line": 5}]
-    pathlib.Path(room, "mapped.map.json").write_text(json.dumps({"ranges": ranges}))
-
-
 def content(room):
-    return {path: path.read_bytes() for path in pathlib.Path(room).rglob("*") if path.is_file()}
+    return {path: path.read_bytes() for path in room.rglob("*") if path.is_file()}
 
 
-def early(room):
-    """A program that ends at once."""
-    path = pathlib.Path(room, "early.sh")
-    path.write_text("#!/bin/sh\necho 'saber: no memory' >&2\nexit 6\n")
-    path.chmod(0o755)
-    return path
-
-
-def checks(program, room):
-    """Each check's name, and whether it holds."""
+def tells(program, room):
+    """What is told of runs, and what is refused; the user's files stay as they were."""
+    before = content(room)
     for words, status, wanted in CASES:
-        told = ran(program, room, words)
-        yield " ".join(words), told.returncode == status and holds(told.stdout, wanted), told
+        ran = common.tool_run("saber-why", program, room, words)
+        yield " ".join(words), ran.returncode == status and holds(ran.stdout, wanted), common.told_by(ran)
     for words, line in REFUSED:
-        told = ran(program, room, words)
-        yield " ".join(words), told.returncode == 2 and told.stderr.decode().strip() == line, told
-    told = ran(early(room), room, ["nine"])
+        ran = common.tool_run("saber-why", program, room, words)
+        yield " ".join(words), ran.returncode == 2 and ran.stderr.decode().strip() == line, common.told_by(ran)
+    yield "files of the user", content(room) == before
+
+
+def ends_early(program, room):
+    """A program that ends at once."""
+    early = room / "early.sh"
+    early.write_text("#!/bin/sh\necho 'saber: no memory' >&2\nexit 6\n")
+    early.chmod(0o755)
+    ran = common.tool_run("saber-why", early, room, ["nine"])
     said = "saber-why: the session ended early with status 6: saber: no memory\n"
-    yield "a session that ends early", told.returncode == 3 and told.stderr.decode() == said, told
-
-
-def main():
-    if len(sys.argv) != 2:
-        sys.exit(__doc__)
-    program = pathlib.Path(sys.argv[1]).resolve()
-    passed, failed = 0, 0
-    with tempfile.TemporaryDirectory() as room:
-        fill(room)
-        before = content(room)
-        for name, right, told in checks(program, room):
-            passed, failed = passed + right, failed + (not right)
-            if not right:
-                print(f"FAIL {name}: status {told.returncode}\n{(told.stdout + told.stderr).decode(errors='replace')}")
-        pathlib.Path(room, "early.sh").unlink()
-        same = content(room) == before
-        passed, failed = passed + same, failed + (not same)
-        if not same:
-            print("FAIL: files of the user have changed")
-    print(f"{passed} passed, {failed} failed")
-    return 1 if failed or not passed else 0
+    yield "a session that ends early", ran.returncode == 3 and ran.stderr.decode() == said, common.told_by(ran)
 
 
 if __name__ == "__main__":
-    sys.exit(main())
+    sys.exit(common.checked(__doc__, [tells, ends_early], FILES))

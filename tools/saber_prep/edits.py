@@ -70,6 +70,12 @@ class Edits:
         self._stretch(out, first, last, [], None)
         return out
 
+    def made(self, place: int, parts: list[Part]) -> list[Piece]:
+        """Parts that stand for a token, without it and what was put beside it."""
+        out: list[Piece] = []
+        self._parts(out, [parts], place, [], None)
+        return out
+
     def _stretch(self, out: list[Piece], first: int, last: int, active: list[Replacement], anchor: Origin | None) -> None:
         place = first
         while place <= last:

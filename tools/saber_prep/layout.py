@@ -55,11 +55,7 @@ def laid_out(unit: Unit) -> Lines:
     for pieces in late:
         append(lines, pieces)
     for parts in unit.tail:
-        holder = len(unit.tokens) - 1
-        unit.edits.put_behind(holder, *parts)
-        pieces = unit.edits.render(holder, holder)[1:]
-        del unit.edits.behind[holder]
-        append(lines, [Piece(it.text, unit.origin(holder)) for it in pieces])
+        append(lines, unit.edits.made(len(unit.tokens) - 1, parts))
     return lines
 
 

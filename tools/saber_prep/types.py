@@ -210,12 +210,18 @@ def aliases(unit: Unit) -> None:
 
 
 def forwarding(unit: Unit, name: str, target: Node) -> list[Part]:
+    """A function that calls another; structures go over pointers, as in all functions."""
     result = unit.spelled(target.plain[: target.plain.index("(")])
-    parameters = [unit.spelled(it.plain) for it in target.inner if it.kind == "ParmVarDecl"]
-    listed = " , ".join(named(it, f"a{number}") for number, it in enumerate(parameters)) or "void"
-    given = " , ".join(f"a{number}" for number in range(len(parameters)))
-    call = f"{target.name} ( {given} ) ;"
-    return [f"{result} {name} ( {listed} ) {{ {'' if result == 'void' else 'return '}{call} }}"]
+    listed, given = [], []
+    if unit.record_of(result) is not None:
+        listed, given, result = [f"{result} * a"], ["a"], "void"
+    for number, parameter in enumerate(it for it in target.inner if it.kind == "ParmVarDecl"):
+        spelled = unit.spelled(parameter.plain)
+        passed = f"const {spelled.removeprefix('const ')} *" if unit.is_record(parameter) else spelled
+        listed.append(named(passed, f"a{number}"))
+        given.append(f"a{number}")
+    call = f"{target.name} ( {' , '.join(given)} ) ;"
+    return [f"{result} {name} ( {' , '.join(listed) or 'void'} ) {{ {'' if result == 'void' else 'return '}{call} }}"]
 
 
 def open_arrays(unit: Unit) -> None:

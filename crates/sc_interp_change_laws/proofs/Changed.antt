@@ -1,18 +1,19 @@
 -- A version that comes where a run stands: before it each step is as without it, the step that stands there changes the texts, and from
 -- then on the run goes on under the new texts alone.
-use Rattle.std.proofs.Common.{◌≡◌, ℕ, zero, suc, ◌+◌, ◌<◌, ◌≤◌, if◌then◌else◌, List, [], ◌∷◌, ◌++◌, arith, refl, sym, ap, ◌∙◌, subst}
+use Rattle.std.proofs.Common.{◌≡◌, ℕ, zero, suc, ◌+◌, ◌<◌, ◌≤◌, List, [], ◌∷◌, ◌++◌, arith, refl, sym, ap, ◌∙◌, subst}
 use Rattle.sc_meaning.specs.World.{World, Event, Happens, pass, GoesOut}
 use Rattle.sc_meaning.specs.Outcomes.{Outcome, Done, Over, and_then, went}
-use Rattle.sc_meaning.specs.Versions.{Text, Version, History, latest, version_at}
+use Rattle.sc_meaning.specs.Versions.{Text, Version, History, version_at}
 use Rattle.sc_meaning.specs.Changes.{changed, happened}
 use Rattle.sc_meaning.specs.Behaviour.{main_key}
 use Rattle.sc_interp_machine.specs.Runs.{State, Runs, then_goes, advance}
 use Rattle.sc_interp_laws.specs.Worlds.{world_of}
 use Rattle.sc_interp_laws.proofs.RunSteps.{advance_leads}
-use Rattle.sc_interp_change_laws.specs.Coming.{HaveCome}
+use Rattle.sc_meaning.specs.Laws.{HaveCome}
+use Rattle.sc_meaning.proofs.Histories.{changes_nothing_behind, present_stays}
 use Rattle.sc_interp_change_laws.specs.Following.{changed_state, reached_in, Shows, LastShows}
 use Rattle.sc_interp_change_laws.proofs.Between.{Agree, count_grows, event_counts}
-use Rattle.sc_interp_change_laws.proofs.Later.{changes_now, changes_nothing_before, is_not_present_before, changes_nothing_behind, at_most}
+use Rattle.sc_interp_change_laws.proofs.Later.{changes_now, changes_nothing_before, is_not_present_before}
 use Rattle.sc_interp_change_laws.proofs.Steps.{step_same, named_same}
 
 -- ---- before it comes
@@ -27,16 +28,6 @@ agree_before h v = record {
 }
 
 -- ---- behind all that have come
-
-latest_stays : (n l : ℕ) (old : List Text) (h : History) → n ≤ l → HaveCome n h → latest old h l ≡ latest old h n
-latest_stays n l old [] le p = refl
-latest_stays n l old (x ∷ xs) le p =
-    ap (λ b. if b then latest x.texts xs l else old) (at_most l x.count (omega (arith, le, p.0)))
-    ∙ latest_stays n l x.texts xs le p.1
-    ∙ sym (ap (λ b. if b then latest x.texts xs n else old) (at_most n x.count p.0))
-
-pub present_stays : (n l : ℕ) (h : History) → n ≤ l → HaveCome n h → version_at h l ≡ version_at h n
-present_stays n l h le p = latest_stays n l [] h le p
 
 pub event_behind : (n : ℕ) (h : History) (e : Event) (w : World) → HaveCome n h → n ≤ w.count → happened h e w ≡ went (pass (Happens e) w)
 event_behind n h e w p le = changes_nothing_behind n h (pass (Happens e) w) (subst (λ m. n < m) (sym (event_counts e w)) (omega (arith, le))) p
@@ -113,10 +104,6 @@ shows_still h v w (suc k) x =
 have_still_of : (n : ℕ) (h : History) (v : Version) → HaveCome n h → v.count ≤ n → HaveCome n (h ++ v ∷ [])
 have_still_of n [] v p le = (le, tt)
 have_still_of n (x ∷ xs) v p le = (p.0, have_still_of n xs v p.1 le)
-
-pub have_later : (n m : ℕ) (h : History) → n ≤ m → HaveCome n h → HaveCome m h
-have_later n m [] le p = tt
-have_later n m (x ∷ xs) le p = (omega (arith, le, p.0), have_later n m xs le p.1)
 
 pub have_still : (h : History) (v : Version) → HaveCome v.count h → HaveCome v.count (h ++ v ∷ [])
 have_still h v p = have_still_of v.count h v p (omega arith)

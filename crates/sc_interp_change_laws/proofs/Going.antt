@@ -9,7 +9,7 @@ use Rattle.sc_interp_laws.specs.Worlds.{world_of}
 use Rattle.sc_interp.specs.Steady as steady
 use Rattle.sc_interp.specs.Steady.{alone}
 use Rattle.sc_interp.proofs.Unchanged.{quiet, present, same_step, callee_step}
-use Rattle.sc_interp_change_laws.specs.Coming.{HaveCome}
+use Rattle.sc_meaning.specs.Laws.{HaveCome}
 use Rattle.sc_interp_change_laws.specs.Following.{reached_in}
 use Rattle.sc_interp_change_laws.proofs.Changed.{agree_behind}
 use Rattle.sc_interp_change_laws.proofs.Steps as steps

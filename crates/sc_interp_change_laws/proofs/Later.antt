@@ -4,7 +4,8 @@ use Rattle.sc_meaning.specs.World.{World}
 use Rattle.sc_meaning.specs.Outcomes.{Outcome, Done, Over, and_then, went}
 use Rattle.sc_meaning.specs.Versions.{Text, Version, History, latest, version_at}
 use Rattle.sc_meaning.specs.Changes.{changed, changed_if, settled_from, settled}
-use Rattle.sc_interp_change_laws.specs.Coming.{HaveCome}
+use Rattle.sc_meaning.specs.Laws.{HaveCome}
+use Rattle.sc_meaning.proofs.Histories.{at_most, not_less}
 
 then_again : {A B C : Type 0} (r : Outcome A) (f : A → World → Outcome B) (g : B → World → Outcome C) → and_then (and_then r f) g ≡ and_then r (λ a w. and_then (f a w) g)
 then_again (Done a w) f g = refl
@@ -18,23 +19,14 @@ done_then : (r : Outcome (Unit {0})) → and_then r (λ _ u. went u) ≡ r
 done_then (Done x w) = refl
 done_then (Over e) = refl
 
-not_less : (n c : ℕ) → c ≤ n → nat_lt n c ≡ false
-not_less n c le = grind (arith)
-
 is_less : (n c : ℕ) → n < c → nat_lt n c ≡ true
 is_less n c lt = grind (arith)
-
-pub at_most : (n c : ℕ) → c ≤ n → nat_le c n ≡ true
-at_most n c le = grind (arith)
 
 not_at_most : (n c : ℕ) → n < c → nat_le c n ≡ false
 not_at_most n c lt = grind (arith)
 
 at_once : (n : ℕ) → (n == n) ≡ true
 at_once n = grind (arith)
-
-not_at_once : (n c : ℕ) → c < n → (c == n) ≡ false
-not_at_once n c lt = grind (arith)
 
 -- the texts that stand behind a version that has come
 latest_behind : (n : ℕ) (old : List Text) (x : Version) (xs : History) → x.count ≤ n → latest old (x ∷ xs) n ≡ latest x.texts xs n
@@ -82,14 +74,3 @@ latest_before old (x ∷ xs) v n lt = ap (λ (ts : List Text). if nat_le x.count
 -- and its texts are not there
 pub is_not_present_before : (h : History) (v : Version) (n : ℕ) → n < v.count → version_at (h ++ v ∷ []) n ≡ version_at h n
 is_not_present_before h v n lt = latest_before [] h v n lt
-
-settled_behind : (m n : ℕ) (old : List Text) (h : History) (w : World) → m < n → HaveCome m h → settled_from n old h w ≡ went w
-settled_behind m n old [] w lt p = refl
-settled_behind m n old (x ∷ xs) w lt p =
-    ap (λ b. if b then went w else and_then (changed_if (x.count == n) old x.texts w) (λ _ u. settled_from n x.texts xs u)) (not_less n x.count (omega (arith, lt, p.0)))
-    ∙ ap (λ b. and_then (changed_if b old x.texts w) (λ _ u. settled_from n x.texts xs u)) (not_at_once n x.count (omega (arith, lt, p.0)))
-    ∙ settled_behind m n x.texts xs w lt p.1
-
--- versions that came at earlier events change nothing more
-pub changes_nothing_behind : (m : ℕ) (h : History) (w : World) → m < w.count → HaveCome m h → settled h w ≡ went w
-changes_nothing_behind m h w lt p = settled_behind m w.count [] h w lt p

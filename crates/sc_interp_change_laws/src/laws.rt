@@ -8,7 +8,7 @@ ghost use Rattle.sc_interp_machine.specs.Runs.{State, advance};
 ghost use Rattle.sc_interp_laws.specs.Worlds.{world_of};
 ghost use Rattle.sc_interp.specs.Shows.{shown};
 ghost use Rattle.sc_interp.specs.Steady as steady;
-ghost use Rattle.sc_interp_change_laws.specs.Coming.{HaveCome};
+ghost use Rattle.sc_meaning.specs.Laws.{HaveCome};
 ghost use Rattle.sc_interp_change_laws.specs.Following.{changed_state, reached_in, LastShows, Shows};
 ghost use Rattle.sc_interp_change_laws.specs.Showing.{IsEvent};
 
@@ -30,7 +30,7 @@ pub fn versions_change_nothing_before()
 {}
 
 /// Versions that came at earlier events change nothing again.
-#[tactic(auto, using(crate::proofs::Later::changes_nothing_behind))]
+#[tactic(auto)]
 pub fn versions_change_nothing_behind()
     ensures { (m : ℕ) (h : History) (w : World) → m < w.count → HaveCome m h → settled h w ≡ went w }
 {}

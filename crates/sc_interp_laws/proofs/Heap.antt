@@ -13,7 +13,8 @@ use Rattle.sc_meaning.specs.Outcomes.{Outcome, Done, Over, BirthLimit, Breach, a
 use Rattle.sc_meaning.specs.Violations.{store_rule, write_rule, free_rule, is_null, of_object}
 use Rattle.sc_meaning.specs.Accesses.{copy_at}
 use Rattle.sc_meaning.specs.Expressions.{Nothing, either}
-use Rattle.sc_meaning.specs.Library.{gives, writable, bytes_set, bytes_written, allocated, taken, class_of, block_size, address_or_null, given, given_back, block_size_at, block_breach}
+use Rattle.sc_meaning.specs.Classes.{block_size, class_of}
+use Rattle.sc_meaning.specs.Library.{gives, writable, bytes_set, bytes_written, allocated, taken, address_or_null, given, given_back, block_size_at, block_breach}
 use Rattle.sc_meaning.specs.Functions.{malloc, zeroed, calloc, free, enlarged, reallocated, realloc, copied_bytes, set_all, memset}
 use Rattle.sc_meaning.proofs.Objects.{born_new}
 use Rattle.sc_interp_laws.specs.Lawful.{IsWritable, IsBlock, IsOfHeap, Along}

@@ -3,7 +3,7 @@ pub mod Showings
 pub mod Happenings
 pub mod Outputs
 pub mod Naming
-pub mod Addresses
+pub mod Keeping
 pub mod Blanks
 pub mod Recording
 pub mod Told

@@ -131,6 +131,27 @@ impl Account {
         })
     }
 
+    /// Nothing happened yet; whether somebody listens is given.
+    ///
+    /// # Errors
+    ///
+    /// `NoMemory` as for `heard`.
+    pub fn of(
+        alloc: Global,
+        stack: u64,
+        heap: u64,
+        functions: &[Shared<Key>],
+        heard: bool,
+    ) -> Result<Account, NoMemory>
+        ensures { IfOk result (λ a. a ≡ []) }
+    {
+        if heard {
+            Account::heard(alloc, stack, heap, functions)
+        } else {
+            Ok(Account::unheard(alloc))
+        }
+    }
+
     /// One thing more happened, which no note on a call or a line tells. Where memory runs out, none did. Callers name the kind of
     /// item, so that the item itself is never made.
     #[inline(always)]

@@ -3,13 +3,13 @@
 #![tactic(auto)]
 
 mod account;
-mod beside;
 mod cells;
 mod event;
 mod held;
 mod names;
 mod object;
 mod past;
+mod places;
 mod recorder;
 mod recording;
 mod remember;
@@ -18,7 +18,6 @@ mod values;
 mod world;
 
 pub use account::{Account, Taken};
-pub use beside::Beside;
 pub use cells::{copy_cells, unwritten};
 pub use event::{Change, Event, Item, Showing};
 pub use names::{Named, Names, Roll, same_id};

@@ -26,7 +26,8 @@ fn below(end: u32, bytes: u64) -> u32 {
 // The next number is that of a dead object. Where it stood is not known.
 fn bury(object: &Object, stack: u64, memory: &mut Store) -> Result<(), NoMemory>
     requires { object.now.live ≡ false }
-    ensures { IfOk result (λ _. memory.new ≡ memory.old ++ object.now ∷ []) }
+    ensures objects { IfOk result (λ _. memory.new.objects ≡ memory.old.objects ++ object.now ∷ []) }
+    ensures functions { IfOk result (λ _. memory.new.functions ≡ memory.old.functions) }
 {
     let low = below(STACK_END, stack);
     let high = below(STATICS_END, u64::from(object.size));
@@ -35,7 +36,8 @@ fn bury(object: &Object, stack: u64, memory: &mut Store) -> Result<(), NoMemory>
 
 // The next number is that of a live object, its bytes unwritten.
 fn settle(size: u32, kind: Kind, base: u32, memory: &mut Store) -> Result<(), NoMemory>
-    ensures { IfOk result (λ _. memory.new ≡ memory.old ++ spec.fresh size kind ∷ []) }
+    ensures objects { IfOk result (λ _. memory.new.objects ≡ memory.old.objects ++ spec.fresh size kind ∷ []) }
+    ensures functions { IfOk result (λ _. memory.new.functions ≡ memory.old.functions) }
 {
     match kind {
         Kind::Heap => memory.allocate(size),
@@ -45,7 +47,8 @@ fn settle(size: u32, kind: Kind, base: u32, memory: &mut Store) -> Result<(), No
 
 // The next number is that of this object, its bytes unwritten where it lives.
 fn place(object: &Object, base: u32, stack: u64, memory: &mut Store) -> Result<(), NoMemory>
-    ensures { IfOk result (λ _. memory.new ≡ memory.old ++ blanks.blank object.now ∷ []) }
+    ensures objects { IfOk result (λ _. memory.new.objects ≡ memory.old.objects ++ blanks.blank object.now ∷ []) }
+    ensures functions { IfOk result (λ _. memory.new.functions ≡ memory.old.functions) }
 {
     if object.live {
         settle(object.size, object.kind, base, memory)
@@ -69,7 +72,8 @@ fn place_all(
     stack: u64,
     memory: &mut Store,
 ) -> Result<(), NoMemory>
-    ensures { IfOk result (λ _. memory.new ≡ memory.old ++ map blanks.blank objects.now) }
+    ensures objects { IfOk result (λ _. memory.new.objects ≡ memory.old.objects ++ map blanks.blank objects.now) }
+    ensures functions { IfOk result (λ _. memory.new.functions ≡ memory.old.functions) }
 {
     let mut at = 0_usize;
     let mut left = objects;
@@ -83,7 +87,8 @@ fn place_all(
 
 // The bytes of an object are written, where it lives.
 fn fill(object: &Object, id: u32, memory: &mut Store) -> Result<(), NoMemory>
-    ensures filled { IfOk result (λ _. memory.new ≡ blanks.filled object.now id memory.old) }
+    ensures filled { IfOk result (λ _. memory.new.objects ≡ blanks.filled object.now id memory.old.objects) }
+    ensures functions { IfOk result (λ _. memory.new.functions ≡ memory.old.functions) }
     ensures full { IfOk result (λ _. object.now.live ≡ true → length object.now.cells ≡ object.now.size) }
 {
     if !object.live {
@@ -103,8 +108,9 @@ fn fill(object: &Object, id: u32, memory: &mut Store) -> Result<(), NoMemory>
 
 // The bytes of all objects are written.
 fn fill_all(objects: &[Object], memory: &mut Store) -> Result<(), NoMemory>
-    requires { memory.old ≡ map blanks.blank objects.now }
-    ensures { IfOk result (λ _. memory.new ≡ objects.now) }
+    requires { memory.old.objects ≡ map blanks.blank objects.now }
+    ensures objects { IfOk result (λ _. memory.new.objects ≡ objects.now) }
+    ensures functions { IfOk result (λ _. memory.new.functions ≡ memory.old.functions) }
 {
     let mut id = 0_u32;
     for object in objects {
@@ -131,7 +137,8 @@ pub fn memory_of(
     heap: u64,
     functions: Items<Shared<Key>>,
 ) -> Result<Store, NoMemory>
-    ensures { IfOk result (λ m. m ≡ objects.now) }
+    ensures objects { IfOk result (λ m. m.objects ≡ objects.now) }
+    ensures functions { IfOk result (λ m. m.functions ≡ functions) }
 {
     let mut memory = Store::new(alloc, stack, heap, functions)?;
     place_all(objects, bases, stack, &mut memory)?;

@@ -1,21 +1,23 @@
 // The world of a run, and the single changes to it.
-ghost use Rattle.std.specs.Prelude.{◌≡◌, true, false, not, ℕ, ◌+◌, ◌-◌, ◌∷◌, ◌++◌, [], List, length, reverse, IfOk, IfSome, MatchOption, None, Some, slice_index, slice_set, replicate};
-ghost use Rattle.sc_meaning.specs.Beside.{nothing_beside};
+ghost use Rattle.std.specs.Prelude.{◌≡◌, true, false, not, ℕ, ◌+◌, ◌-◌, ◌∷◌, ◌++◌, [], List, length, reverse, IfOk, IfSome, IsSome, MatchOption, None, Some, ⊤, slice_index, slice_set, replicate};
+ghost use Rattle.sc_meaning.specs.Beside.{born_in, empty_memory, kept_in, nothing_beside, with_memory, word_of};
+ghost use Rattle.sc_mem.specs.Flat.{aligned_place, raw_read};
 ghost use Rattle.sc_meaning.specs.Values as value;
 ghost use Rattle.sc_meaning.specs.World as spec;
 ghost use Rattle.sc_mem.specs.Words.{IsSize};
-ghost use Rattle.sc_mem_store.specs.Living.{IsLiveAt, IsLiving};
+ghost use Rattle.sc_mem_store.specs.Holding.{value_at};
+ghost use Rattle.sc_mem_store.specs.Living.{IsBare, IsByteOf, IsLiveAt, IsLiving};
+ghost use Rattle.sc_interp_world.specs.Keeping.{beside_of};
 ghost use Rattle.sc_interp_world.specs.Happenings.{item_of};
-ghost use Rattle.sc_interp_world.specs.Addresses.{address};
 ghost use Rattle.sc_interp_world.specs.Outputs.{bytes_moved, output};
 ghost use Rattle.sc_interp_world.specs.Told.{Other, step_of};
 
 use crate::account::Account;
-use crate::beside::Beside;
 use crate::event::{Change, Event, Item, Showing};
 use crate::held::Held;
 use crate::names::Names;
 use crate::object::{Born, Frame, Object};
+use crate::places::Places;
 use sc_base::{Bytes, Duplicate, Items, Key, Kind, Name, NoMemory, Shared, Stack, Word};
 use sc_meaning::Spot;
 use sc_meaning_values::Value;
@@ -45,7 +47,7 @@ pub struct World {
     stack: u64,
     heap: u64,
     pub(crate) objects: Held,
-    places: Names,
+    places: Places,
     used: u64,
     free: Items<u64>,
     made: u64,
@@ -56,16 +58,16 @@ pub struct World {
     enters: u64,
     count: u64,
     begun: u64,
-    beside: Beside,
     pub(crate) account: Account,
 }
 
 impl Model for World {
     ghost use Rattle.sc_meaning.specs.World as spec;
+    ghost use Rattle.sc_interp_world.specs.Keeping.{beside_of};
 
     ghost Value = { spec.World };
 
-    ghost view = { λ w. record { stack = w.stack; heap = w.heap; objects = w.objects; used = w.used; free = w.free; made = w.made; input = w.input; seed = w.seed; frames = w.frames; names = w.names; enters = w.enters; count = w.count; begun = w.begun; trail = w.account; beside = w.beside.told } };
+    ghost view = { λ w. record { stack = w.stack; heap = w.heap; objects = w.objects.objects; used = w.used; free = w.free; made = w.made; input = w.input; seed = w.seed; frames = w.frames; names = w.names; enters = w.enters; count = w.count; begun = w.begun; trail = w.account; beside = beside_of w.objects w.places.seen } };
 }
 
 // One more.
@@ -127,7 +129,7 @@ fn frame_address(used: u64, offset: u32) -> Result<u32, NoMemory>
 
 // The address of a place outside the heap.
 fn address_of(places: &Names, used: u64, spot: &Spot) -> Result<u32, NoMemory>
-    ensures { IfOk result (λ at. address places.now used spot.now ≡ Some at) }
+    ensures { IfOk result (λ at. spec.address places.now used spot.now ≡ Some at) }
 {
     match spot {
         Spot::Slot(offset) => frame_address(used, *offset),
@@ -173,28 +175,36 @@ impl World {
             heap,
             input,
             Held::nowhere(alloc),
-            Names::new(alloc),
+            Places::none(alloc),
             Account::unheard(alloc),
         )
     }
 
-    /// A world in which nothing is there yet, and objects will stand at addresses.
+    /// A world in which nothing is there yet, and objects will stand at addresses. Where it is heard all that happens is recorded,
+    /// behind the note `Start`.
+    ///
+    /// # Errors
+    ///
+    /// `NoMemory` also where it is heard and the stack's or the heap's bytes are no number of 32 bits.
     pub fn new(
         alloc: Global,
         stack: u64,
         heap: u64,
         input: Items<u8>,
         layout: Layout,
+        heard: bool,
     ) -> Result<World, NoMemory>
-        ensures { IfOk result (λ w. w ≡ record { stack = stack; heap = heap; objects = []; used = 0; free = replicate 29 0; made = 0; input = input; seed = 1; frames = []; names = []; enters = 0; count = 0; begun = 0; trail = []; beside = nothing_beside }) }
+        ensures { IfOk result (λ w. w ≡ record { stack = stack; heap = heap; objects = []; used = 0; free = replicate 29 0; made = 0; input = input; seed = 1; frames = []; names = []; enters = 0; count = 0; begun = 0; trail = []; beside = record { functions = layout.functions; places = layout.places; memory = Some (empty_memory stack heap) } }) }
     {
         let Layout { functions, places } = layout;
+        let account = Account::of(alloc, stack, heap, functions.as_slice(), heard)?;
         let objects = Held::new(alloc, stack, heap, functions)?;
-        let account = Account::unheard(alloc);
-        World::with(alloc, stack, heap, input, objects, places, account)
+        let seen = Places::seen(alloc, places);
+        World::with(alloc, stack, heap, input, objects, seen, account)
     }
 
-    /// The same where somebody listens: all that happens is recorded, behind the note `Start`.
+    /// That of a run without compiled code to which somebody listens: all that happens is recorded, behind the note `Start`. Objects
+    /// will stand at addresses, which are not seen.
     ///
     /// # Errors
     ///
@@ -210,8 +220,9 @@ impl World {
     {
         let Layout { functions, places } = layout;
         let account = Account::heard(alloc, stack, heap, functions.as_slice())?;
-        let objects = Held::new(alloc, stack, heap, functions)?;
-        World::with(alloc, stack, heap, input, objects, places, account)
+        let objects = Held::aside(alloc, stack, heap, functions)?;
+        let unseen = Places::unseen(alloc, places);
+        World::with(alloc, stack, heap, input, objects, unseen, account)
     }
 
     // A world in which only these objects are there, and nothing happened.
@@ -221,11 +232,11 @@ impl World {
         heap: u64,
         input: Items<u8>,
         objects: Held,
-        places: Names,
+        places: Places,
         account: Account,
     ) -> Result<World, NoMemory>
         requires { account ≡ [] }
-        ensures { IfOk result (λ w. w ≡ record { stack = stack; heap = heap; objects = objects; used = 0; free = replicate 29 0; made = 0; input = input; seed = 1; frames = []; names = []; enters = 0; count = 0; begun = 0; trail = []; beside = nothing_beside }) }
+        ensures { IfOk result (λ w. w ≡ record { stack = stack; heap = heap; objects = objects.objects; used = 0; free = replicate 29 0; made = 0; input = input; seed = 1; frames = []; names = []; enters = 0; count = 0; begun = 0; trail = []; beside = beside_of objects places.seen }) }
     {
         let free = no_block(alloc)?;
         let mut left = Stack::new(alloc);
@@ -246,13 +257,12 @@ impl World {
             enters: 0,
             count: 0,
             begun: 0,
-            beside: Beside::nothing(),
             account,
         })
     }
 
-    /// The world of a run without memory gets one: each live object stands at the address that is given by its place in the
-    /// list, one of the heap in a block of its own. Nothing else changes.
+    /// The world of a run without memory gets one, which is not seen: each live object stands at the address that is given by its place in
+    /// the list, one of the heap in a block of its own. Nothing else changes.
     ///
     /// # Errors
     ///
@@ -263,13 +273,32 @@ impl World {
         let Layout { functions, places } = layout;
         self.objects
             .remember(bases, self.stack, self.heap, functions)?;
-        self.places = places;
+        self.places.unseen = places;
         Ok(())
     }
 
-    /// Whether objects stand at addresses.
-    pub fn has_memory(&self) -> bool {
+    /// The addresses of objects are seen from here on, as compiled code comes into a run. Nothing else changes.
+    pub fn reveal(&mut self)
+        ensures { self.new ≡ record self.old { beside = self.new.beside } }
+    {
+        if !self.objects.has_memory() {
+            self.objects.reveal();
+            self.places.reveal(self.alloc);
+        }
+    }
+
+    /// Whether objects stand at addresses that are seen.
+    pub fn shows_memory(&self) -> bool
+        ensures { MatchOption self.now.beside.memory (result ≡ false) (λ _. result ≡ true) }
+    {
         self.objects.has_memory()
+    }
+
+    /// Whether objects stand at addresses, seen or not.
+    pub fn has_memory(&self) -> bool
+        ensures { IfSome self.now.beside.memory (λ _. result ≡ true) }
+    {
+        self.objects.has_memory() || self.objects.has_unseen()
     }
 
     /// How many functions have numbers, where the world has a memory.
@@ -283,7 +312,9 @@ impl World {
     ///
     /// `NoMemory` also where a live object holds a word with the functions' tag that leads to no function.
     pub fn number(&mut self, more: &[Shared<Key>]) -> Result<(), NoMemory>
-        ensures { self.new ≡ self.old }
+        ensures same { self.new ≡ record self.old { beside = record self.old.beside { functions = self.new.beside.functions } } }
+        ensures none { MatchOption self.old.beside.memory (self.new ≡ self.old) (λ _. ⊤) }
+        ensures more { IfOk result (λ _. MatchOption self.old.beside.memory (self.new ≡ self.old) (λ _. self.new ≡ record self.old { beside = record self.old.beside { functions = self.old.beside.functions ++ more.now } })) }
     {
         self.objects.number(more)?;
         self.account.number(more)
@@ -291,9 +322,13 @@ impl World {
 
     /// Static objects and literals that are born from here on stand at these addresses. Nothing else changes.
     pub fn set_places(&mut self, places: Names)
-        ensures { self.new ≡ self.old }
+        ensures { MatchOption self.old.beside.memory (self.new ≡ self.old) (λ _. self.new ≡ record self.old { beside = record self.old.beside { places = places } }) }
     {
-        self.places = places;
+        if self.objects.has_memory() {
+            self.places.seen = places;
+        } else {
+            self.places.unseen = places;
+        }
     }
 
     /// The allocator of the run.
@@ -518,20 +553,29 @@ impl World {
     }
 
     // Where an object outside the heap will stand; without a memory anywhere.
-    fn base_for(&self, spot: &Spot) -> Result<u32, NoMemory> {
-        if !self.objects.has_memory() {
-            return Ok(0);
+    fn base_for(&self, spot: &Spot) -> Result<u32, NoMemory>
+        ensures { IfOk result (λ base. IfSome self.now.beside.memory (λ _. spec.address self.now.beside.places self.now.used spot.now ≡ Some base)) }
+    {
+        if self.objects.has_memory() {
+            return address_of(&self.places.seen, self.used, spot);
         }
-        address_of(&self.places, self.used, spot)
+        if self.objects.has_unseen() {
+            return address_of(&self.places.unseen, self.used, spot);
+        }
+        Ok(0)
     }
 
     // Memory and the objects get one more.
+    #[tactic(auto, using(crate::proofs::Moving::born_there))]
     fn bear(&mut self, size: u32, kind: Kind, spot: &Spot) -> Result<(), NoMemory>
-        ensures { IfOk result (λ _. self.new ≡ record self.old { objects = self.old.objects ++ spec.fresh size kind ∷ [] }) }
+        ensures { IfOk result (λ _. self.new ≡ record self.old { objects = self.old.objects ++ spec.fresh size kind ∷ []; beside = with_memory (born_in size kind (spec.address self.old.beside.places self.old.used spot.now)) self.old.beside }) }
     {
-        match kind {
-            Kind::Heap => self.objects.allocate(size),
-            Kind::Static | Kind::Const | Kind::Literal | Kind::Auto => {
+        match spot {
+            Spot::Block => match kind {
+                Kind::Heap => self.objects.allocate(size),
+                Kind::Static | Kind::Const | Kind::Literal | Kind::Auto => Err(NoMemory),
+            },
+            Spot::Slot(_) | Spot::Named(_) => {
                 let base = self.base_for(spot)?;
                 self.objects.birth(size, kind, base)
             }
@@ -698,7 +742,8 @@ impl World {
     /// The byte of a live object that stands at an address: `None` where the byte there belongs to no live object, as just
     /// behind the last byte of one. Also `None` behind a change that was given up for want of memory.
     pub fn live_at(&self, address: u32) -> Option<Place>
-        ensures { IfSome result (λ p. IsLiveAt self.now.objects p.id p.offset) }
+        ensures lives { IfSome result (λ p. IsLiveAt self.now.objects p.id p.offset) }
+        ensures place { IfSome result (λ p. IfSome self.now.beside.memory (λ m. IsByteOf m.flat.objects p.id p.offset address)) }
     {
         self.objects.live_at(address)
     }
@@ -708,12 +753,15 @@ impl World {
     /// bytes that are one pointer have a tag.
     pub fn load(&self, at: u32, size: u8) -> Option<Word>
         requires { IsSize size }
+        ensures { MatchOption self.now.beside.memory (result ≡ None) (λ m. result ≡ raw_read m.flat at size) }
     {
         self.objects.load(at, size)
     }
 
     /// The value of a word: a number, the function whose stub begins there, or a place in the object that its tag names.
-    pub fn value(&self, w: Word) -> Result<Value, NoMemory> {
+    pub fn value(&self, w: Word) -> Result<Value, NoMemory>
+        ensures { IfOk result (λ v. IfSome self.now.beside.memory (λ m. v ≡ value_at self.now.beside.functions m.flat.objects w.tag w.bits)) }
+    {
         self.objects.value(w)
     }
 
@@ -722,7 +770,9 @@ impl World {
     /// # Errors
     ///
     /// `NoMemory` for a function that has no stub and for a place in an object that was not born, which no run has.
-    pub fn word(&self, v: &Value) -> Result<Word, NoMemory> {
+    pub fn word(&self, v: &Value) -> Result<Word, NoMemory>
+        ensures { IfOk result (λ w. IfSome self.now.beside.memory (λ m. w ≡ word_of self.now.beside.functions m.flat.objects v.now)) }
+    {
         self.objects.word(v)
     }
 
@@ -732,7 +782,9 @@ impl World {
     /// has the tag of an object that was not born.
     pub fn keep(&mut self, at: u32, size: u8, w: Word) -> Result<Option<()>, NoMemory>
         requires { IsSize size }
-        ensures { self.new ≡ self.old }
+        ensures same { self.new ≡ record self.old { beside = record self.old.beside { memory = self.new.beside.memory } } }
+        ensures kept { IfOk result (λ kept. MatchOption kept (self.new ≡ self.old) (λ _. self.new ≡ record self.old { beside = with_memory (kept_in at size w) self.old.beside })) }
+        ensures place { IfOk result (λ kept. IfSome kept (λ _. MatchOption self.old.beside.memory ⊥ (λ m. IsSome (aligned_place m.flat at size) × IsBare m.flat.objects at))) }
     {
         let kept = self.objects.keep(at, size, w)?;
         self.account.tell_kept(at, size, w, kept.is_some())?;

@@ -7,7 +7,8 @@ use Rattle.sc_meaning.specs.World.{World}
 use Rattle.sc_meaning.specs.Outcomes.{Done, and_then, unless, access_breach, moved}
 use Rattle.sc_meaning.specs.Violations.{store_rule}
 use Rattle.sc_meaning.specs.Expressions.{either}
-use Rattle.sc_meaning.specs.Library.{byte_read, put_before, text_upto, writable, gives, block_size, class_from}
+use Rattle.sc_meaning.specs.Classes.{block_size, class_from}
+use Rattle.sc_meaning.specs.Library.{byte_read, put_before, text_upto, writable, gives}
 use Rattle.sc_meaning.specs.Functions.{bytes_compared, first_found, last_found, order_of}
 
 text_suc : (n : ℕ) (p : Value) (i : ℕ) (w : World) → text_upto (suc n) p i w ≡ and_then (byte_read p i w) (λ b w. either (b == 0) (Done []) (λ w. and_then (text_upto n p (i + 1) w) (put_before b)) w)

@@ -1,5 +1,6 @@
 // The heap (ANSI 4.10.3).
 ghost use Rattle.std.specs.Prelude.{◌≡◌, ◌+◌, ◌*◌, ◌<◌, not, nat_lt, replicate, IfOk};
+ghost use Rattle.sc_meaning.specs.Classes as classes;
 ghost use Rattle.sc_meaning.specs.Functions as functions;
 ghost use Rattle.sc_meaning.specs.Library as spec;
 ghost use Rattle.sc_meaning.specs.Outcomes as outcome;
@@ -18,14 +19,14 @@ use std::alloc::Global;
 // The bytes of the blocks of a class.
 fn block_size(k: u32) -> u64
     requires { k < 30 }
-    ensures { result ≡ spec.block_size k }
+    ensures { result ≡ classes.block_size k }
 {
     16u64 << k
 }
 
 // The class of a request of n bytes.
 fn class_of(n: u32) -> u32
-    ensures class { result ≡ spec.class_of n }
+    ensures class { result ≡ classes.class_of n }
     ensures bound { result < 30 }
 {
     for k in 0..29 {

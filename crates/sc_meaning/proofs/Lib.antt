@@ -11,6 +11,7 @@ pub mod Growing
 pub mod Deeper
 pub mod Objects
 pub mod Trails
+pub mod Histories
 pub mod Sooner
 pub mod Runs
 pub mod Numbers

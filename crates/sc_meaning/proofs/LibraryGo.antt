@@ -17,7 +17,8 @@ use Rattle.sc_meaning.specs.Accesses.{set_at}
 use Rattle.sc_meaning.specs.Versions.{History}
 use Rattle.sc_meaning.specs.Changes.{born, happened}
 use Rattle.sc_meaning.specs.Expressions.{Plain}
-use Rattle.sc_meaning.specs.Library.{gives, value_at, out_of_range, byte_read, text_upto, past, text_at, writable, bytes_set, bytes_written, apart, shown, class_of, block_size, allocated, taken, given, given_back, block_size_at, block_tested}
+use Rattle.sc_meaning.specs.Classes.{block_size, class_of}
+use Rattle.sc_meaning.specs.Library.{gives, value_at, out_of_range, byte_read, text_upto, past, text_at, writable, bytes_set, bytes_written, apart, shown, allocated, taken, given, given_back, block_size_at, block_tested}
 use Rattle.sc_meaning.specs.Printf.{Printed, argument_in, argument, is_wrong, refused, greatest, signed, width_of, precision_of, counts_of, text_of, conversion_text, converted, piece_text, formatted, printf}
 use Rattle.sc_meaning.specs.Laws.{Leads}
 use Rattle.sc_meaning.proofs.Relation.{Relation, Histories}

@@ -16,7 +16,7 @@ events-append (i ∷ is) js = ap (λ es. events_of i ++ es) (events-append is js
 abbrev pub IsCounted : World → Type 0
 IsCounted w = w.count ≡ length (events w.trail)
 
-effect_counts : (i : Item) (w : World) → (effect i w).count ≡ w.count + length (events_of i)
+pub effect_counts : (i : Item) (w : World) → (effect i w).count ≡ w.count + length (events_of i)
 effect_counts (Work n) w = omega arith
 effect_counts Begin w = omega arith
 effect_counts End w = omega arith

@@ -1,6 +1,6 @@
 -- Inside: plumbing, a representation, an invariant or a promise beside the claim (docs/TRUST.md).
 -- What holds of every run.
-use Rattle.std.specs.Prelude.{◌≡◌, ℕ, nat_le, false, if◌then◌else◌, List, [], ◌∷◌, Some}
+use Rattle.std.specs.Prelude.{◌≡◌, ◌≤◌, ℕ, nat_le, false, if◌then◌else◌, List, [], ◌∷◌, Some}
 use Rattle.sc_meaning.specs.World.{World, Item, Object, object_at, passed}
 use Rattle.sc_meaning.specs.Outcomes.{Outcome, Done, Over, Ending, Undefined, Exit, StackFull, BirthLimit, OutOfFuel, world_at, world_after}
 use Rattle.sc_meaning.specs.Versions.{History}
@@ -41,6 +41,11 @@ KeepsObjects old new = (id : ℕ) (o : Object) → object_at old id ≡ Some o �
 abbrev pub upto : ℕ → History → History
 upto c [] = []
 upto c (v ∷ vs) = if nat_le v.count c then v ∷ upto c vs else []
+
+-- every version of a history comes at this count of events, or earlier
+abbrev pub HaveCome : ℕ → History → Type 0
+HaveCome n [] = Unit {0}
+HaveCome n (v ∷ vs) = (v.count ≤ n) × HaveCome n vs
 
 -- the same start, but for its versions
 abbrev pub with_history : Start → History → Start

@@ -1,5 +1,6 @@
 -- Inside: plumbing, a representation, an invariant or a promise beside the claim (docs/TRUST.md).
 pub mod Values
+pub mod Classes
 pub mod Beside
 pub mod World
 pub mod Outcomes

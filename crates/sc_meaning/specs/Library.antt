@@ -5,6 +5,7 @@ use Rattle.sc_base.specs.declared.key.Key.{Key}
 use Rattle.sc_base.specs.declared.memory.Kind.TheVariants.{Heap}
 use Rattle.sc_base.specs.declared.report.Rule.{Rule}
 use Rattle.sc_base.specs.declared.report.Rule.TheVariants.{U16, U18}
+use Rattle.sc_meaning.specs.Classes.{block_size, class_of}
 use Rattle.sc_meaning.specs.Values.{Value, Number, Pointer, null, number_of_cells}
 use Rattle.sc_meaning.specs.World.{World, Object, pass, Out, Give, TakeFree, TakeNew, Death, tick, free_of}
 use Rattle.sc_meaning.specs.declared.spot.Spot.TheVariants.{Block}
@@ -83,17 +84,6 @@ apart to n from m w = either (is_overlapping to n from m) (λ w. undefined (over
 abbrev pub shown : History → List ℕ → Step
 shown h [] w = went w
 shown h (b ∷ bs) w = and_then (happened h (Out b) (tick w)) (λ _ w. shown h bs w)
-
--- the class of a request of n bytes is the least k whose blocks, of 16 * 2 ^ k bytes, have at least n + 1
-abbrev pub block_size : ℕ → ℕ
-block_size k = 16 * 2 ^ k
-
-abbrev pub class_from : ℕ → ℕ → ℕ → ℕ
-class_from zero k n = k
-class_from (suc more) k n = if nat_le (n + 1) (block_size k) then k else class_from more (k + 1) n
-
-abbrev pub class_of : ℕ → ℕ
-class_of n = class_from 29 0 n
 
 abbrev pub allocated : ℕ → World → Outcome (Option ℕ)
 allocated n w = and_then (born n Heap Block w) (λ o w. Done (Some o) w)

@@ -8,8 +8,9 @@ use Rattle.sc_base.specs.declared.key.Key.{Key}
 use Rattle.sc_program.specs.declared.storage.StaticId.{StaticId}
 use Rattle.sc_program.specs.declared.storage.StaticId.TheVariants.{Named, Literal}
 use Rattle.sc_meaning.specs.declared.spot.Spot.{Spot}
+use Rattle.sc_meaning.specs.declared.spot.Spot.TheVariants as spot
 use Rattle.sc_meaning.specs.Values.{Cell, Unwritten, same_key}
-use Rattle.sc_meaning.specs.Beside.{Beside}
+use Rattle.sc_meaning.specs.Beside.{Beside, with_memory, born_in, died_in, put_in}
 
 -- an object: its size in bytes, its kind, whether it lives, and its bytes
 pub record Object : Type 0 where
@@ -196,9 +197,23 @@ effect CloseBlock w = record w { frames = on_innermost (λ f. record f { blocks 
 effect (Name id o) w = record w { names = (id, o) ∷ w.names }
 effect (Unname id) w = record w { names = without_name w.names id }
 
+-- the address of a place outside the heap, where so many bytes of the stack are used
+abbrev pub address : List (StaticId × ℕ) → ℕ → Spot → Option ℕ
+address places used (spot.Slot offset) = Some (0x20000000 - used + offset)
+address places used (spot.Named id) = named_in places id
+address places used spot.Block = None
+
+-- what it does to the memory in which a machine keeps the objects
+abbrev pub beside_after : Item → World → Beside
+beside_after (Birth size kind at) w = with_memory (born_in size kind (address w.beside.places w.used at)) w.beside
+beside_after (Death id) w = with_memory (died_in id) w.beside
+beside_after (Put id at new) w = with_memory (put_in w.beside.functions id at new) w.beside
+beside_after (Copy to at from off n) w = with_memory (put_in w.beside.functions to at (cells_at w.objects from off n)) w.beside
+beside_after _ w = w.beside
+
 -- the world after an item, which its trail keeps
 abbrev pub pass : Item → World → World
-pass i w = let v : World = effect i w in record v { trail = w.trail ++ i ∷ [] }
+pass i w = let v : World = effect i w in record v { trail = w.trail ++ i ∷ []; beside = beside_after i w }
 
 -- a world that was passed: the one after some items
 abbrev pub passed : List Item → World → World

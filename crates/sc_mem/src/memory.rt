@@ -418,10 +418,10 @@ impl Memory {
 }
 
 impl Memory {
-    ghost use Rattle.std.specs.Prelude.{IsTrue, ◌∷◌, ◌%◌};
+    ghost use Rattle.std.specs.Prelude.{IsTrue, true, ◌∷◌, ◌%◌};
     ghost use Rattle.sc_objects.specs.Numbered.{IsClear};
-    ghost use Rattle.sc_objects.specs.Blocks.{Blocks};
-    ghost use Rattle.sc_mem.specs.Flat.{cell_at, place as place_of, written_at};
+    ghost use Rattle.sc_objects.specs.Blocks.{Blocks, IsClass, Takes};
+    ghost use Rattle.sc_mem.specs.Flat.{cell_at, place as place_of, with_birth, written_at};
     ghost use Rattle.sc_mem.specs.Safe.{IsBirth, IsSafe, Stands};
 
     /// The cell at an address: `None` exactly outside the areas.
@@ -477,6 +477,7 @@ impl Memory {
     /// fault memory is as before.
     pub fn settle(&mut self, size: u32, kind: Kind, base: u32) -> Result<(), NoMemory>
         ensures birth { IfOk result (λ _. IsBirth self.old.flat self.new.flat size kind) }
+        ensures at { IfOk result (λ _. (self.new.flat ≡ with_birth self.old.flat (record { size = size; kind = kind; base = base; live = true })) × (self.new.blocks ≡ self.old.blocks)) }
         ensures safe { IsSafe self.old }
         ensures fault { OnErr result (self.new ≡ self.old) }
     {
@@ -492,6 +493,7 @@ impl Memory {
     /// A new live allocated object in a block of its own, in the next number. After a fault all objects are as before.
     pub fn allocate(&mut self, size: u32) -> Result<(), NoMemory>
         ensures birth { IfOk result (λ _. IsBirth self.old.flat self.new.flat size Kind.Heap) }
+        ensures block { IfOk result (λ _. (k place : ℕ) × IsClass size k × Takes self.old.blocks k (Some place) self.new.blocks × (self.new.flat ≡ with_birth self.old.flat (record { size = size; kind = Kind.Heap; base = 0x10000000 + place; live = true }))) }
         ensures safe { IsSafe self.old }
         ensures fault { OnErr result (self.new.flat ≡ self.old.flat) }
     {

@@ -4,6 +4,7 @@ use Rattle.std.specs.Option.{option_eq}
 use Rattle.std.specs.Str.{bytes_eq}
 use Rattle.std.proofs.lemmas.Slice.Eq.{bytes_eq-Decides}
 use Rattle.sc_base.specs.declared.key.Key.{Key}
+use Rattle.sc_meaning.specs.Values.{same_key as same_key_of, same_module as same_module_of}
 
 pub same_module : (a b : Option (List ℕ)) → option_eq bytes_eq a b ≡ true → a ≡ b
 same_module None None h = refl
@@ -22,3 +23,13 @@ same_key a b h =
     let m = same_module a.«module» b.«module» two.0 in
     let n = (bytes_eq-Decides a.name b.name).0 two.1 in
     λ t. record { «module» = m t; name = n t }
+
+-- the test is that of the meaning
+module_tests : (a b : Option (List ℕ)) → option_eq bytes_eq a b ≡ same_module_of a b
+module_tests None None = refl
+module_tests None (Some y) = refl
+module_tests (Some x) None = refl
+module_tests (Some x) (Some y) = refl
+
+pub key_tests : (a b : Key) → (option_eq bytes_eq a.«module» b.«module» && bytes_eq a.name b.name) ≡ same_key_of a b
+key_tests a b = ap (λ t. t && bytes_eq a.name b.name) (module_tests a.«module» b.«module»)

@@ -10,5 +10,6 @@ pub mod Words
 pub mod ValueBytes
 pub mod Apart
 pub mod Living
+pub mod Memories
 pub mod Numbering
 pub mod Burying

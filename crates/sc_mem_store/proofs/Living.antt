@@ -2,7 +2,7 @@
 use Rattle.std.proofs.Common.{◌≡◌, ◌⊎◌, inl, inr, ℕ, zero, suc, ◌+◌, ◌-◌, ◌%◌, ◌<◌, ◌≤◌, ◌==◌, ◌&&◌, Bool, true, false, cond, List, [], ◌∷◌, length, map, take, refl, sym, ap, subst, ◌∙◌, Option, Some, None, Result, Ok, Err, arith}
 use Rattle.std.specs.List.{slice_get}
 use Rattle.std.specs.Option.{IsSome}
-use Rattle.std.specs.Prelude.{MatchOption, MatchResult}
+use Rattle.std.specs.Prelude.{IfSome, MatchOption, MatchResult}
 use Rattle.std.proofs.lemmas.Bool.{cases_lt}
 use Rattle.std.proofs.lemmas.Bool.Decides.{nat_tests}
 use Rattle.sc_base.specs.declared.key.Key.{Key}
@@ -17,6 +17,7 @@ use Rattle.sc_mem.specs.Words.{IsSize, bytes_of, pieces_of, cells_of}
 use Rattle.sc_meaning.specs.World.{Object, object_at}
 use Rattle.sc_mem_store.specs.Holding.{AreHeld, Holds, IsTag, IsTagged}
 use Rattle.sc_mem_store.specs.Living.{IsBare, IsByteOf, IsLiving, IsLiveAt}
+use Rattle.sc_mem_store.specs.declared.machine.Place.{Place}
 use Rattle.sc_mem_store.proofs.Cells.{written-other, written-here}
 use Rattle.sc_mem_store.proofs.Meant.{Keeps}
 use Rattle.sc_mem_store.proofs.Holding.{held-at, are-kept, objects-stay}
@@ -73,6 +74,10 @@ live_at os m fs id offset a h (p, l, few, is) =
     let live : o.live ≡ true = sym held.live ∙ l.1 in
     let size = held.size in
     (o, here, live, held.full live, omega arith)
+
+pub byte_there : (r : Option Place) (t : List Obj) (a : ℕ) → MatchOption r (IsBare t a) (λ p. IsByteOf t p.id p.offset a) → IfSome r (λ p. IsByteOf t p.id p.offset a)
+byte_there None t a is = tt
+byte_there (Some p) t a is = is
 
 -- the cells of a word
 pub length_of_word : (n : ℕ) (w : Word) → IsSize n → length (cells_of n w) ≡ n

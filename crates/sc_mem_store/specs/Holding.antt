@@ -8,6 +8,7 @@ use Rattle.sc_base.specs.declared.memory.Cell.TheVariants as stored
 use Rattle.sc_objects.specs.declared.objects.Obj.{Obj}
 use Rattle.sc_objects.specs.Numbered.{object_of}
 use Rattle.sc_mem.specs.Flat.{Flat, cell_at}
+use Rattle.sc_mem.specs.Safe.{Store}
 use Rattle.sc_mem.specs.Violations.{offset_from}
 use Rattle.sc_meaning.specs.Values.{Value, Number, FunctionAt, Pointer, Cell, Unwritten, Byte, Piece}
 use Rattle.sc_meaning.specs.World.{Object, object_at}
@@ -80,6 +81,10 @@ pub record Holds (objects : List Object) (m : Flat) (functions : List Key) : Typ
 -- an offset is inside of a live object
 abbrev pub IsInside : List Object → ℕ → ℕ → Type 0
 IsInside objects id at = (o : Object) × (object_at objects id ≡ Some o) × (at < length o.cells)
+
+-- an offset is inside of a live object of the table
+abbrev pub IsReached : Store → ℕ → ℕ → Type 0
+IsReached s id at = (p : Obj) × (object_of s.flat.objects id ≡ Some p) × (p.live ≡ true) × (at < p.size)
 
 -- so many bytes from an address on are the n bytes of a live object from an offset on, as far as the object has them; those of
 -- an object that is not born are none

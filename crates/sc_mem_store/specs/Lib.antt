@@ -3,5 +3,6 @@ pub mod Apart
 pub mod Cells
 pub mod Changes
 pub mod Holding
+pub mod Kept
 pub mod Living
 pub mod Stray

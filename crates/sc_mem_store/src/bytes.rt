@@ -1,5 +1,6 @@
 // Bytes of objects as cells of memory.
 ghost use Rattle.std.specs.Prelude.{◌≡◌, Some, length, IfOk};
+ghost use Rattle.sc_meaning.specs.Beside.{stored_of};
 ghost use Rattle.sc_meaning.specs.Values as spec;
 ghost use Rattle.sc_mem_store.specs.Holding.{byte_at, meant, HasBytes, IsTagged};
 
@@ -65,6 +66,7 @@ fn piece_of(
 ) -> Result<Stored, NoMemory>
     ensures cell { IfOk result (λ s. meant functions.now memory.now.flat.objects s ≡ spec.Piece v.now k) }
     ensures tag { IfOk result (λ s. IsTagged memory.now.flat.objects s) }
+    ensures stored { IfOk result (λ s. s ≡ stored_of functions.now memory.now.flat.objects (spec.Piece v.now k)) }
 {
     if k >= 4 {
         return Err(NoMemory);
@@ -81,6 +83,7 @@ fn piece_of(
 pub fn cell_of(functions: &[Shared<Key>], memory: &Memory, cell: &Cell) -> Result<Stored, NoMemory>
     ensures cell { IfOk result (λ s. meant functions.now memory.now.flat.objects s ≡ cell.now) }
     ensures tag { IfOk result (λ s. IsTagged memory.now.flat.objects s) }
+    ensures stored { IfOk result (λ s. s ≡ stored_of functions.now memory.now.flat.objects cell.now) }
 {
     match &cell.content {
         Content::Unwritten => Ok(Stored::Unwritten),

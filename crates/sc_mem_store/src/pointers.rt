@@ -1,5 +1,6 @@
 // Words as values, and values as words.
-ghost use Rattle.std.specs.Prelude.{◌≡◌, ◌<◌, Some, None, slice_get, IfOk, IfSome, IsTrue, MatchOption};
+ghost use Rattle.std.specs.Prelude.{◌≡◌, ◌+◌, ◌*◌, ◌<◌, [], Some, None, slice_get, IfOk, IfSome, IsTrue, MatchOption};
+ghost use Rattle.sc_meaning.specs.Beside as words;
 ghost use Rattle.sc_meaning.specs.Values as spec;
 ghost use Rattle.sc_mem_store.specs.Holding.{function_of, function_or, value_at, IsTag};
 
@@ -55,17 +56,20 @@ pub fn value_of(
 }
 
 // Whether two keys are one.
-#[tactic(auto, using(crate::proofs::Keys::same_key))]
+#[tactic(auto, using(crate::proofs::Keys::same_key, crate::proofs::Keys::key_tests))]
 fn is_same(a: &Key, b: &Key) -> bool
-    ensures { IsTrue result → a.now ≡ b.now }
+    ensures same { IsTrue result → a.now ≡ b.now }
+    ensures test { result ≡ spec.same_key a.now b.now }
 {
     *a == *b
 }
 
 // The number of a function.
+#[tactic(auto, using(crate::proofs::Words::stub_on, crate::proofs::Words::stub_here))]
 fn number_of(functions: &[Shared<Key>], key: &Key) -> Option<u32>
     ensures number { IfSome result (λ n. slice_get functions.now n ≡ Some key.now) }
     ensures few { IfSome result (λ n. n < 65536) }
+    ensures stub { IfSome result (λ n. words.stub_from 65536 functions.now key.now ≡ 65536 + 8 * n) }
 {
     let mut n = 0;
     while n < functions.len() && n < MOST as usize {
@@ -78,9 +82,10 @@ fn number_of(functions: &[Shared<Key>], key: &Key) -> Option<u32>
 }
 
 // The word of a function.
-#[tactic(auto, using(crate::proofs::Words::stub_word))]
+#[tactic(auto, using(crate::proofs::Words::stub_word, crate::proofs::Words::stub_written))]
 fn function_word(functions: &[Shared<Key>], key: &Shared<Key>) -> Result<Word, NoMemory>
-    ensures { IfOk result (λ w. (w.tag ≡ Word.FUNCTION) × (function_of functions.now w.bits ≡ Some key.now)) }
+    ensures stands { IfOk result (λ w. (w.tag ≡ Word.FUNCTION) × (function_of functions.now w.bits ≡ Some key.now)) }
+    ensures word { IfOk result (λ w. w ≡ words.word_of functions.now [] (spec.FunctionAt key.now)) }
 {
     match number_of(functions, key.get()) {
         None => Err(NoMemory),
@@ -109,10 +114,11 @@ fn stray_word(functions: &[Shared<Key>], address: u32) -> Result<Word, NoMemory>
 /// # Errors
 ///
 /// `NoMemory` also for a function without a number and for a place in an object that was not born, which no run has.
-#[tactic(auto, using(crate::proofs::Words::number_stands, crate::proofs::Words::function_stands, crate::proofs::Words::stray_stands))]
+#[tactic(auto, using(crate::proofs::Words::number_stands, crate::proofs::Words::function_stands, crate::proofs::Words::stray_stands, crate::proofs::Words::stray_word))]
 pub fn word_of(functions: &[Shared<Key>], memory: &Memory, v: &Value) -> Result<Word, NoMemory>
     ensures value { IfOk result (λ w. value_at functions.now memory.now.flat.objects w.tag w.bits ≡ v.now) }
     ensures tag { IfOk result (λ w. IsTag memory.now.flat.objects w.tag) }
+    ensures word { IfOk result (λ w. w ≡ words.word_of functions.now memory.now.flat.objects v.now) }
 {
     match &v.shape {
         Shape::Number(bits) => Ok(Word {
@@ -126,7 +132,7 @@ pub fn word_of(functions: &[Shared<Key>], memory: &Memory, v: &Value) -> Result<
 }
 
 // The word of a place in an object.
-#[tactic(auto, using(crate::proofs::Words::place_stands))]
+#[tactic(auto, using(crate::proofs::Words::place_stands, crate::proofs::Words::place_written))]
 fn place_word(
     functions: &[Shared<Key>],
     memory: &Memory,
@@ -135,6 +141,7 @@ fn place_word(
 ) -> Result<Word, NoMemory>
     ensures value { IfOk result (λ w. value_at functions.now memory.now.flat.objects w.tag w.bits ≡ spec.Pointer id offset) }
     ensures tag { IfOk result (λ w. IsTag memory.now.flat.objects w.tag) }
+    ensures word { IfOk result (λ w. w ≡ words.word_of functions.now memory.now.flat.objects (spec.Pointer id offset)) }
 {
     if id == 0 || id == Word::FUNCTION {
         return Err(NoMemory);

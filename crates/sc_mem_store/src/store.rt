@@ -2,7 +2,10 @@
 ghost use Rattle.std.specs.Prelude.{◌≡◌, ◌+◌, ◌<◌, ◌∷◌, ◌++◌, [], length, OnErr, IfOk, IfSome, IsSome, MatchOption, MatchResult, None, Some};
 ghost use Rattle.sc_objects.specs.declared.objects.Obj.{Obj};
 ghost use Rattle.sc_objects.specs.Numbered.{IsLive};
-ghost use Rattle.sc_mem.specs.Flat.{place, with_death, written_at};
+ghost use Rattle.sc_mem.specs.Flat.{aligned_place, place, raw_read, with_death, written_at};
+ghost use Rattle.sc_meaning.specs.Beside as words;
+ghost use Rattle.sc_meaning.specs.Beside.{born_in, died_in, empty_memory, kept_in, put_in};
+ghost use Rattle.sc_mem_store.specs.Holding.{value_at};
 ghost use Rattle.sc_mem.specs.Safe.{IsSafe};
 ghost use Rattle.sc_mem.specs.Words.{IsSize};
 ghost use Rattle.sc_mem_store.specs.Changes.{buried, changed, item_of, remembered};
@@ -45,12 +48,11 @@ pub struct Store {
 }
 
 impl Model for Store {
-    ghost use Rattle.std.specs.Prelude.{List};
-    ghost use Rattle.sc_meaning.specs.World.{Object};
+    ghost use Rattle.sc_mem_store.specs.Kept.{Kept};
 
-    ghost Value = { List Object };
+    ghost Value = { Kept };
 
-    ghost view = { λ s. s.history.objects };
+    ghost view = { λ s. record { objects = s.history.objects; memory = s.memory; functions = s.functions } };
 
     ghost use Rattle.sc_mem_store.specs.Holding.{Holds};
 
@@ -58,7 +60,7 @@ impl Model for Store {
 }
 
 impl Store {
-    ghost use Rattle.sc_mem_store.specs.Holding.{IsInside};
+    ghost use Rattle.sc_mem_store.specs.Holding.{IsInside, IsReached};
 
     /// No object is born. The stack and the heap have these bytes, and the functions the numbers of their places in the list.
     #[tactic(auto, using(crate::proofs::Holding::holds_none))]
@@ -68,7 +70,7 @@ impl Store {
         heap: u64,
         functions: Items<Shared<Key>>,
     ) -> Result<Store, NoMemory>
-        ensures { IfOk result (λ s. s ≡ []) }
+        ensures { IfOk result (λ s. s ≡ record { objects = []; memory = empty_memory stack heap; functions = functions }) }
     {
         if stack > 16777216 || heap > 67108864 {
             return Err(NoMemory);
@@ -84,7 +86,7 @@ impl Store {
 
     /// How many objects were born.
     pub fn len(&self) -> u32
-        ensures { result ≡ length self.now }
+        ensures { result ≡ length self.now.objects }
     {
         self.memory.count()
     }
@@ -92,7 +94,7 @@ impl Store {
     /// The object with a number.
     #[tactic(auto, using(crate::proofs::Holding::found_held, crate::proofs::Holding::held_nowhere))]
     pub fn find(&self, id: u32) -> Option<Facts>
-        ensures { MatchOption result (object_at self.now id ≡ None) (λ f. (o : Object) × (object_at self.now id ≡ Some o) × (f.size ≡ o.size) × (f.kind ≡ o.kind) × (f.live ≡ o.live)) }
+        ensures { MatchOption result (object_at self.now.objects id ≡ None) (λ f. (o : Object) × (object_at self.now.objects id ≡ Some o) × (f.size ≡ o.size) × (f.kind ≡ o.kind) × (f.live ≡ o.live)) }
     {
         match self.memory.find(id) {
             None => None,
@@ -107,7 +109,7 @@ impl Store {
     /// The `n` bytes of a live object from an offset on, of which those outside the object are left out.
     #[tactic(auto, using(crate::proofs::Reading::read_result))]
     pub fn cells(&self, id: u32, at: u64, n: u32) -> Result<Items<Cell>, NoMemory>
-        ensures { IfOk result (λ cells. cells ≡ cells_at self.now id at n) }
+        ensures { IfOk result (λ cells. cells ≡ cells_at self.now.objects id at n) }
     {
         let span = span_of(&self.memory, id, at, n)?;
         bytes_at(
@@ -122,7 +124,7 @@ impl Store {
     /// The same for at most four bytes, without a list.
     #[tactic(auto, using(crate::proofs::Reading::read_result))]
     pub fn few(&self, id: u32, at: u64, n: u32) -> Result<Few, NoMemory>
-        ensures { IfOk result (λ few. few ≡ cells_at self.now id at n) }
+        ensures { IfOk result (λ few. few ≡ cells_at self.now.objects id at n) }
     {
         let span = span_of(&self.memory, id, at, n)?;
         few_at(
@@ -134,9 +136,9 @@ impl Store {
     }
 
     /// An object outside the heap is born at an address, its bytes unwritten.
-    #[tactic(auto, using(crate::proofs::Holding::holds_born))]
+    #[tactic(auto, using(crate::proofs::Holding::holds_born, crate::proofs::Memories::born_at))]
     pub fn birth(&mut self, size: u32, kind: Kind, base: u32) -> Result<(), NoMemory>
-        ensures ok { IfOk result (λ _. self.new ≡ self.old ++ fresh size kind ∷ []) }
+        ensures ok { IfOk result (λ _. self.new ≡ record { objects = self.old.objects ++ fresh size kind ∷ []; memory = born_in size kind (Some base) self.old.memory; functions = self.old.functions }) }
         ensures err { OnErr result (self.new ≡ self.old) }
     {
         self.memory.settle(size, kind, base)?;
@@ -145,9 +147,9 @@ impl Store {
     }
 
     /// An object of the heap is born in a block of its own, its bytes unwritten.
-    #[tactic(auto, using(crate::proofs::Holding::holds_born))]
+    #[tactic(auto, using(crate::proofs::Holding::holds_born, crate::proofs::Memories::born_block))]
     pub fn allocate(&mut self, size: u32) -> Result<(), NoMemory>
-        ensures { IfOk result (λ _. self.new ≡ self.old ++ fresh size Kind.Heap ∷ []) }
+        ensures { IfOk result (λ _. self.new ≡ record { objects = self.old.objects ++ fresh size Kind.Heap ∷ []; memory = born_in size Kind.Heap None self.old.memory; functions = self.old.functions }) }
     {
         self.memory.allocate(size)?;
         self.history = after(&self.history, Change::Birth(size, Kind::Heap));
@@ -155,9 +157,9 @@ impl Store {
     }
 
     /// A live object dies.
-    #[tactic(auto, using(crate::proofs::Holding::holds_ended, crate::proofs::Holding::held_nowhere))]
+    #[tactic(auto, using(crate::proofs::Holding::holds_ended, crate::proofs::Holding::held_nowhere, crate::proofs::Memories::died_nowhere))]
     pub fn death(&mut self, id: u32) -> Result<(), NoMemory>
-        ensures { IfOk result (λ _. self.new ≡ ended self.old id (object_at self.old id)) }
+        ensures { IfOk result (λ _. self.new ≡ record { objects = ended self.old.objects id (object_at self.old.objects id); memory = died_in id self.old.memory; functions = self.old.functions }) }
     {
         let Some(object) = self.memory.find(id) else {
             return Ok(());
@@ -171,10 +173,11 @@ impl Store {
     }
 
     // A byte is written into a live object.
-    #[tactic(auto, using(crate::proofs::Holding::holds_put))]
+    #[tactic(auto, using(crate::proofs::Holding::holds_put, crate::proofs::Memories::put_one))]
     fn put_byte(&mut self, id: u32, at: u32, cell: &Cell) -> Result<(), NoMemory>
-        ensures put { IfOk result (λ _. self.new ≡ written self.old id at (cell.now ∷ []) (object_at self.old id)) }
-        ensures inside { IfOk result (λ _. IsInside self.old id at) }
+        ensures put { IfOk result (λ _. self.new ≡ record { objects = written self.old.objects id at (cell.now ∷ []) (object_at self.old.objects id); memory = put_in self.old.functions id at (cell.now ∷ []) self.old.memory; functions = self.old.functions }) }
+        ensures inside { IfOk result (λ _. IsInside self.old.objects id at) }
+        ensures reach { IfOk result (λ _. IsReached self.old.memory id at) }
     {
         let Some(object) = self.memory.find(id) else {
             return Err(NoMemory);
@@ -192,10 +195,11 @@ impl Store {
     }
 
     /// Bytes are written into a live object from an offset on.
-    #[tactic(auto, using(crate::proofs::Writing::put_nothing, crate::proofs::Writing::put_step, crate::proofs::Writing::put_all))]
+    #[tactic(auto, using(crate::proofs::Writing::put_nothing, crate::proofs::Writing::put_step, crate::proofs::Writing::put_all, crate::proofs::Memories::put_in_nothing, crate::proofs::Memories::put_done))]
     pub fn put(&mut self, id: u32, at: u32, cells: &[Cell]) -> Result<(), NoMemory>
-        ensures { IfOk result (λ _. self.new ≡ written self.old id at cells.now (object_at self.old id)) }
+        ensures { IfOk result (λ _. self.new ≡ record { objects = written self.old.objects id at cells.now (object_at self.old.objects id); memory = put_in self.old.functions id at cells.now self.old.memory; functions = self.old.functions }) }
     {
+        let _ = self.memory.find(id);
         let mut next = at;
         for cell in cells {
             self.put_byte(id, next, cell)?;
@@ -208,13 +212,14 @@ impl Store {
     }
 
     /// A value is stored as `n` bytes of a live object from an offset on, at most four.
-    #[tactic(auto, using(crate::proofs::Writing::store_nothing))]
+    #[tactic(auto, using(crate::proofs::Writing::store_nothing, crate::proofs::Memories::store_nothing_in, crate::proofs::Memories::kept_is))]
     pub fn store(&mut self, id: u32, at: u32, n: u32, v: &Value) -> Result<(), NoMemory>
-        ensures { IfOk result (λ _. self.new ≡ written self.old id at (cells_of n v.now) (object_at self.old id)) }
+        ensures { IfOk result (λ _. self.new ≡ record { objects = written self.old.objects id at (cells_of n v.now) (object_at self.old.objects id); memory = put_in self.old.functions id at (cells_of n v.now) self.old.memory; functions = self.old.functions }) }
     {
         if n > 4 {
             return Err(NoMemory);
         }
+        let _ = self.memory.find(id);
         let mut next = at;
         for k in 0..n {
             let cell = value_byte(self.alloc, v, k)?;
@@ -229,7 +234,7 @@ impl Store {
 
     /// So many bytes go to a live object and offset from a live object and offset, as if by way of another place.
     pub fn copy(&mut self, to: u32, at: u32, from: u32, off: u32, n: u32) -> Result<(), NoMemory>
-        ensures { IfOk result (λ _. self.new ≡ written self.old to at (cells_at self.old from off n) (object_at self.old to)) }
+        ensures { IfOk result (λ _. self.new ≡ record { objects = written self.old.objects to at (cells_at self.old.objects from off n) (object_at self.old.objects to); memory = put_in self.old.functions to at (cells_at self.old.objects from off n) self.old.memory; functions = self.old.functions }) }
     {
         let cells = self.cells(from, u64::from(off), n)?;
         self.put(to, at, cells.as_slice())
@@ -245,7 +250,7 @@ impl Store {
         base: u32,
         other: u32,
     ) -> Result<(), NoMemory>
-        ensures { IfOk result (λ _. self.new ≡ self.old ++ fresh size kind ∷ []) }
+        ensures { IfOk result (λ _. (self.new.objects ≡ self.old.objects ++ fresh size kind ∷ []) × (self.new.functions ≡ self.old.functions)) }
     {
         match kind {
             Kind::Heap => self.allocate(size),
@@ -269,7 +274,7 @@ impl Store {
         other: u32,
         last: &Snapshot<Items<Cell>>,
     ) -> Result<(), NoMemory>
-        ensures { IfOk result (λ _. self.new ≡ self.old ++ buried size kind last.now.value ∷ []) }
+        ensures { IfOk result (λ _. (self.new.objects ≡ self.old.objects ++ buried size kind last.now.value ∷ []) × (self.new.functions ≡ self.old.functions)) }
     {
         self.birth_somewhere(size, kind, base, other)?;
         let id = self.len();
@@ -286,8 +291,8 @@ impl Store {
     // One more function gets the next number.
     #[tactic(auto, using(crate::proofs::Numbering::holds_numbered))]
     fn number_one(&mut self, key: Shared<Key>) -> Result<(), NoMemory>
-        requires { HasNoStray self.old }
-        ensures { self.new ≡ self.old }
+        requires { HasNoStray self.old.objects }
+        ensures { MatchResult result (λ _. self.new ≡ record self.old { functions = self.old.functions ++ key ∷ [] }) (λ _. self.new ≡ self.old) }
     {
         self.functions.push(key)?;
         Ok(())
@@ -296,8 +301,9 @@ impl Store {
     /// More functions get the next numbers. The words that were values of these functions before they had numbers
     /// are in no live object.
     pub fn number(&mut self, more: &[Shared<Key>]) -> Result<(), NoMemory>
-        requires { HasNoStray self.old }
-        ensures { self.new ≡ self.old }
+        requires { HasNoStray self.old.objects }
+        ensures same { self.new ≡ record self.old { functions = self.new.functions } }
+        ensures more { IfOk result (λ _. self.new ≡ record self.old { functions = self.old.functions ++ more.now }) }
     {
         for key in more {
             self.number_one(key.share()?)?;
@@ -307,12 +313,12 @@ impl Store {
 }
 
 impl Store {
-    ghost use Rattle.sc_mem_store.specs.Living.{IsLiveAt, IsLiving};
+    ghost use Rattle.sc_mem_store.specs.Living.{IsBare, IsByteOf, IsLiveAt, IsLiving};
 
     /// The address of a live object's first byte: `None` exactly where no live object has this number.
     #[tactic(auto, using(crate::proofs::Living::living))]
     pub fn base(&self, id: u32) -> Option<u32>
-        ensures { IfSome result (λ _. IsLiving self.now id) }
+        ensures { IfSome result (λ _. IsLiving self.now.objects id) }
     {
         match self.memory.find(id) {
             None => None,
@@ -321,9 +327,10 @@ impl Store {
     }
 
     /// The byte of a live object that stands at an address: `None` exactly where the byte there belongs to no live object.
-    #[tactic(auto, using(crate::proofs::Living::live_at))]
+    #[tactic(auto, using(crate::proofs::Living::live_at, crate::proofs::Living::byte_there))]
     pub fn live_at(&self, address: u32) -> Option<Place>
-        ensures { IfSome result (λ p. IsLiveAt self.now p.id p.offset) }
+        ensures lives { IfSome result (λ p. IsLiveAt self.now.objects p.id p.offset) }
+        ensures place { IfSome result (λ p. IsByteOf self.now.memory.flat.objects p.id p.offset address) }
     {
         place_at(&self.memory, address)
     }
@@ -332,12 +339,15 @@ impl Store {
     /// no multiple of the size. An unwritten byte reads as 0, and only the four pieces of one pointer have a tag.
     pub fn load(&self, at: u32, size: u8) -> Option<Word>
         requires { IsSize size }
+        ensures { result ≡ raw_read self.now.memory.flat at size }
     {
         self.memory.raw_load(at, size)
     }
 
     /// The value of a word: a number, the function whose stub begins there, or a place in the object that its tag names.
-    pub fn value(&self, w: Word) -> Result<Value, NoMemory> {
+    pub fn value(&self, w: Word) -> Result<Value, NoMemory>
+        ensures { IfOk result (λ v. v ≡ value_at self.now.functions self.now.memory.flat.objects w.tag w.bits) }
+    {
         value_of(self.functions.as_slice(), &self.memory, w.tag, w.bits)
     }
 
@@ -346,17 +356,20 @@ impl Store {
     /// # Errors
     ///
     /// `NoMemory` for a function without a number and for a place in an object that was not born, which no run has.
-    pub fn word(&self, v: &Value) -> Result<Word, NoMemory> {
+    pub fn word(&self, v: &Value) -> Result<Word, NoMemory>
+        ensures { IfOk result (λ w. w ≡ words.word_of self.now.functions self.now.memory.flat.objects v.now) }
+    {
         word_of(self.functions.as_slice(), &self.memory, v)
     }
 
     /// Writes a word to the `size` bytes at an address that belong to no live object: the objects stay as they are. `None`,
     /// where nothing is changed, if they are a live object's, outside the areas, or at no multiple of the size, or if the
     /// word has the tag of an object that was not born.
-    #[tactic(auto, using(crate::proofs::Living::holds_kept))]
+    #[tactic(auto, using(crate::proofs::Living::holds_kept, crate::proofs::Memories::kept_stored))]
     pub fn keep(&mut self, at: u32, size: u8, w: Word) -> Result<Option<()>, NoMemory>
         requires { IsSize size }
-        ensures { self.new ≡ self.old }
+        ensures kept { MatchResult result (λ kept. MatchOption kept (self.new ≡ self.old) (λ _. self.new ≡ record self.old { memory = kept_in at size w self.old.memory })) (λ _. self.new ≡ self.old) }
+        ensures place { IfOk result (λ kept. IfSome kept (λ _. IsSome (aligned_place self.old.memory.flat at size) × IsBare self.old.memory.flat.objects at)) }
     {
         match place_at(&self.memory, at) {
             Some(_) => Ok(None),
@@ -398,6 +411,7 @@ fn remembering(history: &History, last: &Snapshot<Items<Cell>>) -> History
 fn put_cell(memory: &mut Memory, at: u32, cell: Stored) -> Result<(), NoMemory>
     ensures safe { IsSafe memory.old }
     ensures cell { MatchResult result (λ _. IsSome (place memory.old.flat at 1) × (memory.new.flat ≡ written_at memory.old.flat (place memory.old.flat at 1) (cell ∷ []))) (λ _. memory.new.flat ≡ memory.old.flat) }
+    ensures blocks { IfOk result (λ _. memory.new.blocks ≡ memory.old.blocks) }
 {
     match memory.set_cell(at, cell) {
         Ok(Some(())) => Ok(()),
@@ -407,9 +421,11 @@ fn put_cell(memory: &mut Memory, at: u32, cell: Stored) -> Result<(), NoMemory>
 }
 
 // A live object dies, and its block is given back where it is allocated.
+#[tactic(auto, using(crate::proofs::Memories::died_heap, crate::proofs::Memories::died_other))]
 fn end_object(memory: &mut Memory, id: u32, object: Obj)
     requires { IsLive memory.old.flat.objects id object }
-    ensures { memory.new.flat ≡ with_death memory.old.flat id }
+    ensures flat { memory.new.flat ≡ with_death memory.old.flat id }
+    ensures all { memory.new ≡ died_in id memory.old }
 {
     memory.death(id);
     match object.kind {

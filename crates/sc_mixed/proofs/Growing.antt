@@ -45,7 +45,8 @@ use Rattle.sc_services.specs.Copying.{Copies, CopiesBytes, InObjects, ByBytes}
 use Rattle.sc_services.specs.Entering.{Enters, EntersAt, EntersBlock, EntersCall, EntersFirst, EntersIn, EntersText, is_first, may_enter}
 use Rattle.sc_services.specs.Frames.{is_on_stack}
 use Rattle.sc_services.specs.Leaving.{Leaves, cost_here}
-use Rattle.sc_services.specs.Writing.{AreWritten, Writes, Written, written}
+use Rattle.sc_services.specs.Writing.{AreWritten, BesideAll, InObject, Writes, Written, written}
+use Rattle.sc_services.proofs.Writing.{stores_write}
 use Rattle.sc_services.specs.declared.copying.Copied.TheVariants as copied
 use Rattle.sc_services.specs.declared.entering.Entered.{Entered}
 use Rattle.sc_services.specs.declared.entering.Entered.TheVariants as entering
@@ -55,6 +56,8 @@ use Rattle.sc_world.specs.Standing.{state_of, world_of}
 use Rattle.sc_world.specs.Wants.{Want}
 use Rattle.sc_world.specs.declared.halt.Halt.{Halt}
 use Rattle.sc_world.proofs.Courses.{world_there}
+use Rattle.sc_mixed.specs.Adding.{Adds}
+use Rattle.sc_mixed.proofs.Adding.{adds_or, aside, happened, kept_room, on_adds}
 use Rattle.sc_mixed.specs.Bridge.{Calling, Returns, with_registers}
 use Rattle.sc_mixed.specs.Goes.{Goes, Leads, Reaches, leads_lost, leads_on, leads_over, lost_at, reaches_further, reaches_here, rested, rested_by, rested_in, rests, rests_at}
 use Rattle.sc_mixed.specs.Instructions.{EndsSo, Instruction, Loads, Stores}
@@ -81,6 +84,9 @@ use Rattle.sc_mixed.specs.declared.service.Service.TheVariants as serving
 same : (w v : World) → v ≡ w → Happen w v
 same w v is = ([], is)
 
+stays : (w v : World) → v ≡ w → Adds w v
+stays w v is = happened w v (same w v is)
+
 -- the world of an outcome that is this one
 done_at : {A : Type 0} (w v : World) (r : Outcome A) (a : A) → r ≡ Done a v → Happen w (world_after r) → Happen w v
 done_at {A = A} w v r a is l = subst (λ (x : Outcome A). Happen w (world_after x)) is l
@@ -90,16 +96,20 @@ over_at {A = A} w r e is l = subst (λ (x : Outcome A). Happen w (world_after x)
 
 -- ---- what the services do
 
-are_written : (ps : List Written) (w v : World) → AreWritten ps w v → Happen w v
-are_written [] w v is = same w v is
-are_written (p ∷ ps) w v (alive, more) = on w (written p w) v (one_more (Put p.id p.offset p.cells) w) (are_written ps (written p w) v more)
+one_written : (p : Written) (w : World) → Adds w (written p w)
+one_written (InObject id offset cells) w = happened w (pass (Put id offset cells) w) (one_more (Put id offset cells) w)
+one_written (BesideAll at size word) w = aside w (written (BesideAll at size word) w) refl (kept_room at size word w.beside.memory)
 
-writes_lead : (w v : World) → Writes w v → Happen w v
+are_written : (ps : List Written) (w v : World) → AreWritten ps w v → Adds w v
+are_written [] w v is = stays w v is
+are_written (p ∷ ps) w v (can, more) = on_adds w (written p w) v (one_written p w) (are_written ps (written p w) v more)
+
+writes_lead : (w v : World) → Writes w v → Adds w v
 writes_lead w v p = are_written p.bytes w v p.are
 
-copies_lead : (n : ℕ) (w v : World) → Copies n w v → Happen w v
-copies_lead n w v (InObjects to at from off p q is) = (Copy to at from off n ∷ [], is)
-copies_lead n w v (ByBytes p) = writes_lead w v p
+copies_lead : (target source n : ℕ) (w v : World) → Copies target source n w v → Adds w v
+copies_lead target source n w v (InObjects to at from off p q is) = happened w v (Copy to at from off n ∷ [], is)
+copies_lead target source n w v (ByBytes p) = writes_lead w v p
 
 slots_born_lead : (slots : List Slot) (ids : List ℕ) (w : World) → Happen w (world_after (slots_born slots ids w))
 slots_born_lead [] ids w = here w
@@ -221,36 +231,36 @@ ends_there w s e is l = subst (λ (t : State). Happen w (world_of t)) is l
 
 -- ---- a move behind which the run goes on
 
-calls_value_lead : (i : Image) (x : Value) (xs : List Value) (c : Calls) (w : World) (next : Next) (d : Calls) (v : World) → CallsValue i x xs c w next d v → Happen w v
+calls_value_lead : (i : Image) (x : Value) (xs : List Value) (c : Calls) (w : World) (next : Next) (d : Calls) (v : World) → CallsValue i x xs c w next d v → Adds w v
 calls_value_lead i (FunctionAt key) xs c w next d v p = writes_lead w v p.writes
 calls_value_lead i (Number n) xs c w next d v p = absurd p
 calls_value_lead i (Pointer o n) xs c w next d v p = absurd p
 
-calls_code_lead : (i : Image) (g : Going) (c : Calls) (w : World) (next : Next) (d : Calls) (v : World) → CallsCode i g c w next d v → Happen w v
+calls_code_lead : (i : Image) (g : Going) (c : Calls) (w : World) (next : Next) (d : Calls) (v : World) → CallsCode i g c w next d v → Adds w v
 calls_code_lead i (going.Makes t x xs caller) c w next d v p = calls_value_lead i x xs (with_caller caller c) w next d v p
 calls_code_lead i (going.Runs doing ss env a) c w next d v p = absurd p
 calls_code_lead i (going.Answers a) c w next d v p = absurd p
 
-goes_by_lead : (y : Way) (texts : List Text) (i : Image) (g : Going) (c : Calls) (w : World) (moved : Moved) (next : Next) (d : Calls) (v : World) → GoesBy y texts i g c w (Ok moved) next d v → Happen w v
+goes_by_lead : (y : Way) (texts : List Text) (i : Image) (g : Going) (c : Calls) (w : World) (moved : Moved) (next : Next) (d : Calls) (v : World) → GoesBy y texts i g c w (Ok moved) next d v → Adds w v
 goes_by_lead Stays texts i g c w moved next d v p =
-    from_there w v g c.callers (goes_there (world_of (state_of g c.callers w)) v p.going d.callers (advance (alone texts) texts (state_of g c.callers w)) p.state (step_lead texts (state_of g c.callers w)))
+    happened w v (from_there w v g c.callers (goes_there (world_of (state_of g c.callers w)) v p.going d.callers (advance (alone texts) texts (state_of g c.callers w)) p.state (step_lead texts (state_of g c.callers w))))
 goes_by_lead ToCode texts i g c w moved next d v p = calls_code_lead i g c w next d v p.1
-goes_by_lead Back texts i g c w moved next d v p = same w v p.1.1
+goes_by_lead Back texts i g c w moved next d v p = stays w v p.1.1
 
-ends_lead : (need : Need) (middle : Registers) (w : World) (what : Went) (s : Registers) (v : World) → (what ≡ how.NoRoom → ⊥) → EndsSo need middle w what s v → Happen w v
-ends_lead (need.Done step) middle w what s v some p = same w v p.2
-ends_lead (need.Load op rd at) middle w how.On s v some p = same w v p.1
-ends_lead (need.Load op rd at) middle w (how.Stopped crash) s v some p = same w v p.2
+ends_lead : (need : Need) (middle : Registers) (w : World) (what : Went) (s : Registers) (v : World) → (what ≡ how.NoRoom → ⊥) → EndsSo need middle w what s v → Adds w v
+ends_lead (need.Done step) middle w what s v some p = stays w v p.2
+ends_lead (need.Load op rd at) middle w how.On s v some p = stays w v p.1
+ends_lead (need.Load op rd at) middle w (how.Stopped crash) s v some p = stays w v p.3
 ends_lead (need.Load op rd at) middle w (how.Asks n) s v some p = absurd p
 ends_lead (need.Load op rd at) middle w how.Returned s v some p = absurd p
 ends_lead (need.Load op rd at) middle w how.NoRoom s v some p = absurd p
-ends_lead (need.Store size at word) middle w how.On s v some p = writes_lead w v p.1
-ends_lead (need.Store size at word) middle w (how.Stopped crash) s v some p = same w v p.2
+ends_lead (need.Store size at word) middle w how.On s v some p = writes_lead w v (stores_write at size word w v p.2)
+ends_lead (need.Store size at word) middle w (how.Stopped crash) s v some p = stays w v p.3
 ends_lead (need.Store size at word) middle w how.NoRoom s v some p = absurd (some refl)
 ends_lead (need.Store size at word) middle w (how.Asks n) s v some p = absurd p
 ends_lead (need.Store size at word) middle w how.Returned s v some p = absurd p
 
-instruction_lead : (i : Image) (r s : Registers) (w v : World) (what : Went) → (what ≡ how.NoRoom → ⊥) → Instruction i r w what s v → Happen w v
+instruction_lead : (i : Image) (r s : Registers) (w v : World) (what : Went) → (what ≡ how.NoRoom → ⊥) → Instruction i r w what s v → Adds w v
 instruction_lead i r s w v what some p = ends_lead p.need p.middle w what s v some p.ends
 
 follows_some : (what : Went) (r : Registers) (c : Calls) (v : World) (next : Next) (d : Calls) → Follows what r c v next d → what ≡ how.NoRoom → ⊥
@@ -260,20 +270,20 @@ follows_some how.Returned r c v next d p is = cc
 follows_some (how.Stopped cause) r c v next d p is = cc
 follows_some how.NoRoom r c v next d p is = p
 
-executed_lead : (i : Image) (c : Calls) (w : World) (moved : Moved) (next : Next) (d : Calls) (v : World) → Executed i c w (Ok moved) next d v → Happen w v
+executed_lead : (i : Image) (c : Calls) (w : World) (moved : Moved) (next : Next) (d : Calls) (v : World) → Executed i c w (Ok moved) next d v → Adds w v
 executed_lead i c w moved next d v p = instruction_lead i c.regs p.1.1 w v p.1.0 (follows_some p.1.0 p.1.1 c v next d p.1.3) p.1.2
 
-served_lead : (kind : Service) (texts : List Text) (i : Image) (c : Calls) (w : World) (moved : Moved) (next : Next) (d : Calls) (v : World) → ServedBy kind texts i c w (Ok moved) next d v → Happen w v
+served_lead : (kind : Service) (texts : List Text) (i : Image) (c : Calls) (w : World) (moved : Moved) (next : Next) (d : Calls) (v : World) → ServedBy kind texts i c w (Ok moved) next d v → Adds w v
 served_lead serving.Call texts i c w moved next d v p =
-    goes_there w v p.going c.callers (called_state texts p.key p.arguments c.callers w) p.state (called_lead texts p.key p.arguments c.callers w)
-served_lead serving.Enter texts i c w moved next d v p = enters_lead texts i c.regs w v p.0.0 p.0.1
-served_lead serving.Leave texts i c w moved next d v p = leaves_lead (register c.regs 6).bits (cost_here i c.regs) w v p.0.2.1.0 p.0.2.1.1
-served_lead serving.Tag texts i c w moved next d v p = same w v p.1
-served_lead serving.Copy texts i c w moved next d v p = copies_lead p.0.0 w v p.0.1.2
-served_lead serving.Fall texts i c w moved next d v p = leaves_lead 0 (cost_here i c.regs) w v p.0.1.0 p.0.1.1
+    happened w v (goes_there w v p.going c.callers (called_state texts p.key p.arguments c.callers w) p.state (called_lead texts p.key p.arguments c.callers w))
+served_lead serving.Enter texts i c w moved next d v p = happened w v (enters_lead texts i c.regs w v p.0.0 p.0.1)
+served_lead serving.Leave texts i c w moved next d v p = happened w v (leaves_lead (register c.regs 6).bits (cost_here i c.regs) w v p.0.2.1.0 p.0.2.1.1)
+served_lead serving.Tag texts i c w moved next d v p = stays w v p.1
+served_lead serving.Copy texts i c w moved next d v p = copies_lead (register c.regs 10).bits (register c.regs 11).bits p.0.0 w v p.0.1.2
+served_lead serving.Fall texts i c w moved next d v p = happened w v (leaves_lead 0 (cost_here i c.regs) w v p.0.1.0 p.0.1.1)
 served_lead serving.Unknown texts i c w moved next d v p = absurd p.0
 
-pub moves_lead : (texts : List Text) (i : Image) (next after : Next) (c d : Calls) (w v : World) (moved : Moved) → Moves texts i next c w (Ok moved) after d v → Happen w v
+pub moves_lead : (texts : List Text) (i : Image) (next after : Next) (c d : Calls) (w v : World) (moved : Moved) → Moves texts i next c w (Ok moved) after d v → Adds w v
 moves_lead texts i (Steps g) after c d w v moved p = goes_by_lead (way texts g c) texts i g c w moved after d v p
 moves_lead texts i Executes after c d w v moved p = executed_lead i c w moved after d v p
 moves_lead texts i (Serves n) after c d w v moved p = served_lead (service n) texts i c w moved after d v p
@@ -335,7 +345,7 @@ fails_some how.Returned r c v pc crash d p is = cc
 fails_some (how.Stopped cause) r c v pc crash d p is = cc
 fails_some how.NoRoom r c v pc crash d p is = p
 
-executed_ends : (i : Image) (c : Calls) (w : World) (broken : Break) (next : Next) (d : Calls) (v : World) → Executed i c w (Err broken) next d v → (broken ≡ Meant stop.NoRoom) ⊎ Happen w v
+executed_ends : (i : Image) (c : Calls) (w : World) (broken : Break) (next : Next) (d : Calls) (v : World) → Executed i c w (Err broken) next d v → (broken ≡ Meant stop.NoRoom) ⊎ Adds w v
 executed_ends i c w (Meant stopped) next d v p = inl (ap (λ (s : Stop). Meant s) p)
 executed_ends i c w (Crashed pc crash) next d v p = inr (instruction_lead i c.regs p.1 w v p.0 (fails_some p.0 p.1 c v pc crash d p.3) p.2)
 
@@ -355,18 +365,18 @@ served_ends serving.Fall texts i c w (Meant stopped) next d v p = inl (ap (λ (s
 served_ends serving.Fall texts i c w (Crashed pc cause) next d v p = inr (leaves_lead 0 (cost_here i c.regs) w v leaving.Refused p.0.0)
 served_ends serving.Unknown texts i c w broken next d v p = inr (same w v p.1)
 
-pub moves_end : (texts : List Text) (i : Image) (next after : Next) (c d : Calls) (w v : World) (broken : Break) → Moves texts i next c w (Err broken) after d v → (broken ≡ Meant stop.NoRoom) ⊎ Happen w v
-moves_end texts i (Steps g) after c d w v broken p = goes_by_ends (way texts g c) texts i g c w broken after d v p
+pub moves_end : (texts : List Text) (i : Image) (next after : Next) (c d : Calls) (w v : World) (broken : Break) → Moves texts i next c w (Err broken) after d v → (broken ≡ Meant stop.NoRoom) ⊎ Adds w v
+moves_end texts i (Steps g) after c d w v broken p = adds_or w v (goes_by_ends (way texts g c) texts i g c w broken after d v p)
 moves_end texts i Executes after c d w v broken p = executed_ends i c w broken after d v p
-moves_end texts i (Serves n) after c d w v broken p = served_ends (service n) texts i c w broken after d v p
+moves_end texts i (Serves n) after c d w v broken p = adds_or w v (served_ends (service n) texts i c w broken after d v p)
 
 -- ---- a go
 
-lost_or : (i : Image) (c d : Calls) (w v : World) (broken : Break) → (broken ≡ Meant stop.NoRoom) ⊎ Happen w v → IsLost (standing_over i d v (ended_by broken)) ⊎ Happen w v
+lost_or : (i : Image) (c d : Calls) (w v : World) (broken : Break) → (broken ≡ Meant stop.NoRoom) ⊎ Adds w v → IsLost (standing_over i d v (ended_by broken)) ⊎ Adds w v
 lost_or i c d w v broken (inl is) = inl (ap (λ (b : Break). IsOver (ended_by b)) is)
 lost_or i c d w v broken (inr l) = inr l
 
-leads_lead : (texts : List Text) (turns : ℕ) (m n : Standing) → Leads texts turns m n → IsLost n ⊎ Happen m.world n.world
+leads_lead : (texts : List Text) (turns : ℕ) (m n : Standing) → Leads texts turns m n → IsLost n ⊎ Adds m.world n.world
 leads_lead texts turns m n (leads_on i c d w v next after now moved p) = inr (moves_lead texts i next after c d w v moved p)
 leads_lead texts turns m n (leads_over i c d w v next after now broken p) = lost_or i c d w v broken (moves_end texts i next after c d w v broken p)
 leads_lead texts turns m n (leads_lost i c d w v next now) = inl refl
@@ -376,13 +386,13 @@ not_over texts turns m n (leads_on i c d w v next after now moved p) is = cc
 not_over texts turns m n (leads_over i c d w v next after now broken p) is = cc
 not_over texts turns m n (leads_lost i c d w v next now) is = cc
 
-further_lead : (texts : List Text) (turns : ℕ) (first m n : Standing) → Leads texts turns m n → IsLost m ⊎ Happen first.world m.world → IsLost n ⊎ Happen m.world n.world → IsLost n ⊎ Happen first.world n.world
+further_lead : (texts : List Text) (turns : ℕ) (first m n : Standing) → Leads texts turns m n → IsLost m ⊎ Adds first.world m.world → IsLost n ⊎ Adds m.world n.world → IsLost n ⊎ Adds first.world n.world
 further_lead texts turns first m n p (inl is) q = absurd (not_over texts turns m n p is)
 further_lead texts turns first m n p (inr l) (inl is) = inl is
-further_lead texts turns first m n p (inr l) (inr k) = inr (on first.world m.world n.world l k)
+further_lead texts turns first m n p (inr l) (inr k) = inr (on_adds first.world m.world n.world l k)
 
-pub reaches_lead : (texts : List Text) (want : Want) (first : Standing) (took : ℕ) (m : Standing) → Reaches texts want first took m → IsLost m ⊎ Happen first.world m.world
-reaches_lead texts want first took m reaches_here = inr (here first.world)
+pub reaches_lead : (texts : List Text) (want : Want) (first : Standing) (took : ℕ) (m : Standing) → Reaches texts want first took m → IsLost m ⊎ Adds first.world m.world
+reaches_lead texts want first took m reaches_here = inr (stays first.world first.world refl)
 reaches_lead texts want first took m (reaches_further before turns l n reach free p) =
     further_lead texts turns first l n p (reaches_lead texts want first before l reach) (leads_lead texts turns l n p)
 
@@ -397,10 +407,10 @@ rested_lead i c w (IsOver end) = here w
 rested_lost : (i : Image) (c : Calls) (w : World) (course : Course) → course ≡ IsOver (mixed.Meant ended.NoRoom) → IsLost (rested_in i c w course)
 rested_lost i c w course is = ap (λ (x : Course). (rested_in i c w x).course) is
 
-rests_lead : (m last : Standing) (w : World) → last ≡ rested m → IsLost m ⊎ Happen w m.world → IsLost last ⊎ Happen w last.world
+rests_lead : (m last : Standing) (w : World) → last ≡ rested m → IsLost m ⊎ Adds w m.world → IsLost last ⊎ Adds w last.world
 rests_lead m last w is (inl lost) = inl (ap (λ (n : Standing). n.course) is ∙ rested_lost m.image m.calls m.world m.course lost)
-rests_lead m last w is (inr l) = inr (subst (λ (n : Standing). Happen w n.world) (sym is) (on w m.world (rested m).world l (rested_lead m.image m.calls m.world m.course)))
+rests_lead m last w is (inr l) = inr (subst (λ (n : Standing). Adds w n.world) (sym is) (on_adds w m.world (rested m).world l (happened m.world (rested m).world (rested_lead m.image m.calls m.world m.course))))
 
-pub goes_lead : (texts : List Text) (want : Want) (first : Standing) (halt : Halt) (last : Standing) → Goes texts want first halt last → IsLost last ⊎ Happen first.world last.world
+pub goes_lead : (texts : List Text) (want : Want) (first : Standing) (halt : Halt) (last : Standing) → Goes texts want first halt last → IsLost last ⊎ Adds first.world last.world
 goes_lead texts want first halt last (rests_at took m reach is at) = rests_lead m last first.world at (reaches_lead texts want first took m reach)
 goes_lead texts want first halt last (lost_at took m reach is lost) = inl lost

@@ -5,6 +5,7 @@ pub mod Resting
 pub mod Reaching
 pub mod Stepping
 pub mod Sources
+pub mod Adding
 pub mod Growing
 mod Changing
 pub mod Telling

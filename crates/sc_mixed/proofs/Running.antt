@@ -3,11 +3,12 @@ use Rattle.std.proofs.Common.{◌≡◌, ◌+◌, ◌-◌, ◌<◌, ◌≤◌, �
 use Rattle.sc_base.specs.declared.memory.Word.{Word}
 use Rattle.sc_emu.specs.Beginning.{Begins}
 use Rattle.sc_emu.specs.Machine.{Outcome, rv_step, state_of}
-use Rattle.sc_emu.specs.Operations.{loaded, sum}
+use Rattle.sc_emu.specs.Operations.{load_size, loaded, sum}
 use Rattle.sc_emu.specs.Registers.{Registers, with_word}
 use Rattle.sc_emu.specs.declared.beginning.Need.{Need}
 use Rattle.sc_emu.specs.declared.beginning.Need.TheVariants.{Done, Load, Store}
 use Rattle.sc_emu.specs.declared.outcome.Crash.{Crash}
+use Rattle.sc_emu.specs.declared.outcome.Crash.TheVariants as causes
 use Rattle.sc_emu.specs.declared.outcome.Step.{Step}
 use Rattle.sc_emu.specs.declared.outcome.Step.TheVariants as step
 use Rattle.sc_interp.specs.declared.stepped.Shown.TheVariants as shows
@@ -20,6 +21,7 @@ use Rattle.sc_isa_image.specs.Lookups.{word_at}
 use Rattle.sc_mem.specs.Flat.{Flat}
 use Rattle.sc_meaning.specs.Expressions.{Answer}
 use Rattle.sc_meaning.specs.World.{World}
+use Rattle.sc_services.specs.Memory.{read_at}
 use Rattle.sc_mixed.specs.Bridge.{Returns, ReturnsTo, is_as_called, with_registers, without_top}
 use Rattle.sc_mixed.specs.Instructions.{EndsSo, Instruction, Loads, Ran, ran_none, ran_further, RanUpto, all_went, one_last, Stores, told}
 use Rattle.sc_mixed.specs.Machine.{Executed, quiet}
@@ -34,17 +36,27 @@ use Rattle.sc_mixed.specs.declared.calls.Next.{Next}
 use Rattle.sc_mixed.specs.declared.execute.Went.{Went}
 use Rattle.sc_mixed.specs.declared.execute.Went.TheVariants as went
 
+-- ---- a load
+
+pub loads_none : (w : World) (at size bytes : ℕ) (found : Option Word) (op : LoadOp) (rd : ℕ) (r s : Registers) → size ≡ bytes → found ≡ read_at w at size → found ≡ None → s ≡ r
+    → Loads (went.Stopped causes.Outside) (read_at w at bytes) (λ x. record { pc = sum r.pc 4; words = with_word r.words rd (loaded op x) }) r s w w
+loads_none w at size bytes found op rd r s same is none stays = (refl, ap (read_at w at) (sym same) ∙ sym is ∙ none, stays, refl)
+
+pub loads_some : (w : World) (at size bytes : ℕ) (found : Option Word) (x : Word) (op : LoadOp) (rd : ℕ) (r s : Registers) → size ≡ bytes → found ≡ read_at w at size → found ≡ Some x → s ≡ record { pc = sum r.pc 4; words = with_word r.words rd (loaded op x) }
+    → Loads went.On (read_at w at bytes) (λ x. record { pc = sum r.pc 4; words = with_word r.words rd (loaded op x) }) r s w w
+loads_some w at size bytes found x op rd r s same is some puts = ((x, ap (read_at w at) (sym same) ∙ sym is ∙ some, puts), refl)
+
 -- ---- one instruction
 
 pub instruction_done : (i : Image) (r s : Registers) (w : World) (need : Need) (now : Step) (how : Went) → ((memory : Flat) → Begins (rv_step (word_at i) (state_of r memory)) r memory s need) → need ≡ Done now → how ≡ told now → Instruction i r w how s w
 instruction_done i r s w need now how begins is p =
     record { need = need; middle = s; begins = begins; ends = subst (λ (n : Need). EndsSo n s w how s w) (sym is) (sym p, refl, refl) }
 
-pub instruction_loads : (i : Image) (r middle s : Registers) (w : World) (need : Need) (op : LoadOp) (rd at : ℕ) (how : Went) → ((memory : Flat) → Begins (rv_step (word_at i) (state_of r memory)) r memory middle need) → need ≡ Load op rd at → Loads how (λ x. record { pc = sum middle.pc 4; words = with_word middle.words rd (loaded op x) }) middle s w w → Instruction i r w how s w
+pub instruction_loads : (i : Image) (r middle s : Registers) (w : World) (need : Need) (op : LoadOp) (rd at : ℕ) (how : Went) → ((memory : Flat) → Begins (rv_step (word_at i) (state_of r memory)) r memory middle need) → need ≡ Load op rd at → Loads how (read_at w at (load_size op)) (λ x. record { pc = sum middle.pc 4; words = with_word middle.words rd (loaded op x) }) middle s w w → Instruction i r w how s w
 instruction_loads i r middle s w need op rd at how begins is p =
     record { need = need; middle = middle; begins = begins; ends = subst (λ (n : Need). EndsSo n middle w how s w) (sym is) p }
 
-pub instruction_stores : (i : Image) (r middle s : Registers) (w v : World) (need : Need) (size at : ℕ) (word : Word) (how : Went) → ((memory : Flat) → Begins (rv_step (word_at i) (state_of r memory)) r memory middle need) → need ≡ Store size at word → Stores how middle s w v → Instruction i r w how s v
+pub instruction_stores : (i : Image) (r middle s : Registers) (w v : World) (need : Need) (size at : ℕ) (word : Word) (how : Went) → ((memory : Flat) → Begins (rv_step (word_at i) (state_of r memory)) r memory middle need) → need ≡ Store size at word → Stores how at size word middle s w v → Instruction i r w how s v
 instruction_stores i r middle s w v need size at word how begins is p =
     record { need = need; middle = middle; begins = begins; ends = subst (λ (n : Need). EndsSo n middle w how s v) (sym is) p }
 
@@ -92,8 +104,8 @@ stays_by out r middle s w v (Done (step.Service n)) cause begins ends = absurd (
 stays_by out r middle s w v (Done step.AtReturn) cause begins ends = absurd (cc)
 stays_by out r middle s w v (Done (step.Stopped crash)) cause begins ends = ends.1 ∙ ap (λ m. m.registers) (begins nothing).1
 stays_by out r middle s w v (Done step.NoMemory) cause begins ends = absurd (cc)
-stays_by out r middle s w v (Load op rd at) cause begins ends = ends.1 ∙ (begins nothing).1
-stays_by out r middle s w v (Store size at word) cause begins ends = ends.1 ∙ (begins nothing).1
+stays_by out r middle s w v (Load op rd at) cause begins ends = ends.2 ∙ (begins nothing).1
+stays_by out r middle s w v (Store size at word) cause begins ends = ends.2 ∙ (begins nothing).1
 
 stays : (i : Image) (r s : Registers) (w v : World) (cause : Crash) → Instruction i r w (went.Stopped cause) s v → s ≡ r
 stays i r s w v cause instr = stays_by (λ memory. rv_step (word_at i) (state_of r memory)) r instr.middle s w v instr.need cause instr.begins instr.ends

@@ -18,16 +18,18 @@ use Rattle.sc_meaning.specs.Changes.{statics_born}
 use Rattle.sc_meaning.specs.Outcomes.{Done, Ending, Over}
 use Rattle.sc_meaning.specs.Versions.{History, Text, callee_of}
 use Rattle.sc_meaning.specs.World.{World, GoesOut, pass}
+use Rattle.sc_program.specs.declared.storage.StaticId.{StaticId}
 use Rattle.sc_world.specs.Goes.{first_from, main_next}
 use Rattle.sc_world.specs.Standing.{state_of}
 use Rattle.sc_world.proofs.Courses.{state_is}
 use Rattle.sc_mixed.specs.Bridge.{is_code}
 use Rattle.sc_mixed.specs.Parts.{MainCalled, MainInCode, MainInSource}
-use Rattle.sc_mixed.specs.Starting.{Begins, CallsMain, MainGoes}
+use Rattle.sc_mixed.specs.Starting.{Begins, CallsMain, MainGoes, Starts, first_course, no_calls, world_first}
 use Rattle.sc_mixed.proofs.Serving.{no_room}
 use Rattle.sc_mixed.specs.declared.broken.Break.{Break}
 use Rattle.sc_mixed.specs.declared.broken.Break.TheVariants.{Meant, Crashed}
 use Rattle.sc_mixed.specs.declared.calls.Calls.{Calls}
+use Rattle.sc_mixed.specs.declared.course.Course.{Course}
 use Rattle.sc_mixed.specs.declared.calls.Next.{Next}
 use Rattle.sc_mixed.specs.declared.calls.Next.TheVariants.{Steps}
 
@@ -68,3 +70,15 @@ begins_so texts i c d w born v key result at is p =
 
 pub ends_first : (texts : List Text) (i : Image) (c d : Calls) (w v : World) (stopped : Stop) → Stops (statics_born texts w) stopped v → Begins texts i c w (Err (Meant stopped)) d v
 ends_first texts i c d w v stopped p = λ e is. ap (λ r. then_goes r (λ _ b. main_next texts c.callers b)) (p e is)
+
+-- a run from its start on
+pub starts_there : (texts : List Text) (i : Image) (stack heap : ℕ) (input : List ℕ) (functions : List Key) (places : List (StaticId × ℕ)) (first : Result (Next × Shown) Break) (none c : Calls) (w v : World) (course : Course)
+    → none ≡ no_calls → w ≡ world_first functions places texts stack heap input → Begins texts i none w first c v → course ≡ first_course first → Starts texts i stack heap input (record { world = v; image = i; calls = c; course = course })
+starts_there texts i stack heap input functions places first none c w v course empty new begins is = record {
+  functions = functions;
+  places = places;
+  first = first;
+  begins = subst (λ (u : World). Begins texts i no_calls u first c v) new (subst (λ (d : Calls). Begins texts i d w first c v) empty begins);
+  image = refl;
+  course = is;
+}

@@ -74,7 +74,7 @@ pub record Calling (i : Image) (key : Key) (xs : List Value) (c : Calls) (w : Wo
   pub stub : ℕ
   pub stands : value_of i key ≡ Some stub
   pub regs : Registers
-  pub puts : PutsArguments 0 xs c.regs regs
+  pub puts : PutsArguments w 0 xs c.regs regs
   pub calls : d ≡ calling_code stub v (with_registers regs c)
   pub goes : next ≡ Executes
   pub writes : Writes w v
@@ -110,13 +110,13 @@ abbrev pub with_given : Option Answer → Calls → Calls
 with_given given c = record { callers = c.callers; lower = c.lower; given = given; regs = c.regs }
 
 -- compiled code is behind its call
-abbrev pub Resumes : Answer → Registers → Option Answer → List Lower → Calls → Next → Calls → Type 0
-Resumes a r given ls c next d =
-    (next ≡ Executes) × ((x : Word) × IsResult a x × (d ≡ record { callers = c.callers; lower = ls; given = given; regs = behind_call x r }))
+abbrev pub Resumes : World → Answer → Registers → Option Answer → List Lower → Calls → Next → Calls → Type 0
+Resumes w a r given ls c next d =
+    (next ≡ Executes) × ((x : Word) × IsResult w a x × (d ≡ record { callers = c.callers; lower = ls; given = given; regs = behind_call x r }))
 
 -- The answer of the last interpreted call goes to what waits below: to interpreted calls, or to compiled code behind its call. Where
 -- nothing waits it is the run's.
-abbrev pub GivesBack : Answer → List Lower → Calls → Next → Calls → Type 0
-GivesBack a [] c next d = (next ≡ Steps (Answers a)) × (d ≡ c)
-GivesBack a (InBodies cs sp depth ∷ ls) c next d = (next ≡ Steps (Answers a)) × (d ≡ record { callers = cs; lower = ls; given = c.given; regs = c.regs })
-GivesBack a (InCode r given ∷ ls) c next d = Resumes a r given ls c next d
+abbrev pub GivesBack : World → Answer → List Lower → Calls → Next → Calls → Type 0
+GivesBack w a [] c next d = (next ≡ Steps (Answers a)) × (d ≡ c)
+GivesBack w a (InBodies cs sp depth ∷ ls) c next d = (next ≡ Steps (Answers a)) × (d ≡ record { callers = cs; lower = ls; given = c.given; regs = c.regs })
+GivesBack w a (InCode r given ∷ ls) c next d = Resumes w a r given ls c next d

@@ -1,17 +1,20 @@
 -- Yardstick: to be compared with what it restates (docs/TRUST.md).
 -- A run of both forms whose texts become others; and a run of interpreted modules that becomes one of both forms.
-use Rattle.std.specs.Prelude.{◌≡◌, if◌then◌else◌, Bool, true, false, List, [], ◌∷◌, flat_map, Option, Some}
+use Rattle.std.specs.Prelude.{◌≡◌, if◌then◌else◌, Bool, true, false, List, [], ◌∷◌, ◌++◌, flat_map, Option, None, Some}
 use Rattle.sc_base.specs.declared.key.Key.{Key}
 use Rattle.sc_interp.specs.Ends.{end_of}
 use Rattle.sc_interp_access.specs.declared.ended.Ended.{Ended}
+use Rattle.sc_interp_access.specs.declared.ended.Ended.TheVariants.{NoRoom}
 use Rattle.sc_interp_access.specs.declared.stop.Stop.{Stop}
 use Rattle.sc_interp_access.specs.declared.stop.Stop.TheVariants as stop
 use Rattle.sc_interp_machine.specs.Runs.{Caller}
 use Rattle.sc_isa_image.specs.declared.image.Image.{Image}
+use Rattle.sc_mem.specs.Safe.{Store}
 use Rattle.sc_meaning.specs.Changes.{changed}
 use Rattle.sc_meaning.specs.Outcomes as outcomes
 use Rattle.sc_meaning.specs.Outcomes.{Outcome, Done}
 use Rattle.sc_meaning.specs.Versions.{Text, births_of, is_kept}
+use Rattle.sc_meaning.specs.World.{World}
 use Rattle.sc_program.specs.declared.storage.StaticId.{StaticId}
 use Rattle.sc_program.specs.declared.storage.StaticId.TheVariants as id
 use Rattle.sc_world.specs.Standing.{standing}
@@ -44,8 +47,14 @@ abbrev pub goes_on : Course → Bool
 goes_on (On next now) = true
 goes_on (Over end) = false
 
+-- More functions have numbers, and static objects that are born from here on stand at other places; nothing else has changed of a world.
+pub record IsPlaced (w v : World) : Type 0 where
+  pub more : List Key
+  pub functions : v.beside.functions ≡ w.beside.functions ++ more
+  pub same : v ≡ record w { beside = record w.beside { functions = v.beside.functions; places = v.beside.places } }
+
 abbrev pub ChangesIf : Bool → List Text → List Text → Standing → Standing → Type 0
-ChangesIf true old new m n = ChangesTo (changed old new m.world) m n
+ChangesIf true old new m n = (w : World) × IsPlaced m.world w × ChangesTo (changed old new w) m n
 ChangesIf false old new m n = n ≡ m
 
 -- a run goes over from one version to another; one that is over stays as it is
@@ -65,13 +74,21 @@ abbrev pub taken_course : Went → Course
 taken_course (went.On going now) = On (Steps going) now
 taken_course (went.Over ended) = Over (Meant ended)
 
+-- where the objects have no places in memory the run is over for want of it
+abbrev pub course_by : Option Store → Went → Course
+course_by None course = Over (Meant NoRoom)
+course_by (Some memory) course = taken_course course
+
 abbrev pub taken_calls : List Caller → Calls
 taken_calls cs = record no_calls { callers = cs }
 
--- It stands where that run stood, with the same callers and the same world; no compiled call is active in it.
+-- It stands where that run stood, with the same callers and the same world, but that objects have places in memory now; no compiled call is
+-- active in it.
 pub record IsTakenFrom (run : Option Alone) (i : Image) (m : Standing) : Type 0 where
   pub course : Went
   pub callers : List Caller
   pub count : Count
-  pub stood : run ≡ standing course callers m.world count
-  pub stands : m ≡ record { world = m.world; image = i; calls = taken_calls callers; course = taken_course course }
+  pub world : World
+  pub stood : run ≡ standing course callers world count
+  pub same : m.world ≡ record world { beside = m.world.beside }
+  pub stands : m ≡ record { world = m.world; image = i; calls = taken_calls callers; course = course_by m.world.beside.memory course }

@@ -21,7 +21,7 @@ use Rattle.sc_meaning.specs.Outcomes.{Ending}
 use Rattle.sc_meaning.specs.Values.{Value, Number, Pointer, FunctionAt}
 use Rattle.sc_meaning.specs.Versions.{Text, callee_of}
 use Rattle.sc_meaning.specs.World.{World}
-use Rattle.sc_services.specs.Arguments.{stands}
+use Rattle.sc_services.specs.Arguments.{IsValueOf}
 use Rattle.sc_services.specs.Calling.{AsksFor}
 use Rattle.sc_services.specs.Copying.{CopiesBytes}
 use Rattle.sc_services.specs.Entering.{EntersAt}
@@ -109,15 +109,15 @@ CallsCode i (going.Makes t x xs caller) c w next d v = CallsValue i x xs (with_c
 CallsCode i (going.Runs doing ss env a) c w next d v = ⊥
 CallsCode i (going.Answers a) c w next d v = ⊥
 
-abbrev pub GivesAnswer : Going → Calls → Next → Calls → Type 0
-GivesAnswer (going.Answers a) c next d = GivesBack a c.lower c next d
-GivesAnswer (going.Runs doing ss env a) c next d = ⊥
-GivesAnswer (going.Makes t x xs caller) c next d = ⊥
+abbrev pub GivesAnswer : World → Going → Calls → Next → Calls → Type 0
+GivesAnswer w (going.Answers a) c next d = GivesBack w a c.lower c next d
+GivesAnswer w (going.Runs doing ss env a) c next d = ⊥
+GivesAnswer w (going.Makes t x xs caller) c next d = ⊥
 
 abbrev pub Crosses : Way → Image → Going → Calls → World → Next → Calls → World → Type 0
 Crosses Stays i g c w next d v = ⊥
 Crosses ToCode i g c w next d v = CallsCode i g c w next d v
-Crosses Back i g c w next d v = GivesAnswer g c next d × (v ≡ w)
+Crosses Back i g c w next d v = GivesAnswer w g c next d × (v ≡ w)
 
 abbrev pub CrossesIfRoom : Way → Image → Going → Calls → World → Result Moved Break → Next → Calls → World → Type 0
 CrossesIfRoom way i g c w (Ok moved) next d v = (moved ≡ quiet) × Crosses way i g c w next d v
@@ -226,7 +226,7 @@ LeavesWith block a i c w (Err (Crashed pc cause)) d v = Leaves block (cost_here 
 -- the value that a0 stands for; or nothing
 abbrev pub ServesLeave : Image → Calls → World → Result Moved Break → Calls → World → Type 0
 ServesLeave i c w (Err (Meant stopped)) d v = stopped ≡ stop.NoRoom
-ServesLeave i c w result d v = (x : Value) × (stands (register c.regs 10) x ≡ true) × LeavesWith (register c.regs 6).bits (Plain x) i c w result d v
+ServesLeave i c w result d v = (x : Value) × IsValueOf w (register c.regs 10) x × LeavesWith (register c.regs 6).bits (Plain x) i c w result d v
 
 abbrev pub ServesFall : Image → Calls → World → Result Moved Break → Calls → World → Type 0
 ServesFall i c w result d v = LeavesWith 0 Nothing i c w result d v

@@ -1,6 +1,7 @@
 -- Yardstick: to be compared with what it restates (docs/TRUST.md).
 -- The start of a run of both forms: the static objects are born, and the call of `main` goes out.
 use Rattle.std.specs.Prelude.{◌≡◌, ⊤, ℕ, Bool, true, false, List, [], Result, Ok, Err, Option, Some, None, replicate}
+use Rattle.sc_base.specs.declared.key.Key.{Key}
 use Rattle.sc_emu.specs.Operations.{plain}
 use Rattle.sc_interp.specs.Ends.{start_of}
 use Rattle.sc_interp.specs.Shows.{entry_shown}
@@ -11,10 +12,12 @@ use Rattle.sc_interp_access.specs.Gives.{ending_of}
 use Rattle.sc_interp_machine.specs.Runs.{Ends}
 use Rattle.sc_isa_image.specs.declared.image.Image.{Image}
 use Rattle.sc_meaning.specs.Behaviour.{first_world, main_key}
+use Rattle.sc_meaning.specs.Beside.{Beside, empty_memory}
 use Rattle.sc_meaning.specs.Changes.{statics_born}
 use Rattle.sc_meaning.specs.Outcomes.{Done, Ending}
 use Rattle.sc_meaning.specs.Versions.{Text, callee_of}
 use Rattle.sc_meaning.specs.World.{World, GoesOut, pass}
+use Rattle.sc_program.specs.declared.storage.StaticId.{StaticId}
 use Rattle.sc_world.specs.Goes.{first_from, main_next}
 use Rattle.sc_world.specs.Standing.{state_of}
 use Rattle.sc_mixed.specs.Bridge.{Calling, is_code}
@@ -54,9 +57,20 @@ abbrev pub first_course : Result (Next × Shown) Break → Course
 first_course (Ok first) = On first.0 first.1
 first_course (Err broken) = Over (ended_by broken)
 
+-- what the machine of such a run keeps as it starts: the functions by their numbers, where static objects stand, and a memory in which
+-- nothing lives and no byte is written
+abbrev pub kept_first : List Key → List (StaticId × ℕ) → ℕ → ℕ → Beside
+kept_first functions places stack heap = record { functions = functions; places = places; memory = Some (empty_memory stack heap) }
+
+-- the world of such a run as it starts
+abbrev pub world_first : List Key → List (StaticId × ℕ) → List Text → ℕ → ℕ → List ℕ → World
+world_first functions places texts stack heap input = record (first_world (start_of texts stack heap input)) { beside = kept_first functions places stack heap }
+
 -- a run of these texts in an image of them, from its start on
 pub record Starts (texts : List Text) (i : Image) (stack heap : ℕ) (input : List ℕ) (m : Standing) : Type 0 where
+  pub functions : List Key
+  pub places : List (StaticId × ℕ)
   pub first : Result (Next × Shown) Break
-  pub begins : Begins texts i no_calls (first_world (start_of texts stack heap input)) first m.calls m.world
+  pub begins : Begins texts i no_calls (world_first functions places texts stack heap input) first m.calls m.world
   pub image : m.image ≡ i
   pub course : m.course ≡ first_course first

@@ -186,7 +186,7 @@ fn resume_code(
     calls: &mut Calls,
     world: &mut World,
 ) -> Result<Next, NoMemory>
-    ensures resumes { IfOk result (λ next. spec.Resumes a.now regs given calls.old.lower calls.old next calls.new) }
+    ensures resumes { IfOk result (λ next. spec.Resumes world.old a.now regs given calls.old.lower calls.old next calls.new) }
     ensures stays { world.new ≡ world.old }
 {
     let word = result_word(a, world)?;
@@ -201,7 +201,7 @@ fn resume_code(
 
 /// The answer of the last interpreted call goes to what waits below. Where nothing does it is the run's.
 pub fn give_back(a: Answer, calls: &mut Calls, world: &mut World) -> Result<Next, NoMemory>
-    ensures gives { IfOk result (λ next. spec.GivesBack a calls.old.lower calls.old next calls.new) }
+    ensures gives { IfOk result (λ next. spec.GivesBack world.old a calls.old.lower calls.old next calls.new) }
     ensures stays { world.new ≡ world.old }
 {
     match calls.lower.pop() {

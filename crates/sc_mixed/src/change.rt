@@ -1,6 +1,5 @@
 // A run of both forms goes over to other texts and another image; and a run of interpreted modules alone becomes one of both forms.
 ghost use Rattle.std.specs.Prelude.{◌≡◌, ◌++◌, false, IfErr, IfOk, OnErr};
-ghost use Rattle.sc_interp_access.specs.Gives.{Gives};
 ghost use Rattle.sc_meaning.specs.Changes.{changed};
 ghost use Rattle.sc_mixed.specs.Changing as spec;
 ghost use Rattle.sc_mixed.specs.Standing.{IsLost, ended_by, standing_over};
@@ -61,8 +60,9 @@ pub fn kept_keys(alloc: Global, old: &[Text], new: &[Text]) -> Result<Items<Key>
 }
 
 // What is born from here on stands where it is placed, and the functions have these numbers.
+#[tactic(auto, using(crate::proofs::Changing::placed_anew))]
 fn place_anew(placed: &[Placed], functions: &[Key], world: &mut World) -> Result<(), NoMemory>
-    ensures { IfOk result (λ _. world.new ≡ world.old) }
+    ensures { IfOk result (λ _. spec.IsPlaced world.old world.new) }
 {
     let alloc = world.alloc();
     let ids = placed_ids(alloc, placed)?;
@@ -71,20 +71,6 @@ fn place_anew(placed: &[Placed], functions: &[Key], world: &mut World) -> Result
     world.number(more.as_slice())?;
     world.set_places(places);
     Ok(())
-}
-
-// The deaths and births of a change.
-fn changes(
-    old: &[Text],
-    new: &[Text],
-    placed: &[Placed],
-    functions: &[Key],
-    world: &mut World,
-) -> Result<(), Stop>
-    ensures { Gives (changed old.now new.now world.old) result world.new }
-{
-    place_anew(placed, functions, world)?;
-    change(old, new, world)
 }
 
 // Whether a run goes on.
@@ -125,7 +111,7 @@ impl MixedRun {
     /// # Errors
     ///
     /// `NoMemory` alone. The run is over then, and nothing is known of it.
-    #[tactic(auto, using(crate::proofs::Changing::change_done))]
+    #[tactic(auto, using(crate::proofs::Changing::changed_where))]
     pub fn change(
         &mut self,
         old: &[Text],
@@ -139,7 +125,22 @@ impl MixedRun {
         if !goes_on(&self.course) {
             return Ok(());
         }
-        match changes(old, new, placed, functions, &mut self.world) {
+        match place_anew(placed, functions, &mut self.world) {
+            Ok(()) => self.follow(old, new),
+            Err(_) => {
+                self.over(MixedEnd::Meant(Ended::NoRoom));
+                Err(NoMemory)
+            }
+        }
+    }
+
+    // The deaths and births of a change.
+    #[tactic(auto, using(crate::proofs::Changing::done_so))]
+    fn follow(&mut self, old: &[Text], new: &[Text]) -> Result<(), NoMemory>
+        ensures changes { IfOk result (λ _. spec.ChangesTo (changed old.now new.now self.old.world) self.old self.new) }
+        ensures lost { OnErr result (IsLost self.new) }
+    {
+        match change(old, new, &mut self.world) {
             Ok(()) => Ok(()),
             Err(stop) => self.stopped(stop),
         }
@@ -223,6 +224,19 @@ fn taken_course(course: Went) -> Course
     }
 }
 
+// The same where the objects have places in memory now; else the run is over.
+#[tactic(auto, using(crate::proofs::Changing::seen_course, crate::proofs::Changing::unseen_course))]
+fn course_of(course: Went, world: &World) -> Course
+    ensures { result ≡ spec.course_by world.now.beside.memory course }
+{
+    if world.shows_memory() {
+        taken_course(course)
+    } else {
+        drop(course);
+        Course::Over(MixedEnd::Meant(Ended::NoRoom))
+    }
+}
+
 // The callers of a run, and no compiled call.
 fn taken_calls(alloc: Global, callers: Stack<Caller>) -> Calls
     ensures { result ≡ spec.taken_calls callers }
@@ -240,15 +254,17 @@ fn taken(alloc: Global, run: Run, image: Image) -> MixedRun
     let Parts {
         course,
         callers,
-        world,
+        mut world,
         count,
     } = run.apart();
     let _ = count;
+    world.reveal();
+    let course = course_of(course, &world);
     MixedRun {
         world,
         image,
         calls: taken_calls(alloc, callers),
-        course: taken_course(course),
+        course,
     }
 }
 

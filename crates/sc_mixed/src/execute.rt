@@ -1,8 +1,9 @@
 // An instruction over the world.
 ghost use Rattle.std.specs.Prelude.{◌≡◌, ◌<◌, IfOk};
-ghost use Rattle.sc_emu.specs.Operations.{loaded, sum};
+ghost use Rattle.sc_emu.specs.Operations.{load_size as bytes_of, loaded, sum};
 ghost use Rattle.sc_emu.specs.Registers.{with_word};
 ghost use Rattle.sc_mem.specs.Words.{IsSize};
+ghost use Rattle.sc_services.specs.Memory.{read_at};
 ghost use Rattle.sc_mixed.specs.Instructions as spec;
 
 use sc_base::{NoMemory, Note, Word};
@@ -10,7 +11,7 @@ use sc_emu::{Crash, Need, Regs, Step, begin, load_size, pass, take};
 use sc_interp_world::World;
 use sc_isa::LoadOp;
 use sc_isa_image::Image;
-use sc_services::store_word;
+use sc_services::{load as load_at, store_word};
 
 /// What an instruction came to: it was carried out; it asks for a service; it stands where calls from outside return to; there is no
 /// next state, for this cause; or memory ran out. It is small, so that handing it on costs nothing.
@@ -35,12 +36,13 @@ fn told(step: Step) -> Went
     }
 }
 
+#[tactic(auto, using(crate::proofs::Running::loads_none, crate::proofs::Running::loads_some))]
 #[inline(always)]
 fn load(op: LoadOp, rd: u8, at: u32, regs: &mut Regs, world: &World) -> Went
     requires { rd < 32 }
-    ensures { spec.Loads result (λ x. record { pc = sum regs.old.pc 4; words = with_word regs.old.words rd (loaded op x) }) regs.old regs.new world.now world.now }
+    ensures { spec.Loads result (read_at world.now at (bytes_of op)) (λ x. record { pc = sum regs.old.pc 4; words = with_word regs.old.words rd (loaded op x) }) regs.old regs.new world.now world.now }
 {
-    match world.load(at, load_size(op)) {
+    match load_at(at, load_size(op), world) {
         None => Went::Stopped(Crash::Outside),
         Some(word) => {
             take(regs, op, rd, word);
@@ -51,7 +53,7 @@ fn load(op: LoadOp, rd: u8, at: u32, regs: &mut Regs, world: &World) -> Went
 
 fn store(size: u8, at: u32, word: Word, regs: &mut Regs, world: &mut World) -> Went
     requires { IsSize size }
-    ensures { spec.Stores result regs.old regs.new world.old world.new }
+    ensures { spec.Stores result at size word regs.old regs.new world.old world.new }
 {
     match store_word(at, size, word, world) {
         Ok(None) => Went::Stopped(Crash::Outside),

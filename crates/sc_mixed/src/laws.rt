@@ -2,9 +2,9 @@
 ghost use Rattle.std.specs.Prelude.{◌≡◌, ◌⊎◌, [], List, None, Ok, Result};
 ghost use Rattle.sc_interp.specs.declared.going.Going.{Going};
 ghost use Rattle.sc_isa_image.specs.declared.image.Image.{Image};
-ghost use Rattle.sc_meaning.specs.Laws.{Leads as Happen};
 ghost use Rattle.sc_meaning.specs.Versions.{Text};
 ghost use Rattle.sc_meaning.specs.World.{World};
+ghost use Rattle.sc_mixed.specs.Adding.{Adds};
 ghost use Rattle.sc_mixed.specs.Goes.{Goes};
 ghost use Rattle.sc_mixed.specs.Machine.{Moves, StepsFrom};
 ghost use Rattle.sc_mixed.specs.Sources.{AreSources};
@@ -25,10 +25,10 @@ pub fn interpreted_programs_go_as_before()
     ensures { (texts : List Text) (i : Image) (g : Going) (c : Calls) (w : World) (result : Result Moved Break) (next : Coming) (d : Calls) (v : World) → AreSources texts → c.lower ≡ [] → status_in g c ≡ None → Moves texts i (Steps g) c w result next d v → StepsFrom texts (state_of g c.callers w) c result next d v }
 {}
 
-/// A move behind which the run goes on adds some things that happen to what happened before, and nothing else makes its world another; so
-/// does a go, but one in which no room was left for the run.
+/// A move behind which the run goes on adds some things that happen to what happened before, and nothing else makes its world another, but
+/// for words of memory beside all objects; and memory stays as large as it is. So does a go, but one in which no room was left for the run.
 #[tactic(auto, using(crate::proofs::Growing::moves_lead, crate::proofs::Growing::goes_lead))]
 pub fn moves_add_to_what_happened()
-    ensures moves { (texts : List Text) (i : Image) (next after : Coming) (c d : Calls) (w v : World) (moved : Moved) → Moves texts i next c w (Ok moved) after d v → Happen w v }
-    ensures goes { (texts : List Text) (want : Want) (first : Standing) (halt : Halt) (last : Standing) → Goes texts want first halt last → IsLost last ⊎ Happen first.world last.world }
+    ensures moves { (texts : List Text) (i : Image) (next after : Coming) (c d : Calls) (w v : World) (moved : Moved) → Moves texts i next c w (Ok moved) after d v → Adds w v }
+    ensures goes { (texts : List Text) (want : Want) (first : Standing) (halt : Halt) (last : Standing) → Goes texts want first halt last → IsLost last ⊎ Adds first.world last.world }
 {}

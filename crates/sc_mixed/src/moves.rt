@@ -86,7 +86,7 @@ fn taken(going: &mut Going) -> Going
 
 // The answer of the last interpreted call goes to what waits below.
 fn back(going: Going, calls: &mut Calls, world: &mut World) -> Result<Next, NoMemory>
-    ensures gives { IfOk result (λ next. spec.GivesAnswer going calls.old next calls.new) }
+    ensures gives { IfOk result (λ next. spec.GivesAnswer world.old going calls.old next calls.new) }
     ensures stays { world.new ≡ world.old }
 {
     match going {

@@ -2,8 +2,7 @@
 ghost use Rattle.std.specs.Prelude.{◌≡◌, ◌⊎◌, [], true, IfOk, MatchOption, None, Some, replicate, reverse};
 ghost use Rattle.sc_interp_world.specs.Outputs.{output};
 ghost use Rattle.sc_interp_world.specs.Told.{TellsBehind};
-ghost use Rattle.sc_meaning.specs.Beside.{nothing_beside};
-ghost use Rattle.sc_meaning.specs.Laws.{Leads};
+ghost use Rattle.sc_mixed.specs.Adding.{Adds};
 ghost use Rattle.sc_mixed.specs.Goes.{GoesTo};
 ghost use Rattle.sc_mixed.specs.declared.ended.MixedEnd as ends;
 ghost use Rattle.sc_mixed.specs.Standing as spec;
@@ -119,24 +118,6 @@ fn declaring_at(course: &Course) -> Option<u32>
     }
 }
 
-// A world in which nothing is there yet, and objects will stand at addresses; whether somebody listens to it is given.
-fn world_of(
-    alloc: Global,
-    stack: u64,
-    heap: u64,
-    input: Items<u8>,
-    layout: Layout,
-    heard: bool,
-) -> Result<World, NoMemory>
-    ensures { IfOk result (λ w. w ≡ record { stack = stack; heap = heap; objects = []; used = 0; free = replicate 29 0; made = 0; input = input; seed = 1; frames = []; names = []; enters = 0; count = 0; begun = 0; trail = []; beside = nothing_beside }) }
-{
-    if heard {
-        World::heard(alloc, stack, heap, input, layout)
-    } else {
-        World::new(alloc, stack, heap, input, layout)
-    }
-}
-
 // Whether compiled code is innermost: interpreted calls wait right below.
 fn is_in_code(calls: &Calls) -> bool {
     match calls.lower.top() {
@@ -154,6 +135,7 @@ impl MixedRun {
     /// # Errors
     ///
     /// `NoMemory` alone.
+    #[tactic(auto, using(crate::proofs::Starts::starts_there))]
     pub fn start(
         alloc: Global,
         texts: &[Text],
@@ -166,7 +148,7 @@ impl MixedRun {
         ensures { IfOk result (λ r. starting.Starts texts.now image stack heap input r) }
     {
         let layout = layout_of(alloc, texts, &image)?;
-        let mut world = world_of(alloc, stack, heap, input, layout, heard)?;
+        let mut world = World::new(alloc, stack, heap, input, layout, heard)?;
         let mut calls = no_calls(alloc);
         let first = begun(texts, &image, &mut calls, &mut world);
         let course = course_of(first)?;
@@ -184,7 +166,7 @@ impl MixedRun {
     #[tactic(auto, using(crate::proofs::Growing::goes_lead))]
     pub fn go(&mut self, texts: &[Text], stops: &[StopAt], walk: Walk, turns: u64) -> Halt
         ensures goes { GoesTo texts.now stops.now walk turns self.old result self.new }
-        ensures adds { spec.IsLost self.new ⊎ Leads self.old.world self.new.world }
+        ensures adds { spec.IsLost self.new ⊎ Adds self.old.world self.new.world }
         ensures over { (end : ends.MixedEnd) → spec.end_of self.old ≡ Some end → self.new ≡ self.old }
     {
         let want = Want {

@@ -1,19 +1,26 @@
--- Bytes of live objects that are written one after another.
-use Rattle.std.proofs.Common.{◌≡◌, ℕ, IfOk, Result, Ok, Err, List, [], ◌∷◌, ◌++◌, subst}
-use Rattle.sc_meaning.specs.Values.{Cell}
+-- What is written one after another.
+use Rattle.std.proofs.Common.{◌≡◌, ℕ, ◌==◌, Bool, true, false, IfOk, Result, Ok, Err, List, [], ◌∷◌, ◌++◌, subst, sym, ap, refl, ◌∙◌, Option, Some, None, option_map}
+use Rattle.std.specs.Prelude.{IfSome, IsSome, MatchOption}
+use Rattle.sc_base.specs.declared.memory.Word.{Word}
+use Rattle.sc_mem.specs.Flat.{aligned_place, raw_read}
+use Rattle.sc_mem.specs.Safe.{Store}
+use Rattle.sc_mem_store.specs.Living.{IsBare}
+use Rattle.sc_meaning.specs.Beside.{kept_in, with_memory}
+use Rattle.sc_meaning.specs.Values.{Cell, Value, cells_of}
 use Rattle.sc_meaning.specs.World.{World, Put, pass}
+use Rattle.sc_services.specs.Memory.{IsBareAt, StandsAt, has_bytes, read_at, read_in}
 use Rattle.sc_services.specs.Tagging.{IsByteOf}
-use Rattle.sc_services.specs.Writing.{Written, Writes, AreWritten, written}
+use Rattle.sc_services.specs.Writing.{Written, InObject, BesideAll, Writes, AreWritten, CanBeWritten, IsStoredBy, KeepsIfBeside, StoresAt, BesideObjects, InsideObject, OverItsEnd, StoresIfThere, written}
 
 pub kept : (old new : World) → new ≡ old → Writes old new
 kept old new e = record { bytes = []; are = e }
 
 pub one_put : (id at offset : ℕ) (cells : List Cell) (old new : World) → IsByteOf old.objects id offset → new ≡ pass (Put id at cells) old → Writes old new
-one_put id at offset cells old new (o, there, lives, whole, inside) e = record { bytes = record { id = id; offset = at; cells = cells } ∷ []; are = ((o, there, lives), e) }
+one_put id at offset cells old new (o, there, lives, whole, inside) e = record { bytes = InObject id at cells ∷ []; are = ((o, there, lives), e) }
 
 joined : (ps qs : List Written) (a b c : World) → AreWritten ps a b → AreWritten qs b c → AreWritten (ps ++ qs) a c
 joined [] qs a b c e h = subst (λ (w : World). AreWritten qs w c) e h
-joined (p ∷ ps) qs a b c (alive, more) h = (alive, joined ps qs (written p a) b c more h)
+joined (p ∷ ps) qs a b c (can, more) h = (can, joined ps qs (written p a) b c more h)
 
 pub one_more : (a b c : World) → Writes a b → Writes b c → Writes a c
 one_more a b c h k = record { bytes = h.bytes ++ k.bytes; are = joined h.bytes k.bytes a b c h.are k.are }
@@ -21,3 +28,56 @@ one_more a b c h k = record { bytes = h.bytes ++ k.bytes; are = joined h.bytes k
 pub put_ok : {A E : Type 0} (result : Result A E) (id at offset : ℕ) (cells : List Cell) (old new : World) → IsByteOf old.objects id offset → IfOk result (λ _. new ≡ pass (Put id at cells) old) → IfOk result (λ _. Writes old new)
 put_ok (Ok a) id at offset cells old new h e = one_put id at offset cells old new h e
 put_ok (Err e) id at offset cells old new h k = k
+
+-- ---- beside all objects
+
+can_read_at : {A B : Type 0} (place : Option A) (f : A → B) → IsSome place → IsSome (option_map f place)
+can_read_at None f there = there
+can_read_at (Some i) f there = refl
+
+can_read : (memory : Option Store) (at n : ℕ) → MatchOption memory ⊥ (λ m. IsSome (aligned_place m.flat at n) × IsBare m.flat.objects at) → IsSome (read_in memory at n) × IfSome memory (λ m. IsBare m.flat.objects at)
+can_read None at n there = absurd there
+can_read (Some m) at n there = (can_read_at (aligned_place m.flat at n) _ there.0, there.1)
+
+kept_if : (done : Option (Unit {0})) (at n : ℕ) (word : Word) (old new : World) → MatchOption done (new ≡ old) (λ _. new ≡ record old { beside = with_memory (kept_in at n word) old.beside })
+    → IfSome done (λ _. MatchOption old.beside.memory ⊥ (λ m. IsSome (aligned_place m.flat at n) × IsBare m.flat.objects at)) → KeepsIfBeside done at n word old new
+kept_if None at n word old new is there = is
+kept_if (Some done) at n word old new is there = (can_read old.beside.memory at n there, is)
+
+pub kept_beside : {E : Type 0} (result : Result (Option (Unit {0})) E) (at n : ℕ) (word : Word) (old new : World)
+    → IfOk result (λ done. MatchOption done (new ≡ old) (λ _. new ≡ record old { beside = with_memory (kept_in at n word) old.beside }))
+    → IfOk result (λ done. IfSome done (λ _. MatchOption old.beside.memory ⊥ (λ m. IsSome (aligned_place m.flat at n) × IsBare m.flat.objects at))) → IfOk result (λ done. KeepsIfBeside done at n word old new)
+kept_beside (Ok done) at n word old new is there = kept_if done at n word old new is there
+kept_beside (Err e) at n word old new is there = is
+
+pub one_beside : (at n : ℕ) (word : Word) (old new : World) → CanBeWritten (BesideAll at n word) old → new ≡ written (BesideAll at n word) old → Writes old new
+one_beside at n word old new can is = record { bytes = BesideAll at n word ∷ []; are = (can, is) }
+
+-- ---- a store
+
+pub stored_inside : {A E : Type 0} (result : Result A E) (at n many id offset : ℕ) (word : Word) (v : Value) (old new : World) → IsByteOf old.objects id offset × StandsAt old id offset at → IsStoredBy (n == 4) word old v → many ≡ n
+    → IfOk result (λ _. new ≡ pass (Put id offset (cells_of many v)) old) → IfOk result (λ _. StoresAt at n word old new)
+stored_inside (Ok a) at n many id offset word v old new h k same is = InsideObject id offset v h.0 h.1 k (is ∙ ap (λ (m : ℕ). pass (Put id offset (cells_of m v)) old) same)
+stored_inside (Err e) at n many id offset word v old new h k same is = is
+
+pub stored_over : {A E : Type 0} (result : Result A E) (at n id offset : ℕ) (word : Word) (old new : World) → StandsAt old id offset at × (has_bytes old.objects id offset n ≡ false) → IfOk result (λ _. Writes old new) → IfOk result (λ _. StoresAt at n word old new)
+stored_over (Ok a) at n id offset word old new h is = OverItsEnd id offset h.0 h.1 is
+stored_over (Err e) at n id offset word old new h is = is
+
+pub stored_beside : (at n : ℕ) (word : Word) (old new : World) → CanBeWritten (BesideAll at n word) old × (new ≡ written (BesideAll at n word) old) → IsSome (read_at old at n) × StoresAt at n word old new
+stored_beside at n word old new h = (h.0.0, BesideObjects h.0 h.1)
+
+-- a store that comes behind nothing
+pub stored_behind : {E : Type 0} (result : Result (Option (Unit {0})) E) (at n : ℕ) (word : Word) (old mid new : World) → mid ≡ old → IfOk result (λ done. StoresIfThere done at n word mid new) → IfOk result (λ done. StoresIfThere done at n word old new)
+stored_behind result at n word old mid new is h = subst (λ (w : World). IfOk result (λ done. StoresIfThere done at n word w new)) is h
+
+-- what a store writes
+pub stores_write : (at n : ℕ) (word : Word) (old new : World) → StoresAt at n word old new → Writes old new
+stores_write at n word old new (BesideObjects can is) = one_beside at n word old new can is
+stores_write at n word old new (InsideObject id offset v h k s is) = one_put id offset offset (cells_of n v) old new h is
+stores_write at n word old new (OverItsEnd id offset k few h) = h
+
+pub stored_so : (what : Option (Unit {0})) (u : Unit {0}) (at n : ℕ) (word : Word) (old new : World) → what ≡ Some u → StoresIfThere what at n word old new → Writes old new
+stored_so what u at n word old new is h =
+    let k : IsSome (read_at old at n) × StoresAt at n word old new = subst (λ (d : Option (Unit {0})). StoresIfThere d at n word old new) is h in
+    stores_write at n word old new k.1

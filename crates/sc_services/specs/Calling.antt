@@ -1,6 +1,6 @@
 -- Yardstick: to be compared with what it restates (docs/TRUST.md).
 -- What compiled code calls, and with which arguments.
-use Rattle.std.specs.Prelude.{◌≡◌, ◌<◌, ℕ, ◌&&◌, Bool, true, false, List, Option, Some, None}
+use Rattle.std.specs.Prelude.{◌≡◌, ℕ, ◌&&◌, Bool, true, false, List, Option, Some, None}
 use Rattle.sc_base.specs.declared.key.Key.{Key}
 use Rattle.sc_emu.specs.Operations.{difference}
 use Rattle.sc_emu.specs.Registers.{Registers}
@@ -8,7 +8,7 @@ use Rattle.sc_isa_image.specs.declared.image.Image.{Image}
 use Rattle.sc_isa_image.specs.Lookups.{key_of}
 use Rattle.sc_meaning.specs.Versions.{Text, callee_of}
 use Rattle.sc_meaning.specs.World.{World}
-use Rattle.sc_services.specs.Arguments.{AreArguments, argument_count}
+use Rattle.sc_services.specs.Arguments.{AreArguments, are_inside, argument_count}
 use Rattle.sc_services.specs.Frames.{is_in_code, is_on_stack}
 use Rattle.sc_services.specs.declared.calling.Asked.{Asked}
 use Rattle.sc_services.specs.declared.calling.Asked.TheVariants.{Call, Refused}
@@ -17,10 +17,10 @@ use Rattle.sc_services.specs.declared.calling.Asked.TheVariants.{Call, Refused}
 abbrev pub may_call : Registers → World → Bool
 may_call r w = is_in_code w.frames && is_on_stack r w
 
--- a function that takes so many arguments is called with them; it is refused only where one past the eighth could not be read
+-- a function that takes so many arguments is called with them; it is refused exactly where those past the eighth are not inside the stack
 abbrev pub CallsWith : Key → ℕ → Registers → World → Asked → Type 0
 CallsWith key count r w (Call k xs) = (k ≡ key) × AreArguments count r w xs
-CallsWith key count r w Refused = 8 < count
+CallsWith key count r w Refused = are_inside count w ≡ false
 
 abbrev pub CallsBy : Key → Option ℕ → Registers → World → Asked → Type 0
 CallsBy key None r w asked = asked ≡ Refused

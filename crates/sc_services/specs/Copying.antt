@@ -3,6 +3,7 @@
 use Rattle.std.specs.Prelude.{◌≡◌, ℕ, ◌+◌, ◌-◌, ◌&&◌, ◌||◌, nat_le, Bool, true, false}
 use Rattle.sc_emu.specs.Registers.{Registers, register}
 use Rattle.sc_meaning.specs.World.{World, Copy, pass}
+use Rattle.sc_services.specs.Memory.{StandsAt, has_bytes}
 use Rattle.sc_services.specs.Tagging.{IsByteOf}
 use Rattle.sc_services.specs.Writing.{Writes}
 use Rattle.sc_services.specs.declared.copying.Copied.{Copied}
@@ -18,12 +19,17 @@ abbrev pub may_copy : Registers → World → Bool
 may_copy r w =
     is_range (register r 10).bits (register r 12).bits w && is_range (register r 11).bits (register r 12).bits w
 
--- bytes go from one live object to another or the same, as if by way of another place; or they are written one after another
-pub data Copies (n : ℕ) (old new : World) : Type 0 where
-  InObjects : (to at from off : ℕ) → IsByteOf old.objects to at → IsByteOf old.objects from off → new ≡ pass (Copy to at from off n) old → Copies n old new
-  ByBytes : Writes old new → Copies n old new
+-- so many bytes of a live object stand from an address on
+abbrev pub AreAt : World → ℕ → ℕ → ℕ → ℕ → Type 0
+AreAt w id offset n at = IsByteOf w.objects id offset × StandsAt w id offset at × (has_bytes w.objects id offset n ≡ true)
+
+-- bytes go from the live object at one address to that at another, or the same, as if by way of another place; or they are written one
+-- after another
+pub data Copies (target source n : ℕ) (old new : World) : Type 0 where
+  InObjects : (to at from off : ℕ) → AreAt old to at n target → AreAt old from off n source → new ≡ pass (Copy to at from off n) old → Copies target source n old new
+  ByBytes : Writes old new → Copies target source n old new
 
 -- what the service makes of the world: where one of the two ranges is not inside an area nothing is done
 abbrev pub CopiesBytes : Registers → World → Copied → World → Type 0
 CopiesBytes r old Refused new = (may_copy r old ≡ false) × (new ≡ old)
-CopiesBytes r old (Bytes n) new = (may_copy r old ≡ true) × (n ≡ (register r 12).bits) × Copies n old new
+CopiesBytes r old (Bytes n) new = (may_copy r old ≡ true) × (n ≡ (register r 12).bits) × Copies (register r 10).bits (register r 11).bits n old new

@@ -1,6 +1,6 @@
 -- Yardstick: to be compared with what it restates (docs/TRUST.md).
 -- A call of compiled code is entered, or a block of it.
-use Rattle.std.specs.Prelude.{◌≡◌, ◌<◌, ℕ, ◌+◌, ◌&&◌, ◌==◌, nat_lt, not, Bool, true, false, List, length, Result, Ok, Err, Option, Some, None}
+use Rattle.std.specs.Prelude.{◌≡◌, ℕ, ◌+◌, ◌&&◌, ◌==◌, nat_lt, not, Bool, true, false, List, length, Result, Ok, Err, Option, Some, None}
 use Rattle.sc_emu.specs.Operations.{difference}
 use Rattle.sc_emu.specs.Registers.{Registers, register}
 use Rattle.sc_isa_image.specs.Lookups.{target_of, text_at}
@@ -12,7 +12,7 @@ use Rattle.sc_meaning.specs.Versions.{Text, Callee, Missing, InText, InLibrary, 
 use Rattle.sc_meaning.specs.World.{World, Frame}
 use Rattle.sc_interp_access.specs.declared.stop.Stop.{Stop}
 use Rattle.sc_interp_access.specs.Gives.{Stops, ending_of}
-use Rattle.sc_services.specs.Arguments.{AreArguments}
+use Rattle.sc_services.specs.Arguments.{AreArguments, are_inside}
 use Rattle.sc_services.specs.Blocks.{block_entered, call_entered_if_room, slots_of}
 use Rattle.sc_services.specs.Frames.{is_call_of, is_on_stack, is_open_here}
 use Rattle.sc_services.specs.declared.entering.Entered.{Entered}
@@ -46,10 +46,10 @@ EntersWith at t xs w (Ok Block) v = ⊥
 EntersWith at t xs w (Ok Call) v = call_entered_if_room at.fun t at.frame xs w ≡ Done tt v
 EntersWith at t xs w (Err stop) v = Stops (call_entered_if_room at.fun t at.frame xs w) stop v
 
--- A call is entered with the arguments that are there, or the run ends in it. It is refused, and nothing is done, only where one past the
--- eighth could not be read.
+-- A call is entered with the arguments that are there, or the run ends in it. It is refused, and nothing is done, exactly where those past
+-- the eighth are not inside the stack.
 abbrev pub EntersCall : TextAt → Text → Registers → World → Result Entered Stop → World → Type 0
-EntersCall at t r w (Ok Refused) v = (8 < parameter_slots at) × (v ≡ w)
+EntersCall at t r w (Ok Refused) v = (are_inside (parameter_slots at) w ≡ false) × (v ≡ w)
 EntersCall at t r w (Ok Block) v = ⊥
 EntersCall at t r w (Ok Call) v = (xs : List Value) × AreArguments (parameter_slots at) r w xs × (call_entered_if_room at.fun t at.frame xs w ≡ Done tt v)
 EntersCall at t r w (Err stop) v = (e : Ending) → ending_of stop v ≡ Some e → (xs : List Value) × AreArguments (parameter_slots at) r w xs × (call_entered_if_room at.fun t at.frame xs w ≡ Over e)

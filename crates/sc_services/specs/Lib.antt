@@ -1,4 +1,5 @@
 -- Inside: plumbing, a representation, an invariant or a promise beside the claim (docs/TRUST.md).
+pub mod Memory
 pub mod Frames
 pub mod Blocks
 pub mod Leaving

@@ -3,6 +3,7 @@
 use Rattle.std.specs.Prelude.{◌≡◌, ◌<◌, ℕ, ◌%◌, ◌==◌, ◌&&◌, nat_le, nat_lt, Bool, true, false, List, length, Some}
 use Rattle.sc_emu.specs.Registers.{Registers, register, with_word}
 use Rattle.sc_meaning.specs.World.{World, Object, object_at}
+use Rattle.sc_services.specs.Memory.{StandsAt}
 use Rattle.sc_services.specs.declared.served.Served.{Served}
 use Rattle.sc_services.specs.declared.served.Served.TheVariants.{Done, Refused}
 
@@ -14,14 +15,13 @@ is_stub at = nat_le 0x00010000 at && nat_lt at 0x00090000 && (at % 8 == 0)
 abbrev pub IsByteOf : List Object → ℕ → ℕ → Type 0
 IsByteOf objects id offset = (o : Object) × (object_at objects id ≡ Some o) × (o.live ≡ true) × (length o.cells ≡ o.size) × (offset < o.size)
 
--- a stub's number is tagged as a function, another with the number of a live object
-abbrev pub IsTag : Bool → List Object → ℕ → Type 0
-IsTag true objects tag = tag ≡ 0xffffffff
-IsTag false objects tag = (offset : ℕ) × IsByteOf objects tag offset
+-- a stub's number is tagged as a function, another with the number of the live object that has the byte there
+abbrev pub IsTag : Bool → World → ℕ → ℕ → Type 0
+IsTag true w at tag = tag ≡ 0xffffffff
+IsTag false w at tag = (offset : ℕ) × IsByteOf w.objects tag offset × StandsAt w tag offset at
 
--- what a number at an address may be tagged with: the mark of functions at a stub, else the number of an object that lives and has a byte there
-abbrev pub IsTagAt : List Object → ℕ → ℕ → Type 0
-IsTagAt objects at tag = IsTag (is_stub at) objects tag
+abbrev pub IsTagAt : World → ℕ → ℕ → Type 0
+IsTagAt w at tag = IsTag (is_stub at) w at tag
 
 -- a0 has this tag, and all else is as it was
 abbrev pub tagged : ℕ → Registers → Registers
@@ -29,5 +29,5 @@ tagged tag r = record { pc = r.pc; words = with_word r.words 10 (record { bits =
 
 -- a0 gets the tag of what stands there; where it is refused nothing is done, and no stub is there
 abbrev pub Tags : Registers → World → Served → Registers → Type 0
-Tags old w Done new = (tag : ℕ) × IsTagAt w.objects (register old 10).bits tag × (new ≡ tagged tag old)
+Tags old w Done new = (tag : ℕ) × IsTagAt w (register old 10).bits tag × (new ≡ tagged tag old)
 Tags old w Refused new = (is_stub (register old 10).bits ≡ false) × (new ≡ old)

@@ -1,7 +1,8 @@
 // Arguments and results as words: eight in registers, the others on the stack.
-ghost use Rattle.std.specs.Prelude.{◌≡◌, ◌+◌, ◌<◌, ◌≤◌, IfOk, MatchOption, length, true};
-ghost use Rattle.sc_emu.specs.Registers.{register};
+ghost use Rattle.std.specs.Prelude.{◌≡◌, ◌+◌, ◌-◌, ◌*◌, ◌<◌, ◌≤◌, IfOk, IfSome, Some, length, true};
 ghost use Rattle.sc_services.specs.Arguments as spec;
+ghost use Rattle.sc_services.specs.Frames.{stack_top as top};
+ghost use Rattle.sc_services.specs.Memory.{read_at};
 ghost use Rattle.sc_services.specs.Writing.{Writes};
 
 use crate::bytes::load_word;
@@ -34,36 +35,50 @@ fn stands(x: Word, v: &Value) -> bool
 
 /// The value that a word stands for.
 pub fn value_of(x: Word, world: &World) -> Result<Value, NoMemory>
-    ensures { IfOk result (λ v. spec.stands x v ≡ true) }
+    ensures { IfOk result (λ v. spec.IsValueOf world.now x v) }
 {
     let v = world.value(x)?;
     if stands(x, &v) { Ok(v) } else { Err(NoMemory) }
 }
 
 // The word that stands for a value.
+#[tactic(auto, using(crate::proofs::Reading::word_is))]
 fn word_of(v: &Value, world: &World) -> Result<Word, NoMemory>
-    ensures { IfOk result (λ x. spec.stands x v.now ≡ true) }
+    ensures { IfOk result (λ x. spec.IsWordOf world.now v.now x) }
 {
     let x = world.word(v)?;
     if stands(x, v) { Ok(x) } else { Err(NoMemory) }
 }
 
 // The address of an argument past those in registers.
-fn address_of(k: u32, world: &World) -> Option<u32> {
-    let beyond = k.checked_sub(IN_REGISTERS)?;
-    let at = u64::from(stack_top(world)) + 4 * u64::from(beyond);
-    u32::try_from(at).ok()
+fn address_of(k: u32, world: &World) -> Option<u32>
+    ensures { IfSome result (λ at. (8 ≤ k) × (at ≡ top world.now + 4 * (k - 8))) }
+{
+    if k < IN_REGISTERS {
+        return None;
+    }
+    let at = u64::from(stack_top(world)) + 4 * u64::from(k - IN_REGISTERS);
+    match u32::try_from(at) {
+        Ok(at) => Some(at),
+        Err(_) => None,
+    }
 }
 
 // An argument past those in registers, where it is inside the stack.
-fn argument_beyond(k: u32, world: &World) -> Option<Word> {
-    let at = address_of(k, world)?;
-    load_word(world, at)
+#[tactic(auto, using(crate::proofs::Reading::found_there))]
+fn argument_beyond(k: u32, world: &World) -> Option<Word>
+    ensures { IfSome result (λ x. read_at world.now (top world.now + 4 * (k - 8)) 4 ≡ Some x) }
+{
+    match address_of(k, world) {
+        None => None,
+        Some(at) => load_word(world, at),
+    }
 }
 
-// What is said of argument k where it is there: of one in a register that it holds it.
+// The word of argument k, where it is there.
+#[tactic(auto, using(crate::proofs::Reading::in_register, crate::proofs::Reading::on_stack))]
 fn argument(k: u32, regs: &Regs, world: &World) -> Option<Word>
-    ensures { MatchOption result (8 ≤ k) (λ x. k < 8 → x ≡ register regs.now (10 + k)) }
+    ensures { IfSome result (λ x. spec.argument_word k regs.now world.now ≡ Some x) }
 {
     if k < IN_REGISTERS {
         return Some(regs.get(FIRST + k as u8));
@@ -90,7 +105,7 @@ pub fn arguments(count: u32, regs: &Regs, world: &World) -> Result<Option<Items<
     let mut values = Items::new(world.alloc());
     for k in 0..count {
         let Some(word) = argument(k, regs, world) else {
-            return Ok(None);
+            return Err(NoMemory);
         };
         let v = value_of(word, world)?;
         values.push(v)?;
@@ -99,7 +114,7 @@ pub fn arguments(count: u32, regs: &Regs, world: &World) -> Result<Option<Items<
 }
 
 // A word goes to the place on the stack of an argument past those in registers.
-#[tactic(auto, using(crate::proofs::Writing::kept, crate::proofs::Writing::one_more))]
+#[tactic(auto, using(crate::proofs::Writing::stores_write))]
 fn put_beyond(k: u32, word: Word, world: &mut World) -> Result<(), NoMemory>
     ensures { IfOk result (λ _. Writes world.old world.new) }
 {
@@ -115,7 +130,7 @@ fn put_beyond(k: u32, word: Word, world: &mut World) -> Result<(), NoMemory>
 // Argument k goes to its register, or to its place on the stack.
 #[tactic(auto, using(crate::proofs::Writing::kept))]
 fn put_argument(k: u32, v: &Value, regs: &mut Regs, world: &mut World) -> Result<(), NoMemory>
-    ensures puts { IfOk result (λ _. spec.PutsOne k v.now regs.old regs.new) }
+    ensures puts { IfOk result (λ _. spec.PutsOne world.old k v.now regs.old regs.new) }
     ensures writes { IfOk result (λ _. Writes world.old world.new) }
     ensures few { k < 8 → IfOk result (λ _. world.new ≡ world.old) }
 {
@@ -130,7 +145,7 @@ fn put_argument(k: u32, v: &Value, regs: &mut Regs, world: &mut World) -> Result
 /// The arguments of a call that goes to compiled code are put where it finds them.
 #[tactic(auto, using(crate::proofs::Writing::kept, crate::proofs::Writing::one_more))]
 pub fn put_arguments(vs: &[Value], regs: &mut Regs, world: &mut World) -> Result<(), NoMemory>
-    ensures puts { IfOk result (λ _. spec.PutsArguments 0 vs.now regs.old regs.new) }
+    ensures puts { IfOk result (λ _. spec.PutsArguments world.old 0 vs.now regs.old regs.new) }
     ensures writes { IfOk result (λ _. Writes world.old world.new) }
     ensures few { length vs.now ≤ 8 → IfOk result (λ _. world.new ≡ world.old) }
 {
@@ -145,7 +160,7 @@ pub fn put_arguments(vs: &[Value], regs: &mut Regs, world: &mut World) -> Result
 
 /// The word of what a call gave: 0 where it gave no value.
 pub fn result_word(a: &Answer, world: &World) -> Result<Word, NoMemory>
-    ensures { IfOk result (λ x. spec.IsResult a.now x) }
+    ensures { IfOk result (λ x. spec.IsResult world.now a.now x) }
 {
     match &a.held {
         Held::Plain(v) => word_of(v, world),

@@ -1,11 +1,27 @@
 // Bytes of the one memory, whether or not they are an object's.
+ghost use Rattle.std.specs.Prelude.{◌≡◌};
+ghost use Rattle.sc_mem.specs.Words.{IsSize};
+ghost use Rattle.sc_services.specs.Memory.{read_at};
+
 use sc_base::{Duplicate, NoMemory, Word};
 use sc_interp_world::{Cell, Content, World, cells_at};
 use sc_meaning_values::Value;
 
+/// What the `size` bytes at an address hold: `None` exactly outside the areas, and where the address is no multiple of the size.
+#[inline(always)]
+#[tactic(auto, using(crate::proofs::Reading::read_is))]
+pub fn load(at: u32, size: u8, world: &World) -> Option<Word>
+    requires { IsSize size }
+    ensures { result ≡ read_at world.now at size }
+{
+    world.load(at, size)
+}
+
 /// The word at an address, where it is a multiple of 4 inside the areas.
-pub fn load_word(world: &World, at: u32) -> Option<Word> {
-    world.load(at, 4)
+pub fn load_word(world: &World, at: u32) -> Option<Word>
+    ensures { result ≡ read_at world.now at 4 }
+{
+    load(at, 4, world)
 }
 
 // Byte k of a number.

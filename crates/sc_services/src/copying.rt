@@ -1,7 +1,6 @@
 // Service 5: bytes are copied.
 ghost use Rattle.std.specs.Prelude.{◌≡◌, IfOk, IfSome};
 ghost use Rattle.sc_services.specs.Copying as spec;
-ghost use Rattle.sc_services.specs.Tagging.{IsByteOf};
 ghost use Rattle.sc_services.specs.Writing.{Writes};
 
 use crate::arguments::FIRST;
@@ -66,19 +65,31 @@ fn put_cells(to: u32, cells: &[Cell], world: &mut World) -> Result<(), NoMemory>
     Ok(())
 }
 
-// Whole pointers that stand beside all objects get their tags.
+// A whole pointer that stands beside all objects gets its tag.
+#[tactic(auto, using(crate::proofs::Writing::kept))]
+fn put_pointer(at: u32, cells: &[Cell], world: &mut World) -> Result<(), NoMemory>
+    ensures { IfOk result (λ _. Writes world.old world.new) }
+{
+    if at % 4 != 0 || world.live_at(at).is_some() {
+        return Ok(());
+    }
+    match whole_pointer(cells) {
+        None => Ok(()),
+        Some(v) => {
+            let word = world.word(v)?;
+            keep(at, 4, word, world)
+        }
+    }
+}
+
+// The same of all of them.
 #[tactic(auto, using(crate::proofs::Writing::kept, crate::proofs::Writing::one_more))]
 fn put_pointers(to: u32, cells: &[Cell], world: &mut World) -> Result<(), NoMemory>
     ensures { IfOk result (λ _. Writes world.old world.new) }
 {
     let mut at = to;
     for k in 0..cells.len() {
-        if at % 4 == 0 && world.live_at(at).is_none() {
-            if let Some(v) = whole_pointer(&cells[k..]) {
-                let word = world.word(v)?;
-                keep(at, 4, word, world)?;
-            }
-        }
+        put_pointer(at, &cells[k..], world)?;
         at = at.wrapping_add(1);
     }
     Ok(())
@@ -96,7 +107,7 @@ fn copy_bytes(to: u32, from: u32, n: u32, world: &mut World) -> Result<(), NoMem
 
 // The byte of a live object at an address, from which on so many bytes are the object's.
 fn place_of(at: u32, n: u32, world: &World) -> Option<Place>
-    ensures { IfSome result (λ p. IsByteOf world.now.objects p.id p.offset) }
+    ensures { IfSome result (λ p. spec.AreAt world.now p.id p.offset n at) }
 {
     let place = world.live_at(at)?;
     if has_bytes(place, n, world) {
@@ -109,7 +120,7 @@ fn place_of(at: u32, n: u32, world: &World) -> Option<Place>
 // Bytes inside the areas go to an address.
 #[tactic(auto, using(crate::proofs::Ways::by_bytes))]
 fn copy_inside(to: u32, from: u32, n: u32, world: &mut World) -> Result<(), NoMemory>
-    ensures { IfOk result (λ _. spec.Copies n world.old world.new) }
+    ensures { IfOk result (λ _. spec.Copies to from n world.old world.new) }
 {
     match (place_of(to, n, world), place_of(from, n, world)) {
         (Some(target), Some(source)) => {

@@ -15,6 +15,7 @@ mod store;
 mod tagging;
 
 pub use arguments::{put_arguments, result_word, value_of};
+pub use bytes::load;
 pub use calling::{Asked, called};
 pub use copying::{Copied, copy};
 pub use entering::{Entered, enter};

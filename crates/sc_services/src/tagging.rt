@@ -14,11 +14,18 @@ const STUBS: u32 = 0x0001_0000;
 /// Where the area of stubs ends.
 const STUBS_END: u32 = STUBS + 8 * 65_536;
 
+// Whether a stub may stand at an address.
+fn is_stub(at: u32) -> bool
+    ensures { result ≡ spec.is_stub at }
+{
+    STUBS <= at && at < STUBS_END && at % 8 == 0
+}
+
 // The tag of what stands at an address: of the live object that holds it, or of functions.
 fn tag_at(at: u32, world: &World) -> Option<u32>
-    ensures { MatchOption result (spec.is_stub at ≡ false) (λ tag. spec.IsTagAt world.now.objects at tag) }
+    ensures { MatchOption result (spec.is_stub at ≡ false) (λ tag. spec.IsTagAt world.now at tag) }
 {
-    if STUBS <= at && at < STUBS_END && at % 8 == 0 {
+    if is_stub(at) {
         return Some(Word::FUNCTION);
     }
     match world.live_at(at) {

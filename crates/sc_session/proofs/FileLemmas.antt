@@ -79,6 +79,7 @@ does_keep old new (command.Delete k) said named p = keeps_same old.held new.held
 does_keep old new command.Frames said named p = keeps_same old.held new.held (ap (λ (m : Moment). m.held) p.1)
 does_keep old new (command.Print name) said named p = keeps_same old.held new.held (ap (λ (m : Moment). m.held) p.1)
 does_keep old new command.Machine said named p = keeps_same old.held new.held (ap (λ (m : Moment). m.held) p.1)
+does_keep old new (command.Disas home fun) said named p = keeps_same old.held new.held (ap (λ (m : Moment). m.held) p.1)
 does_keep old new command.List said named p = keeps_same old.held new.held (ap (λ (m : Moment). m.held) p.1)
 does_keep old new (command.Report k) said named p = keeps_same old.held new.held (ap (λ (m : Moment). m.held) p.1)
 does_keep old new (command.Drop k) said named p = keeps_same old.held new.held p.1.0

@@ -12,3 +12,4 @@ pub mod FormLemmas
 pub mod AskingLemmas
 pub mod PlacingLemmas
 pub mod RelinkingLemmas
+pub mod DisassemblingLemmas

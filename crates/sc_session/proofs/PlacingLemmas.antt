@@ -60,7 +60,7 @@ pub last_placed : (past : List (List Present)) (modules : List Present) → last
 last_placed [] modules = refl
 last_placed (first ∷ past) modules = last_over first (past ++ modules ∷ []) (placed_first first)
 
-the_same : {A : Type 0} (x y : A) → Some x ≡ Some y → x ≡ y
+pub the_same : {A : Type 0} (x y : A) → Some x ≡ Some y → x ≡ y
 the_same x y e = cc
 
 pub linked_last : (past : List (List Present)) (modules : List Present) (funs : List Key) (i : Image) → IsLast (each_placed past modules) funs i → IsLinked (placed_over past modules) funs i

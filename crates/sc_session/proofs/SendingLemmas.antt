@@ -372,6 +372,7 @@ input_denied old (Some file) now (denied.Space a) main p = absurd p
 input_denied old (Some file) now (denied.NotVisible name) main p = absurd p
 input_denied old (Some file) now (denied.NoProbe k) main p = absurd p
 input_denied old (Some file) now (denied.NoStop k) main p = absurd p
+input_denied old (Some file) now (denied.NoText home fun) main p = absurd p
 
 pub run_denied : (sink : Option (List ℕ)) (old : Moment) (file : Option (List ℕ)) (now : ℕ) (held : Option FileMap) (d : Denied) → has_main (texts old.session.modules) ≡ true → held ≡ old.held → InputDenied old.held file old.faults now d
     → RunsOut sink sink old file (Ok (answer.Refused d)) (moment old.session held now)
@@ -433,6 +434,7 @@ writes_first old (command.Delete k) front p = p
 writes_first old command.Frames front p = p
 writes_first old (command.Print name) front p = p
 writes_first old command.Machine front p = p
+writes_first old (command.Disas home fun) front p = p
 writes_first old command.List front p = p
 writes_first old (command.Report k) front p = p
 writes_first old (command.Drop k) front p = p
@@ -458,6 +460,7 @@ quiet_so old command.Cont said new p = absurd p
 quiet_so old command.Frames said new p = (refl, p)
 quiet_so old (command.Print name) said new p = (refl, p)
 quiet_so old command.Machine said new p = (refl, p)
+quiet_so old (command.Disas home fun) said new p = (refl, p)
 quiet_so old command.List said new p = (refl, p)
 quiet_so old (command.Report k) said new p = (refl, p)
 quiet_so old (command.Drop k) said new p = (refl, p)

@@ -37,6 +37,7 @@ deed_command (deed.Delete k) = command.Delete k
 deed_command deed.Frames = command.Frames
 deed_command (deed.Print name) = command.Print name
 deed_command deed.Machine = command.Machine
+deed_command (deed.Disas home fun) = command.Disas home fun
 deed_command deed.List = command.List
 deed_command (deed.Report k) = command.Report k
 deed_command (deed.Drop k) = command.Drop k

@@ -13,5 +13,6 @@ pub mod Linking
 pub mod Placing
 pub mod Swapping
 pub mod Mixing
+pub mod Disassembling
 pub mod Probing
 pub mod Transcript

@@ -119,6 +119,7 @@ refusal_of session command.Cont = continuing session.state
 refusal_of session command.Frames = stepping session.state
 refusal_of session (command.Print name) = stepping session.state
 refusal_of session command.Machine = machining session.state
+refusal_of session (command.Disas home fun) = None
 refusal_of session command.List = None
 refusal_of session (command.Report k) = if_no_probe k session.probes
 refusal_of session (command.Drop k) = if_not_droppable k session.probes

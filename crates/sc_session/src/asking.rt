@@ -27,6 +27,8 @@ pub enum Deed {
     Print(Name),
     /// The registers are shown.
     Machine,
+    /// The instructions of a compiled function are shown.
+    Disas(Option<Name>, Name),
     List,
     /// The text of a probe is shown.
     Report(u32),
@@ -66,6 +68,7 @@ pub fn ask_for(command: Command) -> Asked
         Command::Frames => Asked::Do(Deed::Frames),
         Command::Print(name) => Asked::Do(Deed::Print(name)),
         Command::Machine => Asked::Do(Deed::Machine),
+        Command::Disas(home, fun) => Asked::Do(Deed::Disas(home, fun)),
         Command::List => Asked::Do(Deed::List),
         Command::Report(k) => Asked::Do(Deed::Report(k)),
         Command::Drop(k) => Asked::Do(Deed::Drop(k)),

@@ -4,6 +4,7 @@
 mod asking;
 mod changing;
 mod compiling;
+mod disassembling;
 mod going;
 mod hearing;
 mod input;

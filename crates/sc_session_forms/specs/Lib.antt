@@ -4,3 +4,4 @@ pub mod Calls
 pub mod Forms
 pub mod Halts
 pub mod Machines
+pub mod Disassembly

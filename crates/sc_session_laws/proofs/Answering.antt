@@ -484,6 +484,7 @@ carried old run k command.Cont front said new free a p = walks old run k walk.Co
 carried old run k command.Frames front said new free a (none, p) = same_session old run k new p.1
 carried old run k (command.Print name) front said new free a (none, p) = same_session old run k new p.1
 carried old run k command.Machine front said new free a (none, p) = same_session old run k new p.1
+carried old run k (command.Disas home fun) front said new free a (none, p) = same_session old run k new p.1
 carried old run k command.List front said new free a (none, p) = same_session old run k new p.1
 carried old run k (command.Report n) front said new free a (none, p) = same_session old run k new p.1
 carried old run k (command.Drop n) front said new free a (none, p) = (run, same_run run, drops old run k n said new.session p.0)

@@ -10,5 +10,5 @@ mod places;
 mod tasks;
 
 pub use frames::{put_line, where_line, where_lines};
-pub use listing::{fun_lines, module_lines};
+pub use listing::{defined_key, fun_lines, module_lines};
 pub use names::{Seen, print_line, print_line_in, visible};

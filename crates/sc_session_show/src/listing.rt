@@ -44,7 +44,8 @@ pub fn module_lines(alloc: Global, texts: &[Text]) -> Result<Bytes, NoMemory>
     Ok(Bytes::from_vec(text))
 }
 
-fn defined_key(alloc: Global, home: &Name, f: &Fun) -> Result<Key, NoMemory>
+/// The key of a function that a module defines.
+pub fn defined_key(alloc: Global, home: &Name, f: &Fun) -> Result<Key, NoMemory>
     ensures { IfOk result (λ key. key ≡ spec.defined_key home.now f.now) }
 {
     let name = f.name.copy(alloc)?;

@@ -60,6 +60,7 @@ no_go old (command.Delete k) front p q = q
 no_go old command.Frames front p q = q
 no_go old (command.Print name) front p q = q
 no_go old command.Machine front p q = q
+no_go old (command.Disas home fun) front p q = q
 no_go old command.List front p q = q
 no_go old (command.Report k) front p q = q
 no_go old (command.Drop k) front p q = q

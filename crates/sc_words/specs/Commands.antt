@@ -31,10 +31,11 @@ verb_of word =
     else (if bytes_eq word (codes "print") then Some verb.Print
     else (if bytes_eq word (codes "list") then Some verb.List
     else (if bytes_eq word (codes "machine") then Some verb.Machine
+    else (if bytes_eq word (codes "disas") then Some verb.Disas
     else (if bytes_eq word (codes "report") then Some verb.Report
     else (if bytes_eq word (codes "drop") then Some verb.Drop
     else (if bytes_eq word (codes "reset") then Some verb.Reset
-    else (if bytes_eq word (codes "quit") then Some verb.Quit else None))))))))))))))))))
+    else (if bytes_eq word (codes "quit") then Some verb.Quit else None)))))))))))))))))))
 
 -- ---- the further words
 
@@ -79,11 +80,14 @@ run_of (file ∷ []) = if is_file_name file then command.Run (Some file) else co
 run_of _ = command.BadArguments
 
 -- a function, or a module and a function that it defines, with a colon between them
-abbrev pub in_function : List ℕ → Option (List ℕ × List ℕ) → Command
-in_function place None = if is_identifier place then command.Stop (InFun None place) else command.BadArguments
-in_function place (Some parts) =
-    if is_module_name parts.0 && is_identifier parts.1 then command.Stop (InFun (Some parts.0) parts.1)
-    else command.BadArguments
+abbrev pub function_of : List ℕ → Option (List ℕ × List ℕ) → Option (Option (List ℕ) × List ℕ)
+function_of place None = if is_identifier place then Some (None, place) else None
+function_of place (Some parts) =
+    if is_module_name parts.0 && is_identifier parts.1 then Some (Some parts.0, parts.1) else None
+
+abbrev pub in_function : Option (Option (List ℕ) × List ℕ) → Command
+in_function None = command.BadArguments
+in_function (Some f) = command.Stop (InFun f.0 f.1)
 
 -- a module and a line, with a colon between them
 abbrev pub at_line : Option (List ℕ × List ℕ) → Command
@@ -94,7 +98,7 @@ at_line (Some parts) =
 
 abbrev pub stop_of : List (List ℕ) → Command
 stop_of (how ∷ place ∷ []) =
-    if bytes_eq how (codes "in") then in_function place (parts_of place)
+    if bytes_eq how (codes "in") then in_function (function_of place (parts_of place))
     else (if bytes_eq how (codes "at") then at_line (parts_of place) else command.BadArguments)
 stop_of _ = command.BadArguments
 
@@ -116,6 +120,14 @@ abbrev pub print_of : List (List ℕ) → Command
 print_of (name ∷ []) = if is_identifier name then command.Print name else command.BadArguments
 print_of _ = command.BadArguments
 
+abbrev pub code_of : Option (Option (List ℕ) × List ℕ) → Command
+code_of None = command.BadArguments
+code_of (Some f) = command.Disas f.0 f.1
+
+abbrev pub disas_of : List (List ℕ) → Command
+disas_of (place ∷ []) = code_of (function_of place (parts_of place))
+disas_of _ = command.BadArguments
+
 -- ---- the whole line
 
 abbrev pub command_by : Verb → List (List ℕ) → Command
@@ -134,6 +146,7 @@ command_by verb.Where words = alone command.Frames words
 command_by verb.Print words = print_of words
 command_by verb.List words = alone command.List words
 command_by verb.Machine words = alone command.Machine words
+command_by verb.Disas words = disas_of words
 command_by verb.Report words = report_of words
 command_by verb.Drop words = drop_of words
 command_by verb.Reset words = alone command.Reset words

@@ -15,6 +15,11 @@ use Rattle.sc_words.specs.declared.denied.Denied.TheVariants as denied
 use Rattle.sc_words.specs.declared.answer.Answer.{Answer}
 use Rattle.sc_words.specs.declared.answer.Answer.TheVariants as answer
 
+-- a function, behind the module that defines it where one is named
+abbrev pub fun_text : Option (List ℕ) → List ℕ → List ℕ
+fun_text None fun = fun
+fun_text (Some name) fun = name ++ codes ":" ++ fun
+
 -- the kind of a refusal, with its word
 abbrev pub kind_text : X → List ℕ
 kind_text x.X1 = codes "X1"
@@ -62,19 +67,15 @@ denied_text (denied.NotVisible name) = codes "C16 " ++ name
 denied_text (denied.NoProbe number) = codes "C17 " ++ decimal number
 denied_text (denied.NoStop number) = codes "C18 " ++ decimal number
 denied_text (denied.TooLong file) = codes "C19 " ++ file
+denied_text (denied.NoText name fun) = codes "C21 " ++ fun_text name fun
 
 abbrev pub form_text : Form → List ℕ
 form_text form.Source = codes " source"
 form_text form.Object = codes " object"
 
--- a function, behind the module that defines it where one is named
-abbrev pub fun_text : Option (List ℕ) → List ℕ → List ℕ
-fun_text None fun = codes " in " ++ fun
-fun_text (Some name) fun = codes " in " ++ name ++ codes ":" ++ fun
-
 -- where a stop is
 abbrev pub stop_text : StopAt → List ℕ
-stop_text (InFun name fun) = fun_text name fun
+stop_text (InFun name fun) = codes " in " ++ fun_text name fun
 stop_text (AtLine name line) = codes " at " ++ name ++ codes ":" ++ decimal line
 
 abbrev pub text_of : Answer → List ℕ

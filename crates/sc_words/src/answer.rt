@@ -78,6 +78,18 @@ fn with_two(alloc: Global, front: &[u8], name: &Name, other: &Name) -> Result<Ve
     Ok(text)
 }
 
+// A function behind the module that defines it, where one is named.
+fn fun_text(alloc: Global, home: &Option<Name>, fun: &Name) -> Result<Vec<u8>, NoMemory>
+    ensures { IfOk result (λ text. text.items ≡ spec.fun_text home.now fun.now) }
+{
+    let Some(home) = home else {
+        return words(alloc, fun.as_slice());
+    };
+    let mut text = with_word(alloc, home.as_slice(), b":")?;
+    put(&mut text, fun.as_slice())?;
+    Ok(text)
+}
+
 // The kind of a refusal, with its word.
 fn kind_text(alloc: Global, kind: &X) -> Result<Vec<u8>, NoMemory>
     ensures { IfOk result (λ text. text.items ≡ spec.kind_text kind.now) }
@@ -155,6 +167,9 @@ fn denied_text(alloc: Global, denied: &Denied) -> Result<Vec<u8>, NoMemory>
         Denied::NoProbe(number) => with_number(alloc, b"C17 ", *number),
         Denied::NoStop(number) => with_number(alloc, b"C18 ", *number),
         Denied::TooLong(file) => with_word(alloc, b"C19 ", file.as_slice()),
+        Denied::NoText(home, fun) => {
+            with_word(alloc, b"C21 ", fun_text(alloc, home, fun)?.as_slice())
+        }
     }
 }
 
@@ -191,19 +206,6 @@ fn refused_line(alloc: Global, denied: &Denied) -> Result<Bytes, NoMemory>
     line_of(alloc, b"> refused ", said.as_slice())
 }
 
-// A function behind the module that defines it, where one is named.
-fn fun_text(alloc: Global, home: &Option<Name>, fun: &Name) -> Result<Vec<u8>, NoMemory>
-    ensures { IfOk result (λ text. text.items ≡ spec.fun_text home.now fun.now) }
-{
-    let Some(home) = home else {
-        return with_word(alloc, b" in ", fun.as_slice());
-    };
-    let mut text = with_word(alloc, b" in ", home.as_slice())?;
-    put(&mut text, b":")?;
-    put(&mut text, fun.as_slice())?;
-    Ok(text)
-}
-
 fn line_text(alloc: Global, home: &Name, line: u32) -> Result<Vec<u8>, NoMemory>
     ensures { IfOk result (λ text. text.items ≡ codes " at " ++ home.now ++ codes ":" ++ decimal line) }
 {
@@ -218,7 +220,9 @@ fn stop_text(alloc: Global, stop: &StopAt) -> Result<Vec<u8>, NoMemory>
     ensures { IfOk result (λ text. text.items ≡ spec.stop_text stop.now) }
 {
     match stop {
-        StopAt::InFun(module, fun) => fun_text(alloc, module, fun),
+        StopAt::InFun(module, fun) => {
+            with_word(alloc, b" in ", fun_text(alloc, module, fun)?.as_slice())
+        }
         StopAt::AtLine(module, line) => line_text(alloc, module, *line),
     }
 }

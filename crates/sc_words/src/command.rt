@@ -1,8 +1,8 @@
 // What a line asks for.
-ghost use Rattle.std.specs.Prelude.{◌≡◌, true, [], ◌∷◌, IfOk, OnErr, IfSome, IfNone};
+ghost use Rattle.std.specs.Prelude.{◌≡◌, true, [], ◌∷◌, IfOk, OnErr, IfSome, IfNone, Some, None, option_map};
 ghost use Rattle.sc_words.specs.Lines.{words_of};
 ghost use Rattle.sc_words.specs.Parts.{is_module_name, parts_of};
-ghost use Rattle.sc_words.specs.Commands.{command_of, command_by, alone, load_of, unload_of, swap_of, swap_to, form_of, edit_of, compile_of, run_of, stop_of, in_function, at_line, number_alone, delete_of, report_of, drop_of, print_of, is_comment, IsNamed, IsAnswered};
+ghost use Rattle.sc_words.specs.Commands.{command_of, command_by, alone, load_of, unload_of, swap_of, swap_to, form_of, edit_of, compile_of, run_of, stop_of, function_of, in_function, at_line, number_alone, delete_of, report_of, drop_of, print_of, disas_of, is_comment, IsNamed, IsAnswered};
 
 use crate::line::next_word;
 use crate::part::{
@@ -47,6 +47,8 @@ pub enum Command {
     Print(Name),
     List,
     Machine,
+    /// `disas F` or `disas M:F`
+    Disas(Option<Name>, Name),
     /// `report K`
     Report(u32),
     /// `drop K`
@@ -110,6 +112,7 @@ fn command_by(alloc: Global, verb: Verb, rest: &[u8]) -> Result<Command, NoMemor
         Verb::Where => Ok(alone(Command::Frames, rest)),
         Verb::List => Ok(alone(Command::List, rest)),
         Verb::Machine => Ok(alone(Command::Machine, rest)),
+        Verb::Disas => disas_of(alloc, rest),
         Verb::Report => Ok(report_of(rest)),
         Verb::Drop => Ok(drop_of(rest)),
         Verb::Reset => Ok(alone(Command::Reset, rest)),
@@ -274,32 +277,51 @@ fn stop_of(alloc: Global, rest: &[u8]) -> Result<Command, NoMemory>
     }
 }
 
-fn in_function(alloc: Global, place: &[u8]) -> Result<Command, NoMemory>
-    ensures command { IfOk result (λ command. command ≡ in_function place.now (parts_of place.now)) }
-    ensures named { IfOk result IsNamed }
-    ensures no_memory { OnErr result (IsAnswered (in_function place.now (parts_of place.now))) }
+// A function, or a module and a function that it defines, with a colon between them.
+fn function_of<'a>(place: &'a [u8]) -> Option<(Option<&'a [u8]>, &'a [u8])>
+    ensures none { IfNone result (function_of place.now (parts_of place.now) ≡ None) }
+    ensures some { IfSome result (λ f. function_of place.now (parts_of place.now) ≡ Some (option_map (λ home. home.now) f.0, f.1.now)) }
 {
-    let Some((module, fun)) = parts_of(place) else {
-        return in_external(alloc, place);
-    };
-    if !is_module_name(module) || !is_identifier(fun) {
-        return Ok(Command::BadArguments);
+    match parts_of(place) {
+        Some((home, fun)) => {
+            if is_module_name(home) && is_identifier(fun) {
+                Some((Some(home), fun))
+            } else {
+                None
+            }
+        }
+        None => {
+            if is_identifier(place) {
+                Some((None, place))
+            } else {
+                None
+            }
+        }
     }
-    let module = name_of(alloc, module)?;
-    let fun = name_of(alloc, fun)?;
-    Ok(Command::Stop(StopAt::InFun(Some(module), fun)))
 }
 
-fn in_external(alloc: Global, fun: &[u8]) -> Result<Command, NoMemory>
-    ensures command { IfOk result (λ command. command ≡ in_function fun.now None) }
-    ensures named { IfOk result IsNamed }
-    ensures no_memory { OnErr result (IsAnswered (in_function fun.now None)) }
+// The name with these bytes, where there are any.
+fn home_of(alloc: Global, home: Option<&[u8]>) -> Result<Option<Name>, NoMemory>
+    ensures { IfOk result (λ name. name ≡ option_map (λ bytes. bytes.now) home.entry) }
 {
-    if !is_identifier(fun) {
+    let Some(home) = home else {
+        return Ok(None);
+    };
+    let name = name_of(alloc, home)?;
+    Ok(Some(name))
+}
+
+fn in_function(alloc: Global, place: &[u8]) -> Result<Command, NoMemory>
+    ensures command { IfOk result (λ command. command ≡ in_function (function_of place.now (parts_of place.now))) }
+    ensures named { IfOk result IsNamed }
+    ensures no_memory { OnErr result (IsAnswered (in_function (function_of place.now (parts_of place.now)))) }
+{
+    let Some((home, fun)) = function_of(place) else {
         return Ok(Command::BadArguments);
-    }
+    };
+    let home = home_of(alloc, home)?;
     let fun = name_of(alloc, fun)?;
-    Ok(Command::Stop(StopAt::InFun(None, fun)))
+    Ok(Command::Stop(StopAt::InFun(home, fun)))
 }
 
 fn at_line(alloc: Global, place: &[u8]) -> Result<Command, NoMemory>
@@ -369,4 +391,23 @@ fn print_of(alloc: Global, rest: &[u8]) -> Result<Command, NoMemory>
     }
     let name = name_of(alloc, name)?;
     Ok(Command::Print(name))
+}
+
+fn disas_of(alloc: Global, rest: &[u8]) -> Result<Command, NoMemory>
+    ensures command { IfOk result (λ command. command ≡ disas_of (words_of rest.now)) }
+    ensures named { IfOk result IsNamed }
+    ensures no_memory { OnErr result (IsAnswered (disas_of (words_of rest.now))) }
+{
+    let Some((place, rest)) = next_word(rest) else {
+        return Ok(Command::BadArguments);
+    };
+    if next_word(rest).is_some() {
+        return Ok(Command::BadArguments);
+    }
+    let Some((home, fun)) = function_of(place) else {
+        return Ok(Command::BadArguments);
+    };
+    let home = home_of(alloc, home)?;
+    let fun = name_of(alloc, fun)?;
+    Ok(Command::Disas(home, fun))
 }

@@ -29,6 +29,7 @@ const COMMANDS: &str = "Commands, one on each line of the standard input:
   print NAME      shows a value
   list            shows modules, functions, stops and the state
   machine         shows the registers, and how many instructions were carried out
+  disas F         shows the instructions of a compiled function; F is NAME or M:NAME
   report K        shows what a probe tells
   drop K          takes a probe away
   reset           gives the run up

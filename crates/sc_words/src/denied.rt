@@ -56,4 +56,6 @@ pub enum Denied {
     NoStop(u32),
     /// The file has more than 8,388,608 bytes.
     TooLong(Bytes),
+    /// No module that runs as its object defines the function: the module, where one is named, and the function.
+    NoText(Option<Name>, Name),
 }

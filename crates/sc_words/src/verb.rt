@@ -19,6 +19,7 @@ pub enum Verb {
     Print,
     List,
     Machine,
+    Disas,
     Report,
     Drop,
     Reset,
@@ -72,6 +73,9 @@ pub fn verb_of(word: &[u8]) -> Option<Verb>
     }
     if word == b"machine".as_slice() {
         return Some(Verb::Machine);
+    }
+    if word == b"disas".as_slice() {
+        return Some(Verb::Disas);
     }
     if word == b"report".as_slice() {
         return Some(Verb::Report);

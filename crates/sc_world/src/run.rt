@@ -224,6 +224,11 @@ impl Run {
             drop(places);
             return Ok(());
         }
+        // No compiled code has come into this run.
+        if self.world.shows_memory() {
+            drop(places);
+            return Err(NoMemory);
+        }
         self.world.number(more_functions)?;
         self.world.set_places(places);
         Ok(())

@@ -12,6 +12,7 @@ use Rattle.sc_meaning.proofs.Steps.{here, on, one_more}
 use Rattle.sc_meaning.proofs.Runs.{ending_leads}
 use Rattle.sc_meaning.proofs.Deeper.{ending_world}
 use Rattle.sc_meaning.proofs.Changing.{settled_goes}
+use Rattle.sc_meaning.proofs.Histories.{have_later, present_stays}
 use Rattle.sc_meaning.proofs.Growing.{Going, leads_then}
 use Rattle.sc_interp_machine.specs.Runs as runs
 use Rattle.sc_interp_machine.specs.Runs.{State, Runs, Makes, Answers, Ends, then_goes, advance}
@@ -32,7 +33,7 @@ use Rattle.sc_interp.proofs.Unchanged.{present}
 use Rattle.sc_interp_change_laws.specs.Following.{changed_state, reached_in, LastShows, Shows}
 use Rattle.sc_interp_change_laws.specs.Showing.{IsEvent}
 use Rattle.sc_interp_change_laws.proofs.Between.{count_grows, event_counts}
-use Rattle.sc_interp_change_laws.proofs.Changed.{have_later, have_still, present_stays, reached_changed, shows_still}
+use Rattle.sc_interp_change_laws.proofs.Changed.{have_still, reached_changed, shows_still}
 use Rattle.sc_interp_change_laws.proofs.Later.{changes_nothing_before, is_present}
 use Rattle.sc_interp_change_laws.proofs.Steps.{behind as behind_part}
 use Rattle.sc_interp_change_laws.proofs.Going.{first_steady, step_steady}

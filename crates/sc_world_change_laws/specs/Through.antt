@@ -6,10 +6,9 @@ use Rattle.sc_meaning.specs.Outcomes.{Done}
 use Rattle.sc_meaning.specs.Versions.{Text, History, version_at}
 use Rattle.sc_meaning.specs.Changes.{settled}
 use Rattle.sc_meaning.specs.Behaviour.{Start, first_world, ending}
-use Rattle.sc_meaning.specs.Laws.{with_history}
+use Rattle.sc_meaning.specs.Laws.{with_history, HaveCome}
 use Rattle.sc_interp_machine.specs.Runs.{State, Runs, Makes, Answers, Ends}
 use Rattle.sc_interp_laws.specs.Worlds as course
-use Rattle.sc_interp_change_laws.specs.Coming.{HaveCome}
 use Rattle.sc_interp_change_laws.specs.Following.{reached_in, LastShows}
 use Rattle.sc_interp_change_laws.specs.Showing.{IsEvent}
 use Rattle.sc_world.specs.Standing.{Standing, world_of}

@@ -45,6 +45,9 @@ static struct list none(void)
     return l;
 }
 
+extern struct list nothing(void) __attribute__((alias("none")));
+extern struct list with(const struct list l, int item) __attribute__((alias("pushed")));
+
 static complex *at(complex *all, int n) { return &all[n]; }
 
 int main(void)
@@ -60,6 +63,7 @@ int main(void)
     printf("%d %d %d %d\n", l.count, l.items[0], l.items[1], l.items[2]);
     printf("%d %x\n", first_byte(w), w.whole);
     printf("%d\n", pushed(l.count > 2 ? l : none(), 1).count);
+    printf("%d\n", with(with(nothing(), 7), 8).items[1]);
     div_t d = div(-17, 5);
     ldiv_t e = ldiv(17L, -5L);
     printf("%d %d %ld %ld\n", d.quot, d.rem, e.quot, e.rem);

@@ -1,4 +1,4 @@
-use Rattle.sc_meaning.specs.Library.{class_of}
+use Rattle.sc_meaning.specs.Classes.{class_of}
 use Rattle.sc_lib_bytes.proofs.Mores.{class_here, class_behind, class_last}
 use Rattle.sc_lib_bytes.proofs.heap.class_of.Goals as goal
 

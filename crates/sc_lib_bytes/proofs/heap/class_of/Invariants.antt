@@ -1,5 +1,5 @@
 use Rattle.std.proofs.Common.{◌≡◌, ◌-◌}
-use Rattle.sc_meaning.specs.Library as spec
+use Rattle.sc_meaning.specs.Classes as spec
 use Rattle.sc_lib_bytes.proofs.heap.class_of.Given as goal
 
 abbrev pub invariant-loop-k : goal.invariant-loop-k

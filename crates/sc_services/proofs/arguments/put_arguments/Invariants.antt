@@ -6,7 +6,7 @@ use Rattle.sc_services.proofs.arguments.put_arguments.Given as goal
 
 abbrev pub invariant-loop-i : goal.invariant-loop-i
 invariant-loop-i l = record {
-  puts : (s : Registers) → PutsArguments l.i (drop l.i l.vs) l.regs s → PutsArguments 0 l.vs l.fn.regs s;
+  puts : (s : Registers) → PutsArguments l.fn.world l.i (drop l.i l.vs) l.regs s → PutsArguments l.fn.world 0 l.vs l.fn.regs s;
   writes : Writes l.fn.world l.world;
   few : l.i ≤ 8 → l.world ≡ l.fn.world;
 }

@@ -7,5 +7,5 @@ pub invariant_of-self : goal.invariant_of-self
 invariant_of-self c =
     let s = c.self.inside in
     let live : IsLive s.memory.flat.objects c.args.id c.in-Some.object = search rules in
-    rw (c.after-self-inside.ensures, c.end_object.ensures)
+    rw (c.after-self-inside.ensures, c.end_object.ensures.flat)
     (holds_ended s.history.objects s.memory.flat s.functions c.args.id c.in-Some.object c.self.invariant live)

@@ -1,4 +1,5 @@
-use Rattle.std.proofs.Common.{◌≡◌, List, subst}
+use Rattle.std.proofs.Common.{◌≡◌, List, ap, subst}
+use Rattle.sc_mem_store.specs.Kept.{Kept}
 use Rattle.std.specs.Prelude.{IfOk}
 use Rattle.sc_meaning.specs.World.{Object, cells_at}
 use Rattle.sc_mem_store.proofs.Reading.{read_result}
@@ -8,6 +9,6 @@ pub returns : goal.returns
 returns c =
     let s = c.self.inside in
     let span = c.in_ok-span.span in
-    subst (λ (os : List Object). IfOk c.few_at.result (λ cells. cells ≡ cells_at os c.args.id c.args.at c.args.n)) c.self.view_is
+    subst (λ (os : List Object). IfOk c.few_at.result (λ cells. cells ≡ cells_at os c.args.id c.args.at c.args.n)) (ap (λ (k : Kept). k.objects) c.self.view_is)
     (read_result s.history.objects s.memory.flat s.functions c.as_slice.result.now c.args.id c.args.at c.args.n span.base span.count c.few_at.result
     c.self.invariant c.in_ok-span.ensures c.as_slice.ensures c.few_at.ensures)

@@ -1,5 +1,4 @@
 use Rattle.std.proofs.Common.{ap, refl, sym, subst, ◌∙◌, ◌⊎◌}
-use Rattle.sc_meaning.specs.Laws.{Leads}
 use Rattle.sc_mixed.specs.Goes.{GoesTo, want_from}
 use Rattle.sc_mixed.specs.Parts.{standing_at}
 use Rattle.sc_mixed.proofs.Growing.{goes_lead}
