@@ -12,9 +12,9 @@ use Rattle.sc_gen_code.specs.declared.symbolic.Access.TheVariants as access
 use Rattle.sc_gen_code.specs.Code.{Code, mv, near}
 use Rattle.sc_gen_code.specs.Operators.{load_of}
 
--- no copies, and all blocks are entered
+-- no copies, and blocks without objects are not entered
 abbrev pub plain_style : Style
-plain_style = record { kept = []; enters_all = true }
+plain_style = record { kept = []; enters_all = false }
 
 -- at most four copies, of objects that are within reach of sp
 pub record IsStyle (st : Style) : Type 0 where

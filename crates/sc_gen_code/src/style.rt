@@ -26,13 +26,13 @@ pub struct Style {
     pub enters_all: bool,
 }
 
-/// No copies, and all blocks are entered.
+/// No copies, and blocks without objects are not entered.
 pub fn plain_style(alloc: Global) -> Style
     ensures { result ≡ spec.plain_style }
 {
     Style {
         kept: Items::new(alloc),
-        enters_all: true,
+        enters_all: false,
     }
 }
 

@@ -1,11 +1,80 @@
 -- The arguments of a call from one on: each behind the first begins by putting the one before it away.
-use Rattle.std.proofs.Common.{ℕ, zero, suc, List}
+use Rattle.std.proofs.Common.{◌≡◌, ◌≤◌, ◌<◌, ℕ, zero, suc, ◌+◌, ◌-◌, Bool, true, List, [], ◌∷◌, ◌++◌, if◌then◌else◌, nat_lt, length, map, drop, get_or, refl, sym, ap, ◌∙◌, arith, append_assoc, append-nil}
+use Rattle.std.proofs.lemmas.Bool.Decides.{nat_tests}
+use Rattle.std.proofs.lemmas.List.{drop_more, drop_all}
 use Rattle.sc_core.specs.declared.expression.CoreExpr.{CoreExpr}
 use Rattle.sc_gen_code.specs.declared.style.Spot.{Spot}
-use Rattle.sc_gen_code.specs.Code.{Code}
-use Rattle.sc_gen_operand.specs.Plans.{Part}
-use Rattle.sc_gen_expr.specs.Expressions.{arguments, further_arguments}
+use Rattle.sc_gen_code.specs.Code.{Code, push}
+use Rattle.sc_gen_code.specs.Styles.{behind}
+use Rattle.sc_gen_operand.specs.Plans.{Part, word}
+use Rattle.sc_gen_expr.specs.Expressions.{arguments, further_arguments, put_away, argument_spot}
 
 abbrev pub from : ℕ → ℕ → List Part → List CoreExpr → Spot → Code
 from zero n ps es at = arguments n ps es at
 from (suc i) n ps es at = further_arguments n ps es at
+
+-- none is computed any more
+none : (i : ℕ) (ps : List Part) (es : List CoreExpr) (at : Spot) → from i 0 ps es at ≡ []
+none zero ps es at = refl
+none (suc i) ps es at = refl
+
+none_left : (i n : ℕ) (ps : List Part) (es : List CoreExpr) (at : Spot) → n ≤ i → from i (n - i) ps es at ≡ []
+none_left i n ps es at h = let e : n - i ≡ 0 = omega arith in ap (λ (k : ℕ). from i k ps es at) e ∙ none i ps es at
+
+-- or there is none
+none_given : (i n : ℕ) (at : Spot) → from i n [] [] at ≡ []
+none_given zero zero at = refl
+none_given zero (suc n) at = refl
+none_given (suc i) zero at = refl
+none_given (suc i) (suc n) at = refl
+
+-- one is
+is_behind : (i : ℕ) → nat_lt 0 (suc i) ≡ true
+is_behind i = grind (arith, nat_tests)
+
+one : (i m : ℕ) (p : Part) (ps : List Part) (e : CoreExpr) (es : List CoreExpr) (at : Spot) →
+    from i (suc m) (p ∷ ps) (e ∷ es) at ≡ put_away i at ++ (p word e (argument_spot i at) ++ from (i + 1) m ps es (argument_spot i at))
+one zero m p ps e es at = refl
+one (suc i) m p ps e es at =
+    let two : suc i + 1 ≡ suc (suc i) = omega arith in
+    sym
+    (ap (λ (b : Bool). (if b then push at.low else []) ++ (p word e (if b then behind at else at) ++ from (suc i + 1) m ps es (if b then behind at else at))) (is_behind i)
+    ∙ ap (λ (k : ℕ). push at.low ++ (p word e (behind at) ++ from k m ps es (behind at))) two)
+
+module _ (f : CoreExpr → Part) (es : List CoreExpr) where
+  abbrev rest : ℕ → ℕ → Spot → Code
+  rest i n at = from i (n - i) (map f (drop i es)) (drop i es) at
+
+  -- an argument that is fetched later
+  pub passed_by : (i n : ℕ) (at : Spot) (c all : Code) → n ≤ i → c ++ rest i n at ≡ all → c ++ rest (i + 1) n at ≡ all
+  passed_by i n at c all h inv =
+      let more : n ≤ i + 1 = omega (arith, h) in
+      ap (λ (l : Code). c ++ l) (none_left (i + 1) n (map f (drop (i + 1) es)) (drop (i + 1) es) at more ∙ sym (none_left i n (map f (drop i es)) (drop i es) at h)) ∙ inv
+
+  -- one that is computed
+  pub computed_one : (i n : ℕ) (e e' : CoreExpr) (at own : Spot) (c0 c1 c2 all : Code) → i < length es → e ≡ get_or es i e → e' ≡ e → i < n →
+      c1 ≡ c0 ++ put_away i at → own ≡ argument_spot i at → c2 ≡ c1 ++ f e' word e' own →
+      c0 ++ rest i n at ≡ all → c2 ++ rest (i + 1) n own ≡ all
+  computed_one i n e e' at own c0 c1 c2 all h is same few e1 place e2 inv =
+      let opened : drop i es ≡ e ∷ drop (i + 1) es = drop_more es i e h ∙ ap (λ (x : CoreExpr). x ∷ drop (i + 1) es) (sym is) in
+      let less : n - i ≡ suc (n - (i + 1)) = omega (arith, few) in
+      let spot = argument_spot i at in
+      let more = rest (i + 1) n spot in
+      let word_of = f e word e spot in
+      let whole : rest i n at ≡ put_away i at ++ (word_of ++ more) =
+      ap (λ (xs : List CoreExpr). from i (n - i) (map f xs) xs at) opened
+      ∙ ap (λ (k : ℕ). from i k (map f (e ∷ drop (i + 1) es)) (e ∷ drop (i + 1) es) at) less
+      ∙ one i (n - (i + 1)) (f e) (map f (drop (i + 1) es)) e (drop (i + 1) es) at in
+      let written : c2 ≡ c1 ++ word_of = e2 ∙ ap (λ (x : CoreExpr). c1 ++ f x word x own) same ∙ ap (λ (s : Spot). c1 ++ f e word e s) place in
+      ap (λ (s : Spot). c2 ++ rest (i + 1) n s) place
+      ∙ ap (λ (l : Code). l ++ more) (written ∙ ap (λ (l : Code). l ++ word_of) e1)
+      ∙ append_assoc (c0 ++ put_away i at) word_of more
+      ∙ append_assoc c0 (put_away i at) (word_of ++ more)
+      ∙ ap (λ (l : Code). c0 ++ l) (sym whole)
+      ∙ inv
+
+  -- behind all of them
+  pub all_passed : (i n : ℕ) (at : Spot) (c all : Code) → length es ≤ i → c ++ rest i n at ≡ all → c ≡ all
+  all_passed i n at c all h inv =
+      let ended : rest i n at ≡ [] = ap (λ (xs : List CoreExpr). from i (n - i) (map f xs) xs at) (drop_all i es h) ∙ none_given i (n - i) at in
+      sym (ap (λ (l : Code). c ++ l) ended ∙ append-nil c) ∙ inv

@@ -3,7 +3,7 @@
 -- it leaves the foot of the place or pointer, without a tag; of a condition it leaves nothing, but the next word is left out where its truth is
 -- the one that is said. Its temporaries are the words from an offset above sp on, and the registers from a3 on, as many as the expression needs
 -- room for. Every jump stays inside its own construct.
-use Rattle.std.specs.Prelude.{ℕ, zero, suc, ◌+◌, ◌-◌, ◌*◌, nat_le, Bool, true, false, not, ◌&&◌, if◌then◌else◌, List, [], ◌∷◌, ◌++◌, length, Option, Some, None, ℤ, pos, neg_ℤ}
+use Rattle.std.specs.Prelude.{ℕ, zero, suc, ◌+◌, ◌-◌, ◌*◌, nat_le, nat_lt, Bool, true, false, not, ◌&&◌, if◌then◌else◌, List, [], ◌∷◌, ◌++◌, length, Option, Some, None, ℤ, pos, neg_ℤ}
 use Rattle.sc_base.specs.declared.key.Key.{Key}
 use Rattle.sc_base.specs.declared.operator.Op.{Op}
 use Rattle.sc_base.specs.declared.operator.Op.TheVariants as op
@@ -58,6 +58,13 @@ choice test b d = test ++ (over (length b + 1) ∷ b ++ over (length d) ∷ d)
 -- that the next word is left out.
 abbrev pub joined : Bool → Code → Code → Code
 joined decides a b = a ++ over (length b + (if decides then 1 else 0)) ∷ b
+
+-- what stands in front of the argument with a number: the one before it waits; and where its own temporaries begin
+abbrev pub put_away : ℕ → Spot → Code
+put_away i at = if nat_lt 0 i then push at.low else []
+
+abbrev pub argument_spot : ℕ → Spot → Spot
+argument_spot i at = if nat_lt 0 i then behind at else at
 
 -- arguments, n of which are computed: each but the last waits in a temporary of its own
 abbrev pub further_arguments : ℕ → List Part → List CoreExpr → Spot → Code

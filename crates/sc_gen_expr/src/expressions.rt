@@ -1,5 +1,5 @@
 // The code of an expression leaves the word of its value, or of its place, in `a0` (ANSI 3.3).
-ghost use Rattle.std.specs.Prelude.{◌≡◌, ◌++◌, [], ◌∷◌, length, map, OnOk};
+ghost use Rattle.std.specs.Prelude.{◌≡◌, ◌++◌, [], ◌∷◌, length, map, OnOk, IfOk};
 ghost use Rattle.sc_gen_code.specs.Calls.{direct};
 ghost use Rattle.sc_gen_code.specs.Code as words;
 ghost use Rattle.sc_gen_operand.specs.Plans as plans;
@@ -392,6 +392,20 @@ fn callee(
     }
 }
 
+/// What stands in front of an argument: the one before it, which is in `a0`, waits in a temporary. Where the argument's own
+/// temporaries begin.
+fn put_away(code: &mut Items<Symbolic>, i: usize, t: Spot) -> Result<Spot, NoMemory>
+    ensures away { OnOk result (code.new ≡ code.old ++ spec.put_away i t) }
+    ensures place { IfOk result (λ own. own ≡ spec.argument_spot i t) }
+{
+    if 0 < i {
+        push(code, t.low)?;
+        Ok(behind(t))
+    } else {
+        Ok(t)
+    }
+}
+
 /// The first arguments: each but the last waits in a temporary of its own.
 #[cycle(expression)]
 fn arguments(
@@ -407,10 +421,7 @@ fn arguments(
     let mut own = t;
     for (i, arg) in args.iter().enumerate() {
         if i < n {
-            if 0 < i {
-                push(code, own.low)?;
-                own = behind(own);
-            }
+            own = put_away(code, i, own)?;
             expression(alloc, scope, arg.get(), own, code)?;
         }
     }
