@@ -1,16 +1,18 @@
-use Rattle.std.proofs.Common.{refl, ap, ◌∙◌}
+use Rattle.std.proofs.Common.{refl, ap, ◌∙◌, true, false, not}
 use Rattle.std.proofs.lemmas.Result.{on_ok_weaker}
 use Rattle.sc_base.specs.declared.operator.Op.TheVariants as op
 use Rattle.sc_core.specs.declared.expression.CoreExpr.{CoreExpr, out-CoreExpr}
 use Rattle.sc_core.specs.declared.expression.CoreExpr.TheVariants as v
 use Rattle.sc_core.specs.declared.expression.CoreExpr.TheOpen.{CoreExpr-F}
+use Rattle.sc_core.specs.declared.expression.UnaryOperator.TheVariants as unary
+use Rattle.sc_gen_code.specs.declared.symbolic.Symbolic.TheVariants.{Plain}
 use Rattle.sc_gen_code.specs.Code.{a0, skip_if, skip_unless}
 use Rattle.sc_gen_code.specs.Operators.{convert, unary_of, further}
 use Rattle.sc_gen_operand.specs.declared.plans.Want.TheVariants.{Word, Foot}
 use Rattle.sc_gen_operand.specs.Plans as plans
-use Rattle.sc_gen_operand.specs.Plans.{word, foot}
+use Rattle.sc_gen_operand.specs.Plans.{word, foot, Skips}
 use Rattle.sc_gen_operand.specs.Templates as templates
-use Rattle.sc_gen_expr.proofs.Layers.{one_part, wanted_part, two_parts, pair_parts, logical_parts, choice_parts, call_parts}
+use Rattle.sc_gen_expr.proofs.Layers.{bare_part, one_part, wanted_part, two_parts, pair_parts, logical_parts, joined_parts, choice_parts, told_part, told_is, call_parts}
 use Rattle.sc_gen_expr.proofs.expressions.+expression.Goals as goal
 
 pub expression-returns-in_ok-right-in-Index : goal.expression-returns-in_ok-right-in-Index
@@ -196,3 +198,88 @@ expression-returns-in_ok-arguments-in-Call t c =
     c.args.code.now _ _ _ c.in-Call.is c.get-in-Call.ensures c.get-in-Call-2.ensures c.as_slice.ensures c.as_slice-in-Call-2.ensures c.as_slice-in-Call-3.ensures c.computed-n.ensures c.behind.ensures
     c.in_ok-callee-in-Call.ensures c.in_ok-arguments-in-Call.ensures e)
     c.transfer.ensures
+
+pub foot-returns-in_ok-foot-in-Member : goal.foot-returns-in_ok-foot-in-Member
+foot-returns-in_ok-foot-in-Member t c =
+    on_ok_weaker
+    c.member_end.result
+    (λ e. one_part c.args.scope.now.style.now c.args.scope.now.slots.now foot c.args.e.now c.args.t (CoreExpr-F.Member c.in-Member.field-0 c.in-Member.field-1 c.in-Member.n c.in-Member.a) (ap out-CoreExpr c.in-Member.is ∙ v.outs-Member c.in-Member.field-0 c.in-Member.field-1 c.in-Member.n c.in-Member.a)
+    foot c.in-Member.a c.get-in-Member.result.now c.get-in-Member-2.result.now (λ a. templates.member_end c.in-Member.n a) c.args.code.now _ _ refl c.get-in-Member.ensures c.get-in-Member-2.ensures c.in_ok-foot-in-Member.ensures e)
+    c.member_end.ensures
+
+pub foot-returns-in_ok-foot-in-Arrow : goal.foot-returns-in_ok-foot-in-Arrow
+foot-returns-in_ok-foot-in-Arrow t c =
+    on_ok_weaker
+    c.member_end-in-Arrow.result
+    (λ e. one_part c.args.scope.now.style.now c.args.scope.now.slots.now foot c.args.e.now c.args.t (CoreExpr-F.Arrow c.in-Arrow.field-0 c.in-Arrow.field-1 c.in-Arrow.n c.in-Arrow.a) (ap out-CoreExpr c.in-Arrow.is ∙ v.outs-Arrow c.in-Arrow.field-0 c.in-Arrow.field-1 c.in-Arrow.n c.in-Arrow.a)
+    foot c.in-Arrow.a c.get-in-Arrow.result.now c.get-in-Arrow-2.result.now (λ a. templates.member_end c.in-Arrow.n a) c.args.code.now _ _ refl c.get-in-Arrow.ensures c.get-in-Arrow-2.ensures c.in_ok-foot-in-Arrow.ensures e)
+    c.member_end-in-Arrow.ensures
+
+pub foot-returns-in_ok-right-in-Index : goal.foot-returns-in_ok-right-in-Index
+foot-returns-in_ok-right-in-Index t c =
+    on_ok_weaker
+    c.offset_end.result
+    (λ e. pair_parts c.args.scope.now.style.now c.args.scope.now.slots.now foot c.args.e.now c.args.t (CoreExpr-F.Index c.in-Index.field-0 c.in-Index.field-1 c.in-Index.size c.in-Index.a c.in-Index.b) (ap out-CoreExpr c.in-Index.is ∙ v.outs-Index c.in-Index.field-0 c.in-Index.field-1 c.in-Index.size c.in-Index.a c.in-Index.b)
+    c.in-Index.a c.get-in-Index.result.now c.get-in-Index-3.result.now c.get-in-Index-5.result.now c.in-Index.b c.get-in-Index-2.result.now c.get-in-Index-4.result.now c.get-in-Index-6.result.now (λ a b. plans.offset_operands c.args.scope.now.slots.now Foot c.in-Index.size a b c.args.t) c.offset_operands-how.result (λ h a b. templates.offset_end c.args.scope.now.style.now c.args.scope.now.slots.now h Foot op.Add c.in-Index.size a b)
+    c.args.code.now _ _ _ refl c.get-in-Index.ensures c.get-in-Index-3.ensures c.get-in-Index-5.ensures c.get-in-Index-2.ensures c.get-in-Index-4.ensures c.get-in-Index-6.ensures
+    c.offset_operands-how.ensures c.in_ok-left-in-Index.ensures c.in_ok-right-in-Index.ensures e)
+    c.offset_end.ensures
+
+pub told-returns : goal.told-returns
+told-returns t c =
+    on_ok_weaker
+    c.put_one.result
+    (λ e. told_is c.args.scope.now.style.now c.args.scope.now.slots.now c.args.e.now c.args.t c.args.sense c.comparison.result (Plain c.branch.result) c.args.code.now _ _ c.in_ok-condition.ensures c.comparison.ensures c.branch.ensures e)
+    c.put_one.ensures
+
+pub test-returns-in-Not : goal.test-returns-in-Not
+test-returns-in-Not t c =
+    let whole = c.in-Unary.is ∙ ap (λ o. v.Unary c.in-Unary.field-0 c.in-Unary.field-1 o c.in-Unary.a) c.in-Not.is in
+    on_ok_weaker
+    c.test.result
+    (λ e. bare_part c.args.scope.now.style.now c.args.scope.now.slots.now (Skips c.args.sense) c.args.e.now c.args.t (CoreExpr-F.Unary c.in-Unary.field-0 c.in-Unary.field-1 unary.Not c.in-Unary.a)
+    (ap out-CoreExpr whole ∙ v.outs-Unary c.in-Unary.field-0 c.in-Unary.field-1 unary.Not c.in-Unary.a)
+    (Skips (not c.args.sense)) c.in-Unary.a c.get-in-Not.result.now c.args.code.now _ refl c.get-in-Not.ensures e)
+    c.test.ensures
+
+pub test-returns-in-Plus : goal.test-returns-in-Plus
+test-returns-in-Plus t c =
+    let whole = c.in-Unary.is ∙ ap (λ o. v.Unary c.in-Unary.field-0 c.in-Unary.field-1 o c.in-Unary.a) c.in-Plus.is in
+    on_ok_weaker
+    c.told.result
+    (λ e. told_part c.args.scope.now.style.now c.args.scope.now.slots.now (Skips c.args.sense) c.args.e.now c.args.t (CoreExpr-F.Unary c.in-Unary.field-0 c.in-Unary.field-1 unary.Plus c.in-Unary.a)
+    (ap out-CoreExpr whole ∙ v.outs-Unary c.in-Unary.field-0 c.in-Unary.field-1 unary.Plus c.in-Unary.a) c.args.sense c.args.code.now _ refl e)
+    c.told.ensures
+
+pub test-returns-in-Minus : goal.test-returns-in-Minus
+test-returns-in-Minus t c =
+    let whole = c.in-Unary.is ∙ ap (λ o. v.Unary c.in-Unary.field-0 c.in-Unary.field-1 o c.in-Unary.a) c.in-Minus.is in
+    on_ok_weaker
+    c.told-in-Minus.result
+    (λ e. told_part c.args.scope.now.style.now c.args.scope.now.slots.now (Skips c.args.sense) c.args.e.now c.args.t (CoreExpr-F.Unary c.in-Unary.field-0 c.in-Unary.field-1 unary.Minus c.in-Unary.a)
+    (ap out-CoreExpr whole ∙ v.outs-Unary c.in-Unary.field-0 c.in-Unary.field-1 unary.Minus c.in-Unary.a) c.args.sense c.args.code.now _ refl e)
+    c.told-in-Minus.ensures
+
+pub test-returns-in-Complement : goal.test-returns-in-Complement
+test-returns-in-Complement t c =
+    let whole = c.in-Unary.is ∙ ap (λ o. v.Unary c.in-Unary.field-0 c.in-Unary.field-1 o c.in-Unary.a) c.in-Complement.is in
+    on_ok_weaker
+    c.told-in-Complement.result
+    (λ e. told_part c.args.scope.now.style.now c.args.scope.now.slots.now (Skips c.args.sense) c.args.e.now c.args.t (CoreExpr-F.Unary c.in-Unary.field-0 c.in-Unary.field-1 unary.Complement c.in-Unary.a)
+    (ap out-CoreExpr whole ∙ v.outs-Unary c.in-Unary.field-0 c.in-Unary.field-1 unary.Complement c.in-Unary.a) c.args.sense c.args.code.now _ refl e)
+    c.told-in-Complement.ensures
+
+pub test-returns-in_ok-test-in-And-2 : goal.test-returns-in_ok-test-in-And-2
+test-returns-in_ok-test-in-And-2 t c =
+    joined_parts c.args.scope.now.style.now c.args.scope.now.slots.now (Skips c.args.sense) c.args.e.now c.args.t (CoreExpr-F.And c.in-And.field-0 c.in-And.field-1 c.in-And.a c.in-And.b) (ap out-CoreExpr c.in-And.is ∙ v.outs-And c.in-And.field-0 c.in-And.field-1 c.in-And.a c.in-And.b)
+    (Skips true) (Skips c.args.sense) (not c.args.sense) c.in-And.a c.get-in-And.result.now c.in-And.b c.get-in-And-2.result.now c.in_ok-place-in-And.place
+    c.args.code.now _ _ _ _ refl c.get-in-And.ensures c.get-in-And-2.ensures c.in_ok-test-in-And.ensures c.in_ok-place-in-And.ensures.opened c.in_ok-place-in-And.ensures.place
+    c.in_ok-test-in-And-2.ensures c.close_behind.ensures
+
+pub test-returns-in_ok-test-in-Or-2 : goal.test-returns-in_ok-test-in-Or-2
+test-returns-in_ok-test-in-Or-2 t c =
+    joined_parts c.args.scope.now.style.now c.args.scope.now.slots.now (Skips c.args.sense) c.args.e.now c.args.t (CoreExpr-F.Or c.in-Or.field-0 c.in-Or.field-1 c.in-Or.a c.in-Or.b) (ap out-CoreExpr c.in-Or.is ∙ v.outs-Or c.in-Or.field-0 c.in-Or.field-1 c.in-Or.a c.in-Or.b)
+    (Skips false) (Skips c.args.sense) c.args.sense c.in-Or.a c.get-in-Or.result.now c.in-Or.b c.get-in-Or-2.result.now c.in_ok-place-in-Or.place
+    c.args.code.now _ _ _ _ refl c.get-in-Or.ensures c.get-in-Or-2.ensures c.in_ok-test-in-Or.ensures c.in_ok-place-in-Or.ensures.opened c.in_ok-place-in-Or.ensures.place
+    c.in_ok-test-in-Or-2.ensures c.close_behind-in-Or.ensures
+
