@@ -1,5 +1,6 @@
 pub mod Frames
 pub mod Lengths
+pub mod Templates
 pub mod Weights
 pub mod Bodies
 pub mod Pieces
