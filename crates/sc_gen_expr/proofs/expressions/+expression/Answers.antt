@@ -4,6 +4,7 @@ use Rattle.sc_base.specs.declared.operator.Op.TheVariants as op
 use Rattle.sc_core.specs.declared.expression.CoreExpr.{CoreExpr, out-CoreExpr}
 use Rattle.sc_core.specs.declared.expression.CoreExpr.TheVariants as v
 use Rattle.sc_core.specs.declared.expression.CoreExpr.TheOpen.{CoreExpr-F}
+use Rattle.sc_core.specs.declared.expression.UnaryOperator.{UnaryOperator}
 use Rattle.sc_core.specs.declared.expression.UnaryOperator.TheVariants as unary
 use Rattle.sc_gen_code.specs.declared.symbolic.Symbolic.TheVariants.{Plain}
 use Rattle.sc_gen_code.specs.Code.{a0, skip_if, skip_unless}
@@ -234,7 +235,7 @@ told-returns t c =
 
 pub test-returns-in-Not : goal.test-returns-in-Not
 test-returns-in-Not t c =
-    let whole = c.in-Unary.is ∙ ap (λ o. v.Unary c.in-Unary.field-0 c.in-Unary.field-1 o c.in-Unary.a) c.in-Not.is in
+    let whole = c.in-Unary.is ∙ ap (λ (o : UnaryOperator). v.Unary c.in-Unary.field-0 c.in-Unary.field-1 o c.in-Unary.a) c.in-Not.is in
     on_ok_weaker
     c.test.result
     (λ e. bare_part c.args.scope.now.style.now c.args.scope.now.slots.now (Skips c.args.sense) c.args.e.now c.args.t (CoreExpr-F.Unary c.in-Unary.field-0 c.in-Unary.field-1 unary.Not c.in-Unary.a)
@@ -244,7 +245,7 @@ test-returns-in-Not t c =
 
 pub test-returns-in-Plus : goal.test-returns-in-Plus
 test-returns-in-Plus t c =
-    let whole = c.in-Unary.is ∙ ap (λ o. v.Unary c.in-Unary.field-0 c.in-Unary.field-1 o c.in-Unary.a) c.in-Plus.is in
+    let whole = c.in-Unary.is ∙ ap (λ (o : UnaryOperator). v.Unary c.in-Unary.field-0 c.in-Unary.field-1 o c.in-Unary.a) c.in-Plus.is in
     on_ok_weaker
     c.told.result
     (λ e. told_part c.args.scope.now.style.now c.args.scope.now.slots.now (Skips c.args.sense) c.args.e.now c.args.t (CoreExpr-F.Unary c.in-Unary.field-0 c.in-Unary.field-1 unary.Plus c.in-Unary.a)
@@ -253,7 +254,7 @@ test-returns-in-Plus t c =
 
 pub test-returns-in-Minus : goal.test-returns-in-Minus
 test-returns-in-Minus t c =
-    let whole = c.in-Unary.is ∙ ap (λ o. v.Unary c.in-Unary.field-0 c.in-Unary.field-1 o c.in-Unary.a) c.in-Minus.is in
+    let whole = c.in-Unary.is ∙ ap (λ (o : UnaryOperator). v.Unary c.in-Unary.field-0 c.in-Unary.field-1 o c.in-Unary.a) c.in-Minus.is in
     on_ok_weaker
     c.told-in-Minus.result
     (λ e. told_part c.args.scope.now.style.now c.args.scope.now.slots.now (Skips c.args.sense) c.args.e.now c.args.t (CoreExpr-F.Unary c.in-Unary.field-0 c.in-Unary.field-1 unary.Minus c.in-Unary.a)
@@ -262,7 +263,7 @@ test-returns-in-Minus t c =
 
 pub test-returns-in-Complement : goal.test-returns-in-Complement
 test-returns-in-Complement t c =
-    let whole = c.in-Unary.is ∙ ap (λ o. v.Unary c.in-Unary.field-0 c.in-Unary.field-1 o c.in-Unary.a) c.in-Complement.is in
+    let whole = c.in-Unary.is ∙ ap (λ (o : UnaryOperator). v.Unary c.in-Unary.field-0 c.in-Unary.field-1 o c.in-Unary.a) c.in-Complement.is in
     on_ok_weaker
     c.told-in-Complement.result
     (λ e. told_part c.args.scope.now.style.now c.args.scope.now.slots.now (Skips c.args.sense) c.args.e.now c.args.t (CoreExpr-F.Unary c.in-Unary.field-0 c.in-Unary.field-1 unary.Complement c.in-Unary.a)
