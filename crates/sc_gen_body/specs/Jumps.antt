@@ -1,13 +1,13 @@
 -- Machine: the program once more; a theorem ties it to a yardstick (docs/TRUST.md).
 -- Jumps to places of a function's text, which are counted in words from its beginning, and the blocks that are left on the way.
-use Rattle.std.specs.Prelude.{ℕ, ◌+◌, ◌*◌, ◌==◌, ◌&&◌, if◌then◌else◌, nat_lt, List, [], ◌∷◌, ◌++◌, length, slice_get, slice_set, slice_index_or, replicate, Option, Some, None, pos, ◌-ℤ◌}
+use Rattle.std.specs.Prelude.{ℕ, ◌+◌, ◌*◌, ◌==◌, if◌then◌else◌, List, [], ◌∷◌, ◌++◌, length, slice_get, slice_set, slice_index_or, replicate, Option, Some, None, pos}
 use Rattle.std.specs.Option.{option_or}
-use Rattle.sc_isa.specs.declared.instruction.Instr.TheVariants.{Jal, Branch}
+use Rattle.sc_isa.specs.declared.instruction.Instr.TheVariants.{Branch}
 use Rattle.sc_isa.specs.declared.instruction.BranchOp.TheVariants.{Bne}
 use Rattle.sc_core.specs.declared.statement.LabelAt.{LabelAt}
 use Rattle.sc_gen_code.specs.declared.symbolic.Symbolic.{Symbolic}
 use Rattle.sc_gen_code.specs.declared.symbolic.Symbolic.TheVariants.{Plain}
-use Rattle.sc_gen_code.specs.Code.{Code, x0, t1, a0, over, jump, block_service}
+use Rattle.sc_gen_code.specs.Code.{Code, t1, a0, over, jump, block_service}
 use Rattle.sc_gen_body.specs.declared.jumps.Place.{Place}
 use Rattle.sc_gen_body.specs.declared.jumps.LabelPlace.{LabelPlace}
 

@@ -26,19 +26,19 @@ use Rattle.sc_gen_code.specs.Styles.{IsStyle, framed, first_spot}
 use Rattle.sc_gen_operand.specs.Plans.{Skips, word}
 use Rattle.sc_gen_operand.specs.Places.{slot_of}
 use Rattle.sc_gen_operand.specs.Templates.{branched, comparison, is_joined}
-use Rattle.sc_gen_expr.specs.Expressions.{expression_code, test_code, test_back, condition_of, branch_back, is_within}
+use Rattle.sc_gen_expr.specs.Expressions.{test_code, condition_of, branch_back, is_within}
 use Rattle.sc_gen_body.specs.declared.jumps.Place.{Place}
 use Rattle.sc_gen_body.specs.Jumps.{Around, go, go_in, leaving, entering, unless_equal, labelled, label_jumps, label_rows, rows, start_of, inside, in_loop, in_switch, nowhere}
 use Rattle.sc_gen_body.specs.Initializers.{text_bytes, zero_bytes, piece_code, pieces_code, place_behind}
 use Rattle.sc_gen_body.specs.Frames.{Frame, frame, entered_in, value}
-use Rattle.sc_gen_body.specs.Statements.{Body, epilogue, block_layer, block_of, entry_by, entry_of, whole, whole_by, items_code, starts, value_or_none, test_of, ends_turn, loop, choice, case_code, cases_code, default_code, switched, switch_inner, returned, go_to, turns_code, statement_layer, body_of, statement_code}
+use Rattle.sc_gen_body.specs.Statements.{Body, epilogue, block_layer, entry_by, entry_of, whole, whole_by, items_code, starts, value_or_none, test_of, ends_turn, loop, choice, case_code, cases_code, default_code, switched, switch_inner, returned, go_to, turns_code, statement_layer, body_of, statement_code}
 use Rattle.sc_gen_body.specs.Functions.{frame_taken, prologue, first_temporary, first_block, parameter_at, parameter_kept, parameters_taken, before_body, function_code}
-use Rattle.sc_gen_laws.specs.Nodes.{expression_nodes, optional_nodes, item_nodes, pieces_nodes, optional_statement, statement_nodes, function_nodes}
+use Rattle.sc_gen_laws.specs.Nodes.{expression_nodes, optional_nodes, item_nodes, pieces_nodes, statement_nodes, function_nodes}
 use Rattle.sc_gen_laws.specs.Nodes as nodes
-use Rattle.sc_gen_laws.specs.Counts.{Counts, counts, nothing, plus, conversions, of_expression, of_option, of_piece, of_pieces, optional, counts_of, IsMeasured}
+use Rattle.sc_gen_laws.specs.Counts.{Counts, counts, nothing, plus, conversions, of_expression, of_option, of_piece, of_pieces, counts_of, IsMeasured}
 use Rattle.sc_gen_laws.specs.Counts as counted
 use Rattle.sc_gen_laws.proofs.Lengths.{if_short, app, cons, cons_suc, longer, same, li-short, near-short, block_service-short, copied-short, framed-short}
-use Rattle.sc_gen_laws.proofs.Weights.{sum_more, left_fits, right_fits, expression_fits}
+use Rattle.sc_gen_laws.proofs.Weights.{sum_more, expression_fits}
 
 -- so many words have room in a tree with so many nodes, and with this besides
 abbrev pub Room : ℕ → ℕ → Counts → Type 0

@@ -9,10 +9,9 @@ use Rattle.sc_core.specs.declared.statement.AutoInit.TheVariants as piece
 use Rattle.sc_core.specs.declared.statement.SwitchLabel.{SwitchLabel}
 use Rattle.sc_core.specs.declared.statement.CoreStmt.{CoreStmt, roll-CoreStmt, fold-roll-CoreStmt, ind-CoreStmt, map-CoreStmt}
 use Rattle.sc_core.specs.declared.statement.CoreStmt.TheOpen.{CoreStmt-F}
-use Rattle.sc_core.specs.declared.module.Auto.{Auto}
 use Rattle.sc_core.specs.declared.module.Fun.{Fun}
 use Rattle.sc_gen_code.specs.declared.symbolic.Access.TheVariants as access
-use Rattle.sc_gen_code.specs.Code.{Code, a0, a1, t1, t2, mv, li, near, jump, copied, ecall, service, block_service}
+use Rattle.sc_gen_code.specs.Code.{a0, a1, t1, t2, mv, li, near, jump, copied, ecall, service, block_service}
 use Rattle.sc_gen_code.specs.Operators.{machine_type, store_of}
 use Rattle.sc_gen_code.specs.declared.style.Style.{Style}
 use Rattle.sc_gen_code.specs.Styles.{IsStyle, framed, first_spot}
@@ -24,8 +23,8 @@ use Rattle.sc_gen_body.specs.Jumps.{go, go_in, leaving, entering, unless_equal}
 use Rattle.sc_gen_body.specs.Frames.{Frame, frame, entered_in}
 use Rattle.sc_gen_body.specs.Statements.{epilogue}
 use Rattle.sc_gen_body.specs.Functions.{first_temporary, before_body}
-use Rattle.sc_gen_laws.specs.Turns.{Way, Plain_way, With_units, unit, straight, follow, either, in_order, node, turns, jumps, expression_way, IsPaid, top}
-use Rattle.sc_gen_laws.specs.Paths.{landed, value_way, condition_way, optional_way, turn_way, other_way, byte_way, bytes_way, piece_way, label_way, across, loop_way, statement_layer, statement_way, function_way, optional_once, piece_once, once_layer, converts_once}
+use Rattle.sc_gen_laws.specs.Turns.{Way, Plain_way, With_units, unit, straight, follow, either, in_order, node, turns, jumps, IsPaid, top}
+use Rattle.sc_gen_laws.specs.Paths.{landed, value_way, condition_way, optional_way, turn_way, byte_way, bytes_way, piece_way, label_way, across, loop_way, statement_layer, statement_way, function_way, optional_once, piece_once, once_layer, converts_once}
 use Rattle.sc_gen_laws.proofs.Lengths.{app, cons, li-short, near-short, copied-short, block_service-short, framed-short}
 use Rattle.sc_gen_laws.proofs.Bodies.{epilogue-short, entering-short, leaving-short, before_body-short}
 use Rattle.sc_gen_laws.proofs.Pieces.{Fine, fine_paid, wider, by_length, also, li-turns, and-left, and-right, Short, short_follow, short_either, short_straight, fine_short, node_fine}

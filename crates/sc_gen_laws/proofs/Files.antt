@@ -39,7 +39,7 @@ use Rattle.sc_gen.specs.Objects.{target_name, targets, home_from, symbol_by, sym
 use Rattle.sc_gen.specs.Limits.{first_long, is_long}
 use Rattle.sc_gen_laws.specs.Inside.{symbol_refers, reloc_refers, frame_refers}
 use Rattle.sc_gen_laws.specs.Filed.{target_fits, init_fits, object_fits, table_fits, function_fits, IsKept}
-use Rattle.sc_gen_laws.proofs.Paid.{and-left, and-right}
+use Rattle.sc_gen_laws.proofs.Pieces.{and-left, and-right}
 use Rattle.sc_gen_laws.proofs.References.{refers_inside, both, all_join, lt}
 
 three : (a b d : Bool) → a ≡ true → b ≡ true → d ≡ true → (a && b && d) ≡ true

@@ -1,5 +1,5 @@
 -- How many words short sequences and templates have, at most.
-use Rattle.std.proofs.Common.{◌≡◌, ◌≤◌, ℕ, zero, suc, ◌+◌, ◌-◌, ◌*◌, ◌==◌, Bool, true, false, ◌&&◌, ◌||◌, if◌then◌else◌, nat_lt, nat_le, min, List, [], ◌∷◌, ◌++◌, length, Option, Some, None, arith, length-append, pos, ℤ}
+use Rattle.std.proofs.Common.{◌≤◌, ℕ, zero, suc, ◌+◌, ◌-◌, ◌*◌, ◌==◌, Bool, true, false, ◌||◌, if◌then◌else◌, nat_lt, nat_le, min, List, [], ◌∷◌, ◌++◌, length, Option, Some, None, arith, length-append, pos, ℤ}
 use Rattle.std.specs.Int.{w32, cast_signed}
 use Rattle.sc_base.specs.declared.key.Key.{Key}
 use Rattle.sc_base.specs.declared.integer.Int.{Int}
@@ -7,19 +7,16 @@ use Rattle.sc_base.specs.declared.integer.Int.TheVariants as int
 use Rattle.sc_base.specs.declared.operator.Op.{Op}
 use Rattle.sc_base.specs.declared.operator.Op.TheVariants as op
 use Rattle.sc_types.specs.declared.ctype.CType.{CType}
-use Rattle.sc_isa.specs.declared.instruction.Instr.TheVariants.{Lui, Jalr, Imm}
-use Rattle.sc_isa.specs.declared.instruction.ImmOp.TheVariants.{Slli, Srai}
+use Rattle.sc_isa.specs.declared.instruction.Instr.TheVariants.{Lui, Jalr}
 use Rattle.sc_isa.specs.declared.instruction.RegOp.TheVariants as reg
 use Rattle.sc_isa.specs.declared.instruction.LoadOp.{LoadOp}
 use Rattle.sc_isa.specs.declared.instruction.LoadOp.TheVariants.{Lw}
 use Rattle.sc_isa.specs.declared.instruction.StoreOp.{StoreOp}
 use Rattle.sc_isa.specs.declared.instruction.StoreOp.TheVariants.{Sw}
 use Rattle.sc_isa_image.specs.Stubs.{upper_of, lower_of}
-use Rattle.sc_core.specs.declared.expression.CoreExpr.{CoreExpr}
 use Rattle.sc_core.specs.declared.expression.Step.{Step}
 use Rattle.sc_core.specs.declared.expression.UnaryOperator.{UnaryOperator}
 use Rattle.sc_core.specs.declared.expression.UnaryOperator.TheVariants as unary
-use Rattle.sc_core.specs.declared.module.Auto.{Auto}
 use Rattle.sc_gen_code.specs.declared.symbolic.Symbolic.{Symbolic}
 use Rattle.sc_gen_code.specs.declared.symbolic.Symbolic.TheVariants.{Plain, Call}
 use Rattle.sc_gen_code.specs.declared.symbolic.Target.TheVariants as target
@@ -31,7 +28,7 @@ use Rattle.sc_gen_code.specs.declared.calls.Base.{Base}
 use Rattle.sc_gen_code.specs.Code.{Code, x0, ra, sp, t0, t1, t2, a0, a1, a2, addi, apply, mv, sw, ecall, accessed, li, near, push, pop, service, block_service, copied, shift_of}
 use Rattle.sc_gen_code.specs.Operators as operators
 use Rattle.sc_gen_code.specs.Calls as calls
-use Rattle.sc_gen_code.specs.Styles.{with_copy, copied_or_not, framed, kept_at, taken_again, reloaded}
+use Rattle.sc_gen_code.specs.Styles.{copied_or_not, framed, kept_at, taken_again, reloaded}
 
 -- one of two codes
 pub if_short : (b : Bool) (x y : Code) (k : ℕ) → length x ≤ k → length y ≤ k → length (if b then x else y) ≤ k

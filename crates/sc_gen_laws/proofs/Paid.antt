@@ -1,5 +1,5 @@
 -- No piece of an expression's code between two units of work is longer than 63 turns.
-use Rattle.std.proofs.Common.{◌≡◌, ◌≤◌, ℕ, zero, suc, ◌+◌, ◌-◌, ◌*◌, ◌==◌, Bool, true, false, not, ◌&&◌, if◌then◌else◌, nat_lt, nat_le, min, List, [], ◌∷◌, ◌++◌, length, map, Option, Some, None, refl, sym, ap, subst, ◌∙◌, arith, pos}
+use Rattle.std.proofs.Common.{◌≡◌, ◌≤◌, ℕ, zero, suc, ◌+◌, ◌-◌, ◌*◌, ◌==◌, Bool, true, false, not, ◌&&◌, if◌then◌else◌, nat_lt, nat_le, min, List, [], ◌∷◌, ◌++◌, length, map, Option, Some, None, sym, ap, subst, ◌∙◌, arith, pos}
 use Rattle.std.proofs.lemmas.Bool.Decides.{nat_tests}
 use Rattle.std.specs.List.{list_all}
 use Rattle.sc_base.specs.declared.key.Key.{Key}
@@ -35,8 +35,8 @@ use Rattle.sc_gen_operand.specs.Plans as plans
 use Rattle.sc_gen_operand.specs.Plans.{Mode, As, Skips, word, foot, fetched_as, is_fetched, standing}
 use Rattle.sc_gen_operand.specs.Templates as templates
 use Rattle.sc_gen_expr.specs.Expressions.{place}
-use Rattle.sc_gen_laws.specs.Turns.{Way, Plain_way, With_units, unit, straight, follow, either, in_order, node, Ways, turns, leaf, into, first_by, first, left_by, right_by, pair, wanted, read, further_arguments, arguments, fetched_from, before_call, called_by, called, jumps, word_layer, foot_layer, compared, compared_layer, plain_test, test_unary, test_layer, expression_layer, ways_of, expression_way, IsPaid, Top, top_layer, top}
-use Rattle.sc_gen_laws.proofs.Lengths.{app, cons, longer, li-short, push-short, pop-short, further-short, unary-short, convert-short, reconvert-short, reloaded-short}
+use Rattle.sc_gen_laws.specs.Turns.{Way, Plain_way, With_units, straight, follow, either, in_order, node, Ways, turns, leaf, first_by, left_by, right_by, pair, wanted, read, further_arguments, arguments, fetched_from, before_call, called, jumps, word_layer, foot_layer, compared, plain_test, test_unary, test_layer, expression_layer, ways_of, expression_way, IsPaid, Top, top_layer, top}
+use Rattle.sc_gen_laws.proofs.Lengths.{app, longer, li-short, pop-short, further-short, unary-short, convert-short, reloaded-short}
 use Rattle.sc_gen_laws.proofs.Templates.{address-short, taken-short, fetch-short, foot-short, late-short, member-short, operated-short, offset_end-short, difference_end-short, compared_end-short, assign_end-short, structure_end-short, compound_end-short, moving_end-short, step_end-short}
 use Rattle.sc_gen_laws.proofs.Pieces.{by_length, turns-append, also, if_turns, li-turns, push-turns, Fine, fine_paid, wider, and-left, and-right, is_zero, Short, short_follow, short_either, short_straight, fine_short, parts_short, node_fine, longer_short, call_fine, leaf_fine}
 

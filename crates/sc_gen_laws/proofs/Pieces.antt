@@ -1,5 +1,6 @@
 -- Turns of words, and ways whose pieces are short.
-use Rattle.std.proofs.Common.{◌≡◌, ◌≤◌, ℕ, suc, zero, ◌+◌, ◌*◌, Bool, true, false, ◌&&◌, ◌||◌, if◌then◌else◌, nat_lt, nat_le, List, [], ◌∷◌, ◌++◌, length, arith, pos}
+use Rattle.std.proofs.Common.{◌≡◌, ◌≤◌, ℕ, zero, suc, ◌+◌, ◌*◌, ◌==◌, Bool, true, false, ◌&&◌, ◌||◌, if◌then◌else◌, nat_lt, nat_le, List, [], ◌∷◌, ◌++◌, length, refl, arith, pos}
+use Rattle.std.proofs.lemmas.Bool.Decides.{nat_tests}
 use Rattle.std.specs.Int.{w32, cast_signed}
 use Rattle.sc_isa.specs.declared.instruction.RegOp.TheVariants as reg
 use Rattle.sc_isa.specs.declared.instruction.StoreOp.TheVariants.{Sw}
@@ -11,6 +12,19 @@ use Rattle.sc_gen_code.specs.declared.symbolic.Symbolic.TheVariants.{Plain, Uppe
 use Rattle.sc_gen_code.specs.declared.symbolic.Access.TheVariants as access
 use Rattle.sc_gen_code.specs.Code.{Code, x0, sp, t0, a0, addi, apply, accessed, li, push}
 use Rattle.sc_gen_laws.specs.Turns.{Way, Plain_way, With_units, unit, straight, follow, either, in_order, node, turns, symbolic_turns, instruction_turns, IsPaid}
+
+-- parts of a test
+pub and-left : (a b : Bool) → (a && b) ≡ true → a ≡ true
+and-left true b h = refl
+and-left false b h = cc
+
+pub and-right : (a b : Bool) → (a && b) ≡ true → b ≡ true
+and-right true b h = h
+and-right false b h = cc
+
+pub is_zero : (n : ℕ) → (n == 0) ≡ true → n ≡ 0
+is_zero zero h = refl
+is_zero (suc n) h = grind (arith, nat_tests)
 
 -- an instruction takes two turns at most
 two_turns : (i : Instr) → instruction_turns i ≤ 2

@@ -20,7 +20,7 @@ use Rattle.sc_object.specs.declared.object.Reloc.{Reloc}
 use Rattle.sc_object.specs.declared.object.SectionKind.{SectionKind}
 use Rattle.sc_object.specs.declared.object.SectionKind.TheVariants.{Text, Data, Rodata, Bss}
 use Rattle.sc_object.specs.Parts.{is_local}
-use Rattle.sc_object.specs.Reading.{is_below, is_word, is_kind, locals_first, by_sections}
+use Rattle.sc_object.specs.Reading.{is_word, is_kind, locals_first, by_sections}
 use Rattle.sc_object.specs.Reading as reading
 use Rattle.sc_gen_code.specs.declared.symbolic.Symbolic.{Symbolic}
 use Rattle.sc_gen_code.specs.declared.symbolic.Symbolic.TheVariants.{Plain, Upper, Lower, Call}

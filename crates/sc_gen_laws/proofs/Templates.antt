@@ -15,7 +15,7 @@ use Rattle.sc_gen_code.specs.declared.style.Style.{Style}
 use Rattle.sc_gen_code.specs.Code.{a0, a1, a2, mv, li, copied}
 use Rattle.sc_gen_code.specs.Operators as operators
 use Rattle.sc_gen_code.specs.Calls as calls
-use Rattle.sc_gen_code.specs.Styles.{behind, reloaded}
+use Rattle.sc_gen_code.specs.Styles.{reloaded}
 use Rattle.sc_gen_operand.specs.declared.plans.Want.{Want}
 use Rattle.sc_gen_operand.specs.declared.plans.Want.TheVariants.{Word, Foot}
 use Rattle.sc_gen_operand.specs.declared.plans.Operands.{Operands}

@@ -1,5 +1,5 @@
 -- How many words the code of an expression has, at most, by its nodes and conversions.
-use Rattle.std.proofs.Common.{◌≡◌, ◌≤◌, ℕ, zero, suc, ◌+◌, ◌-◌, ◌*◌, Bool, true, false, not, ◌&&◌, if◌then◌else◌, nat_lt, min, List, ◌∷◌, ◌++◌, length, map, sum, Option, Some, None, refl, ap, subst, ◌∙◌, arith, pos}
+use Rattle.std.proofs.Common.{◌≡◌, ◌≤◌, ℕ, zero, suc, ◌+◌, ◌-◌, ◌*◌, Bool, true, false, not, if◌then◌else◌, nat_lt, min, List, ◌∷◌, ◌++◌, length, map, sum, Option, Some, None, refl, ap, subst, ◌∙◌, arith, pos}
 use Rattle.std.proofs.lemmas.List.Sums.{sum_by-cons}
 use Rattle.sc_base.specs.declared.key.Key.{Key}
 use Rattle.sc_base.specs.declared.operator.Op.TheVariants as op
@@ -33,7 +33,7 @@ use Rattle.sc_gen_operand.specs.Templates as templates
 use Rattle.sc_gen_expr.specs.Expressions.{place, wanted, pair, logical, choice, joined, further_arguments, arguments, callee, called, part_of, expression_layer, word_layer, foot_layer, condition_layer, condition_of, plain_test, test_unary, test_layer}
 use Rattle.sc_gen_laws.specs.Nodes as nodes
 use Rattle.sc_gen_laws.specs.Counts as counts
-use Rattle.sc_gen_laws.proofs.Lengths.{app, cons, longer, same, li-short, push-short, pop-short, convert-short, reconvert-short, further-short, unary-short, most}
+use Rattle.sc_gen_laws.proofs.Lengths.{app, cons, longer, same, li-short, push-short, pop-short, convert-short, reconvert-short, further-short, unary-short}
 use Rattle.sc_gen_laws.proofs.Templates.{address-short, taken-short, fetched_as-short, late-short, member-short, operated-short, offset_end-short, difference_end-short, compared_end-short, assign_end-short, structure_end-short, compound_end-short, moving_end-short, step_end-short, transfer-short}
 
 -- a sum with one number more

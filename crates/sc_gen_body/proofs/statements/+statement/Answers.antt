@@ -2,7 +2,7 @@ use Rattle.std.proofs.Common.{rules, List, ◌≡◌, ℕ, ◌+◌, ◌++◌, []
 use Rattle.std.specs.Prelude.{option_map}
 use Rattle.sc_core.specs.declared.statement.CoreStmt.{CoreStmt, the_lemmas}
 use Rattle.sc_gen_code.specs.declared.symbolic.Symbolic.{Symbolic}
-use Rattle.sc_gen_body.specs.Frames.{frame_of, entered_in, value}
+use Rattle.sc_gen_body.specs.Frames.{frame_of, value}
 use Rattle.sc_gen_body.specs.Statements as spec
 use Rattle.sc_gen_body.specs.Jumps.{Around, entering, in_loop, in_switch, inside, leaving, start_of, with_jumps}
 use Rattle.std.proofs.lemmas.Result.{IfOk-weaker, on_ok_weaker}
