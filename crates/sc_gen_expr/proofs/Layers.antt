@@ -1,5 +1,5 @@
 -- The code of each construct, from what its parts wrote one behind another.
-use Rattle.std.proofs.Common.{◌≡◌, ℕ, ◌+◌, ◌-◌, Bool, true, false, if◌then◌else◌, pos, List, [], ◌∷◌, ◌++◌, length, map, Option, sym, ap, ◌∙◌}
+use Rattle.std.proofs.Common.{◌≡◌, ℕ, ◌+◌, ◌-◌, Bool, true, if◌then◌else◌, pos, List, [], ◌∷◌, ◌++◌, length, map, Option, sym, ap, ◌∙◌}
 use Rattle.std.specs.Prelude.{slice_set}
 use Rattle.sc_isa.specs.declared.instruction.RegOp.TheVariants as reg
 use Rattle.sc_types.specs.declared.ctype.CType.{CType}
@@ -15,12 +15,10 @@ use Rattle.sc_gen_code.specs.Styles.{behind}
 use Rattle.sc_gen_code.specs.Calls.{direct}
 use Rattle.sc_gen_operand.specs.declared.plans.Want.{Want}
 use Rattle.sc_gen_operand.specs.declared.plans.Operands.{Operands}
-use Rattle.sc_gen_operand.specs.declared.plans.Want.TheVariants.{Word}
 use Rattle.sc_gen_operand.specs.declared.templates.Compared.{Compared}
-use Rattle.sc_gen_operand.specs.Places.{stands}
-use Rattle.sc_gen_operand.specs.Plans.{Mode, Skips, Part, word, unless, first, value_operands, left_code, right_code}
+use Rattle.sc_gen_operand.specs.Plans.{Mode, Skips, Part, word, left_code, right_code}
 use Rattle.sc_gen_operand.specs.Templates.{computed, transfer, comparison, branched}
-use Rattle.sc_gen_expr.specs.Expressions.{part_of, expression_code, expression_layer, condition_layer, condition_of, plain_test, told, wanted, pair, logical, choice, joined, arguments, callee, called}
+use Rattle.sc_gen_expr.specs.Expressions.{part_of, expression_code, expression_layer, condition_layer, condition_of, plain_test, told, wanted, pair, logical, choice, joined, arguments, callee}
 use Rattle.sc_gen_expr.proofs.Patches.{two_are, three_are, logical_is, choice_is, joined_is}
 
 -- one layer of the code
@@ -116,32 +114,6 @@ module _ (st : Style) (slots : List (List Auto)) (m : Mode) (x : CoreExpr) (t : 
   condition_shape : condition_code (expression_code st slots x t) ≡ condition_of st slots x t
   condition_shape =
       sym (ap (λ (z : CoreExpr-F CoreExpr). condition_layer st slots (expression_code st slots x t) (map-CoreExpr CoreExpr Part (part_of st slots) z) z x t) is)
-
-  -- a comparison
-  pub compared_parts : (o : Bool) (a a1 b b1 b2 : CoreExpr) (how : Operands) (c0 c1 c2 : Code) →
-      condition_code (expression_code st slots x t)
-      ≡ (if o then left_code st slots (value_operands slots b t) (part_of st slots a) a t ++ right_code st slots (value_operands slots b t) (part_of st slots b) b t
-      else unless (stands st slots x) (expression_code st slots x t)) →
-      o ≡ true → a1 ≡ a → b1 ≡ b → b2 ≡ b → how ≡ value_operands slots b1 t →
-      c1 ≡ c0 ++ left_code st slots how (part_of st slots a1) a1 t → c2 ≡ c1 ++ right_code st slots how (part_of st slots b2) b2 t → c2 ≡ c0 ++ condition_of st slots x t
-  compared_parts o a a1 b b1 b2 how c0 c1 c2 layer yes as1 bs1 bs2 known e1 e2 =
-      let h = value_operands slots b t in
-      let whole = known ∙ ap (λ (z : CoreExpr). value_operands slots z t) bs1 in
-      let two = left_code st slots h (part_of st slots a) a t ++ right_code st slots h (part_of st slots b) b t in
-      let opened : condition_code (expression_code st slots x t) ≡ two =
-      layer ∙ ap (λ (k : Bool). if k then two else unless (stands st slots x) (expression_code st slots x t)) yes in
-      two_are c0 (left_code st slots h (part_of st slots a) a t) (right_code st slots h (part_of st slots b) b t) c1 c2
-      (e1 ∙ ap (λ (g : Operands). c0 ++ left_code st slots g (part_of st slots a1) a1 t) whole ∙ ap (λ (z : CoreExpr). c0 ++ left_code st slots h (part_of st slots z) z t) as1)
-      (e2 ∙ ap (λ (g : Operands). c1 ++ right_code st slots g (part_of st slots b2) b2 t) whole ∙ ap (λ (z : CoreExpr). c1 ++ right_code st slots h (part_of st slots z) z t) bs2)
-      ∙ ap (λ (l : Code). c0 ++ l) (sym opened ∙ condition_shape)
-
-  -- any other value
-  pub not_compared : (o : Bool) (two c0 c1 : Code) →
-      condition_code (expression_code st slots x t) ≡ (if o then two else unless (stands st slots x) (expression_code st slots x t)) → o ≡ false →
-      c1 ≡ c0 ++ first st slots Word (part_of st slots x) x t → c1 ≡ c0 ++ condition_of st slots x t
-  not_compared o two c0 c1 layer no e1 =
-      e1
-      ∙ ap (λ (l : Code). c0 ++ l) (sym (layer ∙ ap (λ (k : Bool). if k then two else unless (stands st slots x) (expression_code st slots x t)) no) ∙ condition_shape)
 
   -- a condition that ends with one branch
   pub told_part : (sense : Bool) (c0 c1 : Code) → layer_code st slots m y x t ≡ plain_test st slots (map-CoreExpr CoreExpr Part (part_of st slots) y) y x t sense →

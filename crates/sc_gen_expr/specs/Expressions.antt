@@ -3,7 +3,7 @@
 -- it leaves the foot of the place or pointer, without a tag; of a condition it leaves nothing, but the next word is left out where its truth is
 -- the one that is said. Its temporaries are the words from an offset above sp on, and the registers from a3 on, as many as the expression needs
 -- room for. Every jump stays inside its own construct.
-use Rattle.std.specs.Prelude.{ℕ, zero, suc, ◌+◌, ◌-◌, ◌*◌, nat_le, nat_lt, Bool, true, false, not, ◌&&◌, if◌then◌else◌, List, [], ◌∷◌, ◌++◌, length, Option, Some, None, ℤ, pos, neg_ℤ}
+use Rattle.std.specs.Prelude.{ℕ, zero, suc, ◌+◌, ◌-◌, ◌*◌, nat_le, nat_lt, Bool, true, false, not, ◌&&◌, if◌then◌else◌, List, [], ◌∷◌, ◌++◌, length, Option, Some, None, pos, neg_ℤ}
 use Rattle.sc_base.specs.declared.key.Key.{Key}
 use Rattle.sc_base.specs.declared.operator.Op.{Op}
 use Rattle.sc_base.specs.declared.operator.Op.TheVariants as op
@@ -27,7 +27,7 @@ use Rattle.sc_gen_operand.specs.declared.plans.Want.TheVariants.{Word, Foot}
 use Rattle.sc_gen_operand.specs.declared.plans.Operands.{Operands}
 use Rattle.sc_gen_operand.specs.declared.templates.Compared.{Compared}
 use Rattle.sc_gen_operand.specs.Places.{reach, stands, is_passed}
-use Rattle.sc_gen_operand.specs.Plans.{Mode, As, Skips, Part, word, foot, unless, left_code, right_code, value_operands, binary_operands, offset_operands, assign_operands, structure_operands, compound_operands, moving_operands, step_wants, read_wants}
+use Rattle.sc_gen_operand.specs.Plans.{As, Skips, Part, word, foot, unless, left_code, right_code, value_operands, binary_operands, offset_operands, assign_operands, structure_operands, compound_operands, moving_operands, step_wants, read_wants}
 use Rattle.sc_gen_operand.specs.Templates.{member_end, operated, offset_end, difference_end, compared_end, assign_end, structure_end, compound_end, moving_end, step_end, read_end, computed, transfer, comparison, branched, is_joined}
 
 -- the word of a place without code of its own
@@ -65,6 +65,13 @@ put_away i at = if nat_lt 0 i then push at.low else []
 
 abbrev pub argument_spot : ℕ → Spot → Spot
 argument_spot i at = if nat_lt 0 i then behind at else at
+
+-- the argument with a number, where it is one of the first n; and where the temporaries of the next one would begin
+abbrev pub argument : Part → ℕ → ℕ → CoreExpr → Spot → Code
+argument p i n e at = if nat_lt i n then put_away i at ++ p word e (argument_spot i at) else []
+
+abbrev pub spot_behind : ℕ → ℕ → Spot → Spot
+spot_behind i n at = if nat_lt i n then argument_spot i at else at
 
 -- arguments, n of which are computed: each but the last waits in a temporary of its own
 abbrev pub further_arguments : ℕ → List Part → List CoreExpr → Spot → Code

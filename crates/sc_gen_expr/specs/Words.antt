@@ -9,7 +9,7 @@ use Rattle.sc_base.specs.declared.key.Key.{Key}
 use Rattle.sc_isa.specs.declared.instruction.Instr.{Instr}
 use Rattle.sc_isa.specs.declared.instruction.Instr.TheVariants.{Lui, Auipc, Jal, Jalr, Branch, Load, Store, Imm, Reg, Ecall, Fence}
 use Rattle.sc_isa.specs.declared.instruction.ImmOp.{ImmOp}
-use Rattle.sc_isa.specs.declared.instruction.ImmOp.TheVariants.{Addi, Slli, Srli, Srai}
+use Rattle.sc_isa.specs.declared.instruction.ImmOp.TheVariants.{Slli, Srli, Srai}
 use Rattle.sc_isa.specs.Table.{word_of}
 use Rattle.sc_object.specs.declared.object.Reloc.{Reloc}
 use Rattle.sc_gen_code.specs.declared.symbolic.Symbolic.{Symbolic}

@@ -406,6 +406,29 @@ fn put_away(code: &mut Items<Symbolic>, i: usize, t: Spot) -> Result<Spot, NoMem
     }
 }
 
+/// The argument with a number, where it is one of the first `n`; and where the temporaries of the next one would begin.
+#[cycle(expression)]
+fn argument(
+    alloc: Global,
+    scope: &Scope,
+    i: usize,
+    n: usize,
+    e: &CoreExpr,
+    t: Spot,
+    code: &mut Items<Symbolic>,
+) -> Result<Spot, NoMemory>
+    ensures code { OnOk result (code.new ≡ code.old ++ spec.argument (spec.part_of scope.now.style.now scope.now.slots.now e.now) i n e.now t) }
+    ensures place { IfOk result (λ own. own ≡ spec.spot_behind i n t) }
+{
+    if i < n {
+        let own = put_away(code, i, t)?;
+        expression(alloc, scope, e, own, code)?;
+        Ok(own)
+    } else {
+        Ok(t)
+    }
+}
+
 /// The first arguments: each but the last waits in a temporary of its own.
 #[cycle(expression)]
 fn arguments(
@@ -420,10 +443,8 @@ fn arguments(
 {
     let mut own = t;
     for (i, arg) in args.iter().enumerate() {
-        if i < n {
-            own = put_away(code, i, own)?;
-            expression(alloc, scope, arg.get(), own, code)?;
-        }
+        let next = argument(alloc, scope, i, n, arg.get(), own, code)?;
+        own = next;
     }
     Ok(())
 }
