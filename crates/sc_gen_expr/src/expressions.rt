@@ -1,8 +1,10 @@
 // The code of an expression leaves the word of its value, or of its place, in `a0` (ANSI 3.3).
-ghost use Rattle.std.specs.Prelude.{◌≡◌, ◌++◌, [], ◌∷◌, length, map, OnOk, IfOk};
+ghost use Rattle.std.specs.Prelude.{◌≡◌, ◌≤◌, ◌++◌, [], ◌∷◌, length, map, OnOk, IfOk, pos, neg_ℤ};
 ghost use Rattle.sc_gen_code.specs.Calls.{direct};
 ghost use Rattle.sc_gen_code.specs.Code as words;
+ghost use Rattle.sc_gen_code.specs.declared.symbolic.Symbolic.TheVariants.{Plain};
 ghost use Rattle.sc_gen_operand.specs.Plans as plans;
+ghost use Rattle.sc_gen_operand.specs.Templates.{branched};
 ghost use Rattle.sc_gen_expr.specs.Expressions as spec;
 
 use sc_base::{Duplicate, Items, NoMemory, Op, Shared};
@@ -19,6 +21,7 @@ use sc_gen_operand::{
     moving_operands, offset_end, offset_operands, operated, reach, read_end, read_wants, standing,
     step_end, step_wants, structure_end, structure_operands, transfer, value_operands,
 };
+use sc_isa::Instr;
 use std::alloc::Global;
 
 fn address(alloc: Global, code: &mut Items<Symbolic>, target: Target) -> Result<(), NoMemory>
@@ -557,6 +560,14 @@ pub fn test_back(
     }
 }
 
+/// A branch of so many bytes back.
+fn branch_up(c: Compared, sense: bool, n: u32) -> Instr
+    requires { n ≤ 4096 }
+    ensures { Plain result ≡ branched c sense (neg_ℤ (pos n)) }
+{
+    c.branch(sense, -(n as i32))
+}
+
 fn branch_back(
     code: &mut Items<Symbolic>,
     c: Compared,
@@ -567,7 +578,7 @@ fn branch_back(
 {
     let here = code.len();
     if top <= here && here - top <= 1024 {
-        put_one(code, c.branch(sense, -(4 * (here - top) as i32)))
+        put_one(code, branch_up(c, sense, 4 * (here - top) as u32))
     } else {
         put_one(code, c.branch(!sense, 8))?;
         jump_back(code, top)

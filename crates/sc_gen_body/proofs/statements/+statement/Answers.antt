@@ -180,6 +180,6 @@ statement-returns-in_ok-value_or_none-in-For t c =
     let f = frame_of c.args.frame.now in
     let mid : Text = record { code = c.value_or_none.new.code; blocks = c.args.text.now.blocks; labels = c.args.text.now.labels } in
     on_ok_weaker c.turns-in-For.result
-    (λ h. adds_for f c.args.s.now c.in-For.field-0 c.in-For.before _ c.in-For.e _ c.in-For.after _ c.in-For.body c.get-in-For.result.now c.args.exits c.args.text.now mid c.turns-in-For.new.text
-    c.in-For.is c.optional.ensures c.optional-in-For.ensures c.optional-in-For-2.ensures c.get-in-For.ensures c.in_ok-value_or_none-in-For.ensures refl refl h)
+    (adds_for f c.args.s.now c.in-For.field-0 c.in-For.before _ c.in-For.e _ c.in-For.after _ c.in-For.body c.get-in-For.result.now c.args.exits c.args.text.now mid c.turns-in-For.new.text
+    c.in-For.is c.optional.ensures c.optional-in-For.ensures c.optional-in-For-2.ensures c.get-in-For.ensures c.in_ok-value_or_none-in-For.ensures refl refl)
     c.turns-in-For.ensures

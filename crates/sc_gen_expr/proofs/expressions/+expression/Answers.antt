@@ -289,7 +289,7 @@ test-returns-in_ok-test-in-Or-2 t c =
 pub arguments-loop-i-preserved : goal.arguments-loop-i-preserved
 arguments-loop-i-preserved t c =
     one_more (part_of c.args.scope.now.style.now c.args.scope.now.slots.now) c.args.args.now c.loop-i.i c.args.n c.index-args-i.result c.get.result.now c.loop-i.own c.in_ok-next.next
-    c.loop-i.code c.argument-next.new.code _ c.loop-i-test.true c.index-args-i.is c.get.ensures c.in_ok-next.ensures.code c.in_ok-next.ensures.place c.loop-i.invariant
+    c.loop-i.code c.argument.new.code _ c.loop-i-test.true c.index-args-i.is c.get.ensures c.in_ok-next.ensures.code c.in_ok-next.ensures.place c.loop-i.invariant
 
 pub arguments-returns : goal.arguments-returns
 arguments-returns t c =
