@@ -260,10 +260,10 @@ branch-length test first m n f g =
 
 choice-length : (test first other : Code) (m n k : ℕ) → length test ≤ m → length first ≤ n → length other ≤ k → length (choice test first (Some other)) ≤ m + n + k + 2
 choice-length test first other m n k f g h =
+    let one = over (length first + 1) ∷ first in
     let end = over (length other) ∷ other in
-    let two = over (length first + 1) ∷ (first ++ end) in
-    longer (choice test first (Some other)) (m + (1 + (n + (1 + k)))) (m + n + k + 2)
-    (app test two m (1 + (n + (1 + k))) f (cons (first ++ end) (n + (1 + k)) (app first end n (1 + k) g (cons other k h))))
+    longer (choice test first (Some other)) ((m + (1 + n)) + (1 + k)) (m + n + k + 2)
+    (app (test ++ one) end (m + (1 + n)) (1 + k) (app test one m (1 + n) f (cons first n g)) (cons other k h))
     (omega arith)
 
 -- the entry of a block has at most four words

@@ -483,13 +483,13 @@ module _ (st : Style) (slots : List (List Auto)) (style : IsStyle st) where
   footed (CoreExpr-F.Index l t n a b) e at once =
       let how = plans.offset_operands slots Foot n a.0 b.0 at in
       (omega arith, pair_fine how a b (λ how. templates.offset_end st slots how Foot op.Add n a.0 b.0) 4 at (offset_end-short st slots how Foot op.Add n a.0 b.0) (omega arith) once)
-  footed (CoreExpr-F.Convert l t a) e at =
+  footed (CoreExpr-F.Convert l t a) e at once =
       passed (places.is_passed a.0 t) (CoreExpr-F.Convert l t a.0) (own a foot a.0 at) (word_layer st slots (Parts (CoreExpr-F.Convert l t a.0)) (CoreExpr-F.Convert l t a.0) e at)
       (λ once.
       let c = is_zero (top a.0).conversions (and-right (top a.0).once ((top a.0).conversions == 0) once) in
       let s = a.1 (and-left (top a.0).once ((top a.0).conversions == 0) once) in
       (omega (arith, c), wider (3 * (top a.0).conversions) (3 * (1 + (top a.0).conversions)) (own a foot a.0 at) (omega arith) (s.1 foot at)))
-      (convert_fine l t a e at)
+      (convert_fine l t a e at) once
   footed (CoreExpr-F.Number l t n) e at once = found (CoreExpr-F.Number l t n) e at once
   footed (CoreExpr-F.Function l t key) e at once = found (CoreExpr-F.Function l t key) e at once
   footed (CoreExpr-F.Call l t f es) e at once = found (CoreExpr-F.Call l t f es) e at once
@@ -575,8 +575,8 @@ module _ (st : Style) (slots : List (List Auto)) (style : IsStyle st) where
       ))
 
   told : (y : CoreExpr-F Known) (e : CoreExpr) (at : Spot) (sense : Bool) → Holds (plain y) (λ c. 3 * c + 1) (test_layer st slots (Parts (plain y)) (plain y) e at sense)
-  told (CoreExpr-F.Unary l t o a) e at sense =
-      nots o (plain (CoreExpr-F.Unary l t o a)) (own a (Skips (not sense)) a.0 at) _ (λ once. (omega arith, inner_fine (not sense) a at once)) (tested (CoreExpr-F.Unary l t o a) e at)
+  told (CoreExpr-F.Unary l t o a) e at sense once =
+      nots o (plain (CoreExpr-F.Unary l t o a)) (own a (Skips (not sense)) a.0 at) _ (λ once. (omega arith, inner_fine (not sense) a at once)) (tested (CoreExpr-F.Unary l t o a) e at) once
   told (CoreExpr-F.And l t a b) e at sense once = (omega arith, joined_fine true sense a b at once)
   told (CoreExpr-F.Or l t a b) e at sense once = (omega arith, joined_fine false sense a b at once)
   told (CoreExpr-F.Number l t n) e at sense once = tested (CoreExpr-F.Number l t n) e at once

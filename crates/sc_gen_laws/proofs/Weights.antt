@@ -1,5 +1,5 @@
 -- How many words the code of an expression has, at most, by its nodes and conversions.
-use Rattle.std.proofs.Common.{◌≡◌, ◌≤◌, ℕ, zero, suc, ◌+◌, ◌-◌, ◌*◌, Bool, true, false, not, if◌then◌else◌, nat_lt, min, List, ◌∷◌, ◌++◌, length, map, sum, Option, Some, None, refl, ap, subst, ◌∙◌, arith, pos}
+use Rattle.std.proofs.Common.{◌≡◌, ◌≤◌, ℕ, zero, suc, ◌+◌, ◌-◌, ◌*◌, Bool, true, false, not, if◌then◌else◌, nat_lt, min, List, [], ◌∷◌, ◌++◌, length, map, sum, Option, Some, None, refl, ap, subst, ◌∙◌, arith, pos}
 use Rattle.std.proofs.lemmas.List.Sums.{sum_by-cons}
 use Rattle.sc_base.specs.declared.key.Key.{Key}
 use Rattle.sc_base.specs.declared.operator.Op.TheVariants as op
@@ -244,20 +244,22 @@ module _ (st : Style) (slots : List (List Auto)) (style : length st.kept ≤ 4) 
       let l = app (own f word f.0 at) (push at.low) (length (own f word f.0 at)) 3 (same (length (own f word f.0 at))) (push-short at.low) in
       omega (arith, h, l)
 
-  computed_few : (es : List CoreExpr) → min (templates.computed slots es) 31 ≤ length es
-  computed_few es = by (nat_lt 8 (length es))
-    where
-      last_few : (i : ℕ) (es : List CoreExpr) (n : ℕ) → n ≤ i → templates.last_computed slots i es n ≤ i + length es
-      last_few i [] n h = omega (arith, h)
-      last_few i (e ∷ es) n h = step (places.is_leaf slots e)
-        where
-          step : (b : Bool) → templates.last_computed slots (i + 1) es (if b then n else i + 1) ≤ i + length (e ∷ es)
-          step true = let r = last_few (i + 1) es n (omega (arith, h)) in omega (arith, r)
-          step false = let r = last_few (i + 1) es (i + 1) (omega arith) in omega (arith, r)
+  -- no more arguments are computed than there are
+  step_few : (b : Bool) (i n : ℕ) (e : CoreExpr) (es : List CoreExpr) → n ≤ i → ((k : ℕ) → k ≤ i + 1 → templates.last_computed slots (i + 1) es k ≤ i + 1 + length es) →
+      templates.last_computed slots (i + 1) es (if b then n else i + 1) ≤ i + length (e ∷ es)
+  step_few true i n e es h others = let r = others n (omega (arith, h)) in omega (arith, r)
+  step_few false i n e es h others = let r = others (i + 1) (omega arith) in omega (arith, r)
 
-      by : (b : Bool) → min (if b then length es else templates.last_computed slots 0 es 0) 31 ≤ length es
-      by true = omega arith
-      by false = let r = last_few 0 es 0 (omega arith) in omega (arith, r)
+  last_few : (i : ℕ) (es : List CoreExpr) (n : ℕ) → n ≤ i → templates.last_computed slots i es n ≤ i + length es
+  last_few i [] n h = omega (arith, h)
+  last_few i (e ∷ es) n h = step_few (places.is_leaf slots e) i n e es h (λ k le. last_few (i + 1) es k le)
+
+  few_by : (b : Bool) (es : List CoreExpr) → min (if b then length es else templates.last_computed slots 0 es 0) 31 ≤ length es
+  few_by true es = omega arith
+  few_by false es = let r = last_few 0 es 0 (omega arith) in omega (arith, r)
+
+  computed_few : (es : List CoreExpr) → min (templates.computed slots es) 31 ≤ length es
+  computed_few es = few_by (nat_lt 8 (length es)) es
 
   sum_call : (w c a t n m nf cf na ca : ℕ) → w ≤ c + (a + t) → c + 19 ≤ 29 * nf + 3 * cf → a + 19 * n ≤ 29 * na + 3 * ca → t ≤ (3 * m + 4) + ((5 * n + 4) + 12) → m ≤ n →
       w + 22 ≤ 29 * (1 + nf + na) + 3 * (cf + ca)
@@ -417,33 +419,33 @@ module _ (st : Style) (slots : List (List Auto)) (style : length st.kept ≤ 4) 
   -- the operands of a condition, by the code of its value
   conditioned : (y : CoreExpr-F Known) (e : CoreExpr) (value : Code) (at : Spot) → 29 ≤ limit (plain y) → length value + 22 ≤ limit (plain y) →
       length (condition_layer st slots value (Parts (plain y)) (plain y) e at) + 22 ≤ limit (plain y)
-  conditioned (CoreExpr-F.Binary l t o a b) e value at n h = compared_fits a b (operators.is_comparison o) (unless (places.stands st slots e) value) at (value_fits e value _ n h)
-  conditioned (CoreExpr-F.Compare l t o a b) e value at n h = compared_fits a b (operators.is_comparison o) (unless (places.stands st slots e) value) at (value_fits e value _ n h)
-  conditioned (CoreExpr-F.Number l t n) e value at n h = value_fits e value _ n h
-  conditioned (CoreExpr-F.Literal l t i) e value at n h = value_fits e value _ n h
-  conditioned (CoreExpr-F.Automatic l t b i) e value at n h = value_fits e value _ n h
-  conditioned (CoreExpr-F.Static l t key) e value at n h = value_fits e value _ n h
-  conditioned (CoreExpr-F.Function l t key) e value at n h = value_fits e value _ n h
-  conditioned (CoreExpr-F.Index l t n a b) e value at n h = value_fits e value _ n h
-  conditioned (CoreExpr-F.Call l t f es) e value at n h = value_fits e value _ n h
-  conditioned (CoreExpr-F.Member l t n a) e value at n h = value_fits e value _ n h
-  conditioned (CoreExpr-F.Arrow l t n a) e value at n h = value_fits e value _ n h
-  conditioned (CoreExpr-F.Step l t s n a) e value at n h = value_fits e value _ n h
-  conditioned (CoreExpr-F.Address l t a) e value at n h = value_fits e value _ n h
-  conditioned (CoreExpr-F.Indirection l t a) e value at n h = value_fits e value _ n h
-  conditioned (CoreExpr-F.Unary l t o a) e value at n h = value_fits e value _ n h
-  conditioned (CoreExpr-F.Cast l t a) e value at n h = value_fits e value _ n h
-  conditioned (CoreExpr-F.Offset l t o n a b) e value at n h = value_fits e value _ n h
-  conditioned (CoreExpr-F.Difference l t n a b) e value at n h = value_fits e value _ n h
-  conditioned (CoreExpr-F.And l t a b) e value at n h = value_fits e value _ n h
-  conditioned (CoreExpr-F.Or l t a b) e value at n h = value_fits e value _ n h
-  conditioned (CoreExpr-F.Conditional l t a b d) e value at n h = value_fits e value _ n h
-  conditioned (CoreExpr-F.Assign l t a b) e value at n h = value_fits e value _ n h
-  conditioned (CoreExpr-F.AssignStructure l t n a b) e value at n h = value_fits e value _ n h
-  conditioned (CoreExpr-F.Compound l t o k a b) e value at n h = value_fits e value _ n h
-  conditioned (CoreExpr-F.CompoundOffset l t o n a b) e value at n h = value_fits e value _ n h
-  conditioned (CoreExpr-F.Comma l t a b) e value at n h = value_fits e value _ n h
-  conditioned (CoreExpr-F.Convert l t a) e value at n h = value_fits e value _ n h
+  conditioned (CoreExpr-F.Binary l t o a b) e value at least h = compared_fits a b (operators.is_comparison o) (unless (places.stands st slots e) value) at (value_fits e value _ least h)
+  conditioned (CoreExpr-F.Compare l t o a b) e value at least h = compared_fits a b (operators.is_comparison o) (unless (places.stands st slots e) value) at (value_fits e value _ least h)
+  conditioned (CoreExpr-F.Number l t n) e value at least h = value_fits e value _ least h
+  conditioned (CoreExpr-F.Literal l t i) e value at least h = value_fits e value _ least h
+  conditioned (CoreExpr-F.Automatic l t b i) e value at least h = value_fits e value _ least h
+  conditioned (CoreExpr-F.Static l t key) e value at least h = value_fits e value _ least h
+  conditioned (CoreExpr-F.Function l t key) e value at least h = value_fits e value _ least h
+  conditioned (CoreExpr-F.Index l t n a b) e value at least h = value_fits e value _ least h
+  conditioned (CoreExpr-F.Call l t f es) e value at least h = value_fits e value _ least h
+  conditioned (CoreExpr-F.Member l t n a) e value at least h = value_fits e value _ least h
+  conditioned (CoreExpr-F.Arrow l t n a) e value at least h = value_fits e value _ least h
+  conditioned (CoreExpr-F.Step l t s n a) e value at least h = value_fits e value _ least h
+  conditioned (CoreExpr-F.Address l t a) e value at least h = value_fits e value _ least h
+  conditioned (CoreExpr-F.Indirection l t a) e value at least h = value_fits e value _ least h
+  conditioned (CoreExpr-F.Unary l t o a) e value at least h = value_fits e value _ least h
+  conditioned (CoreExpr-F.Cast l t a) e value at least h = value_fits e value _ least h
+  conditioned (CoreExpr-F.Offset l t o n a b) e value at least h = value_fits e value _ least h
+  conditioned (CoreExpr-F.Difference l t n a b) e value at least h = value_fits e value _ least h
+  conditioned (CoreExpr-F.And l t a b) e value at least h = value_fits e value _ least h
+  conditioned (CoreExpr-F.Or l t a b) e value at least h = value_fits e value _ least h
+  conditioned (CoreExpr-F.Conditional l t a b d) e value at least h = value_fits e value _ least h
+  conditioned (CoreExpr-F.Assign l t a b) e value at least h = value_fits e value _ least h
+  conditioned (CoreExpr-F.AssignStructure l t n a b) e value at least h = value_fits e value _ least h
+  conditioned (CoreExpr-F.Compound l t o k a b) e value at least h = value_fits e value _ least h
+  conditioned (CoreExpr-F.CompoundOffset l t o n a b) e value at least h = value_fits e value _ least h
+  conditioned (CoreExpr-F.Comma l t a b) e value at least h = value_fits e value _ least h
+  conditioned (CoreExpr-F.Convert l t a) e value at least h = value_fits e value _ least h
 
   tested : (y : CoreExpr-F Known) (e : CoreExpr) (at : Spot) (sense : Bool) → 29 ≤ limit (plain y) →
       length (plain_test st slots (Parts (plain y)) (plain y) e at sense) + 21 ≤ limit (plain y)
@@ -459,34 +461,34 @@ module _ (st : Style) (slots : List (List Auto)) (style : length st.kept ≤ 4) 
 
   told : (y : CoreExpr-F Known) (e : CoreExpr) (at : Spot) (sense : Bool) → 29 ≤ limit (plain y) →
       length (test_layer st slots (Parts (plain y)) (plain y) e at sense) + 21 ≤ limit (plain y)
-  told (CoreExpr-F.Unary l t o a) e at sense n =
-      nots o (own a (Skips (not sense)) a.0 at) _ (limit (plain (CoreExpr-F.Unary l t o a))) (let h = a.1.1.0 (Skips (not sense)) at in omega (arith, h)) (tested (CoreExpr-F.Unary l t o a) e at sense n)
-  told (CoreExpr-F.And l t a b) e at sense n = joined_fits (not sense) true sense a b at
-  told (CoreExpr-F.Or l t a b) e at sense n = joined_fits sense false sense a b at
-  told (CoreExpr-F.Number l t n) e at sense n = tested (CoreExpr-F.Number l t n) e at sense n
-  told (CoreExpr-F.Literal l t i) e at sense n = tested (CoreExpr-F.Literal l t i) e at sense n
-  told (CoreExpr-F.Automatic l t b i) e at sense n = tested (CoreExpr-F.Automatic l t b i) e at sense n
-  told (CoreExpr-F.Static l t key) e at sense n = tested (CoreExpr-F.Static l t key) e at sense n
-  told (CoreExpr-F.Function l t key) e at sense n = tested (CoreExpr-F.Function l t key) e at sense n
-  told (CoreExpr-F.Index l t n a b) e at sense n = tested (CoreExpr-F.Index l t n a b) e at sense n
-  told (CoreExpr-F.Call l t f es) e at sense n = tested (CoreExpr-F.Call l t f es) e at sense n
-  told (CoreExpr-F.Member l t n a) e at sense n = tested (CoreExpr-F.Member l t n a) e at sense n
-  told (CoreExpr-F.Arrow l t n a) e at sense n = tested (CoreExpr-F.Arrow l t n a) e at sense n
-  told (CoreExpr-F.Step l t s n a) e at sense n = tested (CoreExpr-F.Step l t s n a) e at sense n
-  told (CoreExpr-F.Address l t a) e at sense n = tested (CoreExpr-F.Address l t a) e at sense n
-  told (CoreExpr-F.Indirection l t a) e at sense n = tested (CoreExpr-F.Indirection l t a) e at sense n
-  told (CoreExpr-F.Cast l t a) e at sense n = tested (CoreExpr-F.Cast l t a) e at sense n
-  told (CoreExpr-F.Offset l t o n a b) e at sense n = tested (CoreExpr-F.Offset l t o n a b) e at sense n
-  told (CoreExpr-F.Difference l t n a b) e at sense n = tested (CoreExpr-F.Difference l t n a b) e at sense n
-  told (CoreExpr-F.Conditional l t a b d) e at sense n = tested (CoreExpr-F.Conditional l t a b d) e at sense n
-  told (CoreExpr-F.Assign l t a b) e at sense n = tested (CoreExpr-F.Assign l t a b) e at sense n
-  told (CoreExpr-F.AssignStructure l t n a b) e at sense n = tested (CoreExpr-F.AssignStructure l t n a b) e at sense n
-  told (CoreExpr-F.Compound l t o k a b) e at sense n = tested (CoreExpr-F.Compound l t o k a b) e at sense n
-  told (CoreExpr-F.CompoundOffset l t o n a b) e at sense n = tested (CoreExpr-F.CompoundOffset l t o n a b) e at sense n
-  told (CoreExpr-F.Comma l t a b) e at sense n = tested (CoreExpr-F.Comma l t a b) e at sense n
-  told (CoreExpr-F.Convert l t a) e at sense n = tested (CoreExpr-F.Convert l t a) e at sense n
-  told (CoreExpr-F.Binary l t o a b) e at sense n = tested (CoreExpr-F.Binary l t o a b) e at sense n
-  told (CoreExpr-F.Compare l t o a b) e at sense n = tested (CoreExpr-F.Compare l t o a b) e at sense n
+  told (CoreExpr-F.Unary l t o a) e at sense least =
+      nots o (own a (Skips (not sense)) a.0 at) _ (limit (plain (CoreExpr-F.Unary l t o a))) (let h = a.1.1.0 (Skips (not sense)) at in omega (arith, h)) (tested (CoreExpr-F.Unary l t o a) e at sense least)
+  told (CoreExpr-F.And l t a b) e at sense least = joined_fits (not sense) true sense a b at
+  told (CoreExpr-F.Or l t a b) e at sense least = joined_fits sense false sense a b at
+  told (CoreExpr-F.Number l t n) e at sense least = tested (CoreExpr-F.Number l t n) e at sense least
+  told (CoreExpr-F.Literal l t i) e at sense least = tested (CoreExpr-F.Literal l t i) e at sense least
+  told (CoreExpr-F.Automatic l t b i) e at sense least = tested (CoreExpr-F.Automatic l t b i) e at sense least
+  told (CoreExpr-F.Static l t key) e at sense least = tested (CoreExpr-F.Static l t key) e at sense least
+  told (CoreExpr-F.Function l t key) e at sense least = tested (CoreExpr-F.Function l t key) e at sense least
+  told (CoreExpr-F.Index l t n a b) e at sense least = tested (CoreExpr-F.Index l t n a b) e at sense least
+  told (CoreExpr-F.Call l t f es) e at sense least = tested (CoreExpr-F.Call l t f es) e at sense least
+  told (CoreExpr-F.Member l t n a) e at sense least = tested (CoreExpr-F.Member l t n a) e at sense least
+  told (CoreExpr-F.Arrow l t n a) e at sense least = tested (CoreExpr-F.Arrow l t n a) e at sense least
+  told (CoreExpr-F.Step l t s n a) e at sense least = tested (CoreExpr-F.Step l t s n a) e at sense least
+  told (CoreExpr-F.Address l t a) e at sense least = tested (CoreExpr-F.Address l t a) e at sense least
+  told (CoreExpr-F.Indirection l t a) e at sense least = tested (CoreExpr-F.Indirection l t a) e at sense least
+  told (CoreExpr-F.Cast l t a) e at sense least = tested (CoreExpr-F.Cast l t a) e at sense least
+  told (CoreExpr-F.Offset l t o n a b) e at sense least = tested (CoreExpr-F.Offset l t o n a b) e at sense least
+  told (CoreExpr-F.Difference l t n a b) e at sense least = tested (CoreExpr-F.Difference l t n a b) e at sense least
+  told (CoreExpr-F.Conditional l t a b d) e at sense least = tested (CoreExpr-F.Conditional l t a b d) e at sense least
+  told (CoreExpr-F.Assign l t a b) e at sense least = tested (CoreExpr-F.Assign l t a b) e at sense least
+  told (CoreExpr-F.AssignStructure l t n a b) e at sense least = tested (CoreExpr-F.AssignStructure l t n a b) e at sense least
+  told (CoreExpr-F.Compound l t o k a b) e at sense least = tested (CoreExpr-F.Compound l t o k a b) e at sense least
+  told (CoreExpr-F.CompoundOffset l t o n a b) e at sense least = tested (CoreExpr-F.CompoundOffset l t o n a b) e at sense least
+  told (CoreExpr-F.Comma l t a b) e at sense least = tested (CoreExpr-F.Comma l t a b) e at sense least
+  told (CoreExpr-F.Convert l t a) e at sense least = tested (CoreExpr-F.Convert l t a) e at sense least
+  told (CoreExpr-F.Binary l t o a b) e at sense least = tested (CoreExpr-F.Binary l t o a b) e at sense least
+  told (CoreExpr-F.Compare l t o a b) e at sense least = tested (CoreExpr-F.Compare l t o a b) e at sense least
 
   noded : (y : CoreExpr-F Known) → 29 ≤ limit (plain y)
   noded (CoreExpr-F.Convert l t a) = let n = a.1.0 in omega (arith, n)
