@@ -46,6 +46,7 @@ use Rattle.sc_services.specs.Entering.{Enters, EntersAt, EntersBlock, EntersCall
 use Rattle.sc_services.specs.Frames.{is_on_stack}
 use Rattle.sc_services.specs.Leaving.{Leaves, cost_here}
 use Rattle.sc_services.specs.Writing.{AreWritten, BesideAll, InObject, Writes, Written, written}
+use Rattle.sc_services.proofs.Passing.{all_write}
 use Rattle.sc_services.proofs.Writing.{stores_write}
 use Rattle.sc_services.specs.declared.copying.Copied.TheVariants as copied
 use Rattle.sc_services.specs.declared.entering.Entered.{Entered}
@@ -232,7 +233,7 @@ ends_there w s e is l = subst (λ (t : State). Happen w (world_of t)) is l
 -- ---- a move behind which the run goes on
 
 calls_value_lead : (i : Image) (x : Value) (xs : List Value) (c : Calls) (w : World) (next : Next) (d : Calls) (v : World) → CallsValue i x xs c w next d v → Adds w v
-calls_value_lead i (FunctionAt key) xs c w next d v p = writes_lead w v p.writes
+calls_value_lead i (FunctionAt key) xs c w next d v p = writes_lead w v (all_write 0 xs w v p.stores)
 calls_value_lead i (Number n) xs c w next d v p = absurd p
 calls_value_lead i (Pointer o n) xs c w next d v p = absurd p
 
