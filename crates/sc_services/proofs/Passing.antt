@@ -1,5 +1,5 @@
 -- Arguments that go to the stack one after another.
-use Rattle.std.proofs.Common.{◌≡◌, ◌+◌, ◌-◌, ◌*◌, ◌<◌, ◌≤◌, ℕ, Bool, true, false, List, [], ◌∷◌, length, drop, get_or, IfOk, Option, Some, None, Result, Ok, Err, refl, ap, sym, subst, ◌∙◌, arith}
+use Rattle.std.proofs.Common.{◌≡◌, ◌+◌, ◌-◌, ◌*◌, ◌<◌, ◌≤◌, ℕ, Bool, true, false, List, [], ◌∷◌, length, drop, get_or, Option, Some, None, refl, ap, sym, subst, ◌∙◌, arith}
 use Rattle.std.specs.Prelude.{IsSome, nat_lt}
 use Rattle.std.proofs.lemmas.Bool.{le-ltb, lt-ltb}
 use Rattle.std.proofs.lemmas.List.{drop_more}
@@ -16,9 +16,8 @@ use Rattle.sc_services.proofs.Writing.{kept, one_more, stores_write}
 pub in_register : (k : ℕ) (v : Value) (old new : World) → k < 8 → new ≡ old → StoresOne k v old new
 in_register k v old new few is = subst (λ (b : Bool). StoresIf b k v old new) (sym (lt-ltb k 8 few)) is
 
-pub on_stack : {A E : Type 0} (result : Result A E) (k : ℕ) (v : Value) (x : Word) (old new : World) → 8 ≤ k → IsWordOf old v x → IfOk result (λ _. StoresAt (stack_top old + 4 * (k - 8)) 4 x old new) → IfOk result (λ _. StoresOne k v old new)
-on_stack (Ok a) k v x old new many is stored = subst (λ (b : Bool). StoresIf b k v old new) (sym (le-ltb k 8 many)) (x, is, stored)
-on_stack (Err e) k v x old new many is stored = stored
+pub on_stack : (k : ℕ) (v : Value) (x : Word) (old new : World) → IsWordOf old v x → (8 ≤ k) × StoresAt (stack_top old + 4 * (k - 8)) 4 x old new → StoresOne k v old new
+on_stack k v x old new is (many, stored) = subst (λ (b : Bool). StoresIf b k v old new) (sym (le-ltb k 8 many)) (x, is, stored)
 
 -- what is stored for an argument is written
 if_writes : (b : Bool) (k : ℕ) (v : Value) (old new : World) → StoresIf b k v old new → Writes old new

@@ -138,7 +138,8 @@ fn put_argument(k: u32, v: &Value, regs: &mut Regs, world: &mut World) -> Result
         regs.set(FIRST + k as u8, word);
         return Ok(());
     }
-    put_beyond(k, word, world)
+    put_beyond(k, word, world)?;
+    Ok(())
 }
 
 /// The arguments of a call that goes to compiled code are put where it finds them.
