@@ -128,7 +128,7 @@ fn put_beyond(k: u32, word: Word, world: &mut World) -> Result<(), NoMemory>
 }
 
 // Argument k goes to its register, or to its place on the stack.
-#[tactic(auto, using(crate::proofs::Passing::in_register, crate::proofs::Passing::on_stack))]
+#[tactic(auto, using(crate::proofs::Passing::in_register))]
 fn put_argument(k: u32, v: &Value, regs: &mut Regs, world: &mut World) -> Result<(), NoMemory>
     ensures puts { IfOk result (λ _. spec.PutsOne world.old k v.now regs.old regs.new) }
     ensures stores { IfOk result (λ _. StoresOne k v.now world.old world.new) }
