@@ -22,7 +22,7 @@ use Rattle.sc_services.specs.declared.entering.Entered.{Entered}
 use Rattle.sc_services.specs.declared.entering.Entered.TheVariants as entered
 use Rattle.sc_services.specs.declared.leaving.Left.{Left}
 use Rattle.sc_services.specs.declared.leaving.Left.TheVariants as left
-use Rattle.sc_world.specs.Goes.{main_next}
+use Rattle.sc_world.specs.Goes.{entry_next}
 use Rattle.sc_world.specs.Standing.{state_of}
 use Rattle.sc_world.specs.Wants.{Want, halt_if}
 use Rattle.sc_world.specs.declared.halt.Halt.{Halt}
@@ -139,7 +139,7 @@ abbrev pub else_rests : Option ℕ → ℕ → ℕ → Option Halt
 else_rests (Some status) turns took = Some Ended
 else_rests None turns took = halt_if (nat_le turns took) (Paused took)
 
--- the answer of `main` ends the run, or no memory was left
+-- the answer of the entry ends the run, or no memory was left
 abbrev pub ComesBackSo : ℕ → World → MixedEnd → World → Type 0
 ComesBackSo status w end v = ((end ≡ mixed.Meant (ended.Exit status)) × (v ≡ pass ComesBack w)) ⊎ (end ≡ mixed.Meant ended.NoRoom)
 
@@ -147,17 +147,17 @@ abbrev pub ClosesSo : Option ℕ → Next → World → Course → World → Typ
 ClosesSo None next w course v = (course ≡ On next shows.Nothing) × (v ≡ w)
 ClosesSo (Some status) next w course v = (end : MixedEnd) × (course ≡ Over end) × ComesBackSo status w end v
 
--- a compiled `main` is called
-abbrev pub MainInCode : Image → Key → Calls → World → Result (Next × Shown) Break → Calls → World → Type 0
-MainInCode i key c w (Ok first) d v = Calling i key [] c (pass GoesOut w) first.0 d v × (first.1 ≡ shows.Nothing)
-MainInCode i key c w (Err broken) d v = broken ≡ Meant stop.NoRoom
+-- a compiled entry is called
+abbrev pub EntryInCode : Image → Key → Calls → World → Result (Next × Shown) Break → Calls → World → Type 0
+EntryInCode i key c w (Ok first) d v = Calling i key [] c (pass GoesOut w) first.0 d v × (first.1 ≡ shows.Nothing)
+EntryInCode i key c w (Err broken) d v = broken ≡ Meant stop.NoRoom
 
 -- an interpreted one
-abbrev pub MainInSource : List Text → Calls → World → Result (Next × Shown) Break → World → Type 0
-MainInSource texts c w (Ok first) v = (g : Going) × (first.0 ≡ Steps g) × (main_next texts c.callers w ≡ state_of g c.callers v) × (first.1 ≡ entry_shown (main_next texts c.callers w))
-MainInSource texts c w (Err (Meant stopped)) v = (e : Ending) → ending_of stopped v ≡ Some e → main_next texts c.callers w ≡ Ends e
-MainInSource texts c w (Err (Crashed pc cause)) v = ⊥
+abbrev pub EntryInSource : List Text → Key → Calls → World → Result (Next × Shown) Break → World → Type 0
+EntryInSource texts key c w (Ok first) v = (g : Going) × (first.0 ≡ Steps g) × (entry_next texts key c.callers w ≡ state_of g c.callers v) × (first.1 ≡ entry_shown (entry_next texts key c.callers w))
+EntryInSource texts key c w (Err (Meant stopped)) v = (e : Ending) → ending_of stopped v ≡ Some e → entry_next texts key c.callers w ≡ Ends e
+EntryInSource texts key c w (Err (Crashed pc cause)) v = ⊥
 
-abbrev pub MainCalled : Bool → List Text → Image → Key → Calls → World → Result (Next × Shown) Break → Calls → World → Type 0
-MainCalled true texts i key c w result d v = MainInCode i key c w result d v
-MainCalled false texts i key c w result d v = MainInSource texts c w result v × (d ≡ c)
+abbrev pub EntryCalled : Bool → List Text → Image → Key → Calls → World → Result (Next × Shown) Break → Calls → World → Type 0
+EntryCalled true texts i key c w result d v = EntryInCode i key c w result d v
+EntryCalled false texts i key c w result d v = EntryInSource texts key c w result v × (d ≡ c)

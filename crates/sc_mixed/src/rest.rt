@@ -76,7 +76,7 @@ pub fn rests(
     }
 }
 
-// The answer of `main` ends the run with its status.
+// The answer of the entry ends the run with its status.
 fn come_back(status: u32, world: &mut World) -> MixedEnd
     ensures { parts.ComesBackSo status world.old result world.new }
 {
@@ -86,7 +86,7 @@ fn come_back(status: u32, world: &mut World) -> MixedEnd
     }
 }
 
-/// A run comes to rest: what was shown is looked at once; where `main` came back it is over.
+/// A run comes to rest: what was shown is looked at once; where the entry came back it is over.
 pub fn closed(next: Next, calls: &Calls, world: &mut World) -> Course
     ensures { parts.ClosesSo (spec.status_at next calls.now) next world.old result world.new }
 {

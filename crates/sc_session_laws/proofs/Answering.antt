@@ -7,7 +7,7 @@ use Rattle.sc_base.specs.declared.memory.Form.{Form}
 use Rattle.sc_core_formed.specs.Modules.{formed}
 use Rattle.sc_meaning.specs.Versions.{Text}
 use Rattle.sc_meaning.specs.World.{World}
-use Rattle.sc_meaning.specs.Behaviour.{Start}
+use Rattle.sc_meaning.specs.Behaviour.{Start, main_key}
 use Rattle.sc_meaning.specs.Laws.{with_history}
 use Rattle.sc_isa_image.specs.declared.image.Image.{Image}
 use Rattle.sc_interp.specs.Ends.{start_of}
@@ -56,7 +56,7 @@ use Rattle.sc_session.specs.Transcript.{Moment, moment, empty, Loads, Edits, Swa
 use Rattle.sc_session_laws.specs.Courses.{Begins, ChangesSo, ChangeTells, Course, Stays, Stands, StandsIn, StandsSo, changed_by, changed_course, RunsSoBy, WalksSoBy, RunTells, WalkTells, Tells, IsTold}
 use Rattle.sc_session_laws.specs.Follows.{behind_changes, course_of, Follows, FollowsIn, FollowsOn, FollowsThere, Keeps}
 use Rattle.sc_session_laws.proofs.Going.{begins, went}
-use Rattle.sc_session_laws.proofs.Starting.{starts_fresh}
+use Rattle.sc_session_laws.proofs.Starting.{no_library, starts_fresh}
 use Rattle.sc_session_laws.proofs.Working.{change_earned, starts_earned}
 
 -- ---- the modules stay checked
@@ -410,19 +410,19 @@ module _ (old : Moment) (run : Option Course) (k : Keeps old.session run) where
 -- ---- the start of a run
 
 starts : (session : Plain) (bytes front text : List ℕ) (new : Plain) → session.come ≡ length session.past → AreFormed (texts session.modules) → going.Begins session bytes front text new
-    → (c : Course) × Begins (start_of (texts session.modules) session.limits.stack session.limits.heap bytes) c
+    → (c : Course) × Begins (start_of (texts session.modules) main_key session.limits.stack session.limits.heap bytes) c
     × ((after : Option Course) × IsTold (places session.stops) walk.Cont session.limits.turns c front text after × Keeps new after)
 starts session bytes front text new none formed (of, (s, w, e)) =
     let modules : List Text = texts session.modules in
     let stack : ℕ = session.limits.stack in
     let heap : ℕ = session.limits.heap in
-    let start : Start = start_of modules stack heap bytes in
-    let first : Standing = started modules stack heap bytes in
+    let start : Start = start_of modules main_key stack heap bytes in
+    let first : Standing = started modules main_key stack heap bytes in
     let lean = formed_lean modules formed in
-    let went_on = went start (alone modules) modules (places session.stops) walk.Cont session.limits.turns formed first first [] (begins_through modules stack heap bytes) (still_here first) (starts_fresh modules stack heap bytes).0
-    (starts_lean modules stack heap bytes lean) (starts_earned modules stack heap bytes lean) front text s w in (
+    let went_on = went start (alone modules) modules (places session.stops) walk.Cont session.limits.turns formed first first [] (begins_through modules main_key stack heap bytes) (still_here first) (starts_fresh modules main_key stack heap bytes (no_library modules)).0
+    (starts_lean modules main_key stack heap bytes lean) (starts_earned modules main_key stack heap bytes lean) front text s w in (
       course_of (with_history start (alone modules)) first [],
-      begins modules stack heap bytes,
+      begins modules main_key stack heap bytes (no_library modules),
       (went_on.0, went_on.1, moved (in_state s session) new went_on.0 e (formed, follows_here session.past session.come session.modules s went_on.0 none went_on.2)),
     )
 
