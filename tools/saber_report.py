@@ -5,7 +5,7 @@ from functools import cached_property
 
 from saber_follow import Scene, follow
 from saber_lines import functions_in
-from saber_search import START, Halt, Leg, Lost, Search, halt_of, violation_of
+from saber_search import START, Leg, Lost, Search, Step, halt_of, violation_of
 from saber_session import FAULTS, Trouble
 from saber_source import names_in
 
@@ -29,6 +29,9 @@ RULES = {
     "U17": "no module defines what is used",
     "U18": "source and target overlap",
 }
+STATIC = "an object of static storage duration or a string literal"
+# an interpreted call as `where` shows it: its function's name, and the module
+CALL = re.compile(r"(?:\w+:)?(\w+) at (\w+):")
 MOST_STEPS = 60_000
 # lines of `where` that a search by steps reads
 MOST_CALLS = 2_000_000
@@ -41,13 +44,6 @@ class Birth:
     calls: tuple = ()
     left: str = ""
     name: str = ""
-
-
-@dataclass(frozen=True)
-class Step:
-    """A halt of a run, and the calls there."""
-    halt: Halt
-    calls: tuple
 
 
 class Explanation:
@@ -70,7 +66,9 @@ class Explanation:
     def _followed(self):
         """What one replay shows of a violation, or nothing."""
         seen = self.violation
-        return follow(self.setup, seen, self._names) if seen and (seen.line or seen.numbers) else None
+        if not seen or not (seen.line or seen.numbers):
+            return None
+        return follow(self.setup, seen, self._names, self.search.functions)
 
     @cached_property
     def _names(self):
@@ -112,12 +110,32 @@ class Explanation:
 
     def birth(self, number, is_no_block, is_dead):
         """Where an object that is no heap block was born, and for a dead one when its call was left."""
+        entries = self._followed and self._followed.entries.get(number)
+        found = entries and self._birth_by_entry(number, *entries)
+        return found if found and not is_dead else self._birth_by_steps(number, is_no_block, is_dead)
+
+    def _birth_by_entry(self, number, before, after):
+        """The birth of an object that was born as the run began or as a function was entered, by entries around it; else nothing."""
+        if not before:
+            return Birth(STATIC) if after.halt.text == "entered main" else None
+        for step, is_parameter in ((after, True), (before, False)):
+            found = CALL.match(step.calls[0])
+            function = found and self._function(found[2], found[1])
+            names = (function.parameters if is_parameter else function.objects) if function else ()
+            at = number - step.halt.births - 1 + (len(names) if is_parameter else 0)
+            if 0 <= at < len(names):
+                key = step.calls[0].split()[0]
+                return Birth(f"a parameter of {key}" if is_parameter else f"an object of {key}'s outermost block", step.calls, "", names[at])
+        return None
+
+    def _birth_by_steps(self, number, is_no_block, is_dead):
+        """The same by a search of its own, from the last entry before the birth on."""
         stops = tuple(f"in {it}" for it in self.search.functions)
         track = self.search.approach(stops, lambda halt: halt.births >= number)
         if track.halts[-1].births < number:
             raise Lost("the object was not born again")
         if track.halts[-2] is START:
-            return Birth("an object of static storage duration or a string literal")
+            return Birth(STATIC)
         legs = track.legs_to(len(track.halts) - 2)
         before, after, count = self._steps(legs, stops, number, track.halts[-2])
         inner = after.calls
@@ -127,17 +145,23 @@ class Explanation:
         name = self._name(kind, number, before.halt, after.halt, inner[0])
         return Birth(kind, inner if is_deeper else before.calls, left, name)
 
+    def _function(self, module, name):
+        """What the text of a module tells of a function, if it can be read."""
+        try:
+            return next((it for it in functions_in(self.setup.view.folder, module) if it.name == name), None)
+        except Trouble:
+            return None
+
     def _name(self, kind, number, before, after, call):
         """The name of a parameter or an object of a function's outermost block; empty where it is not known.
 
         They are born in the order of the text: the parameters as the function is entered, the objects behind that.
         """
-        found = re.match(r"(?:\w+:)?(\w+) at (\w+):", call)
+        found = CALL.match(call)
         if not found or not kind.startswith(("a parameter of ", "an object of ")):
             return ""
-        try:
-            function = next(it for it in functions_in(self.setup.view.folder, found[2]) if it.name == found[1])
-        except (Trouble, StopIteration):
+        function = self._function(found[2], found[1])
+        if not function:
             return ""
         is_parameter = kind.startswith("a parameter of ")
         names = function.parameters if is_parameter else function.objects
