@@ -32,7 +32,7 @@ class Followed:
     """What a replay showed. `blocks` are heap blocks, by the number of the object.
 
     `entries` are the last entry of a function before the birth of an object and the first one behind it, as Steps, of those
-    that were waited for; the former is nothing for what is born as the run begins. There is no scene, and `passes`, the count
+    that were waited for; the former is nothing for what is born as the run begins, and the latter where none came. There is no scene, and `passes`, the count
     of passes of the line at which it stands, is 0, where the line was reached too often, or where its function was active
     more than once, so that the last pass may be that of an inner call.
     """
@@ -69,8 +69,8 @@ class Follower:
         self._line = f"at {violation.module}:{violation.line + ADDED_LINES}" if violation.line else None
         self._wanted = {f"object {it + ADDED_OBJECTS} + 0": it for it in violation.numbers}
         self._stops_in = {f"in {it}": it for it in functions} if violation.numbers else {}
-        self._passes, self._calls, self._entered = 0, 0, Counter()
-        self._last, self._seen = None, Followed()
+        self._passes = self._calls = self._calls_of_entries = 0
+        self._entered, self._last, self._seen = Counter(), None, Followed()
 
     def followed(self, setup, names):
         """What the replay of a setup over the copy shows, or nothing."""
@@ -83,13 +83,19 @@ class Follower:
                     way.set_stops(stops)
                 for answer, told in way.go(BATCH, asked):
                     if answer.text.startswith(OVER):
-                        return self._seen if is_same(self._violation, violation_of(answer.text)) else None
+                        return self._whole() if is_same(self._violation, violation_of(answer.text)) else None
                     self._halted(answer, *told)
         return None
 
+    def _whole(self):
+        """What was seen up to the end of the run."""
+        for number in self._violation.numbers:
+            self._seen.entries.setdefault(number, (self._last, None))
+        return self._seen
+
     def _stops(self):
         """Where the replay is to halt from now on."""
-        is_few = sum(self._entered.values()) <= MOST_ENTRIES
+        is_few = self._entered.total() <= MOST_ENTRIES and self._calls_of_entries <= MOST_CALLS
         rare = (stop for stop, key in self._stops_in.items() if is_few and self._entered[key] <= MOST_OF_ONE)
         return (*EVENTS, *rare, *((self._line,) if self._line and not self._is_hot() else ()))
 
@@ -99,7 +105,7 @@ class Follower:
     def _halted(self, answer, report, heap, where, *values):
         """Takes what was told at one halt."""
         calls = tuple(as_in_original(it) for it in where.lines)
-        if answer.text.startswith("entered saber_"):
+        if answer.text.replace("entered ", "in ") in EVENTS:
             self._event(answer.text[8:], members(heap), calls[1:])
         elif answer.text.startswith("entered "):
             halt = halt_of(answer, report)
@@ -110,6 +116,7 @@ class Follower:
     def _entry(self, key, step):
         """A function was entered."""
         self._entered[key] += 1
+        self._calls_of_entries += len(step.calls)
         for number in self._violation.numbers:
             if step.halt.births >= number:
                 self._seen.entries.setdefault(number, (self._last, step))

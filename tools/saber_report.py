@@ -117,15 +117,18 @@ class Explanation:
     def _birth_by_entry(self, number, before, after):
         """The birth of an object that was born as the run began or as a function was entered, by entries around it; else nothing."""
         if not before:
-            return Birth(STATIC) if after.halt.text == "entered main" else None
+            return Birth(STATIC) if after and after.halt.text == "entered main" else None
         for step, is_parameter in ((after, True), (before, False)):
-            found = CALL.match(step.calls[0])
+            found = step and CALL.match(step.calls[0])
             function = found and self._function(found[2], found[1])
-            names = (function.parameters if is_parameter else function.objects) if function else ()
+            if not function:
+                continue
+            names = function.parameters if is_parameter else function.objects
             at = number - step.halt.births - 1 + (len(names) if is_parameter else 0)
             if 0 <= at < len(names):
                 key = step.calls[0].split()[0]
-                return Birth(f"a parameter of {key}" if is_parameter else f"an object of {key}'s outermost block", step.calls, "", names[at])
+                kind = f"a parameter of {key}" if is_parameter else f"an object of {key}'s outermost block"
+                return Birth(kind, step.calls, "", names[at])
         return None
 
     def _birth_by_steps(self, number, is_no_block, is_dead):
