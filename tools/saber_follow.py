@@ -75,7 +75,8 @@ class Follower:
     def followed(self, setup, names):
         """What the replay of a setup over the copy shows, or nothing."""
         asked = ("report 1", "print saber_heap", "where", *(f"print {it}" for it in names))
-        way, stops = Way(setup, True), ()
+        # births are counted for the report's objects alone, since a probe makes a run dearer
+        way, stops = Way(setup, bool(self._violation.numbers)), ()
         with way.session:
             while way.session.lines < MOST_LINES - 4 * BATCH * len(asked):
                 if stops != self._stops():
