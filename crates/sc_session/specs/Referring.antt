@@ -1,7 +1,6 @@
 -- Yardstick: to be compared with what it restates (docs/TRUST.md).
 -- What `xref` and `whatis` show: where the present modules have a name, and of which types it is.
-use Rattle.std.specs.Prelude.{◌≡◌, ℕ, ◌++◌, Bool, true, false, if◌then◌else◌, List, [], ◌∷◌, Result, Ok, Err}
-use Rattle.sc_base.specs.declared.NoMemory.{NoMemory}
+use Rattle.std.specs.Prelude.{◌≡◌, ℕ, ◌++◌, Bool, true, false, if◌then◌else◌, List, [], ◌∷◌}
 use Rattle.sc_session_show.specs.References.{found_in, is_declared_in, places_text, type_line}
 use Rattle.sc_session_show.specs.declared.references.Found.{Found}
 use Rattle.sc_words.specs.declared.answer.Answer.{Answer}
@@ -45,10 +44,3 @@ Describes session name (answer.Shown lines) = (is_declared name session.modules 
 Describes session name (answer.Refused d) = (is_declared name session.modules ≡ false) × (d ≡ denied.NotDeclared name)
 Describes session name answer.NoMemory = Unit {0}
 Describes session name _ = ⊥
-
--- ---- what the code finds
-
--- lines are shown, where memory lasted for them
-abbrev pub shown : Result (List ℕ) NoMemory → Answer
-shown (Ok lines) = answer.Shown lines
-shown (Err e) = answer.NoMemory

@@ -67,24 +67,15 @@ fn types_shown(alloc: Global, name: &Name, modules: &[Present]) -> Result<Bytes,
 
 // ---- the answers
 
-// Lines are shown, where memory lasted for them.
-fn shown(lines: Result<Bytes, NoMemory>) -> Answer
-    ensures { result ≡ spec.shown lines }
-{
-    match lines {
-        Ok(lines) => Answer::Shown(lines),
-        Err(_) => Answer::NoMemory,
-    }
-}
-
 impl Session {
     /// The answer to `xref`.
     pub(crate) fn xref(&self, alloc: Global, name: Name) -> Answer
         ensures { spec.Locates self.now name result }
     {
-        let lines = places_shown(alloc, &name, self.modules.as_slice());
-        drop(name);
-        shown(lines)
+        match places_shown(alloc, &name, self.modules.as_slice()) {
+            Ok(lines) => Answer::Shown(lines),
+            Err(_) => Answer::NoMemory,
+        }
     }
 
     /// The answer to `whatis`.
@@ -94,8 +85,9 @@ impl Session {
         if !is_declared(&name, self.modules.as_slice()) {
             return Answer::Refused(Denied::NotDeclared(name));
         }
-        let lines = types_shown(alloc, &name, self.modules.as_slice());
-        drop(name);
-        shown(lines)
+        match types_shown(alloc, &name, self.modules.as_slice()) {
+            Ok(lines) => Answer::Shown(lines),
+            Err(_) => Answer::NoMemory,
+        }
     }
 }

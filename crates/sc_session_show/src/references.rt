@@ -1,7 +1,6 @@
 // Where modules have a name, and of which types it is.
-ghost use Rattle.std.specs.Prelude.{◌≡◌, ◌++◌, IfOk, MatchOption, OnOk, None, Some, decimal, codes};
+ghost use Rattle.std.specs.Prelude.{◌≡◌, ◌++◌, IfOk, MatchOption, OnOk, None, Some};
 ghost use Rattle.sc_session_show.specs.References as spec;
-ghost use Rattle.sc_session_show.specs.Lines.{answer_line};
 
 use crate::frames::put_line;
 use crate::names::linked_if;
