@@ -1,21 +1,21 @@
 -- Yardstick: to be compared with what it restates (docs/TRUST.md).
 -- The places of the names of a file in a unit: its declarators at file scope, those that are `extern` in a block, and its primary names where
 -- no parameter and no declaration of a block hides them. They stand in the order of the text; of a declarator the name comes first.
-use Rattle.std.specs.Prelude.{ℕ, ◌++◌, Bool, true, false, ◌&&◌, if◌then◌else◌, List, [], ◌∷◌, length, take, map, Option, Some, None}
+use Rattle.std.specs.Prelude.{ℕ, ◌++◌, Bool, true, false, if◌then◌else◌, List, [], ◌∷◌, length, take, map, Option, Some, None}
 use Rattle.std.specs.List.{list_any}
 use Rattle.std.specs.Str.{bytes_eq}
 use Rattle.sc_tree.specs.declared.declaration.Declaration.{Declaration}
 use Rattle.sc_tree.specs.declared.declaration.InitDeclarator.{InitDeclarator}
 use Rattle.sc_tree.specs.declared.declaration.Initializer.{Initializer, fold-Initializer}
 use Rattle.sc_tree.specs.declared.declaration.Initializer.TheOpen.{Initializer-F}
-use Rattle.sc_tree.specs.declared.expression.Declarator.{Declarator, fold-Declarator, out-Declarator}
+use Rattle.sc_tree.specs.declared.expression.Declarator.{Declarator, fold-Declarator}
 use Rattle.sc_tree.specs.declared.expression.Derivation.{Derivation, fold-Derivation, out-Derivation}
 use Rattle.sc_tree.specs.declared.expression.Derivation.TheOpen.{Derivation-F, Expr-F, TypeWord-F, Declarator-F, Member-F, Parameter-F, TypeName-F}
 use Rattle.sc_tree.specs.declared.expression.Enumerator.{Enumerator}
-use Rattle.sc_tree.specs.declared.expression.Expr.{Expr, fold-Expr, out-Expr}
+use Rattle.sc_tree.specs.declared.expression.Expr.{Expr, fold-Expr}
 use Rattle.sc_tree.specs.declared.expression.Identifier.{Identifier}
 use Rattle.sc_tree.specs.declared.expression.Member.{Member, fold-Member}
-use Rattle.sc_tree.specs.declared.expression.Parameter.{Parameter, fold-Parameter, out-Parameter}
+use Rattle.sc_tree.specs.declared.expression.Parameter.{Parameter, fold-Parameter}
 use Rattle.sc_tree.specs.declared.expression.Specifiers.{Specifiers}
 use Rattle.sc_tree.specs.declared.expression.Storage.{Storage}
 use Rattle.sc_tree.specs.declared.expression.Storage.TheVariants as storage
