@@ -215,6 +215,7 @@ fn linked_as<'a>(
     }
 }
 
+/// What the module declares with linkage under a name, where a scope has it for such.
 pub(crate) fn linked_if<'a>(
     core: &'a Core,
     name: &Name,
