@@ -4,7 +4,7 @@ ghost use Rattle.sc_xref.specs.Walks as spec;
 
 use crate::expressions::{walk_declarator, walk_expr, walk_words};
 use crate::walk::{PlaceKind, Walk};
-use sc_base::{Duplicate, Items, Name, NoMemory};
+use sc_base::{Name, NoMemory};
 use sc_tree::{
     Declaration, Derivation, Identifier, InitDeclarator, Initializer, Specifiers, Storage, TypeWord,
 };

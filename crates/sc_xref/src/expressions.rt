@@ -5,10 +5,7 @@ ghost use Rattle.sc_xref.specs.Walks as spec;
 
 use crate::walk::{PlaceKind, Walk};
 use sc_base::{NoMemory, Shared};
-use sc_tree::{
-    Declarator, Derivation, Enumerator, Expr, Identifier, Member, Parameter, Specifiers, TypeName,
-    TypeWord,
-};
+use sc_tree::{Declarator, Derivation, Enumerator, Expr, Member, Parameter, TypeName, TypeWord};
 use std::alloc::Global;
 
 /// An expression.
