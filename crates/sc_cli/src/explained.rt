@@ -22,6 +22,7 @@ Refusals, as `> refused C8 m.c`. A refused command leaves the session as it was.
   C18   there is no such stop
   C19   the file has more than 8388608 bytes
   C21   no module that runs as its object defines the function
+  C22   no module declares the name at file scope
 `> no memory` may answer any command.
 
 Kinds of refused texts, as `> refused C5 X6 m.c:3`. docs/LANGUAGE.md has the rules.

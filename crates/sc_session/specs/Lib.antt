@@ -14,5 +14,6 @@ pub mod Placing
 pub mod Swapping
 pub mod Mixing
 pub mod Disassembling
+pub mod Referring
 pub mod Probing
 pub mod Transcript

@@ -38,6 +38,7 @@ use Rattle.sc_session.specs.States.{refusal_of}
 use Rattle.sc_session.specs.Loading.{file_of, file_or, conflict, numbers_with, with_module, in_place, without}
 use Rattle.sc_session.specs.Stopping.{Sets, without_stop}
 use Rattle.sc_session.specs.Disassembling.{Disassembles}
+use Rattle.sc_session.specs.Referring.{Describes, Locates}
 use Rattle.sc_session.specs.Probing.{Drops, Reports, ShowsMachine}
 use Rattle.sc_session.specs.Showing.{Lists}
 use Rattle.sc_session.specs.Compiling.{Compiles, object_file}
@@ -313,6 +314,8 @@ Does old command.Frames said new = ShowsCallsBy (is_mixed old.session.state) old
 Does old (command.Print name) said new = ShowsValueBy (is_mixed old.session.state) old.session name said × (new ≡ old)
 Does old command.Machine said new = ShowsMachine said × (new ≡ old)
 Does old (command.Disas home fun) said new = Disassembles old.session home fun said × (new ≡ old)
+Does old (command.Xref name) said new = Locates old.session name said × (new ≡ old)
+Does old (command.Whatis name) said new = Describes old.session name said × (new ≡ old)
 Does old command.List said new = Lists old.session said × (new ≡ old)
 Does old (command.Report k) said new = Reports k said × (new ≡ old)
 Does old (command.Drop k) said new = Drops k old.session said new.session × SameFiles old new

@@ -29,6 +29,10 @@ pub enum Deed {
     Machine,
     /// The instructions of a compiled function are shown.
     Disas(Option<Name>, Name),
+    /// The places of a name are shown.
+    Xref(Name),
+    /// The types of a name are shown.
+    Whatis(Name),
     List,
     /// The text of a probe is shown.
     Report(u32),
@@ -69,6 +73,8 @@ pub fn ask_for(command: Command) -> Asked
         Command::Print(name) => Asked::Do(Deed::Print(name)),
         Command::Machine => Asked::Do(Deed::Machine),
         Command::Disas(home, fun) => Asked::Do(Deed::Disas(home, fun)),
+        Command::Xref(name) => Asked::Do(Deed::Xref(name)),
+        Command::Whatis(name) => Asked::Do(Deed::Whatis(name)),
         Command::List => Asked::Do(Deed::List),
         Command::Report(k) => Asked::Do(Deed::Report(k)),
         Command::Drop(k) => Asked::Do(Deed::Drop(k)),

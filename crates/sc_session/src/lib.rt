@@ -15,6 +15,7 @@ mod listing;
 mod mixing;
 mod placing;
 mod present;
+mod referring;
 mod refusal;
 mod relinking;
 mod running;

@@ -126,9 +126,11 @@ fn translated(alloc: Global, number: u32, name: &[u8], text: &str) -> Result<Par
     let Built {
         core,
         scopes,
+        places,
         object,
     } = built;
     drop(scopes);
+    drop(places);
     Ok(Part {
         number,
         core: Module::new(alloc, core)?,
