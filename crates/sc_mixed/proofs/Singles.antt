@@ -208,8 +208,8 @@ interpreted_there : (want : Want) (m last : Standing) → halts_in want m.calls 
 interpreted_there want m last none p q at =
     let free = free_there (halts_in want m.calls m.world m.course) none in
     interpreted_in want m.image m.calls m.world m.course last none
-        (one_false (is_free want m.calls m.world m.course) (between_in m.course m.calls m.world) free p)
-        (one_false (is_free want m.calls m.world m.course) (instruction_in m.course m.calls) free q) at
+    (one_false (is_free want m.calls m.world m.course) (between_in m.course m.calls m.world) free p)
+    (one_false (is_free want m.calls m.world m.course) (instruction_in m.course m.calls) free q) at
 
 module _ (texts : List Text) (want : Want) (base : Standing) where
   settling_counts : (count : ℕ) (first m : Standing) → Counts texts base count first → Settling texts want first m → Counts texts base count m

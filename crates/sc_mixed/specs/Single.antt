@@ -44,6 +44,10 @@ abbrev pub between_in : Course → Calls → World → Bool
 between_in (On next now) c w = between_next next c w
 between_in (Over end) c w = false
 
+-- where an instruction is next, the machine's pc is its address
+abbrev pub IsPcOf : Standing → ℕ → Type 0
+IsPcOf m pc = instruction_in m.course m.calls ≡ true → pc ≡ m.calls.regs.pc
+
 -- nothing halts the run here
 abbrev pub is_free : Want → Calls → World → Course → Bool
 is_free want c w course = not (is_some (halts_in want c w course))

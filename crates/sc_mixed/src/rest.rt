@@ -50,13 +50,7 @@ fn status_at(next: &Next, calls: &Calls) -> Option<u32>
 
 /// What halts the run where it stands, if anything does: what it shows, or that it is over.
 #[tactic(auto, using(crate::proofs::Resting::event_halts, crate::proofs::Resting::end_halts))]
-pub fn halts(
-    want: &Want,
-    next: &Next,
-    shown: Shown,
-    calls: &Calls,
-    world: &World,
-) -> Option<Halt>
+pub fn halts(want: &Want, next: &Next, shown: Shown, calls: &Calls, world: &World) -> Option<Halt>
     ensures { result ≡ goes.halts_in want.now calls.now world.now (On next.now shown) }
 {
     match wanted(want, shown, world) {

@@ -1,5 +1,5 @@
 // One instruction of compiled code.
-ghost use Rattle.std.specs.Prelude.{◌≡◌, ◌⊎◌, true};
+ghost use Rattle.std.specs.Prelude.{◌≡◌, ◌⊎◌, MatchOption, false, true};
 ghost use Rattle.sc_mixed.specs.Adding.{Adds};
 ghost use Rattle.sc_mixed.specs.Parts as parts;
 ghost use Rattle.sc_mixed.specs.Standing as spec;
@@ -235,7 +235,44 @@ fn steps_from(
     }
 }
 
+// The address of the instruction that is next, if one is.
+fn pc_next(next: &Next, calls: &Calls) -> Option<u32>
+    ensures { MatchOption result (single.instruction_next next.now calls.now ≡ false) (λ pc. pc ≡ calls.now.regs.pc) }
+{
+    if instruction_next(next, calls) {
+        Some(calls.regs.pc())
+    } else {
+        None
+    }
+}
+
+fn pc_in(course: &Course, calls: &Calls) -> Option<u32>
+    ensures { MatchOption result (single.instruction_in course.now calls.now ≡ false) (λ pc. pc ≡ calls.now.regs.pc) }
+{
+    match course {
+        Course::On(next, _) => pc_next(next, calls),
+        Course::Over(_) => None,
+    }
+}
+
 impl MixedRun {
+    /// Whether the innermost active call runs as compiled code.
+    pub fn in_object(&self) -> bool
+        ensures { result ≡ single.in_object self.now.world.frames }
+    {
+        in_object(&self.world)
+    }
+
+    /// The address of the instruction that is next; or where none is, that of the one behind the last, as `machine` has it.
+    pub fn pc(&self) -> u32
+        ensures { single.IsPcOf self.now result }
+    {
+        match pc_in(&self.course, &self.calls) {
+            Some(pc) => pc,
+            None => self.machine().pc,
+        }
+    }
+
     /// The run goes on by one instruction of compiled code: first by what a pause left pending, a service, a call of the library or a crossing
     /// between the forms; then, where these did not lead into an interpreted call, by one instruction; then by the services, calls of the
     /// library and crossings that directly follow it. It halts before that where a stop is reached, or where the run is over: `Halt`
