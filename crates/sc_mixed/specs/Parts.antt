@@ -1,6 +1,6 @@
 -- Inside: plumbing, a representation, an invariant or a promise beside the claim (docs/TRUST.md).
 -- What parts of a move come to, from which it is put together.
-use Rattle.std.specs.Prelude.{◌≡◌, ⊤, ℕ, suc, ◌+◌, ◌-◌, ◌<◌, ◌≤◌, nat_le, Bool, true, false, List, [], ◌⊎◌, Result, Ok, Err, Option, Some, None}
+use Rattle.std.specs.Prelude.{◌≡◌, ⊤, ℕ, suc, ◌+◌, ◌-◌, ◌<◌, ◌≤◌, Bool, true, false, List, [], ◌⊎◌, Result, Ok, Err, Option, Some, None}
 use Rattle.sc_base.specs.declared.key.Key.{Key}
 use Rattle.sc_emu.specs.Registers.{Registers}
 use Rattle.sc_interp.specs.Shows.{entry_shown}
@@ -24,11 +24,10 @@ use Rattle.sc_services.specs.declared.leaving.Left.{Left}
 use Rattle.sc_services.specs.declared.leaving.Left.TheVariants as left
 use Rattle.sc_world.specs.Goes.{entry_next}
 use Rattle.sc_world.specs.Standing.{state_of}
-use Rattle.sc_world.specs.Wants.{Want, halt_if}
+use Rattle.sc_world.specs.Wants.{Want}
 use Rattle.sc_world.specs.declared.halt.Halt.{Halt}
-use Rattle.sc_world.specs.declared.halt.Halt.TheVariants.{Ended, Paused}
 use Rattle.sc_mixed.specs.Bridge.{Calling, Returns, waiting, with_registers}
-use Rattle.sc_mixed.specs.Goes.{Reaches, rests_in}
+use Rattle.sc_mixed.specs.Goes.{Leads, Reaches, rests_in}
 use Rattle.sc_mixed.specs.Instructions.{Ran}
 use Rattle.sc_mixed.specs.Machine.{Executed, IsCallMoved, IsEntered, IsLeft, Moves, left_calls, quiet}
 use Rattle.sc_mixed.specs.Serving.{IsHere}
@@ -134,10 +133,10 @@ abbrev pub Comes : List Text → Image → Want → Standing → Turned → Next
 Comes texts i want first (turned.Rests halt) next c w = (took : ℕ) × (now : Shown) × Reaches texts want first took (standing_on i c w next now) × (rests_in want took c w (On next now) ≡ Some halt)
 Comes texts i want first (turned.Over broken) next c w = (took : ℕ) × Reaches texts want first took (standing_over i c w (ended_by broken))
 
--- what ends a go where nothing that was shown does
-abbrev pub else_rests : Option ℕ → ℕ → ℕ → Option Halt
-else_rests (Some status) turns took = Some Ended
-else_rests None turns took = halt_if (nat_le turns took) (Paused took)
+-- where one move from a place brings a run, or moves that lie between, or a step of one instruction: to what is next, or to its end
+abbrev pub came_to : Image → Result Shown Break → Next → Calls → World → Standing
+came_to i (Ok now) next c w = standing_on i c w next now
+came_to i (Err broken) next c w = standing_over i c w (ended_by broken)
 
 -- the answer of the entry ends the run, or no memory was left
 abbrev pub ComesBackSo : ℕ → World → MixedEnd → World → Type 0
@@ -161,3 +160,7 @@ EntryInSource texts key c w (Err (Crashed pc cause)) v = ⊥
 abbrev pub EntryCalled : Bool → List Text → Image → Key → Calls → World → Result (Next × Shown) Break → Calls → World → Type 0
 EntryCalled true texts i key c w result d v = EntryInCode i key c w result d v
 EntryCalled false texts i key c w result d v = EntryInSource texts key c w result v × (d ≡ c)
+
+-- one move leads there
+abbrev pub LeadsOnce : List Text → Image → Next → Calls → World → Result Shown Break → Next → Calls → World → Type 0
+LeadsOnce texts i next c w result after d v = (now : Shown) → (turns : ℕ) × Leads texts turns (standing_on i c w next now) (came_to i result after d v)

@@ -62,8 +62,8 @@ fn counted(
     }
 }
 
-// One move, or instructions up to where the turns are taken: what it shows.
-fn moved(
+/// One move, or instructions up to where the turns are taken: what it shows.
+pub fn moved(
     texts: &[Text],
     image: &Image,
     most: u64,

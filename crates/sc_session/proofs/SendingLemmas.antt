@@ -374,6 +374,7 @@ input_denied old (Some file) now (denied.NotVisible name) main p = absurd p
 input_denied old (Some file) now (denied.NoProbe k) main p = absurd p
 input_denied old (Some file) now (denied.NoStop k) main p = absurd p
 input_denied old (Some file) now (denied.NoText home fun) main p = absurd p
+input_denied old (Some file) now denied.NotObject main p = absurd p
 
 pub run_denied : (sink : Option (List ℕ)) (old : Moment) (file : Option (List ℕ)) (now : ℕ) (held : Option FileMap) (d : Denied) → has_main (texts old.session.modules) ≡ true → held ≡ old.held → InputDenied old.held file old.faults now d
     → RunsOut sink sink old file (Ok (answer.Refused d)) (moment old.session held now)
@@ -422,6 +423,7 @@ writes_first old (command.Run file) front p = p
 writes_first old command.Step front p = p
 writes_first old command.Next front p = p
 writes_first old command.Cont front p = p
+writes_first old command.StepOne front p = p
 writes_first old command.Nothing front p = p
 writes_first old command.Unknown front p = p
 writes_first old command.BadArguments front p = p
@@ -460,6 +462,7 @@ quiet_so old (command.Delete k) said new p = (refl, p)
 quiet_so old command.Step said new p = absurd p
 quiet_so old command.Next said new p = absurd p
 quiet_so old command.Cont said new p = absurd p
+quiet_so old command.StepOne said new p = absurd p
 quiet_so old command.Frames said new p = (refl, p)
 quiet_so old (command.Print name) said new p = (refl, p)
 quiet_so old command.Machine said new p = (refl, p)

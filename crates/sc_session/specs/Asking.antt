@@ -23,6 +23,7 @@ walk_command walk.Cont = command.Cont
 abbrev pub go_command : Go → Command
 go_command (go.Run file) = command.Run file
 go_command (go.Walk how) = walk_command how
+go_command go.One = command.StepOne
 
 -- the commands that let none go on
 abbrev pub deed_command : Deed → Command

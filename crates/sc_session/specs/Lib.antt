@@ -13,6 +13,7 @@ pub mod Linking
 pub mod Placing
 pub mod Swapping
 pub mod Mixing
+pub mod Single
 pub mod Disassembling
 pub mod Referring
 pub mod Probing

@@ -41,6 +41,7 @@ use Rattle.sc_session.specs.Disassembling.{Disassembles}
 use Rattle.sc_session.specs.Referring.{Describes, Locates}
 use Rattle.sc_session.specs.Probing.{Drops, Reports, ShowsMachine}
 use Rattle.sc_session.specs.Showing.{Lists}
+use Rattle.sc_session.specs.Single.{CarriesOne}
 use Rattle.sc_session.specs.Compiling.{Compiles, object_file}
 use Rattle.sc_session.specs.Going.{in_state, stays_in_line, has_main, IsInput, InputDenied, IsCutOff, IsGivenUp, Gains, WalkFirst, Begins, BeginFirst}
 use Rattle.sc_session.specs.Linking.{HasRoom, LacksRoom, with_form}
@@ -330,6 +331,7 @@ Carried old (command.Run file) front said new = RunsBy (are_sources (texts old.s
 Carried old command.Step front said new = WalksBy (is_mixed old.session.state) old.session walk.Step front said new.session × SameFiles old new
 Carried old command.Next front said new = WalksBy (is_mixed old.session.state) old.session walk.Next front said new.session × SameFiles old new
 Carried old command.Cont front said new = WalksBy (is_mixed old.session.state) old.session walk.Cont front said new.session × SameFiles old new
+Carried old command.StepOne front said new = (front ≡ []) × CarriesOne old.session said new.session × SameFiles old new
 Carried old c front said new = (front ≡ []) × Does old c said new
 
 -- a run that ended is forgotten as another is asked for
@@ -371,6 +373,7 @@ is_go (command.Run file) = true
 is_go command.Step = true
 is_go command.Next = true
 is_go command.Cont = true
+is_go command.StepOne = true
 is_go _ = false
 
 -- the first bytes that the program writes as a command lets it go on

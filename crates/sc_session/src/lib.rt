@@ -20,6 +20,7 @@ mod refusal;
 mod relinking;
 mod running;
 mod session;
+mod single;
 mod sources;
 mod state;
 mod stops;

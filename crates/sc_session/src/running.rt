@@ -73,7 +73,7 @@ impl Session {
 
     // A run of both forms is taken out of the session, and goes through the changes that wait for it. Where no memory is left it is over,
     // or all stays.
-    fn take_mixed(&mut self, alloc: Global) -> Option<MixedRun>
+    pub(crate) fn take_mixed(&mut self, alloc: Global) -> Option<MixedRun>
         requires { mixing.is_mixed self.old.state ≡ true }
         ensures { MatchOption result (going.IsGivenUp self.old self.new) (λ run. mixing.TakesMixed self.old run self.new) }
     {

@@ -52,6 +52,7 @@ use Rattle.sc_session.specs.Placing.{IsImageOver}
 use Rattle.sc_session.specs.Going as going
 use Rattle.sc_session.specs.Going.{in_state, IsCutOff, IsGivenUp, cut_off, RunsIn, Went}
 use Rattle.sc_session.specs.Probing.{Drops, without_probe}
+use Rattle.sc_session.specs.Single.{CarriesOne, SingleWent, single_state}
 use Rattle.sc_session.specs.Transcript.{Moment, moment, empty, Loads, Edits, Swaps, joined, replaced, unloaded, swapped, forgotten, come_going, past_going, unended, asked, Unloads, RunFirst, Runs, MixedRuns, RunsBy, Carried, Decides, AnswersTo}
 use Rattle.sc_session_laws.specs.Courses.{Begins, ChangesSo, ChangeTells, Course, Stays, Stands, StandsIn, StandsSo, changed_by, changed_course, RunsSoBy, WalksSoBy, RunTells, WalkTells, Tells, IsTold}
 use Rattle.sc_session_laws.specs.Follows.{behind_changes, course_of, Follows, FollowsIn, FollowsOn, FollowsThere, Keeps}
@@ -309,6 +310,15 @@ mixed_keeps session new how m text formed went =
     moved (in_state (mixed_state went.halts went.stands) (caught_up session)) new None went.follows
     (formed, mixed_follows session.past (length session.past) session.modules went.halts went.stands)
 
+single_follows : (past : List (List Present)) (come : ℕ) (modules : List Present) (h : Option Halt) (w : Mixed) → FollowsIn past come modules (single_state h w) None
+single_follows past come modules None w = refl
+single_follows past come modules (Some h) w = mixed_follows past come modules h w
+
+single_keeps : (session new : Plain) (m : Mixed) (text : List ℕ) → AreFormed (texts session.modules) → SingleWent session m text new → Keeps new None
+single_keeps session new m text formed went =
+    moved (in_state (single_state went.halts went.stands) (caught_up session)) new None went.follows
+    (formed, single_follows session.past (length session.past) session.modules went.halts went.stands)
+
 given_up_keeps : (session new : Plain) (run : Option Course) → Keeps session run → IsGivenUp session new → (after : Option Course) × Stays run after × Keeps new after
 given_up_keeps session new run k (inl e) = (run, same_run run, moved session new run e k)
 given_up_keeps session new run k (inr e) = (None, no_run run, moved (in_state state.Ended session) new None e (k.0, refl))
@@ -338,6 +348,12 @@ module _ (old : Moment) (run : Option Course) (k : Keeps old.session run) where
   walk_tells_by : (b : Bool) (how : Walk) (front : List ℕ) (said : Answer) (new : Plain) → WalksBy b old.session how front said new → (after : Option Course) × WalkTellsBy b how front said after × Keeps new after
   walk_tells_by false how front said new p = walk_tells how front said new p
   walk_tells_by true how front said new p = mixed_walk_tells how front said new p.1
+
+  -- a step of one instruction is one of a run of both forms
+  single_tells : (said : Answer) (new : Plain) → CarriesOne old.session said new → (after : Option Course) × Stays run after × Keeps new after
+  single_tells (answer.Ran text) new (m, stood, (n, through, went)) = (None, no_run run, single_keeps old.session new n text k.0 went)
+  single_tells answer.NoMemory new p = given_up_keeps old.session new run k p
+  single_tells _ new p = absurd p
 
   -- the same as the law has it
   walk_told : (how : Walk) (front : List ℕ) (said : Answer) (after : Option Course) → WalkTellsBy (is_mixed old.session.state) how front said after → WalkTells old run how front said after
@@ -481,6 +497,7 @@ carried old run k (command.Compile name) front said new free a (none, p) = (run,
 carried old run k command.Step front said new free a p = walks old run k walk.Step front said new.session p.0
 carried old run k command.Next front said new free a p = walks old run k walk.Next front said new.session p.0
 carried old run k command.Cont front said new free a p = walks old run k walk.Cont front said new.session p.0
+carried old run k command.StepOne front said new free a (none, p) = single_tells old run k said new.session p.0
 carried old run k command.Frames front said new free a (none, p) = same_session old run k new p.1
 carried old run k (command.Print name) front said new free a (none, p) = same_session old run k new p.1
 carried old run k command.Machine front said new free a (none, p) = same_session old run k new p.1

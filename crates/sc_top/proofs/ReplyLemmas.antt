@@ -47,6 +47,7 @@ no_go old (command.Run file) front p q = absurd (cc)
 no_go old command.Step front p q = absurd (cc)
 no_go old command.Next front p q = absurd (cc)
 no_go old command.Cont front p q = absurd (cc)
+no_go old command.StepOne front p q = absurd (cc)
 no_go old command.Nothing front p q = q
 no_go old command.Unknown front p q = q
 no_go old command.BadArguments front p q = q
