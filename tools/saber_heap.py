@@ -1,36 +1,32 @@
-"""Follows one heap block through a run: where it was asked for, how large it is, and where it was given back.
+"""A copy of the texts of modules, in which a run shows what each call of the heap's functions gave or gave back.
 
-No command tells which object a call of `malloc` gave. So the run is repeated on a copy of the texts in which each call of
-`malloc`, `calloc`, `realloc` and `free` keeps its operands in objects that `print` shows, and then calls an empty
-function, at which the run stops. The copy has one line more at the top of each module, and five static objects more
-behind all others. Where its run does not end with the same report, nothing is claimed.
+No command tells which object a call of `malloc` gave. In the copy each call of `malloc`, `calloc`, `realloc` and `free`
+keeps its operands in an object that `print` shows, and then calls an empty function, at which the run stops. The copy has
+one line more at the top of each module, and one static object more behind all others.
 """
 import re
 from dataclasses import dataclass
 
-from saber_search import Way, violation_of
-from saber_session import Module, Setup, Trouble, View
+from saber_session import Module, View
 from saber_source import TOKEN
 
 NAME = "saber_heap"
-ADDED_OBJECTS = 5
+ADDED_OBJECTS = 1
 ADDED_LINES = 1
 CALLS = ("malloc", "calloc", "realloc", "free")
-# an event takes 14 lines of a session's 1,000,000
-MOST_EVENTS = 70_000
 # The library's functions are declared again, since a text that declares them itself may not include <stdlib.h> too.
 HEADER = """extern void *malloc(unsigned int), *calloc(unsigned int, unsigned int), *realloc(void *, unsigned int);
 extern void free(void *);
-extern unsigned int saber_size, saber_items, saber_caller;
-extern void *saber_block, *saber_old;
+struct saber_heap { void *self, *block, *old; unsigned int size, items, caller; };
+extern struct saber_heap saber_heap;
 extern void saber_born(void), saber_dies(void);
-#define saber_malloc(n) (saber_items = 1, saber_size = (n), saber_caller = 0, saber_block = malloc(saber_size), saber_born(), saber_block)
-#define saber_calloc(n, s) (saber_items = (n), saber_size = (s), saber_caller = 1, saber_block = calloc(saber_items, saber_size), saber_born(), saber_block)
-#define saber_realloc(p, n) (saber_old = (p), saber_size = (n), saber_items = 1, saber_dies(), saber_caller = 2, saber_block = realloc(saber_old, saber_size), saber_born(), saber_block)
-#define saber_free(p) (saber_old = (p), saber_dies(), free(saber_old))
+#define saber_malloc(n) (saber_heap.size = (n), saber_heap.items = 1, saber_heap.caller = 0, saber_heap.block = malloc(saber_heap.size), saber_born(), saber_heap.block)
+#define saber_calloc(n, s) (saber_heap.items = (n), saber_heap.size = (s), saber_heap.caller = 1, saber_heap.block = calloc(saber_heap.items, saber_heap.size), saber_born(), saber_heap.block)
+#define saber_realloc(p, n) (saber_heap.old = (p), saber_heap.size = (n), saber_heap.items = 1, saber_dies(), saber_heap.caller = 2, saber_heap.block = realloc(saber_heap.old, saber_heap.size), saber_born(), saber_heap.block)
+#define saber_free(p) (saber_heap.old = (p), saber_dies(), free(saber_heap.old))
 """
-MODULE = """unsigned int saber_size, saber_items, saber_caller;
-void *saber_block, *saber_old;
+MODULE = """#include "saber_heap.h"
+struct saber_heap saber_heap = {&saber_heap};
 void saber_born(void) { }
 void saber_dies(void) { }
 """
@@ -42,7 +38,7 @@ class Block:
     size: int
     caller: str
     born: tuple
-    died: tuple
+    died: tuple = ()
 
 
 def renamed(text):
@@ -86,45 +82,14 @@ def as_in_original(line):
     return re.sub(r"(?<= at )(\w+):(\d+)$", lambda it: f"{it[1]}:{int(it[2]) - ADDED_LINES}", line)
 
 
+def value_in_original(text, own):
+    """A value that `print` shows in the copy, with the numbers of the objects in the user's run; `own` is that of the added one."""
+    return re.sub(r"\bobject (\d+)", lambda it: f"object {int(it[1]) - (ADDED_OBJECTS if int(it[1]) > own else 0)}", text)
+
+
 def is_same(violation, other):
     """Whether a report of the copy is that of the user's texts."""
     wanted = (violation.rule, violation.key, violation.module, violation.line and violation.line + ADDED_LINES)
     return other and wanted == (other.rule, other.key, other.module, other.line) and \
         len(other.numbers) == len(violation.numbers) and \
         all(b - a in (0, ADDED_OBJECTS) for a, b in zip(violation.numbers, other.numbers))
-
-
-def find_block(setup, violation, number):
-    """What is to be known of an object, if it is a heap block, and whether it is known to be none."""
-    try:
-        with HeapCopy(setup.view.modules, setup.view.given) as view:
-            return _followed(Setup(setup.program, view, setup.options), violation, number)
-    except Trouble:
-        return None, False
-
-
-def _followed(setup, violation, number):
-    wanted = f"object {number + ADDED_OBJECTS} + 0"
-    asked = tuple(f"print {it}" for it in ("saber_block", "saber_old", "saber_size", "saber_items", "saber_caller")) + ("where",)
-    way = Way(setup, False)
-    block = None
-    with way.session:
-        way.set_stops(("in saber_born", "in saber_dies"))
-        for answer, told in way.go(MOST_EVENTS, asked):
-            if answer.text.startswith("entered saber_"):
-                block = _seen(block, answer.text[8:], told, wanted)
-            else:
-                is_known = is_same(violation, violation_of(answer.text))
-                return block if is_known else None, is_known and not block
-    return None, False
-
-
-def _seen(block, event, told, wanted):
-    """What is known behind one event of the heap."""
-    given, old, size, items, caller = (it.text.partition(" = ")[2] for it in told[:5])
-    calls = tuple(as_in_original(it) for it in told[5].lines[1:])
-    if event == "saber_born" and given == wanted and not block:
-        return Block(int(size) * int(items), CALLS[int(caller)], calls, ())
-    if event == "saber_dies" and old == wanted and block:
-        return Block(block.size, block.caller, block.born, calls)
-    return block

@@ -3,9 +3,9 @@ import re
 from dataclasses import dataclass
 from functools import cached_property
 
-from saber_heap import find_block
+from saber_follow import Scene, follow
 from saber_lines import functions_in
-from saber_search import START, Lost, Search, halt_of, violation_of
+from saber_search import START, Leg, Lost, Search, Step, halt_of, violation_of
 from saber_session import FAULTS, Trouble
 from saber_source import names_in
 
@@ -29,14 +29,12 @@ RULES = {
     "U17": "no module defines what is used",
     "U18": "source and target overlap",
 }
+STATIC = "an object of static storage duration or a string literal"
+# an interpreted call as `where` shows it: its function's name, and the module
+CALL = re.compile(r"(?:\w+:)?(\w+) at (\w+):")
 MOST_STEPS = 60_000
-
-
-@dataclass(frozen=True)
-class Scene:
-    """A place of a run: the calls, the innermost one first, and the values of names there."""
-    calls: tuple
-    values: tuple = ()
+# lines of `where` that a search by steps reads
+MOST_CALLS = 2_000_000
 
 
 @dataclass(frozen=True)
@@ -65,10 +63,26 @@ class Explanation:
         return Search(self.setup)
 
     @cached_property
+    def _followed(self):
+        """What one replay shows of a violation, or nothing."""
+        seen = self.violation
+        if not seen or not (seen.line or seen.numbers):
+            return None
+        return follow(self.setup, seen, self._names, self.search.functions)
+
+    @cached_property
+    def _names(self):
+        """The names on the line of a violation."""
+        seen = self.violation
+        return names_in(self.sources.statement(seen.module, seen.line)) if seen and seen.line else []
+
+    @cached_property
     def _legs(self):
         """The way to where the run ended: before the line of a violation, or to the last entry of a function."""
         seen = self.violation
         line = f"at {seen.module}:{seen.line}" if seen and seen.line else None
+        if self._followed and self._followed.passes:
+            return (Leg((line,), self._followed.passes),)
         stops = (*(f"in {it}" for it in self.search.functions), *([line] if line else []))
         track = self.search.approach(stops, lambda halt: False)
         wanted = line or (f"entered {seen.key}" if seen else None)
@@ -80,52 +94,77 @@ class Explanation:
 
     def scene(self):
         """The calls and the values where the run ended."""
-        seen = self.violation
-        names = names_in(self.sources.statement(seen.module, seen.line)) if seen and seen.line else []
+        if self._followed and self._followed.scene:
+            return self._followed.scene
         with self.arrive() as session:
             calls = session.ask("where").lines
-            told = session.ask_all([f"print {it}" for it in names])
+            told = session.ask_all([f"print {it}" for it in self._names])
         return Scene(calls, tuple(it.text for it in told if " = " in it.text))
 
     def block(self, number):
         """The heap block of this number, if the object is one, and whether it is known to be none."""
-        return find_block(self.setup, self.violation, number)
+        if not self._followed:
+            return None, False
+        block = self._followed.blocks.get(number)
+        return block, not block
 
-    def birth(self, number, is_no_block):
-        """Where an object that is no heap block was born, and when its call was left."""
+    def birth(self, number, is_no_block, is_dead):
+        """Where an object that is no heap block was born, and for a dead one when its call was left."""
+        entries = self._followed and self._followed.entries.get(number)
+        found = entries and self._birth_by_entry(number, *entries)
+        return found if found and not is_dead else self._birth_by_steps(number, is_no_block, is_dead)
+
+    def _birth_by_entry(self, number, before, after):
+        """The birth of an object that was born as the run began or as a function was entered, by entries around it; else nothing."""
+        if not before:
+            return Birth(STATIC) if after and after.halt.text == "entered main" else None
+        for step, is_parameter in ((after, True), (before, False)):
+            found = step and CALL.match(step.calls[0])
+            function = found and self._function(found[2], found[1])
+            if not function:
+                continue
+            names = function.parameters if is_parameter else function.objects
+            at = number - step.halt.births - 1 + (len(names) if is_parameter else 0)
+            if 0 <= at < len(names):
+                key = step.calls[0].split()[0]
+                kind = f"a parameter of {key}" if is_parameter else f"an object of {key}'s outermost block"
+                return Birth(kind, step.calls, "", names[at])
+        return None
+
+    def _birth_by_steps(self, number, is_no_block, is_dead):
+        """The same by a search of its own, from the last entry before the birth on."""
         stops = tuple(f"in {it}" for it in self.search.functions)
         track = self.search.approach(stops, lambda halt: halt.births >= number)
         if track.halts[-1].births < number:
             raise Lost("the object was not born again")
         if track.halts[-2] is START:
-            return Birth("an object of static storage duration or a string literal")
+            return Birth(STATIC)
         legs = track.legs_to(len(track.halts) - 2)
         before, after, count = self._steps(legs, stops, number, track.halts[-2])
-        way = self.search.way(legs)
-        with way.session:
-            way.set_stops(stops)
-            for _ in way.go(count, command="step"):
-                pass
-            calls = way.session.ask("where").lines
-            for _ in way.go(1, command="step"):
-                pass
-            inner = way.session.ask("where").lines
-            left = self._left(way, len(inner), inner[:1])
-        is_deeper = len(inner) > len(calls)
-        kind = kind_of(before.text, after.text, is_deeper, (*calls[:1], *inner[:1]), is_no_block)
-        return Birth(kind, inner if is_deeper else calls, left, self._name(kind, number, before, after, inner[0]))
+        inner = after.calls
+        left = self._left(legs, stops, count + 1, inner) if is_dead else ""
+        is_deeper = len(inner) > len(before.calls)
+        kind = kind_of(before.halt.text, after.halt.text, is_deeper, (*before.calls[:1], *inner[:1]), is_no_block)
+        name = self._name(kind, number, before.halt, after.halt, inner[0])
+        return Birth(kind, inner if is_deeper else before.calls, left, name)
+
+    def _function(self, module, name):
+        """What the text of a module tells of a function, if it can be read."""
+        try:
+            return next((it for it in functions_in(self.setup.view.folder, module) if it.name == name), None)
+        except Trouble:
+            return None
 
     def _name(self, kind, number, before, after, call):
         """The name of a parameter or an object of a function's outermost block; empty where it is not known.
 
         They are born in the order of the text: the parameters as the function is entered, the objects behind that.
         """
-        found = re.match(r"(?:\w+:)?(\w+) at (\w+):", call)
+        found = CALL.match(call)
         if not found or not kind.startswith(("a parameter of ", "an object of ")):
             return ""
-        try:
-            function = next(it for it in functions_in(self.setup.view.folder, found[2]) if it.name == found[1])
-        except (Trouble, StopIteration):
+        function = self._function(found[2], found[1])
+        if not function:
             return ""
         is_parameter = kind.startswith("a parameter of ")
         names = function.parameters if is_parameter else function.objects
@@ -133,26 +172,34 @@ class Explanation:
         return names[at] if 0 <= at < len(names) and (is_parameter or "outermost" in kind) else ""
 
     def _steps(self, legs, stops, number, before):
-        """The halts around the object's birth from a halt on, and how many steps lie before it."""
-        way, count = self.search.way(legs, True), 0
+        """The steps around the object's birth from a halt on, and how many lie before it."""
+        way, count, lines = self.search.way(legs, True), 0, 0
+        with way.session:
+            before = Step(before, way.session.ask("where").lines)
+            way.set_stops(stops)
+            for answer, (report, where) in way.go(MOST_STEPS, ("report 1", "where"), "step"):
+                step, lines = Step(halt_of(answer, report), where.lines), lines + len(where.lines)
+                if step.halt.births >= number:
+                    return before, step, count
+                if lines > MOST_CALLS:
+                    break
+                before, count = step, count + 1
+        raise Lost(f"the object's birth was not reached within {count} lines")
+
+    def _left(self, legs, stops, count, inner):
+        """The last line of a call, which stands so many steps behind a halt, before it was left; empty if it never was."""
+        way, last = self.search.way(legs), inner[:1]
         with way.session:
             way.set_stops(stops)
-            for answer, (report,) in way.go(MOST_STEPS, ("report 1",), "step"):
-                halt = halt_of(answer, report)
-                if halt.births >= number:
-                    return before, halt, count
-                before, count = halt, count + 1
-        raise Lost(f"the object's birth was not reached within {MOST_STEPS} lines")
-
-    def _left(self, way, depth, last):
-        """The last line of the present call before it was left; empty if it is still active at the end."""
-        way.set_stops(())
-        for answer, (where,) in way.go(MOST_STEPS, ("where",), "next"):
-            if where.is_refused or answer.is_refused:
-                return ""
-            if len(where.lines) < depth:
-                return last[0] if last else ""
-            last = where.lines[:1]
+            for _ in way.go(count, command="step"):
+                pass
+            way.set_stops(())
+            for answer, (where,) in way.go(MOST_STEPS, ("where",), "next"):
+                if where.is_refused or answer.is_refused:
+                    return ""
+                if len(where.lines) < len(inner):
+                    return last[0] if last else ""
+                last = where.lines[:1]
         return ""
 
 

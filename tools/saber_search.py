@@ -11,8 +11,8 @@ MOST_HALTS = 200_000
 # So many are tried before it is begun with the rare ones.
 FIRST_HALTS = 30_000
 BATCH = 100
-# A probe keeps the notes of a go until the go halts, so sessions with one go in slices.
-SLICE = 4_000_000
+# A probe keeps the notes of a go until the go halts, so sessions with one go in slices, of which a processor's cache has room for the notes.
+SLICE = 400_000
 OVER = ("exit ", "violation ", "crashed ", "stack full", "birth limit", "refused ", "no memory")
 COUNTS = re.compile(r"(\w+) (\d+)")
 
@@ -79,6 +79,13 @@ def halt_of(answer, report):
     """A halt, by the answer that tells it and a counting probe's report."""
     counts = {kind: int(number) for kind, number in COUNTS.findall(report.text)}
     return Halt(answer.text, counts["birth"], counts["enter"] - counts["leave"])
+
+
+@dataclass(frozen=True)
+class Step:
+    """A halt of a run, and the calls there."""
+    halt: Halt
+    calls: tuple
 
 
 def functions_of(session):

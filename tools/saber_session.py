@@ -15,7 +15,7 @@ import tempfile
 from dataclasses import dataclass, field
 
 ROOT = pathlib.Path(__file__).resolve().parent.parent
-GOES = ("run", "step", "next", "cont")
+GOES = ("run", "step", "next", "cont", "stepi")
 FAULTS = ("violation ", "crashed ", "stack full")
 MOST_TURNS = 1_000_000_000
 # A session takes 1,000,000 command lines; some are kept for the commands around a search.

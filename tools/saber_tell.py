@@ -93,6 +93,6 @@ def explain_object(explanation, teller, number):
         if block:
             teller.block(number, block, is_dead)
         else:
-            teller.birth(number, explanation.birth(number, is_no_block), is_dead)
+            teller.birth(number, explanation.birth(number, is_no_block, is_dead), is_dead)
     except Lost as reason:
         teller.say(f"-- the birth of object {number} was not found: {reason}")

@@ -129,6 +129,8 @@ def completion(program, room):
     for keys, line, answer in (("lo\tlo\t", "load loop", "> loaded loop\n"), ("ed\tl\tm\t", "edit loop mended.c", "> edited loop\n"),
                                ("comp\tl\t", "compile loop", "> compiled loop\n"), ("sw\tl\to\t", "swap loop object", "> loop object\n"),
                                ("sto\ti\tma\t", "stop in main", "> stop 1 in main\n"), ("sto\ta\tl\t3", "stop at loop:3", "> stop 2 at loop:3\n"),
+                               ("xr\tma\t", "xref main", "> def loop:1\n> 1 places\n"),
+                               ("wha\tma\t", "whatis main", "> loop function (void) giving int\n"),
                                ("del\t2\t", "delete 2", "> deleted 2\n"), ("unl\tl\t", "unload loop", "> unloaded loop\n")):
         terminal.keys(keys)
         time.sleep(0.3)

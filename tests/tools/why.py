@@ -39,6 +39,10 @@ FILES = {
                "int main(void)\n{\n    int *p;\n    int q;\n    p = keep(1, 2);\n    q = *p;\n    return q;\n}\n",
     "inner.c": "int main(void)\n{\n    int p;\n    p = 1;\n    if (p) {\n        int q;\n        p = q;\n    }\n    return p;\n}\n",
     "copy.c": "#include <stdlib.h>\n#include <string.h>\nint main(void)\n{\n    strcpy(malloc(3), \"abc\");\n    return 0;\n}\n",
+    "hot.c": "static int sum;\nstatic void add(int *p, int i)\n{\n    sum += p[i];\n}\nint main(void)\n{\n    int i, all[400];\n"
+             "    for (i = 0; i < 400; i++)\n        all[i] = 1;\n    for (i = 0; i <= 400; i++)\n        add(all, i);\n    return sum;\n}\n",
+    "fresh.c": "static int sum(const int *p)\n{\n    int at, sum;\n    for (at = 0; at < 2; at++)\n        sum += p[at];\n    return sum;\n}\n"
+               "int main(void)\n{\n    int two[2];\n    two[0] = two[1] = 1;\n    return sum(two) - 2;\n}\n",
     "mapped.c": "int main(void) { int x; return x; }\n",
     "real.c": "\n\nint main(void) {\n    int x;\n    return x;\n}\n",
     "mapped.map.json": json.dumps({"ranges": [{"first": 1, "last": 1, "file": "real.c", "line": 5}]}),
@@ -83,6 +87,13 @@ CASES = [
     (["moved"], 1, ["> violation U3 in main at moved:8 left dead object 3 + 0 right 0",
                     "-- object 3 is a heap block of 2 bytes, which malloc gave here", "-- and it died here",
                     "    main at moved:7 moved.c:7: p = realloc(q, 6);"]),
+    # the line is reached 401 times, and the function is entered more often than its entries are waited for
+    (["hot"], 1, ["> violation U2 in hot:add at hot:4 object 3 offset 1600 size 4", "    hot:add at hot:4 hot.c:4: sum += p[i];",
+                  "    main at hot:12 hot.c:12: add(all, i);", "    sum = 400", "    p = object 3 + 0", "    i = 400",
+                  "-- object 3 is all, an object of main's outermost block, born here"]),
+    # no function is entered behind the birth: main's two is 1, and p, at and sum follow
+    (["fresh"], 1, ["> violation U1 in fresh:sum at fresh:5 object 4 offset 0 size 4", "    sum = ?", "    p = object 1 + 0", "    at = 0",
+                    "-- object 4 is sum, an object of fresh:sum's outermost block, born here"]),
     (["sub/up"], 0, ["> exit 0"]),
     # a copy by the library is tested, whoever calls it
     (["--object", "copy", "copy"], 1, ["> violation U2 in main at copy:0 object 2 offset 3 size 1",
@@ -128,6 +139,21 @@ def tells(program, room):
     yield "files of the user", content(room) == before
 
 
+def replays(program, room):
+    """How often the program is started: for the run, for a list of functions, and for one replay that tells all.
+
+    The object may be a heap block, one that stands as the run begins, or one of a function that is active.
+    """
+    counted, log = room / "counted.sh", room / "log"
+    counted.write_text(f'#!/bin/sh\necho >> "{log}"\nexec "{program}" "$@"\n')
+    counted.chmod(0o755)
+    for name in ("heap", "freed", "first", "hot", "user store", "fresh"):
+        log.write_text("")
+        ran = common.tool_run("saber-why", counted, room, name.split())
+        starts = len(log.read_text())
+        yield f"starts for {name}", ran.returncode == 1 and starts == 3, f"{starts} starts", common.told_by(ran)
+
+
 def ends_early(program, room):
     """A program that ends at once."""
     early = room / "early.sh"
@@ -139,4 +165,4 @@ def ends_early(program, room):
 
 
 if __name__ == "__main__":
-    sys.exit(common.checked(__doc__, [tells, ends_early], FILES))
+    sys.exit(common.checked(__doc__, [tells, replays, ends_early], FILES))

@@ -15,16 +15,15 @@ use Rattle.sc_pp.specs.Preprocessing.{preprocessed}
 use Rattle.sc_pp.specs.Answers.{Known, BlamesFile}
 use Rattle.sc_pp.specs.Answers as read
 use Rattle.sc_pp.specs.Asked.{asked_in, IsFileAmong}
-use Rattle.sc_core_names.specs.declared.table.Scopes.{Scopes}
-use Rattle.sc_core_names.specs.Scopes.{scopes_of}
 use Rattle.sc_parse_tokens.specs.Symbols.{symbols}
 use Rattle.sc_tree.specs.declared.statement.External.{External}
 use Rattle.sc_parse_laws.specs.Causes.{HasCause}
 use Rattle.sc_build.specs.Compiled.{Compiles}
 use Rattle.sc_build.specs.declared.building.Built.{Built}
+use Rattle.sc_build.specs.declared.building.Names.{Names}
 use Rattle.sc_build.specs.declared.building.BuildFault.{BuildFault}
 use Rattle.sc_build.specs.declared.building.BuildFault.TheVariants as fault
-use Rattle.sc_build.specs.Builds.{Answers, Checks, Reads, IsUnit, Refuses, in_preprocessing, in_grammar, in_types, in_code, InFile, of_files}
+use Rattle.sc_build.specs.Builds.{Answers, Checks, Reads, IsUnit, Refuses, in_preprocessing, in_grammar, in_types, in_code, InFile, names_of, of_files}
 
 -- preprocessing fails
 pub files_fail : (held : Option FileMap) (before now : ℕ) (file name : List ℕ) (f : PpFault)
@@ -69,10 +68,10 @@ types_fail tokens items file name base.NoMemory (fault.File asked) unit told e h
 types_fail tokens items file name base.NoMemory fault.NoMemory unit told e held before now reads = tt
 
 -- the module is there, or too large for an object
-pub compiled_so : (tokens : List Token) (items : List External) (file name : List ℕ) (core : Core) (scopes : Scopes) (result : Result Built BuildFault)
-    → IsUnit tokens items → unit_of name items ≡ Ok core → core.name ≡ name → formed core ≡ true → scopes ≡ scopes_of items → Compiles file core scopes result
+pub compiled_so : (tokens : List Token) (items : List External) (file name : List ℕ) (core : Core) (names : Names) (result : Result Built BuildFault)
+    → IsUnit tokens items → unit_of name items ≡ Ok core → core.name ≡ name → formed core ≡ true → names ≡ names_of items → Compiles file core names result
     → Checks tokens file name result
-compiled_so tokens items file name core scopes (Ok built) unit checks named law scoped p held before now reads = record {
+compiled_so tokens items file name core names (Ok built) unit checks named law told p held before now reads = record {
   tokens = tokens;
   items = items;
   reads = reads;
@@ -80,11 +79,12 @@ compiled_so tokens items file name core scopes (Ok built) unit checks named law 
   checks = checks ∙ ap Ok (sym p.0);
   named = ap (λ c. c.name) p.0 ∙ named;
   formed = ap formed p.0 ∙ law;
-  scoped = p.1 ∙ scoped;
-  compiled = subst (λ c. IsObject c built.object) (sym p.0) p.2;
+  scoped = p.1 ∙ ap (λ (n : Names). n.scopes) told;
+  listed = p.2 ∙ ap (λ (n : Names). n.places) told;
+  compiled = subst (λ c. IsObject c built.object) (sym p.0) p.3;
 }
-compiled_so tokens items file name core scopes (Err (fault.Refused r)) unit checks named law scoped p held before now reads = in_code tokens items core r reads unit checks p
-compiled_so tokens items file name core scopes (Err fault.Missing) unit checks named law scoped p held before now reads = absurd p
-compiled_so tokens items file name core scopes (Err fault.TooLong) unit checks named law scoped p held before now reads = absurd p
-compiled_so tokens items file name core scopes (Err (fault.File asked)) unit checks named law scoped p held before now reads = absurd p
-compiled_so tokens items file name core scopes (Err fault.NoMemory) unit checks named law scoped p held before now reads = tt
+compiled_so tokens items file name core names (Err (fault.Refused r)) unit checks named law told p held before now reads = in_code tokens items core r reads unit checks p
+compiled_so tokens items file name core names (Err fault.Missing) unit checks named law told p held before now reads = absurd p
+compiled_so tokens items file name core names (Err fault.TooLong) unit checks named law told p held before now reads = absurd p
+compiled_so tokens items file name core names (Err (fault.File asked)) unit checks named law told p held before now reads = absurd p
+compiled_so tokens items file name core names (Err fault.NoMemory) unit checks named law told p held before now reads = tt

@@ -24,8 +24,10 @@ use Rattle.sc_tree.specs.declared.statement.External.{External}
 use Rattle.sc_parse_expr.specs.Brackets.{AreShallow}
 use Rattle.sc_parse_unit.specs.Grammar as grammar
 use Rattle.sc_parse_laws.specs.Causes.{Cause}
+use Rattle.sc_xref.specs.Walks.{places_of}
 use Rattle.sc_build.specs.Compiled.{Exceeds}
 use Rattle.sc_build.specs.declared.building.Built.{Built}
+use Rattle.sc_build.specs.declared.building.Names.{Names}
 use Rattle.sc_build.specs.declared.building.BuildFault.{BuildFault}
 use Rattle.sc_build.specs.declared.building.BuildFault.TheVariants as fault
 
@@ -48,8 +50,12 @@ IsTooLong held file = Reads held file (Err pp.TooLong)
 abbrev pub Asks : Option FileMap → List ℕ → List ℕ → Type 0
 Asks held file asked = Known held (λ map. Contains (asked_in map file) asked)
 
--- The module in a file: its tokens, which are a unit, which the rules of types make this module, whose scopes are these, and which has
--- this object.
+-- the names of a unit
+abbrev pub names_of : List External → Names
+names_of items = record { scopes = scopes_of items; places = places_of items }
+
+-- The module in a file: its tokens, which are a unit, which the rules of types make this module, whose scopes and places are these, and
+-- which has this object.
 pub record Builds (held : Option FileMap) (file name : List ℕ) (built : Built) : Type 0 where
   pub tokens : List Token
   pub items : List External
@@ -59,6 +65,7 @@ pub record Builds (held : Option FileMap) (file name : List ℕ) (built : Built)
   pub named : built.core.name ≡ name
   pub formed : formed built.core ≡ true
   pub scoped : built.scopes ≡ scopes_of items
+  pub listed : built.places ≡ places_of items
   pub compiled : IsObject built.core built.object
 
 -- Where the first refusal of a file comes from: preprocessing; the grammar, where preprocessing refuses nothing; the rules

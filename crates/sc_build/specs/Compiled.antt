@@ -6,11 +6,11 @@ use Rattle.sc_base.specs.declared.refusal.X.TheVariants as x
 use Rattle.sc_core.specs.declared.module.Core.{Core}
 use Rattle.sc_core.specs.declared.module.Fun.{Fun}
 use Rattle.sc_core.specs.Modules.{function_of}
-use Rattle.sc_core_names.specs.declared.table.Scopes.{Scopes}
 use Rattle.sc_gen.specs.Limits.{IsObject, first_long}
 use Rattle.sc_gen.specs.Objects.{object_of}
 use Rattle.sc_object.specs.Spelling.{spelled}
 use Rattle.sc_build.specs.declared.building.Built.{Built}
+use Rattle.sc_build.specs.declared.building.Names.{Names}
 use Rattle.sc_build.specs.declared.building.BuildFault.{BuildFault}
 use Rattle.sc_build.specs.declared.building.BuildFault.TheVariants as fault
 
@@ -40,7 +40,7 @@ IsLimit file word line fault.TooLong = ⊥
 IsLimit file word line (fault.File name) = ⊥
 IsLimit file word line fault.NoMemory = Unit {0}
 
--- a module with its scopes and its object, or why it has none
-abbrev pub Compiles : List ℕ → Core → Scopes → Result Built BuildFault → Type 0
-Compiles file core scopes (Ok built) = (built.core ≡ core) × (built.scopes ≡ scopes) × IsObject core built.object
-Compiles file core scopes (Err f) = IsOver file core f
+-- a module with its names and its object, or why it has none
+abbrev pub Compiles : List ℕ → Core → Names → Result Built BuildFault → Type 0
+Compiles file core names (Ok built) = (built.core ≡ core) × (built.scopes ≡ names.scopes) × (built.places ≡ names.places) × IsObject core built.object
+Compiles file core names (Err f) = IsOver file core f

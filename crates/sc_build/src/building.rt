@@ -1,10 +1,10 @@
 // A module is translated (ANSI 2.1.1.2).
-ghost use Rattle.std.specs.Prelude.{◌≡◌, ◌≤◌, List};
+ghost use Rattle.std.specs.Prelude.{◌≡◌, ◌≤◌, IfOk, List};
 ghost use Rattle.sc_lex.specs.declared.token.Token.{Token};
-ghost use Rattle.sc_build.specs.Builds.{Answers, Checks, IsUnit, InFile, of_files};
+ghost use Rattle.sc_build.specs.Builds.{Answers, Checks, IsUnit, InFile, names_of, of_files};
 
 use crate::compiling::compiled;
-use sc_base::{Bytes, Fault, Items, Name, Refusal};
+use sc_base::{Bytes, Fault, Items, Name, NoMemory, Refusal};
 use sc_check::check;
 use sc_core::Core;
 use sc_core_names::{Scopes, scopes_of};
@@ -14,6 +14,7 @@ use sc_outside::Files;
 use sc_parse::parse;
 use sc_pp::{PpFault, preprocess};
 use sc_tree::Unit;
+use sc_xref::{Place, places_of};
 use std::alloc::Global;
 
 /// Why there is no module: its text is refused; its file is missing or has more than 8,388,608 bytes; a file could not be
@@ -27,12 +28,20 @@ pub enum BuildFault {
     NoMemory,
 }
 
-/// A module that was translated, what each of its scopes declares, and its object.
+/// A module that was translated, what each of its scopes declares, where it has the names of the file, and its object.
 #[derive(Drop)]
 pub struct Built {
     pub core: Core,
     pub scopes: Scopes,
+    pub places: Items<Place>,
     pub object: Object,
+}
+
+/// What is kept of a unit's names: what each of its scopes declares, and where it has the names of the file.
+#[derive(Drop)]
+pub struct Names {
+    pub scopes: Scopes,
+    pub places: Items<Place>,
 }
 
 // What preprocessing fails with.
@@ -65,19 +74,35 @@ fn in_file(alloc: Global, file: &str, fault: Fault) -> BuildFault
     }
 }
 
+// The names of a unit.
+fn names_of(alloc: Global, unit: &Unit) -> Result<Names, NoMemory>
+    ensures { IfOk result (λ names. names ≡ names_of unit.now.items) }
+{
+    let Ok(scopes) = scopes_of(alloc, unit) else {
+        return Err(NoMemory);
+    };
+    match places_of(alloc, unit) {
+        Ok(places) => Ok(Names { scopes, places }),
+        Err(_) => {
+            drop(scopes);
+            Err(NoMemory)
+        }
+    }
+}
+
 // The module of a unit.
 fn checked(alloc: Global, name: &Name, file: &str, unit: Unit) -> Result<Built, BuildFault>
     ensures { (tokens : List Token) → IsUnit tokens unit.items → Checks tokens file.now name.now result }
 {
     match check(alloc, name, &unit) {
         Ok(core) => {
-            let Ok(scopes) = scopes_of(alloc, &unit) else {
+            let Ok(names) = names_of(alloc, &unit) else {
                 drop(unit);
                 drop(core);
                 return Err(BuildFault::NoMemory);
             };
             drop(unit);
-            compiled(alloc, file, core, scopes)
+            compiled(alloc, file, core, names)
         }
         Err(fault) => {
             drop(unit);
@@ -96,7 +121,7 @@ fn parsed(alloc: Global, name: &Name, file: &str, tokens: &[Token]) -> Result<Bu
     }
 }
 
-/// The module in a file, with this name, its scopes and its object. The refusal of a text is the first of preprocessing, with the file in
+/// The module in a file, with this name, its scopes, its places and its object. The refusal of a text is the first of preprocessing, with the file in
 /// which its line stands; else the grammar's, else that of the rules of types, else that of the limits of objects, in the module's own
 /// file. `File` is the name of a file that was asked for and could not be read, only where the count of faults rose.
 pub fn build<F: Files>(

@@ -3,10 +3,9 @@ ghost use Rattle.std.specs.Prelude.{◌≡◌, Some, codes};
 ghost use Rattle.sc_gen.specs.Limits.{IsFault, first_long};
 ghost use Rattle.sc_build.specs.Compiled.{Compiles, IsLimit, IsOver};
 
-use crate::building::{BuildFault, Built};
+use crate::building::{BuildFault, Built, Names};
 use sc_base::{Bytes, Name, Refusal, X};
 use sc_core::Core;
-use sc_core_names::Scopes;
 use sc_gen::{GenFault, generate};
 use std::alloc::Global;
 
@@ -50,18 +49,22 @@ fn over(alloc: Global, file: &str, core: &Core, fault: GenFault) -> BuildFault
     }
 }
 
-/// A module with its scopes and its object.
-pub fn compiled(alloc: Global, file: &str, core: Core, scopes: Scopes) -> Result<Built, BuildFault>
-    ensures { Compiles file.now core scopes result }
+/// A module with its names and its object.
+pub fn compiled(alloc: Global, file: &str, core: Core, names: Names) -> Result<Built, BuildFault>
+    ensures { Compiles file.now core names result }
 {
     match generate(alloc, &core) {
-        Ok(object) => Ok(Built {
-            core,
-            scopes,
-            object,
-        }),
+        Ok(object) => {
+            let Names { scopes, places } = names;
+            Ok(Built {
+                core,
+                scopes,
+                places,
+                object,
+            })
+        }
         Err(fault) => {
-            drop(scopes);
+            drop(names);
             let refused = over(alloc, file, &core, fault);
             drop(core);
             Err(refused)

@@ -21,7 +21,9 @@ Refusals, as `> refused C8 m.c`. A refused command leaves the session as it was.
   C17   there is no such probe
   C18   there is no such stop
   C19   the file has more than 8388608 bytes
+  C20   the innermost active call is not one of a module that runs as its object
   C21   no module that runs as its object defines the function
+  C22   no module declares the name at file scope
 `> no memory` may answer any command.
 
 Kinds of refused texts, as `> refused C5 X6 m.c:3`. docs/LANGUAGE.md has the rules.

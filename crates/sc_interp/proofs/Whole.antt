@@ -3,6 +3,7 @@ use Rattle.std.proofs.Common.{◌≡◌, ℕ, zero, suc, ◌+◌, ◌<◌, Bool,
 use Rattle.std.specs.Prelude.{◌↔◌, IsTrue}
 use Rattle.std.specs.Result.{IsErrAnd}
 use Rattle.std.proofs.lemmas.Result.{err_from_is_err_and}
+use Rattle.sc_base.specs.declared.key.Key.{Key}
 use Rattle.sc_meaning.specs.World.{World, GoesOut, ComesBack, pass}
 use Rattle.sc_meaning.specs.Outcomes.{Outcome, Done, Over, Ending, Exit, and_then, went}
 use Rattle.sc_meaning.specs.Versions.{Text, History, callee_of, version_at}
@@ -11,7 +12,7 @@ use Rattle.sc_meaning.specs.Expressions.{Answer, value_rule}
 use Rattle.sc_meaning.specs.Values.{Value}
 use Rattle.sc_types.specs.declared.ctype.CType.{CType}
 use Rattle.sc_meaning.specs.Calls.{call}
-use Rattle.sc_meaning.specs.Behaviour.{Start, first_world, main_key, main_called, started, ending, status_of}
+use Rattle.sc_meaning.specs.Behaviour.{Start, first_world, entry_called, started, ending, status_of}
 use Rattle.sc_meaning.specs.Behaviour as behaviour
 use Rattle.sc_interp_machine.specs.Runs as runs
 use Rattle.sc_interp_machine.specs.Runs.{Caller, State, Makes, Answers, Ends}
@@ -88,18 +89,18 @@ makes_there h texts s t v us vs c cs ds w w2 g r next is same p f =
 pub ends_here : (t : State) (r : Result Reached Stop) (s : Stop) (w : World) → IsErrAnd r (λ e. e ≡ s) → ((e : Ending) → ending_of s w ≡ Some e → t ≡ Ends e) → Brings t r w
 ends_here t r s w p f = let q = err_from_is_err_and r p in subst (λ r. Brings t r w) (sym (q.1 ∙ ap (λ e. Err e) q.2)) f
 
--- the first state of the call of main
-abbrev pub first_of : List Text → World → State
-first_of texts w = steady.callee_next (alone texts) main_key [] (callee_of texts main_key) [] (pass GoesOut w)
+-- the first state of the call of a run's entry
+abbrev pub first_of : List Text → Key → World → State
+first_of texts key w = steady.callee_next (alone texts) key [] (callee_of texts key) [] (pass GoesOut w)
 
-same_first : (texts : List Text) (w : World) → runs.callee_next (alone texts) main_key [] (callee_of (version_at (alone texts) w.count) main_key) [] w ≡ steady.callee_next (alone texts) main_key [] (callee_of texts main_key) [] w
-same_first texts w =
-    ap (λ ts. runs.callee_next (alone texts) main_key [] (callee_of ts main_key) [] w) (present texts w.count)
-    ∙ callee_step (alone texts) texts (quiet texts) (present texts) main_key [] (callee_of texts main_key) [] w
+same_first : (texts : List Text) (key : Key) (w : World) → runs.callee_next (alone texts) key [] (callee_of (version_at (alone texts) w.count) key) [] w ≡ steady.callee_next (alone texts) key [] (callee_of texts key) [] w
+same_first texts key w =
+    ap (λ ts. runs.callee_next (alone texts) key [] (callee_of ts key) [] w) (present texts w.count)
+    ∙ callee_step (alone texts) texts (quiet texts) (present texts) key [] (callee_of texts key) [] w
 
-same_from : (k : ℕ) (texts : List Text) (w : World) → runs.ran k (alone texts) (runs.callee_next (alone texts) main_key [] (callee_of (version_at (alone texts) w.count) main_key) [] w) ≡ steady.ran k (alone texts) texts (steady.callee_next (alone texts) main_key [] (callee_of texts main_key) [] w)
-same_from k texts w =
-    ap (runs.ran k (alone texts)) (same_first texts w) ∙ same_run (alone texts) texts (quiet texts) (present texts) k (steady.callee_next (alone texts) main_key [] (callee_of texts main_key) [] w)
+same_from : (k : ℕ) (texts : List Text) (key : Key) (w : World) → runs.ran k (alone texts) (runs.callee_next (alone texts) key [] (callee_of (version_at (alone texts) w.count) key) [] w) ≡ steady.ran k (alone texts) texts (steady.callee_next (alone texts) key [] (callee_of texts key) [] w)
+same_from k texts key w =
+    ap (runs.ran k (alone texts)) (same_first texts key w) ∙ same_run (alone texts) texts (quiet texts) (present texts) k (steady.callee_next (alone texts) key [] (callee_of texts key) [] w)
 
 -- the births of one version
 settled_once : (r : Outcome (Unit {0})) → and_then r (λ _ w. went w) ≡ r
@@ -113,44 +114,46 @@ settles : (texts : List Text) (s : Start) → settled (alone texts) (first_world
 settles texts s = settled_once (begun_in texts s)
 
 -- the run of a start whose history is one version
-starts : (texts : List Text) (s : Start) (n : ℕ) → s.history ≡ alone texts → started n s ≡ and_then (begun_in texts s) (λ _ w. main_called n (alone texts) w)
-starts texts s n is =
-    ap (λ h. and_then (settled h (first_world s)) (λ _ w. main_called n h w)) is
-    ∙ ap (λ r. and_then r (λ _ w. main_called n (alone texts) w)) (settles texts s)
+starts : (texts : List Text) (s : Start) (key : Key) (n : ℕ) → s.history ≡ alone texts → s.entry ≡ key → started n s ≡ and_then (begun_in texts s) (λ _ w. entry_called n (alone texts) key w)
+starts texts s key n is at =
+    ap (λ h. and_then (settled h (first_world s)) (λ _ w. entry_called n h s.entry w)) is
+    ∙ ap (λ k. and_then (settled (alone texts) (first_world s)) (λ _ w. entry_called n (alone texts) k w)) at
+    ∙ ap (λ r. and_then r (λ _ w. entry_called n (alone texts) key w)) (settles texts s)
 
 pub births_end : (texts : List Text) (s : Start) (n : ℕ) (e : Ending) → s.history ≡ alone texts → begun_in texts s ≡ Over e → ending n s ≡ e
-births_end texts s n e is p = ap behaviour.ending_of (starts texts s n is ∙ ap (λ r. and_then r (λ _ w. main_called n (alone texts) w)) p)
+births_end texts s n e is p = ap behaviour.ending_of (starts texts s s.entry n is refl ∙ ap (λ r. and_then r (λ _ w. entry_called n (alone texts) s.entry w)) p)
 
-comes : (texts : List Text) (s : Start) (n : ℕ) (w : World) (r : Outcome Answer) → s.history ≡ alone texts → begun_in texts s ≡ Done tt w → call n (alone texts) main_key [] (pass GoesOut w) ≡ r → ending n s ≡ behaviour.ending_of (and_then r (λ a w. Done a (pass ComesBack w)))
-comes texts s n w r is p q =
-    ap behaviour.ending_of (starts texts s n is ∙ ap (λ r. and_then r (λ _ w. main_called n (alone texts) w)) p ∙ ap (λ r. and_then r (λ a w. Done a (pass ComesBack w))) q)
+comes : (texts : List Text) (s : Start) (key : Key) (n : ℕ) (w : World) (r : Outcome Answer) → s.history ≡ alone texts → s.entry ≡ key → begun_in texts s ≡ Done tt w → call n (alone texts) key [] (pass GoesOut w) ≡ r → ending n s ≡ behaviour.ending_of (and_then r (λ a w. Done a (pass ComesBack w)))
+comes texts s key n w r is at p q =
+    ap behaviour.ending_of (starts texts s key n is at ∙ ap (λ r. and_then r (λ _ w. entry_called n (alone texts) key w)) p ∙ ap (λ r. and_then r (λ a w. Done a (pass ComesBack w))) q)
 
-pub run_ends : (texts : List Text) (s : Start) (k n : ℕ) (w : World) (e : Ending) → s.history ≡ alone texts → k < n → begun_in texts s ≡ Done tt w → steady.ran k (alone texts) texts (first_of texts w) ≡ Ends e → ending n s ≡ e
-run_ends texts s k n w e is lt p q =
-    comes texts s n w (Over e) is p (ends_meaning (alone texts) k n main_key [] (pass GoesOut w) e (omega arith) (same_from k texts (pass GoesOut w) ∙ q))
+pub run_ends : (texts : List Text) (s : Start) (key : Key) (k n : ℕ) (w : World) (e : Ending) → s.history ≡ alone texts → s.entry ≡ key → k < n → begun_in texts s ≡ Done tt w → steady.ran k (alone texts) texts (first_of texts key w) ≡ Ends e → ending n s ≡ e
+run_ends texts s key k n w e is at lt p q =
+    comes texts s key n w (Over e) is at p (ends_meaning (alone texts) k n key [] (pass GoesOut w) e (omega arith) (same_from k texts key (pass GoesOut w) ∙ q))
 
-pub run_answers : (texts : List Text) (s : Start) (k n : ℕ) (w v : World) (a : Answer) → s.history ≡ alone texts → k < n → begun_in texts s ≡ Done tt w → steady.ran k (alone texts) texts (first_of texts w) ≡ Answers a [] v → ending n s ≡ Exit (status_of a) (pass ComesBack v)
-run_answers texts s k n w v a is lt p q =
-    comes texts s n w (Done a v) is p (answers_meaning (alone texts) k n main_key [] (pass GoesOut w) v a (omega arith) (same_from k texts (pass GoesOut w) ∙ q))
+pub run_answers : (texts : List Text) (s : Start) (key : Key) (k n : ℕ) (w v : World) (a : Answer) → s.history ≡ alone texts → s.entry ≡ key → k < n → begun_in texts s ≡ Done tt w → steady.ran k (alone texts) texts (first_of texts key w) ≡ Answers a [] v → ending n s ≡ Exit (status_of a) (pass ComesBack v)
+run_answers texts s key k n w v a is at lt p q =
+    comes texts s key n w (Done a v) is at p (answers_meaning (alone texts) k n key [] (pass GoesOut w) v a (omega arith) (same_from k texts key (pass GoesOut w) ∙ q))
 
--- What a part of the program answers, where the births end the run, the call of main ends it, or main comes back.
+-- What a part of the program answers, where the births end the run, the call of the entry ends it, or the entry comes back.
 pub births_finish : (texts : List Text) (s : Start) (steps : ℕ) (first w : World) (stop : Stop) → s.history ≡ alone texts → first ≡ first_world s → Stops (statics_born texts first) stop w → Finishes steps s (Err stop) w
 births_finish texts s steps first w stop is begins stops = λ n lt e p.
     births_end texts s n e is (ap (statics_born texts) (sym begins) ∙ stops e p)
 
-pub call_finishes : (texts : List Text) (s : Start) (steps : ℕ) (first born w : World) (stop : Stop) → s.history ≡ alone texts → first ≡ first_world s → statics_born texts first ≡ Done tt born → ((e : Ending) → ending_of stop w ≡ Some e → steady.ran steps (alone texts) texts (first_of texts born) ≡ Ends e) → Finishes steps s (Err stop) w
-call_finishes texts s steps first born w stop is begins p q = λ n lt e r.
-    run_ends texts s steps n born e is lt (ap (statics_born texts) (sym begins) ∙ p) (q e r)
+pub call_finishes : (texts : List Text) (s : Start) (key : Key) (steps : ℕ) (first born w : World) (stop : Stop) → s.history ≡ alone texts → s.entry ≡ key → first ≡ first_world s → statics_born texts first ≡ Done tt born → ((e : Ending) → ending_of stop w ≡ Some e → steady.ran steps (alone texts) texts (first_of texts key born) ≡ Ends e) → Finishes steps s (Err stop) w
+call_finishes texts s key steps first born w stop is at begins p q = λ n lt e r.
+    run_ends texts s key steps n born e is at lt (ap (statics_born texts) (sym begins) ∙ p) (q e r)
 
 told : (e : Ending) (status : ℕ) (w : World) → Some (Exit status w) ≡ Some e → Exit status w ≡ e
 told e status w p = cc
 
-pub answer_finishes : (texts : List Text) (s : Start) (steps : ℕ) (first born v w : World) (a : Answer) (status : ℕ) → s.history ≡ alone texts → first ≡ first_world s → statics_born texts first ≡ Done tt born → steady.ran steps (alone texts) texts (first_of texts born) ≡ Answers a [] v → status ≡ status_of a → w ≡ pass ComesBack v → Finishes steps s (Ok (ended.Exit status)) w
-answer_finishes texts s steps first born v w a status is begins p q st back = λ n lt e r.
-    run_answers texts s steps n born v a is lt (ap (statics_born texts) (sym begins) ∙ p) q ∙ ap (λ st. Exit st (pass ComesBack v)) (sym st) ∙ ap (Exit status) (sym back) ∙ told e status w r
+pub answer_finishes : (texts : List Text) (s : Start) (key : Key) (steps : ℕ) (first born v w : World) (a : Answer) (status : ℕ) → s.history ≡ alone texts → s.entry ≡ key → first ≡ first_world s → statics_born texts first ≡ Done tt born → steady.ran steps (alone texts) texts (first_of texts key born) ≡ Answers a [] v → status ≡ status_of a → w ≡ pass ComesBack v → Finishes steps s (Ok (ended.Exit status)) w
+answer_finishes texts s key steps first born v w a status is at begins p q st back = λ n lt e r.
+    run_answers texts s key steps n born v a is at lt (ap (statics_born texts) (sym begins) ∙ p) q ∙ ap (λ st. Exit st (pass ComesBack v)) (sym st) ∙ ap (Exit status) (sym back) ∙ told e status w r
 
-pub steps_used_up : (texts : List Text) (s : Start) (steps : ℕ) (first born w : World) → s.history ≡ alone texts → first ≡ first_world s → statics_born texts first ≡ Done tt born → is_over (steady.ran steps (alone texts) texts (first_of texts born)) ≡ false → Finishes steps s (Ok ended.OutOfSteps) w
-steps_used_up texts s steps first born w is begins p over = (texts, is, born, ap (statics_born texts) (sym begins) ∙ p, over)
+pub steps_used_up : (texts : List Text) (s : Start) (key : Key) (steps : ℕ) (first born w : World) → s.history ≡ alone texts → s.entry ≡ key → first ≡ first_world s → statics_born texts first ≡ Done tt born → is_over (steady.ran steps (alone texts) texts (first_of texts key born)) ≡ false → Finishes steps s (Ok ended.OutOfSteps) w
+steps_used_up texts s key steps first born w is at begins p over =
+    (texts, is, born, ap (statics_born texts) (sym begins) ∙ p, subst (λ k. is_over (steady.ran steps (alone texts) texts (first_of texts k born)) ≡ false) (sym at) over)
 
 -- a part that failed ends the whole, as `?` passes its end on
 pub finishes_here : (s : Start) (steps : ℕ) (r : Result Ended Stop) (stop : Stop) (w : World) → IsErrAnd r (λ e. e ≡ stop) → Finishes steps s (Err stop) w → Finishes steps s r w

@@ -1,11 +1,12 @@
 -- Inside: plumbing, a representation, an invariant or a promise beside the claim (docs/TRUST.md).
 -- How the program says that a run ended.
 use Rattle.std.specs.Prelude.{◌≡◌, ℕ, ◌<◌, false, List, [], Option, Some, None, Result, Ok, Err}
+use Rattle.sc_base.specs.declared.key.Key.{Key}
 use Rattle.sc_meaning.specs.World.{World, GoesOut, pass}
 use Rattle.sc_meaning.specs.Outcomes.{Done, Ending, Exit, Undefined, StackFull, BirthLimit}
 use Rattle.sc_meaning.specs.Versions.{Text, callee_of}
 use Rattle.sc_meaning.specs.Changes.{statics_born}
-use Rattle.sc_meaning.specs.Behaviour.{Start, ending, first_world, main_key}
+use Rattle.sc_meaning.specs.Behaviour.{Start, ending, first_world}
 use Rattle.sc_meaning.specs.Beside.{nothing_beside}
 use Rattle.sc_interp_access.specs.declared.stop.Stop.{Stop}
 use Rattle.sc_interp_access.specs.Gives.{ending_of}
@@ -23,15 +24,15 @@ end_of ended.BirthLimit w = Some (BirthLimit w)
 end_of ended.OutOfSteps w = None
 end_of ended.NoRoom w = None
 
--- one program, which does not change
-abbrev pub start_of : List Text → ℕ → ℕ → List ℕ → Start
-start_of texts stack heap input = record { stack = stack; heap = heap; input = input; history = alone texts; beside = nothing_beside }
+-- one program, which does not change, and the entry of its run
+abbrev pub start_of : List Text → Key → ℕ → ℕ → List ℕ → Start
+start_of texts key stack heap input = record { entry = key; stack = stack; heap = heap; input = input; history = alone texts; beside = nothing_beside }
 
--- the run is not over after these steps of the call of main, behind the births
+-- the run is not over after these steps of the call of its entry, behind the births
 abbrev pub LastsLonger : ℕ → Start → Type 0
 LastsLonger steps s =
     (texts : List Text) × (s.history ≡ alone texts) × (born : World) × (statics_born texts (first_world s) ≡ Done tt born)
-    × (is_over (ran steps (alone texts) texts (callee_next (alone texts) main_key [] (callee_of texts main_key) [] (pass GoesOut born))) ≡ false)
+    × (is_over (ran steps (alone texts) texts (callee_next (alone texts) s.entry [] (callee_of texts s.entry) [] (pass GoesOut born))) ≡ false)
 
 -- so the run ends, at every bound greater than these steps; only one that lasts longer uses its steps up
 abbrev pub EndsSo : ℕ → Start → Ended → World → Type 0

@@ -11,6 +11,6 @@ mod stepped;
 
 pub use calls::key_next;
 pub use going::{Active, Caller, Going};
-pub use running::{Finished, Limits, call_main, run, status_of};
+pub use running::{Finished, Limits, call_entry, main_key, run, status_of};
 pub use step::step_run;
 pub use stepped::{Shown, entry};

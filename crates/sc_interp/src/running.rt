@@ -11,7 +11,7 @@ ghost use Rattle.sc_interp.specs.Steps.{Brings, Steps};
 use crate::calls::key_next;
 use crate::drive::{Reached, drive};
 use crate::going::{Caller, Going};
-use sc_base::{Items, Key, Name, NoMemory, Shared, Stack};
+use sc_base::{Duplicate, Items, Key, Name, NoMemory, Shared, Stack};
 use sc_core_held::Text;
 use sc_interp_access::{Ended, Stop, bits};
 use sc_interp_parts::statics_born;
@@ -34,8 +34,12 @@ pub struct Finished {
     pub world: World,
 }
 
-// The key of `main`.
-fn main_key(alloc: Global) -> Result<Key, NoMemory>
+/// The key of `main`, the entry of a program's run.
+///
+/// # Errors
+///
+/// `NoMemory` alone.
+pub fn main_key(alloc: Global) -> Result<Key, NoMemory>
     ensures { IfOk result (λ key. key ≡ behaviour.main_key) }
 {
     let Ok(name) = Name::new(alloc, b"main") else {
@@ -44,7 +48,7 @@ fn main_key(alloc: Global) -> Result<Key, NoMemory>
     Ok(Key { module: None, name })
 }
 
-/// The status with which the answer of `main` ends the run.
+/// The status with which the answer of the entry ends the run.
 pub fn status_of(a: &Answer) -> u32
     ensures { result ≡ behaviour.status_of a.now }
 {
@@ -56,36 +60,41 @@ pub fn status_of(a: &Answer) -> u32
     }
 }
 
-/// The call of `main` goes out, behind the births.
+/// The call of the entry, the function with this key, goes out, behind the births.
 ///
 /// # Errors
 ///
-/// `U17` where nothing defines `main`, `StackFull`, `BirthLimit`, and what a function of the library ends with.
-pub fn call_main(texts: &[Text], callers: &Stack<Caller>, world: &mut World) -> Result<Going, Stop>
-    ensures { (h : versions.History) → IsQuiet h → Steps (steady.callee_next h behaviour.main_key [] (versions.callee_of texts.now behaviour.main_key) callers.now (worlds.pass worlds.GoesOut world.old)) result callers.now world.new }
+/// `U17` where nothing defines it, `StackFull`, `BirthLimit`, and what a function of the library ends with.
+pub fn call_entry(
+    texts: &[Text],
+    key: &Key,
+    callers: &Stack<Caller>,
+    world: &mut World,
+) -> Result<Going, Stop>
+    ensures { (h : versions.History) → IsQuiet h → Steps (steady.callee_next h key.now [] (versions.callee_of texts.now key.now) callers.now (worlds.pass worlds.GoesOut world.old)) result callers.now world.new }
 {
     let alloc = world.alloc();
-    let key = main_key(alloc)?;
+    let own = key.copy(alloc)?;
     world.goes_out()?;
     let none = Items::new(alloc);
-    key_next(texts, key, none.as_slice(), callers, world)
+    key_next(texts, own, none.as_slice(), callers, world)
 }
 
-// `main` is called, and comes back.
-fn main_called(texts: &[Text], steps: u64, world: &mut World) -> Result<Reached, Stop>
-    ensures { (h : versions.History) → IsQuiet h → Brings (steady.ran steps h texts.now (steady.callee_next h behaviour.main_key [] (versions.callee_of texts.now behaviour.main_key) [] (worlds.pass worlds.GoesOut world.old))) result world.new }
+// The entry is called, and comes back.
+fn entry_called(texts: &[Text], key: &Key, steps: u64, world: &mut World) -> Result<Reached, Stop>
+    ensures { (h : versions.History) → IsQuiet h → Brings (steady.ran steps h texts.now (steady.callee_next h key.now [] (versions.callee_of texts.now key.now) [] (worlds.pass worlds.GoesOut world.old))) result world.new }
 {
     let mut callers = Stack::new(world.alloc());
-    let going = call_main(texts, &callers, world)?;
+    let going = call_entry(texts, key, &callers, world)?;
     drive(texts, going, &mut callers, steps, world)
 }
 
 // From the births on.
-fn started(texts: &[Text], steps: u64, world: &mut World) -> Result<Ended, Stop>
-    ensures { (s : behaviour.Start) → s.history ≡ steady.alone texts.now → world.old ≡ behaviour.first_world s → Finishes steps s result world.new }
+fn started(texts: &[Text], key: &Key, steps: u64, world: &mut World) -> Result<Ended, Stop>
+    ensures { (s : behaviour.Start) → s.history ≡ steady.alone texts.now → s.entry ≡ key.now → world.old ≡ behaviour.first_world s → Finishes steps s result world.new }
 {
     statics_born(texts, world)?;
-    match main_called(texts, steps, world)? {
+    match entry_called(texts, key, steps, world)? {
         Reached::Answer(a) => {
             world.comes_back()?;
             Ok(Ended::Exit(status_of(&a)))
@@ -108,17 +117,19 @@ fn end_told(given: Result<Ended, Stop>) -> Ended
     }
 }
 
-/// A run of a program that does not change, from its start on, in at most so many steps of the machine: how it ends, as the
-/// meaning has it at every bound greater than these steps. Where the steps were used up, the run was not over behind them.
+/// A run of a program that does not change, from its start on, in at most so many steps of the machine: the function with this key
+/// is called. It ends as the meaning has it at every bound greater than these steps. Where the steps were used up, the run was not
+/// over behind them.
 pub fn run(
     alloc: Global,
     texts: &[Text],
+    key: &Key,
     limits: Limits,
     input: Items<u8>,
 ) -> Result<Finished, NoMemory>
-    ensures { IfOk result (λ r. EndsSo limits.steps (start_of texts.now limits.stack limits.heap input) r.ended r.world) }
+    ensures { IfOk result (λ r. EndsSo limits.steps (start_of texts.now key.now limits.stack limits.heap input) r.ended r.world) }
 {
     let mut world = World::nowhere(alloc, limits.stack, limits.heap, input)?;
-    let ended = end_told(started(texts, limits.steps, &mut world));
+    let ended = end_told(started(texts, key, limits.steps, &mut world));
     Ok(Finished { ended, world })
 }

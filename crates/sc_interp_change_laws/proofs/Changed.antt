@@ -1,11 +1,11 @@
 -- A version that comes where a run stands: before it each step is as without it, the step that stands there changes the texts, and from
 -- then on the run goes on under the new texts alone.
 use Rattle.std.proofs.Common.{◌≡◌, ℕ, zero, suc, ◌+◌, ◌<◌, ◌≤◌, List, [], ◌∷◌, ◌++◌, arith, refl, sym, ap, ◌∙◌, subst}
+use Rattle.sc_base.specs.declared.key.Key.{Key}
 use Rattle.sc_meaning.specs.World.{World, Event, Happens, pass, GoesOut}
 use Rattle.sc_meaning.specs.Outcomes.{Outcome, Done, Over, and_then, went}
 use Rattle.sc_meaning.specs.Versions.{Text, Version, History, version_at}
 use Rattle.sc_meaning.specs.Changes.{changed, happened}
-use Rattle.sc_meaning.specs.Behaviour.{main_key}
 use Rattle.sc_interp_machine.specs.Runs.{State, Runs, then_goes, advance}
 use Rattle.sc_interp_laws.specs.Worlds.{world_of}
 use Rattle.sc_interp_laws.proofs.RunSteps.{advance_leads}
@@ -68,37 +68,37 @@ shown_changes h v n texts f p x e =
 
 -- ---- a whole run
 
-reached_grows : (h : History) (w : World) (k : ℕ) → (world_of (reached_in h w k)).count ≤ (world_of (reached_in h w (suc k))).count
-reached_grows h w k = count_grows (world_of (reached_in h w k)) (world_of (advance h (reached_in h w k))) (advance_leads h (reached_in h w k))
+reached_grows : (h : History) (key : Key) (w : World) (k : ℕ) → (world_of (reached_in h key w k)).count ≤ (world_of (reached_in h key w (suc k))).count
+reached_grows h key w k = count_grows (world_of (reached_in h key w k)) (world_of (advance h (reached_in h key w k))) (advance_leads h (reached_in h key w k))
 
 -- where fewer events have passed than the version's count, the run is as without it
-pub reached_before : (h : History) (v : Version) (w : World) (k : ℕ) → (world_of (reached_in h w k)).count < v.count → reached_in h w k ≡ reached_in (h ++ v ∷ []) w k
-reached_before h v w zero lt = named_same 0 v.count h (h ++ v ∷ []) (agree_before h v) main_key [] [] (pass GoesOut w) (omega arith) lt
-reached_before h v w (suc k) lt =
-    let s : State = reached_in h w k in
-    let less : (world_of s).count < v.count = omega (arith, lt, reached_grows h w k) in
-    step_same 0 v.count h (h ++ v ∷ []) (agree_before h v) s (omega arith) lt ∙ ap (advance (h ++ v ∷ [])) (reached_before h v w k less)
+pub reached_before : (h : History) (v : Version) (key : Key) (w : World) (k : ℕ) → (world_of (reached_in h key w k)).count < v.count → reached_in h key w k ≡ reached_in (h ++ v ∷ []) key w k
+reached_before h v key w zero lt = named_same 0 v.count h (h ++ v ∷ []) (agree_before h v) key [] [] (pass GoesOut w) (omega arith) lt
+reached_before h v key w (suc k) lt =
+    let s : State = reached_in h key w k in
+    let less : (world_of s).count < v.count = omega (arith, lt, reached_grows h key w k) in
+    step_same 0 v.count h (h ++ v ∷ []) (agree_before h v) s (omega arith) lt ∙ ap (advance (h ++ v ∷ [])) (reached_before h v key w k less)
 
 -- where the last step ended with the event with the version's count, the run is changed
-pub reached_changed : (h : History) (v : Version) (w : World) (k : ℕ) → HaveCome v.count h → LastShows h w k v.count → reached_in (h ++ v ∷ []) w k ≡ changed_state (version_at h v.count) v.texts (reached_in h w k)
-reached_changed h v w zero p x = shown_changes h v w.count (version_at h w.count) (λ g. reached_in g w 0) p x refl
-reached_changed h v w (suc k) p x =
-    let s : State = reached_in h w k in
+pub reached_changed : (h : History) (v : Version) (key : Key) (w : World) (k : ℕ) → HaveCome v.count h → LastShows h key w k v.count → reached_in (h ++ v ∷ []) key w k ≡ changed_state (version_at h v.count) v.texts (reached_in h key w k)
+reached_changed h v key w zero p x = shown_changes h v w.count (version_at h w.count) (λ g. reached_in g key w 0) p x refl
+reached_changed h v key w (suc k) p x =
+    let s : State = reached_in h key w k in
     let n : ℕ = (world_of s).count in
     let f : History → State = λ g. advance g s in
-    ap (advance (h ++ v ∷ [])) (sym (reached_before h v w k (before n (version_at h n) v.count f x))) ∙ shown_changes h v n (version_at h n) f p x refl
+    ap (advance (h ++ v ∷ [])) (sym (reached_before h v key w k (before n (version_at h n) v.count f x))) ∙ shown_changes h v n (version_at h n) f p x refl
 
 -- and the next version may come there too
-pub shows_still : (h : History) (v : Version) (w : World) (k : ℕ) → LastShows h w k v.count → LastShows (h ++ v ∷ []) w k v.count
-shows_still h v w zero x =
-    let f : History → State = λ g. reached_in g w 0 in
+pub shows_still : (h : History) (v : Version) (key : Key) (w : World) (k : ℕ) → LastShows h key w k v.count → LastShows (h ++ v ∷ []) key w k v.count
+shows_still h v key w zero x =
+    let f : History → State = λ g. reached_in g key w 0 in
     subst (λ ts. Shows w.count ts v.count f) (sym (is_not_present_before h v w.count (before w.count (version_at h w.count) v.count f x))) x
-shows_still h v w (suc k) x =
-    let s : State = reached_in h w k in
+shows_still h v key w (suc k) x =
+    let s : State = reached_in h key w k in
     let n : ℕ = (world_of s).count in
     let f : History → State = λ g. advance g s in
     let lt : n < v.count = before n (version_at h n) v.count f x in
-    subst (λ t. Shows (world_of t).count (version_at (h ++ v ∷ []) (world_of t).count) v.count (λ g. advance g t)) (reached_before h v w k lt)
+    subst (λ t. Shows (world_of t).count (version_at (h ++ v ∷ []) (world_of t).count) v.count (λ g. advance g t)) (reached_before h v key w k lt)
     (subst (λ ts. Shows n ts v.count f) (sym (is_not_present_before h v n lt)) x)
 
 have_still_of : (n : ℕ) (h : History) (v : Version) → HaveCome n h → v.count ≤ n → HaveCome n (h ++ v ∷ [])

@@ -1,8 +1,8 @@
 -- A run under a history, as the program's machine of one version takes it from version to version.
 use Rattle.std.proofs.Common.{◌≡◌, ℕ, ◌+◌, List, [], arith, sym, ap, ◌∙◌}
+use Rattle.sc_base.specs.declared.key.Key.{Key}
 use Rattle.sc_meaning.specs.World.{World, GoesOut, pass}
 use Rattle.sc_meaning.specs.Versions.{Text, History, callee_of, version_at}
-use Rattle.sc_meaning.specs.Behaviour.{main_key}
 use Rattle.sc_interp_machine.specs.Runs as runs
 use Rattle.sc_interp_machine.specs.Runs.{State, advance}
 use Rattle.sc_interp_laws.specs.Worlds.{world_of}
@@ -23,7 +23,7 @@ step_steady h texts s p e =
     ∙ same_step (alone texts) texts (quiet texts) (present texts) s
 
 -- and so it begins
-pub first_steady : (texts : List Text) (w : World) → reached_in (alone texts) w 0 ≡ steady.callee_next (alone texts) main_key [] (callee_of texts main_key) [] (pass GoesOut w)
-first_steady texts w =
-    ap (λ ts. runs.callee_next (alone texts) main_key [] (callee_of ts main_key) [] (pass GoesOut w)) (present texts (pass GoesOut w).count)
-    ∙ callee_step (alone texts) texts (quiet texts) (present texts) main_key [] (callee_of texts main_key) [] (pass GoesOut w)
+pub first_steady : (texts : List Text) (key : Key) (w : World) → reached_in (alone texts) key w 0 ≡ steady.callee_next (alone texts) key [] (callee_of texts key) [] (pass GoesOut w)
+first_steady texts key w =
+    ap (λ ts. runs.callee_next (alone texts) key [] (callee_of ts key) [] (pass GoesOut w)) (present texts (pass GoesOut w).count)
+    ∙ callee_step (alone texts) texts (quiet texts) (present texts) key [] (callee_of texts key) [] (pass GoesOut w)

@@ -8,7 +8,6 @@ use Rattle.sc_meaning.specs.Values.{Value, Number, FunctionAt, Pointer}
 use Rattle.sc_meaning.specs.World.{World, Enter, Born, pass, OpenBlock, GoesOut}
 use Rattle.sc_meaning.specs.Outcomes.{Outcome, Done, Over, world_after}
 use Rattle.sc_meaning.specs.Versions.{Text, History, Callee, Missing, InText, InLibrary, callee_of, version_at}
-use Rattle.sc_meaning.specs.Behaviour.{main_key}
 use Rattle.sc_meaning.specs.Changes.{at_line}
 use Rattle.sc_meaning.specs.Expressions.{Env, Answer, Nothing as NoAnswer, value_rule}
 use Rattle.sc_meaning.specs.Functions.{library_call}
@@ -141,11 +140,11 @@ step_shows k texts (Makes t v vs c cs w) p =
 step_shows k texts (Answers a cs w) p = absurd p
 step_shows k texts (Ends e) p = absurd p
 
--- and the call of `main`
-pub first_shows : (k : History) (texts : List Text) (w : World) → IsEvent (entry_shown (steady.callee_next k main_key [] (callee_of texts main_key) [] (pass GoesOut w))) → Shows w.count texts (world_of (steady.callee_next k main_key [] (callee_of texts main_key) [] (pass GoesOut w))).count (λ g. reached_in g w 0)
-first_shows k texts w p =
-    let x : Callee = callee_of texts main_key in
+-- and the call of the entry
+pub first_shows : (k : History) (texts : List Text) (key : Key) (w : World) → IsEvent (entry_shown (steady.callee_next k key [] (callee_of texts key) [] (pass GoesOut w))) → Shows w.count texts (world_of (steady.callee_next k key [] (callee_of texts key) [] (pass GoesOut w))).count (λ g. reached_in g key w 0)
+first_shows k texts key w p =
+    let x : Callee = callee_of texts key in
     let v : World = pass GoesOut w in
-    shows_as w.count (world_of (steady.callee_next k main_key [] x [] v)).count texts (λ g. reached_in g w 0) (λ g. callee_next g main_key [] x [] v)
-    (λ h q. ap (λ ts. callee_next h main_key [] (callee_of ts main_key) [] v) q)
-    (callee_shows w.count texts k main_key [] x [] v (omega arith) p)
+    shows_as w.count (world_of (steady.callee_next k key [] x [] v)).count texts (λ g. reached_in g key w 0) (λ g. callee_next g key [] x [] v)
+    (λ h q. ap (λ ts. callee_next h key [] (callee_of ts key) [] v) q)
+    (callee_shows w.count texts k key [] x [] v (omega arith) p)

@@ -1,5 +1,6 @@
 // What holds of a history that gets one version more. Each function here does nothing: its contract is the law.
 ghost use Rattle.std.specs.Prelude.{◌≡◌, ◌<◌, ◌≤◌, ◌++◌, [], ◌∷◌, ℕ, List};
+ghost use Rattle.sc_base.specs.declared.key.Key.{Key};
 ghost use Rattle.sc_meaning.specs.World.{Event, Happens, World, pass};
 ghost use Rattle.sc_meaning.specs.Outcomes.{and_then, went};
 ghost use Rattle.sc_meaning.specs.Versions.{History, Text, Version, version_at};
@@ -39,9 +40,9 @@ pub fn versions_change_nothing_behind()
 /// stood, in the world in which the texts have changed; and wherever fewer events have passed it stands as without it.
 #[tactic(auto, using(crate::proofs::Changed::reached_before, crate::proofs::Changed::reached_changed, crate::proofs::Changed::shows_still))]
 pub fn a_change_is_a_version_of_the_run()
-    ensures before { (h : History) (v : Version) (w : World) (k : ℕ) → (world_of (reached_in h w k)).count < v.count → reached_in h w k ≡ reached_in (h ++ v ∷ []) w k }
-    ensures there { (h : History) (v : Version) (w : World) (k : ℕ) → HaveCome v.count h → LastShows h w k v.count → reached_in (h ++ v ∷ []) w k ≡ changed_state (version_at h v.count) v.texts (reached_in h w k) }
-    ensures again { (h : History) (v : Version) (w : World) (k : ℕ) → LastShows h w k v.count → LastShows (h ++ v ∷ []) w k v.count }
+    ensures before { (h : History) (v : Version) (key : Key) (w : World) (k : ℕ) → (world_of (reached_in h key w k)).count < v.count → reached_in h key w k ≡ reached_in (h ++ v ∷ []) key w k }
+    ensures there { (h : History) (v : Version) (key : Key) (w : World) (k : ℕ) → HaveCome v.count h → LastShows h key w k v.count → reached_in (h ++ v ∷ []) key w k ≡ changed_state (version_at h v.count) v.texts (reached_in h key w k) }
+    ensures again { (h : History) (v : Version) (key : Key) (w : World) (k : ℕ) → LastShows h key w k v.count → LastShows (h ++ v ∷ []) key w k v.count }
 {}
 
 /// Where all versions of a run have come, its next step is that of a program of the present texts alone. A step that shows a line or an

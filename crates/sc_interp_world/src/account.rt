@@ -299,6 +299,17 @@ impl Account {
         keep(&mut self.whole, self.recorder.number(more))
     }
 
+    /// The function at which a run begins is told by the greatest number, if it has none.
+    #[tactic(auto, using(crate::proofs::ToldLemmas::tells_numbered, crate::proofs::ToldLemmas::tells_lost))]
+    pub fn name_entry(&mut self, key: &Key) -> Result<(), NoMemory>
+        ensures { self.new ≡ self.old }
+    {
+        if !self.recorder.listens() {
+            return Ok(());
+        }
+        keep(&mut self.whole, self.recorder.name_entry(key))
+    }
+
     /// From here on changes of memory are told, or are not.
     #[tactic(auto, using(crate::proofs::ToldLemmas::tells_hushed))]
     pub fn hush(&mut self, yes: bool)

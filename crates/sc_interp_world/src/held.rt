@@ -8,7 +8,7 @@ ghost use Rattle.sc_meaning.specs.Values as value;
 ghost use Rattle.sc_meaning.specs.World as spec;
 ghost use Rattle.sc_mem.specs.Words.{IsSize};
 ghost use Rattle.sc_mem_store.specs.Holding.{value_at};
-ghost use Rattle.sc_mem_store.specs.Living.{IsBare, IsByteOf, IsLiveAt, IsLiving};
+ghost use Rattle.sc_mem_store.specs.Living.{IsBare, IsByteOf, IsLiveAt, IsLiving, IsTagAt};
 ghost use Rattle.sc_mem_store.specs.Stray.{HasNoStray};
 
 use crate::cells::{copy_cells, unwritten};
@@ -303,6 +303,17 @@ impl Held {
         }
         match &self.memory {
             Some(memory) => memory.live_at(address),
+            None => None,
+        }
+    }
+
+    /// The tag of what stands at an address: that of functions at a function's stub, else the number of the live object that has
+    /// the byte there or ends just in front of it.
+    pub fn tag_at(&self, address: u32) -> Option<u32>
+        ensures { IfSome self.now.memory (λ m. IsTagAt self.now.functions m.flat.objects address result) }
+    {
+        match &self.memory {
+            Some(memory) => memory.tag_at(address),
             None => None,
         }
     }

@@ -172,6 +172,18 @@ impl Recorder {
         Ok(())
     }
 
+    /// The function at which a run begins is told by the greatest number, if it has none: it is no function of the program.
+    pub fn name_entry(&mut self, key: &Key) -> Result<(), NoMemory>
+        ensures same { (self.new.listens ≡ self.old.listens) × (self.new.entries ≡ self.old.entries) × (self.new.active ≡ self.old.active) }
+        ensures numbers { IfOk result (λ _. Numbers self.old.functions self.new.functions) }
+    {
+        if self.functions.keyed(key).is_none() {
+            self.functions
+                .put(StaticId::Named(key.copy(self.alloc)?), u32::MAX)?;
+        }
+        Ok(())
+    }
+
     // The number of a function.
     fn number_of(&self, key: &Key) -> Result<u32, NoMemory>
         ensures named { IfOk result (λ fun. named_in self.now.functions (id.Named key.now) ≡ Some fun) }

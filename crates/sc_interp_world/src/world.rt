@@ -6,7 +6,7 @@ ghost use Rattle.sc_meaning.specs.Values as value;
 ghost use Rattle.sc_meaning.specs.World as spec;
 ghost use Rattle.sc_mem.specs.Words.{IsSize};
 ghost use Rattle.sc_mem_store.specs.Holding.{value_at};
-ghost use Rattle.sc_mem_store.specs.Living.{IsBare, IsByteOf, IsLiveAt, IsLiving};
+ghost use Rattle.sc_mem_store.specs.Living.{IsBare, IsByteOf, IsLiveAt, IsLiving, IsTagAt};
 ghost use Rattle.sc_interp_world.specs.Keeping.{beside_of};
 ghost use Rattle.sc_interp_world.specs.Happenings.{item_of};
 ghost use Rattle.sc_interp_world.specs.Outputs.{bytes_moved, output};
@@ -318,6 +318,14 @@ impl World {
     {
         self.objects.number(more)?;
         self.account.number(more)
+    }
+
+    /// The function at which a run begins is told by the greatest number, 4,294,967,295, if it has none: it is no function of
+    /// the program. Nothing changes but how it is told.
+    pub fn name_entry(&mut self, key: &Key) -> Result<(), NoMemory>
+        ensures { self.new ≡ self.old }
+    {
+        self.account.name_entry(key)
     }
 
     /// Static objects and literals that are born from here on stand at these addresses. Nothing else changes.
@@ -746,6 +754,14 @@ impl World {
         ensures place { IfSome result (λ p. IfSome self.now.beside.memory (λ m. IsByteOf m.flat.objects p.id p.offset address)) }
     {
         self.objects.live_at(address)
+    }
+
+    /// The tag of what stands at an address: that of functions at a function's stub, else the number of the live object that has
+    /// the byte there or ends just in front of it. `None` where there is neither.
+    pub fn tag_at(&self, address: u32) -> Option<u32>
+        ensures { IfSome self.now.beside.memory (λ m. IsTagAt self.now.beside.functions m.flat.objects address result) }
+    {
+        self.objects.tag_at(address)
     }
 
     /// What the `size` bytes at an address hold, whether or not they are an object's: `None` exactly outside the static area,

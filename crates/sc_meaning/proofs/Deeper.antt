@@ -11,7 +11,7 @@ use Rattle.sc_meaning.specs.Changes.{settled}
 use Rattle.sc_meaning.specs.Expressions.{Env, Answer, expr_of}
 use Rattle.sc_meaning.specs.Statements.{stmt_of}
 use Rattle.sc_meaning.specs.Calls.{eval, exec, turn, resume, call}
-use Rattle.sc_meaning.specs.Behaviour.{Start, first_world, main_key, main_called, started, ending_of, ending}
+use Rattle.sc_meaning.specs.Behaviour.{Start, first_world, entry_called, started, ending_of, ending}
 use Rattle.sc_meaning.specs.Laws.{Leads, Extends, EndsAs}
 use Rattle.sc_meaning.proofs.Relation.{Relation, Histories}
 use Rattle.sc_meaning.proofs.Steps.{here, on, passes, after_one}
@@ -94,15 +94,15 @@ module _ (h : History) where
         call_goes Extending h h H (exec n h) (exec m h) (exec_more n m l) key vs (callee_of (version_at h w.count) key) w
 
 -- a run as a whole
-main_more : (n m : ℕ) → n ≤ m → (h : History) (w : World) → Extending.Rel w (main_called n h w) (main_called m h w)
-main_more n m le h w =
+entry_more : (n m : ℕ) → n ≤ m → (h : History) (key : Key) (w : World) → Extending.Rel w (entry_called n h key w) (entry_called m h key w)
+entry_more n m le h key w =
     let v : World = pass GoesOut w in
-    Extending.bind w (call n h main_key [] v) (call m h main_key [] v) _ _ (after_one Extending GoesOut w (call n h main_key [] v) (call m h main_key [] v) (calls_more h n m le main_key [] v)) (λ a u. passes Extending a ComesBack u)
+    Extending.bind w (call n h key [] v) (call m h key [] v) _ _ (after_one Extending GoesOut w (call n h key [] v) (call m h key [] v) (calls_more h n m le key [] v)) (λ a u. passes Extending a ComesBack u)
 
 started_more : (n m : ℕ) → n ≤ m → (s : Start) → Extending.Rel (first_world s) (started n s) (started m s)
 started_more n m le s =
     let r : Outcome (Unit {0}) = settled s.history (first_world s) in
-    Extending.bind (first_world s) r r _ _ (settled_goes Extending s.history (first_world s)) (λ x w. main_more n m le s.history w)
+    Extending.bind (first_world s) r r _ _ (settled_goes Extending s.history (first_world s)) (λ x w. entry_more n m le s.history s.entry w)
 
 pub started_leads : (n : ℕ) (s : Start) → Leads (first_world s) (world_after (started n s))
 started_leads n s = (started_more n n (omega arith) s).1

@@ -2,13 +2,14 @@
 use Rattle.std.proofs.Common.{◌≡◌, ◌⊎◌, inl, inr, ℕ, ◌+◌, ◌<◌, ◌≤◌, ◌==◌, nat_lt, nat_le, Bool, true, false, if◌then◌else◌, List, [], ◌∷◌, length, take, refl, sym, ap, ◌∙◌, subst, arith}
 use Rattle.std.proofs.lemmas.Bool.{cases_lt}
 use Rattle.std.proofs.lemmas.List.{take-append-le}
+use Rattle.sc_base.specs.declared.key.Key.{Key}
 use Rattle.sc_meaning.specs.World.{World, Event, Happens, GoesOut, ComesBack, pass, events}
 use Rattle.sc_meaning.specs.Outcomes.{Outcome, Done, Over, and_then, world_after, went}
 use Rattle.sc_meaning.specs.Versions.{Text, History, latest, version_at}
 use Rattle.sc_meaning.specs.Changes.{changed_if, settled_from, settled, happened}
 use Rattle.sc_meaning.specs.Expressions.{Answer}
 use Rattle.sc_meaning.specs.Calls.{call}
-use Rattle.sc_meaning.specs.Behaviour.{Start, first_world, main_key, main_called, started, events_upto}
+use Rattle.sc_meaning.specs.Behaviour.{Start, first_world, entry_called, started, events_upto}
 use Rattle.sc_meaning.specs.Laws.{Leads, upto, with_history}
 use Rattle.sc_meaning.proofs.Relation.{Relation, Histories}
 use Rattle.sc_meaning.proofs.Steps.{here, on, passes, after_one}
@@ -122,16 +123,16 @@ module _ (c : ℕ) (h k : History) (same : upto c h ≡ upto c k) where
   pub sharing : Histories (Sharing c) h k
   sharing = record { happens = happened_shares; versions = versions_share }
 
-  main_shares : (n : ℕ) (w : World) → (Sharing c).Rel w (main_called n h w) (main_called n k w)
-  main_shares n w =
+  entry_shares : (n : ℕ) (key : Key) (w : World) → (Sharing c).Rel w (entry_called n h key w) (entry_called n k key w)
+  entry_shares n key w =
       let v : World = pass GoesOut w in
-      (Sharing c).bind w (call n h main_key [] v) (call n k main_key [] v) _ _ (after_one (Sharing c) GoesOut w (call n h main_key [] v) (call n k main_key [] v) (calls_go (Sharing c) h k sharing n main_key [] v)) (λ a u. passes (Sharing c) a ComesBack u)
+      (Sharing c).bind w (call n h key [] v) (call n k key [] v) _ _ (after_one (Sharing c) GoesOut w (call n h key [] v) (call n k key [] v) (calls_go (Sharing c) h k sharing n key [] v)) (λ a u. passes (Sharing c) a ComesBack u)
 
 -- the events of a run up to the first c + 1
 started_shares : (c n : ℕ) (s : Start) (k : History) → upto c s.history ≡ upto c k → (Sharing c).Rel (first_world s) (started n s) (started n (with_history s k))
 started_shares c n s k same =
     let w : World = first_world s in
-    (Sharing c).bind w (settled s.history w) (settled k w) _ _ (settled_shares c s.history k same w) (λ x u. main_shares c s.history k same n u)
+    (Sharing c).bind w (settled s.history w) (settled k w) _ _ (settled_shares c s.history k same w) (λ x u. entry_shares c s.history k same n s.entry u)
 
 early : (c : ℕ) (w v u : World) → IsCounted w → Leads w v → c < v.count → Leads v u → take (c + 1) (events u.trail) ≡ take (c + 1) (events v.trail)
 early c w v u counted l less m =

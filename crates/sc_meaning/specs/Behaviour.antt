@@ -11,8 +11,10 @@ use Rattle.sc_meaning.specs.Changes.{settled}
 use Rattle.sc_meaning.specs.Expressions.{Answer, Plain, Place, Part, Nothing}
 use Rattle.sc_meaning.specs.Calls.{call}
 
--- how a run starts: the bytes of stack and heap, the input, the versions that the run has, and what its machine was told
+-- How a run starts: the function that it calls, the bytes of stack and heap, the input, the versions that the run has, and what its
+-- machine was told.
 pub record Start : Type 0 where
+  pub entry : Key
   pub stack : ℕ
   pub heap : ℕ
   pub input : List ℕ
@@ -39,24 +41,24 @@ first_world s = record {
   beside = s.beside;
 }
 
--- the bytes of `main`
+-- `main`, the entry of a program's run (ANSI 2.1.2.2)
 abbrev pub main_key : Key
 main_key = record { «module» = None; name = 109 ∷ 97 ∷ 105 ∷ 110 ∷ [] }
 
--- the status with which the first call of `main` ends the run: 0 where it gives no value
+-- the status with which the call of the entry ends the run: 0 where it gives no value
 abbrev pub status_of : Answer → ℕ
 status_of (Plain v) = bits v
 status_of (Place v) = 0
 status_of (Part v n) = 0
 status_of Nothing = 0
 
--- the call of `main` goes out, and comes back
-abbrev pub main_called : ℕ → History → World → Outcome Answer
-main_called n h w = and_then (call n h main_key [] (pass GoesOut w)) (λ a w. Done a (pass ComesBack w))
+-- the call of the entry goes out, and comes back
+abbrev pub entry_called : ℕ → History → Key → World → Outcome Answer
+entry_called n h key w = and_then (call n h key [] (pass GoesOut w)) (λ a w. Done a (pass ComesBack w))
 
--- The objects of static storage duration and the literals are born, as the first version comes, and `main` is called.
+-- The objects of static storage duration and the literals are born, as the first version comes, and the entry is called.
 abbrev pub started : ℕ → Start → Outcome Answer
-started n s = and_then (settled s.history (first_world s)) (λ _ w. main_called n s.history w)
+started n s = and_then (settled s.history (first_world s)) (λ _ w. entry_called n s.history s.entry w)
 
 abbrev pub ending_of : Outcome Answer → Ending
 ending_of (Done a w) = Exit (status_of a) w

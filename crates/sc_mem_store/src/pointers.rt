@@ -3,6 +3,7 @@ ghost use Rattle.std.specs.Prelude.{◌≡◌, ◌+◌, ◌*◌, ◌<◌, [], So
 ghost use Rattle.sc_meaning.specs.Beside as words;
 ghost use Rattle.sc_meaning.specs.Values as spec;
 ghost use Rattle.sc_mem_store.specs.Holding.{function_of, function_or, value_at, IsTag};
+ghost use Rattle.sc_mem_store.specs.Living.{IsTagAt};
 
 use sc_base::{Key, NoMemory, Shared, Word};
 use sc_meaning_values::{Shape, Value};
@@ -22,6 +23,17 @@ fn function_at(functions: &[Shared<Key>], address: u32) -> Option<&Shared<Key>>
         return None;
     }
     functions.get((address - STUBS) as usize / 8)
+}
+
+/// The tag of what stands at an address: that of functions at a function's stub, else the number of the live object that has
+/// the byte there or ends just in front of it.
+pub fn tag_at(functions: &[Shared<Key>], memory: &Memory, address: u32) -> Option<u32>
+    ensures { IsTagAt functions.now memory.now.flat.objects address result }
+{
+    match function_at(functions, address) {
+        Some(_) => Some(Word::FUNCTION),
+        None => memory.at(address),
+    }
 }
 
 // The value of a word with the functions' tag.

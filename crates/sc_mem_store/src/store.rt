@@ -9,6 +9,7 @@ ghost use Rattle.sc_mem_store.specs.Holding.{value_at};
 ghost use Rattle.sc_mem.specs.Safe.{IsSafe};
 ghost use Rattle.sc_mem.specs.Words.{IsSize};
 ghost use Rattle.sc_mem_store.specs.Changes.{buried, changed, item_of, remembered};
+ghost use Rattle.sc_mem_store.specs.Living.{IsTagAt};
 ghost use Rattle.sc_mem_store.specs.Stray.{HasNoStray};
 ghost use Rattle.sc_meaning.specs.Values.{cells_of};
 ghost use Rattle.sc_meaning.specs.World.{Object, cells_at, ended, fresh, object_at, written};
@@ -18,7 +19,7 @@ use crate::cell::Cell;
 use crate::few::{Few, few_at};
 use crate::history::{Change, History, Item, Last};
 use crate::machine::{Place, is_tag, place_at};
-use crate::pointers::{value_of, word_of};
+use crate::pointers::{tag_at, value_of, word_of};
 use crate::span::span_of;
 use crate::values::value_byte;
 use sc_base::{Cell as Stored, Items, Key, Kind, NoMemory, Shared, Word};
@@ -333,6 +334,14 @@ impl Store {
         ensures place { IfSome result (λ p. IsByteOf self.now.memory.flat.objects p.id p.offset address) }
     {
         place_at(&self.memory, address)
+    }
+
+    /// The tag of what stands at an address: that of functions at a function's stub, else the number of the live object that has
+    /// the byte there or ends just in front of it. `None` exactly where there is neither.
+    pub fn tag_at(&self, address: u32) -> Option<u32>
+        ensures { IsTagAt self.now.functions self.now.memory.flat.objects address result }
+    {
+        tag_at(self.functions.as_slice(), &self.memory, address)
     }
 
     /// What the `size` bytes at an address hold, without a test: `None` exactly outside the areas and where the address is

@@ -46,6 +46,7 @@ use Rattle.sc_services.specs.Entering.{Enters, EntersAt, EntersBlock, EntersCall
 use Rattle.sc_services.specs.Frames.{is_on_stack}
 use Rattle.sc_services.specs.Leaving.{Leaves, cost_here}
 use Rattle.sc_services.specs.Writing.{AreWritten, BesideAll, InObject, Writes, Written, written}
+use Rattle.sc_services.proofs.Passing.{all_write}
 use Rattle.sc_services.proofs.Writing.{stores_write}
 use Rattle.sc_services.specs.declared.copying.Copied.TheVariants as copied
 use Rattle.sc_services.specs.declared.entering.Entered.{Entered}
@@ -232,7 +233,7 @@ ends_there w s e is l = subst (λ (t : State). Happen w (world_of t)) is l
 -- ---- a move behind which the run goes on
 
 calls_value_lead : (i : Image) (x : Value) (xs : List Value) (c : Calls) (w : World) (next : Next) (d : Calls) (v : World) → CallsValue i x xs c w next d v → Adds w v
-calls_value_lead i (FunctionAt key) xs c w next d v p = writes_lead w v p.writes
+calls_value_lead i (FunctionAt key) xs c w next d v p = writes_lead w v (all_write 0 xs w v p.stores)
 calls_value_lead i (Number n) xs c w next d v p = absurd p
 calls_value_lead i (Pointer o n) xs c w next d v p = absurd p
 
@@ -376,7 +377,7 @@ lost_or : (i : Image) (c d : Calls) (w v : World) (broken : Break) → (broken �
 lost_or i c d w v broken (inl is) = inl (ap (λ (b : Break). IsOver (ended_by b)) is)
 lost_or i c d w v broken (inr l) = inr l
 
-leads_lead : (texts : List Text) (turns : ℕ) (m n : Standing) → Leads texts turns m n → IsLost n ⊎ Adds m.world n.world
+pub leads_lead : (texts : List Text) (turns : ℕ) (m n : Standing) → Leads texts turns m n → IsLost n ⊎ Adds m.world n.world
 leads_lead texts turns m n (leads_on i c d w v next after now moved p) = inr (moves_lead texts i next after c d w v moved p)
 leads_lead texts turns m n (leads_over i c d w v next after now broken p) = lost_or i c d w v broken (moves_end texts i next after c d w v broken p)
 leads_lead texts turns m n (leads_lost i c d w v next now) = inl refl
@@ -386,7 +387,7 @@ not_over texts turns m n (leads_on i c d w v next after now moved p) is = cc
 not_over texts turns m n (leads_over i c d w v next after now broken p) is = cc
 not_over texts turns m n (leads_lost i c d w v next now) is = cc
 
-further_lead : (texts : List Text) (turns : ℕ) (first m n : Standing) → Leads texts turns m n → IsLost m ⊎ Adds first.world m.world → IsLost n ⊎ Adds m.world n.world → IsLost n ⊎ Adds first.world n.world
+pub further_lead : (texts : List Text) (turns : ℕ) (first m n : Standing) → Leads texts turns m n → IsLost m ⊎ Adds first.world m.world → IsLost n ⊎ Adds m.world n.world → IsLost n ⊎ Adds first.world n.world
 further_lead texts turns first m n p (inl is) q = absurd (not_over texts turns m n p is)
 further_lead texts turns first m n p (inr l) (inl is) = inl is
 further_lead texts turns first m n p (inr l) (inr k) = inr (on_adds first.world m.world n.world l k)
@@ -407,7 +408,7 @@ rested_lead i c w (IsOver end) = here w
 rested_lost : (i : Image) (c : Calls) (w : World) (course : Course) → course ≡ IsOver (mixed.Meant ended.NoRoom) → IsLost (rested_in i c w course)
 rested_lost i c w course is = ap (λ (x : Course). (rested_in i c w x).course) is
 
-rests_lead : (m last : Standing) (w : World) → last ≡ rested m → IsLost m ⊎ Adds w m.world → IsLost last ⊎ Adds w last.world
+pub rests_lead : (m last : Standing) (w : World) → last ≡ rested m → IsLost m ⊎ Adds w m.world → IsLost last ⊎ Adds w last.world
 rests_lead m last w is (inl lost) = inl (ap (λ (n : Standing). n.course) is ∙ rested_lost m.image m.calls m.world m.course lost)
 rests_lead m last w is (inr l) = inr (subst (λ (n : Standing). Adds w n.world) (sym is) (on_adds w m.world (rested m).world l (happened m.world (rested m).world (rested_lead m.image m.calls m.world m.course))))
 

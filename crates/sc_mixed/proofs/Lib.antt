@@ -4,6 +4,7 @@ pub mod Starts
 pub mod Resting
 pub mod Reaching
 pub mod Stepping
+pub mod Singles
 pub mod Sources
 pub mod Adding
 pub mod Growing

@@ -13,8 +13,8 @@ use Rattle.sc_words.specs.declared.stop.Walk.{Walk}
 use Rattle.sc_world.specs.Wants.{Want, else_over, else_paused, halt_if, wanted}
 use Rattle.sc_world.specs.declared.halt.Halt.{Halt}
 use Rattle.sc_world.specs.declared.halt.Halt.TheVariants.{Ended, Paused}
-use Rattle.sc_mixed.specs.Goes.{Goes, GoesTo, Reaches, want_from, lost_at, reaches_here, rested, rested_by, rested_in, rests, rests_at, rests_in}
-use Rattle.sc_mixed.specs.Parts.{ClosesSo, Comes, ComesBackSo, else_rests, standing_at}
+use Rattle.sc_mixed.specs.Goes.{Goes, GoesTo, Reaches, halts_in, want_from, lost_at, reaches_here, rested, rested_by, rested_in, rests, rests_at, rests_in}
+use Rattle.sc_mixed.specs.Parts.{ClosesSo, Comes, ComesBackSo, standing_at}
 use Rattle.sc_mixed.specs.Standing.{Standing, ended_by, standing_on, standing_over, status_at}
 use Rattle.sc_mixed.specs.declared.broken.Break.{Break}
 use Rattle.sc_mixed.specs.declared.calls.Calls.{Calls}
@@ -28,21 +28,17 @@ use Rattle.sc_mixed.specs.declared.turn.Turned.TheVariants as turned
 -- ---- what ends a go
 
 -- an event that is wanted
-pub event_rests : (want : Want) (took : ℕ) (next : Next) (x : Shown) (c : Calls) (w : World) (halt : Halt) → wanted want x w.frames ≡ Some halt → Some halt ≡ rests_in want took c w (On next x)
-event_rests want took next x c w halt is = sym (ap (λ (event : Option Halt). else_paused (else_over event (is_some (status_at next c))) want.turns took) is)
+pub event_halts : (want : Want) (next : Next) (x : Shown) (c : Calls) (w : World) (halt : Halt) → wanted want x w.frames ≡ Some halt → Some halt ≡ halts_in want c w (On next x)
+event_halts want next x c w halt is = sym (ap (λ (event : Option Halt). else_over event (is_some (status_at next c))) is)
 
-none_by : (status : Option ℕ) (turns took : ℕ) → else_rests status turns took ≡ else_paused (else_over None (is_some status)) turns took
-none_by (Some status) turns took = refl
-none_by None turns took = refl
-
--- nothing that was shown
-pub else_rests_there : (want : Want) (took : ℕ) (next : Next) (x : Shown) (c : Calls) (w : World) (event r : Option Halt) → event ≡ wanted want x w.frames → event ≡ None → r ≡ else_rests (status_at next c) want.turns took → r ≡ rests_in want took c w (On next x)
-else_rests_there want took next x c w event r at is p =
-    p ∙ none_by (status_at next c) want.turns took ∙ ap (λ (event : Option Halt). else_paused (else_over event (is_some (status_at next c))) want.turns took) (sym is ∙ at)
+-- nothing that was shown: where the run is over, its end
+pub end_halts : (want : Want) (next : Next) (x : Shown) (c : Calls) (w : World) (status : Option ℕ) → wanted want x w.frames ≡ None → status ≡ status_at next c → halt_if (is_some status) Ended ≡ halts_in want c w (On next x)
+end_halts want next x c w status none at =
+    ap (λ (s : Option ℕ). halt_if (is_some s) Ended) at ∙ sym (ap (λ (event : Option Halt). else_over event (is_some (status_at next c))) none)
 
 -- ---- where a run rests
 
-come_back : (status : ℕ) (i : Image) (c : Calls) (w v : World) (next : Next) (course : Course) (end : MixedEnd) → course ≡ Over end → ComesBackSo status w end v → (standing_at i c v course ≡ rested_by (Some status) i c w next) ⊎ (course ≡ Over (mixed.Meant ended.NoRoom))
+pub come_back : (status : ℕ) (i : Image) (c : Calls) (w v : World) (next : Next) (course : Course) (end : MixedEnd) → course ≡ Over end → ComesBackSo status w end v → (standing_at i c v course ≡ rested_by (Some status) i c w next) ⊎ (course ≡ Over (mixed.Meant ended.NoRoom))
 come_back status i c w v next course end is (inl p) =
     inl (ap (λ (x : Course). standing_at i c v x) (is ∙ ap (λ (e : MixedEnd). Over e) p.0) ∙ ap (λ (u : World). standing_over i c u (mixed.Meant (ended.Exit status))) p.1)
 come_back status i c w v next course end is (inr p) = inr (is ∙ ap (λ (e : MixedEnd). Over e) p)

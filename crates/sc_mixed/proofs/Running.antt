@@ -76,7 +76,7 @@ went_last i most k r q s w u v how few h instr = one_last k q u refl few h instr
 
 -- ---- one alone
 
-ran_nothing : (i : Image) (n : ℕ) (r s : Registers) (w v : World) → n ≡ 0 → Ran i n r w s v → (r ≡ s) × (w ≡ v)
+pub ran_nothing : (i : Image) (n : ℕ) (r s : Registers) (w v : World) → n ≡ 0 → Ran i n r w s v → (r ≡ s) × (w ≡ v)
 ran_nothing i n r s w v none (ran_none r2 w2) = (refl, refl)
 ran_nothing i n r s w v none (ran_further k r2 q s2 w2 u v2 h instr) = absurd (omega (arith, none))
 

@@ -1,7 +1,7 @@
 -- Yardstick: to be compared with what it restates (docs/TRUST.md).
 -- From interpreted calls to compiled code, and back: what becomes of the calls and of the registers.
 use Rattle.std.specs.Option.{is_some}
-use Rattle.std.specs.Prelude.{◌≡◌, not, ℕ, ◌==◌, ◌&&◌, ◌≤◌, Bool, true, false, List, [], ◌∷◌, length, replicate, Option, Some, None, Result, Ok, Err}
+use Rattle.std.specs.Prelude.{◌≡◌, not, ℕ, ◌==◌, ◌&&◌, Bool, true, false, List, [], ◌∷◌, length, replicate, Option, Some, None, Result, Ok, Err}
 use Rattle.sc_base.specs.declared.memory.Word.{Word}
 use Rattle.sc_emu.specs.Machine.{return_address}
 use Rattle.sc_emu.specs.Operations.{plain}
@@ -18,7 +18,7 @@ use Rattle.sc_meaning.specs.Versions.{Text, Callee, Missing, InText, InLibrary, 
 use Rattle.sc_meaning.specs.World.{World}
 use Rattle.sc_services.specs.Arguments.{IsResult, PutsArguments}
 use Rattle.sc_services.specs.Frames.{is_object, stack_top}
-use Rattle.sc_services.specs.Writing.{Writes}
+use Rattle.sc_services.specs.Passing.{StoresArguments}
 use Rattle.sc_types.specs.declared.ctype.CType.{CType}
 use Rattle.sc_mixed.specs.declared.broken.Break.{Break}
 use Rattle.sc_mixed.specs.declared.broken.Break.TheVariants.{Crashed}
@@ -77,8 +77,7 @@ pub record Calling (i : Image) (key : Key) (xs : List Value) (c : Calls) (w : Wo
   pub puts : PutsArguments w 0 xs c.regs regs
   pub calls : d ≡ calling_code stub v (with_registers regs c)
   pub goes : next ≡ Executes
-  pub writes : Writes w v
-  pub few : length xs ≤ 8 → v ≡ w
+  pub stores : StoresArguments 0 xs w v
 
 -- the stack pointer and the number of active calls are as compiled code was called
 abbrev pub is_as_called : ℕ → ℕ → Registers → World → Bool

@@ -35,7 +35,7 @@ rests_in want took c w course = else_paused (halts_in want c w course) want.turn
 abbrev pub rests : Want → ℕ → Standing → Option Halt
 rests want took m = rests_in want took m.calls m.world m.course
 
--- where a go ends: what was shown is looked at once; and where `main` came back the run ends with its status
+-- where a go ends: what was shown is looked at once; and where the entry came back the run ends with its status
 abbrev pub rested_by : Option ℕ → Image → Calls → World → Next → Standing
 rested_by None i c w next = standing_on i c w next Nothing
 rested_by (Some status) i c w next = standing_over i c (pass ComesBack w) (Meant (Exit status))

@@ -1,6 +1,6 @@
 -- Inside: plumbing, a representation, an invariant or a promise beside the claim (docs/TRUST.md).
 -- What parts of a move come to, from which it is put together.
-use Rattle.std.specs.Prelude.{◌≡◌, ⊤, ℕ, suc, ◌+◌, ◌-◌, ◌<◌, ◌≤◌, nat_le, Bool, true, false, List, [], ◌⊎◌, Result, Ok, Err, Option, Some, None}
+use Rattle.std.specs.Prelude.{◌≡◌, ⊤, ℕ, suc, ◌+◌, ◌-◌, ◌<◌, ◌≤◌, Bool, true, false, List, [], ◌⊎◌, Result, Ok, Err, Option, Some, None}
 use Rattle.sc_base.specs.declared.key.Key.{Key}
 use Rattle.sc_emu.specs.Registers.{Registers}
 use Rattle.sc_interp.specs.Shows.{entry_shown}
@@ -22,13 +22,12 @@ use Rattle.sc_services.specs.declared.entering.Entered.{Entered}
 use Rattle.sc_services.specs.declared.entering.Entered.TheVariants as entered
 use Rattle.sc_services.specs.declared.leaving.Left.{Left}
 use Rattle.sc_services.specs.declared.leaving.Left.TheVariants as left
-use Rattle.sc_world.specs.Goes.{main_next}
+use Rattle.sc_world.specs.Goes.{entry_next}
 use Rattle.sc_world.specs.Standing.{state_of}
-use Rattle.sc_world.specs.Wants.{Want, halt_if}
+use Rattle.sc_world.specs.Wants.{Want}
 use Rattle.sc_world.specs.declared.halt.Halt.{Halt}
-use Rattle.sc_world.specs.declared.halt.Halt.TheVariants.{Ended, Paused}
 use Rattle.sc_mixed.specs.Bridge.{Calling, Returns, waiting, with_registers}
-use Rattle.sc_mixed.specs.Goes.{Reaches, rests_in}
+use Rattle.sc_mixed.specs.Goes.{Leads, Reaches, rests_in}
 use Rattle.sc_mixed.specs.Instructions.{Ran}
 use Rattle.sc_mixed.specs.Machine.{Executed, IsCallMoved, IsEntered, IsLeft, Moves, left_calls, quiet}
 use Rattle.sc_mixed.specs.Serving.{IsHere}
@@ -134,12 +133,12 @@ abbrev pub Comes : List Text → Image → Want → Standing → Turned → Next
 Comes texts i want first (turned.Rests halt) next c w = (took : ℕ) × (now : Shown) × Reaches texts want first took (standing_on i c w next now) × (rests_in want took c w (On next now) ≡ Some halt)
 Comes texts i want first (turned.Over broken) next c w = (took : ℕ) × Reaches texts want first took (standing_over i c w (ended_by broken))
 
--- what ends a go where nothing that was shown does
-abbrev pub else_rests : Option ℕ → ℕ → ℕ → Option Halt
-else_rests (Some status) turns took = Some Ended
-else_rests None turns took = halt_if (nat_le turns took) (Paused took)
+-- where one move from a place brings a run, or moves that lie between, or a step of one instruction: to what is next, or to its end
+abbrev pub came_to : Image → Result Shown Break → Next → Calls → World → Standing
+came_to i (Ok now) next c w = standing_on i c w next now
+came_to i (Err broken) next c w = standing_over i c w (ended_by broken)
 
--- the answer of `main` ends the run, or no memory was left
+-- the answer of the entry ends the run, or no memory was left
 abbrev pub ComesBackSo : ℕ → World → MixedEnd → World → Type 0
 ComesBackSo status w end v = ((end ≡ mixed.Meant (ended.Exit status)) × (v ≡ pass ComesBack w)) ⊎ (end ≡ mixed.Meant ended.NoRoom)
 
@@ -147,17 +146,21 @@ abbrev pub ClosesSo : Option ℕ → Next → World → Course → World → Typ
 ClosesSo None next w course v = (course ≡ On next shows.Nothing) × (v ≡ w)
 ClosesSo (Some status) next w course v = (end : MixedEnd) × (course ≡ Over end) × ComesBackSo status w end v
 
--- a compiled `main` is called
-abbrev pub MainInCode : Image → Key → Calls → World → Result (Next × Shown) Break → Calls → World → Type 0
-MainInCode i key c w (Ok first) d v = Calling i key [] c (pass GoesOut w) first.0 d v × (first.1 ≡ shows.Nothing)
-MainInCode i key c w (Err broken) d v = broken ≡ Meant stop.NoRoom
+-- a compiled entry is called
+abbrev pub EntryInCode : Image → Key → Calls → World → Result (Next × Shown) Break → Calls → World → Type 0
+EntryInCode i key c w (Ok first) d v = Calling i key [] c (pass GoesOut w) first.0 d v × (first.1 ≡ shows.Nothing)
+EntryInCode i key c w (Err broken) d v = broken ≡ Meant stop.NoRoom
 
 -- an interpreted one
-abbrev pub MainInSource : List Text → Calls → World → Result (Next × Shown) Break → World → Type 0
-MainInSource texts c w (Ok first) v = (g : Going) × (first.0 ≡ Steps g) × (main_next texts c.callers w ≡ state_of g c.callers v) × (first.1 ≡ entry_shown (main_next texts c.callers w))
-MainInSource texts c w (Err (Meant stopped)) v = (e : Ending) → ending_of stopped v ≡ Some e → main_next texts c.callers w ≡ Ends e
-MainInSource texts c w (Err (Crashed pc cause)) v = ⊥
+abbrev pub EntryInSource : List Text → Key → Calls → World → Result (Next × Shown) Break → World → Type 0
+EntryInSource texts key c w (Ok first) v = (g : Going) × (first.0 ≡ Steps g) × (entry_next texts key c.callers w ≡ state_of g c.callers v) × (first.1 ≡ entry_shown (entry_next texts key c.callers w))
+EntryInSource texts key c w (Err (Meant stopped)) v = (e : Ending) → ending_of stopped v ≡ Some e → entry_next texts key c.callers w ≡ Ends e
+EntryInSource texts key c w (Err (Crashed pc cause)) v = ⊥
 
-abbrev pub MainCalled : Bool → List Text → Image → Key → Calls → World → Result (Next × Shown) Break → Calls → World → Type 0
-MainCalled true texts i key c w result d v = MainInCode i key c w result d v
-MainCalled false texts i key c w result d v = MainInSource texts c w result v × (d ≡ c)
+abbrev pub EntryCalled : Bool → List Text → Image → Key → Calls → World → Result (Next × Shown) Break → Calls → World → Type 0
+EntryCalled true texts i key c w result d v = EntryInCode i key c w result d v
+EntryCalled false texts i key c w result d v = EntryInSource texts key c w result v × (d ≡ c)
+
+-- one move leads there
+abbrev pub LeadsOnce : List Text → Image → Next → Calls → World → Result Shown Break → Next → Calls → World → Type 0
+LeadsOnce texts i next c w result after d v = (now : Shown) → (turns : ℕ) × Leads texts turns (standing_on i c w next now) (came_to i result after d v)

@@ -19,6 +19,7 @@ mod rest;
 mod run;
 mod serve;
 mod service;
+mod single;
 mod turn;
 
 pub use change::{kept_keys, place_run, take_over};

@@ -48,18 +48,21 @@ fn status_at(next: &Next, calls: &Calls) -> Option<u32>
     }
 }
 
-// A go ends where the run is over, and where its turns were taken.
-fn else_rests(status: Option<u32>, turns: u64, took: u64) -> Option<Halt>
-    ensures { result ≡ parts.else_rests status turns took }
+/// What halts the run where it stands, if anything does: what it shows, or that it is over.
+#[tactic(auto, using(crate::proofs::Resting::event_halts, crate::proofs::Resting::end_halts))]
+pub fn halts(want: &Want, next: &Next, shown: Shown, calls: &Calls, world: &World) -> Option<Halt>
+    ensures { result ≡ goes.halts_in want.now calls.now world.now (On next.now shown) }
 {
-    match status {
-        Some(_) => Some(Halt::Ended),
-        None => halt_if(turns <= took, Halt::Paused(took)),
+    match wanted(want, shown, world) {
+        Some(halt) => Some(halt),
+        None => match status_at(next, calls) {
+            Some(_) => Some(Halt::Ended),
+            None => None,
+        },
     }
 }
 
-/// What ends a go where the run stands, if anything does: what it shows, or that it is over, or that the turns were taken.
-#[tactic(auto, using(crate::proofs::Resting::event_rests, crate::proofs::Resting::else_rests_there))]
+/// What ends a go where the run stands, if anything does: what halts it there, or that the turns were taken.
 pub fn rests(
     want: &Want,
     took: u64,
@@ -70,13 +73,13 @@ pub fn rests(
 ) -> Option<Halt>
     ensures { result ≡ goes.rests_in want.now took calls.now world.now (On next.now shown) }
 {
-    match wanted(want, shown, world) {
+    match halts(want, next, shown, calls, world) {
         Some(halt) => Some(halt),
-        None => else_rests(status_at(next, calls), want.turns, took),
+        None => halt_if(want.turns <= took, Halt::Paused(took)),
     }
 }
 
-// The answer of `main` ends the run with its status.
+// The answer of the entry ends the run with its status.
 fn come_back(status: u32, world: &mut World) -> MixedEnd
     ensures { parts.ComesBackSo status world.old result world.new }
 {
@@ -86,7 +89,7 @@ fn come_back(status: u32, world: &mut World) -> MixedEnd
     }
 }
 
-/// A run comes to rest: what was shown is looked at once; where `main` came back it is over.
+/// A run comes to rest: what was shown is looked at once; where the entry came back it is over.
 pub fn closed(next: Next, calls: &Calls, world: &mut World) -> Course
     ensures { parts.ClosesSo (spec.status_at next calls.now) next world.old result world.new }
 {

@@ -16,7 +16,7 @@ use crate::course::Course;
 use crate::ended::MixedEnd;
 use crate::going::goes_from;
 use crate::layout::layout_of;
-use sc_base::{Items, NoMemory, Stack};
+use sc_base::{Items, Key, NoMemory, Stack};
 use sc_core_held::Text;
 use sc_emu::Regs;
 use sc_interp::{Going, Shown};
@@ -128,8 +128,8 @@ fn is_in_code(calls: &Calls) -> bool {
 }
 
 impl MixedRun {
-    /// A run of these texts from its start on, in this image of them: the static objects are born, and the call of `main` goes out. Its
-    /// input and the bytes that stack and heap may have are given. Where it is `heard` all that happens is recorded. A run that is over at
+    /// A run of these texts from its start on, in this image of them: the static objects are born, and the call of the entry, the function
+    /// with this key, goes out. Its input and the bytes that stack and heap may have are given. Where it is `heard` all that happens is recorded. A run that is over at
     /// once says so at its first go.
     ///
     /// # Errors
@@ -140,17 +140,18 @@ impl MixedRun {
         alloc: Global,
         texts: &[Text],
         image: Image,
+        key: &Key,
         stack: u64,
         heap: u64,
         input: Items<u8>,
         heard: bool,
     ) -> Result<MixedRun, NoMemory>
-        ensures { IfOk result (λ r. starting.Starts texts.now image stack heap input r) }
+        ensures { IfOk result (λ r. starting.Starts texts.now image key.now stack heap input r) }
     {
         let layout = layout_of(alloc, texts, &image)?;
         let mut world = World::new(alloc, stack, heap, input, layout, heard)?;
         let mut calls = no_calls(alloc);
-        let first = begun(texts, &image, &mut calls, &mut world);
+        let first = begun(texts, key, &image, &mut calls, &mut world);
         let course = course_of(first)?;
         Ok(MixedRun {
             world,

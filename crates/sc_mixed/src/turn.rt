@@ -62,8 +62,8 @@ fn counted(
     }
 }
 
-// One move, or instructions up to where the turns are taken: what it shows.
-fn moved(
+/// One move, or instructions up to where the turns are taken: what it shows.
+pub fn moved(
     texts: &[Text],
     image: &Image,
     most: u64,
@@ -114,7 +114,7 @@ fn moved_on(
     }
 }
 
-/// What turns come to: a place where a go ends, or why the run ended in them, but for an end by the answer of `main`, with which it
+/// What turns come to: a place where a go ends, or why the run ended in them, but for an end by the answer of the entry, with which it
 /// rests.
 #[derive(Drop)]
 pub enum Turned {

@@ -5,3 +5,4 @@ pub mod Reading
 pub mod Tables
 pub mod Ways
 pub mod Given
+pub mod Passing

@@ -13,7 +13,6 @@ use Rattle.sc_meaning.specs.World.{World, Object, object_at}
 use Rattle.sc_services.specs.Arguments.{argument_word}
 use Rattle.sc_services.specs.Frames.{stack_top}
 use Rattle.sc_services.specs.Memory.{StandsAt, read_at, read_in, size_in, table_of}
-use Rattle.sc_services.specs.Tagging.{IsByteOf, IsTag, IsTagAt, is_stub}
 
 pub read_is : (memory : Option Store) (at n : ℕ) (found : Option Word) → MatchOption memory (found ≡ None) (λ m. found ≡ raw_read m.flat at n) → found ≡ read_in memory at n
 read_is None at n found is = is
@@ -46,10 +45,6 @@ size_none os here id same is = ap size_in (sym is ∙ ap (λ (xs : List Object).
 
 pub size_some : (os here : List Object) (id : ℕ) (o : Object) → here ≡ os → object_at here id ≡ Some o → o.size ≡ size_in (object_at os id)
 size_some os here id o same is = ap size_in (sym is ∙ ap (λ (xs : List Object). object_at xs id) same)
-
--- the tag of what stands at an address that is no stub's
-pub tag_here : (w : World) (at id offset : ℕ) → is_stub at ≡ false → IsByteOf w.objects id offset → StandsAt w id offset at → IsTagAt w at id
-tag_here w at id offset off lives there = subst (λ (b : Bool). IsTag b w at id) (sym off) (offset, lives, there)
 
 -- a word is there
 pub is_there : (found there : Option Word) (x : Word) → found ≡ there → found ≡ Some x → IsSome there

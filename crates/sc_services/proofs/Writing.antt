@@ -9,13 +9,13 @@ use Rattle.sc_meaning.specs.Beside.{kept_in, with_memory}
 use Rattle.sc_meaning.specs.Values.{Cell, Value, cells_of}
 use Rattle.sc_meaning.specs.World.{World, Put, pass}
 use Rattle.sc_services.specs.Memory.{IsBareAt, StandsAt, has_bytes, read_at, read_in}
-use Rattle.sc_services.specs.Tagging.{IsByteOf}
+use Rattle.sc_mem_store.specs.Living.{IsLiveAt}
 use Rattle.sc_services.specs.Writing.{Written, InObject, BesideAll, Writes, AreWritten, CanBeWritten, IsStoredBy, KeepsIfBeside, StoresAt, BesideObjects, InsideObject, OverItsEnd, StoresIfThere, written}
 
 pub kept : (old new : World) → new ≡ old → Writes old new
 kept old new e = record { bytes = []; are = e }
 
-pub one_put : (id at offset : ℕ) (cells : List Cell) (old new : World) → IsByteOf old.objects id offset → new ≡ pass (Put id at cells) old → Writes old new
+pub one_put : (id at offset : ℕ) (cells : List Cell) (old new : World) → IsLiveAt old.objects id offset → new ≡ pass (Put id at cells) old → Writes old new
 one_put id at offset cells old new (o, there, lives, whole, inside) e = record { bytes = InObject id at cells ∷ []; are = ((o, there, lives), e) }
 
 joined : (ps qs : List Written) (a b c : World) → AreWritten ps a b → AreWritten qs b c → AreWritten (ps ++ qs) a c
@@ -25,7 +25,7 @@ joined (p ∷ ps) qs a b c (can, more) h = (can, joined ps qs (written p a) b c 
 pub one_more : (a b c : World) → Writes a b → Writes b c → Writes a c
 one_more a b c h k = record { bytes = h.bytes ++ k.bytes; are = joined h.bytes k.bytes a b c h.are k.are }
 
-pub put_ok : {A E : Type 0} (result : Result A E) (id at offset : ℕ) (cells : List Cell) (old new : World) → IsByteOf old.objects id offset → IfOk result (λ _. new ≡ pass (Put id at cells) old) → IfOk result (λ _. Writes old new)
+pub put_ok : {A E : Type 0} (result : Result A E) (id at offset : ℕ) (cells : List Cell) (old new : World) → IsLiveAt old.objects id offset → IfOk result (λ _. new ≡ pass (Put id at cells) old) → IfOk result (λ _. Writes old new)
 put_ok (Ok a) id at offset cells old new h e = one_put id at offset cells old new h e
 put_ok (Err e) id at offset cells old new h k = k
 
@@ -55,7 +55,7 @@ one_beside at n word old new can is = record { bytes = BesideAll at n word ∷ [
 
 -- ---- a store
 
-pub stored_inside : {A E : Type 0} (result : Result A E) (at n many id offset : ℕ) (word : Word) (v : Value) (old new : World) → IsByteOf old.objects id offset × StandsAt old id offset at → IsStoredBy (n == 4) word old v → many ≡ n
+pub stored_inside : {A E : Type 0} (result : Result A E) (at n many id offset : ℕ) (word : Word) (v : Value) (old new : World) → IsLiveAt old.objects id offset × StandsAt old id offset at → IsStoredBy (n == 4) word old v → many ≡ n
     → IfOk result (λ _. new ≡ pass (Put id offset (cells_of many v)) old) → IfOk result (λ _. StoresAt at n word old new)
 stored_inside (Ok a) at n many id offset word v old new h k same is = InsideObject id offset v h.0 h.1 k (is ∙ ap (λ (m : ℕ). pass (Put id offset (cells_of m v)) old) same)
 stored_inside (Err e) at n many id offset word v old new h k same is = is

@@ -4,7 +4,7 @@ use Rattle.std.specs.Prelude.{◌≡◌, ℕ, ◌+◌, ◌-◌, ◌&&◌, ◌||�
 use Rattle.sc_emu.specs.Registers.{Registers, register}
 use Rattle.sc_meaning.specs.World.{World, Copy, pass}
 use Rattle.sc_services.specs.Memory.{StandsAt, has_bytes}
-use Rattle.sc_services.specs.Tagging.{IsByteOf}
+use Rattle.sc_mem_store.specs.Living.{IsLiveAt}
 use Rattle.sc_services.specs.Writing.{Writes}
 use Rattle.sc_services.specs.declared.copying.Copied.{Copied}
 use Rattle.sc_services.specs.declared.copying.Copied.TheVariants.{Bytes, Refused}
@@ -21,7 +21,7 @@ may_copy r w =
 
 -- so many bytes of a live object stand from an address on
 abbrev pub AreAt : World → ℕ → ℕ → ℕ → ℕ → Type 0
-AreAt w id offset n at = IsByteOf w.objects id offset × StandsAt w id offset at × (has_bytes w.objects id offset n ≡ true)
+AreAt w id offset n at = IsLiveAt w.objects id offset × StandsAt w id offset at × (has_bytes w.objects id offset n ≡ true)
 
 -- bytes go from the live object at one address to that at another, or the same, as if by way of another place; or they are written one
 -- after another

@@ -9,3 +9,4 @@ pub mod Writing
 pub mod Copying
 pub mod Calling
 pub mod Arguments
+pub mod Passing

@@ -3,7 +3,8 @@ ghost use Rattle.std.specs.Prelude.{◌≡◌, ◌+◌, ◌-◌, ◌*◌, ◌<�
 ghost use Rattle.sc_services.specs.Arguments as spec;
 ghost use Rattle.sc_services.specs.Frames.{stack_top as top};
 ghost use Rattle.sc_services.specs.Memory.{read_at};
-ghost use Rattle.sc_services.specs.Writing.{Writes};
+ghost use Rattle.sc_services.specs.Passing.{StoresArguments, StoresOne};
+ghost use Rattle.sc_services.specs.Writing.{StoresAt};
 
 use crate::bytes::load_word;
 use crate::frames::stack_top;
@@ -114,9 +115,8 @@ pub fn arguments(count: u32, regs: &Regs, world: &World) -> Result<Option<Items<
 }
 
 // A word goes to the place on the stack of an argument past those in registers.
-#[tactic(auto, using(crate::proofs::Writing::stores_write))]
 fn put_beyond(k: u32, word: Word, world: &mut World) -> Result<(), NoMemory>
-    ensures { IfOk result (λ _. Writes world.old world.new) }
+    ensures { IfOk result (λ _. (8 ≤ k) × StoresAt (top world.old + 4 * (k - 8)) 4 word world.old world.new) }
 {
     let Some(at) = address_of(k, world) else {
         return Err(NoMemory);
@@ -128,26 +128,24 @@ fn put_beyond(k: u32, word: Word, world: &mut World) -> Result<(), NoMemory>
 }
 
 // Argument k goes to its register, or to its place on the stack.
-#[tactic(auto, using(crate::proofs::Writing::kept))]
+#[tactic(auto, using(crate::proofs::Passing::in_register))]
 fn put_argument(k: u32, v: &Value, regs: &mut Regs, world: &mut World) -> Result<(), NoMemory>
     ensures puts { IfOk result (λ _. spec.PutsOne world.old k v.now regs.old regs.new) }
-    ensures writes { IfOk result (λ _. Writes world.old world.new) }
-    ensures few { k < 8 → IfOk result (λ _. world.new ≡ world.old) }
+    ensures stores { IfOk result (λ _. StoresOne k v.now world.old world.new) }
 {
     let word = word_of(v, world)?;
     if k < IN_REGISTERS {
         regs.set(FIRST + k as u8, word);
         return Ok(());
     }
-    put_beyond(k, word, world)
+    put_beyond(k, word, world)?;
+    Ok(())
 }
 
 /// The arguments of a call that goes to compiled code are put where it finds them.
-#[tactic(auto, using(crate::proofs::Writing::kept, crate::proofs::Writing::one_more))]
 pub fn put_arguments(vs: &[Value], regs: &mut Regs, world: &mut World) -> Result<(), NoMemory>
     ensures puts { IfOk result (λ _. spec.PutsArguments world.old 0 vs.now regs.old regs.new) }
-    ensures writes { IfOk result (λ _. Writes world.old world.new) }
-    ensures few { length vs.now ≤ 8 → IfOk result (λ _. world.new ≡ world.old) }
+    ensures stores { IfOk result (λ _. StoresArguments 0 vs.now world.old world.new) }
 {
     for (i, v) in vs.iter().enumerate() {
         let Ok(k) = u32::try_from(i) else {

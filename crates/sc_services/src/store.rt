@@ -1,7 +1,7 @@
 // Stores of compiled code, which test no rule.
 ghost use Rattle.std.specs.Prelude.{◌≡◌, ◌==◌, false, IfOk};
 ghost use Rattle.sc_mem.specs.Words.{IsSize};
-ghost use Rattle.sc_services.specs.Tagging.{IsByteOf};
+ghost use Rattle.sc_mem_store.specs.Living.{IsLiveAt};
 ghost use Rattle.sc_meaning.specs.World.{object_at as object_in};
 ghost use Rattle.sc_services.specs.Memory as spec;
 ghost use Rattle.sc_services.specs.Memory.{StandsAt, size_in};
@@ -50,7 +50,7 @@ fn store_inside(
     word: Word,
     world: &mut World,
 ) -> Result<(), NoMemory>
-    requires { IsByteOf world.old.objects place.id place.offset × StandsAt world.old place.id place.offset at }
+    requires { IsLiveAt world.old.objects place.id place.offset × StandsAt world.old place.id place.offset at }
     ensures { IfOk result (λ _. StoresAt at size word world.old world.new) }
 {
     let v = stored(size, word, world)?;

@@ -22,6 +22,7 @@ use Rattle.sc_session.specs.declared.state.State.TheVariants as state
 use Rattle.sc_session.specs.Asking.{AsksFor, deed_command, go_command, walk_command}
 use Rattle.sc_session.specs.Mixing.{is_mixed}
 use Rattle.sc_session.specs.Plain.{Plain}
+use Rattle.sc_session.specs.Single.{CarriesOne}
 use Rattle.sc_session.specs.States.{refusal_of}
 use Rattle.sc_session.specs.Transcript.{Moment, moment, asked, is_go, AnswersTo, BreaksOff, Decides, Does, GoesOut, RunsOutBy, Speaks, WalksOutBy}
 use Rattle.sc_session.specs.Modules.{texts}
@@ -54,6 +55,7 @@ walk_goes walk.Cont = refl
 pub go_goes : (g : Go) → is_go (go_command g) ≡ true
 go_goes (go.Run file) = refl
 go_goes (go.Walk how) = walk_goes how
+go_goes go.One = refl
 
 pub deed_asks : (d : Deed) (session : Plain) → asked (deed_command d) session ≡ session
 deed_asks deed.Nothing session = refl
@@ -68,6 +70,8 @@ deed_asks deed.Frames session = refl
 deed_asks (deed.Print name) session = refl
 deed_asks deed.Machine session = refl
 deed_asks (deed.Disas home fun) session = refl
+deed_asks (deed.Xref name) session = refl
+deed_asks (deed.Whatis name) session = refl
 deed_asks deed.List session = refl
 deed_asks (deed.Report k) session = refl
 deed_asks (deed.Drop k) session = refl
@@ -114,10 +118,13 @@ unasked (command.Delete k) session d denied = refl
 unasked command.Step session d denied = refl
 unasked command.Next session d denied = refl
 unasked command.Cont session d denied = refl
+unasked command.StepOne session d denied = refl
 unasked command.Frames session d denied = refl
 unasked (command.Print name) session d denied = refl
 unasked command.Machine session d denied = refl
 unasked (command.Disas home fun) session d denied = refl
+unasked (command.Xref name) session d denied = refl
+unasked (command.Whatis name) session d denied = refl
 unasked command.List session d denied = refl
 unasked (command.Report k) session d denied = refl
 unasked (command.Drop k) session d denied = refl
@@ -151,6 +158,11 @@ pub walk_said : (sink gained : Option (List ℕ)) (old new : Plain) (held : Opti
     → WalksOutBy (is_mixed old.state) sink gained old how out new → GoesOut sink gained (moment old held faults) (go_command g) out (moment new held faults)
 walk_said sink gained old new held faults g how out is p =
     subst (λ x. GoesOut sink gained (moment old held faults) (go_command x) out (moment new held faults)) (sym is) (walks_by sink gained old new held faults how out p)
+
+pub one_said : (sink : Option (List ℕ)) (old new : Plain) (held : Option FileMap) (faults : ℕ) (g : Go) (said : Answer) → g ≡ go.One
+    → CarriesOne old said new → GoesOut sink sink (moment old held faults) (go_command g) (Ok said) (moment new held faults)
+one_said sink old new held faults g said is p =
+    subst (λ x. GoesOut sink sink (moment old held faults) (go_command x) (Ok said) (moment new held faults)) (sym is) ([], appends_none sink, (refl, p, (refl, refl)))
 
 pub run_said : (sink gained : Option (List ℕ)) (old new : Moment) (g : Go) (file : Option (List ℕ)) (out : Result Answer Unsent) → g ≡ go.Run file
     → RunsOutBy (are_sources (texts old.session.modules)) sink gained old file out new → GoesOut sink gained old (go_command g) out new

@@ -80,6 +80,8 @@ does_keep old new command.Frames said named p = keeps_same old.held new.held (ap
 does_keep old new (command.Print name) said named p = keeps_same old.held new.held (ap (λ (m : Moment). m.held) p.1)
 does_keep old new command.Machine said named p = keeps_same old.held new.held (ap (λ (m : Moment). m.held) p.1)
 does_keep old new (command.Disas home fun) said named p = keeps_same old.held new.held (ap (λ (m : Moment). m.held) p.1)
+does_keep old new (command.Xref name) said named p = keeps_same old.held new.held (ap (λ (m : Moment). m.held) p.1)
+does_keep old new (command.Whatis name) said named p = keeps_same old.held new.held (ap (λ (m : Moment). m.held) p.1)
 does_keep old new command.List said named p = keeps_same old.held new.held (ap (λ (m : Moment). m.held) p.1)
 does_keep old new (command.Report k) said named p = keeps_same old.held new.held (ap (λ (m : Moment). m.held) p.1)
 does_keep old new (command.Drop k) said named p = keeps_same old.held new.held p.1.0
@@ -91,6 +93,7 @@ does_keep old new (command.Run file) said named p = absurd p
 does_keep old new command.Step said named p = absurd p
 does_keep old new command.Next said named p = absurd p
 does_keep old new command.Cont said named p = absurd p
+does_keep old new command.StepOne said named p = absurd p
 
 object_step : (p : Present) (ps : List Present) (name : List ℕ) (b : Bool) → b ≡ bytes_eq p.text.core.name name
     → (if (if b then true else is_present name (texts ps)) then None else Some denied.NoModule) ≡ None → (if b then Some p.object else object_named ps name) ≡ None

@@ -1,5 +1,7 @@
 -- A go of a session, as its code comes to it: the modules, the stops and the run are the session's.
 use Rattle.std.proofs.Common.{◌≡◌, ℕ, List, drop, Option, Some, ap, ◌∙◌, subst}
+use Rattle.sc_base.specs.declared.key.Key.{Key}
+use Rattle.sc_meaning.specs.Behaviour.{main_key}
 use Rattle.sc_meaning.specs.Versions.{Text}
 use Rattle.sc_interp.specs.Ends.{start_of}
 use Rattle.sc_words.specs.declared.answer.Answer.TheVariants as answer
@@ -52,18 +54,19 @@ walked old mid new how modules stops turns run front text s after ((r, runs, set
   ),
 )
 
-pub begins : (old new : Plain) (first modules : List Text) (stops : List StopAt) (stack heap turns : ℕ) (input : List ℕ) (r : Option Standing) (front text : List ℕ) (s after : State)
+pub begins : (old new : Plain) (first modules : List Text) (stops : List StopAt) (key : Key) (stack heap turns : ℕ) (input : List ℕ) (r : Option Standing) (front text : List ℕ) (s after : State)
     → first ≡ texts old.modules → modules ≡ texts old.modules → stops ≡ places old.stops → stack ≡ old.limits.stack → heap ≡ old.limits.heap → turns ≡ old.limits.turns
-    → r ≡ Some (started first stack heap input) → IsRunOf (start_of first stack heap input) first r
+    → key ≡ main_key → r ≡ Some (started first key stack heap input) → IsRunOf (start_of first key stack heap input) first r
     → Went modules stops walk.Cont turns r front text s → after ≡ s → new ≡ in_state after old → Begins old input front text new
-begins old new first modules stops stack heap turns input r front text s after f m p k h t is meant went follows put =
+begins old new first modules stops key stack heap turns input r front text s after f m p k h t e is meant went follows put =
     let same : r ≡ run_of old input =
-    is ∙ ap (λ x. Some (started x stack heap input)) f ∙ ap (λ x. Some (started (texts old.modules) x heap input)) k ∙ ap (λ x. Some (started (texts old.modules) old.limits.stack x input)) h in
-    let at_modules : IsRunOf (start_of (texts old.modules) stack heap input) (texts old.modules) r =
-    subst (λ x. IsRunOf (start_of x stack heap input) x r) f meant in
-    let at_limits : IsRunOf (start_of (texts old.modules) old.limits.stack old.limits.heap input) (texts old.modules) r =
-    subst (λ x. IsRunOf (start_of (texts old.modules) old.limits.stack x input) (texts old.modules) r) h
-    (subst (λ x. IsRunOf (start_of (texts old.modules) x heap input) (texts old.modules) r) k at_modules) in (
-      subst (λ x. IsRunOf (start_of (texts old.modules) old.limits.stack old.limits.heap input) (texts old.modules) x) same at_limits,
+    is ∙ ap (λ x. Some (started x key stack heap input)) f ∙ ap (λ x. Some (started (texts old.modules) x stack heap input)) e ∙ ap (λ x. Some (started (texts old.modules) main_key x heap input)) k ∙ ap (λ x. Some (started (texts old.modules) main_key old.limits.stack x input)) h in
+    let at_modules : IsRunOf (start_of (texts old.modules) main_key stack heap input) (texts old.modules) r =
+    subst (λ x. IsRunOf (start_of (texts old.modules) x stack heap input) (texts old.modules) r) e
+    (subst (λ x. IsRunOf (start_of x key stack heap input) x r) f meant) in
+    let at_limits : IsRunOf (start_of (texts old.modules) main_key old.limits.stack old.limits.heap input) (texts old.modules) r =
+    subst (λ x. IsRunOf (start_of (texts old.modules) main_key old.limits.stack x input) (texts old.modules) r) h
+    (subst (λ x. IsRunOf (start_of (texts old.modules) main_key x heap input) (texts old.modules) r) k at_modules) in (
+      subst (λ x. IsRunOf (start_of (texts old.modules) main_key old.limits.stack old.limits.heap input) (texts old.modules) x) same at_limits,
       (s, subst (λ x. Went (texts old.modules) (places old.stops) walk.Cont old.limits.turns x front text s) same (went_in old walk.Cont modules stops turns r front text s m p t went), put ∙ ap (λ x. in_state x old) follows),
     )

@@ -8,6 +8,7 @@ pub mod SendingLemmas
 pub mod LoadingLemmas
 pub mod SwappingLemmas
 pub mod MixingLemmas
+pub mod SingleLemmas
 pub mod FormLemmas
 pub mod AskingLemmas
 pub mod PlacingLemmas

@@ -1,6 +1,8 @@
 -- A run of both forms in a session, and either run.
 use Rattle.std.proofs.Common.{◌≡◌, Bool, true, false, ℕ, List, [], ◌∷◌, drop, length, Option, Some, None, Result, Ok, Err, inl, inr, refl, ap, sym, subst, ◌∙◌}
+use Rattle.sc_base.specs.declared.key.Key.{Key}
 use Rattle.sc_interp_world.specs.Outputs.{output}
+use Rattle.sc_meaning.specs.Behaviour.{main_key}
 use Rattle.sc_meaning.specs.World.{World}
 use Rattle.sc_outside.specs.Stored.{FileMap}
 use Rattle.sc_session_forms.specs.Forms.{are_sources}
@@ -102,13 +104,14 @@ goes_begins session inside bytes modules stops m answer.NoMemory new is same at 
 goes_begins session inside bytes modules stops m _ new is same at starts g = absurd g
 
 -- a run that was started in the image of the modules
-pub started_so : (session v : Plain) (i : Image) (modules : List Text) (stack heap : ℕ) (bytes : List ℕ) (m : Standing) → v ≡ session → modules ≡ texts session.modules → stack ≡ session.limits.stack → heap ≡ session.limits.heap
-    → IsImage session.modules session.numbers i → Starts modules i stack heap bytes m → output m.world.trail ≡ [] → MixedStarts session bytes m
-started_so session v i modules stack heap bytes m is same deep wide links starts empty = record {
+pub started_so : (session v : Plain) (i : Image) (modules : List Text) (key : Key) (stack heap : ℕ) (bytes : List ℕ) (m : Standing) → v ≡ session → modules ≡ texts session.modules → stack ≡ session.limits.stack → heap ≡ session.limits.heap
+    → IsImage session.modules session.numbers i → key ≡ main_key → Starts modules i key stack heap bytes m → output m.world.trail ≡ [] → MixedStarts session bytes m
+started_so session v i modules key stack heap bytes m is same deep wide links at starts empty = record {
   image = i;
   links = links;
-  starts = subst (λ (ms : List Text). Starts ms i session.limits.stack session.limits.heap bytes m) same
-      (subst (λ (n : ℕ). Starts modules i n session.limits.heap bytes m) deep (subst (λ (n : ℕ). Starts modules i stack n bytes m) wide starts));
+  starts = subst (λ (ms : List Text). Starts ms i main_key session.limits.stack session.limits.heap bytes m) same
+      (subst (λ (n : ℕ). Starts modules i main_key n session.limits.heap bytes m) deep
+      (subst (λ (n : ℕ). Starts modules i main_key stack n bytes m) wide (subst (λ (k : Key). Starts modules i k stack heap bytes m) at starts)));
   empty = empty;
 }
 

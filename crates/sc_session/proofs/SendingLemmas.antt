@@ -1,7 +1,8 @@
 -- A go that sends while it goes on, as the code comes to it.
 use Rattle.std.proofs.Common.{◌≡◌, ◌≤◌, ◌<◌, ◌+◌, ◌-◌, inl, inr, ℕ, zero, suc, Bool, true, false, List, [], ◌∷◌, ◌++◌, length, length-append, drop, take, Option, Some, None, Result, Ok, Err, MatchResult, refl, ap, sym, subst, ◌∙◌, arith}
 use Rattle.std.proofs.lemmas.List.{append_cancel_right, length-drop, take-append-drop}
-use Rattle.sc_meaning.specs.Behaviour.{Start}
+use Rattle.sc_base.specs.declared.key.Key.{Key}
+use Rattle.sc_meaning.specs.Behaviour.{Start, main_key}
 use Rattle.sc_meaning.specs.Versions.{Text}
 use Rattle.sc_meaning.specs.World.{World}
 use Rattle.sc_interp_access.specs.declared.ended.Ended.{Ended}
@@ -284,41 +285,41 @@ walk_lost sink gained old mid new how modules stops turns run within now takes m
     let cut : new ≡ cut_off front old = is ∙ ap (λ (x : Plain). record x { in_line = now }) takes.1 ∙ ap (λ b. record old { state = state.Ended; in_line = b }) open_line in
     (front, gains, inr (first_taken old mid how modules stops turns run front takes m p t first, cut))
 
-run_is : (old : Plain) (first : List Text) (stack heap : ℕ) (input : List ℕ) (r : Option Standing) → first ≡ texts old.modules → stack ≡ old.limits.stack → heap ≡ old.limits.heap → r ≡ Some (started first stack heap input) → r ≡ run_of old input
-run_is old first stack heap input r f k h is =
-    is ∙ ap (λ x. Some (started x stack heap input)) f ∙ ap (λ x. Some (started (texts old.modules) x heap input)) k ∙ ap (λ x. Some (started (texts old.modules) old.limits.stack x input)) h
+run_is : (old : Plain) (first : List Text) (key : Key) (stack heap : ℕ) (input : List ℕ) (r : Option Standing) → first ≡ texts old.modules → stack ≡ old.limits.stack → heap ≡ old.limits.heap → key ≡ main_key → r ≡ Some (started first key stack heap input) → r ≡ run_of old input
+run_is old first key stack heap input r f k h e is =
+    is ∙ ap (λ x. Some (started x key stack heap input)) f ∙ ap (λ x. Some (started (texts old.modules) x stack heap input)) e ∙ ap (λ x. Some (started (texts old.modules) main_key x heap input)) k ∙ ap (λ x. Some (started (texts old.modules) main_key old.limits.stack x input)) h
 
-pub begin_told : (sink gained : Option (List ℕ)) (old new : Plain) (first modules : List Text) (stops : List StopAt) (stack heap turns : ℕ) (input : List ℕ) (r : Option Standing) (text : List ℕ) (s after : State)
+pub begin_told : (sink gained : Option (List ℕ)) (old new : Plain) (first modules : List Text) (stops : List StopAt) (key : Key) (stack heap turns : ℕ) (input : List ℕ) (r : Option Standing) (text : List ℕ) (s after : State)
     → first ≡ texts old.modules → modules ≡ texts old.modules → stops ≡ places old.stops → stack ≡ old.limits.stack → heap ≡ old.limits.heap → turns ≡ old.limits.turns
-    → r ≡ Some (started first stack heap input) → IsRunOf (start_of first stack heap input) first r
+    → key ≡ main_key → r ≡ Some (started first key stack heap input) → IsRunOf (start_of first key stack heap input) first r
     → Gains sink gained (λ front. Went modules stops walk.Cont turns r front text s) → after ≡ s → new ≡ in_state after old
     → BeginsOut sink gained old input (Ok (answer.Ran text)) new
-begin_told sink gained old new first modules stops stack heap turns input r text s after f m p k h t is meant (front, gains, went) follows put =
-    (front, gains, begins old new first modules stops stack heap turns input r front text s after f m p k h t is meant went follows put)
+begin_told sink gained old new first modules stops key stack heap turns input r text s after f m p k h t e is meant (front, gains, went) follows put =
+    (front, gains, begins old new first modules stops key stack heap turns input r front text s after f m p k h t e is meant went follows put)
 
-first_begun : (old : Plain) (first modules : List Text) (stops : List StopAt) (stack heap turns : ℕ) (input : List ℕ) (r : Option Standing) (front : List ℕ)
+first_begun : (old : Plain) (first modules : List Text) (stops : List StopAt) (key : Key) (stack heap turns : ℕ) (input : List ℕ) (r : Option Standing) (front : List ℕ)
     → first ≡ texts old.modules → modules ≡ texts old.modules → stops ≡ places old.stops → stack ≡ old.limits.stack → heap ≡ old.limits.heap → turns ≡ old.limits.turns
-    → r ≡ Some (started first stack heap input) → IsFirstOf modules stops walk.Cont turns r front → BeginFirst old input front
-first_begun old first modules stops stack heap turns input r front f m p k h t is q =
-    subst (λ r. IsFirstOf (texts old.modules) (places old.stops) walk.Cont old.limits.turns r front) (run_is old first stack heap input r f k h is) (first_in old walk.Cont modules stops turns r front m p t q)
+    → key ≡ main_key → r ≡ Some (started first key stack heap input) → IsFirstOf modules stops walk.Cont turns r front → BeginFirst old input front
+first_begun old first modules stops key stack heap turns input r front f m p k h t e is q =
+    subst (λ r. IsFirstOf (texts old.modules) (places old.stops) walk.Cont old.limits.turns r front) (run_is old first key stack heap input r f k h e is) (first_in old walk.Cont modules stops turns r front m p t q)
 
-pub begin_first : (sink gained : Option (List ℕ)) (old : Plain) (first modules : List Text) (stops : List StopAt) (stack heap turns : ℕ) (input : List ℕ) (r : Option Standing)
+pub begin_first : (sink gained : Option (List ℕ)) (old : Plain) (first modules : List Text) (stops : List StopAt) (key : Key) (stack heap turns : ℕ) (input : List ℕ) (r : Option Standing)
     → first ≡ texts old.modules → modules ≡ texts old.modules → stops ≡ places old.stops → stack ≡ old.limits.stack → heap ≡ old.limits.heap → turns ≡ old.limits.turns
-    → r ≡ Some (started first stack heap input)
+    → key ≡ main_key → r ≡ Some (started first key stack heap input)
     → Gains sink gained (λ front. IsFirstOf modules stops walk.Cont turns r front) → Gains sink gained (λ front. BeginFirst old input front)
-begin_first sink gained old first modules stops stack heap turns input r f m p k h t is (front, gains, q) =
-    (front, gains, first_begun old first modules stops stack heap turns input r front f m p k h t is q)
+begin_first sink gained old first modules stops key stack heap turns input r f m p k h t e is (front, gains, q) =
+    (front, gains, first_begun old first modules stops key stack heap turns input r front f m p k h t e is q)
 
 pub begin_unbegun : (sink : Option (List ℕ)) (old new : Plain) (input : List ℕ) → new ≡ old → BeginsOut sink sink old input (Ok answer.NoMemory) new
 begin_unbegun sink old new input is = ([], appends_none sink, inl (refl, is))
 
-pub begin_lost : (sink gained : Option (List ℕ)) (old v : Plain) (first modules : List Text) (stops : List StopAt) (stack heap turns : ℕ) (input : List ℕ) (r : Option Standing) (s : State) (within now : Bool)
+pub begin_lost : (sink gained : Option (List ℕ)) (old v : Plain) (first modules : List Text) (stops : List StopAt) (key : Key) (stack heap turns : ℕ) (input : List ℕ) (r : Option Standing) (s : State) (within now : Bool)
     → first ≡ texts old.modules → modules ≡ texts old.modules → stops ≡ places old.stops → stack ≡ old.limits.stack → heap ≡ old.limits.heap → turns ≡ old.limits.turns
-    → r ≡ Some (started first stack heap input) → within ≡ old.in_line → v ≡ old → s ≡ state.Ended
+    → key ≡ main_key → r ≡ Some (started first key stack heap input) → within ≡ old.in_line → v ≡ old → s ≡ state.Ended
     → Gains sink gained (λ front. IsFirstOf modules stops walk.Cont turns r front × (now ≡ stays_in_line within front))
     → BeginsOut sink gained old input (Ok answer.NoMemory) (record v { state = s; in_line = now })
-begin_lost sink gained old v first modules stops stack heap turns input r s within now f m p k h t is o same over (front, gains, (q, told)) =
-    (front, gains, inr (first_begun old first modules stops stack heap turns input r front f m p k h t is q, cut_there old v s now front same over (told ∙ ap (λ x. stays_in_line x front) o)))
+begin_lost sink gained old v first modules stops key stack heap turns input r s within now f m p k h t e is o same over (front, gains, (q, told)) =
+    (front, gains, inr (first_begun old first modules stops key stack heap turns input r front f m p k h t e is q, cut_there old v s now front same over (told ∙ ap (λ x. stays_in_line x front) o)))
 
 -- a run that begins so
 begun_cut_off : (old : Moment) (file : Option (List ℕ)) (bytes front : List ℕ) (new : Plain) → has_main (texts old.session.modules) ≡ true → IsInput old.held file bytes
@@ -373,6 +374,7 @@ input_denied old (Some file) now (denied.NotVisible name) main p = absurd p
 input_denied old (Some file) now (denied.NoProbe k) main p = absurd p
 input_denied old (Some file) now (denied.NoStop k) main p = absurd p
 input_denied old (Some file) now (denied.NoText home fun) main p = absurd p
+input_denied old (Some file) now denied.NotObject main p = absurd p
 
 pub run_denied : (sink : Option (List ℕ)) (old : Moment) (file : Option (List ℕ)) (now : ℕ) (held : Option FileMap) (d : Denied) → has_main (texts old.session.modules) ≡ true → held ≡ old.held → InputDenied old.held file old.faults now d
     → RunsOut sink sink old file (Ok (answer.Refused d)) (moment old.session held now)
@@ -421,6 +423,7 @@ writes_first old (command.Run file) front p = p
 writes_first old command.Step front p = p
 writes_first old command.Next front p = p
 writes_first old command.Cont front p = p
+writes_first old command.StepOne front p = p
 writes_first old command.Nothing front p = p
 writes_first old command.Unknown front p = p
 writes_first old command.BadArguments front p = p
@@ -435,6 +438,8 @@ writes_first old command.Frames front p = p
 writes_first old (command.Print name) front p = p
 writes_first old command.Machine front p = p
 writes_first old (command.Disas home fun) front p = p
+writes_first old (command.Xref name) front p = p
+writes_first old (command.Whatis name) front p = p
 writes_first old command.List front p = p
 writes_first old (command.Report k) front p = p
 writes_first old (command.Drop k) front p = p
@@ -457,10 +462,13 @@ quiet_so old (command.Delete k) said new p = (refl, p)
 quiet_so old command.Step said new p = absurd p
 quiet_so old command.Next said new p = absurd p
 quiet_so old command.Cont said new p = absurd p
+quiet_so old command.StepOne said new p = absurd p
 quiet_so old command.Frames said new p = (refl, p)
 quiet_so old (command.Print name) said new p = (refl, p)
 quiet_so old command.Machine said new p = (refl, p)
 quiet_so old (command.Disas home fun) said new p = (refl, p)
+quiet_so old (command.Xref name) said new p = (refl, p)
+quiet_so old (command.Whatis name) said new p = (refl, p)
 quiet_so old command.List said new p = (refl, p)
 quiet_so old (command.Report k) said new p = (refl, p)
 quiet_so old (command.Drop k) said new p = (refl, p)

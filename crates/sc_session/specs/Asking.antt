@@ -23,6 +23,7 @@ walk_command walk.Cont = command.Cont
 abbrev pub go_command : Go → Command
 go_command (go.Run file) = command.Run file
 go_command (go.Walk how) = walk_command how
+go_command go.One = command.StepOne
 
 -- the commands that let none go on
 abbrev pub deed_command : Deed → Command
@@ -38,6 +39,8 @@ deed_command deed.Frames = command.Frames
 deed_command (deed.Print name) = command.Print name
 deed_command deed.Machine = command.Machine
 deed_command (deed.Disas home fun) = command.Disas home fun
+deed_command (deed.Xref name) = command.Xref name
+deed_command (deed.Whatis name) = command.Whatis name
 deed_command deed.List = command.List
 deed_command (deed.Report k) = command.Report k
 deed_command (deed.Drop k) = command.Drop k

@@ -226,12 +226,12 @@ WalksOut sink gained session how (Err e) new = Gains sink gained (λ front. Walk
 
 -- the run of a session's program from its start on
 abbrev pub run_of : Plain → List ℕ → Option Standing
-run_of session bytes = Some (started (texts session.modules) session.limits.stack session.limits.heap bytes)
+run_of session bytes = Some (started (texts session.modules) main_key session.limits.stack session.limits.heap bytes)
 
 -- a run with this input goes from its start on: it is one of the program that the modules are
 abbrev pub Begins : Plain → List ℕ → List ℕ → List ℕ → Plain → Type 0
 Begins session bytes front text new =
-    IsRunOf (start_of (texts session.modules) session.limits.stack session.limits.heap bytes) (texts session.modules) (run_of session bytes)
+    IsRunOf (start_of (texts session.modules) main_key session.limits.stack session.limits.heap bytes) (texts session.modules) (run_of session bytes)
     × GoesOn session walk.Cont (run_of session bytes) front text new
 
 -- the first bytes that it writes there

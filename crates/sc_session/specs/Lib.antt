@@ -13,6 +13,8 @@ pub mod Linking
 pub mod Placing
 pub mod Swapping
 pub mod Mixing
+pub mod Single
 pub mod Disassembling
+pub mod Referring
 pub mod Probing
 pub mod Transcript

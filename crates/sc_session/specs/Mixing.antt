@@ -5,6 +5,7 @@ use Rattle.std.specs.Prelude.{◌≡◌, ℕ, Bool, true, false, not, List, [], 
 use Rattle.sc_core_names.specs.declared.table.Scopes.{Scopes}
 use Rattle.sc_interp_world.specs.Outputs.{output}
 use Rattle.sc_isa_image.specs.declared.image.Image.{Image}
+use Rattle.sc_meaning.specs.Behaviour.{main_key}
 use Rattle.sc_meaning.specs.Versions.{Text}
 use Rattle.sc_meaning.specs.World.{World, Frame}
 use Rattle.sc_mixed.specs.Changing.{Changes, IsTakenFrom}
@@ -167,7 +168,7 @@ WalksBy true session how front said new = (front ≡ []) × MixedWalks session h
 pub record MixedStarts (session : Plain) (bytes : List ℕ) (m : Standing) : Type 0 where
   pub image : Image
   pub links : IsImage session.modules session.numbers image
-  pub starts : Starts (texts session.modules) image session.limits.stack session.limits.heap bytes m
+  pub starts : Starts (texts session.modules) image main_key session.limits.stack session.limits.heap bytes m
   pub empty : output m.world.trail ≡ []
 
 -- it goes from its start on; or the image of the modules has no room

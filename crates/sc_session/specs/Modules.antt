@@ -15,6 +15,7 @@ abbrev pub present_of : ℕ → Built → Present
 present_of number built = record {
   text = record { number = number; core = built.core; form = Source };
   scopes = built.scopes;
+  places = built.places;
   object = built.object;
 }
 

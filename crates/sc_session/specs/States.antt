@@ -4,6 +4,8 @@
 use Rattle.std.specs.Prelude.{ℕ, Bool, ◌&&◌, ◌==◌, nat_lt, if◌then◌else◌, List, Option, Some, None}
 use Rattle.std.specs.List.{list_any}
 use Rattle.sc_meaning.specs.Versions.{Text}
+use Rattle.sc_meaning.specs.World.{Frame}
+use Rattle.sc_mixed.specs.Single.{in_object}
 use Rattle.sc_session_conflicts.specs.Clashes.{is_present}
 use Rattle.sc_words.specs.declared.command.Command.{Command}
 use Rattle.sc_words.specs.declared.command.Command.TheVariants as command
@@ -62,6 +64,19 @@ continuing (state.StoppedMixed w) = None
 continuing (state.PausedMixed w) = None
 continuing state.Ended = Some denied.NotAtStop
 
+-- Why no instruction can be carried out: no run goes on; or the innermost active call is not one of compiled code, and in a run of interpreted
+-- modules none is.
+abbrev pub if_not_object : List Frame → Option Denied
+if_not_object frames = if in_object frames then None else Some denied.NotObject
+
+abbrev pub instructing : State → Option Denied
+instructing state.Idle = Some denied.NoRun
+instructing (state.Stopped r) = Some denied.NotObject
+instructing (state.Paused r) = Some denied.NotObject
+instructing (state.StoppedMixed m) = if_not_object m.world.frames
+instructing (state.PausedMixed m) = if_not_object m.world.frames
+instructing state.Ended = Some denied.NotAtStop
+
 -- why the machine cannot be looked at
 abbrev pub machining : State → Option Denied
 machining state.Idle = Some denied.NoRun
@@ -116,10 +131,13 @@ refusal_of session (command.Delete k) = or_else (marking session.state) (if_unse
 refusal_of session command.Step = stepping session.state
 refusal_of session command.Next = stepping session.state
 refusal_of session command.Cont = continuing session.state
+refusal_of session command.StepOne = instructing session.state
 refusal_of session command.Frames = stepping session.state
 refusal_of session (command.Print name) = stepping session.state
 refusal_of session command.Machine = machining session.state
 refusal_of session (command.Disas home fun) = None
+refusal_of session (command.Xref name) = None
+refusal_of session (command.Whatis name) = None
 refusal_of session command.List = None
 refusal_of session (command.Report k) = if_no_probe k session.probes
 refusal_of session (command.Drop k) = if_not_droppable k session.probes

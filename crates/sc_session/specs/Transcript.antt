@@ -38,8 +38,10 @@ use Rattle.sc_session.specs.States.{refusal_of}
 use Rattle.sc_session.specs.Loading.{file_of, file_or, conflict, numbers_with, with_module, in_place, without}
 use Rattle.sc_session.specs.Stopping.{Sets, without_stop}
 use Rattle.sc_session.specs.Disassembling.{Disassembles}
+use Rattle.sc_session.specs.Referring.{Describes, Locates}
 use Rattle.sc_session.specs.Probing.{Drops, Reports, ShowsMachine}
 use Rattle.sc_session.specs.Showing.{Lists}
+use Rattle.sc_session.specs.Single.{CarriesOne}
 use Rattle.sc_session.specs.Compiling.{Compiles, object_file}
 use Rattle.sc_session.specs.Going.{in_state, stays_in_line, has_main, IsInput, InputDenied, IsCutOff, IsGivenUp, Gains, WalkFirst, Begins, BeginFirst}
 use Rattle.sc_session.specs.Linking.{HasRoom, LacksRoom, with_form}
@@ -313,6 +315,8 @@ Does old command.Frames said new = ShowsCallsBy (is_mixed old.session.state) old
 Does old (command.Print name) said new = ShowsValueBy (is_mixed old.session.state) old.session name said × (new ≡ old)
 Does old command.Machine said new = ShowsMachine said × (new ≡ old)
 Does old (command.Disas home fun) said new = Disassembles old.session home fun said × (new ≡ old)
+Does old (command.Xref name) said new = Locates old.session name said × (new ≡ old)
+Does old (command.Whatis name) said new = Describes old.session name said × (new ≡ old)
 Does old command.List said new = Lists old.session said × (new ≡ old)
 Does old (command.Report k) said new = Reports k said × (new ≡ old)
 Does old (command.Drop k) said new = Drops k old.session said new.session × SameFiles old new
@@ -327,6 +331,7 @@ Carried old (command.Run file) front said new = RunsBy (are_sources (texts old.s
 Carried old command.Step front said new = WalksBy (is_mixed old.session.state) old.session walk.Step front said new.session × SameFiles old new
 Carried old command.Next front said new = WalksBy (is_mixed old.session.state) old.session walk.Next front said new.session × SameFiles old new
 Carried old command.Cont front said new = WalksBy (is_mixed old.session.state) old.session walk.Cont front said new.session × SameFiles old new
+Carried old command.StepOne front said new = (front ≡ []) × CarriesOne old.session said new.session × SameFiles old new
 Carried old c front said new = (front ≡ []) × Does old c said new
 
 -- a run that ended is forgotten as another is asked for
@@ -368,6 +373,7 @@ is_go (command.Run file) = true
 is_go command.Step = true
 is_go command.Next = true
 is_go command.Cont = true
+is_go command.StepOne = true
 is_go _ = false
 
 -- the first bytes that the program writes as a command lets it go on

@@ -4,11 +4,12 @@ ghost use Rattle.sc_session.specs.Asking as spec;
 use sc_base::{Form, Name};
 use sc_words::{Command, Denied, StopAt, Walk};
 
-/// The program goes on: a run begins, whose input is a file or nothing; or the one that stands goes on so.
+/// The program goes on: a run begins, whose input is a file or nothing; or the one that stands goes on so, or by one instruction.
 #[derive(Drop)]
 pub enum Go {
     Run(Option<Name>),
     Walk(Walk),
+    One,
 }
 
 /// Something is done, and no program goes on.
@@ -29,6 +30,10 @@ pub enum Deed {
     Machine,
     /// The instructions of a compiled function are shown.
     Disas(Option<Name>, Name),
+    /// The places of a name are shown.
+    Xref(Name),
+    /// The types of a name are shown.
+    Whatis(Name),
     List,
     /// The text of a probe is shown.
     Report(u32),
@@ -65,10 +70,13 @@ pub fn ask_for(command: Command) -> Asked
         Command::Step => Asked::Go(Go::Walk(Walk::Step)),
         Command::Next => Asked::Go(Go::Walk(Walk::Next)),
         Command::Cont => Asked::Go(Go::Walk(Walk::Cont)),
+        Command::StepOne => Asked::Go(Go::One),
         Command::Frames => Asked::Do(Deed::Frames),
         Command::Print(name) => Asked::Do(Deed::Print(name)),
         Command::Machine => Asked::Do(Deed::Machine),
         Command::Disas(home, fun) => Asked::Do(Deed::Disas(home, fun)),
+        Command::Xref(name) => Asked::Do(Deed::Xref(name)),
+        Command::Whatis(name) => Asked::Do(Deed::Whatis(name)),
         Command::List => Asked::Do(Deed::List),
         Command::Report(k) => Asked::Do(Deed::Report(k)),
         Command::Drop(k) => Asked::Do(Deed::Drop(k)),

@@ -1,6 +1,5 @@
 // A run of a session goes on.
 ghost use Rattle.std.specs.Prelude.{◌≡◌, ◌≤◌, ◌++◌, ℕ, List, drop, take, true, Err, Some, IfErr, IfOk};
-ghost use Rattle.sc_meaning.specs.Behaviour.{main_key};
 ghost use Rattle.sc_meaning.specs.Versions.{callee_of};
 ghost use Rattle.sc_outside.specs.Causes.{Rose};
 ghost use Rattle.sc_session_texts.specs.Ends as ends;
@@ -12,8 +11,9 @@ ghost use Rattle.sc_world.specs.declared.post.Unsent.TheVariants as unsent;
 use crate::hearing::{Heard, heard_in};
 use crate::present::{Present, texts_of};
 use crate::state::State;
-use sc_base::{Bytes, Key, Name, NoMemory};
+use sc_base::{Bytes, Key, NoMemory};
 use sc_core_held::{Callee, Text, callee_of};
+use sc_interp::main_key;
 use sc_interp_access::Ended;
 use sc_interp_world::World;
 use sc_outside::Sink;
@@ -28,15 +28,6 @@ pub struct Told {
     pub text: Bytes,
     pub state: State,
     pub heard: Heard,
-}
-
-fn main_key(alloc: Global) -> Result<Key, NoMemory>
-    ensures { IfOk result (λ key. key ≡ main_key) }
-{
-    match Name::new(alloc, b"main") {
-        Ok(name) => Ok(Key { module: None, name }),
-        Err(_) => Err(NoMemory),
-    }
 }
 
 /// Whether a module defines `main`, with external linkage.

@@ -10,13 +10,15 @@ use sc_core_held::Text;
 use sc_core_names::Scopes;
 use sc_object::Object;
 use sc_session_forms::Compiled;
+use sc_xref::Place;
 use std::alloc::Global;
 
-/// A module that is present: its text, what its scopes declare, and its object.
+/// A module that is present: its text, what its scopes declare, where it has the names of the file, and its object.
 #[derive(Drop)]
 pub struct Present {
     pub text: Text,
     pub scopes: Shared<Scopes>,
+    pub places: Shared<Items<Place>>,
     pub object: Shared<Object>,
 }
 
@@ -25,37 +27,63 @@ fn with_object(
     alloc: Global,
     text: Text,
     scopes: Shared<Scopes>,
+    places: Shared<Items<Place>>,
     object: Object,
 ) -> Result<Present, NoMemory>
-    ensures { IfOk result (λ p. p ≡ record { text = text; scopes = scopes; object = object }) }
+    ensures { IfOk result (λ p. p ≡ record { text = text; scopes = scopes; places = places; object = object }) }
 {
     match Shared::new(alloc, object) {
         Ok(object) => Ok(Present {
             text,
             scopes,
+            places,
             object,
         }),
         Err(_) => {
             drop(text);
             drop(scopes);
+            drop(places);
             Err(NoMemory)
         }
     }
 }
 
-// A module with its scopes and its object.
+// A module with its places and its object.
+fn with_places(
+    alloc: Global,
+    text: Text,
+    scopes: Shared<Scopes>,
+    places: Items<Place>,
+    object: Object,
+) -> Result<Present, NoMemory>
+    ensures { IfOk result (λ p. p ≡ record { text = text; scopes = scopes; places = places; object = object }) }
+{
+    match Shared::new(alloc, places) {
+        Ok(places) => with_object(alloc, text, scopes, places, object),
+        Err(_) => {
+            drop(text);
+            drop(scopes);
+            drop(object);
+            Err(NoMemory)
+        }
+    }
+}
+
+// A module with its scopes, its places and its object.
 fn with_scopes(
     alloc: Global,
     text: Text,
     scopes: Scopes,
+    places: Items<Place>,
     object: Object,
 ) -> Result<Present, NoMemory>
-    ensures { IfOk result (λ p. p ≡ record { text = text; scopes = scopes; object = object }) }
+    ensures { IfOk result (λ p. p ≡ record { text = text; scopes = scopes; places = places; object = object }) }
 {
     match Shared::new(alloc, scopes) {
-        Ok(scopes) => with_object(alloc, text, scopes, object),
+        Ok(scopes) => with_places(alloc, text, scopes, places, object),
         Err(_) => {
             drop(text);
+            drop(places);
             drop(object);
             Err(NoMemory)
         }
@@ -69,12 +97,14 @@ pub fn present_of(alloc: Global, number: u32, built: Built) -> Result<Present, N
     let Built {
         core,
         scopes,
+        places,
         object,
     } = built;
     match Text::new(alloc, number, Form::Source, core) {
-        Ok(text) => with_scopes(alloc, text, scopes, object),
+        Ok(text) => with_scopes(alloc, text, scopes, places, object),
         Err(_) => {
             drop(scopes);
+            drop(places);
             drop(object);
             Err(NoMemory)
         }
@@ -87,6 +117,7 @@ fn module_copied(alloc: Global, p: &Present) -> Result<Present, NoMemory>
     Ok(Present {
         text: p.text.copy(alloc)?,
         scopes: p.scopes.share()?,
+        places: p.places.share()?,
         object: p.object.share()?,
     })
 }

@@ -7,6 +7,7 @@ use crate::present::{Present, is_present};
 use crate::state::State;
 use crate::stops::{Stop, has_stop};
 use sc_base::Name;
+use sc_mixed::MixedRun;
 use sc_words::{Denied, StopAt};
 
 /// Why the modules cannot be changed.
@@ -75,6 +76,31 @@ pub fn continuing(state: &State) -> Option<Denied>
         State::Paused(_) => None,
         State::StoppedMixed(_) => None,
         State::PausedMixed(_) => None,
+        State::Ended => Some(Denied::NotAtStop),
+    }
+}
+
+// Why no instruction of a run of both forms can be carried out.
+fn if_not_object(run: &MixedRun) -> Option<Denied>
+    ensures { result ≡ spec.if_not_object run.now.world.frames }
+{
+    if run.in_object() {
+        None
+    } else {
+        Some(Denied::NotObject)
+    }
+}
+
+/// Why no instruction can be carried out.
+pub fn instructing(state: &State) -> Option<Denied>
+    ensures { result ≡ spec.instructing state.now }
+{
+    match state {
+        State::Idle => Some(Denied::NoRun),
+        State::Stopped(_) => Some(Denied::NotObject),
+        State::Paused(_) => Some(Denied::NotObject),
+        State::StoppedMixed(run) => if_not_object(run),
+        State::PausedMixed(run) => if_not_object(run),
         State::Ended => Some(Denied::NotAtStop),
     }
 }

@@ -24,6 +24,7 @@ use crate::stops::places;
 use crate::versions::{go_through, versions_from};
 use sc_base::{Items, Name, NoMemory};
 use sc_core_held::Text;
+use sc_interp::main_key;
 use sc_interp_world::Layout;
 use sc_isa_image::Image;
 use sc_mixed::{MixedRun, layout_of};
@@ -72,7 +73,7 @@ impl Session {
 
     // A run of both forms is taken out of the session, and goes through the changes that wait for it. Where no memory is left it is over,
     // or all stays.
-    fn take_mixed(&mut self, alloc: Global) -> Option<MixedRun>
+    pub(crate) fn take_mixed(&mut self, alloc: Global) -> Option<MixedRun>
         requires { mixing.is_mixed self.old.state ≡ true }
         ensures { MatchOption result (going.IsGivenUp self.old self.new) (λ run. mixing.TakesMixed self.old run self.new) }
     {
@@ -279,12 +280,16 @@ impl Session {
         let Ok(stops) = places(alloc, self.stops.as_slice()) else {
             return Answer::NoMemory;
         };
+        let Ok(key) = main_key(alloc) else {
+            return Answer::NoMemory;
+        };
         let stack = u64::from(self.limits.stack);
         let heap = u64::from(self.limits.heap);
         let Ok(run) = MixedRun::start(
             alloc,
             texts.as_slice(),
             image,
+            &key,
             stack,
             heap,
             input,
@@ -386,12 +391,15 @@ impl Session {
         let Ok(stops) = places(alloc, self.stops.as_slice()) else {
             return Ok(Answer::NoMemory);
         };
+        let Ok(key) = main_key(alloc) else {
+            return Ok(Answer::NoMemory);
+        };
         let stack = u64::from(self.limits.stack);
         let heap = u64::from(self.limits.heap);
         let Ok(layout) = self.layout_heard(alloc, &texts) else {
             return Ok(Answer::NoMemory);
         };
-        let Ok(run) = Run::start(alloc, texts.as_slice(), stack, heap, input, layout) else {
+        let Ok(run) = Run::start(alloc, texts.as_slice(), &key, stack, heap, input, layout) else {
             return Ok(Answer::NoMemory);
         };
         put_state(&mut self.state, State::Ended);

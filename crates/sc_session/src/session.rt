@@ -27,8 +27,8 @@ use crate::listing::{Sight, calls_told, list_text, value_told};
 use crate::mixing::{is_mixed, mixed_calls_told, mixed_in, mixed_value_told};
 use crate::present::{Present, object_named, texts_of};
 use crate::refusal::{
-    continuing, deleting, if_absent, if_no_probe, if_not_droppable, loading, machining, replacing,
-    setting, starting, stepping,
+    continuing, deleting, if_absent, if_no_probe, if_not_droppable, instructing, loading,
+    machining, replacing, setting, starting, stepping,
 };
 use crate::state::{State, is_over, put_state};
 use crate::stops::{Stop, delete_stop, put_stop};
@@ -230,6 +230,7 @@ impl Session {
         match go {
             Go::Run(_) => self.forget(),
             Go::Walk(_) => {}
+            Go::One => {}
         }
     }
 
@@ -264,6 +265,7 @@ impl Session {
         match go {
             Go::Run(_) => starting(&self.state),
             Go::Walk(walk) => self.walk_denied(*walk),
+            Go::One => instructing(&self.state),
         }
     }
 
@@ -296,6 +298,7 @@ impl Session {
         match go {
             Go::Run(file) => self.run(alloc, file, out, files),
             Go::Walk(walk) => self.walk(alloc, walk, out),
+            Go::One => Ok(self.step_one(alloc)),
         }
     }
 
@@ -332,6 +335,8 @@ impl Session {
             Deed::Print(_) => stepping(&self.state),
             Deed::Machine => machining(&self.state),
             Deed::Disas(..) => None,
+            Deed::Xref(_) => None,
+            Deed::Whatis(_) => None,
             Deed::List => None,
             Deed::Report(k) => if_no_probe(*k, self.probes),
             Deed::Drop(k) => if_not_droppable(*k, self.probes),
@@ -360,6 +365,8 @@ impl Session {
             Deed::Print(name) => self.print(alloc, name),
             Deed::Machine => shown_machine(alloc, &self.heard.machine),
             Deed::Disas(home, fun) => self.disas(alloc, home, fun),
+            Deed::Xref(name) => self.xref(alloc, name),
+            Deed::Whatis(name) => self.whatis(alloc, name),
             Deed::List => self.list(alloc),
             Deed::Report(k) => self.report(k),
             Deed::Drop(k) => self.drop_probe(k),
@@ -582,7 +589,7 @@ pub fn is_go(command: &Command) -> bool
 {
     matches!(
         command,
-        Command::Run(_) | Command::Step | Command::Next | Command::Cont
+        Command::Run(_) | Command::Step | Command::Next | Command::Cont | Command::StepOne
     )
 }
 

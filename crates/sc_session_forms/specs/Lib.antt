@@ -5,3 +5,4 @@ pub mod Forms
 pub mod Halts
 pub mod Machines
 pub mod Disassembly
+pub mod Stepped

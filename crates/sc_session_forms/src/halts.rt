@@ -94,8 +94,8 @@ fn ended_text(alloc: Global, run: &MixedRun) -> Result<Vec<u8>, NoMemory>
     }
 }
 
-// Where a run halted.
-fn said(alloc: Global, halt: Halt, run: &MixedRun) -> Result<Vec<u8>, NoMemory>
+/// Where a run halted.
+pub(crate) fn said(alloc: Global, halt: Halt, run: &MixedRun) -> Result<Vec<u8>, NoMemory>
     ensures { IfOk result (λ text. spec.MixedSays halt run.now text.items) }
 {
     match halt {

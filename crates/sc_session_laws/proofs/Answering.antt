@@ -7,7 +7,7 @@ use Rattle.sc_base.specs.declared.memory.Form.{Form}
 use Rattle.sc_core_formed.specs.Modules.{formed}
 use Rattle.sc_meaning.specs.Versions.{Text}
 use Rattle.sc_meaning.specs.World.{World}
-use Rattle.sc_meaning.specs.Behaviour.{Start}
+use Rattle.sc_meaning.specs.Behaviour.{Start, main_key}
 use Rattle.sc_meaning.specs.Laws.{with_history}
 use Rattle.sc_isa_image.specs.declared.image.Image.{Image}
 use Rattle.sc_interp.specs.Ends.{start_of}
@@ -52,11 +52,12 @@ use Rattle.sc_session.specs.Placing.{IsImageOver}
 use Rattle.sc_session.specs.Going as going
 use Rattle.sc_session.specs.Going.{in_state, IsCutOff, IsGivenUp, cut_off, RunsIn, Went}
 use Rattle.sc_session.specs.Probing.{Drops, without_probe}
+use Rattle.sc_session.specs.Single.{CarriesOne, SingleWent, single_state}
 use Rattle.sc_session.specs.Transcript.{Moment, moment, empty, Loads, Edits, Swaps, joined, replaced, unloaded, swapped, forgotten, come_going, past_going, unended, asked, Unloads, RunFirst, Runs, MixedRuns, RunsBy, Carried, Decides, AnswersTo}
 use Rattle.sc_session_laws.specs.Courses.{Begins, ChangesSo, ChangeTells, Course, Stays, Stands, StandsIn, StandsSo, changed_by, changed_course, RunsSoBy, WalksSoBy, RunTells, WalkTells, Tells, IsTold}
 use Rattle.sc_session_laws.specs.Follows.{behind_changes, course_of, Follows, FollowsIn, FollowsOn, FollowsThere, Keeps}
 use Rattle.sc_session_laws.proofs.Going.{begins, went}
-use Rattle.sc_session_laws.proofs.Starting.{starts_fresh}
+use Rattle.sc_session_laws.proofs.Starting.{no_library, starts_fresh}
 use Rattle.sc_session_laws.proofs.Working.{change_earned, starts_earned}
 
 -- ---- the modules stay checked
@@ -309,6 +310,15 @@ mixed_keeps session new how m text formed went =
     moved (in_state (mixed_state went.halts went.stands) (caught_up session)) new None went.follows
     (formed, mixed_follows session.past (length session.past) session.modules went.halts went.stands)
 
+single_follows : (past : List (List Present)) (come : ℕ) (modules : List Present) (h : Option Halt) (w : Mixed) → FollowsIn past come modules (single_state h w) None
+single_follows past come modules None w = refl
+single_follows past come modules (Some h) w = mixed_follows past come modules h w
+
+single_keeps : (session new : Plain) (m : Mixed) (text : List ℕ) → AreFormed (texts session.modules) → SingleWent session m text new → Keeps new None
+single_keeps session new m text formed went =
+    moved (in_state (single_state went.halts went.stands) (caught_up session)) new None went.follows
+    (formed, single_follows session.past (length session.past) session.modules went.halts went.stands)
+
 given_up_keeps : (session new : Plain) (run : Option Course) → Keeps session run → IsGivenUp session new → (after : Option Course) × Stays run after × Keeps new after
 given_up_keeps session new run k (inl e) = (run, same_run run, moved session new run e k)
 given_up_keeps session new run k (inr e) = (None, no_run run, moved (in_state state.Ended session) new None e (k.0, refl))
@@ -338,6 +348,12 @@ module _ (old : Moment) (run : Option Course) (k : Keeps old.session run) where
   walk_tells_by : (b : Bool) (how : Walk) (front : List ℕ) (said : Answer) (new : Plain) → WalksBy b old.session how front said new → (after : Option Course) × WalkTellsBy b how front said after × Keeps new after
   walk_tells_by false how front said new p = walk_tells how front said new p
   walk_tells_by true how front said new p = mixed_walk_tells how front said new p.1
+
+  -- a step of one instruction is one of a run of both forms
+  single_tells : (said : Answer) (new : Plain) → CarriesOne old.session said new → (after : Option Course) × Stays run after × Keeps new after
+  single_tells (answer.Ran text) new (m, stood, (n, through, went)) = (None, no_run run, single_keeps old.session new n text k.0 went)
+  single_tells answer.NoMemory new p = given_up_keeps old.session new run k p
+  single_tells _ new p = absurd p
 
   -- the same as the law has it
   walk_told : (how : Walk) (front : List ℕ) (said : Answer) (after : Option Course) → WalkTellsBy (is_mixed old.session.state) how front said after → WalkTells old run how front said after
@@ -410,19 +426,19 @@ module _ (old : Moment) (run : Option Course) (k : Keeps old.session run) where
 -- ---- the start of a run
 
 starts : (session : Plain) (bytes front text : List ℕ) (new : Plain) → session.come ≡ length session.past → AreFormed (texts session.modules) → going.Begins session bytes front text new
-    → (c : Course) × Begins (start_of (texts session.modules) session.limits.stack session.limits.heap bytes) c
+    → (c : Course) × Begins (start_of (texts session.modules) main_key session.limits.stack session.limits.heap bytes) c
     × ((after : Option Course) × IsTold (places session.stops) walk.Cont session.limits.turns c front text after × Keeps new after)
 starts session bytes front text new none formed (of, (s, w, e)) =
     let modules : List Text = texts session.modules in
     let stack : ℕ = session.limits.stack in
     let heap : ℕ = session.limits.heap in
-    let start : Start = start_of modules stack heap bytes in
-    let first : Standing = started modules stack heap bytes in
+    let start : Start = start_of modules main_key stack heap bytes in
+    let first : Standing = started modules main_key stack heap bytes in
     let lean = formed_lean modules formed in
-    let went_on = went start (alone modules) modules (places session.stops) walk.Cont session.limits.turns formed first first [] (begins_through modules stack heap bytes) (still_here first) (starts_fresh modules stack heap bytes).0
-    (starts_lean modules stack heap bytes lean) (starts_earned modules stack heap bytes lean) front text s w in (
+    let went_on = went start (alone modules) modules (places session.stops) walk.Cont session.limits.turns formed first first [] (begins_through modules main_key stack heap bytes) (still_here first) (starts_fresh modules main_key stack heap bytes (no_library modules)).0
+    (starts_lean modules main_key stack heap bytes lean) (starts_earned modules main_key stack heap bytes lean) front text s w in (
       course_of (with_history start (alone modules)) first [],
-      begins modules stack heap bytes,
+      begins modules main_key stack heap bytes (no_library modules),
       (went_on.0, went_on.1, moved (in_state s session) new went_on.0 e (formed, follows_here session.past session.come session.modules s went_on.0 none went_on.2)),
     )
 
@@ -481,10 +497,13 @@ carried old run k (command.Compile name) front said new free a (none, p) = (run,
 carried old run k command.Step front said new free a p = walks old run k walk.Step front said new.session p.0
 carried old run k command.Next front said new free a p = walks old run k walk.Next front said new.session p.0
 carried old run k command.Cont front said new free a p = walks old run k walk.Cont front said new.session p.0
+carried old run k command.StepOne front said new free a (none, p) = single_tells old run k said new.session p.0
 carried old run k command.Frames front said new free a (none, p) = same_session old run k new p.1
 carried old run k (command.Print name) front said new free a (none, p) = same_session old run k new p.1
 carried old run k command.Machine front said new free a (none, p) = same_session old run k new p.1
 carried old run k (command.Disas home fun) front said new free a (none, p) = same_session old run k new p.1
+carried old run k (command.Xref name) front said new free a (none, p) = same_session old run k new p.1
+carried old run k (command.Whatis name) front said new free a (none, p) = same_session old run k new p.1
 carried old run k command.List front said new free a (none, p) = same_session old run k new p.1
 carried old run k (command.Report n) front said new free a (none, p) = same_session old run k new p.1
 carried old run k (command.Drop n) front said new free a (none, p) = (run, same_run run, drops old run k n said new.session p.0)

@@ -1,10 +1,12 @@
 -- A go of a session's run, as the meaning has it.
 use Rattle.std.proofs.Common.{◌≡◌, ◌⊎◌, inl, inr, ℕ, zero, suc, ◌-◌, ◌<◌, ◌≤◌, Bool, true, ◌++◌, drop, length, refl, sym, ap, ◌∙◌, subst, arith, List, [], Option, Some, None}
+use Rattle.sc_base.specs.declared.key.Key.{Key}
 use Rattle.sc_meaning.specs.World.{World, Event, events}
 use Rattle.sc_meaning.specs.Behaviour.{Start, ending, events_upto, first_world}
 use Rattle.sc_meaning.specs.Laws.{with_history}
 use Rattle.sc_meaning.specs.Outcomes.{world_at}
-use Rattle.sc_meaning.specs.Versions.{History, Text}
+use Rattle.sc_meaning.specs.Versions.{History, InLibrary, Text, callee_of}
+use Rattle.sc_meaning.specs.declared.library.LibFun.{LibFun}
 use Rattle.sc_interp.specs.Steady.{alone}
 use Rattle.sc_interp.specs.Steps.{is_over}
 use Rattle.sc_interp.specs.Ends.{start_of}
@@ -181,12 +183,12 @@ module _ (s : Start) (h : History) (texts : List Text) (stops : List StopAt) (ho
 
 -- ---- from the start on
 
-pub begins : (texts : List Text) (stack heap : ℕ) (input : List ℕ) → Begins (start_of texts stack heap input) (course_of (with_history (start_of texts stack heap input) (alone texts)) (started texts stack heap input) [])
-begins texts stack heap input =
-    let fresh = starts_fresh texts stack heap input in
+pub begins : (texts : List Text) (key : Key) (stack heap : ℕ) (input : List ℕ) → ((f : LibFun) → callee_of texts key ≡ InLibrary f → ⊥) → Begins (start_of texts key stack heap input) (course_of (with_history (start_of texts key stack heap input) (alone texts)) (started texts key stack heap input) [])
+begins texts key stack heap input other =
+    let fresh = starts_fresh texts key stack heap input other in
     record {
       start = refl;
-      meant = is_meant (start_of texts stack heap input) (alone texts) texts (started texts stack heap input) [] (begins_through texts stack heap input) fresh.0;
+      meant = is_meant (start_of texts key stack heap input) (alone texts) texts (started texts key stack heap input) [] (begins_through texts key stack heap input) fresh.0;
       untaken = refl;
       unpassed = refl;
       unwritten = fresh.1;

@@ -1,6 +1,7 @@
--- A run starts before all of its events: nothing is told before `main` is entered, and nothing is written.
+-- A run starts before all of its events: nothing is told before its entry is entered, and nothing is written.
 use Rattle.std.proofs.Common.{◌≡◌, ℕ, nat_le, nat_lt, ◌+◌, Bool, true, false, if◌then◌else◌, List, [], ◌∷◌, ◌++◌, length, append_assoc, slice_index_or, refl, sym, ap, ◌∙◌, Option, Some, None}
 use Rattle.std.proofs.lemmas.List.{append-nil}
+use Rattle.sc_base.specs.declared.key.Key.{Key}
 use Rattle.sc_program.specs.declared.storage.StaticId.{StaticId}
 use Rattle.sc_program.specs.declared.storage.StaticId.TheVariants.{Named, Literal}
 use Rattle.sc_base.specs.declared.memory.Kind.{Kind}
@@ -21,7 +22,7 @@ use Rattle.sc_interp_laws.proofs.Lawfully.{along_here, along_one, along_on}
 use Rattle.sc_interp_world.specs.Outputs.{output, written_by}
 use Rattle.sc_interp.specs.Ends.{start_of}
 use Rattle.sc_interp.specs.Steady.{alone, begins, with_frame, enters, callee_next}
-use Rattle.sc_world.specs.Goes.{first_standing, main_next, started}
+use Rattle.sc_world.specs.Goes.{first_standing, entry_next, started}
 use Rattle.sc_world.specs.Standing.{world_of}
 use Rattle.sc_world_laws.specs.Told.{now, IsAt}
 use Rattle.sc_world_laws.proofs.Halting.{run_starts}
@@ -103,38 +104,38 @@ statics_silent texts w =
     let ids : List StaticId = unnamed w.names (births_of texts) in
     then_silent w (born_all texts ids w) (λ x v. went (filled_all texts ids v)) (all_silent texts ids w) (λ x v. fills_silent texts ids v)
 
--- ---- `main` is entered
+-- ---- the entry is entered
 
 -- the events so far are the one that is shown, and nothing was written
 abbrev Opens : State → Type 0
 Opens s = (events (world_of s).trail ≡ now (first_standing s)) × (output (world_of s).trail ≡ [])
 
-framed_quiet : (t : Text) (f : Fun) (w : World) → IsQuiet w → IsQuiet (with_frame main_key t f w)
-framed_quiet t f w q =
+framed_quiet : (key : Key) (t : Text) (f : Fun) (w : World) → IsQuiet w → IsQuiet (with_frame key t f w)
+framed_quiet key t f w q =
     let v : World = pass (Stack (w.used + f.cost)) w in
-    one_quiet (Push (frame_of main_key t w)) v (refl, refl) (one_quiet (Stack (w.used + f.cost)) w (refl, refl) q)
+    one_quiet (Push (frame_of key t w)) v (refl, refl) (one_quiet (Stack (w.used + f.cost)) w (refl, refl) q)
 
-opened : (t : Text) (f : Fun) (w : World) → IsQuiet w → Opens (begins main_key t f [] [] (with_frame main_key t f w))
-opened t f w q =
+opened : (key : Key) (t : Text) (f : Fun) (w : World) → IsQuiet w → Opens (begins key t f [] [] (with_frame key t f w))
+opened key t f w q =
     let born : Born = record { block = 0; ids = [] } in
-    let v : World = pass (OpenBlock born) (with_frame main_key t f w) in
-    let r : IsQuiet v = one_quiet (OpenBlock born) (with_frame main_key t f w) (refl, refl) (framed_quiet t f w q) in
-    let enter : Item = Happens (Enter main_key t.core.name) in
+    let v : World = pass (OpenBlock born) (with_frame key t f w) in
+    let r : IsQuiet v = one_quiet (OpenBlock born) (with_frame key t f w) (refl, refl) (framed_quiet key t f w q) in
+    let enter : Item = Happens (Enter key t.core.name) in
     (events-append v.trail (enter ∷ []) ∙ ap (λ es. es ++ events (enter ∷ [])) r.0, output-append v.trail (enter ∷ []) ∙ ap (λ bs. bs ++ output (enter ∷ [])) r.1)
 
 -- it takes no arguments
-parameters_open : (autos : List Auto) (t : Text) (f : Fun) (w : World) → IsQuiet w → Opens (then_goes (parameters autos [] [] (with_frame main_key t f w)) (begins main_key t f []))
-parameters_open [] t f w q = opened t f w q
-parameters_open (a ∷ rest) t f w q = opened t f w q
+parameters_open : (key : Key) (autos : List Auto) (t : Text) (f : Fun) (w : World) → IsQuiet w → Opens (then_goes (parameters autos [] [] (with_frame key t f w)) (begins key t f []))
+parameters_open key [] t f w q = opened key t f w q
+parameters_open key (a ∷ rest) t f w q = opened key t f w q
 
-enters_open : (b : Bool) (t : Text) (f : Fun) (w : World) → IsQuiet w → Opens (enters b main_key t f [] [] w)
-enters_open true t f w q = q
-enters_open false t f w q = parameters_open (slice_index_or f.blocks 0 []) t f w q
+enters_open : (key : Key) (b : Bool) (t : Text) (f : Fun) (w : World) → IsQuiet w → Opens (enters b key t f [] [] w)
+enters_open key true t f w q = q
+enters_open key false t f w q = parameters_open key (slice_index_or f.blocks 0 []) t f w q
 
-callee_opens : (texts : List Text) (c : Callee) (w : World) → ((f : LibFun) → c ≡ InLibrary f → ⊥) → IsQuiet w → Opens (callee_next (alone texts) main_key [] c [] w)
-callee_opens texts Missing w other q = q
-callee_opens texts (InLibrary f) w other q = absurd (other f refl)
-callee_opens texts (InText t f) w other q = enters_open (nat_lt w.stack (w.used + f.cost)) t f w q
+callee_opens : (key : Key) (texts : List Text) (c : Callee) (w : World) → ((f : LibFun) → c ≡ InLibrary f → ⊥) → IsQuiet w → Opens (callee_next (alone texts) key [] c [] w)
+callee_opens key texts Missing w other q = q
+callee_opens key texts (InLibrary f) w other q = absurd (other f refl)
+callee_opens key texts (InText t f) w other q = enters_open key (nat_lt w.stack (w.used + f.cost)) t f w q
 
 -- the library has no `main`
 later_other : (t : Text) (o : Option Fun) (c : Callee) (f : LibFun) → (c ≡ InLibrary f → ⊥) → or_later t o c ≡ InLibrary f → ⊥
@@ -144,22 +145,22 @@ later_other t (Some g) c f other e = absurd (cc)
 missing_other : (f : LibFun) → Missing ≡ InLibrary f → ⊥
 missing_other f e = absurd (cc)
 
-no_library : (texts : List Text) (f : LibFun) → callee_of texts main_key ≡ InLibrary f → ⊥
+pub no_library : (texts : List Text) (f : LibFun) → callee_of texts main_key ≡ InLibrary f → ⊥
 no_library [] f e = missing_other f e
 no_library (t ∷ ts) f e = later_other t (fun_by main_key.«module» main_key.name t.core) (callee_of ts main_key) f (no_library ts f) e
 
-from_opens : (texts : List Text) (r : Outcome (Unit {0})) → IsQuiet (world_after r) → Opens (then_goes r (λ _ born. main_next texts [] born))
-from_opens texts (Done _ born) q = callee_opens texts (callee_of texts main_key) (pass GoesOut born) (no_library texts) (one_quiet GoesOut born (refl, refl) q)
-from_opens texts (Over e) q = q
+from_opens : (texts : List Text) (key : Key) (r : Outcome (Unit {0})) → ((f : LibFun) → callee_of texts key ≡ InLibrary f → ⊥) → IsQuiet (world_after r) → Opens (then_goes r (λ _ born. entry_next texts key [] born))
+from_opens texts key (Done _ born) other q = callee_opens key texts (callee_of texts key) (pass GoesOut born) other (one_quiet GoesOut born (refl, refl) q)
+from_opens texts key (Over e) other q = q
 
-start_opens : (texts : List Text) (stack heap : ℕ) (input : List ℕ) → Opens (started texts stack heap input).state
-start_opens texts stack heap input =
-    let w : World = first_world (start_of texts stack heap input) in
-    from_opens texts (statics_born texts w) (silent_quiet w (world_after (statics_born texts w)) (statics_silent texts w) (refl, refl))
+start_opens : (texts : List Text) (key : Key) (stack heap : ℕ) (input : List ℕ) → ((f : LibFun) → callee_of texts key ≡ InLibrary f → ⊥) → Opens (started texts key stack heap input).state
+start_opens texts key stack heap input other =
+    let w : World = first_world (start_of texts key stack heap input) in
+    from_opens texts key (statics_born texts w) other (silent_quiet w (world_after (statics_born texts w)) (statics_silent texts w) (refl, refl))
 
 -- no event was looked at, and no byte was written
-pub starts_fresh : (texts : List Text) (stack heap : ℕ) (input : List ℕ) → IsAt (started texts stack heap input) [] × (output (world_of (started texts stack heap input).state).trail ≡ [])
-starts_fresh texts stack heap input =
-    let first = (run_starts texts stack heap input).1 in
-    let opens = start_opens texts stack heap input in
+pub starts_fresh : (texts : List Text) (key : Key) (stack heap : ℕ) (input : List ℕ) → ((f : LibFun) → callee_of texts key ≡ InLibrary f → ⊥) → IsAt (started texts key stack heap input) [] × (output (world_of (started texts key stack heap input).state).trail ≡ [])
+starts_fresh texts key stack heap input other =
+    let first = (run_starts texts key stack heap input).1 in
+    let opens = start_opens texts key stack heap input other in
     (record { framed = first.framed; passed = opens.0; last = first.last; counted = first.counted }, opens.1)

@@ -1,5 +1,6 @@
 -- The turns of a whole run are paid by its work.
 use Rattle.std.proofs.Common.{◌≡◌, ℕ, ◌+◌, ◌*◌, ◌/◌, ◌<◌, ◌≤◌, List, [], ◌∷◌, ◌++◌, refl, ap, ◌∙◌, subst, arith, Some}
+use Rattle.sc_base.specs.declared.key.Key.{Key}
 use Rattle.sc_meaning.specs.World.{World, Item, ComesBack, work, work_of}
 use Rattle.sc_meaning.specs.Versions.{Text}
 use Rattle.sc_meaning.specs.Laws.{Leads}
@@ -55,10 +56,10 @@ goes_earned texts stops walk turns m h n lean p q g =
 first_earned : (k d : ℕ) → k ≤ 7 → 0 + k ≤ 7 + 9 * d
 first_earned k d p = omega (arith, p)
 
-pub starts_earned : (texts : List Text) (stack heap : ℕ) (input : List ℕ) → AreLean (alone texts) → Earned (started texts stack heap input)
-starts_earned texts stack heap input lean =
-    let s : State = (started texts stack heap input).state in
-    first_earned (near s) (done (world_of s)) (near_most s (starts_lean texts stack heap input lean))
+pub starts_earned : (texts : List Text) (key : Key) (stack heap : ℕ) (input : List ℕ) → AreLean (alone texts) → Earned (started texts key stack heap input)
+starts_earned texts key stack heap input lean =
+    let s : State = (started texts key stack heap input).state in
+    first_earned (near s) (done (world_of s)) (near_most s (starts_lean texts key stack heap input lean))
 
 -- ---- what was passed
 

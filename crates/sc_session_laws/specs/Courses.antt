@@ -8,7 +8,7 @@
 use Rattle.std.specs.Prelude.{◌≡◌, ◌<◌, ◌≤◌, ◌⊎◌, ℕ, ◌+◌, ◌-◌, ◌*◌, ◌&&◌, Bool, true, false, List, [], ◌∷◌, ◌++◌, length, drop, Option, Some, None}
 use Rattle.sc_meaning.specs.World.{World, Event, events}
 use Rattle.sc_meaning.specs.Outcomes.{world_at}
-use Rattle.sc_meaning.specs.Behaviour.{Start, ending, events_upto, first_world}
+use Rattle.sc_meaning.specs.Behaviour.{Start, ending, events_upto, first_world, main_key}
 use Rattle.sc_meaning.specs.Laws.{Leads, with_history}
 use Rattle.sc_meaning.specs.Versions.{Text}
 use Rattle.sc_interp.specs.Ends.{start_of, end_of}
@@ -38,7 +38,7 @@ use Rattle.sc_session.specs.Mixing.{is_mixed}
 use Rattle.sc_session.specs.Stopping.{places}
 use Rattle.sc_session.specs.Transcript.{Moment}
 
--- A run of a program: how it started, with the history of its texts so far; how many steps were done since the call of `main` went out,
+-- A run of a program: how it started, with the history of its texts so far; how many steps were done since the call of the entry went out,
 -- and how many turns they took; the world behind them, with all that has happened; and the events that were passed, which a go looked at.
 pub record Course : Type 0 where
   pub start : Start
@@ -129,7 +129,7 @@ pub record IsTold (stops : List StopAt) (how : Walk) (turns : ℕ) (c : Course) 
 abbrev pub RunsSo : Moment → Option (List ℕ) → List ℕ → List ℕ → Option Course → Type 0
 RunsSo old file front text after =
     (bytes : List ℕ) × IsInput old.held file bytes
-    × ((c : Course) × Begins (start_of (texts old.session.modules) old.session.limits.stack old.session.limits.heap bytes) c
+    × ((c : Course) × Begins (start_of (texts old.session.modules) main_key old.session.limits.stack old.session.limits.heap bytes) c
     × IsTold (places old.session.stops) walk.Cont old.session.limits.turns c front text after)
 
 -- The run goes on from where it stands.

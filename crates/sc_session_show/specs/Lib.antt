@@ -6,3 +6,5 @@ pub mod Tasks
 pub mod Places
 pub mod Visible
 pub mod Listings
+pub mod Types
+pub mod References

@@ -1,4 +1,5 @@
-//! What a session shows of its modules and of a run that stopped: active calls, values of objects, modules, functions.
+//! What a session shows of its modules and of a run that stopped: active calls, values of objects, modules, functions, places and types of
+//! names.
 #![tactic(auto)]
 
 mod contents;
@@ -7,8 +8,11 @@ mod layouts;
 mod listing;
 mod names;
 mod places;
+mod references;
 mod tasks;
+mod types;
 
 pub use frames::{put_line, where_line, where_lines};
 pub use listing::{defined_key, fun_lines, module_lines};
 pub use names::{Seen, print_line, print_line_in, visible};
+pub use references::{Found, is_declared_in, places_text, put_found, put_type_line};

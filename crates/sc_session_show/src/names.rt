@@ -64,11 +64,11 @@ impl<'a> Model for Local<'a> {
     ghost view = { λ l. record { object = l.object; of = l.of.now } };
 }
 
-// A name of a static object, and its type.
+/// A name of a static object, and its type.
 #[derive(Drop)]
-struct Linked<'a> {
-    key: &'a Key,
-    of: &'a CType,
+pub(crate) struct Linked<'a> {
+    pub(crate) key: &'a Key,
+    pub(crate) of: &'a CType,
 }
 
 impl<'a> Model for Linked<'a> {
@@ -215,7 +215,12 @@ fn linked_as<'a>(
     }
 }
 
-fn linked_if<'a>(core: &'a Core, name: &Name, entity: Option<Entity>) -> Option<Linked<'a>>
+/// What the module declares with linkage under a name, where a scope has it for such.
+pub(crate) fn linked_if<'a>(
+    core: &'a Core,
+    name: &Name,
+    entity: Option<Entity>,
+) -> Option<Linked<'a>>
     ensures { result ≡ spec.linked_if core.now name.now entity }
 {
     match entity {

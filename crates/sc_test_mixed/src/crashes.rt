@@ -88,6 +88,13 @@ fn name(alloc: Global, text: &[u8]) -> Result<Name, NoMemory> {
     Name::new(alloc, text).map_err(|_| NoMemory)
 }
 
+fn main_key(alloc: Global) -> Result<Key, NoMemory> {
+    Ok(Key {
+        module: None,
+        name: name(alloc, b"main")?,
+    })
+}
+
 fn text_section(alloc: Global, words: &[u32]) -> Result<Section, NoMemory> {
     let mut bytes = Vec::new(alloc);
     for word in words {
@@ -152,10 +159,7 @@ fn image(alloc: Global, words: &[u32]) -> Result<Image, NoMemory> {
         object: Shared::new(alloc, object(alloc, words)?)?,
     })?;
     let mut functions = Items::new(alloc);
-    functions.push(Key {
-        module: None,
-        name: name(alloc, b"main")?,
-    })?;
+    functions.push(main_key(alloc)?)?;
     image_of(alloc, modules.as_slice(), functions.as_slice()).map_err(|_| NoMemory)
 }
 
@@ -221,8 +225,9 @@ fn told(alloc: Global, words: &[u32], done: usize) -> Result<Vec<Entry>, NoMemor
 // A run of `main` with these words, as far as it goes.
 fn gone(alloc: Global, texts: &[Text], words: &[u32]) -> Result<MixedRun, NoMemory> {
     let image = image(alloc, words)?;
+    let key = main_key(alloc)?;
     let input = Items::new(alloc);
-    let mut run = MixedRun::start(alloc, texts, image, 4096, 64, input, true)?;
+    let mut run = MixedRun::start(alloc, texts, image, &key, 4096, 64, input, true)?;
     run.go(texts, &[], Walk::Cont, 100);
     Ok(run)
 }

@@ -126,9 +126,11 @@ fn translated(alloc: Global, number: u32, name: &[u8], text: &str) -> Result<Par
     let Built {
         core,
         scopes,
+        places,
         object,
     } = built;
     drop(scopes);
+    drop(places);
     Ok(Part {
         number,
         core: Module::new(alloc, core)?,
@@ -580,9 +582,22 @@ fn ran(
     let stops = stops(alloc)?;
     let own = image(alloc, first, second, forms)?;
     let image = image(alloc, first, second, forms)?;
+    let key = Key {
+        module: None,
+        name: named(alloc, b"main")?,
+    };
     let input = Items::new(alloc);
     let (stack, heap) = (u64::from(STACK), u64::from(HEAP));
-    let mut run = MixedRun::start(alloc, texts.as_slice(), image, stack, heap, input, true)?;
+    let mut run = MixedRun::start(
+        alloc,
+        texts.as_slice(),
+        image,
+        &key,
+        stack,
+        heap,
+        input,
+        true,
+    )?;
     let mut fold = begun(alloc)?;
     let mut odd = None;
     for _ in 0..1000 {

@@ -4,7 +4,7 @@ use crate::output::put_line;
 use sc_base::{Form, Items, NoMemory};
 use sc_core::Core;
 use sc_core_held::Text;
-use sc_interp::{Finished, Limits, run};
+use sc_interp::{Finished, Limits, main_key, run};
 use sc_interp_access::Ended;
 use std::alloc::Global;
 
@@ -70,7 +70,8 @@ fn finished(alloc: Global, core: Core) -> Result<Finished, NoMemory> {
         heap: 0,
         steps: 100_000,
     };
-    run(alloc, texts.as_slice(), limits, Items::new(alloc))
+    let key = main_key(alloc)?;
+    run(alloc, texts.as_slice(), &key, limits, Items::new(alloc))
 }
 
 fn put_number(

@@ -27,15 +27,18 @@ verb_of word =
     else (if bytes_eq word (codes "step") then Some verb.Step
     else (if bytes_eq word (codes "next") then Some verb.Next
     else (if bytes_eq word (codes "cont") then Some verb.Cont
+    else (if bytes_eq word (codes "stepi") then Some verb.StepOne
     else (if bytes_eq word (codes "where") then Some verb.Where
     else (if bytes_eq word (codes "print") then Some verb.Print
     else (if bytes_eq word (codes "list") then Some verb.List
     else (if bytes_eq word (codes "machine") then Some verb.Machine
     else (if bytes_eq word (codes "disas") then Some verb.Disas
+    else (if bytes_eq word (codes "xref") then Some verb.Xref
+    else (if bytes_eq word (codes "whatis") then Some verb.Whatis
     else (if bytes_eq word (codes "report") then Some verb.Report
     else (if bytes_eq word (codes "drop") then Some verb.Drop
     else (if bytes_eq word (codes "reset") then Some verb.Reset
-    else (if bytes_eq word (codes "quit") then Some verb.Quit else None)))))))))))))))))))
+    else (if bytes_eq word (codes "quit") then Some verb.Quit else None))))))))))))))))))))))
 
 -- ---- the further words
 
@@ -116,9 +119,19 @@ report_of words = option_map_or (λ number. command.Report number) (number_alone
 abbrev pub drop_of : List (List ℕ) → Command
 drop_of words = option_map_or (λ number. command.Drop number) (number_alone words) command.BadArguments
 
+-- an identifier alone
+abbrev pub name_alone : List (List ℕ) → Option (List ℕ)
+name_alone (name ∷ []) = if is_identifier name then Some name else None
+name_alone _ = None
+
 abbrev pub print_of : List (List ℕ) → Command
-print_of (name ∷ []) = if is_identifier name then command.Print name else command.BadArguments
-print_of _ = command.BadArguments
+print_of words = option_map_or (λ name. command.Print name) (name_alone words) command.BadArguments
+
+abbrev pub xref_of : List (List ℕ) → Command
+xref_of words = option_map_or (λ name. command.Xref name) (name_alone words) command.BadArguments
+
+abbrev pub whatis_of : List (List ℕ) → Command
+whatis_of words = option_map_or (λ name. command.Whatis name) (name_alone words) command.BadArguments
 
 abbrev pub code_of : Option (Option (List ℕ) × List ℕ) → Command
 code_of None = command.BadArguments
@@ -142,11 +155,14 @@ command_by verb.Delete words = delete_of words
 command_by verb.Step words = alone command.Step words
 command_by verb.Next words = alone command.Next words
 command_by verb.Cont words = alone command.Cont words
+command_by verb.StepOne words = alone command.StepOne words
 command_by verb.Where words = alone command.Frames words
 command_by verb.Print words = print_of words
 command_by verb.List words = alone command.List words
 command_by verb.Machine words = alone command.Machine words
 command_by verb.Disas words = disas_of words
+command_by verb.Xref words = xref_of words
+command_by verb.Whatis words = whatis_of words
 command_by verb.Report words = report_of words
 command_by verb.Drop words = drop_of words
 command_by verb.Reset words = alone command.Reset words

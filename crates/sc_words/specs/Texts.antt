@@ -67,7 +67,9 @@ denied_text (denied.NotVisible name) = codes "C16 " ++ name
 denied_text (denied.NoProbe number) = codes "C17 " ++ decimal number
 denied_text (denied.NoStop number) = codes "C18 " ++ decimal number
 denied_text (denied.TooLong file) = codes "C19 " ++ file
+denied_text denied.NotObject = codes "C20"
 denied_text (denied.NoText name fun) = codes "C21 " ++ fun_text name fun
+denied_text (denied.NotDeclared name) = codes "C22 " ++ name
 
 abbrev pub form_text : Form → List ℕ
 form_text form.Source = codes " source"

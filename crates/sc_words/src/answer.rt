@@ -167,9 +167,11 @@ fn denied_text(alloc: Global, denied: &Denied) -> Result<Vec<u8>, NoMemory>
         Denied::NoProbe(number) => with_number(alloc, b"C17 ", *number),
         Denied::NoStop(number) => with_number(alloc, b"C18 ", *number),
         Denied::TooLong(file) => with_word(alloc, b"C19 ", file.as_slice()),
+        Denied::NotObject => words(alloc, b"C20"),
         Denied::NoText(home, fun) => {
             with_word(alloc, b"C21 ", fun_text(alloc, home, fun)?.as_slice())
         }
+        Denied::NotDeclared(name) => with_word(alloc, b"C22 ", name.as_slice()),
     }
 }
 

@@ -2,7 +2,7 @@
 ghost use Rattle.std.specs.Prelude.{◌≡◌, true, [], ◌∷◌, IfOk, OnErr, IfSome, IfNone, Some, None, option_map};
 ghost use Rattle.sc_words.specs.Lines.{words_of};
 ghost use Rattle.sc_words.specs.Parts.{is_module_name, parts_of};
-ghost use Rattle.sc_words.specs.Commands.{command_of, command_by, alone, load_of, unload_of, swap_of, swap_to, form_of, edit_of, compile_of, run_of, stop_of, function_of, in_function, at_line, number_alone, delete_of, report_of, drop_of, print_of, disas_of, is_comment, IsNamed, IsAnswered};
+ghost use Rattle.sc_words.specs.Commands.{command_of, command_by, alone, load_of, unload_of, swap_of, swap_to, form_of, edit_of, compile_of, run_of, stop_of, function_of, in_function, at_line, number_alone, delete_of, report_of, drop_of, name_alone, print_of, xref_of, whatis_of, disas_of, is_comment, IsNamed, IsAnswered};
 
 use crate::line::next_word;
 use crate::part::{
@@ -41,6 +41,8 @@ pub enum Command {
     Step,
     Next,
     Cont,
+    /// `stepi`
+    StepOne,
     /// `where`
     Frames,
     /// `print NAME`
@@ -49,6 +51,10 @@ pub enum Command {
     Machine,
     /// `disas F` or `disas M:F`
     Disas(Option<Name>, Name),
+    /// `xref NAME`
+    Xref(Name),
+    /// `whatis NAME`
+    Whatis(Name),
     /// `report K`
     Report(u32),
     /// `drop K`
@@ -109,10 +115,13 @@ fn command_by(alloc: Global, verb: Verb, rest: &[u8]) -> Result<Command, NoMemor
         Verb::Step => Ok(alone(Command::Step, rest)),
         Verb::Next => Ok(alone(Command::Next, rest)),
         Verb::Cont => Ok(alone(Command::Cont, rest)),
+        Verb::StepOne => Ok(alone(Command::StepOne, rest)),
         Verb::Where => Ok(alone(Command::Frames, rest)),
         Verb::List => Ok(alone(Command::List, rest)),
         Verb::Machine => Ok(alone(Command::Machine, rest)),
         Verb::Disas => disas_of(alloc, rest),
+        Verb::Xref => xref_of(alloc, rest),
+        Verb::Whatis => whatis_of(alloc, rest),
         Verb::Report => Ok(report_of(rest)),
         Verb::Drop => Ok(drop_of(rest)),
         Verb::Reset => Ok(alone(Command::Reset, rest)),
@@ -378,19 +387,52 @@ fn drop_of(rest: &[u8]) -> Command
     }
 }
 
+// An identifier alone.
+fn name_alone<'a>(rest: &'a [u8]) -> Option<&'a [u8]>
+    ensures none { IfNone result (name_alone (words_of rest.now) ≡ None) }
+    ensures some { IfSome result (λ name. name_alone (words_of rest.now) ≡ Some name.now) }
+{
+    let (name, rest) = next_word(rest)?;
+    if next_word(rest).is_some() || !is_identifier(name) {
+        return None;
+    }
+    Some(name)
+}
+
 fn print_of(alloc: Global, rest: &[u8]) -> Result<Command, NoMemory>
     ensures command { IfOk result (λ command. command ≡ print_of (words_of rest.now)) }
     ensures named { IfOk result IsNamed }
     ensures no_memory { OnErr result (IsAnswered (print_of (words_of rest.now))) }
 {
-    let Some((name, rest)) = next_word(rest) else {
+    let Some(name) = name_alone(rest) else {
         return Ok(Command::BadArguments);
     };
-    if next_word(rest).is_some() || !is_identifier(name) {
-        return Ok(Command::BadArguments);
-    }
     let name = name_of(alloc, name)?;
     Ok(Command::Print(name))
+}
+
+fn xref_of(alloc: Global, rest: &[u8]) -> Result<Command, NoMemory>
+    ensures command { IfOk result (λ command. command ≡ xref_of (words_of rest.now)) }
+    ensures named { IfOk result IsNamed }
+    ensures no_memory { OnErr result (IsAnswered (xref_of (words_of rest.now))) }
+{
+    let Some(name) = name_alone(rest) else {
+        return Ok(Command::BadArguments);
+    };
+    let name = name_of(alloc, name)?;
+    Ok(Command::Xref(name))
+}
+
+fn whatis_of(alloc: Global, rest: &[u8]) -> Result<Command, NoMemory>
+    ensures command { IfOk result (λ command. command ≡ whatis_of (words_of rest.now)) }
+    ensures named { IfOk result IsNamed }
+    ensures no_memory { OnErr result (IsAnswered (whatis_of (words_of rest.now))) }
+{
+    let Some(name) = name_alone(rest) else {
+        return Ok(Command::BadArguments);
+    };
+    let name = name_of(alloc, name)?;
+    Ok(Command::Whatis(name))
 }
 
 fn disas_of(alloc: Global, rest: &[u8]) -> Result<Command, NoMemory>

@@ -25,11 +25,14 @@ const COMMANDS: &str = "Commands, one on each line of the standard input:
   step            goes on to the next line
   next            goes on to the next line of this function or of one further out
   cont            goes on to the next stop
+  stepi           carries out one instruction of a compiled function
   where           shows the active functions, from the innermost
   print NAME      shows a value
   list            shows modules, functions, stops and the state
   machine         shows the registers, and how many instructions were carried out
   disas F         shows the instructions of a compiled function; F is NAME or M:NAME
+  xref NAME       shows every place of a name of file scope
+  whatis NAME     shows the type of a name of file scope in each module
   report K        shows what a probe tells
   drop K          takes a probe away
   reset           gives the run up

@@ -56,6 +56,10 @@ pub enum Denied {
     NoStop(u32),
     /// The file has more than 8,388,608 bytes.
     TooLong(Bytes),
+    /// The innermost active call is not one of a module that runs as its object.
+    NotObject,
     /// No module that runs as its object defines the function: the module, where one is named, and the function.
     NoText(Option<Name>, Name),
+    /// No module declares the name as a function or an object at file scope.
+    NotDeclared(Name),
 }

@@ -15,11 +15,14 @@ pub enum Verb {
     Step,
     Next,
     Cont,
+    StepOne,
     Where,
     Print,
     List,
     Machine,
     Disas,
+    Xref,
+    Whatis,
     Report,
     Drop,
     Reset,
@@ -62,6 +65,9 @@ pub fn verb_of(word: &[u8]) -> Option<Verb>
     if word == b"cont".as_slice() {
         return Some(Verb::Cont);
     }
+    if word == b"stepi".as_slice() {
+        return Some(Verb::StepOne);
+    }
     if word == b"where".as_slice() {
         return Some(Verb::Where);
     }
@@ -76,6 +82,12 @@ pub fn verb_of(word: &[u8]) -> Option<Verb>
     }
     if word == b"disas".as_slice() {
         return Some(Verb::Disas);
+    }
+    if word == b"xref".as_slice() {
+        return Some(Verb::Xref);
+    }
+    if word == b"whatis".as_slice() {
+        return Some(Verb::Whatis);
     }
     if word == b"report".as_slice() {
         return Some(Verb::Report);

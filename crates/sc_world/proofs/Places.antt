@@ -1,5 +1,6 @@
 -- Where a run stands, by what the program keeps of it.
 use Rattle.std.proofs.Common.{◌≡◌, ℕ, false, List, [], refl, ap, sym, subst, ◌∙◌, Option, Some, None, Result, Err}
+use Rattle.sc_base.specs.declared.key.Key.{Key}
 use Rattle.sc_meaning.specs.World.{World}
 use Rattle.sc_meaning.specs.Outcomes.{Ending}
 use Rattle.sc_meaning.specs.Versions.{Text}
@@ -62,14 +63,14 @@ over_first first x y is f s cs w p =
     ap (ended_so nothing_counted) (f w).2 ∙ sym (ap (λ s. Some (first_standing s)) (q (f w).0 (f w).1))
 
 -- a run from its start on
-pub starts_so : (texts : List Text) (stack heap : ℕ) (input : List ℕ) (first : Result Going Stop) (cs : List Caller) (w v : World) (course : Course) → cs ≡ [] → w ≡ first_world (start_of texts stack heap input) → Steps (first_from texts cs w) first cs v → ((s : State) (cs : List Caller) (w : World) → Steps s first cs w → standing course cs w nothing_counted ≡ Some (first_standing s)) → standing course cs v nothing_counted ≡ Some (started texts stack heap input)
-starts_so texts stack heap input first cs w v course none begun p f =
-    f (first_from texts cs w) cs v p
-    ∙ ap (λ cs. Some (first_standing (first_from texts cs w))) none
-    ∙ ap (λ w. Some (first_standing (first_from texts [] w))) begun
+pub starts_so : (texts : List Text) (key : Key) (stack heap : ℕ) (input : List ℕ) (first : Result Going Stop) (cs : List Caller) (w v : World) (course : Course) → cs ≡ [] → w ≡ first_world (start_of texts key stack heap input) → Steps (first_from texts key cs w) first cs v → ((s : State) (cs : List Caller) (w : World) → Steps s first cs w → standing course cs w nothing_counted ≡ Some (first_standing s)) → standing course cs v nothing_counted ≡ Some (started texts key stack heap input)
+starts_so texts key stack heap input first cs w v course none begun p f =
+    f (first_from texts key cs w) cs v p
+    ∙ ap (λ cs. Some (first_standing (first_from texts key cs w))) none
+    ∙ ap (λ w. Some (first_standing (first_from texts key [] w))) begun
 
-pub meant_so : (texts : List Text) (stack heap : ℕ) (input : List ℕ) (r : Option Standing) → r ≡ Some (started texts stack heap input) → IsRunOf (start_of texts stack heap input) texts r
-meant_so texts stack heap input r is = subst (λ r. IsRunOf (start_of texts stack heap input) texts r) (sym is) (begins texts stack heap input)
+pub meant_so : (texts : List Text) (key : Key) (stack heap : ℕ) (input : List ℕ) (r : Option Standing) → r ≡ Some (started texts key stack heap input) → IsRunOf (start_of texts key stack heap input) texts r
+meant_so texts key stack heap input r is = subst (λ r. IsRunOf (start_of texts key stack heap input) texts r) (sym is) (begins texts key stack heap input)
 
 -- the world that a run is in
 same : (a b : World) → Some a ≡ Some b → a ≡ b

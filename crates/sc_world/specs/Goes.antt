@@ -1,11 +1,12 @@
 -- Yardstick: to be compared with what it restates (docs/TRUST.md).
 -- A go: the steps up to the first place that halts it, or where the turns were taken.
 use Rattle.std.specs.Prelude.{◌≡◌, ℕ, zero, suc, ◌+◌, List, [], ◌∷◌, Option, Some, None}
+use Rattle.sc_base.specs.declared.key.Key.{Key}
 use Rattle.sc_meaning.specs.World.{World, GoesOut, ComesBack, pass}
 use Rattle.sc_meaning.specs.Outcomes.{Exit}
 use Rattle.sc_meaning.specs.Versions.{Text, callee_of}
 use Rattle.sc_meaning.specs.Changes.{statics_born}
-use Rattle.sc_meaning.specs.Behaviour.{first_world, main_key, status_of}
+use Rattle.sc_meaning.specs.Behaviour.{first_world, status_of}
 use Rattle.sc_interp_machine.specs.Runs.{Caller, State, Runs, Makes, Answers, Ends, then_goes}
 use Rattle.sc_interp.specs.declared.stepped.Shown.{Shown}
 use Rattle.sc_interp.specs.declared.stepped.Shown.TheVariants.{Nothing}
@@ -44,7 +45,7 @@ abbrev pub gone : ℕ → Want → List Text → Standing → Halt × Standing
 gone zero want texts m = (halt_or (halts want m) (Paused (taken want m)), seen m)
 gone (suc k) want texts m = here_or (rests want m) m (gone k want texts (stepped texts m))
 
--- where `main` came back, the run ends with its status
+-- where the entry came back, the run ends with its status
 abbrev pub with_status : State → State
 with_status (Runs doing ss env a cs w) = Runs doing ss env a cs w
 with_status (Makes t v vs c cs w) = Makes t v vs c cs w
@@ -68,16 +69,16 @@ abbrev pub Goes : List Text → List StopAt → Walk → ℕ → Option Standing
 Goes texts stops walk turns None halt new = (halt ≡ Ended) × (new ≡ None)
 Goes texts stops walk turns (Some m) halt new = Leaves (gone turns (want_of stops walk turns m) texts m) halt new
 
--- the state behind the births, where the call of `main` went out
-abbrev pub main_next : List Text → List Caller → World → State
-main_next texts cs born = callee_next (alone texts) main_key [] (callee_of texts main_key) cs (pass GoesOut born)
+-- the state behind the births, where the call of the entry went out
+abbrev pub entry_next : List Text → Key → List Caller → World → State
+entry_next texts key cs born = callee_next (alone texts) key [] (callee_of texts key) cs (pass GoesOut born)
 
-abbrev pub first_from : List Text → List Caller → World → State
-first_from texts cs w = then_goes (statics_born texts w) (λ _ born. main_next texts cs born)
+abbrev pub first_from : List Text → Key → List Caller → World → State
+first_from texts key cs w = then_goes (statics_born texts w) (λ _ born. entry_next texts key cs born)
 
 abbrev pub first_standing : State → Standing
 first_standing s = record { state = s; shown = entry_shown s; steps = 0; turns = 0 }
 
--- a run of these texts from its start on
-abbrev pub started : List Text → ℕ → ℕ → List ℕ → Standing
-started texts stack heap input = first_standing (first_from texts [] (first_world (start_of texts stack heap input)))
+-- a run of these texts from its start on, with this entry
+abbrev pub started : List Text → Key → ℕ → ℕ → List ℕ → Standing
+started texts key stack heap input = first_standing (first_from texts key [] (first_world (start_of texts key stack heap input)))

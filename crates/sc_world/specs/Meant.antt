@@ -9,12 +9,12 @@ use Rattle.sc_meaning.specs.Behaviour.{Start, first_world, ending}
 use Rattle.sc_interp_machine.specs.Runs.{State, Runs, Makes, Answers, Ends}
 use Rattle.sc_interp.specs.Steady.{alone, ran}
 use Rattle.sc_world.specs.Standing.{Standing}
-use Rattle.sc_world.specs.Goes.{main_next}
+use Rattle.sc_world.specs.Goes.{entry_next}
 
--- this state is where so many steps bring the call of `main` behind the births
+-- this state is where so many steps bring the call of the entry behind the births
 abbrev pub IsReached : Start → List Text → ℕ → State → Type 0
 IsReached s texts k state =
-    (born : World) × (statics_born texts (first_world s) ≡ Done tt born) × (ran k (alone texts) texts (main_next texts [] born) ≡ state)
+    (born : World) × (statics_born texts (first_world s) ≡ Done tt born) × (ran k (alone texts) texts (entry_next texts s.entry [] born) ≡ state)
 
 -- so it is while the run is not over; its end is the end that the meaning has, at every bound greater than its steps
 abbrev pub Stands : Start → List Text → ℕ → State → Type 0

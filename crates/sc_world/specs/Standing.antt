@@ -14,7 +14,7 @@ use Rattle.sc_world.specs.declared.count.Count.{Count}
 use Rattle.sc_world.specs.declared.course.Course.{Course}
 use Rattle.sc_world.specs.declared.course.Course.TheVariants.{On, Over}
 
--- the machine's state, what its last step showed and no go looked at yet, how many steps were done since the call of `main`, and how
+-- the machine's state, what its last step showed and no go looked at yet, how many steps were done since the call of the entry, and how
 -- many turns they took
 pub record Standing : Type 0 where
   pub state : State

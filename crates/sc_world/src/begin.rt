@@ -1,4 +1,4 @@
-// A run begins: static objects are born, and `main` is called (ANSI 2.1.2.2, 3.5.7).
+// A run begins: static objects are born, and the entry is called (ANSI 2.1.2.2, 3.5.7).
 ghost use Rattle.std.specs.Prelude.{◌≡◌, IfOk, List, Some};
 ghost use Rattle.sc_meaning.specs.World as worlds;
 ghost use Rattle.sc_interp_machine.specs.Runs as runs;
@@ -7,23 +7,28 @@ ghost use Rattle.sc_world.specs.Goes as goes;
 ghost use Rattle.sc_world.specs.Standing.{standing};
 
 use crate::course::Course;
-use sc_base::{NoMemory, Stack};
+use sc_base::{Key, NoMemory, Stack};
 use sc_core_held::Text;
-use sc_interp::{Caller, Going, call_main, entry};
+use sc_interp::{Caller, Going, call_entry, entry};
 use sc_interp_access::{Ended, Stop};
 use sc_interp_parts::statics_born;
 use sc_interp_world::World;
 
-/// From the births on, to where the call of `main` went out.
+/// From the births on, to where the call of the entry, the function with this key, went out.
 ///
 /// # Errors
 ///
 /// How the run ends in it.
-pub fn begun(texts: &[Text], callers: &Stack<Caller>, world: &mut World) -> Result<Going, Stop>
-    ensures { Steps (goes.first_from texts.now callers.now world.old) result callers.now world.new }
+pub fn begun(
+    texts: &[Text],
+    key: &Key,
+    callers: &Stack<Caller>,
+    world: &mut World,
+) -> Result<Going, Stop>
+    ensures { Steps (goes.first_from texts.now key.now callers.now world.old) result callers.now world.new }
 {
     statics_born(texts, world)?;
-    call_main(texts, callers, world)
+    call_entry(texts, key, callers, world)
 }
 
 /// How a run that began so goes on, or that it is over at once.

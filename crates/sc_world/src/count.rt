@@ -3,7 +3,7 @@ ghost use Rattle.std.specs.Prelude.{◌≡◌, ◌+◌, IfOk};
 
 use sc_base::NoMemory;
 
-/// How many steps were done since the call of `main` went out, and how many turns they took.
+/// How many steps were done since the call of the entry went out, and how many turns they took.
 #[derive(Clone, Copy)]
 pub struct Count {
     pub steps: u64,

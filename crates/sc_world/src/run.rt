@@ -39,7 +39,7 @@ use std::marker::Model;
 use std::mem;
 
 /// A run of a program that does not change: how it goes on, or how it ended; the callers that wait; the world, with all that
-/// happened; and how many steps were done since the call of `main` went out, with the turns that they took.
+/// happened; and how many steps were done since the call of the entry went out, with the turns that they took.
 #[derive(Drop)]
 pub struct Run {
     course: Course,
@@ -90,8 +90,8 @@ fn world_of(
 }
 
 impl Run {
-    /// A run of these texts from its start on: the static objects are born, and the call of `main` goes out. Its input and
-    /// the bytes that stack and heap may have are given. Where somebody listens to it, it is `heard` with the addresses at which
+    /// A run of these texts from its start on: the static objects are born, and the call of the entry, the function with this key, goes
+    /// out. Its input and the bytes that stack and heap may have are given. Where somebody listens to it, it is `heard` with the addresses at which
     /// static objects stand, and all that happens is recorded. A run that is over at once says so at its first go.
     ///
     /// # Errors
@@ -100,17 +100,18 @@ impl Run {
     pub fn start(
         alloc: Global,
         texts: &[Text],
+        key: &Key,
         stack: u64,
         heap: u64,
         input: Items<u8>,
         heard: Option<Layout>,
     ) -> Result<Run, NoMemory>
-        ensures starts { IfOk result (λ r. r ≡ Some (started texts.now stack heap input)) }
-        ensures meant { IfOk result (λ r. IsRunOf (start_of texts.now stack heap input) texts.now r) }
+        ensures starts { IfOk result (λ r. r ≡ Some (started texts.now key.now stack heap input)) }
+        ensures meant { IfOk result (λ r. IsRunOf (start_of texts.now key.now stack heap input) texts.now r) }
     {
         let mut world = world_of(alloc, stack, heap, input, heard)?;
         let callers = Stack::new(alloc);
-        let first = begun(texts, &callers, &mut world);
+        let first = begun(texts, key, &callers, &mut world);
         let course = course_of(first)?;
         Ok(Run {
             course,
@@ -306,7 +307,7 @@ impl Run {
         self.world.frames()
     }
 
-    /// How many steps were done since the call of `main` went out.
+    /// How many steps were done since the call of the entry went out.
     pub fn steps(&self) -> u64
         ensures { (m : standing.Standing) → self.now ≡ Some m → result ≡ m.steps }
     {

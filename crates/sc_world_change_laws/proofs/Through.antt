@@ -1,12 +1,13 @@
 -- A run that goes through the versions of its history: as it begins, in each step, in each go, and as its texts change.
 use Rattle.std.proofs.Common.{◌≡◌, ℕ, zero, suc, ◌+◌, ◌<◌, ◌≤◌, nat_le, Bool, true, false, if◌then◌else◌, List, [], ◌∷◌, ◌++◌, refl, ap, sym, subst, ◌∙◌, arith, add-one, Option, Some, None}
+use Rattle.sc_base.specs.declared.key.Key.{Key}
 use Rattle.sc_meaning.specs.World.{World, Event, Frame, Happens, GoesOut, ComesBack, events, pass}
 use Rattle.sc_meaning.specs.Outcomes.{Outcome, Done, Over, Ending, Exit, and_then, world_after, world_at, went}
 use Rattle.sc_meaning.specs.Versions.{Text, Version, History, callee_of, version_at}
 use Rattle.sc_meaning.specs.Changes.{changed, happened, settled, statics_born}
 use Rattle.sc_meaning.specs.Expressions.{Answer}
 use Rattle.sc_meaning.specs.Calls.{call}
-use Rattle.sc_meaning.specs.Behaviour.{Start, first_world, main_key, main_called, ending, ending_of, events_upto, status_of}
+use Rattle.sc_meaning.specs.Behaviour.{Start, first_world, entry_called, ending, ending_of, events_upto, status_of}
 use Rattle.sc_meaning.specs.Laws.{Leads, with_history}
 use Rattle.sc_meaning.proofs.Steps.{here, on, one_more}
 use Rattle.sc_meaning.proofs.Runs.{ending_leads}
@@ -46,32 +47,32 @@ use Rattle.sc_world.specs.Changing.{in_world, changed_to, changed_standing}
 use Rattle.sc_world.specs.Standing as standings
 use Rattle.sc_world.specs.Standing.{Standing}
 use Rattle.sc_world.specs.Wants.{Want, wanted, else_over, halt_or, else_paused, rests, taken}
-use Rattle.sc_world.specs.Goes.{Gone, gone, here_or, stepped, with_status, closed, Leaves, Goes, want_of, main_next, started}
+use Rattle.sc_world.specs.Goes.{Gone, gone, here_or, stepped, with_status, closed, Leaves, Goes, want_of, entry_next, started}
 use Rattle.sc_world_change_laws.specs.Through.{IsAt, StandsIn, IsBehind, IsBehindEvent, IsRunThrough, HaltsBehind, with_version}
 use Rattle.sc_world_change_laws.proofs.Still.{leads_output, still}
 
 -- ---- where a run is over
 
-ran_reached : (h : History) (w : World) (j k n : ℕ) → n ≡ j + k → runs.ran j h (reached_in h w k) ≡ reached_in h w n
-ran_reached h w zero k n e =
+ran_reached : (h : History) (key : Key) (w : World) (j k n : ℕ) → n ≡ j + k → runs.ran j h (reached_in h key w k) ≡ reached_in h key w n
+ran_reached h key w zero k n e =
     let same : k ≡ n = omega (arith, e) in
-    subst (λ m. reached_in h w k ≡ reached_in h w m) same refl
-ran_reached h w (suc j) k n e = ran_reached h w j (suc k) n (omega (arith, e))
+    subst (λ m. reached_in h key w k ≡ reached_in h key w m) same refl
+ran_reached h key w (suc j) k n e = ran_reached h key w j (suc k) n (omega (arith, e))
 
-from_first : (h : History) (w : World) (k : ℕ) → runs.ran k h (reached_in h w 0) ≡ reached_in h w k
-from_first h w k = ran_reached h w k 0 k (omega arith)
+from_first : (h : History) (key : Key) (w : World) (k : ℕ) → runs.ran k h (reached_in h key w 0) ≡ reached_in h key w k
+from_first h key w k = ran_reached h key w k 0 k (omega arith)
 
-comes : (s : Start) (h : History) (n : ℕ) (born : World) (r : Outcome Answer) → settled h (first_world s) ≡ Done tt born → call n h main_key [] (pass GoesOut born) ≡ r → ending n (with_history s h) ≡ ending_of (and_then r (λ a w. Done a (pass ComesBack w)))
+comes : (s : Start) (h : History) (n : ℕ) (born : World) (r : Outcome Answer) → settled h (first_world s) ≡ Done tt born → call n h s.entry [] (pass GoesOut born) ≡ r → ending n (with_history s h) ≡ ending_of (and_then r (λ a w. Done a (pass ComesBack w)))
 comes s h n born r p q =
-    ap ending_of (ap (λ o. and_then o (λ _ w. main_called n h w)) p ∙ ap (λ o. and_then o (λ a w. Done a (pass ComesBack w))) q)
+    ap ending_of (ap (λ o. and_then o (λ _ w. entry_called n h s.entry w)) p ∙ ap (λ o. and_then o (λ a w. Done a (pass ComesBack w))) q)
 
-ends_so : (s : Start) (h : History) (born : World) (k n : ℕ) (e : Ending) → settled h (first_world s) ≡ Done tt born → reached_in h born k ≡ Ends e → k < n → ending n (with_history s h) ≡ e
+ends_so : (s : Start) (h : History) (born : World) (k n : ℕ) (e : Ending) → settled h (first_world s) ≡ Done tt born → reached_in h s.entry born k ≡ Ends e → k < n → ending n (with_history s h) ≡ e
 ends_so s h born k n e p q lt =
-    comes s h n born (Over e) p (ends_meaning h k n main_key [] (pass GoesOut born) e (omega arith) (from_first h born k ∙ q))
+    comes s h n born (Over e) p (ends_meaning h k n s.entry [] (pass GoesOut born) e (omega arith) (from_first h s.entry born k ∙ q))
 
-answers_so : (s : Start) (h : History) (born v : World) (a : Answer) (k n : ℕ) → settled h (first_world s) ≡ Done tt born → reached_in h born k ≡ Answers a [] v → k < n → ending n (with_history s h) ≡ Exit (status_of a) (pass ComesBack v)
+answers_so : (s : Start) (h : History) (born v : World) (a : Answer) (k n : ℕ) → settled h (first_world s) ≡ Done tt born → reached_in h s.entry born k ≡ Answers a [] v → k < n → ending n (with_history s h) ≡ Exit (status_of a) (pass ComesBack v)
 answers_so s h born v a k n p q lt =
-    comes s h n born (Done a v) p (answers_meaning h k n main_key [] (pass GoesOut born) v a (omega arith) (from_first h born k ∙ q))
+    comes s h n born (Done a v) p (answers_meaning h k n s.entry [] (pass GoesOut born) v a (omega arith) (from_first h s.entry born k ∙ q))
 
 -- ---- each step
 
@@ -85,7 +86,7 @@ as_standing : (s : Start) (h : History) (texts : List Text) (k : ℕ) (st : Stat
 as_standing s h texts k st p = subst (λ w. IsBehind s h texts k st w.count) (sym (same_world st)) p
 
 module _ (s : Start) (h : History) (texts : List Text) where
-  -- a place that the call of `main` reached is meant so
+  -- a place that the call of the entry reached is meant so
   reached : (k : ℕ) (st : State) → IsAt s h texts k st → StandsIn s h texts k st
   reached k (Runs doing ss env a cs w) p = p
   reached k (Makes t v vs c cs w) p = p
@@ -102,8 +103,8 @@ module _ (s : Start) (h : History) (texts : List Text) where
     grows : (world_of st).count ≤ (world_of (next st)).count
     grows = subst (λ t. (world_of st).count ≤ (world_of t).count) same (count_grows (world_of st) (world_of (advance h st)) (advance_leads h st))
 
-    there : reached_in h p.born (k + 1) ≡ next st
-    there = ap (reached_in h p.born) (add-one k) ∙ ap (advance h) p.stands ∙ same
+    there : reached_in h s.entry p.born (k + 1) ≡ next st
+    there = ap (reached_in h s.entry p.born) (add-one k) ∙ ap (advance h) p.stands ∙ same
 
     onward : IsAt s h texts (k + 1) (next st)
     onward = record {
@@ -114,10 +115,10 @@ module _ (s : Start) (h : History) (texts : List Text) where
       present = present_stays (world_of st).count (world_of (next st)).count h grows p.come ∙ p.present;
     }
 
-    last_shows : IsEvent (shown (alone texts) texts st) → LastShows h p.born (k + 1) (world_of (next st)).count
+    last_shows : IsEvent (shown (alone texts) texts st) → LastShows h s.entry p.born (k + 1) (world_of (next st)).count
     last_shows e =
         let c : ℕ = (world_of (next st)).count in
-        subst (λ j. LastShows h p.born j c) (sym (add-one k))
+        subst (λ j. LastShows h s.entry p.born j c) (sym (add-one k))
         (subst (λ t. Shows (world_of t).count (version_at h (world_of t).count) c (λ g. advance g t)) (sym p.stands)
         (subst (λ ts. Shows (world_of st).count ts c (λ g. advance g st)) (sym p.present) (step_shows (alone texts) texts st e)))
 
@@ -158,16 +159,16 @@ shows_later h n c f x =
     let r : Outcome (Unit {0}) = happened h x.event x.world in
     subst (λ t. c ≤ (world_of t).count) (sym (x.comes h refl)) (omega (arith, x.counts, event_later h x.event x.world, behind_part r go (λ _ v. omega arith)))
 
-last_later : (h : History) (w : World) (k c : ℕ) → LastShows h w k c → c ≤ (world_of (reached_in h w k)).count
-last_later h w zero c x = shows_later h w.count c (λ g. reached_in g w 0) x
-last_later h w (suc k) c x = shows_later h (world_of (reached_in h w k)).count c (λ g. advance g (reached_in h w k)) x
+last_later : (h : History) (key : Key) (w : World) (k c : ℕ) → LastShows h key w k c → c ≤ (world_of (reached_in h key w k)).count
+last_later h key w zero c x = shows_later h w.count c (λ g. reached_in g key w 0) x
+last_later h key w (suc k) c x = shows_later h (world_of (reached_in h key w k)).count c (λ g. advance g (reached_in h key w k)) x
 
 shows_first : (h : History) (n c : ℕ) (f : History → State) → Shows n (version_at h n) c f → 0 < c
 shows_first h n c f x = omega (arith, x.counts)
 
-last_first : (h : History) (w : World) (k c : ℕ) → LastShows h w k c → 0 < c
-last_first h w zero c x = shows_first h w.count c (λ g. reached_in g w 0) x
-last_first h w (suc k) c x = shows_first h (world_of (reached_in h w k)).count c (λ g. advance g (reached_in h w k)) x
+last_first : (h : History) (key : Key) (w : World) (k c : ℕ) → LastShows h key w k c → 0 < c
+last_first h key w zero c x = shows_first h w.count c (λ g. reached_in g key w 0) x
+last_first h key w (suc k) c x = shows_first h (world_of (reached_in h key w k)).count c (λ g. advance g (reached_in h key w k)) x
 
 -- a body runs there: no status is given
 runs_on : (r : Outcome (Unit {0})) (go : World → State) → ((w : World) → with_status (go w) ≡ go w) → with_status (then_goes r (λ _ w. go w)) ≡ then_goes r (λ _ w. go w)
@@ -178,14 +179,14 @@ shows_on : (h : History) (n c : ℕ) (f : History → State) → Shows n (versio
 shows_on h n c f x =
     ap with_status (x.comes h refl) ∙ runs_on (happened h x.event x.world) (λ w. Runs x.doing x.pending x.env x.active x.callers w) (λ w. refl) ∙ sym (x.comes h refl)
 
-last_on : (h : History) (w : World) (k c : ℕ) → LastShows h w k c → with_status (reached_in h w k) ≡ reached_in h w k
-last_on h w zero c x = shows_on h w.count c (λ g. reached_in g w 0) x
-last_on h w (suc k) c x = shows_on h (world_of (reached_in h w k)).count c (λ g. advance g (reached_in h w k)) x
+last_on : (h : History) (key : Key) (w : World) (k c : ℕ) → LastShows h key w k c → with_status (reached_in h key w k) ≡ reached_in h key w k
+last_on h key w zero c x = shows_on h w.count c (λ g. reached_in g key w 0) x
+last_on h key w (suc k) c x = shows_on h (world_of (reached_in h key w k)).count c (λ g. advance g (reached_in h key w k)) x
 
 module _ (s : Start) (h : History) (texts : List Text) where
   behind_stands : (k : ℕ) (st : State) (c : ℕ) → IsBehind s h texts k st c → StandsIn s h texts k st
   behind_stands k st c p =
-      let le : c ≤ (world_of st).count = subst (λ t. c ≤ (world_of t).count) p.stands (last_later h p.born k c p.shows) in
+      let le : c ≤ (world_of st).count = subst (λ t. c ≤ (world_of t).count) p.stands (last_later h s.entry p.born k c p.shows) in
       reached s h texts k st (record {
         born = p.born;
         births = p.births;
@@ -196,7 +197,7 @@ module _ (s : Start) (h : History) (texts : List Text) where
 
   behind_closed : (k : ℕ) (st : State) → IsBehind s h texts k st (standings.world_of st).count → IsBehind s h texts k (with_status st) (standings.world_of (with_status st)).count
   behind_closed k st p =
-      subst (λ t. IsBehind s h texts k t (standings.world_of t).count) (sym (ap with_status (sym p.stands) ∙ last_on h p.born k (standings.world_of st).count p.shows ∙ p.stands)) p
+      subst (λ t. IsBehind s h texts k t (standings.world_of t).count) (sym (ap with_status (sym p.stands) ∙ last_on h s.entry p.born k (standings.world_of st).count p.shows ∙ p.stands)) p
 
   closed_stands : (k : ℕ) (st : State) → StandsIn s h texts k st → StandsIn s h texts k (with_status st)
   closed_stands k (Runs doing ss env a cs w) p = p
@@ -310,11 +311,11 @@ module _ (s : Start) (h : History) (old new : List Text) where
       let v : Version = record { count = c; texts = new } in
       record {
         born = p.born;
-        births = changes_nothing_before h v (first_world s) (last_first h p.born k c p.shows) ∙ p.births;
-        stands = reached_changed h v p.born k p.come p.shows ∙ ap (λ ts. changed_state ts new (reached_in h p.born k)) p.present ∙ ap (changed_state old new) p.stands;
+        births = changes_nothing_before h v (first_world s) (last_first h s.entry p.born k c p.shows) ∙ p.births;
+        stands = reached_changed h v s.entry p.born k p.come p.shows ∙ ap (λ ts. changed_state ts new (reached_in h s.entry p.born k)) p.present ∙ ap (changed_state old new) p.stands;
         come = have_still h v p.come;
         present = is_present h v c p.come (omega arith);
-        shows = shows_still h v p.born k p.shows;
+        shows = shows_still h v s.entry p.born k p.shows;
       }
 
   pub change_behind : (m : Standing) → IsBehindEvent s h old m → IsBehindEvent s (with_version h new (standings.world_of m.state)) new (changed_standing old new m)
@@ -342,44 +343,44 @@ settled_once (Over e) = refl
 
 module _ (s : Start) (texts : List Text) where
   abbrev first_shown : Outcome (Unit {0}) → State
-  first_shown r = then_goes r (λ _ born. main_next texts [] born)
+  first_shown r = then_goes r (λ _ born. entry_next texts s.entry [] born)
 
   settles : settled (alone texts) (first_world s) ≡ statics_born texts (first_world s)
   settles = settled_once (statics_born texts (first_world s))
 
-  first_behind : (born : World) → statics_born texts (first_world s) ≡ Done tt born → IsEvent (entry_shown (main_next texts [] born)) → IsBehind s (alone texts) texts 0 (main_next texts [] born) (standings.world_of (main_next texts [] born)).count
+  first_behind : (born : World) → statics_born texts (first_world s) ≡ Done tt born → IsEvent (entry_shown (entry_next texts s.entry [] born)) → IsBehind s (alone texts) texts 0 (entry_next texts s.entry [] born) (standings.world_of (entry_next texts s.entry [] born)).count
   first_behind born p e =
-      let c : ℕ = (world_of (main_next texts [] born)).count in
-      as_standing s (alone texts) texts 0 (main_next texts [] born) (record {
+      let c : ℕ = (world_of (entry_next texts s.entry [] born)).count in
+      as_standing s (alone texts) texts 0 (entry_next texts s.entry [] born) (record {
         born = born;
         births = settles ∙ p;
-        stands = first_steady texts born;
+        stands = first_steady texts s.entry born;
         come = (omega arith, tt);
         present = present texts c;
-        shows = subst (λ ts. Shows born.count ts c (λ g. reached_in g born 0)) (sym (present texts born.count)) (first_shows (alone texts) texts born e);
+        shows = subst (λ ts. Shows born.count ts c (λ g. reached_in g s.entry born 0)) (sym (present texts born.count)) (first_shows (alone texts) texts s.entry born e);
       })
 
-  first_at : (born : World) → statics_born texts (first_world s) ≡ Done tt born → StandsIn s (alone texts) texts 0 (main_next texts [] born)
+  first_at : (born : World) → statics_born texts (first_world s) ≡ Done tt born → StandsIn s (alone texts) texts 0 (entry_next texts s.entry [] born)
   first_at born p =
-      let st : State = main_next texts [] born in
+      let st : State = entry_next texts s.entry [] born in
       reached s (alone texts) texts 0 st (record {
         born = born;
         births = settles ∙ p;
-        stands = first_steady texts born;
+        stands = first_steady texts s.entry born;
         come = (omega arith, tt);
         present = present texts (world_of st).count;
       })
 
   births_over : (e : Ending) → statics_born texts (first_world s) ≡ Over e → (n : ℕ) → ending n (with_history s (alone texts)) ≡ e
-  births_over e p n = ap (λ o. ending_of (and_then o (λ _ w. main_called n (alone texts) w))) (settles ∙ p)
+  births_over e p n = ap (λ o. ending_of (and_then o (λ _ w. entry_called n (alone texts) s.entry w))) (settles ∙ p)
 
   first_through : (r : Outcome (Unit {0})) → statics_born texts (first_world s) ≡ r → StandsIn s (alone texts) texts 0 (first_shown r) × (IsEvent (entry_shown (first_shown r)) → IsBehind s (alone texts) texts 0 (first_shown r) (standings.world_of (first_shown r)).count)
   first_through (Done x born) p = (first_at born p, λ e. first_behind born p e)
   first_through (Over e) p = ((λ n lt. births_over e p n), λ q. absurd q)
 
-pub begins_through : (texts : List Text) (stack heap : ℕ) (input : List ℕ) → IsRunThrough (start_of texts stack heap input) (alone texts) texts (Some (started texts stack heap input))
-begins_through texts stack heap input =
-    let s : Start = start_of texts stack heap input in
+pub begins_through : (texts : List Text) (key : Key) (stack heap : ℕ) (input : List ℕ) → IsRunThrough (start_of texts key stack heap input) (alone texts) texts (Some (started texts key stack heap input))
+begins_through texts key stack heap input =
+    let s : Start = start_of texts key stack heap input in
     first_through s texts (statics_born texts (first_world s)) refl
 
 -- ---- what has happened
@@ -387,9 +388,9 @@ begins_through texts stack heap input =
 module _ (s : Start) (h : History) (texts : List Text) where
   at_leads : (k : ℕ) (st : State) → IsAt s h texts k st → (n : ℕ) → k < n → Leads (world_of st) (world_at (ending n (with_history s h)))
   at_leads k st p n lt =
-      let c : Outcome Answer = call n h main_key [] (pass GoesOut p.born) in
+      let c : Outcome Answer = call n h s.entry [] (pass GoesOut p.born) in
       let back : Answer → World → Outcome Answer = λ a w. Done a (pass ComesBack w) in
-      let called : Leads (world_of st) (world_after c) = subst (λ t. Leads (world_of t) (world_after c)) (from_first h p.born k ∙ p.stands) (reached_leads h k n main_key [] (pass GoesOut p.born) lt) in
+      let called : Leads (world_of st) (world_after c) = subst (λ t. Leads (world_of t) (world_after c)) (from_first h s.entry p.born k ∙ p.stands) (reached_leads h k n s.entry [] (pass GoesOut p.born) lt) in
       let over : Leads (world_of st) (world_after (and_then c back)) = leads_then (world_of st) c back called (λ a v. one_more ComesBack v) in
       subst (λ e. Leads (world_of st) (world_at e)) (sym (comes s h n p.born c p.births refl)) (subst (Leads (world_of st)) (sym (ending_world (and_then c back))) over)
 
@@ -427,10 +428,10 @@ module _ (s : Start) (h : History) (texts : List Text) where
 
   -- ---- from the start
 
-  reached_comes : (born : World) (k : ℕ) → Leads (pass GoesOut born) (world_of (reached_in h born k))
-  reached_comes born zero = callee_go h main_key [] (callee_of (version_at h (pass GoesOut born).count) main_key) [] (pass GoesOut born)
+  reached_comes : (born : World) (k : ℕ) → Leads (pass GoesOut born) (world_of (reached_in h s.entry born k))
+  reached_comes born zero = callee_go h s.entry [] (callee_of (version_at h (pass GoesOut born).count) s.entry) [] (pass GoesOut born)
   reached_comes born (suc k) =
-      on (pass GoesOut born) (world_of (reached_in h born k)) (world_of (reached_in h born (suc k))) (reached_comes born k) (advance_leads h (reached_in h born k))
+      on (pass GoesOut born) (world_of (reached_in h s.entry born k)) (world_of (reached_in h s.entry born (suc k))) (reached_comes born k) (advance_leads h (reached_in h s.entry born k))
 
   births_come : (born : World) → settled h (first_world s) ≡ Done tt born → Leads (first_world s) born
   births_come born p = subst (λ r. Leads (first_world s) (world_after r)) p (settled_goes Going h (first_world s))

@@ -15,11 +15,11 @@ use Rattle.sc_world.specs.Standing.{Standing, world_of}
 use Rattle.sc_world.specs.declared.halt.Halt.{Halt}
 use Rattle.sc_world.specs.declared.halt.Halt.TheVariants.{Entered, AtLine}
 
--- this state is where so many steps bring the call of `main` under this history; all its versions have come, and these texts are present
+-- this state is where so many steps bring the call of the entry under this history; all its versions have come, and these texts are present
 pub record IsAt (s : Start) (h : History) (texts : List Text) (k : ℕ) (state : State) : Type 0 where
   pub born : World
   pub births : settled h (first_world s) ≡ Done tt born
-  pub stands : reached_in h born k ≡ state
+  pub stands : reached_in h s.entry born k ≡ state
   pub come : HaveCome (course.world_of state).count h
   pub present : version_at h (course.world_of state).count ≡ texts
 
@@ -34,10 +34,10 @@ StandsIn s h texts k (Ends e) = (n : ℕ) → k < n → ending n (with_history s
 pub record IsBehind (s : Start) (h : History) (texts : List Text) (k : ℕ) (state : State) (count : ℕ) : Type 0 where
   pub born : World
   pub births : settled h (first_world s) ≡ Done tt born
-  pub stands : reached_in h born k ≡ state
+  pub stands : reached_in h s.entry born k ≡ state
   pub come : HaveCome count h
   pub present : version_at h count ≡ texts
-  pub shows : LastShows h born k count
+  pub shows : LastShows h s.entry born k count
 
 -- so it stands behind the last event that passed
 abbrev pub IsBehindEvent : Start → History → List Text → Standing → Type 0

@@ -1,5 +1,6 @@
 // What holds of a run whose texts change. Each function here does nothing: its contract is the law.
 ghost use Rattle.std.specs.Prelude.{◌≡◌, ◌<◌, ◌≤◌, [], ℕ, List, Option, Some, true};
+ghost use Rattle.sc_base.specs.declared.key.Key.{Key};
 ghost use Rattle.sc_meaning.specs.Behaviour.{Start, ending, events_upto, first_world};
 ghost use Rattle.sc_meaning.specs.Laws.{Leads, with_history};
 ghost use Rattle.sc_meaning.specs.Outcomes.{Ending, world_at};
@@ -27,7 +28,7 @@ ghost use Rattle.sc_world_laws.specs.Told.{IsAt, now};
 /// version more, which comes at this event, and it stands behind it still: the next change may come there too.
 #[tactic(auto, using(crate::proofs::Through::begins_through, crate::proofs::Through::goes_through, crate::proofs::Through::change_through, crate::proofs::Through::change_behind))]
 pub fn runs_go_through_their_history()
-    ensures begins { (texts : List Text) (stack heap : ℕ) (input : List ℕ) → IsRunThrough (start_of texts stack heap input) (alone texts) texts (Some (started texts stack heap input)) }
+    ensures begins { (texts : List Text) (key : Key) (stack heap : ℕ) (input : List ℕ) → IsRunThrough (start_of texts key stack heap input) (alone texts) texts (Some (started texts key stack heap input)) }
     ensures goes { (s : Start) (h : History) (texts : List Text) (stops : List StopAt) (walk : Walk) (turns : ℕ) (old : Option Standing) (halt : Halt) (new : Option Standing) → Goes texts stops walk turns old halt new → IsRunThrough s h texts old → IsRunThrough s h texts new × HaltsBehind s h texts halt new }
     ensures changes { (s : Start) (h : History) (old new : List Text) (m : Standing) → IsBehindEvent s h old m → IsRunThrough s (with_version h new (world_of m.state)) new (Some (changed_standing old new m)) }
     ensures again { (s : Start) (h : History) (old new : List Text) (m : Standing) → IsBehindEvent s h old m → IsBehindEvent s (with_version h new (world_of m.state)) new (changed_standing old new m) }

@@ -1,6 +1,7 @@
 -- A go halts at the first selected event behind the place where it began.
 use Rattle.std.proofs.Common.{◌≡◌, ◌⊎◌, inl, inr, ℕ, zero, suc, ◌+◌, ◌*◌, ◌<◌, ◌≤◌, nat_le, Bool, true, false, ◌||◌, if◌then◌else◌, List, [], ◌∷◌, ◌++◌, length, drop, append_assoc, refl, sym, ap, ◌∙◌, subst, arith, Option, Some, None}
 use Rattle.std.proofs.lemmas.List.{append-nil}
+use Rattle.sc_base.specs.declared.key.Key.{Key}
 use Rattle.sc_program.specs.declared.storage.StaticId.{StaticId}
 use Rattle.sc_program.specs.declared.storage.StaticId.TheVariants.{Named, Literal}
 use Rattle.sc_base.specs.declared.memory.Kind.{Kind}
@@ -9,7 +10,7 @@ use Rattle.sc_meaning.specs.declared.spot.Spot.{Spot}
 use Rattle.sc_meaning.specs.Outcomes.{Outcome, Done, Over, BirthLimit, Ending, and_then, world_after, world_at, went}
 use Rattle.sc_meaning.specs.Versions.{Text, Definition, callee_of, object_in, births_of}
 use Rattle.sc_meaning.specs.Changes.{born, born_as, born_static, born_unless, born_all, unnamed, filled, filled_all, statics_born, static_contents, contents_size, kind_of}
-use Rattle.sc_meaning.specs.Behaviour.{first_world, main_key}
+use Rattle.sc_meaning.specs.Behaviour.{first_world}
 use Rattle.sc_meaning.specs.Laws.{Leads}
 use Rattle.sc_meaning.proofs.Steps.{passed-append}
 use Rattle.sc_meaning.proofs.Trails.{events-append, told}
@@ -36,7 +37,7 @@ use Rattle.sc_world.specs.declared.halt.Halt.TheVariants as halt
 use Rattle.sc_world.specs.Standing.{Standing, world_of, has_ended}
 use Rattle.sc_world.specs.Wants.{Want, walks, halt_if, wanted, else_over, halts, taken, halt_or, else_paused, rests}
 use Rattle.sc_world.specs.Costs.{bytes_touched}
-use Rattle.sc_world.specs.Goes.{stepped, seen, here_or, gone, with_status, closed, want_of, Goes, main_next, first_standing, started}
+use Rattle.sc_world.specs.Goes.{stepped, seen, here_or, gone, with_status, closed, want_of, Goes, entry_next, first_standing, started}
 use Rattle.sc_world_laws.specs.Halts.{Free, GoesFree}
 use Rattle.sc_world_laws.specs.Told.{walks_to, selects, event_of, happening, Tells, IsFramed, now, IsAt, is_entry, IsFirst, HaltsAt, IsLastAt}
 use Rattle.sc_world_laws.proofs.Halts.{free_on, goes_here, goes_on, halts_first, halts_free, bound}
@@ -470,17 +471,17 @@ hidden_start w born p e =
     events-append born.trail (GoesOut ∷ []) ∙ append-nil (events born.trail) ∙ (inside_hidden w born p).0 ∙ ap (λ es. es ++ events p.0) e in
     subst AreHidden (sym whole) (inside_hidden w born p).1
 
-main_starts : (texts : List Text) (w born : World) → Inside w born → events w.trail ≡ [] → length w.frames ≡ 0 → StartsAt (main_next texts [] born)
-main_starts texts w born p e none =
+entry_starts : (texts : List Text) (key : Key) (w born : World) → Inside w born → events w.trail ≡ [] → length w.frames ≡ 0 → StartsAt (entry_next texts key [] born)
+entry_starts texts key w born p e none =
     let v : World = pass GoesOut born in
-    let s : State = main_next texts [] born in
+    let s : State = entry_next texts key [] born in
     let es : List Event = event_of (entry_shown s) (world_of s).frames in
     let frames : (course.world_of s).frames ≡ (world_of s).frames = ap (λ u. u.frames) (sym (same_world s)) in
-    let there : Tells es v (course.world_of s) = subst (λ fs. Tells (event_of (entry_shown s) fs) v (course.world_of s)) frames (callee_tells (alone texts) (quiet texts) texts main_key [] (callee_of texts main_key) [] v) in
+    let there : Tells es v (course.world_of s) = subst (λ fs. Tells (event_of (entry_shown s) fs) v (course.world_of s)) frames (callee_tells (alone texts) (quiet texts) texts key [] (callee_of texts key) [] v) in
     let told : Tells es v (world_of s) = subst (λ u. Tells es v u) (sym (same_world s)) there in (
       events v.trail ++ events told.0,
       record {
-        framed = callee_framed (alone texts) (quiet texts) texts main_key [] (callee_of texts main_key) [] v (framed_on 0 w born p none);
+        framed = callee_framed (alone texts) (quiet texts) texts key [] (callee_of texts key) [] v (framed_on 0 w born p none);
         passed = told_events v (world_of s) es told;
         last = told_last v (world_of s) es told;
         counted = omega arith;
@@ -496,11 +497,11 @@ over_starts w end p e =
       subst AreHidden (sym ((inside_hidden w (world_at end) p).0 ∙ ap (λ es. es ++ events p.0) e)) (inside_hidden w (world_at end) p).1,
     )
 
-from_starts : (texts : List Text) (w : World) (r : Outcome (Unit {0})) → Inside w (world_after r) → events w.trail ≡ [] → length w.frames ≡ 0 → StartsAt (then_goes r (λ _ born. main_next texts [] born))
-from_starts texts w (Done _ born) p e none = main_starts texts w born p e none
-from_starts texts w (Over end) p e none = over_starts w end p e
+from_starts : (texts : List Text) (key : Key) (w : World) (r : Outcome (Unit {0})) → Inside w (world_after r) → events w.trail ≡ [] → length w.frames ≡ 0 → StartsAt (then_goes r (λ _ born. entry_next texts key [] born))
+from_starts texts key w (Done _ born) p e none = entry_starts texts key w born p e none
+from_starts texts key w (Over end) p e none = over_starts w end p e
 
-pub run_starts : (texts : List Text) (stack heap : ℕ) (input : List ℕ) → (old : List Event) × IsAt (started texts stack heap input) old × AreHidden old
-run_starts texts stack heap input =
-    let w : World = first_world (start_of texts stack heap input) in
-    from_starts texts w (statics_born texts w) (statics_inside texts w) refl refl
+pub run_starts : (texts : List Text) (key : Key) (stack heap : ℕ) (input : List ℕ) → (old : List Event) × IsAt (started texts key stack heap input) old × AreHidden old
+run_starts texts key stack heap input =
+    let w : World = first_world (start_of texts key stack heap input) in
+    from_starts texts key w (statics_born texts w) (statics_inside texts w) refl refl

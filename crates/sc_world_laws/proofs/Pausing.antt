@@ -6,7 +6,7 @@ use Rattle.sc_meaning.specs.Outcomes.{Outcome, Done, Over}
 use Rattle.sc_meaning.specs.Values.{Value}
 use Rattle.sc_meaning.specs.Versions.{Text, Callee, Missing, InText, InLibrary, callee_of}
 use Rattle.sc_meaning.specs.Changes.{statics_born}
-use Rattle.sc_meaning.specs.Behaviour.{first_world, main_key}
+use Rattle.sc_meaning.specs.Behaviour.{first_world}
 use Rattle.sc_meaning.specs.Laws.{Leads}
 use Rattle.sc_meaning.specs.Calls.{parameters}
 use Rattle.sc_meaning.specs.Functions.{library_call}
@@ -31,7 +31,7 @@ use Rattle.sc_world.specs.declared.halt.Halt.TheVariants as halt
 use Rattle.sc_world.specs.Standing.{Standing, world_of}
 use Rattle.sc_world.specs.Wants.{Want, wanted, else_over, halts, taken, rests}
 use Rattle.sc_world.specs.Costs.{bytes_touched}
-use Rattle.sc_world.specs.Goes.{stepped, seen, here_or, gone, with_status, want_of, Goes, main_next, started}
+use Rattle.sc_world.specs.Goes.{stepped, seen, here_or, gone, with_status, want_of, Goes, entry_next, started}
 use Rattle.sc_world_laws.specs.Halts.{total}
 use Rattle.sc_world_laws.specs.Told.{event_of, PassedEach}
 use Rattle.sc_world_laws.proofs.Halts.{paused, passed_each}
@@ -201,9 +201,9 @@ callee_lean texts key vs Missing w p = tt
 callee_lean texts key vs (InLibrary f) w p = library_lean (library_call (alone texts) f key vs w)
 callee_lean texts key vs (InText t f) w p = enters_lean (nat_lt w.stack (w.used + f.cost)) key t f vs w p
 
-from_lean : (texts : List Text) (r : Outcome (Unit {0})) → AreLean (alone texts) → IsLean (then_goes r (λ _ born. main_next texts [] born))
-from_lean texts (Done _ born) lean = callee_lean texts main_key [] (callee_of texts main_key) (pass GoesOut born) (text_lean texts lean main_key)
-from_lean texts (Over e) lean = tt
+from_lean : (texts : List Text) (key : Key) (r : Outcome (Unit {0})) → AreLean (alone texts) → IsLean (then_goes r (λ _ born. entry_next texts key [] born))
+from_lean texts key (Done _ born) lean = callee_lean texts key [] (callee_of texts key) (pass GoesOut born) (text_lean texts lean key)
+from_lean texts key (Over e) lean = tt
 
-pub starts_lean : (texts : List Text) (stack heap : ℕ) (input : List ℕ) → AreLean (alone texts) → IsLean (started texts stack heap input).state
-starts_lean texts stack heap input lean = from_lean texts (statics_born texts (first_world (start_of texts stack heap input))) lean
+pub starts_lean : (texts : List Text) (key : Key) (stack heap : ℕ) (input : List ℕ) → AreLean (alone texts) → IsLean (started texts key stack heap input).state
+starts_lean texts key stack heap input lean = from_lean texts key (statics_born texts (first_world (start_of texts key stack heap input))) lean

@@ -1,5 +1,6 @@
 // What holds of every run that is kept between goes. Each function here does nothing: its contract is the law.
 ghost use Rattle.std.specs.Prelude.{◌≡◌, ◌+◌, ◌*◌, ◌<◌, ◌≤◌, ◌-◌, ◌/◌, List, Some, [], true, ℕ};
+ghost use Rattle.sc_base.specs.declared.key.Key.{Key};
 ghost use Rattle.sc_words.specs.declared.stop.StopAt.{StopAt};
 ghost use Rattle.sc_words.specs.declared.stop.Walk.{Walk};
 ghost use Rattle.sc_meaning.specs.World.{Event, World, events, work};
@@ -40,7 +41,7 @@ pub fn steps_tell_what_is_shown()
 /// A run stands among its events from its start on, where nothing was looked at yet, and a go leads from such a place to another.
 #[tactic(auto, using(crate::proofs::Halting::run_starts, crate::proofs::Halting::goes_at))]
 pub fn runs_stand_among_their_events()
-    ensures starts { (texts : List Text) (stack : ℕ) (heap : ℕ) (input : List ℕ) → (old : List Event) × IsAt (started texts stack heap input) old × AreHidden old }
+    ensures starts { (texts : List Text) (key : Key) (stack : ℕ) (heap : ℕ) (input : List ℕ) → (old : List Event) × IsAt (started texts key stack heap input) old × AreHidden old }
     ensures goes_on { (texts : List Text) (stops : List StopAt) (walk : Walk) (turns : ℕ) (m : Standing) (old : List Event) (halt : Halt) (n : Standing) → IsAt m old → Goes texts stops walk turns (Some m) halt (Some n) → IsAt n (events (world_of n.state).trail) }
 {}
 
@@ -73,7 +74,7 @@ pub fn turns_bound_the_meaning()
 pub fn pauses_come_late()
     ensures work { (texts : List Text) (stops : List StopAt) (walk : Walk) (turns : ℕ) (m : Standing) (t : ℕ) (n : Standing) → AreLean (alone texts) → IsLean m.state → Goes texts stops walk turns (Some m) (Paused t) (Some n) → t / 64 ≤ work (world_of n.state).trail - work (world_of m.state).trail }
     ensures passed { (texts : List Text) (stops : List StopAt) (walk : Walk) (turns : ℕ) (m : Standing) (t : ℕ) (n : Standing) (v : World) → AreLean (alone texts) → IsLean m.state → Goes texts stops walk turns (Some m) (Paused t) (Some n) → Leads (world_of n.state) v → PassedEach t (world_of m.state).trail (world_of n.state).trail v.trail }
-    ensures starts { (texts : List Text) (stack : ℕ) (heap : ℕ) (input : List ℕ) → AreLean (alone texts) → IsLean (started texts stack heap input).state }
+    ensures starts { (texts : List Text) (key : Key) (stack : ℕ) (heap : ℕ) (input : List ℕ) → AreLean (alone texts) → IsLean (started texts key stack heap input).state }
     ensures keeps { (texts : List Text) (stops : List StopAt) (walk : Walk) (turns : ℕ) (m : Standing) (halt : Halt) (n : Standing) → AreLean (alone texts) → IsLean m.state → Goes texts stops walk turns (Some m) halt (Some n) → IsLean n.state }
 {}
 

@@ -11,6 +11,9 @@ returns-in_default-clause-begins g c = begin_unbegun (g.K.Sink.written c.args.ou
 pub returns-in_default-places-clause-begins : goal.returns-in_default-places-clause-begins
 returns-in_default-places-clause-begins g c = begin_unbegun (g.K.Sink.written c.args.out.now) c.args.self.now c.args.self.now c.args.input refl
 
+pub returns-in_default-main_key-clause-begins : goal.returns-in_default-main_key-clause-begins
+returns-in_default-main_key-clause-begins g c = begin_unbegun (g.K.Sink.written c.args.out.now) c.args.self.now c.args.self.now c.args.input refl
+
 pub returns-in_default-layout_heard-clause-begins : goal.returns-in_default-layout_heard-clause-begins
 returns-in_default-layout_heard-clause-begins g c = begin_unbegun (g.K.Sink.written c.args.out.now) c.args.self.now c.args.self.now c.args.input refl
 
@@ -19,7 +22,7 @@ returns-in_default-start-clause-begins g c = begin_unbegun (g.K.Sink.written c.a
 
 pub returns-in-Ok-gone-clause-begins : goal.returns-in-Ok-gone-clause-begins
 returns-in-Ok-gone-clause-begins g c =
-    begin_told (g.K.Sink.written c.args.out.now) (g.K.Sink.written c.gone.new.out) c.args.self.now _ c.as_slice-3.result.now c.as_slice-4.result.now c.as_slice-5.result.now c.from-stack.result c.from-heap.result c.self.inside.limits.turns
+    begin_told (g.K.Sink.written c.args.out.now) (g.K.Sink.written c.gone.new.out) c.args.self.now _ c.as_slice-3.result.now c.as_slice-4.result.now c.as_slice-5.result.now c.in-Ok-main_key.key c.from-stack.result c.from-heap.result c.self.inside.limits.turns
     c.args.input c.in-Ok-start.run' c.in-Ok-gone.told.text c.in-Ok-gone.told.state c.put_state-in-Ok-gone.new.place
     (c.as_slice-3.ensures ∙ c.in-Ok.ensures ∙ ap texts (c.as_slice.ensures.value ∙ ap (λ p. p.modules) c.self.view_is))
     (c.as_slice-4.ensures ∙ c.in-Ok.ensures ∙ ap texts (c.as_slice.ensures.value ∙ ap (λ p. p.modules) c.self.view_is))
@@ -27,12 +30,12 @@ returns-in-Ok-gone-clause-begins g c =
     (c.from-stack.ensures ∙ ap (λ p. p.limits.stack) c.self.view_is)
     (c.from-heap.ensures ∙ ap (λ p. p.limits.heap) c.self.view_is)
     (ap (λ p. p.limits.turns) c.self.view_is)
-    c.in-Ok-start.ensures.starts c.in-Ok-start.ensures.meant c.in-Ok-gone.ensures.went
+    c.in-Ok-main_key.ensures c.in-Ok-start.ensures.starts c.in-Ok-start.ensures.meant c.in-Ok-gone.ensures.went
     c.put_state-in-Ok-gone.ensures (ap (in_state c.put_state-in-Ok-gone.new.place) c.self.view_is)
 
 pub returns-in-NoMemory-clause-begins : goal.returns-in-NoMemory-clause-begins
 returns-in-NoMemory-clause-begins g c =
-    begin_lost (g.K.Sink.written c.args.out.now) (g.K.Sink.written c.gone.new.out) c.args.self.now _ c.as_slice-3.result.now c.as_slice-4.result.now c.as_slice-5.result.now c.from-stack.result c.from-heap.result c.self.inside.limits.turns
+    begin_lost (g.K.Sink.written c.args.out.now) (g.K.Sink.written c.gone.new.out) c.args.self.now _ c.as_slice-3.result.now c.as_slice-4.result.now c.as_slice-5.result.now c.in-Ok-main_key.key c.from-stack.result c.from-heap.result c.self.inside.limits.turns
     c.args.input c.in-Ok-start.run' c.put_state.new.place c.self.inside.in_line c.in-NoMemory.within
     (c.as_slice-3.ensures ∙ c.in-Ok.ensures ∙ ap texts (c.as_slice.ensures.value ∙ ap (λ p. p.modules) c.self.view_is))
     (c.as_slice-4.ensures ∙ c.in-Ok.ensures ∙ ap texts (c.as_slice.ensures.value ∙ ap (λ p. p.modules) c.self.view_is))
@@ -40,11 +43,11 @@ returns-in-NoMemory-clause-begins g c =
     (c.from-stack.ensures ∙ ap (λ p. p.limits.stack) c.self.view_is)
     (c.from-heap.ensures ∙ ap (λ p. p.limits.heap) c.self.view_is)
     (ap (λ p. p.limits.turns) c.self.view_is)
-    c.in-Ok-start.ensures.starts (ap (λ p. p.in_line) c.self.view_is) c.self.view_is c.put_state.ensures (lost_memory _ _ _ _ _ _ c.in-NoMemory.is c.in-Err.ensures.lost)
+    c.in-Ok-main_key.ensures c.in-Ok-start.ensures.starts (ap (λ p. p.in_line) c.self.view_is) c.self.view_is c.put_state.ensures (lost_memory _ _ _ _ _ _ c.in-NoMemory.is c.in-Err.ensures.lost)
 
 pub returns-clause-begins : goal.returns-clause-begins
 returns-clause-begins g c =
-    begin_first (g.K.Sink.written c.args.out.now) (g.K.Sink.written c.gone.new.out) c.args.self.now c.as_slice-3.result.now c.as_slice-4.result.now c.as_slice-5.result.now c.from-stack.result c.from-heap.result c.self.inside.limits.turns
+    begin_first (g.K.Sink.written c.args.out.now) (g.K.Sink.written c.gone.new.out) c.args.self.now c.as_slice-3.result.now c.as_slice-4.result.now c.as_slice-5.result.now c.in-Ok-main_key.key c.from-stack.result c.from-heap.result c.self.inside.limits.turns
     c.args.input c.in-Ok-start.run'
     (c.as_slice-3.ensures ∙ c.in-Ok.ensures ∙ ap texts (c.as_slice.ensures.value ∙ ap (λ p. p.modules) c.self.view_is))
     (c.as_slice-4.ensures ∙ c.in-Ok.ensures ∙ ap texts (c.as_slice.ensures.value ∙ ap (λ p. p.modules) c.self.view_is))
@@ -52,4 +55,4 @@ returns-clause-begins g c =
     (c.from-stack.ensures ∙ ap (λ p. p.limits.stack) c.self.view_is)
     (c.from-heap.ensures ∙ ap (λ p. p.limits.heap) c.self.view_is)
     (ap (λ p. p.limits.turns) c.self.view_is)
-    c.in-Ok-start.ensures.starts (lost_write _ _ _ _ _ _ c.in-Unsent.is c.in-Err.ensures.lost)
+    c.in-Ok-main_key.ensures c.in-Ok-start.ensures.starts (lost_write _ _ _ _ _ _ c.in-Unsent.is c.in-Err.ensures.lost)
