@@ -13,13 +13,14 @@ use Rattle.sc_core.specs.declared.module.Init.TheVariants as init
 use Rattle.sc_core.specs.declared.module.StaticObj.{StaticObj}
 use Rattle.sc_object.specs.declared.object.SectionKind.{SectionKind}
 use Rattle.sc_object.specs.declared.object.SectionKind.TheVariants.{Text, Data, Rodata, Bss}
-use Rattle.sc_gen_expr.specs.declared.symbolic.Target.{Target}
-use Rattle.sc_gen_expr.specs.declared.symbolic.Target.TheVariants as target
-use Rattle.sc_gen_expr.specs.Code.{Code}
+use Rattle.sc_gen_code.specs.declared.symbolic.Target.{Target}
+use Rattle.sc_gen_code.specs.declared.symbolic.Target.TheVariants as target
+use Rattle.sc_gen_code.specs.Code.{Code}
 use Rattle.sc_gen_expr.specs.Words.{relocation, fitted}
 use Rattle.sc_gen.specs.declared.definitions.Fixup.{Fixup}
 use Rattle.sc_gen.specs.declared.definitions.Definition.{Definition}
 use Rattle.sc_gen_body.specs.Functions.{function_code}
+use Rattle.sc_gen_code.specs.Styles.{plain_style}
 use Rattle.sc_gen.specs.Sections.{init_size, kind_of, object_size}
 
 -- a function of external linkage is named alone, one of internal linkage with its module
@@ -78,7 +79,7 @@ abbrev pub text_definition : Key → Code → Definition
 text_definition key code = record { target = target.Named key; kind = 2; size = fitted (4 * length code); fixups = text_fixups 0 code }
 
 abbrev pub function_definition : List ℕ → Fun → Definition
-function_definition home f = text_definition (key_of home f) (function_code f)
+function_definition home f = text_definition (key_of home f) (function_code plain_style f)
 
 abbrev pub object_definition : List (List ℕ) → StaticObj → Definition
 object_definition literals x = record { target = target.Named x.key; kind = 1; size = object_size x; fixups = fixups_in (kind_of x) literals x.init }

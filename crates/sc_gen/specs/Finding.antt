@@ -3,7 +3,7 @@
 use Rattle.std.specs.Prelude.{◌≡◌, ℕ, List, Option, Some, None, if◌then◌else◌}
 use Rattle.std.specs.Option.{option_or}
 use Rattle.std.specs.Str.{bytes_eq}
-use Rattle.sc_gen_expr.specs.declared.symbolic.Target.{Target}
+use Rattle.sc_gen_code.specs.declared.symbolic.Target.{Target}
 use Rattle.sc_gen_expr.specs.Words.{target_eq}
 use Rattle.sc_gen.specs.declared.definitions.Definition.{Definition}
 use Rattle.sc_gen.specs.declared.symbols.Home.{Home}

@@ -9,11 +9,12 @@ use Rattle.sc_gen.specs.declared.module.GenFault.{GenFault}
 use Rattle.sc_gen.specs.declared.module.GenFault.TheVariants as fault
 use Rattle.sc_gen.specs.declared.module.Compiled.{Compiled}
 use Rattle.sc_gen_body.specs.Functions.{function_code}
+use Rattle.sc_gen_code.specs.Styles.{plain_style}
 use Rattle.sc_gen.specs.Objects.{object_of}
 
 -- more than 131,072 words, which are 524,288 bytes
 abbrev pub is_long : Fun → Bool
-is_long f = nat_lt 131072 (length (function_code f))
+is_long f = nat_lt 131072 (length (function_code plain_style f))
 
 -- the name of the first function whose text is too long
 abbrev pub first_long : List Fun → Option (List ℕ)
@@ -22,7 +23,7 @@ first_long (f ∷ fs) = if is_long f then Some f.name else first_long fs
 
 -- what a fault says of one function: its text is too long, or memory ran out
 abbrev pub IsTextFault : Fun → GenFault → Type 0
-IsTextFault f (fault.Text name) = (name ≡ f.name) × (131072 < length (function_code f))
+IsTextFault f (fault.Text name) = (name ≡ f.name) × (131072 < length (function_code plain_style f))
 IsTextFault f fault.Object = ⊥
 IsTextFault f fault.NoMemory = Unit {0}
 

@@ -11,9 +11,10 @@ use Rattle.sc_object.specs.declared.object.SectionKind.{SectionKind}
 use Rattle.sc_object.specs.declared.object.SectionKind.TheVariants.{Text, Data, Rodata, Bss}
 use Rattle.sc_object.specs.declared.object.Section.{Section}
 use Rattle.sc_object.specs.Words.{word}
-use Rattle.sc_gen_expr.specs.Code.{Code}
+use Rattle.sc_gen_code.specs.Code.{Code}
 use Rattle.sc_gen_expr.specs.Words.{words, fitted}
 use Rattle.sc_gen_body.specs.Functions.{function_code}
+use Rattle.sc_gen_code.specs.Styles.{plain_style}
 
 -- words, each with its lowest byte first
 abbrev pub text_bytes : Code → List ℕ
@@ -68,7 +69,7 @@ literal_sections n (bytes ∷ more) = literal_section (fitted n) bytes ∷ liter
 
 -- the text of a function
 abbrev pub function_section : Fun → Section
-function_section f = text_section f.name (function_code f)
+function_section f = text_section f.name (function_code plain_style f)
 
 -- functions, objects and literals, each in the order of the module
 abbrev pub sections : Core → List Section

@@ -7,7 +7,8 @@ use crate::literals::{Literals, literal_number};
 use crate::sections::{init_size, kind_of, size_of};
 use sc_base::{Bytes, Duplicate, Items, Key, Name, NoMemory};
 use sc_core::{Fun, Init, StaticObj};
-use sc_gen_expr::{Symbolic, Target, fitted};
+use sc_gen_code::{Symbolic, Target};
+use sc_gen_expr::{fitted, lower_kind};
 use sc_object::SectionKind;
 use sc_program::StaticId;
 use std::alloc::Global;
@@ -73,7 +74,7 @@ fn put_word(
     match s {
         Symbolic::Plain(_) => Ok(()),
         Symbolic::Upper(target) => put_fixup(alloc, at, 26, target, fixups),
-        Symbolic::Lower(target) => put_fixup(alloc, at, 27, target, fixups),
+        Symbolic::Lower(what, target) => put_fixup(alloc, at, lower_kind(*what), target, fixups),
         Symbolic::Call(target) => put_fixup(alloc, at, 19, target, fixups),
     }
 }

@@ -1,6 +1,7 @@
 // The object of a module (ELF gABI, RISC-V psABI).
 ghost use Rattle.std.specs.Prelude.{◌≡◌, ◌<◌, ◌≤◌, ℕ, List, None, Some, IfErr, IfOk, OnOk, length, map};
 ghost use Rattle.sc_gen_body.specs.Functions.{function_code};
+ghost use Rattle.sc_gen_code.specs.Styles.{plain_style};
 ghost use Rattle.sc_gen.specs.Limits as limits;
 ghost use Rattle.sc_gen.specs.Making as making;
 ghost use Rattle.sc_gen.specs.Definitions as definitions;
@@ -18,7 +19,8 @@ use sc_base::{Bytes, Duplicate, Items, Name, NoMemory, Shared};
 use sc_core::{Core, Fun, StaticObj};
 use sc_elf_write::write_object;
 use sc_gen_body::function;
-use sc_gen_expr::{Symbolic, fitted};
+use sc_gen_code::{Symbolic, plain_style};
+use sc_gen_expr::fitted;
 use sc_object::{Object, Section};
 use std::alloc::Global;
 
@@ -62,10 +64,11 @@ fn put(all: &mut Making, section: Section, definition: Definition) -> Result<(),
 
 /// The code of a function, where it is not too long.
 fn text_of(alloc: Global, f: &Fun) -> Result<Items<Symbolic>, GenFault>
-    ensures ok { IfOk result (λ code. (code ≡ function_code f.now) × (length code ≤ 131072)) }
+    ensures ok { IfOk result (λ code. (code ≡ function_code plain_style f.now) × (length code ≤ 131072)) }
     ensures err { IfErr result (limits.IsTextFault f.now) }
 {
-    let code = function(alloc, f)?;
+    let style = plain_style(alloc);
+    let code = function(alloc, &style, f)?;
     if code.len() <= MAX_WORDS {
         return Ok(code);
     }
@@ -91,7 +94,7 @@ fn put_text(
 }
 
 fn put_function(alloc: Global, home: &Name, f: &Fun, all: &mut Making) -> Result<(), GenFault>
-    ensures ok { OnOk result (length (function_code f.now) ≤ 131072) }
+    ensures ok { OnOk result (length (function_code plain_style f.now) ≤ 131072) }
     ensures puts { OnOk result (making.Puts (sections.function_section f.now) (definitions.function_definition home.now f.now) all.old all.new) }
     ensures err { IfErr result (limits.IsTextFault f.now) }
 {

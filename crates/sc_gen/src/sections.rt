@@ -6,7 +6,8 @@ ghost use Rattle.sc_gen.specs.Sections as spec;
 
 use sc_base::{Bytes, Duplicate, Name, NoMemory};
 use sc_core::{Init, StaticObj};
-use sc_gen_expr::{Symbolic, fitted, symbolic_word};
+use sc_gen_code::Symbolic;
+use sc_gen_expr::{fitted, symbolic_word};
 use sc_object::{Section, SectionKind};
 use std::alloc::Global;
 

@@ -2,7 +2,7 @@
 use Rattle.std.proofs.Common.{◌≡◌, ◌<◌, ◌≤◌, ℕ, ◌+◌, List, ◌∷◌, ◌++◌, length, drop, get_or, Option, None, Some, sym, ap, ◌∙◌, append_assoc, length-append}
 use Rattle.std.proofs.lemmas.List.{drop_more, drop_all}
 use Rattle.sc_core.specs.declared.statement.SwitchLabel.{SwitchLabel}
-use Rattle.sc_gen_expr.specs.Code.{Code}
+use Rattle.sc_gen_code.specs.Code.{Code}
 use Rattle.sc_gen_body.specs.Statements.{case_code, cases_code, default_code}
 
 module _ (block : Option ℕ) (start : ℕ → ℕ) where

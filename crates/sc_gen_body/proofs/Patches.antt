@@ -2,10 +2,10 @@
 use Rattle.std.proofs.Common.{◌≡◌, ℕ, ◌+◌, ◌-◌, Bool, true, false, if◌then◌else◌, List, [], ◌∷◌, ◌++◌, length, sym, ap, ◌∙◌, arith, append_assoc, length-append, refl, Option, None, Some}
 use Rattle.std.specs.Prelude.{slice_get, slice_set}
 use Rattle.std.proofs.Math.Seq.{set-append_seam}
-use Rattle.sc_gen_expr.specs.declared.symbolic.Symbolic.{Symbolic}
-use Rattle.sc_gen_expr.specs.Code.{Code, over, skip_if}
+use Rattle.sc_gen_code.specs.declared.symbolic.Symbolic.{Symbolic}
+use Rattle.sc_gen_code.specs.Code.{Code, over, jump}
 use Rattle.sc_gen_body.specs.declared.jumps.Place.{Place}
-use Rattle.sc_gen_body.specs.Jumps.{jump, leaving, go}
+use Rattle.sc_gen_body.specs.Jumps.{leaving, go}
 use Rattle.sc_gen_body.specs.Statements.{choice, loop, switched, tested}
 
 -- blocks are left, then the jump stands behind that
@@ -32,41 +32,39 @@ closed_at base mid c x n e m =
     ∙ ap (λ (k : ℕ). base ++ over k ∷ mid) d
 
 -- the test of an `if` and its first statement
-pub tested_is : (c0 test c1 c2 c3 : Code) (first : ℕ → Code) (w : Symbolic) (n : ℕ) → c1 ≡ c0 ++ test → w ≡ skip_if → c2 ≡ (c1 ++ w ∷ []) ++ over 0 ∷ [] →
-    n ≡ length (c1 ++ w ∷ []) → c3 ≡ c2 ++ first (length c2) →
-    (c3 ≡ c0 ++ tested test (first (length c0 + length test + 2))) × (n ≡ length c0 + length test + 1)
-tested_is c0 test c1 c2 c3 first w n e1 same e2 at e3 =
+pub tested_is : (c0 test c1 c2 c3 : Code) (first : ℕ → Code) (n : ℕ) → c1 ≡ c0 ++ test → c2 ≡ c1 ++ over 0 ∷ [] →
+    n ≡ length c1 → c3 ≡ c2 ++ first (length c2) →
+    (c3 ≡ c0 ++ tested test (first (length c0 + length test + 1))) × (n ≡ length c0 + length test)
+tested_is c0 test c1 c2 c3 first n e1 e2 at e3 =
     let l1 = ap length e1 ∙ length-append c0 test in
-    let l2 = length-append c1 (w ∷ []) in
-    let l3 = ap length e2 ∙ length-append (c1 ++ w ∷ []) (over 0 ∷ []) in
-    let here : length c2 ≡ length c0 + length test + 2 = omega (arith, l1, l2, l3) in
+    let l2 = ap length e2 ∙ length-append c1 (over 0 ∷ []) in
+    let here : length c2 ≡ length c0 + length test + 1 = omega (arith, l1, l2) in
     let part = first (length c2) in
-    let flat : (((c0 ++ test) ++ skip_if ∷ []) ++ over 0 ∷ []) ++ part ≡ c0 ++ tested test part = simp append_assoc in (
+    let flat : ((c0 ++ test) ++ over 0 ∷ []) ++ part ≡ c0 ++ tested test part = simp append_assoc in (
       e3
-          ∙ ap (λ (l : Code). l ++ part) (e2 ∙ ap (λ (s : Symbolic). (c1 ++ s ∷ []) ++ over 0 ∷ []) same ∙ ap (λ (l : Code). (l ++ skip_if ∷ []) ++ over 0 ∷ []) e1)
+          ∙ ap (λ (l : Code). l ++ part) (e2 ∙ ap (λ (l : Code). l ++ over 0 ∷ []) e1)
           ∙ flat
           ∙ ap (λ (k : ℕ). c0 ++ tested test (first k)) here,
-      omega (arith, at, l1, l2),
+      omega (arith, at, l1),
     )
 
-pub branch_is : (c0 test first c1 c2 : Code) (n : ℕ) → c1 ≡ c0 ++ tested test first → n ≡ length c0 + length test + 1 →
+pub branch_is : (c0 test first c1 c2 : Code) (n : ℕ) → c1 ≡ c0 ++ tested test first → n ≡ length c0 + length test →
     c2 ≡ slice_set c1 n (over (length c1 - (n + 1))) → c2 ≡ c0 ++ choice test first None
 branch_is c0 test first c1 c2 n e at s =
-    let base = c0 ++ (test ++ skip_if ∷ []) in
+    let base = c0 ++ test in
     let flat : c0 ++ tested test first ≡ base ++ over 0 ∷ first = simp append_assoc in
-    let long : n ≡ length base = omega (arith, at, length-append c0 (test ++ skip_if ∷ []), length-append test (skip_if ∷ [])) in
+    let long : n ≡ length base = omega (arith, at, length-append c0 test) in
     let back : base ++ over (length first) ∷ first ≡ c0 ++ choice test first None = simp append_assoc in
     s ∙ closed_at base first c1 (over 0) n (e ∙ flat) long ∙ back
 
-pub choice_is : (c0 test first c1 c2 c3 c4 : Code) (other : ℕ → Code) (n m : ℕ) → c1 ≡ c0 ++ tested test first → n ≡ length c0 + length test + 1 →
+pub choice_is : (c0 test first c1 c2 c3 c4 : Code) (other : ℕ → Code) (n m : ℕ) → c1 ≡ c0 ++ tested test first → n ≡ length c0 + length test →
     c2 ≡ slice_set (c1 ++ over 0 ∷ []) n (over (length (c1 ++ over 0 ∷ []) - (n + 1))) → m ≡ length c1 → c3 ≡ c2 ++ other (length c2) →
-    c4 ≡ slice_set c3 m (over (length c3 - (m + 1))) → c4 ≡ c0 ++ choice test first (Some (other (length c0 + length test + 2 + length first + 1)))
+    c4 ≡ slice_set c3 m (over (length c3 - (m + 1))) → c4 ≡ c0 ++ choice test first (Some (other (length c0 + length test + 1 + length first + 1)))
 choice_is c0 test first c1 c2 c3 c4 other n m e1 at e2 in1 e3 e4 =
-    let base = c0 ++ (test ++ skip_if ∷ []) in
+    let base = c0 ++ test in
     let mid = first ++ over 0 ∷ [] in
-    let lb = length-append c0 (test ++ skip_if ∷ []) in
-    let lt = length-append test (skip_if ∷ []) in
-    let long : n ≡ length base = omega (arith, at, lb, lt) in
+    let lb = length-append c0 test in
+    let long : n ≡ length base = omega (arith, at, lb) in
     let flat : (c0 ++ tested test first) ++ over 0 ∷ [] ≡ base ++ over 0 ∷ mid = simp append_assoc in
     let lm = length-append first (over 0 ∷ []) in
     let more : length mid ≡ length first + 1 = omega (arith, lm) in
@@ -77,10 +75,10 @@ choice_is c0 test first c1 c2 c3 c4 other n m e1 at e2 in1 e3 e4 =
     ∙ sym (append_assoc base (over (length first + 1) ∷ first) (over 0 ∷ [])) in
     let lf = length-append base (over (length first + 1) ∷ first) in
     let l2 = ap length two ∙ length-append front (over 0 ∷ []) in
-    let there : length c2 ≡ length c0 + length test + 2 + length first + 1 = omega (arith, l2, lf, lb, lt) in
+    let there : length c2 ≡ length c0 + length test + 1 + length first + 1 = omega (arith, l2, lf, lb) in
     let l1 = ap length e1 ∙ length-append c0 (tested test first) in
-    let l0 = length-append test (skip_if ∷ over 0 ∷ first) in
-    let here : m ≡ length front = omega (arith, in1, l1, l0, lf, lb, lt) in
+    let l0 = length-append test (over 0 ∷ first) in
+    let here : m ≡ length front = omega (arith, in1, l1, l0, lf, lb) in
     let rest = other (length c2) in
     let three : c3 ≡ front ++ over 0 ∷ rest = e3 ∙ ap (λ (l : Code). l ++ rest) two ∙ append_assoc front (over 0 ∷ []) rest in
     let back : front ++ over (length rest) ∷ rest ≡ c0 ++ choice test first (Some rest) = simp append_assoc in
@@ -93,13 +91,14 @@ first_jump : (c0 mid c6 c7 : Code) (body_first : Bool) (k : ℕ) → c6 ≡ c0 +
 first_jump c0 mid c6 c7 true k e l t = t ∙ e
 first_jump c0 mid c6 c7 false k e l t = t ∙ closed_at c0 mid c6 (over 2) (length c0) e refl ∙ ap (λ (n : ℕ). c0 ++ over n ∷ mid) l
 
-pub loop_is : (c0 c1 c2 c3 c4 c5 c6 c7 c8 c9 c10 : Code) (body : ℕ → Code) (after test : Code) (body_first : Bool) (x y : Symbolic) →
+-- the test stands behind the body and what comes after each turn
+pub loop_is : (c0 c1 c2 c3 c4 c5 c6 c7 c8 c9 : Code) (body : ℕ → Code) (after : Code) (test : ℕ → ℕ → Code) (body_first : Bool) (x y : Symbolic) →
     c1 ≡ c0 ++ over 2 ∷ [] → c2 ≡ c1 ++ x ∷ [] → c3 ≡ c2 ++ y ∷ [] → c4 ≡ c3 ++ body (length c3) →
     c5 ≡ slice_set c4 (length c2) (over (length c4 - (length c2 + 1))) → c6 ≡ c5 ++ after →
     c7 ≡ (if body_first then c6 else slice_set c6 (length c0) (over (length c6 - (length c0 + 1)))) →
-    c8 ≡ c7 ++ test → c9 ≡ c8 ++ jump (length c8) (length c3) ∷ [] → c10 ≡ slice_set c9 (length c1) (over (length c9 - (length c1 + 1))) →
-    c10 ≡ c0 ++ loop (length c0) body_first (body (length c0 + 3)) after test
-loop_is c0 c1 c2 c3 c4 c5 c6 c7 c8 c9 c10 body after test body_first x y e1 e2 e3 e4 e5 e6 e7 e8 e9 e10 =
+    c8 ≡ c7 ++ test (length c7) (length c3) → c9 ≡ slice_set c8 (length c1) (over (length c8 - (length c1 + 1))) →
+    c9 ≡ c0 ++ loop body_first (body (length c0 + 3)) after (test (length c0 + 3 + length (body (length c0 + 3)) + length after) (length c0 + 3))
+loop_is c0 c1 c2 c3 c4 c5 c6 c7 c8 c9 body after test body_first x y e1 e2 e3 e4 e5 e6 e7 e8 e9 =
     let l1 = ap length e1 ∙ length-append c0 (over 2 ∷ []) in
     let l2 = ap length e2 ∙ length-append c1 (x ∷ []) in
     let l3 = ap length e3 ∙ length-append c2 (y ∷ []) in
@@ -115,24 +114,20 @@ loop_is c0 c1 c2 c3 c4 c5 c6 c7 c8 c9 c10 body after test body_first x y e1 e2 e
     let long : length mid ≡ 2 + (length part + length after) = omega (arith, length-append part after) in
     let w = over (2 + (if body_first then 0 else length part + length after)) in
     let seven = first_jump c0 mid c6 c7 body_first (length part + length after) six long e7 in
-    let j = jump (length c8) (length c3) in
-    let behind = ((inner ++ after) ++ test) ++ j ∷ [] in
-    let nine : c9 ≡ (c0 ++ w ∷ []) ++ x ∷ behind = e9 ∙ ap (λ (l : Code). l ++ j ∷ []) (e8 ∙ ap (λ (l : Code). l ++ test) seven) ∙ simp append_assoc in
+    let end = test (length c7) (length c3) in
+    let behind = (inner ++ after) ++ end in
+    let eight : c8 ≡ (c0 ++ w ∷ []) ++ x ∷ behind = e8 ∙ ap (λ (l : Code). l ++ end) seven ∙ simp append_assoc in
     let l7 = ap length seven ∙ length-append c0 (w ∷ mid) in
-    let l8 = ap length e8 ∙ length-append c7 test in
-    let from : length c8 ≡ length c0 + 3 + length part + length after + length test = omega arith in
+    let from : length c7 ≡ length c0 + 3 + length part + length after = omega arith in
     let start : length c1 ≡ length (c0 ++ w ∷ []) = omega (arith, length-append c0 (w ∷ [])) in
-    let size : length behind ≡ 1 + length part + length after + length test + 1 =
-    omega (arith, length-append ((inner ++ after) ++ test) (j ∷ []), length-append (inner ++ after) test, length-append inner after) in
-    let N = 1 + length part + length after + length test + 1 in
-    let flat : (c0 ++ w ∷ []) ++ over N ∷ behind ≡ c0 ++ (w ∷ over N ∷ over (length part) ∷ part ++ (after ++ (test ++ j ∷ []))) = simp append_assoc in
-    e10
-    ∙ closed_at (c0 ++ w ∷ []) behind c9 x (length c1) nine start
+    let size : length behind ≡ 1 + length part + length after + length end = omega (arith, length-append (inner ++ after) end, length-append inner after) in
+    let flat : (c0 ++ w ∷ []) ++ over (1 + length part + length after + length end) ∷ behind ≡ c0 ++ loop body_first part after end = simp append_assoc in
+    e9
+    ∙ closed_at (c0 ++ w ∷ []) behind c8 x (length c1) eight start
     ∙ ap (λ (k : ℕ). (c0 ++ w ∷ []) ++ over k ∷ behind) size
     ∙ flat
-    ∙ ap (λ (k : ℕ). c0 ++ (w ∷ over N ∷ over (length part) ∷ part ++ (after ++ (test ++ jump k (length c3) ∷ [])))) from
-    ∙ ap (λ (k : ℕ). c0 ++ (w ∷ over N ∷ over (length part) ∷ part ++ (after ++ (test ++ jump (length c0 + 3 + length part + length after + length test) k ∷ [])))) at
-    ∙ ap (λ (k : ℕ). c0 ++ loop (length c0) body_first (body k) after test) at
+    ∙ ap (λ (k : ℕ). c0 ++ loop body_first part after (test k (length c3))) from
+    ∙ ap (λ (k : ℕ). c0 ++ loop body_first (body k) after (test (length c0 + 3 + length (body k) + length after) k)) at
 
 pub switch_is : (c0 value c1 c2 c3 c4 c5 c6 c7 c8 c9 : Code) (body : ℕ → Code) (labels : ℕ → Code) (x y z : Symbolic) →
     c1 ≡ c0 ++ value → c2 ≡ c1 ++ x ∷ [] → c3 ≡ c2 ++ y ∷ [] → c4 ≡ c3 ++ body (length c3) → c5 ≡ c4 ++ z ∷ [] →

@@ -1,13 +1,14 @@
 -- The jumps of a block's labels are written once its statements are there.
-use Rattle.std.proofs.Common.{◌≡◌, ◌<◌, ◌≤◌, ℕ, suc, ◌+◌, ◌-◌, List, [], ◌∷◌, ◌++◌, length, drop, take, replicate, refl, sym, ap, ◌∙◌, arith, append_assoc, length-append, get_or}
+use Rattle.std.proofs.Common.{◌≡◌, ◌<◌, ◌≤◌, ℕ, suc, ◌+◌, ◌-◌, List, [], ◌∷◌, ◌++◌, length, drop, take, replicate, refl, sym, ap, ◌∙◌, arith, append_assoc, append-nil, length-append, get_or, Option, None, Some}
 use Rattle.std.specs.Prelude.{slice_set}
 use Rattle.std.proofs.Math.Seq.{set-append_seam, take-append_seam}
 use Rattle.std.proofs.lemmas.List.{drop_more, drop_all, length-replicate, length-set}
 use Rattle.sc_core.specs.declared.statement.LabelAt.{LabelAt}
 use Rattle.sc_core.specs.declared.statement.CoreStmt.{CoreStmt}
-use Rattle.sc_gen_expr.specs.Code.{Code, over, block_service}
+use Rattle.sc_gen_code.specs.Code.{Code, over, jump}
 use Rattle.sc_gen_body.specs.declared.jumps.LabelPlace.{LabelPlace}
-use Rattle.sc_gen_body.specs.Jumps.{Around, jump, label_holes, label_jumps, label_place, label_places, label_rows, rows, start_of, with_jumps, inside}
+use Rattle.sc_gen_body.specs.Frames.{Frame, entered_in}
+use Rattle.sc_gen_body.specs.Jumps.{Around, label_holes, label_jumps, label_place, label_places, label_rows, rows, start_of, with_jumps, inside, opened, leaving}
 use Rattle.sc_gen_body.specs.declared.jumps.Text.{Text}
 use Rattle.sc_gen_body.specs.Statements.{Body, JumpsTo, OpensOne, items_code, starts, block_inner}
 
@@ -59,16 +60,15 @@ rows-fit c0 c1 c2 items ls e1 e2 =
     omega (arith, a, b, m)
 
 -- the code of a block, step by step; its statements stand where the rows end
-pub block_is : (c0 c1 c2 c3 c4 : Code) (ls : List LabelAt) (b : ℕ) (items : ℕ → Code) (start : ℕ → ℕ) → c1 ≡ c0 ++ label_holes ls → c2 ≡ c1 ++ items (length c1) →
-    c3 ≡ with_jumps c2 (length c0) start ls → c4 ≡ c3 ++ block_service 3 b →
-    c4 ≡ c0 ++ (label_rows (length c0) start ls ++ (items (length c0 + rows ls) ++ block_service 3 b))
-block_is c0 c1 c2 c3 c4 ls b items start e1 e2 e3 e4 =
+pub block_is : (c0 c1 c2 c3 c4 end : Code) (ls : List LabelAt) (items : ℕ → Code) (start : ℕ → ℕ) → c1 ≡ c0 ++ label_holes ls → c2 ≡ c1 ++ items (length c1) →
+    c3 ≡ with_jumps c2 (length c0) start ls → c4 ≡ c3 ++ end →
+    c4 ≡ c0 ++ (label_rows (length c0) start ls ++ (items (length c0 + rows ls) ++ end))
+block_is c0 c1 c2 c3 c4 end ls items start e1 e2 e3 e4 =
     let at = rows-behind c0 c1 ls e1 in
     let part = items (length c1) in
     let two : c2 ≡ (c0 ++ label_holes ls) ++ part = e2 ∙ ap (λ (l : Code). l ++ part) e1 in
     let three = e3 ∙ ap (λ (l : Code). with_jumps l (length c0) start ls) two ∙ rows_set ls c0 part start in
     let row = label_rows (length c0) start ls in
-    let end = block_service 3 b in
     e4
     ∙ ap (λ (l : Code). l ++ end) three
     ∙ append_assoc c0 (row ++ part) end
@@ -92,15 +92,23 @@ pub label_end : (c0 all : Code) (ls : List LabelAt) (i at : ℕ) (start : ℕ �
 label_end c0 all ls i at start h inv = sym (ap (λ (xs : List LabelAt). with_jumps c0 at start xs) (drop_all i ls h)) ∙ inv
 
 -- what is known inside a block
-pub inside_is : (blocks0 blocks1 : List ℕ) (labels0 labels1 : List LabelPlace) (out : Around) (b at : ℕ) (ls : List LabelAt) → blocks1 ≡ blocks0 ++ b ∷ [] →
+pub inside_is : (blocks0 blocks1 : List ℕ) (labels0 labels1 : List LabelPlace) (out : Around) (b : Option ℕ) (at : ℕ) (ls : List LabelAt) → blocks1 ≡ opened blocks0 b →
     labels1 ≡ labels0 ++ label_places (at + 1) (length blocks1) ls → out.blocks ≡ blocks0 → out.labels ≡ labels0 →
     record out { blocks = blocks1; labels = labels1 } ≡ inside out b ls at
 inside_is blocks0 blocks1 labels0 labels1 out b at ls eb el ob ol =
-    let depth : length blocks1 ≡ length out.blocks + 1 = ap length (eb ∙ ap (λ (xs : List ℕ). xs ++ b ∷ []) (sym ob)) ∙ length-append out.blocks (b ∷ []) in
-    let bs : blocks1 ≡ out.blocks ++ b ∷ [] = eb ∙ ap (λ (xs : List ℕ). xs ++ b ∷ []) (sym ob) in
-    let ks : labels1 ≡ out.labels ++ label_places (at + 1) (length out.blocks + 1) ls =
-    el ∙ ap (λ (xs : List LabelPlace). xs ++ label_places (at + 1) (length blocks1) ls) (sym ol) ∙ ap (λ (k : ℕ). out.labels ++ label_places (at + 1) k ls) depth in
+    let bs : blocks1 ≡ opened out.blocks b = eb ∙ ap (λ (xs : List ℕ). opened xs b) (sym ob) in
+    let ks : labels1 ≡ out.labels ++ label_places (at + 1) (length (opened out.blocks b)) ls =
+    el ∙ ap (λ (xs : List LabelPlace). xs ++ label_places (at + 1) (length blocks1) ls) (sym ol) ∙ ap (λ (xs : List ℕ). out.labels ++ label_places (at + 1) (length xs) ls) bs in
     λ t. record out { blocks = bs t; labels = ks t }
+
+-- the block that is open more
+abbrev pub more : Option ℕ → List ℕ
+more None = []
+more (Some b) = b ∷ []
+
+pub opened_is : (xs : List ℕ) (b : Option ℕ) → opened xs b ≡ xs ++ more b
+opened_is xs None = sym (append-nil xs)
+opened_is xs (Some b) = refl
 
 -- what a list ended with is taken away again
 pub kept : {A : Type 0} (xs ys zs ws : List A) → zs ≡ xs ++ ys → ws ≡ take (length xs) zs → ws ≡ xs
@@ -112,17 +120,19 @@ holes_are [] h = absurd (h refl)
 holes_are (l ∷ ls) h = refl
 
 -- the inside of a block, and where its statements begin
-pub block_lists : (out inner : Around) (c0 c1 c2 c3 c4 : Code) (ls : List LabelAt) (b : ℕ) (ps : List Body) (ss : List CoreStmt) (found : List ℕ) →
-    c1 ≡ c0 ++ label_holes ls → inner ≡ inside out b ls (length c0) → c2 ≡ c1 ++ items_code ps ss (length c1) inner → found ≡ starts ps ss (length c1) inner →
-    c3 ≡ with_jumps c2 (length c0) (start_of (length c0) found) ls → c4 ≡ c3 ++ block_service 3 b →
-    (c4 ≡ c0 ++ (block_inner b ls ps ss (length c0) out).code) × (found ≡ (block_inner b ls ps ss (length c0) out).starts)
-block_lists out inner c0 c1 c2 c3 c4 ls b ps ss found e1 inner-is e2 found-is e3 e4 =
+pub block_lists : (f : Frame) (out inner : Around) (c0 c1 c2 c3 c4 : Code) (ls : List LabelAt) (b : ℕ) (ps : List Body) (ss : List CoreStmt) (found : List ℕ) →
+    c1 ≡ c0 ++ label_holes ls → inner ≡ inside out (entered_in f b) ls (length c0) → c2 ≡ c1 ++ items_code f ps ss (length c1) inner → found ≡ starts f ps ss (length c1) inner →
+    c3 ≡ with_jumps c2 (length c0) (start_of (length c0) found) ls → c4 ≡ c3 ++ leaving (entered_in f b) →
+    (c4 ≡ c0 ++ (block_inner f b ls ps ss (length c0) out).code) × (found ≡ (block_inner f b ls ps ss (length c0) out).starts)
+block_lists f out inner c0 c1 c2 c3 c4 ls b ps ss found e1 inner-is e2 found-is e3 e4 =
     let at = rows-behind c0 c1 ls e1 in
     let here = length c0 + rows ls in
-    let found-at : found ≡ starts ps ss here (inside out b ls (length c0)) = found-is ∙ ap (λ (k : ℕ). starts ps ss k inner) at ∙ ap (starts ps ss here) inner-is in (
-      block_is c0 c1 c2 c3 c4 ls b (λ k. items_code ps ss k inner) (start_of (length c0) found) e1 e2 e3 e4
-          ∙ ap (λ (i : Around). c0 ++ (label_rows (length c0) (start_of (length c0) found) ls ++ (items_code ps ss here i ++ block_service 3 b))) inner-is
-          ∙ ap (λ (xs : List ℕ). c0 ++ (label_rows (length c0) (start_of (length c0) xs) ls ++ (items_code ps ss here (inside out b ls (length c0)) ++ block_service 3 b))) found-at,
+    let own = entered_in f b in
+    let end = leaving own in
+    let found-at : found ≡ starts f ps ss here (inside out own ls (length c0)) = found-is ∙ ap (λ (k : ℕ). starts f ps ss k inner) at ∙ ap (starts f ps ss here) inner-is in (
+      block_is c0 c1 c2 c3 c4 end ls (λ k. items_code f ps ss k inner) (start_of (length c0) found) e1 e2 e3 e4
+          ∙ ap (λ (i : Around). c0 ++ (label_rows (length c0) (start_of (length c0) found) ls ++ (items_code f ps ss here i ++ end))) inner-is
+          ∙ ap (λ (xs : List ℕ). c0 ++ (label_rows (length c0) (start_of (length c0) xs) ls ++ (items_code f ps ss here (inside out own ls (length c0)) ++ end))) found-at,
       found-at,
     )
 

@@ -4,13 +4,14 @@ use Rattle.std.specs.Prelude.{slice_set}
 use Rattle.std.proofs.lemmas.List.{drop_more, drop_all}
 use Rattle.sc_core.specs.declared.statement.CoreStmt.{CoreStmt}
 use Rattle.sc_core.specs.declared.statement.SwitchLabel.{SwitchLabel}
-use Rattle.sc_gen_expr.specs.declared.symbolic.Symbolic.{Symbolic}
-use Rattle.sc_gen_expr.specs.Code.{Code, over}
+use Rattle.sc_gen_code.specs.declared.symbolic.Symbolic.{Symbolic}
+use Rattle.sc_gen_code.specs.Code.{Code, over}
 use Rattle.sc_gen_body.specs.declared.jumps.Exits.{Exits}
 use Rattle.sc_gen_body.specs.declared.jumps.LabelPlace.{LabelPlace}
 use Rattle.sc_gen_body.specs.declared.jumps.Text.{Text}
-use Rattle.sc_gen_body.specs.Jumps.{Around, jump, in_loop, in_switch, nowhere, start_of}
-use Rattle.sc_gen_body.specs.Statements.{Frame, Body, around, body_of, cases_code, items_code, loop, starts, statement_code, switched}
+use Rattle.sc_gen_body.specs.Jumps.{Around, in_loop, in_switch, nowhere, start_of}
+use Rattle.sc_gen_body.specs.Frames.{Frame}
+use Rattle.sc_gen_body.specs.Statements.{Body, around, body_of, cases_code, items_code, loop, starts, statement_code, switched}
 use Rattle.sc_gen_body.proofs.Patches.{loop_is, switch_is}
 
 -- the same blocks and labels are known
@@ -27,39 +28,39 @@ module _ (f : Frame) (ss : List CoreStmt) where
   -- one statement more
   pub words_step : (i : ℕ) (s : CoreStmt) (c0 c1 all : Code) (out here : Around) → i < length ss → s ≡ get_or ss i s → here ≡ out →
       c1 ≡ c0 ++ statement_code f s (length c0) here →
-      c0 ++ items_code (bodies i) (drop i ss) (length c0) out ≡ all → c1 ++ items_code (bodies (i + 1)) (drop (i + 1) ss) (length c1) out ≡ all
+      c0 ++ items_code f (bodies i) (drop i ss) (length c0) out ≡ all → c1 ++ items_code f (bodies (i + 1)) (drop (i + 1) ss) (length c1) out ≡ all
   words_step i s c0 c1 all out here h is same e inv =
       let one = statement_code f s (length c0) out in
       let e2 : c1 ≡ c0 ++ one = e ∙ ap (λ (a : Around). c0 ++ statement_code f s (length c0) a) same in
-      let rest = λ (k : ℕ). items_code (bodies (i + 1)) (drop (i + 1) ss) k out in
+      let rest = λ (k : ℕ). items_code f (bodies (i + 1)) (drop (i + 1) ss) k out in
       let long : length c1 ≡ length c0 + length one = ap length e2 ∙ length-append c0 one in
       ap (λ (k : ℕ). c1 ++ rest k) long
       ∙ ap (λ (l : Code). l ++ rest (length c0 + length one)) e2
       ∙ append_assoc c0 one (rest (length c0 + length one))
-      ∙ sym (ap (λ (xs : List CoreStmt). c0 ++ items_code (map (body_of f) xs) xs (length c0) out) (opened i s h is))
+      ∙ sym (ap (λ (xs : List CoreStmt). c0 ++ items_code f (map (body_of f) xs) xs (length c0) out) (opened i s h is))
       ∙ inv
 
   pub places_step : (i : ℕ) (s : CoreStmt) (c0 c1 : Code) (found more all : List ℕ) (out here : Around) (at : ℕ) → i < length ss → s ≡ get_or ss i s → here ≡ out →
       c1 ≡ c0 ++ statement_code f s (length c0) here → at ≡ length c0 → more ≡ found ++ at ∷ [] →
-      found ++ starts (bodies i) (drop i ss) (length c0) out ≡ all → more ++ starts (bodies (i + 1)) (drop (i + 1) ss) (length c1) out ≡ all
+      found ++ starts f (bodies i) (drop i ss) (length c0) out ≡ all → more ++ starts f (bodies (i + 1)) (drop (i + 1) ss) (length c1) out ≡ all
   places_step i s c0 c1 found more all out here at h is same e at-is m inv =
       let one = statement_code f s (length c0) out in
       let e2 : c1 ≡ c0 ++ one = e ∙ ap (λ (a : Around). c0 ++ statement_code f s (length c0) a) same in
-      let rest = λ (k : ℕ). starts (bodies (i + 1)) (drop (i + 1) ss) k out in
+      let rest = λ (k : ℕ). starts f (bodies (i + 1)) (drop (i + 1) ss) k out in
       let long : length c1 ≡ length c0 + length one = ap length e2 ∙ length-append c0 one in
       ap (λ (k : ℕ). more ++ rest k) long
       ∙ ap (λ (l : List ℕ). l ++ rest (length c0 + length one)) (m ∙ ap (λ (k : ℕ). found ++ k ∷ []) at-is)
       ∙ append_assoc found (length c0 ∷ []) (rest (length c0 + length one))
-      ∙ sym (ap (λ (xs : List CoreStmt). found ++ starts (map (body_of f) xs) xs (length c0) out) (opened i s h is))
+      ∙ sym (ap (λ (xs : List CoreStmt). found ++ starts f (map (body_of f) xs) xs (length c0) out) (opened i s h is))
       ∙ inv
 
-  pub words_end : (i : ℕ) (c0 all : Code) (out : Around) → length ss ≤ i → c0 ++ items_code (bodies i) (drop i ss) (length c0) out ≡ all → c0 ≡ all
+  pub words_end : (i : ℕ) (c0 all : Code) (out : Around) → length ss ≤ i → c0 ++ items_code f (bodies i) (drop i ss) (length c0) out ≡ all → c0 ≡ all
   words_end i c0 all out over inv =
-      sym (append-nil c0) ∙ sym (ap (λ (xs : List CoreStmt). c0 ++ items_code (map (body_of f) xs) xs (length c0) out) (drop_all i ss over)) ∙ inv
+      sym (append-nil c0) ∙ sym (ap (λ (xs : List CoreStmt). c0 ++ items_code f (map (body_of f) xs) xs (length c0) out) (drop_all i ss over)) ∙ inv
 
-  pub places_end : (i at : ℕ) (found all : List ℕ) (out : Around) → length ss ≤ i → found ++ starts (bodies i) (drop i ss) at out ≡ all → found ≡ all
+  pub places_end : (i at : ℕ) (found all : List ℕ) (out : Around) → length ss ≤ i → found ++ starts f (bodies i) (drop i ss) at out ≡ all → found ≡ all
   places_end i at found all out over inv =
-      sym (append-nil found) ∙ sym (ap (λ (xs : List CoreStmt). found ++ starts (map (body_of f) xs) xs at out) (drop_all i ss over)) ∙ inv
+      sym (append-nil found) ∙ sym (ap (λ (xs : List CoreStmt). found ++ starts f (map (body_of f) xs) xs at out) (drop_all i ss over)) ∙ inv
 
 -- what is known around the body of a loop
 pub loop_known : (blocks : List ℕ) (labels : List LabelPlace) (n q r d : ℕ) → d ≡ length blocks → q ≡ n + 1 → r ≡ n + 1 + 1 →
@@ -76,20 +77,19 @@ switch_known blocks labels exits n q d ed eq = λ i. record { blocks = blocks; o
 renamed : (c d : Code) (p n : ℕ) → p ≡ n → d ≡ slice_set c p (over (length c - (p + 1))) → d ≡ slice_set c n (over (length c - (n + 1)))
 renamed c d p n e h = h ∙ ap (λ (k : ℕ). slice_set c k (over (length c - (k + 1)))) e
 
-pub loop_at : (c0 c1 c2 c3 c4 c5 c6 c7 c8 c9 c10 : Code) (body : ℕ → Code) (after test : Code) (body_first : Bool) (x y : Symbolic) (p q r top here : ℕ) →
+pub loop_at : (c0 c1 c2 c3 c4 c5 c6 c7 c8 c9 : Code) (body : ℕ → Code) (after : Code) (test : ℕ → ℕ → Code) (body_first : Bool) (x y : Symbolic) (p q r top : ℕ) →
     p ≡ length c0 → c1 ≡ c0 ++ over 2 ∷ [] → q ≡ length c1 → c2 ≡ c1 ++ x ∷ [] → r ≡ length c2 → c3 ≡ c2 ++ y ∷ [] → top ≡ length c3 → c4 ≡ c3 ++ body (length c3) →
     c5 ≡ slice_set c4 r (over (length c4 - (r + 1))) → c6 ≡ c5 ++ after →
     c7 ≡ (if body_first then c6 else slice_set c6 p (over (length c6 - (p + 1)))) →
-    c8 ≡ c7 ++ test → here ≡ length c8 → c9 ≡ c8 ++ jump here top ∷ [] → c10 ≡ slice_set c9 q (over (length c9 - (q + 1))) →
-    c10 ≡ c0 ++ loop (length c0) body_first (body (length c0 + 3)) after test
-loop_at c0 c1 c2 c3 c4 c5 c6 c7 c8 c9 c10 body after test body_first x y p q r top here ep e1 eq e2 er e3 et e4 e5 e6 e7 e8 eh e9 e10 =
-    loop_is c0 c1 c2 c3 c4 c5 c6 c7 c8 c9 c10 body after test body_first x y e1 e2 e3 e4
+    c8 ≡ c7 ++ test (length c7) top → c9 ≡ slice_set c8 q (over (length c8 - (q + 1))) →
+    c9 ≡ c0 ++ loop body_first (body (length c0 + 3)) after (test (length c0 + 3 + length (body (length c0 + 3)) + length after) (length c0 + 3))
+loop_at c0 c1 c2 c3 c4 c5 c6 c7 c8 c9 body after test body_first x y p q r top ep e1 eq e2 er e3 et e4 e5 e6 e7 e8 e9 =
+    loop_is c0 c1 c2 c3 c4 c5 c6 c7 c8 c9 body after test body_first x y e1 e2 e3 e4
     (renamed c4 c5 r (length c2) er e5)
     e6
     (e7 ∙ ap (λ (k : ℕ). if body_first then c6 else slice_set c6 k (over (length c6 - (k + 1)))) ep)
-    e8
-    (e9 ∙ ap (λ (k : ℕ). c8 ++ jump k top ∷ []) eh ∙ ap (λ (k : ℕ). c8 ++ jump (length c8) k ∷ []) et)
-    (renamed c9 c10 q (length c1) eq e10)
+    (e8 ∙ ap (λ (k : ℕ). c7 ++ test (length c7) k) et)
+    (renamed c8 c9 q (length c1) eq e9)
 
 pub switch_at : (c0 value c1 c2 c3 c4 c5 c6 c7 c8 c9 : Code) (body : ℕ → Code) (labels : ℕ → Code) (x y z : Symbolic) (p q r : ℕ) →
     c1 ≡ c0 ++ value → p ≡ length c1 → c2 ≡ c1 ++ x ∷ [] → q ≡ length c2 → c3 ≡ c2 ++ y ∷ [] → c4 ≡ c3 ++ body (length c3) → r ≡ length c4 → c5 ≡ c4 ++ z ∷ [] →

@@ -8,12 +8,12 @@ use Rattle.sc_core.specs.declared.statement.AutoInit.{AutoInit}
 use Rattle.sc_core.specs.declared.statement.AutoInit.TheVariants as piece
 use Rattle.sc_types.specs.declared.ctype.CType.{CType}
 use Rattle.sc_core.specs.declared.expression.CoreExpr.{CoreExpr}
-use Rattle.sc_core.specs.declared.module.Auto.{Auto}
-use Rattle.sc_gen_expr.specs.declared.symbolic.Symbolic.TheVariants.{Plain}
-use Rattle.sc_gen_expr.specs.declared.symbolic.Access.TheVariants as access
-use Rattle.sc_gen_expr.specs.Code.{Code, x0, t1, t2, a0, a1, addi, mv, li, near, copied}
-use Rattle.sc_gen_expr.specs.Operators.{machine_type, store_of}
-use Rattle.sc_gen_expr.specs.Expressions.{expression_code}
+use Rattle.sc_gen_code.specs.declared.symbolic.Symbolic.TheVariants.{Plain}
+use Rattle.sc_gen_code.specs.declared.symbolic.Access.TheVariants as access
+use Rattle.sc_gen_code.specs.Code.{Code, x0, t1, t2, a0, a1, addi, mv, li, near, copied}
+use Rattle.sc_gen_code.specs.Operators.{machine_type, store_of}
+use Rattle.sc_gen_code.specs.Styles.{framed}
+use Rattle.sc_gen_body.specs.Frames.{Frame, value}
 
 -- so many bytes behind a place; offsets are numbers of 32 bits
 abbrev pub place_behind : ℕ → ℕ → ℕ
@@ -31,19 +31,19 @@ zero_bytes at n =
     near at (access.Address t1) ++ (near (place_behind at n) (access.Address t2)
     ++ Plain (Store Sb x0 t1 (pos 0)) ∷ addi t1 t1 (pos 1) ∷ Plain (Branch Bne t1 t2 (negsuc 7)) ∷ [])
 
--- temporaries begin at one offset, the scalar stands at another
-abbrev pub value_piece : List (List Auto) → ℕ → ℕ → CType → CoreExpr → Code
-value_piece slots temp at t e = expression_code slots e temp ++ near at (access.Store (store_of (machine_type t)) a0)
+-- the scalar at an offset takes a value
+abbrev pub value_piece : Frame → ℕ → CType → CoreExpr → Code
+value_piece f at t e = value f e ++ framed f.style (access.Store (store_of (machine_type t)) a0) at
 
 -- the object takes what a structure holds
-abbrev pub structure_piece : List (List Auto) → ℕ → ℕ → ℕ → CoreExpr → Code
-structure_piece slots temp at size e = expression_code slots e temp ++ (mv a1 a0 ∷ near at (access.Address a0) ++ copied size)
+abbrev pub structure_piece : Frame → ℕ → ℕ → CoreExpr → Code
+structure_piece f at size e = value f e ++ (mv a1 a0 ∷ near at (access.Address a0) ++ copied size)
 
-abbrev pub piece_code : List (List Auto) → ℕ → ℕ → AutoInit → Code
-piece_code slots temp at (piece.Value n t e) = value_piece slots temp (place_behind at n) t e
-piece_code slots temp at (piece.Text n bytes) = text_bytes (place_behind at n) bytes
-piece_code slots temp at (piece.Zero n count) = zero_bytes (place_behind at n) count
-piece_code slots temp at (piece.Structure size e) = structure_piece slots temp at size e
+abbrev pub piece_code : Frame → ℕ → AutoInit → Code
+piece_code f at (piece.Value n t e) = value_piece f (place_behind at n) t e
+piece_code f at (piece.Text n bytes) = text_bytes (place_behind at n) bytes
+piece_code f at (piece.Zero n count) = zero_bytes (place_behind at n) count
+piece_code f at (piece.Structure size e) = structure_piece f at size e
 
-abbrev pub pieces_code : List (List Auto) → ℕ → ℕ → List AutoInit → Code
-pieces_code slots temp at ps = flat_map (piece_code slots temp at) ps
+abbrev pub pieces_code : Frame → ℕ → List AutoInit → Code
+pieces_code f at ps = flat_map (piece_code f at) ps

@@ -1,13 +1,13 @@
 -- Machine: the program once more; a theorem ties it to a yardstick (docs/TRUST.md).
 -- Jumps to places of a function's text, which are counted in words from its beginning, and the blocks that are left on the way.
-use Rattle.std.specs.Prelude.{ℕ, ◌+◌, ◌*◌, ◌==◌, ◌&&◌, if◌then◌else◌, nat_lt, List, [], ◌∷◌, ◌++◌, length, slice_get, slice_set, slice_index_or, replicate, Option, Some, None, pos, ◌-ℤ◌}
+use Rattle.std.specs.Prelude.{ℕ, ◌+◌, ◌*◌, ◌==◌, if◌then◌else◌, List, [], ◌∷◌, ◌++◌, length, slice_get, slice_set, slice_index_or, replicate, Option, Some, None, pos}
 use Rattle.std.specs.Option.{option_or}
-use Rattle.sc_isa.specs.declared.instruction.Instr.TheVariants.{Jal, Branch}
+use Rattle.sc_isa.specs.declared.instruction.Instr.TheVariants.{Branch}
 use Rattle.sc_isa.specs.declared.instruction.BranchOp.TheVariants.{Bne}
 use Rattle.sc_core.specs.declared.statement.LabelAt.{LabelAt}
-use Rattle.sc_gen_expr.specs.declared.symbolic.Symbolic.{Symbolic}
-use Rattle.sc_gen_expr.specs.declared.symbolic.Symbolic.TheVariants.{Plain}
-use Rattle.sc_gen_expr.specs.Code.{Code, x0, t1, a0, over, block_service}
+use Rattle.sc_gen_code.specs.declared.symbolic.Symbolic.{Symbolic}
+use Rattle.sc_gen_code.specs.declared.symbolic.Symbolic.TheVariants.{Plain}
+use Rattle.sc_gen_code.specs.Code.{Code, t1, a0, over, jump, block_service}
 use Rattle.sc_gen_body.specs.declared.jumps.Place.{Place}
 use Rattle.sc_gen_body.specs.declared.jumps.LabelPlace.{LabelPlace}
 
@@ -27,10 +27,6 @@ nowhere = record {
   on_continue = record { word = 0; depth = 0 };
   labels = [];
 }
-
--- The jump that stands at one place and goes to another. One out of the reach of any text goes nowhere.
-abbrev pub jump : ℕ → ℕ → Symbolic
-jump from to = Plain (Jal x0 (if nat_lt from 262144 && nat_lt to 262144 then pos (4 * to) -ℤ pos (4 * from) else pos 0))
 
 -- the block's objects are born
 abbrev pub entering : Option ℕ → Code
@@ -98,11 +94,16 @@ abbrev pub with_jumps : Code → ℕ → (ℕ → ℕ) → List LabelAt → Code
 with_jumps code at start [] = code
 with_jumps code at start (l ∷ ls) = with_jumps (slice_set code (at + 1) (jump (at + 1) (start l.at))) (at + 1) start ls
 
+-- the blocks that are open inside one, which has objects or is not entered
+abbrev pub opened : List ℕ → Option ℕ → List ℕ
+opened blocks None = blocks
+opened blocks (Some b) = blocks ++ b ∷ []
+
 -- around the statements of a block, whose labels' jumps begin at a place
-abbrev pub inside : Around → ℕ → List LabelAt → ℕ → Around
+abbrev pub inside : Around → Option ℕ → List LabelAt → ℕ → Around
 inside around b ls at = record around {
-  blocks = around.blocks ++ b ∷ [];
-  labels = around.labels ++ label_places (at + 1) (length around.blocks + 1) ls;
+  blocks = opened around.blocks b;
+  labels = around.labels ++ label_places (at + 1) (length (opened around.blocks b)) ls;
 }
 
 -- around the body of a loop, whose words for `break` and `continue` stand one behind the other

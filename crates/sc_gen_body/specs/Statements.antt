@@ -10,27 +10,17 @@ use Rattle.sc_core.specs.declared.statement.CoreStmt.{CoreStmt, out-CoreStmt, fo
 use Rattle.sc_core.specs.declared.statement.CoreStmt.TheOpen.{CoreStmt-F}
 use Rattle.sc_core.specs.declared.statement.LabelAt.{LabelAt}
 use Rattle.sc_core.specs.declared.statement.SwitchLabel.{SwitchLabel}
-use Rattle.sc_core.specs.declared.module.Auto.{Auto}
-use Rattle.sc_core.specs.declared.module.Fun.{Fun}
-use Rattle.sc_gen_expr.specs.declared.symbolic.Symbolic.TheVariants.{Plain}
-use Rattle.sc_gen_expr.specs.declared.symbolic.Access.TheVariants as access
-use Rattle.sc_gen_expr.specs.Code.{Code, x0, ra, sp, t0, t1, addi, apply, li, near, over, skip_if, skip_unless, service, block_service}
-use Rattle.sc_gen_expr.specs.Expressions.{expression_code, slot_of}
+use Rattle.sc_gen_code.specs.declared.symbolic.Symbolic.TheVariants.{Plain}
+use Rattle.sc_gen_code.specs.declared.symbolic.Access.TheVariants as access
+use Rattle.sc_gen_code.specs.Code.{Code, x0, ra, sp, t0, t1, addi, apply, li, near, over, jump, service, block_service}
+use Rattle.sc_gen_operand.specs.Places.{slot_of}
+use Rattle.sc_gen_expr.specs.Expressions.{test_code, test_back}
+use Rattle.sc_gen_body.specs.Frames.{Frame, entered_in, value}
 use Rattle.sc_gen_body.specs.declared.jumps.Place.{Place}
 use Rattle.sc_gen_body.specs.declared.jumps.Exits.{Exits}
 use Rattle.sc_gen_body.specs.declared.jumps.Text.{Text}
-use Rattle.sc_gen_body.specs.Jumps.{Around, jump, entering, go, go_in, unless_equal, labelled, label_holes, label_place, label_places, label_rows, nowhere, rows, start_of, inside, in_loop, in_switch}
+use Rattle.sc_gen_body.specs.Jumps.{Around, entering, leaving, go, go_in, unless_equal, labelled, label_holes, label_place, label_places, label_rows, nowhere, rows, start_of, inside, in_loop, in_switch}
 use Rattle.sc_gen_body.specs.Initializers.{pieces_code}
-
--- A function's frame, from its low end: the words of arguments past the eighth, temporaries, the slots of its objects, the saved registers.
-pub record Frame : Type 0 where
-  pub slots : List (List Auto)
-  pub temporaries : ℕ
-  pub cost : ℕ
-
--- the frame of a function whose temporaries begin at an offset
-abbrev pub frame : Fun → ℕ → Frame
-frame f temporaries = record { slots = f.blocks; temporaries = temporaries; cost = f.cost }
 
 -- the frame is given back, and the function returns
 abbrev pub epilogue : ℕ → Code
@@ -58,61 +48,73 @@ block_layer _ = None
 abbrev pub block_of : CoreStmt → Option ℕ
 block_of s = block_layer (out-CoreStmt s)
 
+-- the block that a statement enters
+abbrev pub entry_by : Frame → Option ℕ → Option ℕ
+entry_by f None = None
+entry_by f (Some b) = entered_in f b
+
+abbrev pub entry_of : Frame → CoreStmt → Option ℕ
+entry_of f s = entry_by f (block_of s)
+
 -- the whole code of a statement, with the entry of a block
 abbrev pub whole_by : Option ℕ → Body → CoreStmt → ℕ → Around → Code
 whole_by None p s at around = (p s at around).code
 whole_by (Some b) p s at around = block_service 2 b ++ (p s (at + length (block_service 2 b)) around).code
 
-abbrev pub whole : Body → CoreStmt → ℕ → Around → Code
-whole p s at around = whole_by (block_of s) p s at around
+abbrev pub whole : Frame → Body → CoreStmt → ℕ → Around → Code
+whole f p s at around = whole_by (entry_of f s) p s at around
 
 -- statements in order
-abbrev pub items_code : List Body → List CoreStmt → ℕ → Around → Code
-items_code [] ss at around = []
-items_code (p ∷ ps) [] at around = []
-items_code (p ∷ ps) (s ∷ ss) at around = whole p s at around ++ items_code ps ss (at + length (whole p s at around)) around
+abbrev pub items_code : Frame → List Body → List CoreStmt → ℕ → Around → Code
+items_code f [] ss at around = []
+items_code f (p ∷ ps) [] at around = []
+items_code f (p ∷ ps) (s ∷ ss) at around = whole f p s at around ++ items_code f ps ss (at + length (whole f p s at around)) around
 
 -- and where each of them begins
-abbrev pub starts : List Body → List CoreStmt → ℕ → Around → List ℕ
-starts [] ss at around = []
-starts (p ∷ ps) [] at around = []
-starts (p ∷ ps) (s ∷ ss) at around = at ∷ starts ps ss (at + length (whole p s at around)) around
+abbrev pub starts : Frame → List Body → List CoreStmt → ℕ → Around → List ℕ
+starts f [] ss at around = []
+starts f (p ∷ ps) [] at around = []
+starts f (p ∷ ps) (s ∷ ss) at around = at ∷ starts f ps ss (at + length (whole f p s at around)) around
 
 -- { .. }
-abbrev pub block_inner : ℕ → List LabelAt → List Body → List CoreStmt → ℕ → Around → Inner
-block_inner b ls ps ss at around = record {
+abbrev pub block_inner : Frame → ℕ → List LabelAt → List Body → List CoreStmt → ℕ → Around → Inner
+block_inner f b ls ps ss at around = record {
   code =
-      label_rows at (start_of at (starts ps ss (at + rows ls) (inside around b ls at))) ls
-      ++ (items_code ps ss (at + rows ls) (inside around b ls at) ++ block_service 3 b);
-  starts = starts ps ss (at + rows ls) (inside around b ls at);
+      label_rows at (start_of at (starts f ps ss (at + rows ls) (inside around (entered_in f b) ls at))) ls
+      ++ (items_code f ps ss (at + rows ls) (inside around (entered_in f b) ls at) ++ leaving (entered_in f b));
+  starts = starts f ps ss (at + rows ls) (inside around (entered_in f b) ls at);
 }
 
 abbrev pub value_or_none : Frame → Option CoreExpr → Code
 value_or_none f None = []
-value_or_none f (Some e) = expression_code f.slots e f.temporaries
+value_or_none f (Some e) = value f e
 
--- the jump behind it is left out where the value is zero
-abbrev pub test_code : Frame → Option CoreExpr → Code
-test_code f None = []
-test_code f (Some e) = expression_code f.slots e f.temporaries ++ skip_unless ∷ []
+-- a test whose truth leaves out the next word
+abbrev pub test_of : Frame → CoreExpr → Code
+test_of f e = test_code f.style f.slots true e f.temporaries
 
--- Every loop: a jump to its test or to its body, the words of `break` and `continue`, the body, what comes after each turn, the test, and
+-- The jump back to the body of a loop, where its test holds: by the place where the test begins.
+abbrev pub ends_turn : Frame → Option CoreExpr → ℕ → ℕ → Code
+ends_turn f None from top = jump from top ∷ []
+ends_turn f (Some e) from top = test_back f.style f.slots true e f.temporaries top from
+
+-- Every loop: a jump to its test or to its body, the words of `break` and `continue`, the body, what comes after each turn, and the test with
 -- the jump back to the body.
-abbrev pub loop : ℕ → Bool → Code → Code → Code → Code
-loop at body_first body after test =
+abbrev pub loop : Bool → Code → Code → Code → Code
+loop body_first body after test =
     over (2 + (if body_first then 0 else length body + length after))
-    ∷ over (1 + length body + length after + length test + 1)
+    ∷ over (1 + length body + length after + length test)
     ∷ over (length body)
-    ∷ body ++ (after ++ (test ++ jump (at + 3 + length body + length after + length test) (at + 3) ∷ []))
+    ∷ body ++ (after ++ test)
 
 -- the body of a loop that begins at a place
-abbrev pub loop_body : Body → CoreStmt → ℕ → Around → Code
-loop_body p s at around = whole p s (at + 3) (in_loop around (at + 1))
+abbrev pub loop_body : Frame → Body → CoreStmt → ℕ → Around → Code
+loop_body f p s at around = whole f p s (at + 3) (in_loop around (at + 1))
 
 -- if (test) first; if (test) first else other
 abbrev pub choice : Code → Code → Option Code → Code
-choice test first None = test ++ (skip_if ∷ over (length first) ∷ first)
-choice test first (Some other) = test ++ (skip_if ∷ over (length first + 1) ∷ first ++ over (length other) ∷ other)
+choice test first None = test ++ over (length first) ∷ first
+choice test first (Some other) = test ++ over (length first + 1) ∷ first ++ over (length other) ∷ other
 
 -- case v: a comparison, and the entry of the body's block and a jump where it holds
 abbrev pub case_code : Option ℕ → ℕ → ℕ → ℕ → Code
@@ -148,7 +150,7 @@ switch_code value labels block body at =
 -- return; return e;
 abbrev pub returned : Frame → Option CoreExpr → Code
 returned f None = service 6 ++ epilogue f.cost
-returned f (Some e) = expression_code f.slots e f.temporaries ++ (block_service 3 0 ++ epilogue f.cost)
+returned f (Some e) = value f e ++ (block_service 3 0 ++ epilogue f.cost)
 
 -- goto label;
 abbrev pub go_to : List ℕ → ℕ → Option Place → Code
@@ -157,16 +159,13 @@ go_to blocks at (Some place) = go blocks at place
 
 -- if (e) s
 abbrev pub branch_code : Frame → Body → CoreExpr → CoreStmt → ℕ → Around → Code
-branch_code f p e s at around =
-    let test = expression_code f.slots e f.temporaries in
-    choice test (whole p s (at + length test + 2) around) None
+branch_code f p e s at around = choice (test_of f e) (whole f p s (at + length (test_of f e) + 1) around) None
 
 -- if (e) s else r
 abbrev pub choice_code : Frame → Body → Body → CoreExpr → CoreStmt → CoreStmt → ℕ → Around → Code
 choice_code f p q e s r at around =
-    let test = expression_code f.slots e f.temporaries in
-    let first = whole p s (at + length test + 2) around in
-    choice test first (Some (whole q r (at + length test + 2 + length first + 1) around))
+    let first = whole f p s (at + length (test_of f e) + 1) around in
+    choice (test_of f e) first (Some (whole f q r (at + length (test_of f e) + 1 + length first + 1) around))
 
 abbrev pub if_code : Frame → Body → Option Body → CoreExpr → CoreStmt → Option CoreStmt → ℕ → Around → Code
 if_code f p (Some q) e s (Some r) at around = choice_code f p q e s r at around
@@ -174,7 +173,9 @@ if_code f p _ e s _ at around = branch_code f p e s at around
 
 -- a loop with its test, and what comes after each turn
 abbrev pub turns_code : Frame → Body → Bool → Option CoreExpr → Option CoreExpr → CoreStmt → ℕ → Around → Code
-turns_code f p body_first e after s at around = loop at body_first (loop_body p s at around) (value_or_none f after) (test_code f e)
+turns_code f p body_first e after s at around =
+    let body = loop_body f p s at around in
+    loop body_first body (value_or_none f after) (ends_turn f e (at + 3 + length body + length (value_or_none f after)) (at + 3))
 
 -- for (first; e; after) s
 abbrev pub for_code : Frame → Body → Option CoreExpr → Option CoreExpr → Option CoreExpr → CoreStmt → ℕ → Around → Code
@@ -185,23 +186,22 @@ for_code f p first e after s at around =
 -- switch (e) s
 abbrev pub switch_of : Frame → Body → CoreExpr → List SwitchLabel → CoreStmt → ℕ → Around → Code
 switch_of f p e labels s at around =
-    let value = expression_code f.slots e f.temporaries in
-    switch_code value labels (block_of s) (switch_inner value p s at around) at
+    switch_code (value f e) labels (entry_of f s) (switch_inner (value f e) p s at around) at
 
 -- one statement, by the code of the statements inside it
 abbrev pub statement_layer : Frame → CoreStmt-F Body → CoreStmt-F CoreStmt → ℕ → Around → Inner
-statement_layer f (CoreStmt-F.Block _ _ _ ps) (CoreStmt-F.Block l b ls ss) at around = block_inner b ls ps ss at around
-statement_layer f _ (CoreStmt-F.Initialize l b i ps) at around = alone (pieces_code f.slots f.temporaries (slot_of f.slots b i) ps)
+statement_layer f (CoreStmt-F.Block _ _ _ ps) (CoreStmt-F.Block l b ls ss) at around = block_inner f b ls ps ss at around
+statement_layer f _ (CoreStmt-F.Initialize l b i ps) at around = alone (pieces_code f (slot_of f.slots b i) ps)
 statement_layer f _ (CoreStmt-F.Empty l) at around = alone []
-statement_layer f _ (CoreStmt-F.Expression l e) at around = alone (expression_code f.slots e f.temporaries)
+statement_layer f _ (CoreStmt-F.Expression l e) at around = alone (value f e)
 statement_layer f (CoreStmt-F.If _ _ p q) (CoreStmt-F.If l e s other) at around = alone (if_code f p q e s other at around)
 statement_layer f (CoreStmt-F.Switch _ _ _ p) (CoreStmt-F.Switch l e labels s) at around = alone (switch_of f p e labels s at around)
 statement_layer f (CoreStmt-F.While _ _ p) (CoreStmt-F.While l e s) at around = alone (turns_code f p false (Some e) None s at around)
 statement_layer f (CoreStmt-F.Do _ p _ _) (CoreStmt-F.Do l s line e) at around = alone (turns_code f p true (Some e) None s at around)
 statement_layer f (CoreStmt-F.For _ _ _ _ p) (CoreStmt-F.For l first e after s) at around = alone (for_code f p first e after s at around)
-statement_layer f (CoreStmt-F.Case _ p) (CoreStmt-F.Case l s) at around = alone (whole p s at around)
-statement_layer f (CoreStmt-F.Default _ p) (CoreStmt-F.Default l s) at around = alone (whole p s at around)
-statement_layer f (CoreStmt-F.Label _ p) (CoreStmt-F.Label l s) at around = alone (whole p s at around)
+statement_layer f (CoreStmt-F.Case _ p) (CoreStmt-F.Case l s) at around = alone (whole f p s at around)
+statement_layer f (CoreStmt-F.Default _ p) (CoreStmt-F.Default l s) at around = alone (whole f p s at around)
+statement_layer f (CoreStmt-F.Label _ p) (CoreStmt-F.Label l s) at around = alone (whole f p s at around)
 statement_layer f _ (CoreStmt-F.Goto l k) at around = alone (go_to around.blocks at (labelled k around.labels))
 statement_layer f _ (CoreStmt-F.Continue l) at around = alone (go around.blocks at around.on_continue)
 statement_layer f _ (CoreStmt-F.Break l) at around = alone (go around.blocks at around.on_break)
@@ -213,7 +213,7 @@ body_of f = fold-CoreStmt Body (λ p s. statement_layer f p (out-CoreStmt s))
 
 -- the code of a statement in a frame
 abbrev pub statement_code : Frame → CoreStmt → ℕ → Around → Code
-statement_code f s at around = whole (body_of f s) s at around
+statement_code f s at around = whole f (body_of f s) s at around
 
 -- what is known at the end of a text so far
 abbrev pub around : Text → Exits → Around
@@ -239,12 +239,12 @@ Enters inner old new found = Lists inner.code inner.starts old new found
 
 -- the test of an `if`, and its first statement behind a jump that is written later
 abbrev pub tested : Code → Code → Code
-tested test first = test ++ (skip_if ∷ over 0 ∷ first)
+tested test first = test ++ over 0 ∷ first
 
 -- a text with them, and the place of this jump
 pub record Tests (f : Frame) (p : Body) (e : CoreExpr) (s : CoreStmt) (out : Around) (old new : Text) (place : ℕ) : Type 0 where
-  pub added : Adds (tested (expression_code f.slots e f.temporaries) (whole p s (length old.code + length (expression_code f.slots e f.temporaries) + 2) out)) old new
-  pub place_is : place ≡ length old.code + length (expression_code f.slots e f.temporaries) + 1
+  pub added : Adds (tested (test_of f e) (whole f p s (length old.code + length (test_of f e) + 1) out)) old new
+  pub place_is : place ≡ length old.code + length (test_of f e)
 
 -- a text with the word of one label, whose place is known
 pub record OpensOne (l : LabelAt) (depth : ℕ) (old new : Text) : Type 0 where

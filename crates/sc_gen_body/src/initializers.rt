@@ -1,13 +1,16 @@
 // The code of an automatic object's initialiser (ANSI 3.5.7).
 ghost use Rattle.std.specs.Prelude.{◌≡◌, ◌+◌, [], ◌∷◌, ◌++◌, OnOk};
+ghost use Rattle.sc_gen_body.specs.Frames.{frame_of};
 ghost use Rattle.sc_gen_body.specs.Initializers as spec;
 
-use sc_base::{Items, NoMemory, Shared};
-use sc_core::{Auto, AutoInit, CoreExpr};
-use sc_gen_expr::{
-    A0, A1, Access, Symbolic, T1, T2, X0, addi, copied, expression, li, machine_type, near, put,
+use crate::frame::FunctionFrame;
+use sc_base::{Items, NoMemory};
+use sc_core::{AutoInit, CoreExpr};
+use sc_gen_code::{
+    A0, A1, Access, Symbolic, T1, T2, X0, addi, copied, framed, li, machine_type, near, put,
     put_one, store_of,
 };
+use sc_gen_expr::expression;
 use sc_isa::{BranchOp, Instr, StoreOp};
 use sc_types::CType;
 use std::alloc::Global;
@@ -50,31 +53,34 @@ fn zero_bytes(code: &mut Items<Symbolic>, at: u32, count: u32) -> Result<(), NoM
 
 fn value_piece(
     alloc: Global,
-    slots: &[Items<Auto>],
-    temporaries: u32,
+    frame: &FunctionFrame,
     at: u32,
     of: &CType,
     e: &CoreExpr,
     code: &mut Items<Symbolic>,
 ) -> Result<(), NoMemory>
-    ensures { OnOk result (code.new ≡ code.old ++ spec.value_piece slots.now temporaries at of.now e.now) }
+    ensures { OnOk result (code.new ≡ code.old ++ spec.value_piece (frame_of frame.now) at of.now e.now) }
 {
-    expression(alloc, slots, e, temporaries, code)?;
-    near(code, at, Access::Store(store_of(machine_type(of)), A0))
+    expression(alloc, &frame.scope, e, frame.temporaries, code)?;
+    framed(
+        code,
+        frame.scope.style,
+        Access::Store(store_of(machine_type(of)), A0),
+        at,
+    )
 }
 
 fn structure_piece(
     alloc: Global,
-    slots: &[Items<Auto>],
-    temporaries: u32,
+    frame: &FunctionFrame,
     at: u32,
     size: u32,
     e: &CoreExpr,
     code: &mut Items<Symbolic>,
 ) -> Result<(), NoMemory>
-    ensures { OnOk result (code.new ≡ code.old ++ spec.structure_piece slots.now temporaries at size e.now) }
+    ensures { OnOk result (code.new ≡ code.old ++ spec.structure_piece (frame_of frame.now) at size e.now) }
 {
-    expression(alloc, slots, e, temporaries, code)?;
+    expression(alloc, &frame.scope, e, frame.temporaries, code)?;
     put_one(code, addi(A1, A0, 0))?;
     near(code, at, Access::Address(A0))?;
     copied(code, size)
@@ -82,47 +88,35 @@ fn structure_piece(
 
 fn piece(
     alloc: Global,
-    slots: &[Items<Auto>],
-    temporaries: u32,
+    frame: &FunctionFrame,
     at: u32,
     p: &AutoInit,
     code: &mut Items<Symbolic>,
 ) -> Result<(), NoMemory>
-    ensures { OnOk result (code.new ≡ code.old ++ spec.piece_code slots.now temporaries at p.now) }
+    ensures { OnOk result (code.new ≡ code.old ++ spec.piece_code (frame_of frame.now) at p.now) }
 {
     match p {
         AutoInit::Value(n, of, e) => {
-            value_piece(
-                alloc,
-                slots,
-                temporaries,
-                place_behind(at, *n),
-                of,
-                e.get(),
-                code,
-            )
+            value_piece(alloc, frame, place_behind(at, *n), of, e.get(), code)
         }
         AutoInit::Text(n, bytes) => text_bytes(code, place_behind(at, *n), bytes.as_slice()),
         AutoInit::Zero(n, count) => zero_bytes(code, place_behind(at, *n), *count),
-        AutoInit::Structure(size, e) => {
-            structure_piece(alloc, slots, temporaries, at, *size, e.get(), code)
-        }
+        AutoInit::Structure(size, e) => { structure_piece(alloc, frame, at, *size, e.get(), code) }
     }
 }
 
 /// The pieces of the initialiser of an object that stands at an offset, in order.
 pub fn pieces(
     alloc: Global,
-    slots: &[Items<Auto>],
-    temporaries: u32,
+    frame: &FunctionFrame,
     at: u32,
     all: &[AutoInit],
     code: &mut Items<Symbolic>,
 ) -> Result<(), NoMemory>
-    ensures { OnOk result (code.new ≡ code.old ++ spec.pieces_code slots.now temporaries at all.now) }
+    ensures { OnOk result (code.new ≡ code.old ++ spec.pieces_code (frame_of frame.now) at all.now) }
 {
     for p in all {
-        piece(alloc, slots, temporaries, at, p, code)?;
+        piece(alloc, frame, at, p, code)?;
     }
     Ok(())
 }

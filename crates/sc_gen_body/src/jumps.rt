@@ -1,11 +1,11 @@
 // Jumps to places of a function's text, and the blocks that are left on the way (ANSI 3.6.6).
 ghost use Rattle.std.specs.Prelude.{◌≡◌, ◌+◌, ◌*◌, ◌≤◌, ◌<◌, [], ◌∷◌, ◌++◌, length, map, slice_get, take, None, Some, OnOk, OnErr, pos};
 ghost use Rattle.sc_gen_body.specs.Jumps as spec;
-ghost use Rattle.sc_gen_expr.specs.declared.symbolic.Symbolic.TheVariants.{Plain};
+ghost use Rattle.sc_gen_code.specs.declared.symbolic.Symbolic.TheVariants.{Plain};
 
 use sc_base::{Items, NoMemory};
 use sc_core::LabelAt;
-use sc_gen_expr::{A0, Symbolic, T1, X0, block_service, li, over, put, put_one};
+use sc_gen_code::{A0, Symbolic, T1, block_service, jump, put_one};
 use sc_isa::{BranchOp, Instr};
 
 /// A place of a function's text to which jumps go: its words from the text's beginning, and how many blocks are open there.
@@ -37,17 +37,6 @@ pub struct Text {
     pub labels: Items<LabelPlace>,
 }
 
-/// The jump that stands at one place and goes to another.
-pub fn jump(from: usize, to: usize) -> Instr
-    ensures { Plain result ≡ spec.jump from to }
-{
-    if from < 262144 && to < 262144 {
-        Instr::Jal(X0, 4 * to as i32 - 4 * from as i32)
-    } else {
-        Instr::Jal(X0, 0)
-    }
-}
-
 /// A block's objects are born.
 pub fn entering(code: &mut Items<Symbolic>, block: Option<u32>) -> Result<(), NoMemory>
     ensures { OnOk result (code.new ≡ code.old ++ spec.entering block) }
@@ -58,11 +47,22 @@ pub fn entering(code: &mut Items<Symbolic>, block: Option<u32>) -> Result<(), No
     }
 }
 
-fn leaving(code: &mut Items<Symbolic>, block: Option<u32>) -> Result<(), NoMemory>
+/// The block's objects die, and those of all blocks open inside it.
+pub fn leaving(code: &mut Items<Symbolic>, block: Option<u32>) -> Result<(), NoMemory>
     ensures { OnOk result (code.new ≡ code.old ++ spec.leaving block) }
 {
     match block {
         Some(number) => block_service(code, 3, number),
+        None => Ok(()),
+    }
+}
+
+/// A block is open, where it is entered.
+pub fn open_block(blocks: &mut Items<u32>, block: Option<u32>) -> Result<(), NoMemory>
+    ensures { OnOk result (blocks.new ≡ spec.opened blocks.old block) }
+{
+    match block {
+        Some(number) => blocks.push(number),
         None => Ok(()),
     }
 }

@@ -1,19 +1,24 @@
 // The code of statements (ANSI 3.6).
 ghost use Rattle.std.specs.Prelude.{◌≡◌, ◌<◌, ◌≤◌, ◌+◌, ◌-◌, [], ◌∷◌, ◌++◌, length, map, take, slice_set, if◌then◌else◌, option_map, OnOk, IfOk};
-ghost use Rattle.sc_gen_expr.specs.Code as words;
+ghost use Rattle.sc_gen_code.specs.Code as words;
+ghost use Rattle.sc_gen_body.specs.Frames.{frame_of};
 ghost use Rattle.sc_gen_body.specs.Jumps as jumps;
 ghost use Rattle.sc_gen_body.specs.Statements as spec;
 
+use crate::frame::FunctionFrame;
 use crate::initializers::pieces;
 use crate::jumps::{
-    Exits, LabelPlace, Place, Text, entering, go, go_in, jump, labelled, start_of, unless_equal,
+    Exits, LabelPlace, Place, Text, entering, go, go_in, labelled, leaving, open_block, start_of,
+    unless_equal,
 };
 use sc_base::{Items, NoMemory, Shared};
-use sc_core::{CoreExpr, CoreStmt, Fun, LabelAt, SwitchLabel};
-use sc_gen_expr::{
-    Access, RA, SP, Symbolic, T0, T1, X0, addi, block_service, close, expression, li, near, open,
-    over, put, put_one, reopen, service, skip_if, skip_unless, slot_of,
+use sc_core::{CoreExpr, CoreStmt, LabelAt, SwitchLabel};
+use sc_gen_code::{
+    Access, RA, SP, Symbolic, T0, T1, X0, addi, block_service, close, entered, hole, jump, li,
+    near, over, put, put_one, reopen, service,
 };
+use sc_gen_expr::{expression, test, test_back};
+use sc_gen_operand::slot_of;
 use sc_isa::{Instr, LoadOp, RegOp};
 use std::alloc::Global;
 
@@ -34,54 +39,53 @@ pub fn epilogue(code: &mut Items<Symbolic>, cost: u32) -> Result<(), NoMemory>
 
 fn value_or_none(
     alloc: Global,
-    f: &Fun,
-    temporaries: u32,
+    frame: &FunctionFrame,
     e: Option<&CoreExpr>,
     code: &mut Items<Symbolic>,
 ) -> Result<(), NoMemory>
-    ensures { OnOk result (code.new ≡ code.old ++ spec.value_or_none (spec.frame f.now temporaries) (option_map (λ e. e.now) e.entry)) }
+    ensures { OnOk result (code.new ≡ code.old ++ spec.value_or_none (frame_of frame.now) (option_map (λ e. e.now) e.entry)) }
 {
     match e {
-        Some(e) => expression(alloc, f.blocks.as_slice(), e, temporaries, code),
+        Some(e) => expression(alloc, &frame.scope, e, frame.temporaries, code),
         None => Ok(()),
     }
 }
 
-fn test(
+// The jump back to the body of a loop, where its test holds.
+fn ends_turn(
     alloc: Global,
-    f: &Fun,
-    temporaries: u32,
+    frame: &FunctionFrame,
     e: Option<&CoreExpr>,
+    top: usize,
     code: &mut Items<Symbolic>,
 ) -> Result<(), NoMemory>
-    ensures { OnOk result (code.new ≡ code.old ++ spec.test_code (spec.frame f.now temporaries) (option_map (λ e. e.now) e.entry)) }
+    ensures { OnOk result (code.new ≡ code.old ++ spec.ends_turn (frame_of frame.now) (option_map (λ e. e.now) e.entry) (length code.old) top) }
 {
     match e {
-        Some(e) => {
-            expression(alloc, f.blocks.as_slice(), e, temporaries, code)?;
-            put_one(code, skip_unless())
+        Some(e) => test_back(alloc, &frame.scope, true, e, frame.temporaries, top, code),
+        None => {
+            let here = code.len();
+            put_one(code, jump(here, top))
         }
-        None => Ok(()),
     }
 }
 
 fn returned(
     alloc: Global,
-    f: &Fun,
-    temporaries: u32,
+    frame: &FunctionFrame,
     e: &Option<Shared<CoreExpr>>,
     code: &mut Items<Symbolic>,
 ) -> Result<(), NoMemory>
-    ensures { OnOk result (code.new ≡ code.old ++ spec.returned (spec.frame f.now temporaries) e.now) }
+    ensures { OnOk result (code.new ≡ code.old ++ spec.returned (frame_of frame.now) e.now) }
 {
     match e {
         Some(e) => {
-            expression(alloc, f.blocks.as_slice(), e.get(), temporaries, code)?;
+            expression(alloc, &frame.scope, e.get(), frame.temporaries, code)?;
             block_service(code, 3, 0)?;
         }
         None => service(code, 6)?,
     }
-    epilogue(code, f.cost)
+    epilogue(code, frame.cost)
 }
 
 fn goes_to(text: &mut Text, label: u32) -> Result<(), NoMemory>
@@ -126,25 +130,35 @@ pub fn block_of(s: &CoreStmt) -> Option<u32>
     }
 }
 
-/// The code of a statement of a function whose temporaries begin at an offset of the frame.
+fn entry_of(frame: &FunctionFrame, s: &CoreStmt) -> Option<u32>
+    ensures { result ≡ spec.entry_of (frame_of frame.now) s.now }
+{
+    match block_of(s) {
+        Some(number) => entered(frame.scope.style, frame.scope.slots, number),
+        None => None,
+    }
+}
+
+/// The code of a statement of a function.
 #[cycle(statement)]
 pub fn statement(
     alloc: Global,
-    f: &Fun,
-    temporaries: u32,
+    frame: &FunctionFrame,
     s: &CoreStmt,
     exits: Exits,
     text: &mut Text,
 ) -> Result<(), NoMemory>
-    ensures { OnOk result (spec.Adds (spec.statement_code (spec.frame f.now temporaries) s.now (length text.old.code) (spec.around text.old exits)) text.old text.new) }
+    ensures { OnOk result (spec.Adds (spec.statement_code (frame_of frame.now) s.now (length text.old.code) (spec.around text.old exits)) text.old text.new) }
 {
     match s {
         CoreStmt::Block(_, number, labels, items) => {
-            entering(&mut text.code, Some(*number))?;
+            entering(
+                &mut text.code,
+                entered(frame.scope.style, frame.scope.slots, *number),
+            )?;
             block(
                 alloc,
-                f,
-                temporaries,
+                frame,
                 *number,
                 labels.as_slice(),
                 items.as_slice(),
@@ -154,37 +168,29 @@ pub fn statement(
             Ok(())
         }
         CoreStmt::Initialize(_, block, n, all) => {
-            let slots = f.blocks.as_slice();
-            let at = slot_of(slots, *block, *n);
-            pieces(
-                alloc,
-                slots,
-                temporaries,
-                at,
-                all.as_slice(),
-                &mut text.code,
-            )
+            let at = slot_of(frame.scope.slots, *block, *n);
+            pieces(alloc, frame, at, all.as_slice(), &mut text.code)
         }
         CoreStmt::Empty(_) => Ok(()),
         CoreStmt::Expression(_, e) => {
             expression(
                 alloc,
-                f.blocks.as_slice(),
+                &frame.scope,
                 e.get(),
-                temporaries,
+                frame.temporaries,
                 &mut text.code,
             )
         }
         CoreStmt::If(_, e, first, other) => match other {
             None => {
-                let end = tested(alloc, f, temporaries, first.get(), e.get(), exits, text)?;
+                let end = tested(alloc, frame, first.get(), e.get(), exits, text)?;
                 close(&mut text.code, end);
                 Ok(())
             }
             Some(other) => {
-                let skipped = tested(alloc, f, temporaries, first.get(), e.get(), exits, text)?;
+                let skipped = tested(alloc, frame, first.get(), e.get(), exits, text)?;
                 let end = reopen(&mut text.code, skipped)?;
-                statement(alloc, f, temporaries, other.get(), exits, text)?;
+                statement(alloc, frame, other.get(), exits, text)?;
                 close(&mut text.code, end);
                 Ok(())
             }
@@ -192,8 +198,7 @@ pub fn statement(
         CoreStmt::Switch(_, e, labels, body) => {
             switch(
                 alloc,
-                f,
-                temporaries,
+                frame,
                 body.get(),
                 e.get(),
                 labels.as_slice(),
@@ -202,35 +207,16 @@ pub fn statement(
             )
         }
         CoreStmt::While(_, e, body) => {
-            turns(
-                alloc,
-                f,
-                temporaries,
-                body.get(),
-                false,
-                Some(e.get()),
-                None,
-                text,
-            )
+            turns(alloc, frame, body.get(), false, Some(e.get()), None, text)
         }
         CoreStmt::Do(_, body, _, e) => {
-            turns(
-                alloc,
-                f,
-                temporaries,
-                body.get(),
-                true,
-                Some(e.get()),
-                None,
-                text,
-            )
+            turns(alloc, frame, body.get(), true, Some(e.get()), None, text)
         }
         CoreStmt::For(_, before, e, after, body) => {
-            value_or_none(alloc, f, temporaries, optional(before), &mut text.code)?;
+            value_or_none(alloc, frame, optional(before), &mut text.code)?;
             turns(
                 alloc,
-                f,
-                temporaries,
+                frame,
                 body.get(),
                 false,
                 optional(e),
@@ -238,13 +224,13 @@ pub fn statement(
                 text,
             )
         }
-        CoreStmt::Case(_, s) => statement(alloc, f, temporaries, s.get(), exits, text),
-        CoreStmt::Default(_, s) => statement(alloc, f, temporaries, s.get(), exits, text),
-        CoreStmt::Label(_, s) => statement(alloc, f, temporaries, s.get(), exits, text),
+        CoreStmt::Case(_, s) => statement(alloc, frame, s.get(), exits, text),
+        CoreStmt::Default(_, s) => statement(alloc, frame, s.get(), exits, text),
+        CoreStmt::Label(_, s) => statement(alloc, frame, s.get(), exits, text),
         CoreStmt::Goto(_, label) => goes_to(text, *label),
         CoreStmt::Continue(_) => go(&mut text.code, text.blocks.as_slice(), exits.on_continue),
         CoreStmt::Break(_) => go(&mut text.code, text.blocks.as_slice(), exits.on_break),
-        CoreStmt::Return(_, e) => returned(alloc, f, temporaries, e, &mut text.code),
+        CoreStmt::Return(_, e) => returned(alloc, frame, e, &mut text.code),
     }
 }
 
@@ -252,18 +238,17 @@ pub fn statement(
 #[cycle(statement)]
 fn items_from(
     alloc: Global,
-    f: &Fun,
-    temporaries: u32,
+    frame: &FunctionFrame,
     items: &[Shared<CoreStmt>],
     exits: Exits,
     text: &mut Text,
 ) -> Result<Items<usize>, NoMemory>
-    ensures { IfOk result (λ found. spec.Lists (spec.items_code (map (spec.body_of (spec.frame f.now temporaries)) items.now) items.now (length text.old.code) (spec.around text.old exits)) (spec.starts (map (spec.body_of (spec.frame f.now temporaries)) items.now) items.now (length text.old.code) (spec.around text.old exits)) text.old text.new found) }
+    ensures { IfOk result (λ found. spec.Lists (spec.items_code (frame_of frame.now) (map (spec.body_of (frame_of frame.now)) items.now) items.now (length text.old.code) (spec.around text.old exits)) (spec.starts (frame_of frame.now) (map (spec.body_of (frame_of frame.now)) items.now) items.now (length text.old.code) (spec.around text.old exits)) text.old text.new found) }
 {
     let mut starts = Items::new(alloc);
     for s in items {
         starts.push(text.code.len())?;
-        statement(alloc, f, temporaries, s.get(), exits, text)?;
+        statement(alloc, frame, s.get(), exits, text)?;
     }
     Ok(starts)
 }
@@ -329,26 +314,26 @@ fn set_labels(code: &mut Items<Symbolic>, first: usize, labels: &[LabelAt], star
 #[cycle(statement)]
 fn block(
     alloc: Global,
-    f: &Fun,
-    temporaries: u32,
+    frame: &FunctionFrame,
     number: u32,
     labels: &[LabelAt],
     items: &[Shared<CoreStmt>],
     exits: Exits,
     text: &mut Text,
 ) -> Result<Items<usize>, NoMemory>
-    ensures { IfOk result (λ found. spec.Enters (spec.block_inner number labels.now (map (spec.body_of (spec.frame f.now temporaries)) items.now) items.now (length text.old.code) (spec.around text.old exits)) text.old text.new found) }
+    ensures { IfOk result (λ found. spec.Enters (spec.block_inner (frame_of frame.now) number labels.now (map (spec.body_of (frame_of frame.now)) items.now) items.now (length text.old.code) (spec.around text.old exits)) text.old text.new found) }
 {
     let first = text.code.len();
     let depth = text.blocks.len();
     let outer = text.labels.len();
-    text.blocks.push(number)?;
+    let own = entered(frame.scope.style, frame.scope.slots, number);
+    open_block(&mut text.blocks, own)?;
     open_labels(labels, text)?;
-    let starts = items_from(alloc, f, temporaries, items, exits, text)?;
+    let starts = items_from(alloc, frame, items, exits, text)?;
     set_labels(&mut text.code, first, labels, starts.as_slice());
     text.blocks.truncate(depth);
     text.labels.truncate(outer);
-    block_service(&mut text.code, 3, number)?;
+    leaving(&mut text.code, own)?;
     Ok(starts)
 }
 
@@ -356,18 +341,24 @@ fn block(
 #[cycle(statement)]
 fn tested(
     alloc: Global,
-    f: &Fun,
-    temporaries: u32,
+    frame: &FunctionFrame,
     first: &CoreStmt,
     e: &CoreExpr,
     exits: Exits,
     text: &mut Text,
 ) -> Result<usize, NoMemory>
-    ensures { IfOk result (λ place. spec.Tests (spec.frame f.now temporaries) (spec.body_of (spec.frame f.now temporaries) first.now) e.now first.now (spec.around text.old exits) text.old text.new place) }
+    ensures { IfOk result (λ place. spec.Tests (frame_of frame.now) (spec.body_of (frame_of frame.now) first.now) e.now first.now (spec.around text.old exits) text.old text.new place) }
 {
-    expression(alloc, f.blocks.as_slice(), e, temporaries, &mut text.code)?;
-    let place = open(&mut text.code, skip_if())?;
-    statement(alloc, f, temporaries, first, exits, text)?;
+    test(
+        alloc,
+        &frame.scope,
+        true,
+        e,
+        frame.temporaries,
+        &mut text.code,
+    )?;
+    let place = hole(&mut text.code)?;
+    statement(alloc, frame, first, exits, text)?;
     Ok(place)
 }
 
@@ -384,15 +375,14 @@ fn close_unless(code: &mut Items<Symbolic>, body_first: bool, place: usize)
 #[cycle(statement)]
 fn turns(
     alloc: Global,
-    f: &Fun,
-    temporaries: u32,
+    frame: &FunctionFrame,
     body: &CoreStmt,
     body_first: bool,
     e: Option<&CoreExpr>,
     after: Option<&CoreExpr>,
     text: &mut Text,
 ) -> Result<(), NoMemory>
-    ensures { OnOk result (spec.Adds (spec.turns_code (spec.frame f.now temporaries) (spec.body_of (spec.frame f.now temporaries) body.now) body_first (option_map (λ e. e.now) e.entry) (option_map (λ e. e.now) after.entry) body.now (length text.old.code) (spec.loop_around text.old)) text.old text.new) }
+    ensures { OnOk result (spec.Adds (spec.turns_code (frame_of frame.now) (spec.body_of (frame_of frame.now) body.now) body_first (option_map (λ e. e.now) e.entry) (option_map (λ e. e.now) after.entry) body.now (length text.old.code) (spec.loop_around text.old)) text.old text.new) }
 {
     let depth = text.blocks.len();
     let start = text.code.len();
@@ -412,13 +402,11 @@ fn turns(
             depth,
         },
     };
-    statement(alloc, f, temporaries, body, own, text)?;
+    statement(alloc, frame, body, own, text)?;
     close(&mut text.code, on_continue);
-    value_or_none(alloc, f, temporaries, after, &mut text.code)?;
+    value_or_none(alloc, frame, after, &mut text.code)?;
     close_unless(&mut text.code, body_first, start);
-    test(alloc, f, temporaries, e, &mut text.code)?;
-    let here = text.code.len();
-    put_one(&mut text.code, jump(here, top))?;
+    ends_turn(alloc, frame, e, top, &mut text.code)?;
     close(&mut text.code, on_break);
     Ok(())
 }
@@ -427,20 +415,18 @@ fn turns(
 #[cycle(statement)]
 fn inner(
     alloc: Global,
-    f: &Fun,
-    temporaries: u32,
+    frame: &FunctionFrame,
     s: &CoreStmt,
     exits: Exits,
     text: &mut Text,
 ) -> Result<Items<usize>, NoMemory>
-    ensures { IfOk result (λ found. spec.Enters (spec.body_of (spec.frame f.now temporaries) s.now s.now (length text.old.code) (spec.around text.old exits)) text.old text.new found) }
+    ensures { IfOk result (λ found. spec.Enters (spec.body_of (frame_of frame.now) s.now s.now (length text.old.code) (spec.around text.old exits)) text.old text.new found) }
 {
     match s {
         CoreStmt::Block(_, number, labels, items) => {
             block(
                 alloc,
-                f,
-                temporaries,
+                frame,
                 *number,
                 labels.as_slice(),
                 items.as_slice(),
@@ -449,7 +435,7 @@ fn inner(
             )
         }
         _ => {
-            statement(alloc, f, temporaries, s, exits, text)?;
+            statement(alloc, frame, s, exits, text)?;
             Ok(Items::new(alloc))
         }
     }
@@ -459,17 +445,16 @@ fn inner(
 #[cycle(statement)]
 fn switch(
     alloc: Global,
-    f: &Fun,
-    temporaries: u32,
+    frame: &FunctionFrame,
     body: &CoreStmt,
     e: &CoreExpr,
     labels: &[SwitchLabel],
     exits: Exits,
     text: &mut Text,
 ) -> Result<(), NoMemory>
-    ensures { OnOk result (spec.Adds (spec.switch_of (spec.frame f.now temporaries) (spec.body_of (spec.frame f.now temporaries) body.now) e.now labels.now body.now (length text.old.code) (spec.around text.old exits)) text.old text.new) }
+    ensures { OnOk result (spec.Adds (spec.switch_of (frame_of frame.now) (spec.body_of (frame_of frame.now) body.now) e.now labels.now body.now (length text.old.code) (spec.around text.old exits)) text.old text.new) }
 {
-    expression(alloc, f.blocks.as_slice(), e, temporaries, &mut text.code)?;
+    expression(alloc, &frame.scope, e, frame.temporaries, &mut text.code)?;
     let depth = text.blocks.len();
     let to_labels = text.code.len();
     put_one(&mut text.code, over(0))?;
@@ -483,17 +468,12 @@ fn switch(
         on_continue: exits.on_continue,
     };
     let top = text.code.len();
-    let starts = inner(alloc, f, temporaries, body, own, text)?;
+    let starts = inner(alloc, frame, body, own, text)?;
     let to_end = text.code.len();
     put_one(&mut text.code, over(0))?;
     close(&mut text.code, to_labels);
-    cases(
-        &mut text.code,
-        block_of(body),
-        top,
-        starts.as_slice(),
-        labels,
-    )?;
+    let entry = entry_of(frame, body);
+    cases(&mut text.code, entry, top, starts.as_slice(), labels)?;
     close(&mut text.code, to_end);
     close(&mut text.code, on_break);
     Ok(())

@@ -5,10 +5,10 @@ use Rattle.std.proofs.lemmas.List.Sums.{fold-append}
 use Rattle.std.proofs.lemmas.Grind.{flat_map-append}
 use Rattle.sc_object.specs.declared.object.Reloc.{Reloc}
 use Rattle.sc_gen_expr.specs.declared.emit.Emit.{Emit}
-use Rattle.sc_gen_expr.specs.declared.symbolic.Symbolic.{Symbolic}
-use Rattle.sc_gen_expr.specs.declared.symbolic.Symbolic.TheVariants.{Plain, Upper, Lower, Call}
-use Rattle.sc_gen_expr.specs.declared.symbolic.Target.{Target}
-use Rattle.sc_gen_expr.specs.Code.{Code}
+use Rattle.sc_gen_code.specs.declared.symbolic.Symbolic.{Symbolic}
+use Rattle.sc_gen_code.specs.declared.symbolic.Symbolic.TheVariants.{Plain, Upper, Lower, Call}
+use Rattle.sc_gen_code.specs.declared.symbolic.Target.{Target}
+use Rattle.sc_gen_code.specs.Code.{Code}
 use Rattle.sc_gen_expr.specs.Words.{words, symbolic_word, word_target, targets, mention, mention_all, relocation, relocs_of, relocs, number_of, fitted}
 use Rattle.sc_gen_expr.specs.Emitted.{Appends, Relocates, target_of}
 use Rattle.sc_gen_expr.proofs.Mentions.{Known, known-all, relocs-kept, number-own}
@@ -28,7 +28,7 @@ relocs-append known section at (x ∷ xs) ys =
 named-is : (x : Symbolic) → target_of (relocation x) ≡ targets (x ∷ [])
 named-is (Plain i) = refl
 named-is (Upper t) = refl
-named-is (Lower t) = refl
+named-is (Lower w t) = refl
 named-is (Call t) = refl
 
 -- so the relocations of what stands before it stay
@@ -36,7 +36,7 @@ kept-behind : (known : List Target) (x : Symbolic) (section at : ℕ) (code : Co
     relocs (mention_all known (targets (x ∷ []))) section at code ≡ relocs known section at code
 kept-behind known (Plain i) section at code k = refl
 kept-behind known (Upper t) section at code k = relocs-kept known t section at code k
-kept-behind known (Lower t) section at code k = relocs-kept known t section at code k
+kept-behind known (Lower w t) section at code k = relocs-kept known t section at code k
 kept-behind known (Call t) section at code k = relocs-kept known t section at code k
 
 -- one word

@@ -1,5 +1,4 @@
 pub mod Patches
-pub mod Arguments
 pub mod Waiting
 pub mod Mentions
 pub mod Appended

@@ -5,12 +5,12 @@ use Rattle.std.specs.Option.{option_eq}
 use Rattle.std.specs.Str.{bytes_eq}
 use Rattle.std.proofs.lemmas.List.Folds.{list_any-append}
 use Rattle.std.proofs.lemmas.Slice.Eq.{bytes_eq-Decides}
-use Rattle.sc_gen_expr.specs.declared.symbolic.Target.{Target}
-use Rattle.sc_gen_expr.specs.declared.symbolic.Target.TheVariants.{Named, Literal}
+use Rattle.sc_gen_code.specs.declared.symbolic.Target.{Target}
+use Rattle.sc_gen_code.specs.declared.symbolic.Target.TheVariants.{Named, Literal}
 use Rattle.sc_object.specs.declared.object.Reloc.{Reloc}
-use Rattle.sc_gen_expr.specs.declared.symbolic.Symbolic.TheVariants.{Plain, Upper, Lower, Call}
-use Rattle.sc_gen_expr.specs.Code.{Code}
-use Rattle.sc_gen_expr.specs.Words.{target_eq, mention, mention_all, number_of, fitted, targets, relocs}
+use Rattle.sc_gen_code.specs.declared.symbolic.Symbolic.TheVariants.{Plain, Upper, Lower, Call}
+use Rattle.sc_gen_code.specs.Code.{Code}
+use Rattle.sc_gen_expr.specs.Words.{lower_kind, target_eq, mention, mention_all, number_of, fitted, targets, relocs}
 
 -- a target that is among some is among more
 pub any-more : (t : Target) (xs ys : List Target) → list_any (target_eq t) xs ≡ true → list_any (target_eq t) (xs ++ ys) ≡ true
@@ -113,5 +113,5 @@ pub relocs-kept : (known : List Target) (t : Target) (section at : ℕ) (code : 
 relocs-kept known t section at [] k = refl
 relocs-kept known t section at (Plain i ∷ xs) k = relocs-kept known t section (at + 4) xs k
 relocs-kept known t section at (Upper u ∷ xs) k = two section 26 at _ _ _ _ (number-kept known t u k.0) (relocs-kept known t section (at + 4) xs k.1)
-relocs-kept known t section at (Lower u ∷ xs) k = two section 27 at _ _ _ _ (number-kept known t u k.0) (relocs-kept known t section (at + 4) xs k.1)
+relocs-kept known t section at (Lower w u ∷ xs) k = two section (lower_kind w) at _ _ _ _ (number-kept known t u k.0) (relocs-kept known t section (at + 4) xs k.1)
 relocs-kept known t section at (Call u ∷ xs) k = two section 19 at _ _ _ _ (number-kept known t u k.0) (relocs-kept known t section (at + 4) xs k.1)

@@ -2,8 +2,8 @@
 -- What writing some code adds to an object.
 use Rattle.std.specs.Prelude.{◌≡◌, ℕ, ◌*◌, List, [], ◌∷◌, ◌++◌, length, Option, None, Some}
 use Rattle.sc_gen_expr.specs.declared.emit.Emit.{Emit}
-use Rattle.sc_gen_expr.specs.declared.symbolic.Target.{Target}
-use Rattle.sc_gen_expr.specs.Code.{Code}
+use Rattle.sc_gen_code.specs.declared.symbolic.Target.{Target}
+use Rattle.sc_gen_code.specs.Code.{Code}
 use Rattle.sc_gen_expr.specs.Words.{words, relocs, relocs_of, targets, mention_all}
 
 -- Its words stand behind the others, with relocations by the numbers of their targets; new targets stand behind those known.

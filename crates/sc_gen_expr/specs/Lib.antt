@@ -1,7 +1,4 @@
 -- Inside: plumbing, a representation, an invariant or a promise beside the claim (docs/TRUST.md).
-pub mod Code
-pub mod Operators
-pub mod Calls
 pub mod Expressions
 pub mod Words
 pub mod Emitted

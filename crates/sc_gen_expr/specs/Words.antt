@@ -9,20 +9,20 @@ use Rattle.sc_base.specs.declared.key.Key.{Key}
 use Rattle.sc_isa.specs.declared.instruction.Instr.{Instr}
 use Rattle.sc_isa.specs.declared.instruction.Instr.TheVariants.{Lui, Auipc, Jal, Jalr, Branch, Load, Store, Imm, Reg, Ecall, Fence}
 use Rattle.sc_isa.specs.declared.instruction.ImmOp.{ImmOp}
-use Rattle.sc_isa.specs.declared.instruction.ImmOp.TheVariants.{Addi, Slli, Srli, Srai}
+use Rattle.sc_isa.specs.declared.instruction.ImmOp.TheVariants.{Slli, Srli, Srai}
 use Rattle.sc_isa.specs.Table.{word_of}
 use Rattle.sc_object.specs.declared.object.Reloc.{Reloc}
-use Rattle.sc_gen_expr.specs.declared.symbolic.Symbolic.{Symbolic}
-use Rattle.sc_gen_expr.specs.declared.symbolic.Symbolic.TheVariants.{Plain, Upper, Lower, Call}
-use Rattle.sc_gen_expr.specs.declared.symbolic.Target.{Target}
-use Rattle.sc_gen_expr.specs.declared.symbolic.Target.TheVariants.{Named, Literal}
-use Rattle.sc_gen_expr.specs.Code.{Code, ra, a0}
+use Rattle.sc_gen_code.specs.declared.symbolic.Symbolic.{Symbolic}
+use Rattle.sc_gen_code.specs.declared.symbolic.Symbolic.TheVariants.{Plain, Upper, Lower, Call}
+use Rattle.sc_gen_code.specs.declared.symbolic.Target.{Target}
+use Rattle.sc_gen_code.specs.declared.symbolic.Target.TheVariants.{Named, Literal}
+use Rattle.sc_gen_code.specs.declared.symbolic.Access.{Access}
+use Rattle.sc_gen_code.specs.declared.symbolic.Access.TheVariants as access
+use Rattle.sc_gen_code.specs.Code.{Code, ra, t0, accessed}
+use Rattle.sc_gen_code.specs.Operators.{is_short}
 
 abbrev pub is_between : ℤ → ℤ → ℤ → Bool
 is_between low high z = int_le low z && int_le z high
-
-abbrev pub is_short : ℤ → Bool
-is_short z = is_between (negsuc 2047) (pos 2047) z
 
 abbrev pub is_even : ℤ → Bool
 is_even z = cast_unsigned w32 z % 2 == 0
@@ -53,15 +53,21 @@ plain_word i = if is_sound i then word_of i else 0
 
 abbrev pub symbolic_word : Symbolic → ℕ
 symbolic_word (Plain i) = plain_word i
-symbolic_word (Upper target) = word_of (Lui a0 0)
-symbolic_word (Lower target) = word_of (Imm Addi a0 a0 (pos 0))
+symbolic_word (Upper target) = word_of (Lui t0 0)
+symbolic_word (Lower what target) = plain_word (accessed what t0 (pos 0))
 symbolic_word (Call target) = word_of (Auipc ra 0)
 
--- R_RISCV_HI20, LO12_I and CALL_PLT
+-- R_RISCV_LO12_S for a store, else R_RISCV_LO12_I
+abbrev pub lower_kind : Access → ℕ
+lower_kind (access.Load o rd) = 27
+lower_kind (access.Store o rs) = 28
+lower_kind (access.Address rd) = 27
+
+-- R_RISCV_HI20, LO12_I or LO12_S, and CALL_PLT
 abbrev pub relocation : Symbolic → Option (ℕ × Target)
 relocation (Plain i) = None
 relocation (Upper target) = Some (26, target)
-relocation (Lower target) = Some (27, target)
+relocation (Lower what target) = Some (lower_kind what, target)
 relocation (Call target) = Some (19, target)
 
 abbrev pub key_eq : Key → Key → Bool
@@ -83,7 +89,7 @@ number_of known target = position_or_len (target_eq target) known
 abbrev pub word_target : Symbolic → List Target
 word_target (Plain i) = []
 word_target (Upper target) = target ∷ []
-word_target (Lower target) = target ∷ []
+word_target (Lower what target) = target ∷ []
 word_target (Call target) = target ∷ []
 
 -- the targets of a text

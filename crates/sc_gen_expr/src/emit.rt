@@ -2,14 +2,16 @@
 ghost use Rattle.std.specs.Prelude.{◌≡◌, ◌+◌, ◌*◌, ◌<◌, ◌^◌, [], ◌∷◌, ◌++◌, length, position, slice_get, min, None, Some, MatchOption, OnOk, IfOk, pos};
 ghost use Rattle.sc_gen_expr.specs.Emitted as emitted;
 ghost use Rattle.sc_gen_expr.specs.Expressions.{expression_code};
+ghost use Rattle.sc_gen_code.specs.Styles.{first_spot};
 ghost use Rattle.sc_gen_expr.specs.Words as spec;
 
 use crate::expressions::expression;
-use crate::symbolic::{Symbolic, Target};
 use crate::words::symbolic_word;
 use indexmap::IndexSet;
 use sc_base::{Duplicate, Items, NoMemory};
-use sc_core::{Auto, CoreExpr};
+use sc_core::CoreExpr;
+use sc_gen_code::{Access, Symbolic, Target, first_spot};
+use sc_gen_operand::Scope;
 use sc_object::Reloc;
 use std::alloc::Global;
 use std::marker::Model;
@@ -22,7 +24,7 @@ pub struct Targets {
 
 impl Model for Targets {
     ghost use Rattle.std.specs.Prelude.{List};
-    ghost use Rattle.sc_gen_expr.specs.declared.symbolic.Target.{Target};
+    ghost use Rattle.sc_gen_code.specs.declared.symbolic.Target.{Target};
 
     ghost Value = { List Target };
 
@@ -106,6 +108,17 @@ fn offset_of(words: usize) -> u32
     }
 }
 
+/// R_RISCV_LO12_S for a store, else R_RISCV_LO12_I.
+pub fn lower_kind(what: Access) -> u8
+    ensures { result ≡ spec.lower_kind what }
+{
+    match what {
+        Access::Store(_, _) => 28,
+        Access::Load(_, _) => 27,
+        Access::Address(_) => 27,
+    }
+}
+
 /// A relocation of the next word.
 fn relocate(alloc: Global, at: &mut Emit, kind: u8, target: &Target) -> Result<(), NoMemory>
     ensures { OnOk result (emitted.Relocates (Some (kind, target.now)) at.old at.new) }
@@ -129,7 +142,7 @@ fn relocate_word(alloc: Global, at: &mut Emit, s: &Symbolic) -> Result<(), NoMem
     match s {
         Symbolic::Plain(_) => Ok(()),
         Symbolic::Upper(target) => relocate(alloc, at, 26, target),
-        Symbolic::Lower(target) => relocate(alloc, at, 27, target),
+        Symbolic::Lower(what, target) => relocate(alloc, at, lower_kind(*what), target),
         Symbolic::Call(target) => relocate(alloc, at, 19, target),
     }
 }
@@ -152,15 +165,10 @@ pub fn write(alloc: Global, code: &[Symbolic], at: &mut Emit) -> Result<(), NoMe
 }
 
 /// The code of an expression of a function whose objects stand in these slots.
-pub fn gen_expr(
-    alloc: Global,
-    slots: &[Items<Auto>],
-    e: &CoreExpr,
-    at: &mut Emit,
-) -> Result<(), NoMemory>
-    ensures { OnOk result (emitted.Appends (expression_code slots.now e.now at.old.temporaries) at.old at.new) }
+pub fn gen_expr(alloc: Global, scope: &Scope, e: &CoreExpr, at: &mut Emit) -> Result<(), NoMemory>
+    ensures { OnOk result (emitted.Appends (expression_code scope.now.style.now scope.now.slots.now e.now (first_spot at.old.temporaries)) at.old at.new) }
 {
     let mut code = Items::new(alloc);
-    expression(alloc, slots, e, at.temporaries, &mut code)?;
+    expression(alloc, scope, e, first_spot(at.temporaries), &mut code)?;
     write(alloc, code.as_slice(), at)
 }

@@ -3,20 +3,13 @@ ghost use Rattle.std.specs.Prelude.{◌≡◌, ◌<◌, ◌↔◌, IsTrue, ℤ};
 ghost use Rattle.sc_isa.specs.Table.{IsSound};
 ghost use Rattle.sc_gen_expr.specs.Words as spec;
 
-use crate::code::{A0, RA};
-use crate::symbolic::Symbolic;
+use sc_gen_code::{RA, Symbolic, T0, accessed, is_short};
 use sc_isa::{ImmOp, Instr, encode};
 
 fn is_between(low: i32, high: i32, n: i32) -> bool
     ensures { result ≡ spec.is_between low high n }
 {
     low <= n && n <= high
-}
-
-fn is_short(n: i32) -> bool
-    ensures { result ≡ spec.is_short n }
-{
-    is_between(-2048, 2047, n)
 }
 
 fn is_even(n: i32) -> bool
@@ -76,8 +69,8 @@ pub fn symbolic_word(s: &Symbolic) -> u32
 {
     match s {
         Symbolic::Plain(i) => plain_word(*i),
-        Symbolic::Upper(_) => encode(Instr::Lui(A0, 0)),
-        Symbolic::Lower(_) => encode(Instr::Imm(ImmOp::Addi, A0, A0, 0)),
+        Symbolic::Upper(_) => encode(Instr::Lui(T0, 0)),
+        Symbolic::Lower(what, _) => plain_word(accessed(*what, T0, 0)),
         Symbolic::Call(_) => encode(Instr::Auipc(RA, 0)),
     }
 }

@@ -9,83 +9,26 @@ use Rattle.sc_core.specs.declared.statement.AutoInit.TheVariants as piece
 use Rattle.sc_core.specs.declared.statement.SwitchLabel.{SwitchLabel}
 use Rattle.sc_core.specs.declared.statement.CoreStmt.{CoreStmt, roll-CoreStmt, fold-roll-CoreStmt, ind-CoreStmt, map-CoreStmt}
 use Rattle.sc_core.specs.declared.statement.CoreStmt.TheOpen.{CoreStmt-F}
-use Rattle.sc_core.specs.declared.module.Auto.{Auto}
 use Rattle.sc_core.specs.declared.module.Fun.{Fun}
-use Rattle.sc_gen_expr.specs.declared.symbolic.Access.TheVariants as access
-use Rattle.sc_gen_expr.specs.Code.{Code, a0, a1, t1, t2, mv, li, near, copied, ecall, service, block_service}
-use Rattle.sc_gen_expr.specs.Operators.{machine_type, store_of}
-use Rattle.sc_gen_expr.specs.Expressions.{slot_of}
+use Rattle.sc_gen_code.specs.declared.symbolic.Access.TheVariants as access
+use Rattle.sc_gen_code.specs.Code.{a0, a1, t1, t2, mv, li, near, jump, copied, ecall, service, block_service}
+use Rattle.sc_gen_code.specs.Operators.{machine_type, store_of}
+use Rattle.sc_gen_code.specs.declared.style.Style.{Style}
+use Rattle.sc_gen_code.specs.Styles.{IsStyle, framed, first_spot}
+use Rattle.sc_gen_operand.specs.Plans.{Skips, word}
+use Rattle.sc_gen_operand.specs.Places.{slot_of}
 use Rattle.sc_gen_body.specs.declared.jumps.Place.{Place}
 use Rattle.sc_gen_body.specs.Initializers.{place_behind}
-use Rattle.sc_gen_body.specs.Jumps.{go, go_in, jump, leaving, entering, unless_equal}
-use Rattle.sc_gen_body.specs.Statements.{Frame, frame, epilogue}
-use Rattle.sc_gen_body.specs.Functions.{first_temporary, prologue}
-use Rattle.sc_gen_laws.specs.Turns.{Way, Plain_way, With_units, unit, straight, follow, either, in_order, node, turns, jumps, expression_way, IsPaid, top}
-use Rattle.sc_gen_laws.specs.Paths.{landed, value_way, optional_way, test_way, byte_way, bytes_way, piece_way, label_way, across, loop_way, statement_layer, statement_way, function_way, optional_once, piece_once, once_layer, converts_once}
-use Rattle.sc_gen_laws.proofs.Weights.{app, cons, li-short, near-short, copied-short, block_service-short}
-use Rattle.sc_gen_laws.proofs.Bodies.{epilogue-short, prologue-short}
-use Rattle.sc_gen_laws.proofs.Paid.{Fine, fine_paid, wider, by_length, also, li-turns, and-left, and-right, expression_sound}
-
--- a way whose pieces are short, with so many turns at most before its first unit, behind its last one, or without any
-abbrev pub Short : ℕ → Way → Type 0
-Short k (Plain_way n) = n ≤ k
-Short k (With_units before most behind) = (before ≤ k) × (most ≤ 63) × (behind ≤ k)
-
-short_follow : (j k : ℕ) (w v : Way) → j + k ≤ 63 → Short j w → Short k v → Short (j + k) (follow w v)
-short_follow j k (Plain_way m) (Plain_way n) h s t = omega (arith, s, t)
-short_follow j k (Plain_way m) (With_units b q e) h s t = let x = t.0 in let z = t.2 in (omega (arith, s, x), t.1, omega (arith, z))
-short_follow j k (With_units b q e) (Plain_way n) h s t = let x = s.0 in let z = s.2 in (omega (arith, x), s.1, omega (arith, z, t))
-short_follow j k (With_units b q e) (With_units c r f) h s t =
-    let x = s.0 in let y = s.1 in let z = s.2 in let u = t.0 in let v = t.1 in let w = t.2 in
-    (omega (arith, x), omega (arith, y, v, z, u, h), omega (arith, w))
-
-short_either : (k : ℕ) (w v : Way) → k ≤ 63 → Short k w → Short k v → Short k (either w v)
-short_either k (Plain_way m) (Plain_way n) h s t = omega (arith, s, t)
-short_either k (Plain_way m) (With_units b q e) h s t =
-    let x = t.0 in let y = t.1 in let z = t.2 in (omega (arith, s, x), omega (arith, s, y, h), omega (arith, s, z))
-short_either k (With_units b q e) (Plain_way n) h s t =
-    let x = s.0 in let y = s.1 in let z = s.2 in (omega (arith, x, t), omega (arith, y, t, h), omega (arith, z, t))
-short_either k (With_units b q e) (With_units c r f) h s t =
-    let x = s.0 in let y = s.1 in let z = s.2 in let u = t.0 in let v = t.1 in let w = t.2 in
-    (omega (arith, x, u), omega (arith, y, v), omega (arith, z, w))
-
-short_straight : (code : Code) (m k : ℕ) → length code ≤ m → 2 * m ≤ k → Short k (straight code)
-short_straight code m k h l = by_length code m k h l
-
-fine_short : (k : ℕ) (w : Way) → Fine k w → Short k w
-fine_short k (Plain_way n) f = absurd f
-fine_short k (With_units b m e) f = let x = f.0 in (omega (arith, x), f.1, f.2)
-
-around_units : (k : ℕ) (w : Way) → k ≤ 63 → Short k w → Fine 0 (follow unit (follow w unit))
-around_units k (Plain_way n) h s = (omega arith, omega (arith, h, s), omega arith)
-around_units k (With_units b m e) h s =
-    let x = s.0 in let y = s.1 in let z = s.2 in (omega arith, omega (arith, h, x, y, z), omega arith)
-
--- ways in order, each with its bound
-abbrev Part : Type 0
-Part = ℕ × Way
-
-abbrev total : List Part → ℕ
-total [] = 0
-total (p ∷ ps) = p.0 + total ps
-
-abbrev Each : List Part → Type 0
-Each [] = Unit {0}
-Each (p ∷ ps) = Short p.0 p.1 × Each ps
-
-abbrev ways : List Part → List Way
-ways [] = []
-ways (p ∷ ps) = p.1 ∷ ways ps
-
-less : (a b : ℕ) → a + b ≤ 63 → b ≤ 63
-less a b h = omega (arith, h)
-
-parts_short : (ps : List Part) → total ps ≤ 63 → Each ps → Short (total ps) (in_order (ways ps))
-parts_short [] h s = omega arith
-parts_short (p ∷ ps) h s = short_follow p.0 (total ps) p.1 (in_order (ways ps)) h s.0 (parts_short ps (less p.0 (total ps) h) s.1)
-
-node_fine : (ps : List Part) → total ps ≤ 63 → Each ps → Fine 0 (node (ways ps))
-node_fine ps h s = around_units (total ps) (in_order (ways ps)) h (parts_short ps h s)
+use Rattle.sc_gen_body.specs.Jumps.{go, go_in, leaving, entering, unless_equal}
+use Rattle.sc_gen_body.specs.Frames.{Frame, frame, entered_in}
+use Rattle.sc_gen_body.specs.Statements.{epilogue}
+use Rattle.sc_gen_body.specs.Functions.{first_temporary, before_body}
+use Rattle.sc_gen_laws.specs.Turns.{Way, Plain_way, With_units, unit, straight, follow, either, in_order, node, turns, jumps, IsPaid, top}
+use Rattle.sc_gen_laws.specs.Paths.{landed, value_way, condition_way, optional_way, turn_way, byte_way, bytes_way, piece_way, label_way, across, loop_way, statement_layer, statement_way, function_way, optional_once, piece_once, once_layer, converts_once}
+use Rattle.sc_gen_laws.proofs.Lengths.{app, cons, li-short, near-short, copied-short, block_service-short, framed-short}
+use Rattle.sc_gen_laws.proofs.Bodies.{epilogue-short, entering-short, leaving-short, before_body-short}
+use Rattle.sc_gen_laws.proofs.Pieces.{Fine, fine_paid, wider, by_length, also, li-turns, and-left, and-right, Short, short_follow, short_either, short_straight, fine_short, node_fine}
+use Rattle.sc_gen_laws.proofs.Paid.{expression_sound}
 
 -- statements to which labels' jumps may lead
 abbrev Lands : Way → Type 0
@@ -175,32 +118,40 @@ loop_behind (With_units c k d) (With_units b m e) s f =
     let x = f.0 in let y = f.1 in let z = f.2 in let p = s.0 in let q = s.1 in let r = s.2 in
     (omega arith, omega (arith, x, y, p, q, r), omega (arith, z))
 
-value_fine : (slots : List (List Auto)) (e : CoreExpr) (at : ℕ) → (top e).once ≡ true → Fine 3 (expression_way slots e at)
-value_fine slots e at once =
-    let s = expression_sound slots e once in
-    wider (3 * (top e).conversions) 3 (expression_way slots e at) (let c = s.0 in omega (arith, c)) (s.1 at)
+value_fine : (f : Frame) (style : IsStyle f.style) (e : CoreExpr) → (top e).once ≡ true → Fine 3 (value_way f e)
+value_fine f style e once =
+    let s = expression_sound f.style f.slots style e once in
+    wider (3 * (top e).conversions) 3 (value_way f e) (let c = s.0 in omega (arith, c)) (s.1 word f.temporaries)
+
+condition_fine : (f : Frame) (style : IsStyle f.style) (e : CoreExpr) → (top e).once ≡ true → Fine 4 (condition_way f e)
+condition_fine f style e once =
+    let s = expression_sound f.style f.slots style e once in
+    wider (3 * (top e).conversions + 1) 4 (condition_way f e) (let c = s.0 in omega (arith, c)) (s.1 (Skips true) f.temporaries)
 
 -- what holds of a statement in which no operand is converted twice
 abbrev pub Quick : Frame → CoreStmt → Type 0
 Quick f s = converts_once s ≡ true → Fine 0 (statement_way f s)
 
-module _ (f : Frame) where
+module _ (f : Frame) (style : IsStyle f.style) where
   value_short : (e : CoreExpr) → (top e).once ≡ true → Short 3 (value_way f e)
-  value_short e h = fine_short 3 (value_way f e) (value_fine f.slots e f.temporaries h)
+  value_short e h = fine_short 3 (value_way f e) (value_fine f style e h)
 
   optional_short : (o : Option CoreExpr) → optional_once o ≡ true → Short 3 (optional_way f o)
   optional_short None h = omega arith
   optional_short (Some e) h = value_short e h
 
-  test_short : (o : Option CoreExpr) → optional_once o ≡ true → Short 4 (test_way f o)
+  condition_short : (e : CoreExpr) → (top e).once ≡ true → Short 4 (condition_way f e)
+  condition_short e h = fine_short 4 (condition_way f e) (condition_fine f style e h)
+
+  test_short : (o : Option CoreExpr) → optional_once o ≡ true → Short 4 (turn_way f o)
   test_short None h = omega arith
-  test_short (Some e) h = short_follow 3 1 (value_way f e) (jumps 1) (omega arith) (value_short e h) (omega arith)
+  test_short (Some e) h = condition_short e h
 
   piece_sets : (at : ℕ) (p : AutoInit) → piece_once p ≡ true → Sets (piece_way f at p)
   piece_sets at (piece.Value n t e) h =
-      let own = near (place_behind at n) (access.Store (store_of (machine_type t)) a0) in
-      value_sets (value_way f e) (turns own) (value_fine f.slots e f.temporaries h)
-      (by_length own 3 16 (near-short (place_behind at n) (access.Store (store_of (machine_type t)) a0)) (omega arith))
+      let own = framed f.style (access.Store (store_of (machine_type t)) a0) (place_behind at n) in
+      value_sets (value_way f e) (turns own) (value_fine f style e h)
+      (by_length own 4 16 (framed-short f.style (access.Store (store_of (machine_type t)) a0) (place_behind at n)) (omega arith))
   piece_sets at (piece.Text n bytes) h = bytes_set (place_behind at n) bytes
   piece_sets at (piece.Zero n count) h =
       let first = near (place_behind at n) (access.Address t1) in
@@ -209,7 +160,7 @@ module _ (f : Frame) where
       (by_length (first ++ end) 6 12 (app first end 3 3 (near-short (place_behind at n) (access.Address t1)) (near-short (place_behind (place_behind at n) count) (access.Address t2))) (omega arith))
   piece_sets at (piece.Structure size e) h =
       let own = mv a1 a0 ∷ near at (access.Address a0) ++ copied size in
-      value_sets (value_way f e) (turns own) (value_fine f.slots e f.temporaries h)
+      value_sets (value_way f e) (turns own) (value_fine f style e h)
       (by_length own 8 16 (cons (near at (access.Address a0) ++ copied size) 7 (app (near at (access.Address a0)) (copied size) 3 4 (near-short at (access.Address a0)) (copied-short size))) (omega arith))
 
   pieces_set : (at : ℕ) (ps : List AutoInit) → list_all piece_once ps ≡ true → Sets (in_order (map (piece_way f at) ps))
@@ -255,28 +206,25 @@ module _ (f : Frame) where
   jumped = node_fine ((6, across) ∷ []) (omega arith) (omega arith, tt)
 
   branch_fine : (e : CoreExpr) (p q : Way) → (top e).once ≡ true → Fine 0 p → Short 0 q →
-      Fine 0 (node (value_way f e ∷ jumps 1 ∷ either (follow p (jumps 1)) (follow (jumps 1) q) ∷ []))
+      Fine 0 (node (condition_way f e ∷ either (follow p (jumps 1)) (follow (jumps 1) q) ∷ []))
   branch_fine e p q h s t =
-      node_fine ((3, value_way f e) ∷ (1, jumps 1) ∷ (1, either (follow p (jumps 1)) (follow (jumps 1) q)) ∷ []) (omega arith) (
-        value_short e h,
+      node_fine ((4, condition_way f e) ∷ (1, either (follow p (jumps 1)) (follow (jumps 1) q)) ∷ []) (omega arith) (
+        condition_short e h,
         (
-          omega arith,
-          (
-            short_either 1 (follow p (jumps 1)) (follow (jumps 1) q) (omega arith)
-                (short_follow 0 1 p (jumps 1) (omega arith) (fine_short 0 p s) (omega arith))
-                (short_follow 1 0 (jumps 1) q (omega arith) (omega arith) t),
-            tt,
-          ),
+          short_either 1 (follow p (jumps 1)) (follow (jumps 1) q) (omega arith)
+              (short_follow 0 1 p (jumps 1) (omega arith) (fine_short 0 p s) (omega arith))
+              (short_follow 1 0 (jumps 1) q (omega arith) (omega arith) t),
+          tt,
         ),
       )
 
   found : (y : CoreStmt-F Known) → Layer (plain y)
   found (CoreStmt-F.Block l b ls ss) h =
-      node_fine ((8, straight (block_service 2 b)) ∷ (1, in_order (map landed (map (statement_way f) (all ss)))) ∷ (8, straight (block_service 3 b)) ∷ []) (omega arith) (
-        short_straight (block_service 2 b) 4 8 (block_service-short 2 b) (omega arith),
+      node_fine ((8, straight (entering (entered_in f b))) ∷ (1, in_order (map landed (map (statement_way f) (all ss)))) ∷ (8, straight (leaving (entered_in f b))) ∷ []) (omega arith) (
+        short_straight (entering (entered_in f b)) 4 8 (entering-short (entered_in f b)) (omega arith),
         (
           lands_short (in_order (map landed (map (statement_way f) (all ss)))) (items_land ss h),
-          (short_straight (block_service 3 b) 4 8 (block_service-short 3 b) (omega arith), tt),
+          (short_straight (leaving (entered_in f b)) 4 8 (leaving-short (entered_in f b)) (omega arith), tt),
         ),
       )
   found (CoreStmt-F.Initialize l b i ps) h =
@@ -307,17 +255,17 @@ module _ (f : Frame) where
         ),
       )
   found (CoreStmt-F.While l e p) h =
-      loop_fine (statement_way f p.0) (Plain_way 0) (test_way f (Some e)) (p.1 (and-right (top e).once (converts_once p.0) h)) (omega arith)
+      loop_fine (statement_way f p.0) (Plain_way 0) (turn_way f (Some e)) (p.1 (and-right (top e).once (converts_once p.0) h)) (omega arith)
       (test_short (Some e) (and-left (top e).once (converts_once p.0) h))
   found (CoreStmt-F.Do l p line e) h =
-      loop_fine (statement_way f p.0) (Plain_way 0) (test_way f (Some e)) (p.1 (and-right (top e).once (converts_once p.0) h)) (omega arith)
+      loop_fine (statement_way f p.0) (Plain_way 0) (turn_way f (Some e)) (p.1 (and-right (top e).once (converts_once p.0) h)) (omega arith)
       (test_short (Some e) (and-left (top e).once (converts_once p.0) h))
   found (CoreStmt-F.For l first e after p) h =
       let a = and-right (optional_once first) (optional_once e && (optional_once after && converts_once p.0)) h in
       let b = and-right (optional_once e) (optional_once after && converts_once p.0) a in
-      loop_behind (optional_way f first) (loop_way (statement_way f p.0) (optional_way f after) (test_way f e))
+      loop_behind (optional_way f first) (loop_way (statement_way f p.0) (optional_way f after) (turn_way f e))
       (optional_short first (and-left (optional_once first) (optional_once e && (optional_once after && converts_once p.0)) h))
-      (loop_fine (statement_way f p.0) (optional_way f after) (test_way f e) (p.1 (and-right (optional_once after) (converts_once p.0) b))
+      (loop_fine (statement_way f p.0) (optional_way f after) (turn_way f e) (p.1 (and-right (optional_once after) (converts_once p.0) b))
       (optional_short after (and-left (optional_once after) (converts_once p.0) b))
       (test_short e (and-left (optional_once e) (optional_once after && converts_once p.0) a)))
   found (CoreStmt-F.Case l p) h = one (statement_way f p.0) (p.1 h)
@@ -346,16 +294,16 @@ module _ (f : Frame) where
       (subst Layer is (found y)))
 
 -- no piece between two units is longer than 63 turns
-pub bodies_are_paid : (f : Fun) → converts_once f.body ≡ true → IsPaid (function_way f)
-bodies_are_paid f once =
-    let g = frame f (first_temporary f) in
+pub bodies_are_paid : (st : Style) (f : Fun) → IsStyle st → converts_once f.body ≡ true → IsPaid (function_way st f)
+bodies_are_paid st f style once =
+    let g = frame st f (first_spot (first_temporary f)) in
     let end = service 6 ++ epilogue f.cost in
     let w = statement_way g f.body in
-    fine_paid 0 (function_way f) (omega arith)
-    (node_fine ((18, straight (prologue f.cost)) ∷ (0, w) ∷ (18, straight end) ∷ []) (omega arith) (
-      short_straight (prologue f.cost) 9 18 (prologue-short f.cost) (omega arith),
+    fine_paid 0 (function_way st f) (omega arith)
+    (node_fine ((42, straight (before_body st f)) ∷ (0, w) ∷ (18, straight end) ∷ []) (omega arith) (
+      short_straight (before_body st f) 21 42 (before_body-short st f style.few) (omega arith),
       (
-        fine_short 0 w (statement_quick g f.body once),
+        fine_short 0 w (statement_quick g style f.body once),
         (short_straight end 9 18 (app (service 6) (epilogue f.cost) 2 7 (omega arith) (epilogue-short f.cost)) (omega arith), tt),
       ),
     ))

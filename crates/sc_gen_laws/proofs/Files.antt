@@ -21,13 +21,14 @@ use Rattle.sc_object.specs.declared.object.SectionKind.TheVariants.{Text, Data, 
 use Rattle.sc_object.specs.Words as words
 use Rattle.sc_object.specs.Spelling.{spelled_as}
 use Rattle.sc_object.specs.Reading.{is_name, is_word, is_kind, is_addend, is_below, is_section, is_symbol, is_reloc, is_frame, is_block, held, fits, locals_first, by_sections, is_spellable}
-use Rattle.sc_gen_expr.specs.declared.symbolic.Symbolic.{Symbolic}
-use Rattle.sc_gen_expr.specs.declared.symbolic.Symbolic.TheVariants.{Plain, Upper, Lower, Call}
-use Rattle.sc_gen_expr.specs.declared.symbolic.Target.{Target}
-use Rattle.sc_gen_expr.specs.declared.symbolic.Target.TheVariants.{Named, Literal}
-use Rattle.sc_gen_expr.specs.Code.{Code}
+use Rattle.sc_gen_code.specs.declared.symbolic.Symbolic.{Symbolic}
+use Rattle.sc_gen_code.specs.declared.symbolic.Symbolic.TheVariants.{Plain, Upper, Lower, Call}
+use Rattle.sc_gen_code.specs.declared.symbolic.Target.{Target}
+use Rattle.sc_gen_code.specs.declared.symbolic.Target.TheVariants.{Named, Literal}
+use Rattle.sc_gen_code.specs.Code.{Code}
 use Rattle.sc_gen_expr.specs.Words.{fitted, relocation, symbolic_word}
 use Rattle.sc_gen_body.specs.Functions.{function_code}
+use Rattle.sc_gen_code.specs.Styles.{plain_style}
 use Rattle.sc_gen.specs.declared.definitions.Fixup.{Fixup}
 use Rattle.sc_gen.specs.declared.definitions.Definition.{Definition}
 use Rattle.sc_gen.specs.declared.symbols.Home.{Home}
@@ -38,7 +39,7 @@ use Rattle.sc_gen.specs.Objects.{target_name, targets, home_from, symbol_by, sym
 use Rattle.sc_gen.specs.Limits.{first_long, is_long}
 use Rattle.sc_gen_laws.specs.Inside.{symbol_refers, reloc_refers, frame_refers}
 use Rattle.sc_gen_laws.specs.Filed.{target_fits, init_fits, object_fits, table_fits, function_fits, IsKept}
-use Rattle.sc_gen_laws.proofs.Paid.{and-left, and-right}
+use Rattle.sc_gen_laws.proofs.Pieces.{and-left, and-right}
 use Rattle.sc_gen_laws.proofs.References.{refers_inside, both, all_join, lt}
 
 three : (a b d : Bool) → a ≡ true → b ≡ true → d ≡ true → (a && b && d) ≡ true
@@ -118,17 +119,17 @@ literal-named n h = all_join (λ (b : ℕ). not (b == 0)) (codes "$") (decimal n
 few : (n : ℕ) → nat_lt 131072 n ≡ false → n ≤ 131072
 few n h = grind (arith, nat_tests)
 
-short-first : (f : Fun) (fs : List Fun) → first_long (f ∷ fs) ≡ None → (length (function_code f) ≤ 131072) × (first_long fs ≡ None)
+short-first : (f : Fun) (fs : List Fun) → first_long (f ∷ fs) ≡ None → (length (function_code plain_style f) ≤ 131072) × (first_long fs ≡ None)
 short-first f fs h =
-    elim (is_long f) as (λ b. is_long f ≡ b → (if b then Some f.name else first_long fs) ≡ None → (length (function_code f) ≤ 131072) × (first_long fs ≡ None)) [
+    elim (is_long f) as (λ b. is_long f ≡ b → (if b then Some f.name else first_long fs) ≡ None → (length (function_code plain_style f) ≤ 131072) × (first_long fs ≡ None)) [
       | true ↦ λ e k. cc
-      | false ↦ λ e k. (few (length (function_code f)) e, k)
+      | false ↦ λ e k. (few (length (function_code plain_style f)) e, k)
     ] refl h
 
 functions-stand : (fs : List Fun) → first_long fs ≡ None → list_all function_fits fs ≡ true → list_all is_section (map function_section fs) ≡ true
 functions-stand [] h k = refl
 functions-stand (f ∷ fs) h k =
-    let code = function_code f in
+    let code = function_code plain_style f in
     let s = short-first f fs h in
     let n = s.0 in
     let size : 4 * length code < 4294967296 = omega (arith, n) in
@@ -193,7 +194,7 @@ addend_fits x = is_addend x.addend
 word-addends : (at : ℕ) (x : Symbolic) → list_all addend_fits (word_fixups at (relocation x)) ≡ true
 word-addends at (Plain i) = refl
 word-addends at (Upper t) = refl
-word-addends at (Lower t) = refl
+word-addends at (Lower w t) = refl
 word-addends at (Call t) = refl
 
 text-addends : (n : ℕ) (code : Code) → list_all addend_fits (text_fixups n code) ≡ true
@@ -223,7 +224,7 @@ addends_fit d = list_all addend_fits d.fixups
 functions-addends : (name : List ℕ) (fs : List Fun) → list_all addends_fit (map (function_definition name) fs) ≡ true
 functions-addends name [] = refl
 functions-addends name (f ∷ fs) =
-    both (addends_fit (function_definition name f)) (list_all addends_fit (map (function_definition name) fs)) (text-addends 0 (function_code f)) (functions-addends name fs)
+    both (addends_fit (function_definition name f)) (list_all addends_fit (map (function_definition name) fs)) (text-addends 0 (function_code plain_style f)) (functions-addends name fs)
 
 objects-addends : (literals : List (List ℕ)) (xs : List StaticObj) → list_all object_fits xs ≡ true → list_all addends_fit (map (object_definition literals) xs) ≡ true
 objects-addends literals [] h = refl

@@ -1,6 +1,9 @@
 pub mod Frames
+pub mod Lengths
+pub mod Templates
 pub mod Weights
 pub mod Bodies
+pub mod Pieces
 pub mod Paid
 pub mod Bounds
 pub mod References

@@ -20,16 +20,18 @@ use Rattle.sc_object.specs.declared.object.Reloc.{Reloc}
 use Rattle.sc_object.specs.declared.object.SectionKind.{SectionKind}
 use Rattle.sc_object.specs.declared.object.SectionKind.TheVariants.{Text, Data, Rodata, Bss}
 use Rattle.sc_object.specs.Parts.{is_local}
-use Rattle.sc_object.specs.Reading.{is_below, is_word, is_kind, locals_first, by_sections}
+use Rattle.sc_object.specs.Reading.{is_word, is_kind, locals_first, by_sections}
 use Rattle.sc_object.specs.Reading as reading
-use Rattle.sc_gen_expr.specs.declared.symbolic.Symbolic.{Symbolic}
-use Rattle.sc_gen_expr.specs.declared.symbolic.Symbolic.TheVariants.{Plain, Upper, Lower, Call}
-use Rattle.sc_gen_expr.specs.declared.symbolic.Target.{Target}
-use Rattle.sc_gen_expr.specs.declared.symbolic.Target.TheVariants.{Named, Literal}
-use Rattle.sc_gen_expr.specs.Code.{Code}
+use Rattle.sc_gen_code.specs.declared.symbolic.Symbolic.{Symbolic}
+use Rattle.sc_gen_code.specs.declared.symbolic.Symbolic.TheVariants.{Plain, Upper, Lower, Call}
+use Rattle.sc_gen_code.specs.declared.symbolic.Access.TheVariants as access
+use Rattle.sc_gen_code.specs.declared.symbolic.Target.{Target}
+use Rattle.sc_gen_code.specs.declared.symbolic.Target.TheVariants.{Named, Literal}
+use Rattle.sc_gen_code.specs.Code.{Code}
 use Rattle.sc_gen_expr.specs.Words.{target_eq, mention, fitted, relocation}
 use Rattle.sc_gen_expr.proofs.Mentions.{Known, mention-known}
 use Rattle.sc_gen_body.specs.Functions.{function_code}
+use Rattle.sc_gen_code.specs.Styles.{plain_style}
 use Rattle.sc_gen.specs.declared.definitions.Fixup.{Fixup}
 use Rattle.sc_gen.specs.declared.definitions.Definition.{Definition}
 use Rattle.sc_gen.specs.declared.symbols.Home.{Home}
@@ -201,7 +203,9 @@ fixup_fits x = is_word x.at && is_kind x.kind
 words-fit : (at : ℕ) (x : Symbolic) → list_all fixup_fits (word_fixups at (relocation x)) ≡ true
 words-fit at (Plain i) = refl
 words-fit at (Upper t) = both (is_word (fitted at) && true) true (both (is_word (fitted at)) true (word at) refl) refl
-words-fit at (Lower t) = both (is_word (fitted at) && true) true (both (is_word (fitted at)) true (word at) refl) refl
+words-fit at (Lower (access.Load o r) t) = both (is_word (fitted at) && true) true (both (is_word (fitted at)) true (word at) refl) refl
+words-fit at (Lower (access.Store o r) t) = both (is_word (fitted at) && true) true (both (is_word (fitted at)) true (word at) refl) refl
+words-fit at (Lower (access.Address r) t) = both (is_word (fitted at) && true) true (both (is_word (fitted at)) true (word at) refl) refl
 words-fit at (Call t) = both (is_word (fitted at) && true) true (both (is_word (fitted at)) true (word at) refl) refl
 
 text-fits : (n : ℕ) (code : Code) → list_all fixup_fits (text_fixups n code) ≡ true
@@ -233,7 +237,7 @@ functions-fit name [] = refl
 functions-fit name (f ∷ fs) =
     let d = function_definition name f in
     both (definition_fits d) (list_all definition_fits (map (function_definition name) fs))
-    (both (is_word d.size) (list_all fixup_fits d.fixups) (word (4 * length (function_code f))) (text-fits 0 (function_code f))) (functions-fit name fs)
+    (both (is_word d.size) (list_all fixup_fits d.fixups) (word (4 * length (function_code plain_style f))) (text-fits 0 (function_code plain_style f))) (functions-fit name fs)
 
 objects-fit : (literals : List (List ℕ)) (xs : List StaticObj) → list_all definition_fits (map (object_definition literals) xs) ≡ true
 objects-fit literals [] = refl

@@ -10,8 +10,8 @@ use Rattle.sc_core.specs.declared.module.StaticObj.{StaticObj}
 use Rattle.sc_object.specs.declared.object.FrameTable.{FrameTable}
 use Rattle.sc_object.specs.Spelling.{spelled_as}
 use Rattle.sc_object.specs.Reading.{is_name, is_word, is_block, fits}
-use Rattle.sc_gen_expr.specs.declared.symbolic.Target.{Target}
-use Rattle.sc_gen_expr.specs.declared.symbolic.Target.TheVariants.{Named, Literal}
+use Rattle.sc_gen_code.specs.declared.symbolic.Target.{Target}
+use Rattle.sc_gen_code.specs.declared.symbolic.Target.TheVariants.{Named, Literal}
 use Rattle.sc_gen.specs.Sections.{init_size}
 use Rattle.sc_gen.specs.Blocks.{frame_table}
 use Rattle.sc_gen.specs.Objects.{object_of, targets}

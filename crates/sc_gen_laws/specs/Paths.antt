@@ -11,32 +11,39 @@ use Rattle.sc_core.specs.declared.statement.CoreStmt.{CoreStmt, fold-CoreStmt}
 use Rattle.sc_core.specs.declared.statement.CoreStmt.TheOpen.{CoreStmt-F}
 use Rattle.sc_core.specs.declared.statement.SwitchLabel.{SwitchLabel}
 use Rattle.sc_core.specs.declared.module.Fun.{Fun}
-use Rattle.sc_gen_expr.specs.declared.symbolic.Access.TheVariants as access
-use Rattle.sc_gen_expr.specs.Code.{a0, a1, t1, t2, mv, li, near, copied, service, block_service}
-use Rattle.sc_gen_expr.specs.Operators.{machine_type, store_of}
-use Rattle.sc_gen_expr.specs.Expressions.{slot_of}
+use Rattle.sc_gen_code.specs.declared.symbolic.Access.TheVariants as access
+use Rattle.sc_gen_code.specs.Code.{a0, a1, t1, t2, mv, li, near, copied, service, block_service}
+use Rattle.sc_gen_code.specs.Operators.{machine_type, store_of}
+use Rattle.sc_gen_operand.specs.Places.{slot_of}
 use Rattle.sc_isa.specs.declared.instruction.StoreOp.TheVariants.{Sb}
 use Rattle.sc_gen_body.specs.Initializers.{place_behind}
-use Rattle.sc_gen_body.specs.Jumps.{unless_equal}
-use Rattle.sc_gen_body.specs.Statements.{Frame, frame, epilogue}
-use Rattle.sc_gen_body.specs.Functions.{first_temporary, prologue}
-use Rattle.sc_gen_laws.specs.Turns.{Way, Plain_way, unit, straight, follow, either, in_order, node, jumps, expression_way, top}
+use Rattle.sc_gen_code.specs.declared.style.Style.{Style}
+use Rattle.sc_gen_code.specs.Styles.{framed, first_spot}
+use Rattle.sc_gen_body.specs.Jumps.{entering, leaving, unless_equal}
+use Rattle.sc_gen_body.specs.Frames.{Frame, frame, entered_in}
+use Rattle.sc_gen_body.specs.Statements.{epilogue}
+use Rattle.sc_gen_body.specs.Functions.{first_temporary, before_body}
+use Rattle.sc_gen_laws.specs.Turns.{Way, Plain_way, unit, straight, follow, either, in_order, node, jumps, expression_way, test_way, top}
 
 -- a statement of a list, to which a label's jump may lead
 abbrev pub landed : Way → Way
 landed w = follow (jumps 1) w
 
 abbrev pub value_way : Frame → CoreExpr → Way
-value_way f e = expression_way f.slots e f.temporaries
+value_way f e = expression_way f.style f.slots e f.temporaries
+
+-- a condition, whose branch is in it
+abbrev pub condition_way : Frame → CoreExpr → Way
+condition_way f e = test_way f.style f.slots true e f.temporaries
 
 abbrev pub optional_way : Frame → Option CoreExpr → Way
 optional_way f None = Plain_way 0
 optional_way f (Some e) = value_way f e
 
--- a test with the word that leaves out the next one
-abbrev pub test_way : Frame → Option CoreExpr → Way
-test_way f None = Plain_way 0
-test_way f (Some e) = follow (value_way f e) (jumps 1)
+-- the test of a loop
+abbrev pub turn_way : Frame → Option CoreExpr → Way
+turn_way f None = Plain_way 0
+turn_way f (Some e) = condition_way f e
 
 -- a byte of a string
 abbrev pub byte_way : ℕ → ℕ → Way
@@ -53,7 +60,7 @@ zero_way at n =
 
 abbrev pub piece_way : Frame → ℕ → AutoInit → Way
 piece_way f at (piece.Value n t e) =
-    in_order (value_way f e ∷ straight (near (place_behind at n) (access.Store (store_of (machine_type t)) a0)) ∷ unit ∷ [])
+    in_order (value_way f e ∷ straight (framed f.style (access.Store (store_of (machine_type t)) a0) (place_behind at n)) ∷ unit ∷ [])
 piece_way f at (piece.Text n bytes) = bytes_way (place_behind at n) bytes
 piece_way f at (piece.Zero n count) = zero_way (place_behind at n) count
 piece_way f at (piece.Structure size e) = in_order (value_way f e ∷ straight (mv a1 a0 ∷ near at (access.Address a0) ++ copied size) ∷ unit ∷ [])
@@ -79,18 +86,18 @@ other_way (Some w) = w
 -- the ways through one statement, by those through the statements inside it
 abbrev pub statement_layer : Frame → CoreStmt-F Way → Way
 statement_layer f (CoreStmt-F.Block l b ls ws) =
-    node (straight (block_service 2 b) ∷ in_order (map landed ws) ∷ straight (block_service 3 b) ∷ [])
+    node (straight (entering (entered_in f b)) ∷ in_order (map landed ws) ∷ straight (leaving (entered_in f b)) ∷ [])
 statement_layer f (CoreStmt-F.Initialize l b i ps) = node (in_order (map (piece_way f (slot_of f.slots b i)) ps) ∷ [])
 statement_layer f (CoreStmt-F.Empty l) = node []
 statement_layer f (CoreStmt-F.Expression l e) = node (value_way f e ∷ [])
 statement_layer f (CoreStmt-F.If l e p q) =
-    node (value_way f e ∷ jumps 1 ∷ either (follow p (jumps 1)) (follow (jumps 1) (other_way q)) ∷ [])
+    node (condition_way f e ∷ either (follow p (jumps 1)) (follow (jumps 1) (other_way q)) ∷ [])
 statement_layer f (CoreStmt-F.Switch l e ls p) =
     node (value_way f e ∷ jumps 1 ∷ in_order (map (λ (x : SwitchLabel). label_way x.value) ls) ∷ across ∷ p ∷ jumps 2 ∷ [])
-statement_layer f (CoreStmt-F.While l e p) = loop_way p (Plain_way 0) (test_way f (Some e))
-statement_layer f (CoreStmt-F.Do l p line e) = loop_way p (Plain_way 0) (test_way f (Some e))
+statement_layer f (CoreStmt-F.While l e p) = loop_way p (Plain_way 0) (turn_way f (Some e))
+statement_layer f (CoreStmt-F.Do l p line e) = loop_way p (Plain_way 0) (turn_way f (Some e))
 statement_layer f (CoreStmt-F.For l first e after p) =
-    follow unit (follow (optional_way f first) (loop_way p (optional_way f after) (test_way f e)))
+    follow unit (follow (optional_way f first) (loop_way p (optional_way f after) (turn_way f e)))
 statement_layer f (CoreStmt-F.Case l p) = node (p ∷ [])
 statement_layer f (CoreStmt-F.Default l p) = node (p ∷ [])
 statement_layer f (CoreStmt-F.Label l p) = node (p ∷ [])
@@ -104,9 +111,9 @@ abbrev pub statement_way : Frame → CoreStmt → Way
 statement_way f = fold-CoreStmt Way (statement_layer f)
 
 -- a function is entered and left with a unit
-abbrev pub function_way : Fun → Way
-function_way f =
-    node (straight (prologue f.cost) ∷ statement_way (frame f (first_temporary f)) f.body ∷ straight (service 6 ++ epilogue f.cost) ∷ [])
+abbrev pub function_way : Style → Fun → Way
+function_way st f =
+    node (straight (before_body st f) ∷ statement_way (frame st f (first_spot (first_temporary f))) f.body ∷ straight (service 6 ++ epilogue f.cost) ∷ [])
 
 -- no operand of an expression in these trees is converted twice in a row
 abbrev pub optional_once : Option CoreExpr → Bool

@@ -10,6 +10,9 @@ ghost use Rattle.sc_gen.specs.Blocks.{frame_table};
 ghost use Rattle.sc_gen.specs.Limits.{first_long};
 ghost use Rattle.sc_gen.specs.Objects.{object_of};
 ghost use Rattle.sc_gen_body.specs.declared.jumps.Place.{Place};
+ghost use Rattle.sc_gen_code.specs.declared.style.Spot.{Spot};
+ghost use Rattle.sc_gen_code.specs.declared.style.Style.{Style};
+ghost use Rattle.sc_gen_code.specs.Styles.{IsStyle};
 ghost use Rattle.sc_gen_body.specs.Functions.{function_code};
 ghost use Rattle.sc_gen_body.specs.Jumps.{go, go_in};
 ghost use Rattle.sc_gen_laws.specs.Counts.{IsMeasured};
@@ -22,19 +25,19 @@ ghost use Rattle.sc_gen_laws.specs.Turns.{IsPaid, expression_way, top, turns};
 
 /// The text of a function of n nodes has at most 128 * (n + 1) bytes, in a tree as C makes it.
 pub fn texts_are_short()
-    ensures { (f : Fun) → IsMeasured f → 4 * length (function_code f) ≤ 128 * (function_nodes f + 1) }
+    ensures { (st : Style) (f : Fun) → IsStyle st → IsMeasured f → 4 * length (function_code st f) ≤ 128 * (function_nodes f + 1) }
 {}
 
 /// In the code of an expression no piece between two units of work takes more than 63 turns, if no operand is converted twice
 /// in a row.
 pub fn expressions_are_paid()
-    ensures { (slots : List (List Auto)) (e : CoreExpr) (at : ℕ) → (top e).once ≡ true → IsPaid (expression_way slots e at) }
+    ensures { (st : Style) (slots : List (List Auto)) (e : CoreExpr) (at : Spot) → IsStyle st → (top e).once ≡ true → IsPaid (expression_way st slots e at) }
 {}
 
 /// The same of the code of a function, if no operand in it is converted twice in a row. A jump out of blocks or into one takes
 /// at most 6 turns, as the ways through statements have it.
 pub fn bodies_are_paid()
-    ensures paid { (f : Fun) → converts_once f.body ≡ true → IsPaid (function_way f) }
+    ensures paid { (st : Style) (f : Fun) → IsStyle st → converts_once f.body ≡ true → IsPaid (function_way st f) }
     ensures exits { (blocks : List ℕ) (at : ℕ) (place : Place) → turns (go blocks at place) ≤ 6 }
     ensures entries { (block : Option ℕ) (at to : ℕ) → turns (go_in block at to) ≤ 6 }
 {}

@@ -1,8 +1,8 @@
 use Rattle.std.proofs.Common.{rules, ◌≡◌, ap, ℕ, None, refl}
 use Rattle.std.specs.HashMap.{get}
-use Rattle.sc_gen_expr.specs.declared.symbolic.Target.{Target}
-use Rattle.sc_gen_expr.specs.declared.symbolic.Target.TheVariants.{Named, Literal}
-use Rattle.sc_gen_expr.specs.contracts.symbolic.TargetPartialEq.TheImpl.{eq-value}
+use Rattle.sc_gen_code.specs.declared.symbolic.Target.{Target}
+use Rattle.sc_gen_code.specs.declared.symbolic.Target.TheVariants.{Named, Literal}
+use Rattle.sc_gen_code.specs.contracts.symbolic.TargetPartialEq.TheImpl.{eq-value}
 use Rattle.sc_gen_expr.specs.Words.{target_eq}
 use Rattle.sc_gen.specs.declared.symbols.Home.{Home}
 use Rattle.sc_gen.specs.Objects.{home}

@@ -1,5 +1,5 @@
 use Rattle.std.proofs.Common.{◌≡◌, ◌++◌, ◌-◌, length, drop, replicate}
-use Rattle.sc_gen_expr.specs.Code.{over}
+use Rattle.sc_gen_code.specs.Code.{over}
 use Rattle.sc_gen_body.specs.Jumps.{label_places}
 use Rattle.sc_gen_body.proofs.statements.open_labels.Given as goal
 
