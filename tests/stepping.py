@@ -115,11 +115,9 @@ class Walk:
         return answer, after, ""
 
     def counted(self):
-        """The run goes on to its end; how many notes of each kind it made."""
-        for line in self.session.ask("list").lines:
-            if line.startswith("stop "):
-                self.session.ask(f"delete {line.split()[1]}")
-        self.session.ask("cont")
+        """The run goes on from stop to stop to its end; how many notes of each kind it made."""
+        while self.session.ask("cont").text.startswith("entered "):
+            pass
         return self.session.ask("report 1").text
 
 
