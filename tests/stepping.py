@@ -26,7 +26,7 @@ PROGRAMS = (
     ("examples/library", ("text", "pool", "table", "list", "demo"), ("text", "pool", "table", "list"), ""),
     ("tests/programs/traced", ("f", "g"), ("f",), ""),
 )
-MOST_STEPS = 5_000
+MOST_STEPS = 8_000
 STUBS, TEXTS = 0x00010000, 0x00100000
 BRANCHES = {
     "beq": lambda a, b: a == b,
@@ -139,6 +139,9 @@ def compare(program, folder, modules, objects, reads):
     with tempfile.TemporaryDirectory() as copy:
         room = pathlib.Path(copy, "room")
         shutil.copytree(ROOT / folder, room)
+        if reads:
+            # so that the walk is long
+            (room / reads).write_bytes((room / reads).read_bytes() * 3)
         walk = Walk(program, room, modules, objects)
         yield from walked(walk, reads)
         stepped = walk.counted()

@@ -1,1 +1,0 @@
-int main(void) { int i = 7; return i; }
