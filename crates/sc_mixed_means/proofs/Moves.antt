@@ -1,6 +1,7 @@
 -- What a place of a run means before a move, it means after it.
 use Rattle.std.proofs.Common.{◌≡◌, ◌⊎◌, inl, inr, ℕ, zero, suc, ◌+◌, ◌<◌, ◌≤◌, ◌&&◌, not, Bool, true, false, List, [], ◌∷◌, arith, refl, sym, ap, ◌∙◌, subst, Option, Some, None}
 use Rattle.std.specs.Prelude.{⊤, Result, Ok, Err}
+use Rattle.std.proofs.lemmas.List.{append-nil}
 use Rattle.std.specs.Option.{is_some}
 use Rattle.sc_base.specs.declared.key.Key.{Key}
 use Rattle.sc_base.specs.declared.report.Rule.{Rule}
@@ -46,7 +47,7 @@ use Rattle.sc_mixed.specs.declared.calls.Moved.{Moved}
 use Rattle.sc_mixed.specs.declared.calls.Next.{Next}
 use Rattle.sc_mixed.specs.declared.calls.Next.TheVariants.{Steps, Executes, Serves}
 use Rattle.sc_world.specs.Standing.{state_of}
-use Rattle.sc_mixed_means.specs.Owed.{CallsMean, CodeMeans, CodeAfter, CodeMoved, CodeReturns, IsCode, IsLost, PlaceDue, PlaceOwes, StateDue, WaitOwes, code_on, code_out, code_back, code_lost}
+use Rattle.sc_mixed_means.specs.Owed.{CallsMean, CodeMeans, CodeAfter, CodeMoved, CodeReturns, IsCode, IsLost, PlaceDue, PlaceOwes, StateDue, WaitOwes, code_on, code_out, code_back}
 use Rattle.sc_mixed_means.specs.Places.{CodeDue, CodeStands, Comes, KeepsBy, LowerAfter, Means, MovesKeepTheMeaning, StateGives, StepsDue, StepsMean}
 use Rattle.sc_mixed_means.specs.Stages.{Build, ComesWith, Fits, First, Gives, IsPartOf, Live, Past, Stage, Then, from_here, since, texts_of}
 use Rattle.sc_mixed_means.specs.Waiting.{IsFit, Keeps, KeepsWaiting}
@@ -75,7 +76,7 @@ shows_nothing : (moved : Moved) → moved ≡ quietly → IsEvent moved.shown �
 shows_nothing moved e p = subst (λ (m : Moved). IsEvent m.shown) e p
 
 keeps_itself : (r : Registers) (w : World) → Keeps r w w
-keeps_itself r w = λ at le bare. (bare, refl)
+keeps_itself r w = record { bytes = λ at le bare. (bare, refl); bases = λ id o e. (o, e, refl); more = []; functions = sym (append-nil w.beside.functions) }
 
 -- from its last change on a history of the run is that of its texts alone
 pub agree : (p : Past) (h : History) (c : ℕ) → Fits p h c → Agree (since p) c h (alone (texts_of p))
@@ -184,7 +185,7 @@ module _ (s : Stage) where
       ap (λ ts. unless (value_rule ts u f (FunctionAt key)) (call_breach (FunctionAt key) v) (call_value (call m h) (FunctionAt key) xs) v) e
       ∙ ap (λ r. unless r (call_breach (FunctionAt key) v) (call_value (call m h) (FunctionAt key) xs) v) none
 
-  called_out : CallsMean s → (n : ℕ) (f : CType) (key : Key) (xs : List Value) (caller : Caller) (c d : Calls) (after : Next) (w u v : World) (now : Shown) (out : History → Outcome Answer) → IsFit c.lower w → (IsEvent now → ⊥) → is_code (callee_of (texts_of s.past) key) ≡ true → value_rule (texts_of s.past) caller.env.text f (FunctionAt key) ≡ None → Like w v → StateGives (suc n) s (Makes f (FunctionAt key) xs caller c.callers v) c.lower w out → Calling s.image key xs (with_caller caller c) w after d u → KeepsWaiting c.lower w u → CodeStands n s after d u now out
+  called_out : CallsMean s → (n : ℕ) (f : CType) (key : Key) (xs : List Value) (caller : Caller) (c d : Calls) (after : Next) (w u v : World) (now : Shown) (out : History → Outcome Answer) → IsFit (texts_of s.past) s.places c.lower w → (IsEvent now → ⊥) → is_code (callee_of (texts_of s.past) key) ≡ true → value_rule (texts_of s.past) caller.env.text f (FunctionAt key) ≡ None → Like w v → StateGives (suc n) s (Makes f (FunctionAt key) xs caller c.callers v) c.lower w out → Calling s.image key xs (with_caller caller c) w after d u → KeepsWaiting c.lower w u → CodeStands n s after d u now out
   called_out right n f key xs caller c d after w u v now out fit hush named none like g x keep =
       let r = right n key xs (with_caller caller c) d w u v after named fit like x in
       let q : Gives s.past v = λ h l. call (g.means h l).0 h key xs v in
@@ -209,7 +210,7 @@ module _ (s : Stage) where
         due = λ event. absurd (hush event);
       }
 
-  goes_out : CallsMean s → (n : ℕ) (f : CType) (key : Key) (xs : List Value) (caller : Caller) (c d : Calls) (after : Next) (w u : World) (now : Shown) (moved : Moved) (out : History → Outcome Answer) → IsFit c.lower w → moved ≡ quietly → goes_to_code (texts_of s.past) caller.env.text f (FunctionAt key) ≡ true → StepsMean (suc n) s (Makes f (FunctionAt key) xs caller c.callers w) c.lower w now out → Calling s.image key xs (with_caller caller c) w after d u → KeepsWaiting c.lower w u → Means n s after d u moved.shown out
+  goes_out : CallsMean s → (n : ℕ) (f : CType) (key : Key) (xs : List Value) (caller : Caller) (c d : Calls) (after : Next) (w u : World) (now : Shown) (moved : Moved) (out : History → Outcome Answer) → IsFit (texts_of s.past) s.places c.lower w → moved ≡ quietly → goes_to_code (texts_of s.past) caller.env.text f (FunctionAt key) ≡ true → StepsMean (suc n) s (Makes f (FunctionAt key) xs caller c.callers w) c.lower w now out → Calling s.image key xs (with_caller caller c) w after d u → KeepsWaiting c.lower w u → Means n s after d u moved.shown out
   goes_out right n f key xs caller c d after w u now moved out fit hush code m x keep =
       let named : is_code (callee_of (texts_of s.past) key) ≡ true = named_first (names_code (texts_of s.past) (FunctionAt key)) (not (is_some (value_rule (texts_of s.past) caller.env.text f (FunctionAt key)))) code in
       let none : value_rule (texts_of s.past) caller.env.text f (FunctionAt key) ≡ None = no_rule (value_rule (texts_of s.past) caller.env.text f (FunctionAt key)) (named_second (names_code (texts_of s.past) (FunctionAt key)) (not (is_some (value_rule (texts_of s.past) caller.env.text f (FunctionAt key)))) code) in
@@ -217,7 +218,7 @@ module _ (s : Stage) where
       (subst (λ y. CodeStands n s y d u moved.shown out) x.goes
       (called_out right n f key xs caller c d after w u m.alike.0 moved.shown out fit (shows_nothing moved hush) named none m.alike.1 (subst (λ y. StateGives (suc n) s y c.lower w out) m.alike.2 m.gives) x keep))
 
-  value_out : CallsMean s → (n : ℕ) (f : CType) (y : Value) (xs : List Value) (caller : Caller) (c d : Calls) (after : Next) (w u : World) (now : Shown) (moved : Moved) (out : History → Outcome Answer) → IsFit c.lower w → moved ≡ quietly → goes_to_code (texts_of s.past) caller.env.text f y ≡ true → StepsMean (suc n) s (Makes f y xs caller c.callers w) c.lower w now out → CallsValue s.image y xs (with_caller caller c) w after d u → KeepsWaiting c.lower w u → Means n s after d u moved.shown out
+  value_out : CallsMean s → (n : ℕ) (f : CType) (y : Value) (xs : List Value) (caller : Caller) (c d : Calls) (after : Next) (w u : World) (now : Shown) (moved : Moved) (out : History → Outcome Answer) → IsFit (texts_of s.past) s.places c.lower w → moved ≡ quietly → goes_to_code (texts_of s.past) caller.env.text f y ≡ true → StepsMean (suc n) s (Makes f y xs caller c.callers w) c.lower w now out → CallsValue s.image y xs (with_caller caller c) w after d u → KeepsWaiting c.lower w u → Means n s after d u moved.shown out
   value_out right n f (FunctionAt key) xs caller c d after w u now moved out fit hush code m x keep = goes_out right n f key xs caller c d after w u now moved out fit hush code m x keep
   value_out right n f (Number k) xs caller c d after w u now moved out fit hush code m x keep = absurd x
   value_out right n f (Pointer o k) xs caller c d after w u now moved out fit hush code m x keep = absurd x
@@ -226,7 +227,7 @@ module _ (s : Stage) where
   lacks : (n : ℕ) (old v : World) (broken : Break) (after : Next) (d : Calls) (w : World) (out : History → Outcome Answer) → Like old v → broken ≡ Meant NoRoom → Comes n s old (Err broken) after d w out
   lacks n old v broken after d w out l e = subst (λ b. Comes n s old (Err b) after d w out) (sym e) (inl (v, l, λ f x. absurd (cc)))
 
-  makes : CallsMean s → (b : Bool) (n : ℕ) (f : CType) (y : Value) (xs : List Value) (caller : Caller) (c d : Calls) (after : Next) (w u : World) (now : Shown) (result : Result Moved Break) (out : History → Outcome Answer) → IsFit c.lower w → goes_to_code (texts_of s.past) caller.env.text f y ≡ b → StepsMean (suc n) s (Makes f y xs caller c.callers w) c.lower w now out → GoesBy (way_if b) (texts_of s.past) s.image (going.Makes f y xs caller) c w result after d u → KeepsBy (Steps (going.Makes f y xs caller)) result c.lower w u → Comes n s w result after d u out
+  makes : CallsMean s → (b : Bool) (n : ℕ) (f : CType) (y : Value) (xs : List Value) (caller : Caller) (c d : Calls) (after : Next) (w u : World) (now : Shown) (result : Result Moved Break) (out : History → Outcome Answer) → IsFit (texts_of s.past) s.places c.lower w → goes_to_code (texts_of s.past) caller.env.text f y ≡ b → StepsMean (suc n) s (Makes f y xs caller c.callers w) c.lower w now out → GoesBy (way_if b) (texts_of s.past) s.image (going.Makes f y xs caller) c w result after d u → KeepsBy (Steps (going.Makes f y xs caller)) result c.lower w u → Comes n s w result after d u out
   makes right false n f y xs caller c d after w u now result out fit code m x keep = stays n (going.Makes f y xs caller) c d after w u now result out m x keep
   makes right true n f y xs caller c d after w u now (Ok moved) out fit code m x keep = inl (value_out right n f y xs caller c d after w u now moved out fit x.0 code m x.1 keep)
   makes right true n f y xs caller c d after w u now (Err broken) out fit code m x keep = lacks n w m.alike.0 broken after d u out m.alike.1 x
@@ -253,7 +254,7 @@ module _ (s : Stage) where
     after = lower_weaker s n w ls (world_of x) g.gives (from_here out s.past (world_of x)) g.after;
   }
 
-  back_to_code : (n : ℕ) (a : Answer) (r : Registers) (given : Option Answer) (ls : List Lower) (c d : Calls) (after : Next) (w v : World) (now : Shown) (out : History → Outcome Answer) → IsFit (InCode r given ∷ ls) w → (IsEvent now → ⊥) → Like w v → StateGives (suc n) s (Answers a [] v) (InCode r given ∷ ls) w out → GivesBack w a (InCode r given ∷ ls) c after d → CodeStands n s after d w now out
+  back_to_code : (n : ℕ) (a : Answer) (r : Registers) (given : Option Answer) (ls : List Lower) (c d : Calls) (after : Next) (w v : World) (now : Shown) (out : History → Outcome Answer) → IsFit (texts_of s.past) s.places (InCode r given ∷ ls) w → (IsEvent now → ⊥) → Like w v → StateGives (suc n) s (Answers a [] v) (InCode r given ∷ ls) w out → GivesBack w a (InCode r given ∷ ls) c after d → CodeStands n s after d w now out
   back_to_code n a r given ls c d after w v now out fit hush like g x =
       let p = awaited n g.after.1.0 s r given ls g.after.1.2 v g.gives g.after.0 g.after.1.1 g.after.1.4 in
       record {
@@ -268,7 +269,7 @@ module _ (s : Stage) where
         due = λ event. absurd (hush event);
       }
 
-  gives_back : (n : ℕ) (a : Answer) (ls : List Lower) (c d : Calls) (after : Next) (w v : World) (now : Shown) (out : History → Outcome Answer) → IsFit ls w → (IsEvent now → ⊥) → c.callers ≡ [] → c.lower ≡ ls → Like w v → StateGives (suc n) s (Answers a [] v) ls w out → GivesBack w a ls c after d → Means n s after d w now out
+  gives_back : (n : ℕ) (a : Answer) (ls : List Lower) (c d : Calls) (after : Next) (w v : World) (now : Shown) (out : History → Outcome Answer) → IsFit (texts_of s.past) s.places ls w → (IsEvent now → ⊥) → c.callers ≡ [] → c.lower ≡ ls → Like w v → StateGives (suc n) s (Answers a [] v) ls w out → GivesBack w a ls c after d → Means n s after d w now out
   gives_back n a [] c d after w v now out fit hush none same like g x =
       subst (λ y. Means n s y d w now out) (sym x.0)
       (subst (λ (y : Calls). Means n s (Steps (going.Answers a)) y w now out) (sym x.1)
@@ -282,7 +283,7 @@ module _ (s : Stage) where
       subst (λ y. Means n s y d w now out) (sym x.0)
       (subst (λ y. CodeStands n s y d w now out) x.0 (back_to_code n a r given ls c d after w v now out fit hush like g x))
 
-  answers : (cs : List Caller) (n : ℕ) (a : Answer) (c d : Calls) (after : Next) (w u : World) (now : Shown) (result : Result Moved Break) (out : History → Outcome Answer) → IsFit c.lower w → c.callers ≡ cs → StepsMean (suc n) s (Answers a c.callers w) c.lower w now out → GoesBy (way_among cs) (texts_of s.past) s.image (going.Answers a) c w result after d u → KeepsBy (Steps (going.Answers a)) result c.lower w u → Comes n s w result after d u out
+  answers : (cs : List Caller) (n : ℕ) (a : Answer) (c d : Calls) (after : Next) (w u : World) (now : Shown) (result : Result Moved Break) (out : History → Outcome Answer) → IsFit (texts_of s.past) s.places c.lower w → c.callers ≡ cs → StepsMean (suc n) s (Answers a c.callers w) c.lower w now out → GoesBy (way_among cs) (texts_of s.past) s.image (going.Answers a) c w result after d u → KeepsBy (Steps (going.Answers a)) result c.lower w u → Comes n s w result after d u out
   answers (b ∷ cs) n a c d after w u now result out fit e m y keep = stays n (going.Answers a) c d after w u now result out m y keep
   answers [] n a c d after w u now (Ok moved) out fit e m y keep =
       let x : StepsMean (suc n) s (Answers a [] w) c.lower w now out = subst (λ cs. StepsMean (suc n) s (Answers a cs w) c.lower w now out) e m in
@@ -364,11 +365,11 @@ module _ (s : Stage) where
     ends = λ h l k. lower_over s n w ls v q (from_here out s.past v) h l (Undefined x.breach x.world) (x.ends h l k) m;
   }
 
-  code_moved : (n k : ℕ) → n ≤ k → (c : Calls) (old v : World) (q : Gives s.past v) (out : History → Outcome Answer) → Like old v → since s.past ≤ v.count → (after : Next) (d : Calls) (w : World) (moved : Moved) → LowerAfter (suc n) s w c.lower v q (from_here out s.past v) → CodeMoved (CodeMeans k) (CodeAfter k) k s v q c moved.shown after d w → Means n s after d w moved.shown out ⊎ ((v : World) × Like old v × IsLost s.past v (from_here out s.past v))
-  code_moved n k le c old v q out like late after d w moved m (code_on x) =
+  code_moved : (n k : ℕ) → n ≤ k → (c : Calls) (v : World) (q : Gives s.past v) (out : History → Outcome Answer) → since s.past ≤ v.count → (after : Next) (d : Calls) (w : World) (moved : Moved) → LowerAfter (suc n) s w c.lower v q (from_here out s.past v) → CodeMoved (CodeMeans k) (CodeAfter k) k s v q c moved.shown after d w → Means n s after d w moved.shown out
+  code_moved n k le c v q out late after d w moved m (code_on x) =
       let grew : v.count ≤ x.stands.count = count_grows v x.stands x.leads in
       let r : Gives s.past x.stands = onward s.past v x.stands grew q in
-      inl (code_place n after d w moved.shown out x.code
+      code_place n after d w moved.shown out x.code
       (record {
         stands = x.stands;
         alike = x.alike;
@@ -381,11 +382,11 @@ module _ (s : Stage) where
             subst (λ ls. LowerAfter n s w ls x.stands r (from_here out s.past x.stands)) (sym x.lower)
             (lower_on s n w c.lower v q (from_here out s.past v) x.stands r (from_here out s.past x.stands) (λ h l. (earlier s.past v x.stands h grew l, refl, refl)) (lower_weaker s n w c.lower v q (from_here out s.past v) m));
         due = λ event. code_due n k s.later refl le after c.lower d w v x.stands q out x.lower late (x.due event).0 m (x.due event).1;
-      }))
-  code_moved n k le c old v q out like late after d w moved m (code_out g e x) =
+      })
+  code_moved n k le c v q out late after d w moved m (code_out g e x) =
       let grew : v.count ≤ (world_of x.stands).count = count_grows v (world_of x.stands) x.leads in
       let r : Gives s.past (world_of x.stands) = onward s.past v (world_of x.stands) grew q in
-      inl (subst (λ y. Means n s y d w moved.shown out) (sym e)
+      subst (λ y. Means n s y d w moved.shown out) (sym e)
       (subst (λ ls. StepsMean n s (state_of g d.callers w) ls w moved.shown out) (sym x.below)
       (record {
         stands = x.stands;
@@ -403,17 +404,17 @@ module _ (s : Stage) where
           );
         };
         due = λ event. state_due n k s.later refl le c.lower w v x.stands q x.regs x.given out late (x.due event).0 m (x.due event).1;
-      })))
-  code_moved n k le c old v q out like late after d w moved m (code_back a e hush x) =
-      inl (subst (λ y. Means n s y d w moved.shown out) (sym e) (code_returns n c.lower a d w v q moved.shown out late hush m x))
-  code_moved n k le c old v q out like late after d w moved m (code_lost x) =
-      inr (v, like, lost (suc n) w c.lower v q out m x)
+      }))
+  code_moved n k le c v q out late after d w moved m (code_back a e hush x) =
+      subst (λ y. Means n s y d w moved.shown out) (sym e) (code_returns n c.lower a d w v q moved.shown out late hush m x)
 
-  code : (n : ℕ) (next after : Next) (c d : Calls) (w u : World) (now : Shown) (result : Result Moved Break) (out : History → Outcome Answer) → IsFit c.lower w → CodeStands (suc n) s next c w now out → Moves (texts_of s.past) s.image next c w result after d u → Comes n s w result after d u out
+  code : (n : ℕ) (next after : Next) (c d : Calls) (w u : World) (now : Shown) (result : Result Moved Break) (out : History → Outcome Answer) → IsFit (texts_of s.past) s.places c.lower w → CodeStands (suc n) s next c w now out → Moves (texts_of s.past) s.image next c w result after d u → Comes n s w result after d u out
   code n next after c d w u now (Ok moved) out fit m x =
       let p = owed n m.deep s next c w m.stands m.gives m.enough m.means in
-      let y = p.2.goes after d u moved fit m.alike x in
-      code_moved n p.0 p.1 c w m.stands m.gives out m.alike m.late after d u moved (lower_kept s (suc n) w u c.lower m.stands m.gives (from_here out s.past m.stands) y.0 m.after) y.1
+      elim (p.2.goes after d u moved fit m.alike x) [
+        | inl y ↦ inl (code_moved n p.0 p.1 c m.stands m.gives out m.late after d u moved (lower_kept s (suc n) w u c.lower m.stands m.gives (from_here out s.past m.stands) y.0 m.after) y.1)
+        | inr y ↦ inr (m.stands, m.alike, lost (suc n) w c.lower m.stands m.gives out m.after y)
+      ]
   code n next after c d w u now (Err (Meant stop)) out fit m x =
       let p = owed n m.deep s next c w m.stands m.gives m.enough m.means in
       elim (p.2.ends after d u stop fit m.alike x) [

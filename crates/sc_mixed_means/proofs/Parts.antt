@@ -1,5 +1,5 @@
 -- What waits below takes what comes of it: in a later world, behind other moves, and behind a change.
-use Rattle.std.proofs.Common.{◌≡◌, ℕ, zero, suc, ◌+◌, ◌<◌, ◌≤◌, List, [], ◌∷◌, arith, refl, sym, ap, ◌∙◌, subst, Option}
+use Rattle.std.proofs.Common.{◌≡◌, ℕ, zero, suc, ◌+◌, ◌<◌, ◌≤◌, List, [], ◌∷◌, ◌++◌, append_assoc, arith, refl, sym, ap, ◌∙◌, subst, Option}
 use Rattle.std.specs.Prelude.{⊤}
 use Rattle.sc_emu.specs.Registers.{Registers, register}
 use Rattle.sc_interp_change_laws.proofs.Between.{count_grows}
@@ -96,7 +96,12 @@ module _ (s : Stage) where
 
   -- where the run's world becomes another, and what waits keeps its bytes
   keeps_on : (r : Registers) (old w u : World) → Keeps r old w → Keeps r w u → Keeps r old u
-  keeps_on r old w u a b = λ at le bare. let p = a at le bare in let q = b at le p.0 in (q.0, q.1 ∙ p.1)
+  keeps_on r old w u a b = record {
+    bytes = λ at le bare. let p = a.bytes at le bare in let q = b.bytes at le p.0 in (q.0, q.1 ∙ p.1);
+    bases = λ id o e. let p = a.bases id o e in let q = b.bases id p.0 p.1 in (q.0, q.1, q.2 ∙ p.2);
+    more = a.more ++ b.more;
+    functions = b.functions ∙ ap (λ fs. fs ++ b.more) a.functions ∙ append_assoc old.beside.functions a.more b.more;
+  }
 
   pub lower_kept : (n : ℕ) (w u : World) (ls : List Lower) (v : World) (r out : Gives s.past v) → KeepsWaiting ls w u → LowerAfter n s w ls v r out → LowerAfter n s u ls v r out
   lower_kept n w u [] v r out k p = p

@@ -31,6 +31,7 @@ use Rattle.sc_mixed_means.specs.Owed.{CallsMean, CompiledTextsAreRight}
 use Rattle.sc_mixed_means.specs.Places.{CodeStands, Comes, IsLostFrom, KeepsBy, Means}
 use Rattle.sc_mixed_means.specs.Runs.{BreaksOff, ChangesEndAsMeant, Enters, Gone, IsPast, IsPastOf, IsShownIn, MemoryIsKept, Place, RunsEndAsMeant, RunsShowTheirMeaning, WasPast, all_texts, entry_gives, gone_changed, gone_moved, gone_none, history_of, in_world, texts_in}
 use Rattle.sc_mixed_means.specs.Stages.{Build, First, Live, Past, Stage, Then, from_here, texts_of}
+use Rattle.sc_mixed_means.specs.Waiting.{IsFit, KeepsWaiting}
 use Rattle.sc_mixed_means.proofs.Change.{changes_end, changes_keep}
 use Rattle.sc_mixed_means.proofs.Histories.{history_fits}
 use Rattle.sc_mixed_means.proofs.Moves.{alike_world, moves_keep}
@@ -62,7 +63,7 @@ shows_from w v u a l =
 -- ---- the stage of a run with these texts
 
 abbrev stage_at : Past → Build → List Build → Stage
-stage_at p c cs = record { past = p; image = c.image; later = cs }
+stage_at p c cs = record { past = p; image = c.image; places = c.places; later = cs }
 
 -- the history of a run has no version that has not come
 live : (b : Build) (bs : List Build) (c : Build) (cs : List Build) (p : Past) → IsPastOf b bs c cs p → (v : World) → Live p v (history_of p)
@@ -86,7 +87,7 @@ module _ (first : Place) (b : Build) (bs : List Build) where
   right_at _ _ _ _ (gone_moved k p q c cs moved g x e) r = right_at k p c cs g r
   right_at _ _ _ _ (gone_changed k p c d ds placed x g event is goes) r = (right_at k p c (d ∷ ds) g r).1
 
-  module _ (n : ℕ) (key : Key) (start born : World) (right : CompiledTextsAreRight (b ∷ bs)) (enters : Enters b key start born first) (memory : MemoryIsKept first b bs) where
+  module _ (n : ℕ) (key : Key) (start born : World) (right : CompiledTextsAreRight (b ∷ bs)) (enters : Enters b key start born first) (memory : MemoryIsKept first b bs n key born) where
     abbrev Kept : ℕ → Place → Build → List Build → Type 0
     Kept m p c cs = (past : Past) × IsPastOf b bs c cs past × Means m (stage_at past c cs) p.next p.calls p.world p.now (entry_gives n key born)
 
@@ -108,21 +109,37 @@ module _ (first : Place) (b : Build) (bs : List Build) where
       };
     }
 
-    keeps_by : (k : ℕ) (p q : Place) (c : Build) (cs : List Build) (moved : Moved) → Gone first b bs k p c cs → Moves c.texts c.image p.next p.calls p.world (Ok moved) q.next q.calls q.world → (next : Next) → p.next ≡ next → KeepsBy next (Ok moved) p.calls.lower p.world q.world
+    keeps_by : (k : ℕ) (p q : Place) (c : Build) (cs : List Build) (moved : Moved) → Gone first b bs k p c cs → Moves c.texts c.image p.next p.calls p.world (Ok moved) q.next q.calls q.world → (next : Next) → p.next ≡ next → KeepsBy next (Ok moved) p.calls.lower p.world q.world ⊎ WasPast first b bs n key born
     keeps_by k p q c cs moved g x (Steps going) e = memory.moves k p q c cs going moved g e x
-    keeps_by k p q c cs moved g x Executes e = tt
-    keeps_by k p q c cs moved g x (Serves i) e = tt
+    keeps_by k p q c cs moved g x Executes e = inl tt
+    keeps_by k p q c cs moved g x (Serves i) e = inl tt
+
+    fit_at : (k : ℕ) (p : Place) (c : Build) (cs : List Build) (past : Past) → Gone first b bs k p c cs → texts_of past ≡ c.texts → IsFit (texts_of past) c.places p.calls.lower p.world ⊎ WasPast first b bs n key born
+    fit_at k p c cs past g e = subst (λ ts. IsFit ts c.places p.calls.lower p.world ⊎ WasPast first b bs n key born) (sym e) (memory.fit k p c cs g)
+
+    comes_on : (k m : ℕ) (p q : Place) (c : Build) (cs : List Build) (moved : Moved) (past : Past) → Gone first b bs k p c cs → q.now ≡ moved.shown → IsPastOf b bs c cs past → Comes m (stage_at past c cs) p.world (Ok moved) q.next q.calls q.world (entry_gives n key born) → Kept m q c cs ⊎ WasPast first b bs n key born
+    comes_on k m p q c cs moved past g e so x =
+        elim x [
+          | inl z ↦ inl (past, so, subst (λ now. Means m (stage_at past c cs) q.next q.calls q.world now (entry_gives n key born)) (sym e) z)
+          | inr z ↦ inr (lost_here k p c cs past g so z)
+        ]
 
     moves_on : (k m : ℕ) (p q : Place) (c : Build) (cs : List Build) (moved : Moved) → Gone first b bs k p c cs → Moves c.texts c.image p.next p.calls p.world (Ok moved) q.next q.calls q.world → q.now ≡ moved.shown → Kept (suc m) p c cs → Kept m q c cs ⊎ WasPast first b bs n key born
     moves_on k m p q c cs moved g x e y =
-        elim (moves_keep m (stage_at y.0 c cs) p.next q.next p.calls q.calls p.world q.world p.now (Ok moved) (entry_gives n key born) ((right_at k p c cs g right).0 y.0 y.1.present) (memory.fit k p c cs g) y.2 (subst (λ ts. Moves ts c.image p.next p.calls p.world (Ok moved) q.next q.calls q.world) (sym y.1.present) x) (keeps_by k p q c cs moved g x p.next refl)) [
-          | inl z ↦ inl (y.0, y.1, subst (λ now. Means m (stage_at y.0 c cs) q.next q.calls q.world now (entry_gives n key born)) (sym e) z)
-          | inr z ↦ inr (lost_here k p c cs y.0 g y.1 z)
+        elim (fit_at k p c cs y.0 g y.1.present) [
+          | inl fit ↦
+              elim (keeps_by k p q c cs moved g x p.next refl) [
+                | inl keep ↦
+                    comes_on k m p q c cs moved y.0 g e y.1
+                    (moves_keep m (stage_at y.0 c cs) p.next q.next p.calls q.calls p.world q.world p.now (Ok moved) (entry_gives n key born) ((right_at k p c cs g right).0 y.0 y.1.present) fit y.2 (subst (λ ts. Moves ts c.image p.next p.calls p.world (Ok moved) q.next q.calls q.world) (sym y.1.present) x) keep)
+                | inr l ↦ inr l
+              ]
+          | inr l ↦ inr l
         ]
 
-    changes_on : (k m : ℕ) (p : Place) (c d : Build) (ds : List Build) (placed x : World) → Gone first b bs k p c (d ∷ ds) → IsEvent p.now → IsPlaced p.world placed → changed c.texts d.texts placed ≡ Done tt x → Kept m p c (d ∷ ds) → Kept m (in_world x p) d ds
-    changes_on k m p c d ds placed x g event is goes y =
-        let z = changes_keep m (stage_at y.0 c (d ∷ ds)) d ds refl p.next p.calls p.world placed x p.now (entry_gives n key born) y.2 event is (subst (λ ts. changed ts d.texts placed ≡ Done tt x) (sym y.1.present) goes) (memory.changes k p c d ds placed x g event is goes) in (
+    changes_on : (k m : ℕ) (p : Place) (c d : Build) (ds : List Build) (placed x : World) → Gone first b bs k p c (d ∷ ds) → IsEvent p.now → IsPlaced p.world placed → changed c.texts d.texts placed ≡ Done tt x → Kept m p c (d ∷ ds) → KeepsWaiting p.calls.lower p.world x → Kept m (in_world x p) d ds
+    changes_on k m p c d ds placed x g event is goes y keep =
+        let z = changes_keep m (stage_at y.0 c (d ∷ ds)) d ds refl p.next p.calls p.world placed x p.now (entry_gives n key born) y.2 event is (subst (λ ts. changed ts d.texts placed ≡ Done tt x) (sym y.1.present) goes) keep in (
           Then y.0 z.0 d.texts,
           record { order = (y.1.order, z.1); present = refl; all = append_assoc (all_texts y.0) (d.texts ∷ []) (map texts_in ds) ∙ y.1.all },
           z.2,
@@ -138,7 +155,10 @@ module _ (first : Place) (b : Build) (bs : List Build) where
     held _ m _ _ _ le (gone_moved k p q c cs moved g x e) =
         elim (held k (suc m) p c cs (omega (arith, le)) g) [ inl y ↦ moves_on k m p q c cs moved g x e y | inr l ↦ inr l ]
     held _ m _ _ _ le (gone_changed k p c d ds placed x g event is goes) =
-        elim (held k m p c (d ∷ ds) (omega (arith, le)) g) [ inl y ↦ inl (changes_on k m p c d ds placed x g event is goes y) | inr l ↦ inr l ]
+        elim (held k m p c (d ∷ ds) (omega (arith, le)) g) [
+          | inl y ↦ elim (memory.changes k p c d ds placed x g event is goes) [ inl keep ↦ inl (changes_on k m p c d ds placed x g event is goes y keep) | inr l ↦ inr l ]
+          | inr l ↦ inr l
+        ]
 
     broke : (k m : ℕ) (p : Place) (c : Build) (cs : List Build) (broken : Break) (after : Next) (d : Calls) (u : World) → Gone first b bs k p c cs → (past : Past) → IsPastOf b bs c cs past → Comes m (stage_at past c cs) p.world (Err broken) after d u (entry_gives n key born) → BreaksOff b bs n key born c cs broken u ⊎ WasPast first b bs n key born
     broke k m p c cs (Meant stop) after d u g past so x =
@@ -155,8 +175,12 @@ module _ (first : Place) (b : Build) (bs : List Build) where
 
     breaks : (k m : ℕ) (p : Place) (c : Build) (cs : List Build) (broken : Break) (after : Next) (d : Calls) (u : World) → Gone first b bs k p c cs → Moves c.texts c.image p.next p.calls p.world (Err broken) after d u → Kept (suc m) p c cs → BreaksOff b bs n key born c cs broken u ⊎ WasPast first b bs n key born
     breaks k m p c cs broken after d u g x y =
-        broke k m p c cs broken after d u g y.0 y.1
-        (moves_keep m (stage_at y.0 c cs) p.next after p.calls d p.world u p.now (Err broken) (entry_gives n key born) ((right_at k p c cs g right).0 y.0 y.1.present) (memory.fit k p c cs g) y.2 (subst (λ ts. Moves ts c.image p.next p.calls p.world (Err broken) after d u) (sym y.1.present) x) (keeps_broken broken p u p.next))
+        elim (fit_at k p c cs y.0 g y.1.present) [
+          | inl fit ↦
+              broke k m p c cs broken after d u g y.0 y.1
+              (moves_keep m (stage_at y.0 c cs) p.next after p.calls d p.world u p.now (Err broken) (entry_gives n key born) ((right_at k p c cs g right).0 y.0 y.1.present) fit y.2 (subst (λ ts. Moves ts c.image p.next p.calls p.world (Err broken) after d u) (sym y.1.present) x) (keeps_broken broken p u p.next))
+          | inr l ↦ inr l
+        ]
 
     change_ends : (k m : ℕ) (p : Place) (c d : Build) (ds : List Build) (placed : World) (e : Ending) → Gone first b bs k p c (d ∷ ds) → IsEvent p.now → IsPlaced p.world placed → changed c.texts d.texts placed ≡ Over e → Kept m p c (d ∷ ds) → (past : Past) × IsPastOf b bs d ds past × (f : Ending) × EndsAlike Like e f × (entry_gives n key born (history_of past) ≡ Over f)
     change_ends k m p c d ds placed e g event is goes y =
@@ -171,21 +195,21 @@ module _ (first : Place) (b : Build) (bs : List Build) where
         )
 
 pub runs_show : RunsShowTheirMeaning
-runs_show b bs key start born first right enters memory n k p c cs lt g =
+runs_show b bs n key start born first right enters memory k p c cs lt g =
     elim (held first b bs n key start born right enters memory k 0 p c cs (omega (arith, lt)) g) [
       | inl y ↦ inl (y.0, y.1, place_shown 0 (stage_at y.0 c cs) p.next p.calls p.world p.now (entry_gives n key born) (history_of y.0) (live b bs c cs y.0 y.1) y.2)
       | inr l ↦ inr l
     ]
 
 pub runs_end : RunsEndAsMeant
-runs_end b bs key start born first right enters memory n k p c cs broken after d u lt g x =
+runs_end b bs n key start born first right enters memory k p c cs broken after d u lt g x =
     elim (held first b bs n key start born right enters memory k 1 p c cs (omega (arith, lt)) g) [
       | inl y ↦ breaks first b bs n key start born right enters memory k 0 p c cs broken after d u g x y
       | inr l ↦ inr l
     ]
 
 pub changes_over : ChangesEndAsMeant
-changes_over b bs key start born first right enters memory n k p c d ds placed e lt g event is goes =
+changes_over b bs n key start born first right enters memory k p c d ds placed e lt g event is goes =
     elim (held first b bs n key start born right enters memory k 0 p c (d ∷ ds) (omega (arith, lt)) g) [
       | inl y ↦ inl (change_ends first b bs n key start born right enters memory k 0 p c d ds placed e g event is goes y)
       | inr l ↦ inr l

@@ -37,4 +37,4 @@ sources_mean s texts e sources n key xs c d w u v next code fit like x =
 
 pub nothing_owed : (bs : List Build) → BuildsAreSources bs → CompiledTextsAreRight bs
 nothing_owed [] p = tt
-nothing_owed (b ∷ bs) p = (λ past e. sources_mean (record { past = past; image = b.image; later = bs }) b.texts e p.0, nothing_owed bs p.1)
+nothing_owed (b ∷ bs) p = (λ past e. sources_mean (record { past = past; image = b.image; places = b.places; later = bs }) b.texts e p.0, nothing_owed bs p.1)

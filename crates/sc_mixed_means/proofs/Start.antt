@@ -47,7 +47,7 @@ alike_itself (going.Makes f x xs c) cs w = (w, like_same w, refl)
 alike_itself (going.Answers a) cs w = (w, like_same w, refl)
 
 abbrev pub first_stage : Build → List Build → Stage
-first_stage b bs = record { past = First b.texts; image = b.image; later = bs }
+first_stage b bs = record { past = First b.texts; image = b.image; places = b.places; later = bs }
 
 module _ (b : Build) (bs : List Build) (key : Key) (bound : ℕ) (born : World) where
   first : runs.callee_next (alone b.texts) key [] (callee_of (version_at (alone b.texts) (pass GoesOut born).count) key) [] (pass GoesOut born) ≡ entry_next b.texts key [] born
@@ -101,7 +101,7 @@ module _ (b : Build) (bs : List Build) (key : Key) (bound : ℕ) (born : World) 
         due = λ event. due_first n x.going w le x.state (subst IsEvent x.shown event) bs;
       }))
 
-  in_code : CallsMean (first_stage b bs) → (n : ℕ) (c : Calls) (w : World) (next : Next) (now : Shown) → suc n ≤ bound → is_code (callee_of b.texts key) ≡ true → IsFit [] (pass GoesOut born) → now ≡ Nothing → Calling b.image key [] no_calls (pass GoesOut born) next c w → Means n (first_stage b bs) next c w now (entry_gives bound key born)
+  in_code : CallsMean (first_stage b bs) → (n : ℕ) (c : Calls) (w : World) (next : Next) (now : Shown) → suc n ≤ bound → is_code (callee_of b.texts key) ≡ true → IsFit b.texts b.places [] (pass GoesOut born) → now ≡ Nothing → Calling b.image key [] no_calls (pass GoesOut born) next c w → Means n (first_stage b bs) next c w now (entry_gives bound key born)
   in_code right n c w next now le code fit hush x =
       let v : World = pass GoesOut born in
       let r = right n key [] no_calls c v w v next code fit (like_same v) x in
@@ -120,6 +120,6 @@ module _ (b : Build) (bs : List Build) (key : Key) (bound : ℕ) (born : World) 
       })
 
   -- the first place means the call of the entry, at every depth below the bound
-  pub entry_means : CallsMean (first_stage b bs) → (by : Bool) (n : ℕ) (c : Calls) (w : World) (next : Next) (now : Shown) → suc n ≤ bound → is_code (callee_of b.texts key) ≡ by → IsFit [] (pass GoesOut born) → EntryGoes by b.texts b.image key no_calls born next now c w → Means n (first_stage b bs) next c w now (entry_gives bound key born)
+  pub entry_means : CallsMean (first_stage b bs) → (by : Bool) (n : ℕ) (c : Calls) (w : World) (next : Next) (now : Shown) → suc n ≤ bound → is_code (callee_of b.texts key) ≡ by → IsFit b.texts b.places [] (pass GoesOut born) → EntryGoes by b.texts b.image key no_calls born next now c w → Means n (first_stage b bs) next c w now (entry_gives bound key born)
   entry_means right false n c w next now le e fit x = in_source n c w next now le x
   entry_means right true n c w next now le e fit x = in_code right n c w next now le e fit x.1 x.0

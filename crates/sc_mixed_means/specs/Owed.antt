@@ -1,6 +1,6 @@
 -- Yardstick: to be compared with what it restates (docs/TRUST.md).
 -- What compiled code owes to the meaning, n moves deep: a place of it stands for a world of the meaning and for what its outermost call gives from there.
--- Each move of it keeps that, or calls out, or returns, or the meaning's next step that a run would show is an undefined one of compiled code.
+-- Each move of it keeps that, or calls out, or returns, or the next step of the meaning that a run would show is an undefined one of compiled code.
 use Rattle.std.specs.Prelude.{◌≡◌, ◌⊎◌, ⊤, ℕ, zero, suc, ◌<◌, ◌≤◌, ◌&&◌, ◌||◌, not, nat_lt, Bool, true, false, List, [], ◌∷◌, length, Option, Some, Ok, Err}
 use Rattle.sc_base.specs.declared.key.Key.{Key}
 use Rattle.sc_base.specs.declared.report.Rule.{Rule}
@@ -163,16 +163,15 @@ pub data CodeMoved (Means : PlacesMean) (After : CodeWaits) (n : ℕ) (s : Stage
   code_on : CodeGoes Means s v q c now next d w → CodeMoved Means After n s v q c now next d w
   code_out : (g : Going) → next ≡ Steps g → CodeCalls After n s v q c now (state_of g d.callers w) d w → CodeMoved Means After n s v q c now next d w
   code_back : (a : Answer) → next ≡ Steps (going.Answers a) → (IsEvent now → ⊥) → CodeReturns s.past v q c.lower a d w → CodeMoved Means After n s v q c now next d w
-  code_lost : IsLost s.past v q → CodeMoved Means After n s v q c now next d w
 
 -- the run ends as the meaning does
 abbrev pub EndsSo : (p : Past) (v : World) → Gives p v → Stop → World → Type 0
 EndsSo p v q stop w = (e : Ending) → ending_of stop w ≡ Some e → (f : Ending) × EndsAlike Like e f × ((h : History) (l : Live p v h) → Live p (world_at f) h → q h l ≡ Over f)
 
 pub record PlaceOwes (Means : PlacesMean) (After : CodeWaits) (n : ℕ) (s : Stage) (next : Next) (c : Calls) (w v : World) (q : Gives s.past v) : Type 0 where
-  pub goes : (after : Next) (d : Calls) (u : World) (moved : Moved) → IsFit c.lower w → Like w v → Moves (texts_of s.past) s.image next c w (Ok moved) after d u → KeepsWaiting c.lower w u × CodeMoved Means After n s v q c moved.shown after d u
-  pub ends : (after : Next) (d : Calls) (u : World) (stop : Stop) → IsFit c.lower w → Like w v → Moves (texts_of s.past) s.image next c w (Err (Meant stop)) after d u → EndsSo s.past v q stop u ⊎ IsLost s.past v q
-  pub crashes : (after : Next) (d : Calls) (u : World) (pc : ℕ) (cause : Crash) → IsFit c.lower w → Like w v → Moves (texts_of s.past) s.image next c w (Err (Crashed pc cause)) after d u → IsLost s.past v q
+  pub goes : (after : Next) (d : Calls) (u : World) (moved : Moved) → IsFit (texts_of s.past) s.places c.lower w → Like w v → Moves (texts_of s.past) s.image next c w (Ok moved) after d u → (KeepsWaiting c.lower w u × CodeMoved Means After n s v q c moved.shown after d u) ⊎ IsLost s.past v q
+  pub ends : (after : Next) (d : Calls) (u : World) (stop : Stop) → IsFit (texts_of s.past) s.places c.lower w → Like w v → Moves (texts_of s.past) s.image next c w (Err (Meant stop)) after d u → EndsSo s.past v q stop u ⊎ IsLost s.past v q
+  pub crashes : (after : Next) (d : Calls) (u : World) (pc : ℕ) (cause : Crash) → IsFit (texts_of s.past) s.places c.lower w → Like w v → Moves (texts_of s.past) s.image next c w (Err (Crashed pc cause)) after d u → IsLost s.past v q
 
 -- ---- the answer comes
 
@@ -184,7 +183,7 @@ WaitChanges After (b ∷ bs) s r given ls old v a q =
 
 -- Where the call gives this answer, and what the code keeps in its frame is as it was, the code goes on behind the call.
 pub record WaitOwes (Means : PlacesMean) (After : CodeWaits) (s : Stage) (r : Registers) (given : Option Answer) (ls : List Lower) (old v : World) (a q : Gives s.past v) : Type 0 where
-  pub takes : (x : Answer) (c d : Calls) (next : Next) (w u : World) (part : Gives s.past u) → IsFit (InCode r given ∷ ls) w → Like w u → Keeps r old w → ((h : History) (l : Live s.past u h) → (k : Live s.past v h) × (a h k ≡ Done x u) × (part h l ≡ q h k)) → Resumes w x r given ls c next d → Means s next d w u part
+  pub takes : (x : Answer) (c d : Calls) (next : Next) (w u : World) (part : Gives s.past u) → IsFit (texts_of s.past) s.places (InCode r given ∷ ls) w → Like w u → Keeps r old w → ((h : History) (l : Live s.past u h) → (k : Live s.past v h) × (a h k ≡ Done x u) × (part h l ≡ q h k)) → Resumes w x r given ls c next d → Means s next d w u part
   pub changes : WaitChanges After s.later s r given ls old v a q
 
 abbrev mutual
@@ -201,11 +200,11 @@ abbrev mutual
 -- A call of compiled code, with its arguments in their places, gives what the meaning's call does.
 abbrev pub CallsMean : Stage → Type 0
 CallsMean s =
-    (n : ℕ) (key : Key) (xs : List Value) (c d : Calls) (w u v : World) (next : Next) → is_code (callee_of (texts_of s.past) key) ≡ true → IsFit c.lower w → Like w v → Calling s.image key xs c w next d u →
+    (n : ℕ) (key : Key) (xs : List Value) (c d : Calls) (w u v : World) (next : Next) → is_code (callee_of (texts_of s.past) key) ≡ true → IsFit (texts_of s.past) s.places c.lower w → Like w v → Calling s.image key xs c w next d u →
     Like u v × ((q : Gives s.past v) → ((h : History) (l : Live s.past v h) → (m : ℕ) × (suc n ≤ m) × (q h l ≡ call m h key xs v)) → CodeMeans n s next d u v q)
 
 -- So it is of all builds of a run, whatever came before. It is what the compiler's theorem is to give, of builds whose images are the linked texts of what the
 -- compiler made of their modules, each linked over the one before.
 abbrev pub CompiledTextsAreRight : List Build → Type 0
 CompiledTextsAreRight [] = ⊤
-CompiledTextsAreRight (b ∷ bs) = ((p : Past) → texts_of p ≡ b.texts → CallsMean (record { past = p; image = b.image; later = bs })) × CompiledTextsAreRight bs
+CompiledTextsAreRight (b ∷ bs) = ((p : Past) → texts_of p ≡ b.texts → CallsMean (record { past = p; image = b.image; places = b.places; later = bs })) × CompiledTextsAreRight bs

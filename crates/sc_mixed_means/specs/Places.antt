@@ -125,5 +125,5 @@ KeepsBy (Serves k) result ls w u = ⊤
 -- the step theorem: what a place of a run means before a move, it means after it
 abbrev pub MovesKeepTheMeaning : Type 0
 MovesKeepTheMeaning =
-    (n : ℕ) (s : Stage) (next after : Next) (c d : Calls) (w u : World) (now : Shown) (result : Result Moved Break) (out : History → Outcome Answer) → CallsMean s → IsFit c.lower w → Means (suc n) s next c w now out →
+    (n : ℕ) (s : Stage) (next after : Next) (c d : Calls) (w u : World) (now : Shown) (result : Result Moved Break) (out : History → Outcome Answer) → CallsMean s → IsFit (texts_of s.past) s.places c.lower w → Means (suc n) s next c w now out →
     Moves (texts_of s.past) s.image next c w result after d u → KeepsBy next result c.lower w u → Comes n s w result after d u out

@@ -60,12 +60,6 @@ pub data Gone (first : Place) (b : Build) (bs : List Build) : ℕ → Place → 
   gone_moved : (k : ℕ) (p q : Place) (c : Build) (cs : List Build) (moved : Moved) → Gone first b bs k p c cs → Moves c.texts c.image p.next p.calls p.world (Ok moved) q.next q.calls q.world → q.now ≡ moved.shown → Gone first b bs (suc k) q c cs
   gone_changed : (k : ℕ) (p : Place) (c d : Build) (ds : List Build) (placed x : World) → Gone first b bs k p c (d ∷ ds) → IsEvent p.now → IsPlaced p.world placed → changed c.texts d.texts placed ≡ Done tt x → Gone first b bs (suc k) (in_world x p) d ds
 
--- What the laws of memory are to give of a run: at each of its places the memory has the objects, and interpreted calls and changes keep what waits.
-pub record MemoryIsKept (first : Place) (b : Build) (bs : List Build) : Type 0 where
-  pub fit : (k : ℕ) (p : Place) (c : Build) (cs : List Build) → Gone first b bs k p c cs → IsFit p.calls.lower p.world
-  pub moves : (k : ℕ) (p q : Place) (c : Build) (cs : List Build) (g : Going) (moved : Moved) → Gone first b bs k p c cs → p.next ≡ Steps g → Moves c.texts c.image p.next p.calls p.world (Ok moved) q.next q.calls q.world → KeepsWaiting p.calls.lower p.world q.world
-  pub changes : (k : ℕ) (p : Place) (c d : Build) (ds : List Build) (placed x : World) → Gone first b bs k p c (d ∷ ds) → IsEvent p.now → IsPlaced p.world placed → changed c.texts d.texts placed ≡ Done tt x → KeepsWaiting p.calls.lower p.world x
-
 -- ---- the history of a run
 
 -- the versions: its first texts, and then each of the others behind so many events
@@ -121,6 +115,13 @@ pub record WasPast (first : Place) (b : Build) (bs : List Build) (n : ℕ) (key 
   pub follows : IsPastOf b bs build later past
   pub is : IsPast n key born place.world past
 
+-- What the laws of memory are to give of a run: at each of its places the memory has the objects, and interpreted calls and changes keep what waits; unless
+-- it was past an undefined step of compiled code.
+pub record MemoryIsKept (first : Place) (b : Build) (bs : List Build) (n : ℕ) (key : Key) (born : World) : Type 0 where
+  pub fit : (k : ℕ) (p : Place) (c : Build) (cs : List Build) → Gone first b bs k p c cs → IsFit c.texts c.places p.calls.lower p.world ⊎ WasPast first b bs n key born
+  pub moves : (k : ℕ) (p q : Place) (c : Build) (cs : List Build) (g : Going) (moved : Moved) → Gone first b bs k p c cs → p.next ≡ Steps g → Moves c.texts c.image p.next p.calls p.world (Ok moved) q.next q.calls q.world → KeepsWaiting p.calls.lower p.world q.world ⊎ WasPast first b bs n key born
+  pub changes : (k : ℕ) (p : Place) (c d : Build) (ds : List Build) (placed x : World) → Gone first b bs k p c (d ∷ ds) → IsEvent p.now → IsPlaced p.world placed → changed c.texts d.texts placed ≡ Done tt x → KeepsWaiting p.calls.lower p.world x ⊎ WasPast first b bs n key born
+
 -- how a move that breaks off leaves a run: as the meaning ends, under the history of its texts, but that memory may run out; it never crashes
 abbrev pub BreaksOff : (b : Build) (bs : List Build) → ℕ → Key → World → Build → List Build → Break → World → Type 0
 BreaksOff b bs n key born c cs (Meant stop) u =
@@ -131,26 +132,26 @@ BreaksOff b bs n key born c cs (Crashed pc cause) u = ⊥
 pub record Enters (b : Build) (key : Key) (start born : World) (first : Place) : Type 0 where
   pub births : statics_born b.texts start ≡ Done tt born
   pub entry : EntryGoes (is_code (callee_of b.texts key)) b.texts b.image key no_calls born first.next first.now first.calls first.world
-  pub fit : IsFit [] (pass GoesOut born)
+  pub fit : IsFit b.texts b.places [] (pass GoesOut born)
 
 -- The theorem on runs of both forms. What a place shows, that so many moves and changes reach, begins what the meaning of the entry's call shows, at each
 -- greater bound, under a history with the run's texts in their order; unless the run is past an undefined step of compiled code.
 abbrev pub RunsShowTheirMeaning : Type 0
 RunsShowTheirMeaning =
-    (b : Build) (bs : List Build) (key : Key) (start born : World) (first : Place) → CompiledTextsAreRight (b ∷ bs) → Enters b key start born first → MemoryIsKept first b bs →
-    (n k : ℕ) (p : Place) (c : Build) (cs : List Build) → k < n → Gone first b bs k p c cs →
+    (b : Build) (bs : List Build) (n : ℕ) (key : Key) (start born : World) (first : Place) → CompiledTextsAreRight (b ∷ bs) → Enters b key start born first → MemoryIsKept first b bs n key born →
+    (k : ℕ) (p : Place) (c : Build) (cs : List Build) → k < n → Gone first b bs k p c cs →
     ((past : Past) × IsPastOf b bs c cs past × IsShownIn p.world (world_after (entry_gives n key born (history_of past)))) ⊎ WasPast first b bs n key born
 
 -- Where it breaks off, it ends as the meaning does, or it was past such a step.
 abbrev pub RunsEndAsMeant : Type 0
 RunsEndAsMeant =
-    (b : Build) (bs : List Build) (key : Key) (start born : World) (first : Place) → CompiledTextsAreRight (b ∷ bs) → Enters b key start born first → MemoryIsKept first b bs →
-    (n k : ℕ) (p : Place) (c : Build) (cs : List Build) (broken : Break) (after : Next) (d : Calls) (u : World) → k + 1 < n → Gone first b bs k p c cs → Moves c.texts c.image p.next p.calls p.world (Err broken) after d u →
+    (b : Build) (bs : List Build) (n : ℕ) (key : Key) (start born : World) (first : Place) → CompiledTextsAreRight (b ∷ bs) → Enters b key start born first → MemoryIsKept first b bs n key born →
+    (k : ℕ) (p : Place) (c : Build) (cs : List Build) (broken : Break) (after : Next) (d : Calls) (u : World) → k + 1 < n → Gone first b bs k p c cs → Moves c.texts c.image p.next p.calls p.world (Err broken) after d u →
     BreaksOff b bs n key born c cs broken u ⊎ WasPast first b bs n key born
 
 -- Where a change ends it, so does the meaning under the history that has this change as its last version.
 abbrev pub ChangesEndAsMeant : Type 0
 ChangesEndAsMeant =
-    (b : Build) (bs : List Build) (key : Key) (start born : World) (first : Place) → CompiledTextsAreRight (b ∷ bs) → Enters b key start born first → MemoryIsKept first b bs →
-    (n k : ℕ) (p : Place) (c d : Build) (ds : List Build) (placed : World) (e : Ending) → k < n → Gone first b bs k p c (d ∷ ds) → IsEvent p.now → IsPlaced p.world placed → changed c.texts d.texts placed ≡ Over e →
+    (b : Build) (bs : List Build) (n : ℕ) (key : Key) (start born : World) (first : Place) → CompiledTextsAreRight (b ∷ bs) → Enters b key start born first → MemoryIsKept first b bs n key born →
+    (k : ℕ) (p : Place) (c d : Build) (ds : List Build) (placed : World) (e : Ending) → k < n → Gone first b bs k p c (d ∷ ds) → IsEvent p.now → IsPlaced p.world placed → changed c.texts d.texts placed ≡ Over e →
     ((past : Past) × IsPastOf b bs d ds past × (f : Ending) × EndsAlike Like e f × (entry_gives n key born (history_of past) ≡ Over f)) ⊎ WasPast first b bs n key born

@@ -7,11 +7,13 @@ use Rattle.sc_meaning.specs.Expressions.{Answer}
 use Rattle.sc_meaning.specs.Outcomes.{Outcome, went}
 use Rattle.sc_meaning.specs.Versions.{Text, History, version_at}
 use Rattle.sc_meaning.specs.World.{World, Event, Happens, pass}
+use Rattle.sc_program.specs.declared.storage.StaticId.{StaticId}
 
--- texts, and the image of those of them that are compiled
+-- texts, the image of those of them that are compiled, and where their code has the objects of static storage duration
 pub record Build : Type 0 where
   pub texts : List Text
   pub image : Image
+  pub places : List (StaticId × ℕ)
 
 -- the texts of a run so far: those that it began with, and behind so many events others, last those that are present
 pub data Past : Type 0 where
@@ -27,15 +29,16 @@ abbrev pub since : Past → ℕ
 since (First texts) = 0
 since (Then p count texts) = count
 
--- where a run is among its builds: what was, the image that is present, and what is still to come
+-- where a run is among its builds: what was, the image that is present and its places, and what is still to come
 pub record Stage : Type 0 where
   pub past : Past
   pub image : Image
+  pub places : List (StaticId × ℕ)
   pub later : List Build
 
 -- the next build has come, behind so many events
 abbrev pub next_stage : Stage → ℕ → Build → List Build → Stage
-next_stage s count b bs = record { past = Then s.past count b.texts; image = b.image; later = bs }
+next_stage s count b bs = record { past = Then s.past count b.texts; image = b.image; places = b.places; later = bs }
 
 -- from one count of events on, and up to another, no version of the history comes, and these texts are present
 pub record IsStill (from until : ℕ) (texts : List Text) (h : History) : Type 0 where
