@@ -1,5 +1,5 @@
 -- The next build of a run comes behind an event: the place in the changed world means under the new texts what it meant, or the run ended as the meaning does.
-use Rattle.std.proofs.Common.{◌≡◌, ℕ, ◌+◌, ◌<◌, ◌≤◌, Bool, true, false, if◌then◌else◌, List, [], ◌∷◌, arith, refl, sym, ap, ◌∙◌, subst, Option, Some, None}
+use Rattle.std.proofs.Common.{◌≡◌, ℕ, ◌<◌, ◌≤◌, Bool, true, false, if◌then◌else◌, List, [], ◌∷◌, arith, refl, sym, ap, ◌∙◌, subst, Option, Some, None}
 use Rattle.sc_program.specs.declared.storage.StaticId.{StaticId}
 use Rattle.sc_program.specs.declared.storage.StaticId.TheVariants.{Named, Literal}
 use Rattle.sc_meaning.specs.World.{World, named_in}
@@ -30,9 +30,9 @@ use Rattle.sc_mixed.specs.declared.calls.Lower.{Lower}
 use Rattle.sc_mixed.specs.declared.calls.Next.{Next}
 use Rattle.sc_mixed.specs.declared.calls.Next.TheVariants.{Steps, Executes, Serves}
 use Rattle.sc_world.specs.Standing.{state_of}
-use Rattle.sc_mixed_means.specs.Places.{CodeChange, CodeDue, CodeStands, Means, StateGives, StepsChange, StepsDue, StepsMean}
+use Rattle.sc_mixed_means.specs.Places.{CodeChange, CodeDue, CodeStands, Means, StepsChange, StepsDue, StepsMean}
 use Rattle.sc_mixed_means.specs.Runs.{Changed, ChangeEnds}
-use Rattle.sc_mixed_means.specs.Stages.{Build, ComesWith, Fits, Gives, Live, Past, Stage, Then, from_here, next_stage, since, texts_of}
+use Rattle.sc_mixed_means.specs.Stages.{Build, Gives, Live, Stage, Then, from_here, next_stage, since, texts_of}
 use Rattle.sc_mixed_means.specs.Waiting.{KeepsWaiting}
 use Rattle.sc_mixed_means.proofs.Parts.{lower_kept}
 use Rattle.sc_mixed_means.proofs.Versions.{changes_alike}
@@ -133,9 +133,9 @@ module _ (n : ℕ) (s : Stage) (b : Build) (bs : List Build) (e : s.later ≡ b 
 
   -- the change goes through
   pub changes_keep : (next : Next) (c : Calls) (w u x : World) (now : Shown) (out : History → Outcome Answer) → Means n s next c w now out → IsEvent now → IsPlaced w u → changed (texts_of s.past) b.texts u ≡ Done tt x → KeepsWaiting c.lower w x → Changed n s b bs next c x out
-  changes_keep (Steps g) c w u x now out m event placed goes keep = ((world_of m.stands).count, steps_change g c.callers w u x c.lower now out m event placed goes keep)
-  changes_keep Executes c w u x now out m event placed goes keep = (m.stands.count, code_change Executes c w u x now out m event placed goes keep)
-  changes_keep (Serves k) c w u x now out m event placed goes keep = (m.stands.count, code_change (Serves k) c w u x now out m event placed goes keep)
+  changes_keep (Steps g) c w u x now out m event placed goes keep = let z = steps_change g c.callers w u x c.lower now out m event placed goes keep in ((world_of m.stands).count, z.0, z.1)
+  changes_keep Executes c w u x now out m event placed goes keep = let z = code_change Executes c w u x now out m event placed goes keep in (m.stands.count, z.0, z.1)
+  changes_keep (Serves k) c w u x now out m event placed goes keep = let z = code_change (Serves k) c w u x now out m event placed goes keep in (m.stands.count, z.0, z.1)
 
   -- or the run ends in it
   steps_over : (g : Going) (cs : List Caller) (w u : World) (ls : List Lower) (now : Shown) (out : History → Outcome Answer) → (m : StepsMean n s (state_of g cs w) ls w now out) → (f : Ending) → IsEvent now → IsPlaced w u → changed (texts_of s.past) b.texts u ≡ Over f → ChangeEnds s b f out

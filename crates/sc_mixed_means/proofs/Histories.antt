@@ -1,12 +1,11 @@
 -- The history of a run fits: each version is put behind those that came, at a later count, and what was said of a history before holds of it with one more.
-use Rattle.std.proofs.Common.{◌≡◌, ℕ, ◌+◌, ◌<◌, ◌≤◌, List, [], ◌∷◌, ◌++◌, arith, refl, sym, ap, ◌∙◌, subst}
-use Rattle.sc_meaning.specs.World.{World, Event, Happens, pass}
+use Rattle.std.proofs.Common.{◌≡◌, ℕ, ◌<◌, ◌≤◌, List, [], ◌∷◌, ◌++◌, arith, sym, ap, ◌∙◌}
+use Rattle.sc_meaning.specs.World.{Happens, pass}
 use Rattle.sc_meaning.specs.Outcomes.{and_then}
 use Rattle.sc_meaning.specs.Versions.{Text, Version, History, version_at}
-use Rattle.sc_meaning.specs.Changes.{changed, happened}
+use Rattle.sc_meaning.specs.Changes.{changed}
 use Rattle.sc_meaning.specs.Laws.{HaveCome}
-use Rattle.sc_interp.specs.Steady.{alone}
-use Rattle.sc_interp.proofs.Unchanged.{quiet, present}
+use Rattle.sc_interp.proofs.Unchanged.{present}
 use Rattle.sc_interp_change_laws.proofs.Between.{Agree, event_counts}
 use Rattle.sc_interp_change_laws.proofs.Later.{changes_now, changes_nothing_before, is_present}
 use Rattle.sc_interp_change_laws.proofs.Changed.{agree_before, event_behind}

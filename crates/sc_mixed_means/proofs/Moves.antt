@@ -1,6 +1,6 @@
 -- What a place of a run means before a move, it means after it.
-use Rattle.std.proofs.Common.{◌≡◌, ◌⊎◌, inl, inr, ℕ, zero, suc, ◌+◌, ◌<◌, ◌≤◌, ◌&&◌, not, Bool, true, false, List, [], ◌∷◌, arith, refl, sym, ap, ◌∙◌, subst, Option, Some, None}
-use Rattle.std.specs.Prelude.{⊤, Result, Ok, Err}
+use Rattle.std.proofs.Common.{◌≡◌, inl, inr, ℕ, zero, suc, ◌<◌, ◌≤◌, ◌&&◌, not, Bool, true, false, List, [], ◌∷◌, arith, refl, sym, ap, ◌∙◌, subst, Option, Some, None}
+use Rattle.std.specs.Prelude.{Result, Ok, Err}
 use Rattle.std.proofs.lemmas.List.{append-nil}
 use Rattle.std.specs.Option.{is_some}
 use Rattle.sc_base.specs.declared.key.Key.{Key}
@@ -23,7 +23,7 @@ use Rattle.sc_like.specs.Outcomes.{EndsAlike}
 use Rattle.sc_like.specs.States.{StatesAlike}
 use Rattle.sc_interp_laws.specs.Worlds.{world_of}
 use Rattle.sc_interp_laws.proofs.RunSteps.{advance_leads}
-use Rattle.sc_interp_change_laws.specs.Following.{changed_state, Shows}
+use Rattle.sc_interp_change_laws.specs.Following.{Shows}
 use Rattle.sc_interp_change_laws.specs.Showing.{IsEvent}
 use Rattle.sc_interp_change_laws.proofs.Between.{Agree, count_grows}
 use Rattle.sc_interp_change_laws.proofs.Steps.{step_same}
@@ -49,7 +49,7 @@ use Rattle.sc_mixed.specs.declared.calls.Next.TheVariants.{Steps, Executes, Serv
 use Rattle.sc_world.specs.Standing.{state_of}
 use Rattle.sc_mixed_means.specs.Owed.{CallsMean, CodeMeans, CodeAfter, CodeMoved, CodeReturns, IsCode, IsLost, PlaceDue, PlaceOwes, StateDue, WaitOwes, code_on, code_out, code_back}
 use Rattle.sc_mixed_means.specs.Places.{CodeDue, CodeStands, Comes, KeepsBy, LowerAfter, Means, MovesKeepTheMeaning, StateGives, StepsDue, StepsMean}
-use Rattle.sc_mixed_means.specs.Stages.{Build, ComesWith, Fits, First, Gives, IsPartOf, Live, Past, Stage, Then, from_here, since, texts_of}
+use Rattle.sc_mixed_means.specs.Stages.{Build, Fits, First, Gives, Live, Past, Stage, Then, from_here, since, texts_of}
 use Rattle.sc_mixed_means.specs.Waiting.{IsFit, Keeps, KeepsWaiting}
 use Rattle.sc_mixed_means.proofs.Parts.{earlier, onward, is_onward, lower_weaker, lower_on, lower_kept, lower_over, lower_changed, lower_due}
 use Rattle.sc_mixed_means.proofs.Versions.{as_alone, steps_alike, shown_alike, step_at, turned}
@@ -104,15 +104,15 @@ module _ (s : Stage) where
   -- ---- a step of interpreted calls
 
   module _ (n : ℕ) (state : State) (ls : List Lower) (w : World) (now : Shown) (out : History → Outcome Answer) (m : StepsMean (suc n) s state ls w now out) where
-    same : runs.advance (alone (texts_of s.past)) m.stands ≡ steady.advance (alone (texts_of s.past)) (texts_of s.past) m.stands
-    same = same_step (alone (texts_of s.past)) (texts_of s.past) (quiet (texts_of s.past)) (present (texts_of s.past)) m.stands
+    steady_step : runs.advance (alone (texts_of s.past)) m.stands ≡ steady.advance (alone (texts_of s.past)) (texts_of s.past) m.stands
+    steady_step = same_step (alone (texts_of s.past)) (texts_of s.past) (quiet (texts_of s.past)) (present (texts_of s.past)) m.stands
 
     grew : (world_of m.stands).count ≤ (world_of (steady.advance (alone (texts_of s.past)) (texts_of s.past) m.stands)).count
-    grew = subst (λ (x : State). (world_of m.stands).count ≤ (world_of x).count) same (count_grows (world_of m.stands) (world_of (runs.advance (alone (texts_of s.past)) m.stands)) (advance_leads (alone (texts_of s.past)) m.stands))
+    grew = subst (λ (x : State). (world_of m.stands).count ≤ (world_of x).count) steady_step (count_grows (world_of m.stands) (world_of (runs.advance (alone (texts_of s.past)) m.stands)) (advance_leads (alone (texts_of s.past)) m.stands))
 
     step_alone : (h : History) (c : ℕ) → Fits s.past h c → (world_of (steady.advance (alone (texts_of s.past)) (texts_of s.past) m.stands)).count < c → runs.advance h m.stands ≡ steady.advance (alone (texts_of s.past)) (texts_of s.past) m.stands
     step_alone h c fits lt =
-        sym (step_same (since s.past) c (alone (texts_of s.past)) h (turned (since s.past) c h (alone (texts_of s.past)) (agree s.past h c fits)) m.stands m.gives.late (subst (λ (x : State). (world_of x).count < c) (sym same) lt)) ∙ same
+        sym (step_same (since s.past) c (alone (texts_of s.past)) h (turned (since s.past) c h (alone (texts_of s.past)) (agree s.past h c fits)) m.stands m.gives.late (subst (λ (x : State). (world_of x).count < c) (sym steady_step) lt)) ∙ steady_step
 
     deeper : (k : ℕ) × (n ≤ k) × ((h : History) (l : Live s.past (world_of m.stands) h) → left.Means h k (runs.advance h m.stands) (m.gives.gives h l))
     deeper = follow n m.gives.deep s.past (world_of m.stands) m.stands m.gives.gives m.gives.enough m.gives.means

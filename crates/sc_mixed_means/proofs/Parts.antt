@@ -1,11 +1,9 @@
 -- What waits below takes what comes of it: in a later world, behind other moves, and behind a change.
-use Rattle.std.proofs.Common.{◌≡◌, ℕ, zero, suc, ◌+◌, ◌<◌, ◌≤◌, List, [], ◌∷◌, ◌++◌, append_assoc, arith, refl, sym, ap, ◌∙◌, subst, Option}
-use Rattle.std.specs.Prelude.{⊤}
-use Rattle.sc_emu.specs.Registers.{Registers, register}
-use Rattle.sc_interp_change_laws.proofs.Between.{count_grows}
+use Rattle.std.proofs.Common.{◌≡◌, ℕ, zero, suc, ◌≤◌, List, [], ◌∷◌, ◌++◌, append_assoc, arith, refl, sym, ap, ◌∙◌, subst, Option}
+use Rattle.sc_emu.specs.Registers.{Registers}
 use Rattle.sc_interp_laws.proofs.RunMeans.{means_leads}
 use Rattle.sc_interp_machine.specs.RunMeans as left
-use Rattle.sc_interp_machine.specs.Runs.{Caller, State, Answers}
+use Rattle.sc_interp_machine.specs.Runs.{Caller, Answers}
 use Rattle.sc_interp_machine.proofs.RunFollows.{over}
 use Rattle.sc_meaning.specs.Expressions.{Answer}
 use Rattle.sc_meaning.specs.Laws.{Leads}
@@ -17,11 +15,10 @@ use Rattle.sc_mixed.specs.declared.calls.Calls.{Calls}
 use Rattle.sc_mixed.specs.declared.calls.Lower.{Lower}
 use Rattle.sc_mixed.specs.declared.calls.Lower.TheVariants.{InBodies, InCode}
 use Rattle.sc_mixed.specs.declared.calls.Next.{Next}
-use Rattle.sc_services.specs.Memory.{IsBareAt}
 use Rattle.sc_mixed_means.specs.Owed.{CodeMeans, CodeAfter, GoThrough, Lead, WaitChanges}
 use Rattle.sc_mixed_means.specs.Places.{LowerAfter, LowerDue}
 use Rattle.sc_mixed_means.specs.Stages.{Build, Past, Then, Stage, Live, Gives, ArePartsOf, IsPartOf, from_here, next_stage}
-use Rattle.sc_mixed_means.specs.Waiting.{Keeps, KeepsWaiting, stored_in}
+use Rattle.sc_mixed_means.specs.Waiting.{Keeps, KeepsWaiting}
 
 -- ---- parts
 

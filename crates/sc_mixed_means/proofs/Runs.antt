@@ -1,9 +1,8 @@
 -- Moves and changes one after another keep what a place means, and what is shown begins what the history of the run's texts gives.
-use Rattle.std.proofs.Common.{◌≡◌, ◌⊎◌, inl, inr, ℕ, zero, suc, ◌+◌, ◌<◌, ◌≤◌, List, [], ◌∷◌, ◌++◌, arith, refl, sym, ap, ◌∙◌, subst, append_assoc, Some}
+use Rattle.std.proofs.Common.{◌≡◌, ◌⊎◌, inl, inr, ℕ, suc, ◌+◌, ◌≤◌, List, [], ◌∷◌, ◌++◌, arith, refl, sym, ap, ◌∙◌, subst, append_assoc}
 use Rattle.std.proofs.lemmas.List.{append-nil}
-use Rattle.std.specs.Prelude.{⊤, map, Result, Ok, Err}
+use Rattle.std.specs.Prelude.{map, Ok, Err}
 use Rattle.sc_base.specs.declared.key.Key.{Key}
-use Rattle.sc_interp.specs.declared.going.Going.{Going}
 use Rattle.sc_interp.specs.declared.stepped.Shown.{Shown}
 use Rattle.sc_interp_change_laws.specs.Showing.{IsEvent}
 use Rattle.sc_interp_laws.specs.Worlds.{world_of}
@@ -14,7 +13,7 @@ use Rattle.sc_meaning.specs.Expressions.{Answer}
 use Rattle.sc_meaning.specs.Changes.{changed}
 use Rattle.sc_meaning.specs.Laws.{Leads}
 use Rattle.sc_meaning.specs.Outcomes.{Outcome, Done, Over, Ending, world_after, world_at}
-use Rattle.sc_meaning.specs.Versions.{Text, History, callee_of}
+use Rattle.sc_meaning.specs.Versions.{History, callee_of}
 use Rattle.sc_meaning.specs.World.{World, Item}
 use Rattle.sc_meaning.proofs.Steps.{on}
 use Rattle.sc_meaning.proofs.Trails.{trail-passed}
@@ -27,9 +26,9 @@ use Rattle.sc_mixed.specs.declared.calls.Calls.{Calls}
 use Rattle.sc_mixed.specs.declared.calls.Moved.{Moved}
 use Rattle.sc_mixed.specs.declared.calls.Next.{Next}
 use Rattle.sc_mixed.specs.declared.calls.Next.TheVariants.{Steps, Executes, Serves}
-use Rattle.sc_mixed_means.specs.Owed.{CallsMean, CompiledTextsAreRight}
+use Rattle.sc_mixed_means.specs.Owed.{CompiledTextsAreRight}
 use Rattle.sc_mixed_means.specs.Places.{CodeStands, Comes, IsLostFrom, KeepsBy, Means}
-use Rattle.sc_mixed_means.specs.Runs.{BreaksOff, ChangesEndAsMeant, Enters, Gone, IsPast, IsPastOf, IsShownIn, MemoryIsKept, Place, RunsEndAsMeant, RunsShowTheirMeaning, WasPast, all_texts, entry_gives, gone_changed, gone_moved, gone_none, history_of, in_world, texts_in}
+use Rattle.sc_mixed_means.specs.Runs.{BreaksOff, ChangesEndAsMeant, Enters, Gone, IsPastOf, IsShownIn, MemoryIsKept, Place, RunsEndAsMeant, RunsShowTheirMeaning, WasPast, all_texts, entry_gives, gone_changed, gone_moved, gone_none, history_of, in_world, texts_in}
 use Rattle.sc_mixed_means.specs.Stages.{Build, First, Live, Past, Stage, Then, from_here, texts_of}
 use Rattle.sc_mixed_means.specs.Waiting.{IsFit, KeepsWaiting}
 use Rattle.sc_mixed_means.proofs.Change.{changes_end, changes_keep}

@@ -1,10 +1,7 @@
 -- The start of a run: the call of the entry behind the births of the first build.
-use Rattle.std.proofs.Common.{◌≡◌, ℕ, suc, ◌+◌, ◌<◌, ◌≤◌, Bool, true, false, List, [], ◌∷◌, arith, refl, sym, ap, ◌∙◌, subst}
+use Rattle.std.proofs.Common.{◌≡◌, ℕ, suc, ◌<◌, ◌≤◌, Bool, true, false, List, [], ◌∷◌, arith, refl, sym, ap, ◌∙◌, subst}
 use Rattle.sc_base.specs.declared.key.Key.{Key}
-use Rattle.sc_meaning.specs.Calls.{call}
-use Rattle.sc_meaning.specs.Expressions.{Answer}
-use Rattle.sc_meaning.specs.Outcomes.{Outcome}
-use Rattle.sc_meaning.specs.Versions.{Text, History, callee_of, version_at}
+use Rattle.sc_meaning.specs.Versions.{History, callee_of, version_at}
 use Rattle.sc_meaning.specs.World.{World, GoesOut, pass}
 use Rattle.sc_interp_machine.specs.RunMeans as left
 use Rattle.sc_interp_machine.specs.Runs as runs
@@ -16,7 +13,6 @@ use Rattle.sc_like.proofs.Hiding.{like_same}
 use Rattle.sc_interp_laws.specs.Worlds.{world_of}
 use Rattle.sc_interp_change_laws.specs.Following.{changed_state, reached_in, Shows}
 use Rattle.sc_interp_change_laws.specs.Showing.{IsEvent}
-use Rattle.sc_interp_change_laws.proofs.Between.{Agree}
 use Rattle.sc_interp_change_laws.proofs.Steps.{named_same}
 use Rattle.sc_interp_change_laws.proofs.Showing.{first_shows}
 use Rattle.sc_interp.specs.declared.going.Going.{Going}
@@ -36,7 +32,7 @@ use Rattle.sc_world.specs.Standing.{state_of}
 use Rattle.sc_mixed_means.specs.Owed.{CallsMean, CodeMeans}
 use Rattle.sc_mixed_means.specs.Places.{LowerAfter, Means, StepsDue}
 use Rattle.sc_mixed_means.specs.Runs.{entry_gives}
-use Rattle.sc_mixed_means.specs.Stages.{Build, ComesWith, First, Fits, IsStill, Live, Stage, from_here}
+use Rattle.sc_mixed_means.specs.Stages.{Build, First, Live, Stage, from_here}
 use Rattle.sc_mixed_means.specs.Waiting.{IsFit}
 use Rattle.sc_mixed_means.proofs.Moves.{agree}
 use Rattle.sc_mixed_means.proofs.Versions.{turned, changed_there}

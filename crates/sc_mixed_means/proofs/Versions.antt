@@ -1,14 +1,11 @@
 -- Interpreted moves of a run whose versions change: before the event with which the next version comes a step is the same as under the present texts
 -- alone; the step that ends with this event leaves the changed run; and a change does the same in worlds that are alike.
-use Rattle.std.proofs.Common.{◌≡◌, ℕ, ◌+◌, ◌<◌, List, [], arith, refl, sym, ap, ◌∙◌, subst}
-use Rattle.sc_meaning.specs.World.{World, Event, Happens, pass}
-use Rattle.sc_meaning.specs.Outcomes.{Outcome, Done, Over, Ending, Undefined, Exit, StackFull, BirthLimit, OutOfFuel, world_after}
+use Rattle.std.proofs.Common.{◌≡◌, ℕ, ◌<◌, List, [], arith, refl, sym, ap, ◌∙◌, subst}
+use Rattle.sc_meaning.specs.World.{World}
+use Rattle.sc_meaning.specs.Outcomes.{Outcome, Done, Over, Ending, Undefined, Exit, StackFull, BirthLimit, OutOfFuel}
 use Rattle.sc_meaning.specs.Versions.{Text, History, version_at}
-use Rattle.sc_meaning.specs.Changes.{changed, happened}
-use Rattle.sc_meaning.specs.Expressions.{Answer}
-use Rattle.sc_meaning.specs.Laws.{Leads}
+use Rattle.sc_meaning.specs.Changes.{changed}
 use Rattle.sc_interp_machine.specs.Bodies as body
-use Rattle.sc_interp_machine.specs.RunMeans as left
 use Rattle.sc_interp_machine.specs.Runs as runs
 use Rattle.sc_interp_machine.specs.Runs.{State, Runs, Makes, Answers, Ends, then_goes}
 use Rattle.sc_like.specs.Alike.{Like}

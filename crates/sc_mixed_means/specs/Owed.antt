@@ -25,7 +25,7 @@ use Rattle.sc_meaning.specs.Changes.{changed}
 use Rattle.sc_meaning.specs.Expressions.{Answer}
 use Rattle.sc_meaning.specs.Laws.{Leads}
 use Rattle.sc_meaning.specs.Marks.{out_after}
-use Rattle.sc_meaning.specs.Outcomes.{Outcome, Done, Over, Ending, Undefined, Breach, world_at, world_after}
+use Rattle.sc_meaning.specs.Outcomes.{Done, Over, Ending, Undefined, Breach, world_at, world_after}
 use Rattle.sc_meaning.specs.Values.{Value}
 use Rattle.sc_meaning.specs.Versions.{History, callee_of}
 use Rattle.sc_meaning.specs.World.{World, Item}
@@ -203,8 +203,10 @@ CallsMean s =
     (n : ℕ) (key : Key) (xs : List Value) (c d : Calls) (w u v : World) (next : Next) → is_code (callee_of (texts_of s.past) key) ≡ true → IsFit (texts_of s.past) s.places c.lower w → Like w v → Calling s.image key xs c w next d u →
     Like u v × ((q : Gives s.past v) → ((h : History) (l : Live s.past v h) → (m : ℕ) × (suc n ≤ m) × (q h l ≡ call m h key xs v)) → CodeMeans n s next d u v q)
 
--- So it is of all builds of a run, whatever came before. It is what the compiler's theorem is to give, of builds whose images are the linked texts of what the
--- compiler made of their modules, each linked over the one before.
+-- So it is of all builds of a run, whatever came before: the one premise on compiled code. It is to be met by the theorem on the compiler, for builds whose
+-- images are the linked texts of what the compiler made of their modules, each linked over the one before: a text that is made of a formed function does,
+-- instruction by instruction, what the meaning of that function does. Where the machine leaves free what is written (a store over an object's end, a copy
+-- that is not inside two objects) such a text comes behind an undefined step alone.
 abbrev pub CompiledTextsAreRight : List Build → Type 0
 CompiledTextsAreRight [] = ⊤
 CompiledTextsAreRight (b ∷ bs) = ((p : Past) → texts_of p ≡ b.texts → CallsMean (record { past = p; image = b.image; places = b.places; later = bs })) × CompiledTextsAreRight bs

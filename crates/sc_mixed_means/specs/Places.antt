@@ -1,8 +1,7 @@
 -- Inside: plumbing, a representation, an invariant or a promise beside the claim (docs/TRUST.md).
 -- What a place of a run stands for, n moves deep: a world of the meaning, and what each history that the run can still have gives from there.
-use Rattle.std.specs.Prelude.{◌≡◌, ◌⊎◌, ⊤, ℕ, suc, ◌<◌, ◌≤◌, List, [], ◌∷◌, Result, Ok, Err, Some}
+use Rattle.std.specs.Prelude.{◌≡◌, ◌⊎◌, ⊤, ℕ, suc, ◌<◌, ◌≤◌, List, [], ◌∷◌, Result, Ok, Err}
 use Rattle.sc_interp.specs.declared.stepped.Shown.{Shown}
-use Rattle.sc_interp_access.specs.Gives.{ending_of}
 use Rattle.sc_interp_access.specs.declared.stop.Stop.{Stop}
 use Rattle.sc_interp_change_laws.specs.Following.{changed_state}
 use Rattle.sc_interp_change_laws.specs.Showing.{IsEvent}
@@ -25,7 +24,7 @@ use Rattle.sc_mixed.specs.declared.calls.Moved.{Moved}
 use Rattle.sc_mixed.specs.declared.calls.Next.{Next}
 use Rattle.sc_mixed.specs.declared.calls.Next.TheVariants.{Steps, Executes, Serves}
 use Rattle.sc_world.specs.Standing.{state_of}
-use Rattle.sc_mixed_means.specs.Owed.{CallsMean, CodeMeans, CodeAfter, EndsSo, IsCode, IsLost, PlaceChanges}
+use Rattle.sc_mixed_means.specs.Owed.{CallsMean, CodeMeans, CodeAfter, EndsSo, IsLost, PlaceChanges}
 use Rattle.sc_mixed_means.specs.Stages.{Build, ComesWith, Fits, Gives, IsPartOf, Live, Stage, Then, from_here, next_stage, since, texts_of}
 use Rattle.sc_mixed_means.specs.Waiting.{IsFit, Keeps, KeepsWaiting}
 

@@ -1,15 +1,14 @@
 -- Yardstick: to be compared with what it restates (docs/TRUST.md).
 -- A run of both forms from its start on, through moves and changes of its texts, and what it shows: a beginning of what the meaning of its call shows under
 -- the history of its texts.
-use Rattle.std.specs.Prelude.{◌≡◌, ◌⊎◌, ⊤, ℕ, zero, suc, ◌+◌, ◌<◌, ◌≤◌, List, [], ◌∷◌, ◌++◌, map, Ok, Err, Some}
+use Rattle.std.specs.Prelude.{◌≡◌, ◌⊎◌, ⊤, ℕ, suc, ◌+◌, ◌<◌, true, List, [], ◌∷◌, ◌++◌, map, Ok, Err, Some}
 use Rattle.sc_base.specs.declared.key.Key.{Key}
 use Rattle.sc_interp.specs.declared.going.Going.{Going}
 use Rattle.sc_interp.specs.declared.stepped.Shown.{Shown}
 use Rattle.sc_interp.specs.declared.stepped.Shown.TheVariants.{Nothing}
 use Rattle.sc_interp_access.specs.Gives.{ending_of}
-use Rattle.sc_interp_access.specs.declared.stop.Stop.{Stop}
 use Rattle.sc_interp_change_laws.specs.Showing.{IsEvent}
-use Rattle.sc_like.specs.Alike.{shown_of}
+use Rattle.sc_like.specs.Alike.{Like, shown_of}
 use Rattle.sc_like.specs.Outcomes.{EndsAlike}
 use Rattle.sc_meaning.specs.Calls.{call}
 use Rattle.sc_meaning.specs.Changes.{changed, statics_born}

@@ -1,6 +1,6 @@
 -- Yardstick: to be compared with what it restates (docs/TRUST.md).
 -- The texts of a run from its start on, as builds that come one after another, and the histories that a run can still turn out to have.
-use Rattle.std.specs.Prelude.{◌≡◌, ℕ, ◌+◌, ◌<◌, ◌≤◌, List, [], ◌∷◌}
+use Rattle.std.specs.Prelude.{◌≡◌, ℕ, ◌+◌, ◌<◌, ◌≤◌, List}
 use Rattle.sc_isa_image.specs.declared.image.Image.{Image}
 use Rattle.sc_meaning.specs.Changes.{changed, happened}
 use Rattle.sc_meaning.specs.Expressions.{Answer}
