@@ -1,5 +1,5 @@
 -- A block is entered and left, and a frame as a run begins.
-use Rattle.std.proofs.Common.{◌≡◌, ◌≢◌, inl, inr, ℕ, zero, suc, ◌+◌, ◌-◌, ◌%◌, ◌≤◌, List, [], ◌∷◌, ◌++◌, Some, refl, subst, arith}
+use Rattle.std.proofs.Common.{◌≡◌, ◌≢◌, inl, inr, ℕ, zero, suc, ◌+◌, ◌-◌, ◌%◌, ◌<◌, ◌≤◌, false, List, [], ◌∷◌, ◌++◌, Some, refl, sym, subst, ◌∙◌, arith}
 use Rattle.std.specs.Prelude.{slice_get}
 use Rattle.sc_program.specs.declared.frame.Slot.{Slot}
 use Rattle.sc_core.specs.declared.module.Auto.{Auto}
@@ -111,3 +111,36 @@ first_frame slots cost s there heap stack le four =
       only = λ id p live. absurd (nothing_there id p live.0);
       lives = λ o has i id e. absurd has;
     }
+
+-- ---- slots that fit: one object of four bytes, in a frame of sixteen
+abbrev one_slot : Slot
+one_slot = record { offset = 0; size = 4; constant = false }
+
+abbrev one_block : ℕ → List Slot
+one_block zero = one_slot ∷ []
+one_block (suc b) = []
+
+only_one : (P : Slot → Type 0) (b i : ℕ) (s : Slot) → P one_slot → slice_get (one_block b) i ≡ Some s → P s
+only_one P zero zero s p e = let is : one_slot ≡ s = cc (e) in subst P is p
+only_one P zero (suc i) s p e = absurd (cc (e))
+only_one P (suc b) i s p e = absurd (cc (e))
+
+one_place : (b i : ℕ) (s : Slot) → slice_get (one_block b) i ≡ Some s → (b ≡ 0) × (i ≡ 0)
+one_place zero zero s e = (refl, refl)
+one_place zero (suc i) s e = absurd (cc (e))
+one_place (suc b) i s e = absurd (cc (e))
+
+pub one_fits : (slots : ℕ → List Slot) × (s : Slot) × Fits slots 16 × (slice_get (slots 0) 0 ≡ Some s)
+one_fits = (
+  one_block,
+  one_slot,
+  record {
+    inside = λ b i s e. only_one (λ x. x.offset + x.size < 16) b i s (omega arith) e;
+    even = λ b i s e. only_one (λ x. x.offset % 4 ≡ 0) b i s refl e;
+    apart = λ b c i j s t e f d.
+        let p = one_place b i s e in
+        let q = one_place c j t f in
+        elim d [ inl n ↦ absurd (n (p.0 ∙ sym q.0)) | inr n ↦ absurd (n (p.1 ∙ sym q.1)) ];
+  },
+  refl,
+)

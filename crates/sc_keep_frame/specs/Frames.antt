@@ -1,9 +1,11 @@
 -- Inside: plumbing, a representation, an invariant or a promise beside the claim (docs/TRUST.md).
 -- The frame of a compiled call in the memory of a world: the objects of its open blocks stand in their slots, and no other live object is in it.
 use Rattle.std.specs.Prelude.{◌≡◌, ◌≢◌, ◌⊎◌, ℕ, ◌+◌, ◌-◌, ◌%◌, ◌<◌, ◌≤◌, List, [], ◌∷◌, slice_get, Some}
+use Rattle.sc_base.specs.declared.memory.Word.{Word}
 use Rattle.sc_program.specs.declared.frame.Slot.{Slot}
 use Rattle.sc_objects.specs.declared.objects.Obj.{Obj}
 use Rattle.sc_objects.specs.Numbered.{IsLive}
+use Rattle.sc_meaning.specs.Beside.{kept_in, with_memory}
 use Rattle.sc_meaning.specs.World.{Born, World}
 use Rattle.sc_keep_words.specs.Worlds.{HoldsWords}
 
@@ -53,3 +55,11 @@ pub record HasFrame (slots : ℕ → List Slot) (cost : ℕ) (blocks : List Born
   pub aligned : foot w % 4 ≡ 0
   pub only : (id : ℕ) (p : Obj) → IsLive holds.memory.flat.objects id p → (p.base + p.size < foot w) ⊎ ((foot w + cost ≤ p.base) ⊎ IsOpen slots blocks (foot w) id p)
   pub lives : (o : Born) → Has o blocks → (i id : ℕ) → slice_get o.ids i ≡ Some id → Placed slots (foot w) holds.memory.flat.objects o.block i id
+
+-- four bytes at an offset of the frame are below all slots
+abbrev pub IsBelow : (ℕ → List Slot) → ℕ → Type 0
+IsBelow slots t = (b i : ℕ) (s : Slot) → slice_get (slots b) i ≡ Some s → t + 4 ≤ s.offset
+
+-- compiled code stores a word beside all objects
+abbrev pub waiting : ℕ → Word → World → World
+waiting at x w = record w { beside = with_memory (kept_in at 4 x) w.beside }

@@ -3,4 +3,4 @@
 
 mod laws;
 
-pub use laws::blocks_stand_in_their_slots;
+pub use laws::{blocks_stand_in_their_slots, words_wait_in_the_frame};
