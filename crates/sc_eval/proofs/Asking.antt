@@ -1,9 +1,8 @@
 -- From what each part answers to the answer of all.
-use Rattle.std.proofs.Common.{◌≡◌, ℕ, true, false, List, None, Some, Result, Ok, Err, refl, sym, ◌∙◌, ap, subst}
+use Rattle.std.proofs.Common.{◌≡◌, ℕ, true, false, List, None, Some, Result, Ok, Err, sym, ◌∙◌, ap, subst}
 use Rattle.std.specs.Prelude.{codes}
 use Rattle.sc_base.specs.declared.refusal.Fault.{Fault}
 use Rattle.sc_base.specs.declared.refusal.Fault.TheVariants as fault
-use Rattle.sc_base.specs.declared.refusal.Refusal.{Refusal}
 use Rattle.sc_base.specs.declared.refusal.X.{X}
 use Rattle.sc_base.specs.declared.refusal.X.TheVariants as x
 use Rattle.sc_check.specs.Outcomes as rules
@@ -23,7 +22,7 @@ use Rattle.sc_eval.specs.declared.starting.Evaluation.{Evaluation}
 use Rattle.sc_eval.specs.Strings.{has_string}
 use Rattle.sc_eval.specs.Texts.{IsUnit, eval_name, text_of}
 use Rattle.sc_eval.specs.Places.{InBody, InGrammar, InLine, Types, Expresses}
-use Rattle.sc_eval.specs.Starts.{in_body, IsExpression, IsScope, IsAsked, Makes, passed, Refused, Refuses, in_tokens, behind_tokens, RefusesTokens, no_expression, with_string, in_types, AnswersTokens, Answers}
+use Rattle.sc_eval.specs.Starts.{in_body, IsExpression, IsAsked, passed, Refused, Refuses, in_tokens, behind_tokens, RefusesTokens, no_expression, with_string, in_types, AnswersTokens, Answers}
 use Rattle.sc_eval.proofs.Causes.{for_kinds, for_one, grammar_refuses}
 use Rattle.sc_eval.proofs.Limits.{shallow_part}
 

@@ -1,6 +1,5 @@
 -- What the grammar's refusal of the whole text says of the expression.
-use Rattle.std.proofs.Common.{◌≡◌, ℕ, List, Ok, Err, refl, sym, ◌∙◌, ap, subst}
-use Rattle.std.specs.Prelude.{codes}
+use Rattle.std.proofs.Common.{◌≡◌, ℕ, List, Err, sym, subst}
 use Rattle.sc_base.specs.declared.refusal.Fault.{Fault}
 use Rattle.sc_base.specs.declared.refusal.Fault.TheVariants as fault
 use Rattle.sc_base.specs.declared.refusal.Refusal.{Refusal}
@@ -10,14 +9,13 @@ use Rattle.sc_lex.specs.declared.token.Token.{Token}
 use Rattle.sc_parse_grammar.specs.declared.operand.Operand.{Operand}
 use Rattle.sc_parse_laws.specs.Causes as why
 use Rattle.sc_parse_laws.specs.Causes.{Cause}
-use Rattle.sc_parse_names.specs.declared.kind.Symbol.{Symbol}
 use Rattle.sc_parse_names.specs.Names.{Names}
 use Rattle.sc_parse_tokens.specs.Symbols.{symbols}
 use Rattle.sc_parse_unit.specs.Machine.{start}
 use Rattle.sc_parse_unit.specs.Parse.{answer, Gives}
 use Rattle.sc_eval.specs.Places.{ByKind}
 use Rattle.sc_eval.specs.Texts.{text_of}
-use Rattle.sc_eval.specs.Starts.{in_body, IsExpression, IsNoUnit, no_unit, left_out, IsScope, IsWithinLimits, refused, Refused, RefusesTokens, beyond_limit, no_expression}
+use Rattle.sc_eval.specs.Starts.{in_body, IsExpression, no_unit, left_out, IsScope, refused, Refused, RefusesTokens, beyond_limit, no_expression}
 use Rattle.sc_eval.proofs.Scopes.{ends}
 use Rattle.sc_eval.proofs.Units.{whole_unit}
 use Rattle.sc_eval.proofs.Limits.{limit_only}

@@ -1,5 +1,5 @@
 -- Where the machine reads all tokens of a unit, only a limit of brackets is left to refuse it; and what is open in a part of tokens.
-use Rattle.std.proofs.Common.{◌≡◌, ℕ, ◌≤◌, Bool, true, false, List, [], ◌∷◌, ◌++◌, Ok, Err, refl, sym, ◌∙◌, ap, subst, arith}
+use Rattle.std.proofs.Common.{◌≡◌, ℕ, ◌≤◌, Bool, true, false, List, [], ◌∷◌, ◌++◌, Ok, Err, sym, ap, subst, arith}
 use Rattle.std.specs.Prelude.{nat_lt, if◌then◌else◌, codes}
 use Rattle.sc_base.specs.declared.refusal.X.{X}
 use Rattle.sc_base.specs.declared.refusal.X.TheVariants as x

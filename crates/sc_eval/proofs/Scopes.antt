@@ -1,5 +1,5 @@
 -- The names in scope behind a module's text are those of the machine.
-use Rattle.std.proofs.Common.{◌≡◌, Bool, true, List, [], ◌∷◌, ◌++◌, Ok, Err, refl, sym, ◌∙◌, ap, subst, append_assoc, append-nil}
+use Rattle.std.proofs.Common.{◌≡◌, true, List, [], ◌∷◌, ◌++◌, Ok, Err, refl, sym, ◌∙◌, ap, subst, append_assoc, append-nil}
 use Rattle.sc_lex.specs.declared.token.Token.{Token}
 use Rattle.sc_tree.specs.declared.statement.External.{External}
 use Rattle.sc_parse_names.specs.declared.kind.Symbol.{Symbol}

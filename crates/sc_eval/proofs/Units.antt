@@ -1,5 +1,5 @@
 -- Behind a module's text an expression of the grammar makes a unit of the grammar.
-use Rattle.std.proofs.Common.{◌≡◌, ℕ, suc, ◌≤◌, Bool, true, false, List, [], ◌∷◌, ◌++◌, length, None, Some, refl, sym, ◌∙◌, ap, subst, arith, append_assoc}
+use Rattle.std.proofs.Common.{◌≡◌, ℕ, ◌≤◌, true, List, [], ◌∷◌, ◌++◌, refl, sym, ◌∙◌, ap, subst, arith}
 use Rattle.std.specs.Prelude.{codes}
 use Rattle.sc_lex.specs.declared.token.Token.{Token}
 use Rattle.sc_tree.specs.declared.expression.Storage.TheVariants as storage
@@ -15,7 +15,6 @@ use Rattle.sc_parse_names.specs.Names.{Names, leave}
 use Rattle.sc_parse_grammar.specs.declared.operand.Operand.{Operand}
 use Rattle.sc_parse_grammar.specs.declared.operand.Direct.{Direct}
 use Rattle.sc_parse_grammar.specs.declared.operand.Mode.TheVariants as mode
-use Rattle.sc_parse_grammar.specs.Nodes.{paren_node}
 use Rattle.sc_parse_grammar.specs.Types.{no_words, with_word, with_storage, named_direct, with_step, pointed}
 use Rattle.sc_parse_grammar.specs.Grammar as g
 use Rattle.sc_parse_grammar.specs.Grammar.{Phrase, Level, Specified}

@@ -156,7 +156,7 @@ fn started(alloc: Global, tokens: &[Token], name: &Name, e: &[Token]) -> Result<
 
 /// What evaluates the expression that a line of at most 1,024 bytes is, in the module of this name of which that is kept: by
 /// the grammar and the rules of types a function that stands behind the module's text (ANSI 3.3). Each refusal has the file
-/// `eval` and line 1. Kept tokens that are no unit, which `build` never gives, are answered as want of memory.
+/// `eval` and line 1. Kept tokens that are no unit, which no module has, are answered as want of memory.
 ///
 /// # Errors
 ///
