@@ -120,7 +120,7 @@ pub put_so : (v old : Plain) (s t : State) → v ≡ old → s ≡ t → record 
 put_so v old s t is same = (λ i. record v { state = same i }) ∙ ap (in_state t) is
 
 -- and no change waits
-caught_so : (v old : Plain) (s t : State) → v ≡ old → s ≡ t → record v { state = s; come = length v.past } ≡ in_state t (caught_up old)
+pub caught_so : (v old : Plain) (s t : State) → v ≡ old → s ≡ t → record v { state = s; come = length v.past } ≡ in_state t (caught_up old)
 caught_so v old s t is same = ap (λ x. record v { state = x; come = length v.past }) same ∙ ap (λ p. in_state t (caught_up p)) is
 
 pub goes_told : (v old new : Plain) (s : State) (modules : List Text) (stops : List StopAt) (how : Walk) (m n : Standing) (h : Halt) (text : List ℕ) → v ≡ old → s ≡ mixed_state h n → MixedGone modules stops how v.limits.turns m h n text

@@ -375,6 +375,7 @@ input_denied old (Some file) now (denied.NoProbe k) main p = absurd p
 input_denied old (Some file) now (denied.NoStop k) main p = absurd p
 input_denied old (Some file) now (denied.NoText home fun) main p = absurd p
 input_denied old (Some file) now denied.NotObject main p = absurd p
+input_denied old (Some file) now (denied.NotDeclared name) main p = absurd p
 
 pub run_denied : (sink : Option (List ℕ)) (old : Moment) (file : Option (List ℕ)) (now : ℕ) (held : Option FileMap) (d : Denied) → has_main (texts old.session.modules) ≡ true → held ≡ old.held → InputDenied old.held file old.faults now d
     → RunsOut sink sink old file (Ok (answer.Refused d)) (moment old.session held now)

@@ -1,0 +1,12 @@
+pub mod Proper
+pub mod Steps
+pub mod Leaves
+pub mod Changing
+pub mod ExpressionsGo
+pub mod LibraryGo
+pub mod FunctionsGo
+pub mod Blocks
+pub mod StatementsGo
+pub mod CallsGo
+pub mod Whole
+pub mod Opens

@@ -1,0 +1,4 @@
+pub mod Near
+pub mod Framing
+pub mod Blocks
+pub mod Waiting

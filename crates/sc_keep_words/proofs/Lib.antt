@@ -1,0 +1,15 @@
+pub mod Values
+pub mod Narrowing
+pub mod Reading
+pub mod Stubs
+pub mod Reaching
+pub mod Loading
+pub mod Writing
+pub mod Storing
+pub mod Copying
+pub mod Changes
+pub mod Beside
+pub mod Living
+pub mod Converting
+pub mod Worlds
+pub mod Trial

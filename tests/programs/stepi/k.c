@@ -1,0 +1,1 @@
+int main(void) { int i = 7; return i; }
