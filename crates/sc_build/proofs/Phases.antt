@@ -21,10 +21,12 @@ use Rattle.sc_parse_tokens.specs.Symbols.{symbols}
 use Rattle.sc_tree.specs.declared.statement.External.{External}
 use Rattle.sc_parse_laws.specs.Causes.{HasCause}
 use Rattle.sc_build.specs.Compiled.{Compiles}
+use Rattle.sc_eval.specs.Texts.{IsUnit}
+use Rattle.sc_eval.specs.declared.starting.Kept.{Kept}
 use Rattle.sc_build.specs.declared.building.Built.{Built}
 use Rattle.sc_build.specs.declared.building.BuildFault.{BuildFault}
 use Rattle.sc_build.specs.declared.building.BuildFault.TheVariants as fault
-use Rattle.sc_build.specs.Builds.{Answers, Checks, Reads, IsUnit, Refuses, in_preprocessing, in_grammar, in_types, in_code, InFile, of_files}
+use Rattle.sc_build.specs.Builds.{Answers, Checks, Reads, Refuses, in_preprocessing, in_grammar, in_types, in_code, InFile, of_files}
 
 -- preprocessing fails
 pub files_fail : (held : Option FileMap) (before now : ℕ) (file name : List ℕ) (f : PpFault)
@@ -69,22 +71,25 @@ types_fail tokens items file name base.NoMemory (fault.File asked) unit told e h
 types_fail tokens items file name base.NoMemory fault.NoMemory unit told e held before now reads = tt
 
 -- the module is there, or too large for an object
-pub compiled_so : (tokens : List Token) (items : List External) (file name : List ℕ) (core : Core) (scopes : Scopes) (result : Result Built BuildFault)
-    → IsUnit tokens items → unit_of name items ≡ Ok core → core.name ≡ name → formed core ≡ true → scopes ≡ scopes_of items → Compiles file core scopes result
-    → Checks tokens file name result
-compiled_so tokens items file name core scopes (Ok built) unit checks named law scoped p held before now reads = record {
-  tokens = tokens;
-  items = items;
-  reads = reads;
-  parses = unit;
-  checks = checks ∙ ap Ok (sym p.0);
-  named = ap (λ c. c.name) p.0 ∙ named;
-  formed = ap formed p.0 ∙ law;
-  scoped = p.1 ∙ scoped;
-  compiled = subst (λ c. IsObject c built.object) (sym p.0) p.2;
-}
-compiled_so tokens items file name core scopes (Err (fault.Refused r)) unit checks named law scoped p held before now reads = in_code tokens items core r reads unit checks p
-compiled_so tokens items file name core scopes (Err fault.Missing) unit checks named law scoped p held before now reads = absurd p
-compiled_so tokens items file name core scopes (Err fault.TooLong) unit checks named law scoped p held before now reads = absurd p
-compiled_so tokens items file name core scopes (Err (fault.File asked)) unit checks named law scoped p held before now reads = absurd p
-compiled_so tokens items file name core scopes (Err fault.NoMemory) unit checks named law scoped p held before now reads = tt
+pub compiled_so : (kept : Kept) (file name : List ℕ) (core : Core) (scopes : Scopes) (result : Result Built BuildFault)
+    → IsUnit kept.tokens kept.unit.items → unit_of name kept.unit.items ≡ Ok core → core.name ≡ name → formed core ≡ true
+    → scopes ≡ scopes_of kept.unit.items → Compiles file core scopes kept result → Checks kept.tokens file name result
+compiled_so kept file name core scopes (Ok built) unit checks named law scoped p held before now reads =
+    let same : kept ≡ built.kept = sym p.2.0 in
+    let K : Kept → Type 0 = λ k. Reads held file (Ok k.tokens) × IsUnit k.tokens k.unit.items × (unit_of name k.unit.items ≡ Ok core) × (scopes ≡ scopes_of k.unit.items) in
+    let k = subst K same (reads, (unit, (checks, scoped))) in
+    record {
+      reads = k.0;
+      parses = k.1.0;
+      checks = k.1.1.0 ∙ ap Ok (sym p.0);
+      named = ap (λ c. c.name) p.0 ∙ named;
+      formed = ap formed p.0 ∙ law;
+      scoped = p.1.0 ∙ k.1.1.1;
+      compiled = subst (λ c. IsObject c built.object) (sym p.0) p.2.1;
+    }
+compiled_so kept file name core scopes (Err (fault.Refused r)) unit checks named law scoped p held before now reads =
+    in_code kept.tokens kept.unit.items core r reads unit checks p
+compiled_so kept file name core scopes (Err fault.Missing) unit checks named law scoped p held before now reads = absurd p
+compiled_so kept file name core scopes (Err fault.TooLong) unit checks named law scoped p held before now reads = absurd p
+compiled_so kept file name core scopes (Err (fault.File asked)) unit checks named law scoped p held before now reads = absurd p
+compiled_so kept file name core scopes (Err fault.NoMemory) unit checks named law scoped p held before now reads = tt

@@ -19,10 +19,9 @@ use Rattle.sc_pp.specs.Preprocessing.{preprocessed}
 use Rattle.sc_pp.specs.Answers.{Known}
 use Rattle.sc_pp.specs.Asked.{asked_in}
 use Rattle.sc_core_names.specs.Scopes.{scopes_of}
+use Rattle.sc_eval.specs.Texts.{IsUnit}
 use Rattle.sc_parse_tokens.specs.Symbols.{symbols}
 use Rattle.sc_tree.specs.declared.statement.External.{External}
-use Rattle.sc_parse_expr.specs.Brackets.{AreShallow}
-use Rattle.sc_parse_unit.specs.Grammar as grammar
 use Rattle.sc_parse_laws.specs.Causes.{Cause}
 use Rattle.sc_build.specs.Compiled.{Exceeds}
 use Rattle.sc_build.specs.declared.building.Built.{Built}
@@ -32,10 +31,6 @@ use Rattle.sc_build.specs.declared.building.BuildFault.TheVariants as fault
 -- what preprocessing answers to a file, where the files are known
 abbrev pub Reads : Option FileMap → List ℕ → Result (List Token) PpFault → Type 0
 Reads held file outcome = Known held (λ map. preprocessed map file ≡ outcome)
-
--- The tokens are a unit of the grammar within the limits, which has these functions and declarations; at most 500 brackets are open at one place.
-abbrev pub IsUnit : List Token → List External → Type 0
-IsUnit tokens items = grammar.IsUnit true (symbols tokens) items × AreShallow 0 (symbols tokens)
 
 -- there is no such file, or it is longer than a file may be
 abbrev pub IsMissing : Option FileMap → List ℕ → Type 0
@@ -48,17 +43,15 @@ IsTooLong held file = Reads held file (Err pp.TooLong)
 abbrev pub Asks : Option FileMap → List ℕ → List ℕ → Type 0
 Asks held file asked = Known held (λ map. Contains (asked_in map file) asked)
 
--- The module in a file: its tokens, which are a unit, which the rules of types make this module, whose scopes are these, and which has
--- this object.
+-- The module in a file: its tokens, which are a unit, both of which are kept; which the rules of types make this module, whose scopes
+-- are these, and which has this object.
 pub record Builds (held : Option FileMap) (file name : List ℕ) (built : Built) : Type 0 where
-  pub tokens : List Token
-  pub items : List External
-  pub reads : Reads held file (Ok tokens)
-  pub parses : IsUnit tokens items
-  pub checks : unit_of name items ≡ Ok built.core
+  pub reads : Reads held file (Ok built.kept.tokens)
+  pub parses : IsUnit built.kept.tokens built.kept.unit.items
+  pub checks : unit_of name built.kept.unit.items ≡ Ok built.core
   pub named : built.core.name ≡ name
   pub formed : formed built.core ≡ true
-  pub scoped : built.scopes ≡ scopes_of items
+  pub scoped : built.scopes ≡ scopes_of built.kept.unit.items
   pub compiled : IsObject built.core built.object
 
 -- Where the first refusal of a file comes from: preprocessing; the grammar, where preprocessing refuses nothing; the rules

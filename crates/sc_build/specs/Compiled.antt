@@ -7,6 +7,7 @@ use Rattle.sc_core.specs.declared.module.Core.{Core}
 use Rattle.sc_core.specs.declared.module.Fun.{Fun}
 use Rattle.sc_core.specs.Modules.{function_of}
 use Rattle.sc_core_names.specs.declared.table.Scopes.{Scopes}
+use Rattle.sc_eval.specs.declared.starting.Kept.{Kept}
 use Rattle.sc_gen.specs.Limits.{IsObject, first_long}
 use Rattle.sc_gen.specs.Objects.{object_of}
 use Rattle.sc_object.specs.Spelling.{spelled}
@@ -40,7 +41,7 @@ IsLimit file word line fault.TooLong = ⊥
 IsLimit file word line (fault.File name) = ⊥
 IsLimit file word line fault.NoMemory = Unit {0}
 
--- a module with its scopes and its object, or why it has none
-abbrev pub Compiles : List ℕ → Core → Scopes → Result Built BuildFault → Type 0
-Compiles file core scopes (Ok built) = (built.core ≡ core) × (built.scopes ≡ scopes) × IsObject core built.object
-Compiles file core scopes (Err f) = IsOver file core f
+-- a module with its scopes, its object and what is kept of its text, or why it has none
+abbrev pub Compiles : List ℕ → Core → Scopes → Kept → Result Built BuildFault → Type 0
+Compiles file core scopes kept (Ok built) = (built.core ≡ core) × (built.scopes ≡ scopes) × (built.kept ≡ kept) × IsObject core built.object
+Compiles file core scopes kept (Err f) = IsOver file core f

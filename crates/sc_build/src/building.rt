@@ -1,19 +1,19 @@
 // A module is translated (ANSI 2.1.1.2).
-ghost use Rattle.std.specs.Prelude.{◌≡◌, ◌≤◌, List};
-ghost use Rattle.sc_lex.specs.declared.token.Token.{Token};
-ghost use Rattle.sc_build.specs.Builds.{Answers, Checks, IsUnit, InFile, of_files};
+ghost use Rattle.std.specs.Prelude.{◌≡◌, ◌≤◌};
+ghost use Rattle.sc_eval.specs.Texts.{IsUnit};
+ghost use Rattle.sc_build.specs.Builds.{Answers, Checks, InFile, of_files};
 
 use crate::compiling::compiled;
-use sc_base::{Bytes, Fault, Items, Name, Refusal};
+use sc_base::{Bytes, Fault, Items, Name, Refusal, Shared};
 use sc_check::check;
 use sc_core::Core;
 use sc_core_names::{Scopes, scopes_of};
+use sc_eval::Kept;
 use sc_lex::Token;
 use sc_object::Object;
 use sc_outside::Files;
 use sc_parse::parse;
 use sc_pp::{PpFault, preprocess};
-use sc_tree::Unit;
 use std::alloc::Global;
 
 /// Why there is no module: its text is refused; its file is missing or has more than 8,388,608 bytes; a file could not be
@@ -27,12 +27,13 @@ pub enum BuildFault {
     NoMemory,
 }
 
-/// A module that was translated, what each of its scopes declares, and its object.
+/// A module that was translated, what each of its scopes declares, its object, and what is kept of its text.
 #[derive(Drop)]
 pub struct Built {
     pub core: Core,
     pub scopes: Scopes,
     pub object: Object,
+    pub kept: Shared<Kept>,
 }
 
 // What preprocessing fails with.
@@ -66,37 +67,45 @@ fn in_file(alloc: Global, file: &str, fault: Fault) -> BuildFault
 }
 
 // The module of a unit.
-fn checked(alloc: Global, name: &Name, file: &str, unit: Unit) -> Result<Built, BuildFault>
-    ensures { (tokens : List Token) → IsUnit tokens unit.items → Checks tokens file.now name.now result }
+fn checked(alloc: Global, name: &Name, file: &str, kept: Kept) -> Result<Built, BuildFault>
+    requires { IsUnit kept.tokens kept.unit.items }
+    ensures { Checks kept.tokens file.now name.now result }
 {
-    match check(alloc, name, &unit) {
+    match check(alloc, name, &kept.unit) {
         Ok(core) => {
-            let Ok(scopes) = scopes_of(alloc, &unit) else {
-                drop(unit);
+            let Ok(scopes) = scopes_of(alloc, &kept.unit) else {
+                drop(kept);
                 drop(core);
                 return Err(BuildFault::NoMemory);
             };
-            drop(unit);
-            compiled(alloc, file, core, scopes)
+            let Ok(kept) = Shared::new(alloc, kept) else {
+                drop(scopes);
+                drop(core);
+                return Err(BuildFault::NoMemory);
+            };
+            compiled(alloc, file, core, scopes, kept)
         }
         Err(fault) => {
-            drop(unit);
+            drop(kept);
             Err(in_file(alloc, file, fault))
         }
     }
 }
 
 // The module of some tokens.
-fn parsed(alloc: Global, name: &Name, file: &str, tokens: &[Token]) -> Result<Built, BuildFault>
-    ensures { Checks tokens.now file.now name.now result }
+fn parsed(alloc: Global, name: &Name, file: &str, tokens: Items<Token>) -> Result<Built, BuildFault>
+    ensures { Checks tokens file.now name.now result }
 {
-    match parse(alloc, tokens) {
-        Ok(unit) => checked(alloc, name, file, unit),
-        Err(fault) => Err(in_file(alloc, file, fault)),
+    match parse(alloc, tokens.as_slice()) {
+        Ok(unit) => checked(alloc, name, file, Kept { tokens, unit }),
+        Err(fault) => {
+            drop(tokens);
+            Err(in_file(alloc, file, fault))
+        }
     }
 }
 
-/// The module in a file, with this name, its scopes and its object. The refusal of a text is the first of preprocessing, with the file in
+/// The module in a file, with this name, its scopes, its object, and its tokens and unit. The refusal of a text is the first of preprocessing, with the file in
 /// which its line stands; else the grammar's, else that of the rules of types, else that of the limits of objects, in the module's own
 /// file. `File` is the name of a file that was asked for and could not be read, only where the count of faults rose.
 pub fn build<F: Files>(
@@ -110,7 +119,7 @@ pub fn build<F: Files>(
     ensures later { F.faults files.old ≤ F.faults files.new }
 {
     match preprocess(alloc, file, files) {
-        Ok(tokens) => parsed(alloc, name, file, tokens.as_slice()),
+        Ok(tokens) => parsed(alloc, name, file, tokens),
         Err(fault) => Err(of_files(fault)),
     }
 }

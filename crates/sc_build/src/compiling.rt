@@ -4,9 +4,10 @@ ghost use Rattle.sc_gen.specs.Limits.{IsFault, first_long};
 ghost use Rattle.sc_build.specs.Compiled.{Compiles, IsLimit, IsOver};
 
 use crate::building::{BuildFault, Built};
-use sc_base::{Bytes, Name, Refusal, X};
+use sc_base::{Bytes, Name, Refusal, Shared, X};
 use sc_core::Core;
 use sc_core_names::Scopes;
+use sc_eval::Kept;
 use sc_gen::{GenFault, generate};
 use std::alloc::Global;
 
@@ -50,17 +51,25 @@ fn over(alloc: Global, file: &str, core: &Core, fault: GenFault) -> BuildFault
     }
 }
 
-/// A module with its scopes and its object.
-pub fn compiled(alloc: Global, file: &str, core: Core, scopes: Scopes) -> Result<Built, BuildFault>
-    ensures { Compiles file.now core scopes result }
+/// A module with its scopes, its object and what is kept of its text.
+pub fn compiled(
+    alloc: Global,
+    file: &str,
+    core: Core,
+    scopes: Scopes,
+    kept: Shared<Kept>,
+) -> Result<Built, BuildFault>
+    ensures { Compiles file.now core scopes kept result }
 {
     match generate(alloc, &core) {
         Ok(object) => Ok(Built {
             core,
             scopes,
             object,
+            kept,
         }),
         Err(fault) => {
+            drop(kept);
             drop(scopes);
             let refused = over(alloc, file, &core, fault);
             drop(core);

@@ -70,6 +70,7 @@ pub fn present_of(alloc: Global, number: u32, built: Built) -> Result<Present, N
         core,
         scopes,
         object,
+        ..
     } = built;
     match Text::new(alloc, number, Form::Source, core) {
         Ok(text) => with_scopes(alloc, text, scopes, object),

@@ -127,6 +127,7 @@ fn translated(alloc: Global, number: u32, name: &[u8], text: &str) -> Result<Par
         core,
         scopes,
         object,
+        ..
     } = built;
     drop(scopes);
     Ok(Part {
