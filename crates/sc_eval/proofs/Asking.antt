@@ -14,6 +14,7 @@ use Rattle.sc_lex.specs.declared.token.Token.{Token}
 use Rattle.sc_lex.specs.Tokens as lexed
 use Rattle.sc_tree.specs.declared.expression.Expr.{Expr}
 use Rattle.sc_tree.specs.declared.statement.External.{External}
+use Rattle.sc_tree.specs.declared.statement.Unit.{Unit as Tree}
 use Rattle.sc_parse_grammar.specs.declared.operand.Operand.{Operand}
 use Rattle.sc_parse_laws.specs.Causes.{Parses}
 use Rattle.sc_parse_names.specs.Names.{Names}
@@ -54,9 +55,15 @@ module _ (tokens : List Token) (name : List ℕ) (e : List Token) (names : Names
   typed_so items tree (Err f) u d h t =
       for_kinds (λ kind. (line : ℕ) × rules.IsRefused (unit_of name items) kind line) (RefusesTokens tokens name e) f (λ kind r. in_types items kind r.0 (typed_asked items tree u d h) r.1) t
 
-  pub grammar_so : (r f : Fault) → Parses (symbols (text_of tokens e)) (Err r) → InGrammar r f → Refused (RefusesTokens tokens name e) f
-  grammar_so (fault.Refused r) f p b = grammar_refuses tokens name e place.outer place.scope r f p.answers p.causes b
-  grammar_so fault.NoMemory f p b = subst (λ (v : Fault). Refused (RefusesTokens tokens name e) v) (sym b) tt
+  pub grammar_so : (text : List Token) (r f : Fault) → text ≡ text_of tokens e → Parses (symbols text) (Err r) → InGrammar r f → Refused (RefusesTokens tokens name e) f
+  grammar_so text (fault.Refused r) f same p b =
+      let q = subst (λ (v : List Token). Parses (symbols v) (Err (fault.Refused r))) same p in grammar_refuses tokens name e place.outer place.scope r f q.answers q.causes b
+  grammar_so text fault.NoMemory f same p b = subst (λ (v : Fault). Refused (RefusesTokens tokens name e) v) (sym b) tt
+
+-- what the grammar reads is a unit
+pub unit_of_text : (tokens e text : List Token) (unit : Tree) → text ≡ text_of tokens e → Parses (symbols text) (Ok unit) → IsUnit (text_of tokens e) unit.items
+unit_of_text tokens e text unit same p =
+    let q = subst (λ (v : List Token). Parses (symbols v) (Ok unit)) same p in (q.only, q.shallow)
 
 -- the rules of types
 pub types_refuse : (name : List ℕ) (items : List External) (r f : Fault) → rules.Answers (unit_of name items) (Err r) → InLine r f → Types name items (Err f)

@@ -96,6 +96,7 @@ fn taken(alloc: Global, core: Core) -> Result<Evaluation, NoMemory>
 }
 
 /// What the rules of types make of the whole text.
+#[tactic(auto, using(crate::proofs::Asking::types_refuse, crate::proofs::Asking::types_make))]
 fn typed(alloc: Global, name: &Name, unit: &Unit) -> Result<Evaluation, Fault>
     ensures { places.Types name.now unit.now.items result }
 {
@@ -106,6 +107,7 @@ fn typed(alloc: Global, name: &Name, unit: &Unit) -> Result<Evaluation, Fault>
 }
 
 /// The same, where the tokens are an expression without strings. These names are in scope where it stands.
+#[tactic(auto, using(crate::proofs::Asking::string_refused, crate::proofs::Asking::none_refused, crate::proofs::Asking::typed_so))]
 fn asked(
     alloc: Global,
     names: TypeNames,
@@ -128,6 +130,7 @@ fn asked(
     }
 }
 
+#[tactic(auto, using(crate::proofs::Asking::grammar_so, crate::proofs::Asking::unit_of_text))]
 fn started(alloc: Global, tokens: &[Token], name: &Name, e: &[Token]) -> Result<Evaluation, Fault>
     ensures { spec.AnswersTokens tokens.now name.now e.now result }
 {
@@ -147,6 +150,7 @@ fn started(alloc: Global, tokens: &[Token], name: &Name, e: &[Token]) -> Result<
 ///
 /// The first of: X1 and X10 of the line's tokens; X10 of the grammar over the whole text; X5 where the line's tokens alone are
 /// no expression; X9 `evalstring` where a string stands outside `sizeof`; X6 to X10 of the rules of types.
+#[tactic(auto, using(crate::proofs::Asking::line_refused, crate::proofs::Asking::line_answers))]
 pub fn start_of(alloc: Global, kept: &Kept, name: &Name, line: &[u8]) -> Result<Evaluation, Fault>
     requires { length line.now ≤ 1024 }
     ensures { spec.Answers kept.now.tokens name.now line.now result }
