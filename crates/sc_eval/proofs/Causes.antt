@@ -45,10 +45,7 @@ pub for_one : (K : X → Type 0) (kind : X) (f : Fault) → K kind → Refused (
 for_one K kind f c h = for_kinds (λ v. v ≡ kind) K f (λ v e. subst K (sym e) c) h
 
 module _ (tokens : List Token) (name : List ℕ) (e : List Token) (names : Names) (scope : IsScope tokens names) where
-  abbrev ts : List Symbol
-  ts = symbols (text_of tokens e)
-
-  by_cause : (kind : X) (l : ℕ) (f : Fault) → answer 0 1 start ts ≡ Err (kind, l) → Cause ts kind l → ByKind kind f → Refused (RefusesTokens tokens name e) f
+  by_cause : (kind : X) (l : ℕ) (f : Fault) → answer 0 1 start (symbols (text_of tokens e)) ≡ Err (kind, l) → Cause (symbols (text_of tokens e)) kind l → ByKind kind f → Refused (RefusesTokens tokens name e) f
   by_cause kind l f h (why.no_unit u v) b =
       for_one (RefusesTokens tokens name e) x.X5 f
       (no_expression names (refused (no_unit l (why.no_unit u v))) scope (λ a d. let r = limits_only x.X5 l scope d h in no_limit_5 r.0 r.1)) b
@@ -58,6 +55,6 @@ module _ (tokens : List Token) (name : List ℕ) (e : List Token) (names : Names
   by_cause kind l f h (why.beyond_limit {word} m) b =
       for_one (RefusesTokens tokens name e) (x.X10 word) f (beyond_limit word l (why.beyond_limit m)) b
 
-  pub grammar_refuses : (r : Refusal) (f : Fault) → Gives (answer 0 1 start ts) (Err (fault.Refused r)) → Cause ts r.kind r.line → ByKind r.kind f →
+  pub grammar_refuses : (r : Refusal) (f : Fault) → Gives (answer 0 1 start (symbols (text_of tokens e))) (Err (fault.Refused r)) → Cause (symbols (text_of tokens e)) r.kind r.line → ByKind r.kind f →
       Refused (RefusesTokens tokens name e) f
   grammar_refuses r f g c b = by_cause r.kind r.line f g.0 c b

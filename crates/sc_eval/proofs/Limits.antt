@@ -18,10 +18,6 @@ use Rattle.sc_parse_unit.specs.Parse.{Answer, next, answer}
 use Rattle.sc_eval.specs.Texts.{text_of}
 use Rattle.sc_eval.proofs.Parts.{opened, closed, symbols_of_text}
 
--- the kind of a refusal
-abbrev kind_of : X × ℕ → X
-kind_of r = r.0
-
 err_kind : (k l : X) (m n : ℕ) → ◌≡◌ {A = Answer} (Err (k, m)) (Err (l, n)) → l ≡ k
 err_kind k l m n h = cc
 

@@ -75,8 +75,11 @@ declarator b = g.direct (g.suffix (g.named name refl refl) (g.no_parameters left
 abbrev body_tokens : List Symbol → List Symbol
 body_tokens ts = begin ∷ [] ++ ([] ++ (return ∷ (left ∷ ts ++ right ∷ []) ++ semicolon ∷ [])) ++ end ∷ []
 
+three : (ts : List Symbol) (a b c : Symbol) → ((ts ++ a ∷ []) ++ b ∷ []) ++ c ∷ [] ≡ ts ++ (a ∷ b ∷ c ∷ [])
+three ts a b c = append_assoc (ts ++ a ∷ []) (b ∷ []) (c ∷ []) ∙ append_assoc ts (a ∷ []) (b ∷ c ∷ [])
+
 same_tokens : (ts : List Symbol) → (static ∷ long ∷ []) ++ (name ∷ left ∷ void ∷ right ∷ []) ++ body_tokens ts ≡ opened ++ (ts ++ closed)
-same_tokens ts = simp append_assoc
+same_tokens ts = ap (λ (v : List Symbol). opened ++ v) (three ts right semicolon end)
 
 module _ {b c : Names} {ts : List Symbol} {a : Operand} (phrase : Phrase true (in_body b) c ts a) (height : a.height ≤ 200) where
   function : (x : External) × ExternalTokens true b (leave c) ((static ∷ long ∷ []) ++ (name ∷ left ∷ void ∷ right ∷ []) ++ body_tokens ts) x
