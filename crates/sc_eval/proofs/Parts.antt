@@ -1,5 +1,5 @@
 -- The symbols of the whole text are those of its parts.
-use Rattle.std.proofs.Common.{◌≡◌, Bool, true, false, List, [], ◌∷◌, ◌++◌, refl, ◌∙◌, ap}
+use Rattle.std.proofs.Common.{◌≡◌, Bool, true, false, List, [], ◌∷◌, ◌++◌, refl, ◌∙◌, ap, append_assoc}
 use Rattle.std.specs.Prelude.{◌&&◌, if◌then◌else◌, codes}
 use Rattle.std.specs.Str.{bytes_eq}
 use Rattle.sc_lex.specs.declared.token.Token.{Token}
@@ -11,6 +11,13 @@ use Rattle.sc_parse_names.specs.declared.kind.Kind.TheVariants as k
 use Rattle.sc_parse_tokens.specs.Words.{word}
 use Rattle.sc_parse_tokens.specs.Symbols.{is_joined, second, symbol, symbol_by, symbol_of, symbols_from, symbols, says_long}
 use Rattle.sc_eval.specs.Texts.{opening, closing, text_of}
+
+-- lists behind one another
+pub three : {A : Type 0} (xs : List A) (a b c : A) → ((xs ++ a ∷ []) ++ b ∷ []) ++ c ∷ [] ≡ xs ++ (a ∷ b ∷ c ∷ [])
+three xs a b c = append_assoc (xs ++ a ∷ []) (b ∷ []) (c ∷ []) ∙ append_assoc xs (a ∷ []) (b ∷ c ∷ [])
+
+pub grouped : {A : Type 0} (xs ys zs ws : List A) → ((xs ++ ys) ++ zs) ++ ws ≡ xs ++ (ys ++ (zs ++ ws))
+grouped xs ys zs ws = append_assoc (xs ++ ys) zs ws ∙ append_assoc xs ys (zs ++ ws)
 
 -- of the tokens behind a token only the first matters, and only whether it is a literal that stands directly behind
 by_kind : (kind : TokenKind) (long : Bool) (t : Token) (xs ys : List Token) → is_joined xs ≡ is_joined ys → symbol_by kind long t xs ≡ symbol_by kind long t ys

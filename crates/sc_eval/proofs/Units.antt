@@ -24,7 +24,7 @@ use Rattle.sc_parse_unit.specs.Grammar as u
 use Rattle.sc_parse_unit.specs.Grammar.{Heading, Braces, ExternalTokens, UnitTokens, IsUnit}
 use Rattle.sc_eval.specs.Texts.{eval_name, text_of}
 use Rattle.sc_eval.specs.Starts.{in_body, IsScope, IsExpression}
-use Rattle.sc_eval.proofs.Parts.{opened, closed, symbols_of_text}
+use Rattle.sc_eval.proofs.Parts.{three, opened, closed, symbols_of_text}
 
 abbrev at : Kind → List ℕ → Symbol
 at kind text = record { kind = kind; text = text; line = 1 }
@@ -74,9 +74,6 @@ declarator b = g.direct (g.suffix (g.named name refl refl) (g.no_parameters left
 -- the whole function, with its tokens in this form
 abbrev body_tokens : List Symbol → List Symbol
 body_tokens ts = begin ∷ [] ++ ([] ++ (return ∷ (left ∷ ts ++ right ∷ []) ++ semicolon ∷ [])) ++ end ∷ []
-
-three : (ts : List Symbol) (a b c : Symbol) → ((ts ++ a ∷ []) ++ b ∷ []) ++ c ∷ [] ≡ ts ++ (a ∷ b ∷ c ∷ [])
-three ts a b c = append_assoc (ts ++ a ∷ []) (b ∷ []) (c ∷ []) ∙ append_assoc ts (a ∷ []) (b ∷ c ∷ [])
 
 same_tokens : (ts : List Symbol) → (static ∷ long ∷ []) ++ (name ∷ left ∷ void ∷ right ∷ []) ++ body_tokens ts ≡ opened ++ (ts ++ closed)
 same_tokens ts = ap (λ (v : List Symbol). opened ++ v) (three ts right semicolon end)

@@ -109,7 +109,7 @@ fn whole(count: usize, found: Result<Found, Refused>) -> Result<Option<Shared<Ex
         }
         Err(refused) => match refused.trouble {
             Trouble::NoMemory => Err(NoMemory),
-            _ => Ok(None),
+            Trouble::Syntax | Trouble::LeftOut(_) | Trouble::Limit(_) => Ok(None),
         },
     }
 }

@@ -74,7 +74,12 @@ fn in_grammar(alloc: Global, fault: Fault) -> Fault
     match fault {
         Fault::Refused(refusal) => match refusal.kind {
             X::X10(word) => refused(alloc, X::X10(word)),
-            _ => refused(alloc, X::X5),
+            X::X9(word) => {
+                drop(word);
+                refused(alloc, X::X5)
+            }
+            X::X1 | X::X2 | X::X3 | X::X4 => refused(alloc, X::X5),
+            X::X5 | X::X6 | X::X7 | X::X8 => refused(alloc, X::X5),
         },
         Fault::NoMemory => Fault::NoMemory,
     }
