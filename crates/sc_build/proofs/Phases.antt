@@ -75,17 +75,17 @@ pub compiled_so : (kept : Kept) (file name : List ℕ) (core : Core) (scopes : S
     → IsUnit kept.tokens kept.unit.items → unit_of name kept.unit.items ≡ Ok core → core.name ≡ name → formed core ≡ true
     → scopes ≡ scopes_of kept.unit.items → Compiles file core scopes kept result → Checks kept.tokens file name result
 compiled_so kept file name core scopes (Ok built) unit checks named law scoped p held before now reads =
-    let same : kept ≡ built.kept = sym p.2.0 in
+    let same : kept ≡ built.kept = sym p.2 in
     let K : Kept → Type 0 = λ k. Reads held file (Ok k.tokens) × IsUnit k.tokens k.unit.items × (unit_of name k.unit.items ≡ Ok core) × (scopes ≡ scopes_of k.unit.items) in
-    let k = subst K same (reads, (unit, (checks, scoped))) in
+    let k = subst K same (reads, unit, checks, scoped) in
     record {
       reads = k.0;
-      parses = k.1.0;
-      checks = k.1.1.0 ∙ ap Ok (sym p.0);
+      parses = k.1;
+      checks = k.2 ∙ ap Ok (sym p.0);
       named = ap (λ c. c.name) p.0 ∙ named;
       formed = ap formed p.0 ∙ law;
-      scoped = p.1.0 ∙ k.1.1.1;
-      compiled = subst (λ c. IsObject c built.object) (sym p.0) p.2.1;
+      scoped = p.1 ∙ k.3;
+      compiled = subst (λ c. IsObject c built.object) (sym p.0) p.3;
     }
 compiled_so kept file name core scopes (Err (fault.Refused r)) unit checks named law scoped p held before now reads =
     in_code kept.tokens kept.unit.items core r reads unit checks p

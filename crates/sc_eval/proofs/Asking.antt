@@ -39,7 +39,7 @@ module _ (tokens : List Token) (name : List ℕ) (e : List Token) (names : Names
       Refused (λ kind. kind ≡ x.X9 (codes "evalstring")) f → Refused (RefusesTokens tokens name e) f
   string_refused items tree f u d s r =
       for_one (RefusesTokens tokens name e) (x.X9 (codes "evalstring")) f
-      (with_string items place.outer d.0 u place.scope (moved d.0 d.1.0) (ap has_string (sym d.1.1) ∙ s)) r
+      (with_string items place.outer d.0 u place.scope (moved d.0 d.1) (ap has_string (sym d.2) ∙ s)) r
 
   pub none_refused : (items : List External) (f : Fault) → IsUnit (text_of tokens e) items → Expresses names e None → Refused (λ kind. kind ≡ x.X5) f → Refused (RefusesTokens tokens name e) f
   none_refused items f u d r =
@@ -47,7 +47,7 @@ module _ (tokens : List Token) (name : List ℕ) (e : List Token) (names : Names
       (no_expression place.outer (passed items u) place.scope (λ a w. d (shallow_part tokens e u.1) a (back a w))) r
 
   typed_asked : (items : List External) (tree : Expr) → IsUnit (text_of tokens e) items → (a : Operand) × IsExpression names e a × (tree ≡ a.tree) → has_string tree ≡ false → IsAsked tokens e items
-  typed_asked items tree u d s = record { names = place.outer; scope = place.scope; a = d.0; expression = moved d.0 d.1.0; strings = ap has_string (sym d.1.1) ∙ s; unit = u }
+  typed_asked items tree u d s = record { names = place.outer; scope = place.scope; a = d.0; expression = moved d.0 d.1; strings = ap has_string (sym d.2) ∙ s; unit = u }
 
   pub typed_so : (items : List External) (tree : Expr) (result : Result Evaluation Fault) → IsUnit (text_of tokens e) items → (a : Operand) × IsExpression names e a × (tree ≡ a.tree) → has_string tree ≡ false →
       Types name items result → AnswersTokens tokens name e result

@@ -38,7 +38,7 @@ no_limit_9 name word h = cc
 
 -- another kind for the same refusal
 pub for_kinds : (K L : X → Type 0) (f : Fault) → ((kind : X) → K kind → L kind) → Refused K f → Refused L f
-for_kinds K L (fault.Refused r) g h = (g r.kind h.0, h.1)
+for_kinds K L (fault.Refused r) g h = (g r.kind h.0, h.1, h.2)
 for_kinds K L fault.NoMemory g h = tt
 
 pub for_one : (K : X → Type 0) (kind : X) (f : Fault) → K kind → Refused (λ v. v ≡ kind) f → Refused K f

@@ -33,13 +33,13 @@ expression_whole names after e f d n =
     let b = d.begins in
     let none : b.us ≡ [] = nothing_left b.ts b.us (b.count ∙ n ∙ ap (λ (v : List Symbol). length v) b.all) in
     let same : b.ts ≡ symbols e = sym (append-nil b.ts) ∙ ap (λ (v : List Symbol). b.ts ++ v) (sym none) ∙ sym b.all in
-    (d.x, (record { after = b.after; phrase = subst (λ (v : List Symbol). Phrase true names b.after v d.x) same b.phrase; height = d.height }, d.tree))
+    (d.x, record { after = b.after; phrase = subst (λ (v : List Symbol). Phrase true names b.after v d.x) same b.phrase; height = d.height }, d.tree)
 
 by_result : (names after : Names) (e : List Token) (count : ℕ) (found : Result Found Refused) (result : Result (Option Expr) NoMemory) → count ≡ length (symbols e) →
     FoundOnly names (symbols e) found after → ((x : Operand) (taken : ℕ) → BeginsWithin names (symbols e) x taken → Gives x taken found) → Whole count found result →
     IfOk result (λ tree. Expresses names e tree)
 by_result names after e count (Ok f) (Ok (Some tree)) n only given w =
-    let r = expression_whole names after e f only (w.0 ∙ n) in (r.0, (r.1.0, sym w.1 ∙ r.1.1))
+    let r = expression_whole names after e f only (w.0 ∙ n) in (r.0, r.1, sym w.1 ∙ r.2)
 by_result names after e count (Ok f) (Ok None) n only given w =
     λ s x d. w (ap (λ (v : Found). v.taken) (given x (length (symbols e)) (within names e x s d)) ∙ sym n)
 by_result names after e count (Err r) (Ok (Some tree)) n only given w = absurd w
@@ -51,4 +51,4 @@ pub expressed : (names after : Names) (e : List Token) (ss : List Symbol) (count
     IfOk result (λ tree. Expresses names e tree)
 expressed names after e ss count found result same n only given w =
     let P : List Symbol → Type 0 = λ v. (count ≡ length v) × FoundOnly names v found after × ((x : Operand) (taken : ℕ) → BeginsWithin names v x taken → Gives x taken found) in
-    let r = subst P same (n, (only, given)) in by_result names after e count found result r.0 r.1.0 r.1.1 w
+    let r = subst P same (n, only, given) in by_result names after e count found result r.0 r.1 r.2 w

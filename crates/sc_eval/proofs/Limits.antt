@@ -18,8 +18,11 @@ use Rattle.sc_parse_unit.specs.Parse.{Answer, next, answer}
 use Rattle.sc_eval.specs.Texts.{text_of}
 use Rattle.sc_eval.proofs.Parts.{opened, closed, symbols_of_text}
 
+err_same : (u v : X × ℕ) → ◌≡◌ {A = Answer} (Err u) (Err v) → u ≡ v
+err_same u v h = cc
+
 err_kind : (k l : X) (m n : ℕ) → ◌≡◌ {A = Answer} (Err (k, m)) (Err (l, n)) → l ≡ k
-err_kind k l m n h = cc
+err_kind k l m n h = sym (ap (λ (r : X × ℕ). r.0) (err_same (k, m) (l, n) h))
 
 pub limit_only : (ts : List Symbol) (n before : ℕ) (p : Point) (c : Names) (all : List External) (kind : X) (l : ℕ) →
     run p ts ≡ Ok (c, (a.Unit all ∷ [], at.Due)) → answer n before p ts ≡ Err (kind, l) → (word : List ℕ) × (kind ≡ x.X10 word)
@@ -30,17 +33,19 @@ limit_only [] n before p c all kind l h w = ended p (let e : p ≡ (c, (a.Unit a
       where
         bad : ◌≡◌ {A = Answer} (Ok all) (Err (kind, l)) → ⊥
         bad r = cc
-limit_only (t ∷ ts) n before p c all kind l h w = deep (nat_lt 500 (opens_with n t.kind)) w
+limit_only (t ∷ ts) n before p c all kind l h w = deep (λ q i v. limit_only ts (opens_with n t.kind) t.line q c all kind l i v) (nat_lt 500 (opens_with n t.kind)) w
   where
-    go : (m : Move) → on_ok (λ q. run q ts) m ≡ Ok (c, (a.Unit all ∷ [], at.Due)) → next (λ q. answer (opens_with n t.kind) t.line q ts) before t.line m ≡ Err (kind, l) →
+    go : ((q : Point) → run q ts ≡ Ok (c, (a.Unit all ∷ [], at.Due)) → answer (opens_with n t.kind) t.line q ts ≡ Err (kind, l) → (word : List ℕ) × (kind ≡ x.X10 word)) →
+        (m : Move) → on_ok (λ q. run q ts) m ≡ Ok (c, (a.Unit all ∷ [], at.Due)) → next (λ q. answer (opens_with n t.kind) t.line q ts) before t.line m ≡ Err (kind, l) →
         (word : List ℕ) × (kind ≡ x.X10 word)
-    go (Ok q) i w = limit_only ts (opens_with n t.kind) t.line q c all kind l i w
-    go (Err o) i w = absurd cc
+    go rest (Ok q) i w = rest q i w
+    go rest (Err o) i w = absurd cc
 
-    deep : (b : Bool) → (if b then Err (x.X10 (codes "height"), t.line) else next (λ q. answer (opens_with n t.kind) t.line q ts) before t.line (advance t p)) ≡ Err (kind, l) →
+    deep : ((q : Point) → run q ts ≡ Ok (c, (a.Unit all ∷ [], at.Due)) → answer (opens_with n t.kind) t.line q ts ≡ Err (kind, l) → (word : List ℕ) × (kind ≡ x.X10 word)) →
+        (b : Bool) → (if b then Err (x.X10 (codes "height"), t.line) else next (λ q. answer (opens_with n t.kind) t.line q ts) before t.line (advance t p)) ≡ Err (kind, l) →
         (word : List ℕ) × (kind ≡ x.X10 word)
-    deep true w = (codes "height", err_kind (x.X10 (codes "height")) kind t.line l w)
-    deep false w = go (advance t p) h w
+    deep rest true w = (codes "height", err_kind (x.X10 (codes "height")) kind t.line l w)
+    deep rest false w = go rest (advance t p) h w
 
 -- fewer open before, fewer open behind
 fewer_open : (kd : Kind) (m n : ℕ) → m ≤ n → opens_with m kd ≤ opens_with n kd

@@ -23,11 +23,12 @@ use Rattle.sc_eval.specs.Starts.{IsScope, in_body}
 run_valid : (ts pre : List Symbol) (p q : Point) → Valid p pre → run p ts ≡ Ok q → Valid q (pre ++ ts)
 run_valid [] pre p q v h =
     let e : p ≡ q = cc in subst (λ (z : Point). Valid z (pre ++ [])) e (subst (λ (d : List Symbol). Valid p d) (sym (append-nil pre)) v)
-run_valid (t ∷ ts) pre p q v h = go (advance t p) (advance-fine p t pre v) h
+run_valid (t ∷ ts) pre p q v h = go (λ z w i. run_valid ts (pre ++ t ∷ []) z q w i) (advance t p) (advance-fine p t pre v) h
   where
-    go : (m : Move) → Fine m (pre ++ t ∷ []) → on_ok (λ z. run z ts) m ≡ Ok q → Valid q (pre ++ t ∷ ts)
-    go (Ok z) w h = subst (λ (d : List Symbol). Valid q d) (append_assoc pre (t ∷ []) ts) (run_valid ts (pre ++ t ∷ []) z q w h)
-    go (Err o) w h = absurd cc
+    go : ((z : Point) → Valid z (pre ++ t ∷ []) → run z ts ≡ Ok q → Valid q ((pre ++ t ∷ []) ++ ts)) →
+        (m : Move) → Fine m (pre ++ t ∷ []) → on_ok (λ z. run z ts) m ≡ Ok q → Valid q (pre ++ t ∷ ts)
+    go rest (Ok z) w h = subst (λ (d : List Symbol). Valid q d) (append_assoc pre (t ∷ []) ts) (rest z w h)
+    go rest (Err o) w h = absurd cc
 
 -- the machine behind a unit within the limits
 pub ends : (ts : List Symbol) (all : List External) → IsUnit true ts all → (c : Names) × (run start ts ≡ Ok (c, (a.Unit all ∷ [], at.Due)))
@@ -69,4 +70,4 @@ reads_whole ts left names fs stage h is d =
     (d.0.0, sym h ∙ end ∙ there)
 
 pub in_body_so : (tokens : List Token) (ss : List Symbol) (outer names : Names) → ss ≡ symbols tokens → Behind ss outer → names ≡ in_body outer → InBody tokens names
-in_body_so tokens ss outer names same b i = record { outer = outer; scope = scope_of tokens outer (subst (λ (v : List Symbol). Behind v outer) same b); inner = i }
+in_body_so tokens ss outer names e b i = record { outer = outer; scope = scope_of tokens outer (subst (λ (v : List Symbol). Behind v outer) e b); inner = i }
