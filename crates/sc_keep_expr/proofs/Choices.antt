@@ -137,16 +137,16 @@ module _ (home : Home) where
         (subst (λ n. InstrAt s.image n (Jal 0 (if nat_lt (length cb + 1) 262143 then pos (4 * (length cb + 1) + 4) else pos 0))) (sym there) tail.has.0) is_small (omega (arith, near, n, there))
         (λ h m. leads_then u (eval (less_bound m) h home.env d u) finished (eval_leads (less_bound m) h home.env d u) (λ z r. one_more (Work 1) r))
         (in_turn s (Answered home at (pc + 4 * length cd) d0 y) E d0 y u (λ h m. eval (less_bound m) h home.env d u) (λ z r h m. finished z r)
-          (good_d less_bound (less deep bound dp) d0 y u (placed_same home (c.regs.pc + 4 * length ca + 4 * length (first_jump ∷ []) + 4 * length cb + 4 * length (last_jump ∷ [])) pc cd cd from refl (placed_back home (c.regs.pc + 4 * length ca + 4 * length (first_jump ∷ []) + 4 * length cb) (last_jump ∷ []) cd back)) (stands_at home q y u pc stands))
-          (λ z r h m. one_more (Work 1) r)
-          (λ z r k x p.
-            let there_k = p.there in
-            finish home E z k x r (record {
-              there = omega (arith, all_is, there_k, there);
-              word = p.word;
-              stands = stands_worked home k x r 1 p.stands;
-              keeps = keeps_then home at c d0 k w y x (keeps_then home at c q d0 w y y keeps (keeps_at home at q y pc)) p.keeps;
-            })))
+        (good_d less_bound (less deep bound dp) d0 y u (placed_same home (c.regs.pc + 4 * length ca + 4 * length (first_jump ∷ []) + 4 * length cb + 4 * length (last_jump ∷ [])) pc cd cd from refl (placed_back home (c.regs.pc + 4 * length ca + 4 * length (first_jump ∷ []) + 4 * length cb) (last_jump ∷ []) cd back)) (stands_at home q y u pc stands))
+        (λ z r h m. one_more (Work 1) r)
+        (λ z r k x p.
+        let there_k = p.there in
+        finish home E z k x r (record {
+          there = omega (arith, all_is, there_k, there);
+          word = p.word;
+          stands = stands_worked home k x r 1 p.stands;
+          keeps = keeps_then home at c d0 k w y x (keeps_then home at c q d0 w y y keeps (keeps_at home at q y pc)) p.keeps;
+        })))
 
     by_truth : (holds : Bool) (u : World) (q : Calls) (y : World) → Told home at true (c.regs.pc + 4 * length ca) c w holds u q y → Meets s E q y u (choice holds u)
     by_truth true u q y p = first_chosen u q y p.there p.stands p.keeps

@@ -205,13 +205,13 @@ module _ (home : Home) where
         (λ h m. ap (λ r. and_then (and_then r used) (tested (type_of e))) (family_opens deep bound dp home.env e (CoreExpr-F.Unary l t op.Not a) is v h m) ∙ not_is (type_of a) (type_of e) np (valued (eval (bound m - 1) h) home.env a (tick v)))
         (behind_work s E1 c 1 w v (followed inner turn)
         (in_turn s (Told home at (not sense) (c.regs.pc + 4 * length (test_of home (not sense) a at)) c w) E1 c w (tick v) inner turn
-          (good (not sense) (λ m. bound m - 1) (less deep bound dp) c w (tick v) (placed_same home c.regs.pc c.regs.pc (test_of home sense e at) (test_of home (not sense) a at) refl code_is_inner pl) (stands_worked home c w v 1 st))
-          (λ holds u h m. one_more (Work 1) u)
-          (λ holds u q y p. behind_work s E1 q 1 y u (turn holds u) (at_once s E1 q y (tick u) (turn holds u) (not holds) (λ h m. refl) (record {
-            there = p.there ∙ ap (λ b. if b then c.regs.pc + 4 * length (test_of home (not sense) a at) + 4 else c.regs.pc + 4 * length (test_of home (not sense) a at)) (turned sense holds) ∙ ap (λ (k : Code). told_at sense (not holds) (c.regs.pc + 4 * length k)) (sym code_is_inner);
-            stands = stands_worked home q y u 1 p.stands;
-            keeps = p.keeps;
-          })))))
+        (good (not sense) (λ m. bound m - 1) (less deep bound dp) c w (tick v) (placed_same home c.regs.pc c.regs.pc (test_of home sense e at) (test_of home (not sense) a at) refl code_is_inner pl) (stands_worked home c w v 1 st))
+        (λ holds u h m. one_more (Work 1) u)
+        (λ holds u q y p. behind_work s E1 q 1 y u (turn holds u) (at_once s E1 q y (tick u) (turn holds u) (not holds) (λ h m. refl) (record {
+          there = p.there ∙ ap (λ b. if b then c.regs.pc + 4 * length (test_of home (not sense) a at) + 4 else c.regs.pc + 4 * length (test_of home (not sense) a at)) (turned sense holds) ∙ ap (λ (k : Code). told_at sense (not holds) (c.regs.pc + 4 * length k)) (sym code_is_inner);
+          stands = stands_worked home q y u 1 p.stands;
+          keeps = p.keeps;
+        })))))
 
   pub not_tells : (deep l : ℕ) (t : CType) (e a : CoreExpr) (at : Spot) → out-CoreExpr e ≡ CoreExpr-F.Unary l t op.Not a → is_pointer_type (type_of e) ≡ false → TellsTruth home deep a at → TellsTruth home (suc deep) e at
   not_tells deep l t e a at is np good = λ sense bound dp c w v pl st. not_meets deep l t e a at is np good sense bound dp c w v pl st

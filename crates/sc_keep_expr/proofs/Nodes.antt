@@ -104,11 +104,11 @@ module _ (home : Home) where
       let end : c.regs.pc + 4 * length (code_of home a at) ≡ c.regs.pc + 4 * length (code_of home e at) = ap (λ (k : Code). c.regs.pc + 4 * length k) (sym code) in
       opened deep e (CoreExpr-F.Indirection l t a) is (Answered home at (c.regs.pc + 4 * length (code_of home e at)) c w) bound d c w v refl
       (in_turn s (Valued home at (c.regs.pc + 4 * length (code_of home a at)) c w) (Answered home at (c.regs.pc + 4 * length (code_of home e at)) c w) c w (tick v)
-        (λ h m. valued (eval (bound m - 1) h) home.env a (tick v)) (λ z u h m. at_place z u)
-        (good (λ m. bound m - 1) (less deep bound d) c w (tick v) (placed_same home c.regs.pc c.regs.pc (code_of home e at) (code_of home a at) refl code pl) (stands_worked home c w v 1 st))
-        (λ z u h m. one_more (Work 1) u)
-        (λ z u q y p. finish (Answered home at (c.regs.pc + 4 * length (code_of home e at)) c w) (Place z) q y u
-          (record { there = p.there ∙ end; word = p.word; stands = stands_worked home q y u 1 p.stands; keeps = p.keeps })))
+      (λ h m. valued (eval (bound m - 1) h) home.env a (tick v)) (λ z u h m. at_place z u)
+      (good (λ m. bound m - 1) (less deep bound d) c w (tick v) (placed_same home c.regs.pc c.regs.pc (code_of home e at) (code_of home a at) refl code pl) (stands_worked home c w v 1 st))
+      (λ z u h m. one_more (Work 1) u)
+      (λ z u q y p. finish (Answered home at (c.regs.pc + 4 * length (code_of home e at)) c w) (Place z) q y u
+      (record { there = p.there ∙ end; word = p.word; stands = stands_worked home q y u 1 p.stands; keeps = p.keeps })))
 
   -- ---- a, b
 
@@ -124,16 +124,16 @@ module _ (home : Home) where
       let E = Answered home at (c.regs.pc + 4 * length (code_of home e at)) c w in
       opened deep e (CoreExpr-F.Comma l t a b) is E bound d c w v refl
       (in_turn s (Answered home at (c.regs.pc + 4 * length ca) c w) E c w (tick v)
-        (λ h m. eval (bound m - 1) h home.env a (tick v)) (λ x u h m. and_then (eval (bound m - 1) h home.env b u) finished)
-        (good_a (λ m. bound m - 1) (less deep bound d) c w (tick v) (placed_front home c.regs.pc ca cb both) (stands_worked home c w v 1 st))
-        (λ x u h m. leads_then u (eval (bound m - 1) h home.env b u) finished (eval_leads (bound m - 1) h home.env b u) (λ z r. one_more (Work 1) r))
-        (λ x u q y p.
-          in_turn s (Answered home at (q.regs.pc + 4 * length cb) q y) E q y u (λ h m. eval (bound m - 1) h home.env b u) (λ z r h m. finished z r)
-          (good_b (λ m. bound m - 1) (less deep bound d) q y u (placed_same home (c.regs.pc + 4 * length ca) q.regs.pc cb cb (sym p.there) refl (placed_back home c.regs.pc ca cb both)) p.stands)
-          (λ z r h m. one_more (Work 1) r)
-          (λ z r k x p2. finish E z k x r (record {
-            there = p2.there ∙ ap (λ n. n + 4 * length cb) p.there ∙ end;
-            word = p2.word;
-            stands = stands_worked home k x r 1 p2.stands;
-            keeps = keeps_then home at c q k w y x p.keeps p2.keeps;
-          }))))
+      (λ h m. eval (bound m - 1) h home.env a (tick v)) (λ x u h m. and_then (eval (bound m - 1) h home.env b u) finished)
+      (good_a (λ m. bound m - 1) (less deep bound d) c w (tick v) (placed_front home c.regs.pc ca cb both) (stands_worked home c w v 1 st))
+      (λ x u h m. leads_then u (eval (bound m - 1) h home.env b u) finished (eval_leads (bound m - 1) h home.env b u) (λ z r. one_more (Work 1) r))
+      (λ x u q y p.
+      in_turn s (Answered home at (q.regs.pc + 4 * length cb) q y) E q y u (λ h m. eval (bound m - 1) h home.env b u) (λ z r h m. finished z r)
+      (good_b (λ m. bound m - 1) (less deep bound d) q y u (placed_same home (c.regs.pc + 4 * length ca) q.regs.pc cb cb (sym p.there) refl (placed_back home c.regs.pc ca cb both)) p.stands)
+      (λ z r h m. one_more (Work 1) r)
+      (λ z r k x p2. finish E z k x r (record {
+        there = p2.there ∙ ap (λ n. n + 4 * length cb) p.there ∙ end;
+        word = p2.word;
+        stands = stands_worked home k x r 1 p2.stands;
+        keeps = keeps_then home at c q k w y x p.keeps p2.keeps;
+      }))))

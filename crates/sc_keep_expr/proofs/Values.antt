@@ -124,15 +124,15 @@ module _ (home : Home) where
         behind_straight s home.value En (inversion ∷ []) q y u (with_word q.regs.words 10 made) (λ h m. plain (Number (truth_of (not (is_true x)))) u) (memory_of home q y u p.stands)
         (placed_same home (c.regs.pc + 4 * length na) q.regs.pc (inversion ∷ []) (inversion ∷ []) (sym there) refl (placed_back home c.regs.pc na (inversion ∷ []) n_both)).has refl (λ h m. one_more (Work 1) u)
         (finish home En (Plain (Number (truth_of (not (is_true x))))) (with_a0 (q.regs.pc + 4 * length (inversion ∷ [])) made q) y u
-          (ends_true at n_end (q.regs.pc + 4 * length (inversion ∷ [])) c w (not (is_true x)) u q y made pc value p.stands p.keeps))
+        (ends_true at n_end (q.regs.pc + 4 * length (inversion ∷ [])) c w (not (is_true x)) u q y made pc value p.stands p.keeps))
 
     negation_meets : Meets s En c w v (λ h m. eval (bound m) h home.env e v)
     negation_meets =
         opened home deep e (CoreExpr-F.Unary l t op.Not a) is En bound dp c w v refl
         (in_turn s (Valued home at (c.regs.pc + 4 * length na) c w) En c w (tick v) (λ h m. valued (eval (bound m - 1) h) home.env a (tick v)) (λ x u h m. and_then (unary op.Not (type_of a) x u) plain)
-          (good (λ m. bound m - 1) (less deep bound dp) c w (tick v) (placed_front home c.regs.pc na (inversion ∷ []) n_both) (stands_worked home c w v 1 st))
-          (λ x u h m. leads_then u (unary op.Not (type_of a) x u) plain (leads_then u (tested (type_of a) x u) (λ holds w. Done (Number (truth_of (not holds))) w) (tested_leads (type_of a) x u) (λ holds w. here w)) (λ n w. one_more (Work 1) w))
-          (λ x u q y p. n_rule (truth_rule u.objects (is_pointer_type (type_of a)) x) (operand_breach Truth (promoted (int_of (type_of a))) x PlainInt null u) x u q y p))
+        (good (λ m. bound m - 1) (less deep bound dp) c w (tick v) (placed_front home c.regs.pc na (inversion ∷ []) n_both) (stands_worked home c w v 1 st))
+        (λ x u h m. leads_then u (unary op.Not (type_of a) x u) plain (leads_then u (tested (type_of a) x u) (λ holds w. Done (Number (truth_of (not holds))) w) (tested_leads (type_of a) x u) (λ holds w. here w)) (λ n w. one_more (Work 1) w))
+        (λ x u q y p. n_rule (truth_rule u.objects (is_pointer_type (type_of a)) x) (operand_breach Truth (promoted (int_of (type_of a))) x PlainInt null u) x u q y p))
 
   pub negation : (deep l : ℕ) (t : CType) (e a : CoreExpr) (at : Spot) → out-CoreExpr e ≡ CoreExpr-F.Unary l t op.Not a → GivesValue home deep a at → GivesPlain home (suc deep) e at
   negation deep l t e a at is good = λ bound dp c w v pl st. negation_meets deep l t e a at is good bound dp c w v pl st
@@ -191,8 +191,8 @@ module _ (home : Home) where
         let all_is = whole in
         let made = untagged (told_as (nat_lt (register q.regs 0).bits (register q.regs 10).bits)) in
         let value : made ≡ untagged (truth_of t) =
-            ap (λ (z : Word). untagged (told_as (nat_lt z.bits (register q.regs 10).bits))) (x0_is q.regs stands.regs)
-            ∙ ap (λ k. untagged (told_as k)) (is_more (register q.regs 10).bits (is_true x) (truth_here x u q y stands means) ∙ sym same) ∙ ap untagged (told_same t) in
+        ap (λ (z : Word). untagged (told_as (nat_lt z.bits (register q.regs 10).bits))) (x0_is q.regs stands.regs)
+        ∙ ap (λ k. untagged (told_as k)) (is_more (register q.regs 10).bits (is_true x) (truth_here x u q y stands means) ∙ sym same) ∙ ap untagged (told_same t) in
         let pc : q.regs.pc + 4 * length (setting ∷ []) ≡ end = omega (arith, there, all_is) in
         let from : c.regs.pc + 4 * length ca + 4 * length (skips f ∷ []) + 4 * length (jump ∷ []) + 4 * length cb ≡ q.regs.pc = omega (arith, there) in
         behind_straight s home.value E (setting ∷ []) q y u (with_word q.regs.words 10 made) (λ h m. plain (Number (truth_of t)) u) (memory_of home q y u stands)
@@ -242,11 +242,11 @@ module _ (home : Home) where
         let there = p.there in
         let near = tail.near in
         let test : is_taken (skip_op f) (register q.regs 10).bits (register q.regs 0).bits ≡ is_skipped f (is_true x) =
-            ap (λ (z : Word). is_taken (skip_op f) (register q.regs 10).bits z.bits) (x0_is q.regs p.stands.regs) ∙ taken f (is_true x) (register q.regs 10).bits (truth_here x u q y p.stands p.word) in
+        ap (λ (z : Word). is_taken (skip_op f) (register q.regs 10).bits z.bits) (x0_is q.regs p.stands.regs) ∙ taken f (is_true x) (register q.regs 10).bits (truth_here x u q y p.stands p.word) in
         behind_skip s home.value E (skip_op f) 10 0 q y u (pick (is_skipped f (is_true x)) (is_true x) u) (memory_of home q y u p.stands) (subst (λ n. InstrAt s.image n (Branch (skip_op f) 10 0 (pos 8))) (sym there) tail.has.0)
         (omega (arith, near, there)) (pick_leads (is_skipped f (is_true x)) (is_true x) u)
         (subst (λ t. Meets s E (with_registers (goes_to (if t then q.regs.pc + 8 else q.regs.pc + 4) q.regs) q) y u (pick (is_skipped f (is_true x)) (is_true x) u)) (sym test)
-          (by_skip (is_skipped f (is_true x)) x u q y (with_registers (goes_to (if is_skipped f (is_true x) then q.regs.pc + 8 else q.regs.pc + 4) q.regs) q) refl p))
+        (by_skip (is_skipped f (is_true x)) x u q y (with_registers (goes_to (if is_skipped f (is_true x) then q.regs.pc + 8 else q.regs.pc + 4) q.regs) q) refl p))
 
     pub logical_meets : Meets s E c w (tick v) (followed (λ h m. valued (eval (less_bound m) h) home.env a (tick v)) (λ x u h m. and_then (tested (type_of a) x u) (λ holds r. pick (is_skipped f holds) holds r h m)))
     logical_meets =
@@ -278,13 +278,13 @@ module _ (home : Home) where
       let E = AnsweredPlain home at (c.regs.pc + 4 * length (code_of home e at)) c w in
       opened home deep e (CoreExpr-F.And l t a b) is E bound dp c w v refl
       (same_part s E c w (tick v) _ (followed (λ h m. valued (eval (bound m - 1) h) home.env a (tick v)) (λ x u h m. and_then (tested (type_of a) x u) (λ holds r. if is_skipped true holds then and_then (valued (eval (bound m - 1) h) home.env b r) (truth (type_of b)) else plain (Number (truth_of holds)) r)))
-        (λ h m. and_picks (valued (eval (bound m - 1) h) home.env a (tick v)) (type_of a) (λ r. and_then (valued (eval (bound m - 1) h) home.env b r) (truth (type_of b))))
-        (logical_meets deep e a b at true bound dp c w v (layer_is home word e (CoreExpr-F.And l t a b) at is) good_a good_b pl st))
+      (λ h m. and_picks (valued (eval (bound m - 1) h) home.env a (tick v)) (type_of a) (λ r. and_then (valued (eval (bound m - 1) h) home.env b r) (truth (type_of b))))
+      (logical_meets deep e a b at true bound dp c w v (layer_is home word e (CoreExpr-F.And l t a b) at is) good_a good_b pl st))
 
   pub disjunction : (deep l : ℕ) (t : CType) (e a b : CoreExpr) (at : Spot) → out-CoreExpr e ≡ CoreExpr-F.Or l t a b → GivesValue home deep a at → GivesValue home deep b at → GivesPlain home (suc deep) e at
   disjunction deep l t e a b at is good_a good_b = λ bound dp c w v pl st.
       let E = AnsweredPlain home at (c.regs.pc + 4 * length (code_of home e at)) c w in
       opened home deep e (CoreExpr-F.Or l t a b) is E bound dp c w v refl
       (same_part s E c w (tick v) _ (followed (λ h m. valued (eval (bound m - 1) h) home.env a (tick v)) (λ x u h m. and_then (tested (type_of a) x u) (λ holds r. if is_skipped false holds then and_then (valued (eval (bound m - 1) h) home.env b r) (truth (type_of b)) else plain (Number (truth_of holds)) r)))
-        (λ h m. or_picks (valued (eval (bound m - 1) h) home.env a (tick v)) (type_of a) (λ r. and_then (valued (eval (bound m - 1) h) home.env b r) (truth (type_of b))))
-        (logical_meets deep e a b at false bound dp c w v (layer_is home word e (CoreExpr-F.Or l t a b) at is) good_a good_b pl st))
+      (λ h m. or_picks (valued (eval (bound m - 1) h) home.env a (tick v)) (type_of a) (λ r. and_then (valued (eval (bound m - 1) h) home.env b r) (truth (type_of b))))
+      (logical_meets deep e a b at false bound dp c w v (layer_is home word e (CoreExpr-F.Or l t a b) at is) good_a good_b pl st))

@@ -125,12 +125,14 @@ module _ (s : Stage) where
   pub lost_means : (n : ℕ) (c : Calls) (w v : World) (r : Family Answer) (b : Breach) → is_own_step b v ≡ true → ((h : History) (m : ℕ) → r h m ≡ Over (Undefined b v)) → Means s n c w v r
   lost_means n c w v r b own is zero le = λ q g h l. subst (λ o. Leads v (world_after o)) (sym ((g h l).2 ∙ is h (g h l).0)) (here v)
   lost_means n c w v r b own is (suc k) le = λ q g.
-      let lost : IsLost s.past v q = record { breach = b; world = v; leads = here v; compiled = own; shows = refl; ends = λ h l live. (g h l).2 ∙ is h (g h l).0 } in
-      (λ h l. subst (λ o. Leads v (world_after o)) (sym ((g h l).2 ∙ is h (g h l).0)) (here v), record {
-        goes = λ after d u moved fit like mv. inr lost;
-        ends = λ after d u stop fit like mv. inr lost;
-        crashes = λ after d u pc cause fit like mv. lost;
-      })
+      let lost : IsLost s.past v q = record { breach = b; world = v; leads = here v; compiled = own; shows = refl; ends = λ h l live. (g h l).2 ∙ is h (g h l).0 } in (
+        λ h l. subst (λ o. Leads v (world_after o)) (sym ((g h l).2 ∙ is h (g h l).0)) (here v),
+        record {
+          goes = λ after d u moved fit like mv. inr lost;
+          ends = λ after d u stop fit like mv. inr lost;
+          crashes = λ after d u pc cause fit like mv. lost;
+        },
+      )
 
   -- ---- one family is as the other
 
@@ -194,11 +196,14 @@ module _ (s : Stage) where
 
     unseen : (n : ℕ) (next : Next) (c : Calls) (w : World) (q : Gives s.past v) → CodeMeans n s next c w u q → CodeMeans n s next c w v q
     unseen zero next c w q p = λ h l. on v u (world_after (q h l)) first (p h l)
-    unseen (suc n) next c w q p = (λ h l. on v u (world_after (q h l)) first (p.0 h l), record {
-      goes = λ after d x moved fit like mv. goes_before after d x moved (p.1.goes after d x moved fit (like_worked w like) mv);
-      ends = λ after d x stop fit like mv. ends_before stop x (p.1.ends after d x stop fit (like_worked w like) mv);
-      crashes = λ after d x pc cause fit like mv. lost_before q (p.1.crashes after d x pc cause fit (like_worked w like) mv);
-    })
+    unseen (suc n) next c w q p = (
+      λ h l. on v u (world_after (q h l)) first (p.0 h l),
+      record {
+        goes = λ after d x moved fit like mv. goes_before after d x moved (p.1.goes after d x moved fit (like_worked w like) mv);
+        ends = λ after d x stop fit like mv. ends_before stop x (p.1.ends after d x stop fit (like_worked w like) mv);
+        crashes = λ after d x pc cause fit like mv. lost_before q (p.1.crashes after d x pc cause fit (like_worked w like) mv);
+      },
+    )
       where
         goes_before : (after : Next) (d : Calls) (x : World) (moved : Moved) → (KeepsWaiting c.lower w x × CodeMoved (CodeMeans n) (CodeAfter n) n s u q c moved.shown after d x) ⊎ IsLost s.past u q → (KeepsWaiting c.lower w x × CodeMoved (CodeMeans n) (CodeAfter n) n s v q c moved.shown after d x) ⊎ IsLost s.past v q
         goes_before after d x moved (inl g) = inl (g.0, moved_before (CodeMeans n) (CodeAfter n) n q c moved.shown after d x g.1)

@@ -194,8 +194,8 @@ loads_one_way i op rd base offset r w mem z at e =
     let place_at : ℕ = sum (register r base).bits (bits_of offset) in
     let there = read_aligned mem.memory.flat place_at (load_size op) z e in
     let far : raw_read (bare mem.memory.flat) place_at (load_size op) ≡ Some (word_of (range_of [] there.1.0 (load_size op))) =
-        ap (λ t. option_map (λ k. word_of (range_of [] k (load_size op))) (if t then place mem.memory.flat place_at (load_size op) else None)) there.0
-        ∙ ap (option_map (λ k. word_of (range_of [] k (load_size op)))) there.1.1 in
+    ap (λ t. option_map (λ k. word_of (range_of [] k (load_size op))) (if t then place mem.memory.flat place_at (load_size op) else None)) there.0
+    ∙ ap (option_map (λ k. word_of (range_of [] k (load_size op)))) there.1.1 in
     one_way i r (writes rd (loaded op z) r) w mem
     (stepped i (Load op rd base offset) r mem.memory.flat at ∙ goes_on mem.memory.flat z there.0 e)
     (writes rd (loaded op (word_of (range_of [] there.1.0 (load_size op)))) r)
