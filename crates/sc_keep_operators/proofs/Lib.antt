@@ -1,0 +1,5 @@
+pub mod Numbers
+pub mod Operating
+pub mod Constants
+pub mod Scaling
+pub mod Pointers

@@ -1,0 +1,2 @@
+//! What the expressions of formed trees answer by their form and their type.
+#![tactic(auto)]
