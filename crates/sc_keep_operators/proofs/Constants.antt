@@ -1,6 +1,5 @@
 -- Operators with a constant, with one operand, and as branches.
-use Rattle.std.specs.Prelude.{⊤, ◌&&◌, ◌||◌}
-use Rattle.std.proofs.Common.{◌≡◌, ◌⊎◌, inl, inr, ℕ, zero, suc, ◌+◌, ◌-◌, ◌*◌, ◌/◌, ◌%◌, ◌^◌, ◌<◌, ◌≤◌, ◌==◌, Bool, true, false, not, if◌then◌else◌, nat_lt, nat_le, ℤ, pos, negsuc, neg_ℤ, int_lt, int_le, List, [], ◌∷◌, Option, Some, None, refl, sym, ap, ap₂, ◌∙◌, subst, arith}
+use Rattle.std.proofs.Common.{◌≡◌, ℕ, zero, ◌+◌, ◌-◌, ◌*◌, ◌%◌, ◌^◌, ◌<◌, ◌==◌, Bool, true, false, not, if◌then◌else◌, nat_lt, nat_le, ℤ, pos, neg_ℤ, int_lt, int_le, [], ◌∷◌, Option, Some, None, refl, sym, ap, ap₂, ◌∙◌, arith}
 use Rattle.std.proofs.lemmas.Bool.Decides.{nat_tests}
 use Rattle.std.specs.Option.{option_map}
 use Rattle.std.specs.Int.{w32, cast_signed}
@@ -23,7 +22,7 @@ use Rattle.sc_emu.specs.Operations.{plain, of_two, with_constant, bits_of, is_ta
 use Rattle.sc_gen_code.specs.declared.symbolic.Symbolic.{Symbolic}
 use Rattle.sc_gen_code.specs.declared.symbolic.Symbolic.TheVariants.{Plain}
 use Rattle.sc_gen_code.specs.Code.{a0, shift_of}
-use Rattle.sc_gen_code.specs.Operators.{immediate, short, shifted, multiplied, imm_by_sign, is_short, unary_of, is_unsigned, branch, branch_by_sign, is_comparison}
+use Rattle.sc_gen_code.specs.Operators.{immediate, short, shifted, imm_by_sign, is_short, unary_of, is_unsigned, branch, branch_by_sign, is_comparison}
 use Rattle.sc_keep_operators.specs.Straight.{Words, after}
 use Rattle.sc_keep_operators.specs.Operators.{Operands, single, takes, told}
 use Rattle.sc_keep_operators.proofs.Numbers.{number, sum_is, difference_is, left_is, right_signed, right_unsigned, truth_is, less_signed, less_unsigned, not_lt, zero_is, true_is, negative_is, complement_is, negated_constant}

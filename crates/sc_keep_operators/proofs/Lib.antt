@@ -3,3 +3,5 @@ pub mod Operating
 pub mod Constants
 pub mod Scaling
 pub mod Pointers
+pub mod Comparing
+pub mod Steps

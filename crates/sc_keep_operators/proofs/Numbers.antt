@@ -1,7 +1,7 @@
 -- What a machine of 32 bits computes, and what C means by it.
-use Rattle.std.proofs.Common.{◌≡◌, ℕ, zero, suc, ◌+◌, ◌-◌, ◌*◌, ◌/◌, ◌%◌, ◌^◌, ◌<◌, ◌≤◌, ◌≢◌, ◌==◌, Bool, true, false, not, ◌&&◌, if◌then◌else◌, nat_lt, nat_le, ℤ, pos, negsuc, ◌+ℤ◌, ◌-ℤ◌, ◌*ℤ◌, neg_ℤ, int_div, int_rem, int_lt, int_le, Some, None, refl, sym, ap, ap₂, ◌∙◌, subst, arith}
-use Rattle.std.specs.Prelude.{bit_and, bit_or, bit_xor}
-use Rattle.std.specs.Int.{w32, cast_signed, cast_unsigned, int_shr, int_wrap}
+use Rattle.std.proofs.Common.{◌≡◌, ℕ, zero, suc, ◌+◌, ◌-◌, ◌*◌, ◌/◌, ◌%◌, ◌^◌, ◌<◌, ◌≤◌, ◌≢◌, ◌==◌, Bool, true, false, not, if◌then◌else◌, nat_lt, nat_le, ℤ, pos, negsuc, ◌+ℤ◌, ◌-ℤ◌, ◌*ℤ◌, neg_ℤ, int_div, int_rem, int_lt, int_le, refl, sym, ap, ap₂, ◌∙◌, subst, arith}
+use Rattle.std.specs.Prelude.{bit_and, bit_xor}
+use Rattle.std.specs.Int.{w32, cast_unsigned, int_shr, int_wrap}
 use Rattle.std.specs.Int.Bits.{xor_add_and, xor_self}
 use Rattle.std.proofs.Math.Nat.{mod-eq_of_lt, mod-le, div-le_self}
 use Rattle.std.proofs.lemmas.Nat.{and_le_l, and_le_r}

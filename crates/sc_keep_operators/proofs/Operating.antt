@@ -1,23 +1,19 @@
 -- The code of operators on integers, by what it makes of registers.
-use Rattle.std.specs.Prelude.{⊤, ◌&&◌, ◌||◌}
-use Rattle.std.proofs.Common.{◌≡◌, ◌⊎◌, inl, inr, ℕ, zero, suc, ◌+◌, ◌-◌, ◌*◌, ◌/◌, ◌%◌, ◌^◌, ◌<◌, ◌≤◌, ◌==◌, Bool, true, false, not, if◌then◌else◌, nat_lt, nat_le, ℤ, pos, negsuc, ◌+ℤ◌, ◌-ℤ◌, ◌*ℤ◌, neg_ℤ, int_div, int_rem, int_lt, int_le, List, [], ◌∷◌, ◌++◌, Option, Some, None, refl, sym, ap, ap₂, ◌∙◌, subst, arith}
-use Rattle.std.proofs.lemmas.Bool.Decides.{nat_tests}
-use Rattle.std.specs.Prelude.{bit_xor, bit_and, bit_or}
+use Rattle.std.specs.Prelude.{◌&&◌}
+use Rattle.std.proofs.Common.{◌≡◌, ℕ, ◌*◌, ◌%◌, ◌<◌, ◌==◌, Bool, true, false, not, if◌then◌else◌, nat_lt, ℤ, int_lt, int_le, [], ◌∷◌, Some, None, refl, sym, ap, ap₂, ◌∙◌, subst}
 use Rattle.sc_base.specs.declared.integer.Int.{Int}
 use Rattle.sc_base.specs.declared.integer.Int.TheVariants as int
 use Rattle.sc_base.specs.declared.memory.Word.{Word}
 use Rattle.sc_base.specs.declared.operator.Op.{Op}
 use Rattle.sc_base.specs.declared.operator.Op.TheVariants as op
-use Rattle.sc_base.specs.declared.report.Rule.{Rule}
 use Rattle.sc_base.specs.declared.report.Rule.TheVariants.{U7, U8, U9}
 use Rattle.sc_isa.specs.declared.instruction.RegOp.{RegOp}
 use Rattle.sc_isa.specs.declared.instruction.RegOp.TheVariants as reg
-use Rattle.sc_isa.specs.declared.instruction.ImmOp.{ImmOp}
 use Rattle.sc_isa.specs.declared.instruction.ImmOp.TheVariants as imm
 use Rattle.sc_ops.specs.Numbers.{is_signed, promoted, is_in_range, bits_of as bits_in}
 use Rattle.sc_ops.specs.Operators.{truth_of, value_of, rule_of, operand, exact, shifted_down, is_out_of_range, is_division, is_shift, is_arithmetic, tested}
 use Rattle.sc_emu.specs.Operations.{plain, of_two, with_constant}
-use Rattle.sc_gen_code.specs.Code.{Code, a0, apply}
+use Rattle.sc_gen_code.specs.Code.{a0, apply}
 use Rattle.sc_gen_code.specs.Operators.{operate, is_unsigned, by_sign}
 use Rattle.sc_keep_operators.specs.Straight.{Words, with, after}
 use Rattle.sc_keep_operators.specs.Operators.{IsOperator, Operands}

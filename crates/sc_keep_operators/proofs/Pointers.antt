@@ -1,8 +1,7 @@
 -- The code of pointer arithmetic: a pointer's word and a number give the word of the pointer that they mean.
 use Rattle.std.specs.Prelude.{◌&&◌, ◌||◌}
-use Rattle.std.proofs.Common.{◌≡◌, ◌≢◌, ◌⊎◌, inl, inr, ℕ, zero, suc, ◌+◌, ◌-◌, ◌*◌, ◌%◌, ◌^◌, ◌<◌, ◌≤◌, ◌==◌, Bool, true, false, not, if◌then◌else◌, nat_lt, ℤ, pos, negsuc, ◌+ℤ◌, ◌*ℤ◌, neg_ℤ, int_lt, List, [], ◌∷◌, ◌++◌, Option, Some, None, refl, sym, ap, ap₂, ◌∙◌, subst, arith}
+use Rattle.std.proofs.Common.{◌≡◌, ℕ, zero, suc, ◌+◌, ◌-◌, ◌*◌, ◌%◌, ◌<◌, ◌≤◌, ◌==◌, Bool, true, false, not, if◌then◌else◌, ℤ, pos, negsuc, ◌+ℤ◌, ◌*ℤ◌, neg_ℤ, List, [], ◌∷◌, ◌++◌, Some, None, refl, sym, ap, ap₂, ◌∙◌, subst, arith}
 use Rattle.std.proofs.lemmas.Bool.Decides.{nat_tests}
-use Rattle.std.proofs.Math.Nat.{mod-eq_of_lt}
 use Rattle.sc_base.specs.declared.integer.Int.{Int}
 use Rattle.sc_base.specs.declared.integer.Int.TheVariants as int
 use Rattle.sc_base.specs.declared.key.Key.{Key}
@@ -15,18 +14,16 @@ use Rattle.sc_rules.specs.Tests as tests
 use Rattle.sc_objects.specs.declared.objects.Obj.{Obj}
 use Rattle.sc_objects.specs.Numbered.{object_of}
 use Rattle.sc_mem.specs.Flat.{Flat}
-use Rattle.sc_isa.specs.declared.instruction.RegOp.{RegOp}
 use Rattle.sc_isa.specs.declared.instruction.RegOp.TheVariants as reg
-use Rattle.sc_ops.specs.Numbers.{converted, number_of}
+use Rattle.sc_ops.specs.Numbers.{number_of}
 use Rattle.sc_emu.specs.Operations.{plain, of_two, sum, difference}
 use Rattle.sc_meaning.specs.Values.{Value, Number, FunctionAt, Pointer}
-use Rattle.sc_meaning.specs.World.{Object, object_at}
+use Rattle.sc_meaning.specs.World.{Object}
 use Rattle.sc_meaning.specs.Accesses.{placed, steps_of}
-use Rattle.sc_meaning.specs.Violations.{shift_rule, target, is_number, is_pointer, is_dead, leaves_object, is_beyond, is_null, of_object, bits}
-use Rattle.sc_mem_store.specs.Holding.{Holds}
+use Rattle.sc_meaning.specs.Violations.{shift_rule, target, is_number, is_pointer, is_dead, leaves_object, is_beyond, of_object, bits}
 use Rattle.sc_mem_store.proofs.Holding.{held-at}
-use Rattle.sc_gen_code.specs.Code.{Code, a0, apply}
-use Rattle.sc_gen_code.specs.Operators.{advanced, moved, add_or_sub, scale}
+use Rattle.sc_gen_code.specs.Code.{a0, apply}
+use Rattle.sc_gen_code.specs.Operators.{advanced, add_or_sub, scale}
 use Rattle.sc_keep_words.specs.Means.{Means}
 use Rattle.sc_keep_words.specs.Words.{AreSeated, HeldWords}
 use Rattle.sc_keep_operators.specs.Straight.{Words, after}
@@ -82,7 +79,7 @@ inside_by : (size : ℕ) (z : ℤ) → is_beyond size z ≡ false → (a : ℕ) 
 inside_by size (pos a) e = (a, refl, grind (arith, nat_tests, e))
 inside_by size (negsuc a) e = absurd (cc (e))
 
-zero_number : (n : ℕ) → (true && not (n == 0)) ≡ false → n ≡ 0
+pub zero_number : (n : ℕ) → (true && not (n == 0)) ≡ false → n ≡ 0
 zero_number n e = grind (arith, nat_tests, e)
 
 no_steps : (z : ℤ) → tests.is_not_zero z ≡ false → z ≡ pos 0

@@ -1,6 +1,6 @@
 -- A number of elements as one of bytes, and sums of addresses.
-use Rattle.std.specs.Prelude.{◌&&◌, ◌||◌}
-use Rattle.std.proofs.Common.{◌≡◌, ◌⊎◌, inl, inr, ℕ, zero, suc, ◌+◌, ◌-◌, ◌*◌, ◌/◌, ◌%◌, ◌^◌, ◌<◌, ◌≤◌, ◌==◌, Bool, true, false, not, if◌then◌else◌, nat_lt, nat_le, ℤ, pos, negsuc, ◌+ℤ◌, ◌-ℤ◌, ◌*ℤ◌, neg_ℤ, List, [], ◌∷◌, ◌++◌, Option, Some, None, refl, sym, ap, ap₂, ◌∙◌, subst, arith}
+use Rattle.std.specs.Prelude.{◌||◌}
+use Rattle.std.proofs.Common.{◌≡◌, ℕ, zero, suc, ◌+◌, ◌*◌, ◌%◌, ◌<◌, ◌≤◌, ◌==◌, Bool, true, false, if◌then◌else◌, nat_lt, nat_le, ℤ, pos, negsuc, ◌+ℤ◌, ◌*ℤ◌, neg_ℤ, [], ◌∷◌, ◌++◌, Option, Some, None, refl, sym, ap, ap₂, ◌∙◌, arith}
 use Rattle.std.proofs.lemmas.Bool.Decides.{nat_tests}
 use Rattle.std.proofs.lemmas.Int.{ints, of_z-to_z}
 use Rattle.std.specs.Int.{w32, cast_signed}
@@ -8,18 +8,17 @@ use Rattle.std.proofs.Math.Nat.{mod-eq_of_lt}
 use Rattle.sc_base.specs.declared.integer.Int.{Int}
 use Rattle.sc_base.specs.declared.integer.Int.TheVariants as int
 use Rattle.sc_base.specs.declared.memory.Word.{Word}
-use Rattle.sc_isa.specs.declared.instruction.Instr.TheVariants.{Imm, Reg, Lui}
+use Rattle.sc_isa.specs.declared.instruction.Instr.TheVariants.{Lui}
 use Rattle.sc_isa.specs.declared.instruction.RegOp.TheVariants as reg
 use Rattle.sc_isa.specs.declared.instruction.ImmOp.TheVariants as imm
 use Rattle.sc_isa_image.specs.Stubs.{upper_of, lower_of}
-use Rattle.sc_ops.specs.Numbers.{converted, number_of, number_of_low, bits_of as bits_in}
+use Rattle.sc_ops.specs.Numbers.{converted, number_of, bits_of as bits_in}
 use Rattle.sc_emu.specs.Operations.{plain, of_two, with_constant, bits_of, sum, difference}
-use Rattle.sc_gen_code.specs.declared.symbolic.Symbolic.{Symbolic}
 use Rattle.sc_gen_code.specs.declared.symbolic.Symbolic.TheVariants.{Plain}
 use Rattle.sc_gen_code.specs.Code.{Code, li, addi, apply, shift_of}
 use Rattle.sc_gen_code.specs.Operators.{scale, scaled}
 use Rattle.sc_keep_operators.specs.Straight.{Words, with, after}
-use Rattle.sc_keep_operators.proofs.Constants.{Power, shift_power, left_power}
+use Rattle.sc_keep_operators.proofs.Constants.{shift_power, left_power}
 
 -- ---- a register gets a number
 halves : (n : ℕ) → n < 4294967296 → sum (upper_of n * 4096) (bits_of (lower_of n)) ≡ n

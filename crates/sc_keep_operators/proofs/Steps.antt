@@ -8,7 +8,7 @@ use Rattle.sc_isa.specs.declared.instruction.Instr.{Instr}
 use Rattle.sc_isa.specs.declared.instruction.Instr.TheVariants.{Lui, Auipc, Jal, Jalr, Branch, Load, Store, Imm, Reg, Ecall, Fence}
 use Rattle.sc_emu.specs.Operations.{bits_of, of_two, plain, with_constant}
 use Rattle.sc_emu.specs.Registers.{register, with_word}
-use Rattle.sc_emu.specs.Machine.{State, Goes, act, next_of, with_registers}
+use Rattle.sc_emu.specs.Machine.{State, next_of, with_registers}
 use Rattle.sc_keep_operators.specs.Straight.{Words, with, after_one, IsFile, IsStraight, Steps}
 
 at_same : (ws : List Word) (i : ℕ) (w d : Word) → i < length ws → slice_index_or (slice_set ws i w) i d ≡ w

@@ -1,6 +1,6 @@
 -- Inside: plumbing, a representation, an invariant or a promise beside the claim (docs/TRUST.md).
 -- Two numbers of 32 bits in registers, and the operators that stand between two operands.
-use Rattle.std.specs.Prelude.{◌≡◌, ⊤, ℕ, ◌^◌, ◌<◌, ◌==◌, Bool, true, false, not, if◌then◌else◌}
+use Rattle.std.specs.Prelude.{◌≡◌, ⊤, ℕ, ◌^◌, ◌<◌, ◌==◌, Bool, false, not, if◌then◌else◌}
 use Rattle.sc_base.specs.declared.integer.Int.{Int}
 use Rattle.sc_base.specs.declared.operator.Op.{Op}
 use Rattle.sc_base.specs.declared.operator.Op.TheVariants.{Neg, Not, Truth, Inc, Dec}

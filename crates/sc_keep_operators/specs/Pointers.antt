@@ -4,7 +4,7 @@ use Rattle.std.specs.Prelude.{◌≡◌, ⊤, ℕ, ◌^◌, ◌<◌, ◌==◌, f
 use Rattle.sc_base.specs.declared.integer.Int.{Int}
 use Rattle.sc_base.specs.declared.key.Key.{Key}
 use Rattle.sc_base.specs.declared.operator.Op.{Op}
-use Rattle.sc_base.specs.declared.operator.Op.TheVariants.{Add, Sub}
+use Rattle.sc_base.specs.declared.operator.Op.TheVariants.{Add, Sub, Lt, Gt, Le, Ge}
 use Rattle.sc_objects.specs.declared.objects.Obj.{Obj}
 use Rattle.sc_ops.specs.Numbers.{converted}
 use Rattle.sc_emu.specs.Operations.{plain}
@@ -27,3 +27,11 @@ pub record Advances (stub : Key → ℕ) (table : List Obj) (r : Words) (size x 
   pub apart : (x == 6) ≡ false
   pub distinct : (y == 6) ≡ false
   pub small : size < 2 ^ 32
+
+-- the operators that order
+abbrev pub IsOrder : Op → Type 0
+IsOrder Lt = ⊤
+IsOrder Gt = ⊤
+IsOrder Le = ⊤
+IsOrder Ge = ⊤
+IsOrder _ = ⊥

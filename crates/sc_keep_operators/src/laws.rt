@@ -11,9 +11,9 @@ ghost use Rattle.sc_emu.specs.Operations.{plain};
 ghost use Rattle.sc_gen_code.specs.Operators.{advanced, branch, immediate, is_comparison, is_unsigned, operate, unary_of};
 ghost use Rattle.sc_gen_code.specs.declared.symbolic.Symbolic.{Symbolic};
 ghost use Rattle.sc_isa.specs.declared.instruction.Instr.{Instr};
-ghost use Rattle.sc_meaning.specs.Accesses.{placed, steps_of};
+ghost use Rattle.sc_meaning.specs.Accesses.{placed, pointer_test, steps_of};
 ghost use Rattle.sc_meaning.specs.Values.{Number, Value};
-ghost use Rattle.sc_meaning.specs.Violations.{shift_rule, target};
+ghost use Rattle.sc_meaning.specs.Violations.{order_rule, shift_rule, target};
 ghost use Rattle.sc_meaning.specs.World.{Object};
 ghost use Rattle.sc_mem.specs.Flat.{Flat};
 ghost use Rattle.sc_objects.specs.declared.objects.Obj.{Obj};
@@ -21,7 +21,7 @@ ghost use Rattle.sc_ops.specs.Operators.{rule_of, truth_of, value_of};
 ghost use Rattle.sc_keep_words.specs.Means.{Means};
 ghost use Rattle.sc_keep_words.specs.Words.{HeldWords};
 ghost use Rattle.sc_keep_operators.specs.Operators.{IsOperator, Operands, single, takes, told};
-ghost use Rattle.sc_keep_operators.specs.Pointers.{Advances, IsMove};
+ghost use Rattle.sc_keep_operators.specs.Pointers.{Advances, IsMove, IsOrder};
 ghost use Rattle.sc_keep_operators.specs.Straight.{IsFile, IsStraight, Steps, Words, after, after_one};
 
 /// The code of each of the sixteen operators on two integers leaves in a0 the number that C means, in each of the nine types, where the
@@ -49,9 +49,11 @@ pub fn branches_take_what_is_meant()
 {}
 
 /// The code of a pointer plus or minus a number of elements leaves in a0 the word of the pointer that C means, where no rule is broken.
-#[tactic(auto, using(crate::proofs::Pointers::advances, crate::proofs::Pointers::met))]
-pub fn pointers_move_as_is_meant()
+/// So does the code of an order of two pointers leave its truth.
+#[tactic(auto, using(crate::proofs::Pointers::advances, crate::proofs::Pointers::met, crate::proofs::Comparing::orders))]
+pub fn pointers_go_as_is_meant()
     ensures advances { (f : Key → ℕ) (fs : List Key) (m : Flat) (os : List Object) → HeldWords fs m os → (r : Words) (size x y n : ℕ) (k : Int) (v : Value) (o : Op) → Advances f m.objects r size x y n k v → IsMove o → shift_rule os v (Number n) (steps_of o k (Number n)) size ≡ None → Means f m.objects (after (advanced o size x y) r 10) (placed v (target v (steps_of o k (Number n)) size)) }
+    ensures orders { (f : Key → ℕ) (fs : List Key) (m : Flat) (os : List Object) → HeldWords fs m os → (r : Words) (x y : ℕ) (v u : Value) (o : Op) → Means f m.objects (r x) v → Means f m.objects (r y) u → IsOrder o → order_rule os v u ≡ None → after (operate o true x y) r 10 ≡ plain (truth_of (pointer_test o v u)) }
     ensures met { (f : Key → ℕ) (t : List Obj) → Advances f t (λ j. plain 0) 4 10 11 0 PlainInt (Number 0) }
 {}
 

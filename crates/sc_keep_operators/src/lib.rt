@@ -5,5 +5,5 @@ mod laws;
 
 pub use laws::{
     branches_take_what_is_meant, constants_compute_what_is_meant, operators_compute_what_is_meant,
-    pointers_move_as_is_meant, straight_code_is_stepped,
+    pointers_go_as_is_meant, straight_code_is_stepped,
 };

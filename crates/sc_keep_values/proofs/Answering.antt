@@ -1,21 +1,20 @@
 -- Calls, and all constructs of formed expressions.
-use Rattle.std.specs.Prelude.{⊤, ◌&&◌, ◌||◌}
+use Rattle.std.specs.Prelude.{◌&&◌, ◌||◌}
 use Rattle.std.proofs.Common.{◌≡◌, ℕ, ◌==◌, Bool, true, false, not, List, [], ◌∷◌, ◌++◌, length, nat_le, Option, Some, None, refl, sym, ap, ◌∙◌, subst}
-use Rattle.std.specs.Prelude.{slice_get, if◌then◌else◌}
+use Rattle.std.specs.Prelude.{if◌then◌else◌}
 use Rattle.sc_base.specs.declared.key.Key.{Key}
-use Rattle.sc_base.specs.declared.report.Rule.{Rule}
 use Rattle.sc_types.specs.declared.ctype.CType.{CType, out-CType, fold-CType, fold_out-CType, map-CType}
 use Rattle.sc_types.specs.declared.ctype.CType.TheOpen.{CType-F}
 use Rattle.sc_types.specs.declared.ctype.Signature.{Signature, fold-Signature}
 use Rattle.sc_types.specs.declared.ctype.StructDef.{StructDef}
 use Rattle.sc_types.specs.Calls.{fits}
-use Rattle.sc_types.specs.Compatibility.{Pairs, Test, level, signature, alike as goes_with, same_int, same_const, same_bool, same_signature, sides, parameters as same_parameters}
+use Rattle.sc_types.specs.Compatibility.{Pairs, Test, level, signature, alike as goes_with, same_int, same_const, same_bool, same_signature, sides, same_parameters}
 use Rattle.sc_core.specs.declared.expression.CoreExpr.{CoreExpr, map-CoreExpr}
 use Rattle.sc_core.specs.declared.expression.CoreExpr.TheOpen.{CoreExpr-F}
 use Rattle.sc_core.specs.declared.module.Auto.{Auto}
 use Rattle.sc_core.specs.declared.module.Core.{Core}
 use Rattle.sc_core.specs.Types.{type_of}
-use Rattle.sc_check_operand.specs.Types.{Level, is_function, is_function_level, is_const, is_array, shape, shape_layer, is_scalar, is_void_level}
+use Rattle.sc_check_operand.specs.Types.{Level, is_function, is_function_level, is_const, is_array, shape_layer, is_scalar, is_void_level}
 use Rattle.sc_core_needs.specs.Types.{alike, is_given_as, is_plain_of}
 use Rattle.sc_core_needs.specs.Values.{is_done, converts}
 use Rattle.sc_core_needs.specs.Nodes as nodes
@@ -24,15 +23,16 @@ use Rattle.sc_core_formed.specs.Names.{declared_as, fits_function}
 use Rattle.sc_program.specs.declared.storage.StaticId.TheVariants as id
 use Rattle.sc_meaning.specs.Values.{Value, Number, FunctionAt, Pointer}
 use Rattle.sc_meaning.specs.World.{World, pass, GoesOut, ComesBack, named_in}
-use Rattle.sc_meaning.specs.Outcomes.{Outcome, Done, Over, and_then, unless}
+use Rattle.sc_meaning.specs.Outcomes.{Outcome, and_then, unless}
 use Rattle.sc_meaning.specs.Integers.{Gives}
 use Rattle.sc_meaning.specs.Versions.{Text, History, Callee, Missing, InText, InLibrary, callee_of, version_at}
 use Rattle.sc_meaning.specs.Signatures.{takes}
-use Rattle.sc_meaning.specs.Expressions.{Env, Eval, Call, Answer, Plain, Place, Part, Nothing, conversion, expr_of, is_void, cast, called, args_then, valued, one, finished, value_rule, call_breach, call_value, called_rule, signature_rule, rule_if, signature_in, target_in}
+use Rattle.sc_meaning.specs.Expressions.{Env, Eval, Call, Answer, Place, conversion, expr_of, is_void, cast, called, args_then, valued, one, finished, value_rule, call_breach, call_value, called_rule, signature_rule, rule_if, signature_in, target_in}
 use Rattle.sc_meaning.proofs.Numbers.{unless_, by_}
 use Rattle.sc_keep_calls.specs.Kept.{Ends}
 use Rattle.sc_keep_calls.proofs.Steps.{ends_then, ends_more}
-use Rattle.sc_keep_values.specs.Fits.{Sort, Empty, Whole, Address, Placed, sort, sort_of, IsValue, IsResult, IsPlace, OfSort, FitsBy, FitsLayer, Fits}
+use Rattle.sc_keep_values.specs.Fits.{Sort, Whole, sort, sort_of, IsResult, IsPlace, OfSort, FitsBy, FitsLayer, Fits}
+use Rattle.sc_keep_values.specs.Formed.{IsCallee}
 use Rattle.sc_keep_values.proofs.Types.{both, three, one_int, alike_sort}
 use Rattle.sc_keep_values.proofs.Loading.{gives_ends}
 use Rattle.sc_keep_values.proofs.Fitting.{plain_sort}
@@ -79,12 +79,6 @@ goes_sort behind here a b h =
     level_sort behind here (fold-CType Test (Signature → Bool) (λ f h o u. level behind f h o (out-CType u)) (signature behind)) (fold-Signature Test (Signature → Bool) (λ f h o u. level behind f h o (out-CType u)) (signature behind))
     (out-CType a) (out-CType b) (sym (ap (λ k. k here true b) e) ∙ h)
 
--- what is called gives results of a sort
-abbrev pub IsCallee : Sort → Callee → Type 0
-IsCallee st Missing = ⊤
-IsCallee st (InText t f) = sort_of f.of.result ≡ st
-IsCallee st (InLibrary f) = (s : Signature) × (takes f s ≡ true) × (sort_of s.result ≡ st)
-
 rule_true : (b : Bool) → rule_if b ≡ None → b ≡ true
 rule_true true h = refl
 rule_true false h = absurd (cc)
@@ -98,14 +92,8 @@ signature_callee t s (InText u f) h =
 signature_callee t s (InLibrary f) h = (s, rule_true (takes f s) h, refl)
 
 -- the type of what is called
-record Called (structs : List StructDef) (t : CType) (f : CType) : Type 0 where
-  signature : Signature
-  target : target_in (out-CType f) ≡ Some signature
-  result : is_plain_of structs t signature.result ≡ true
-  kind : nodes.is_result structs signature.result ≡ true
-
 called_level : (structs : List StructDef) (t : CType) (l : Level) (args : List CoreExpr) → nodes.calls_level structs t l args ≡ true → (g : Signature) × (signature_in l ≡ Some g) × (is_plain_of structs t g.result ≡ true) × (nodes.is_result structs g.result ≡ true)
-called_level structs t (CType-F.Function g) args h = (g, refl, parts (nat_le (length args) nodes.limit) (nodes.is_result structs g.result) (is_plain_of structs t g.result) (fits g (length args)) (nodes.arguments structs g.params 0 args) h)
+called_level structs t (CType-F.Function g) args h = (let p = parts (nat_le (length args) nodes.limit) (nodes.is_result structs g.result) (is_plain_of structs t g.result) (fits g (length args)) (nodes.arguments structs g.params 0 args) h in (g, refl, p.0, p.1))
   where
     parts : (a b c d e : Bool) → (a && b && c && d && e) ≡ true → (c ≡ true) × (b ≡ true)
     parts true true true d e h = (refl, refl)

@@ -1,20 +1,17 @@
 -- In a formed body each value that is returned is a formed one of the result's type.
-use Rattle.std.specs.Prelude.{⊤, ◌&&◌, ◌||◌}
 use Rattle.std.proofs.Common.{◌≡◌, ℕ, zero, suc, ◌+◌, Bool, true, false, not, List, [], ◌∷◌, length, Option, Some, None, refl, sym, ap, ◌∙◌}
-use Rattle.std.specs.Prelude.{map, option_and_then, if◌then◌else◌}
-use Rattle.sc_core.specs.declared.expression.CoreExpr.{CoreExpr}
+use Rattle.std.specs.Prelude.{map, option_and_then}
 use Rattle.sc_core.specs.declared.statement.CoreStmt.{CoreStmt, out-CoreStmt, map-CoreStmt, fold_out-CoreStmt}
 use Rattle.sc_core.specs.declared.statement.CoreStmt.TheOpen.{CoreStmt-F}
-use Rattle.sc_core.specs.declared.statement.LabelAt.{LabelAt}
 use Rattle.sc_core.specs.declared.module.Core.{Core}
 use Rattle.sc_core.specs.declared.module.Fun.{Fun}
 use Rattle.sc_core_labels.specs.Targets.{Target}
 use Rattle.sc_check_operand.specs.Types.{is_void}
 use Rattle.sc_core_needs.specs.Values.{is_value_for}
 use Rattle.sc_core_formed.specs.Expressions.{expression}
-use Rattle.sc_core_formed.specs.Statements.{Test, level, test_of, statement, each, optional, when, is_test, is_block, is_switch, is_head, is_return, is_given, of_loop, of_switch}
+use Rattle.sc_core_formed.specs.Statements.{Test, level, test_of, statement, each, when, is_test, is_block, is_switch, is_head, is_return, is_given, of_loop, of_switch}
 use Rattle.sc_core_formed.specs.declared.statements.Body.{Body}
-use Rattle.sc_meaning.specs.Integers.{Every, Optionally}
+use Rattle.sc_meaning.specs.Integers.{Every}
 use Rattle.sc_keep_values.specs.Formed.{IsFormedBody, IsReturned, returns_layer, ReturnsTo, ReturnsValues}
 use Rattle.sc_keep_values.proofs.Types.{both}
 

@@ -1,6 +1,6 @@
 -- Conversions and casts.
-use Rattle.std.specs.Prelude.{⊤, ◌&&◌, ◌||◌}
-use Rattle.std.proofs.Common.{◌≡◌, inl, inr, ℕ, Bool, true, false, not, List, Option, Some, None, refl, sym, ap, subst}
+use Rattle.std.specs.Prelude.{◌&&◌, ◌||◌}
+use Rattle.std.proofs.Common.{◌≡◌, inl, inr, ℕ, Bool, true, false, not, List, refl, sym, ap, subst}
 use Rattle.sc_base.specs.declared.integer.Int.{Int}
 use Rattle.sc_types.specs.declared.ctype.CType.{CType, out-CType}
 use Rattle.sc_types.specs.declared.ctype.CType.TheOpen.{CType-F}
@@ -9,24 +9,24 @@ use Rattle.sc_core.specs.declared.expression.CoreExpr.{CoreExpr}
 use Rattle.sc_core.specs.Types.{type_of}
 use Rattle.sc_check_operand.specs.declared.shape.Shape.{Shape}
 use Rattle.sc_check_operand.specs.declared.shape.Shape.TheVariants as s
-use Rattle.sc_check_operand.specs.Types.{Level, is_const, is_pointer, shape, shape_layer, target_shape, object_size}
+use Rattle.sc_check_operand.specs.Types.{Level, is_const, shape, shape_layer}
 use Rattle.sc_check_operand.specs.Operands.{is_place, is_lvalue}
 use Rattle.sc_check_operand.specs.Constants.{is_zero, is_null, folded}
 use Rattle.sc_core_needs.specs.Types.{takes_level}
 use Rattle.sc_core_needs.specs.Values.{is_convert, is_done, is_int_level, is_pointer_level, converts, converts_level, value}
 use Rattle.sc_core_needs.specs.Nodes as nodes
-use Rattle.sc_meaning.specs.Values.{Value, Number}
+use Rattle.sc_meaning.specs.Values.{Value}
 use Rattle.sc_meaning.specs.World.{World}
-use Rattle.sc_meaning.specs.Outcomes.{Outcome, Done, and_then}
+use Rattle.sc_meaning.specs.Outcomes.{Done, and_then}
 use Rattle.sc_meaning.specs.Accesses.{as_type, loaded}
 use Rattle.sc_meaning.specs.Expressions.{Answer, Plain, Place, Part, Nothing, used, read, decayed, layer_read, as_answer, conversion, address, cast, plain, layer_is_void, is_void}
 use Rattle.sc_keep_calls.specs.Kept.{Ends}
 use Rattle.sc_keep_calls.proofs.Steps.{ends_then, ends_more}
 use Rattle.sc_keep_values.specs.Fits.{Sort, Whole, Address, sort, sort_of, IsOf, IsValue, OfSort, FitsBy, Fits}
 use Rattle.sc_keep_values.proofs.Types.{both, three, Has, IsScalar, has_whole}
-use Rattle.sc_keep_values.proofs.Loading.{any_ends, loaded_of, typed_bits, bits_number}
+use Rattle.sc_keep_values.proofs.Loading.{loaded_of, typed_bits, bits_number}
 use Rattle.sc_keep_values.proofs.Fitting.{value_fits, has_value, used_fits}
-use Rattle.sc_keep_values.proofs.Formed.{then_ends, address_ends}
+use Rattle.sc_keep_values.proofs.Formed.{then_ends}
 
 plain_by : (b : Bool) (st : Sort) (v : Value) → IsScalar st → FitsBy b st (Plain v) → IsOf st v
 plain_by true st v k f = absurd f

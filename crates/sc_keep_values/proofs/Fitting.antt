@@ -1,6 +1,6 @@
 -- What the constructs of a formed expression answer, where their operands answer so.
 use Rattle.std.specs.Prelude.{⊤}
-use Rattle.std.proofs.Common.{◌≡◌, inl, inr, ◌<◌, ◌^◌, ℕ, Bool, true, false, not, if◌then◌else◌, List, refl, sym, ap, subst}
+use Rattle.std.proofs.Common.{◌≡◌, inl, inr, ℕ, Bool, true, false, not, List, refl, sym, ap, subst}
 use Rattle.sc_base.specs.declared.integer.Int.{Int}
 use Rattle.sc_base.specs.declared.integer.Int.TheVariants as i
 use Rattle.sc_base.specs.declared.operator.Op.{Op}
@@ -16,12 +16,12 @@ use Rattle.sc_base.specs.declared.operator.Op.TheVariants as op
 use Rattle.sc_core_needs.specs.Types.{alike, is_int_of, is_int_level, is_plain_of, is_promoted, points_to, points_level}
 use Rattle.sc_core_needs.specs.Values.{is_done, done_level}
 use Rattle.sc_core_needs.specs.Operators.{kind_of, binary_by}
-use Rattle.sc_meaning.specs.Values.{Value, Number, FunctionAt, Pointer, is_pointer_type, int_of}
+use Rattle.sc_meaning.specs.Values.{Value, Number, is_pointer_type}
 use Rattle.sc_meaning.specs.World.{World}
 use Rattle.sc_meaning.specs.Outcomes.{Outcome, Done, and_then}
 use Rattle.sc_meaning.specs.Violations.{bits, integer_rule, truth_rule, store_rule}
-use Rattle.sc_meaning.specs.Accesses.{as_type, computed, tested, is_true, stored, set_at, shifted}
-use Rattle.sc_meaning.specs.Expressions.{Env, Eval, Answer, Plain, Place, Part, Nothing, plain, at_place, used, valued, address, offset_by, base_of}
+use Rattle.sc_meaning.specs.Accesses.{as_type, computed, tested, is_true, stored, set_at}
+use Rattle.sc_meaning.specs.Expressions.{Env, Eval, Answer, Plain, Place, Part, Nothing, plain, at_place, used, valued}
 use Rattle.sc_meaning.specs.Integers.{IsInteger}
 use Rattle.sc_ops.specs.Operators.{value_of}
 use Rattle.sc_keep_calls.specs.Kept.{Ends}

@@ -1,6 +1,6 @@
 -- Formed expressions: what the constructs ask of their operands, and what operators give.
-use Rattle.std.specs.Prelude.{⊤, ◌&&◌, ◌||◌}
-use Rattle.std.proofs.Common.{◌≡◌, ◌⊎◌, inl, inr, ℕ, ◌==◌, Bool, true, false, not, if◌then◌else◌, List, [], ◌∷◌, Option, Some, None, ℤ, pos, ◌-ℤ◌, int_div, refl, sym, ap, ◌∙◌, subst, arith}
+use Rattle.std.specs.Prelude.{⊤, ◌&&◌}
+use Rattle.std.proofs.Common.{◌≡◌, ◌⊎◌, inl, inr, ℕ, ◌==◌, Bool, true, false, not, if◌then◌else◌, List, Option, Some, None, pos, ◌-ℤ◌, int_div, refl, sym, ap, ◌∙◌, subst, arith}
 use Rattle.std.proofs.lemmas.Bool.Decides.{nat_tests}
 use Rattle.sc_base.specs.declared.integer.Int.{Int}
 use Rattle.sc_base.specs.declared.integer.Int.TheVariants as i
@@ -21,24 +21,24 @@ use Rattle.sc_core.specs.Types.{type_of}
 use Rattle.sc_check_operand.specs.declared.shape.Shape.{Shape}
 use Rattle.sc_check_operand.specs.declared.shape.Shape.TheVariants as s
 use Rattle.sc_check_operand.specs.Types.{Level, shape, shape_layer, target_shape, object_size, is_pointer, is_scalar}
-use Rattle.sc_core_needs.specs.Types.{alike, is_promoted, is_int_of, is_plain_of}
-use Rattle.sc_core_needs.specs.Values.{is_done, value}
+use Rattle.sc_core_needs.specs.Types.{is_promoted, is_int_of, is_plain_of}
+use Rattle.sc_core_needs.specs.Values.{value}
 use Rattle.sc_core_needs.specs.Nodes as nodes
 use Rattle.sc_core_needs.specs.Operators as operators
 use Rattle.sc_core_formed.specs.Expressions as expressions
 use Rattle.sc_core_formed.specs.Expressions.{deep, node, expression, expression_level}
 use Rattle.sc_ops.specs.Numbers.{converted, bits_of}
 use Rattle.sc_ops.specs.Operators.{truth_of}
-use Rattle.sc_meaning.specs.Values.{Value, Number, Pointer, int_of, is_pointer_type}
+use Rattle.sc_meaning.specs.Values.{Value, Number, int_of, is_pointer_type}
 use Rattle.sc_meaning.specs.World.{World}
-use Rattle.sc_meaning.specs.Outcomes.{Outcome, Done, Over, and_then, operand_breach}
+use Rattle.sc_meaning.specs.Outcomes.{Outcome, Done, and_then, operand_breach}
 use Rattle.sc_meaning.specs.Violations.{offset_of, difference_rule}
 use Rattle.sc_meaning.specs.Accesses.{as_type, converted_value, compare_rule, pointer_test, computed, stored, loaded, shifted, difference, compared, tested}
-use Rattle.sc_meaning.specs.Expressions.{Answer, Plain, Place, Part, Nothing, plain, at_place, part_of, static_at, base_of, further_of, either, compounded, stepped, next_value, operator_of, old_or_new}
+use Rattle.sc_meaning.specs.Expressions.{Answer, Plain, Place, Part, Nothing, plain, part_of, static_at, base_of, further_of, either, compounded, stepped, next_value, operator_of, old_or_new}
 use Rattle.sc_keep_calls.specs.Kept.{Ends}
 use Rattle.sc_keep_calls.proofs.Steps.{ends_then}
 use Rattle.sc_keep_values.specs.Fits.{Sort, Whole, Address, Placed, sort, sort_of, IsBits, IsOf, IsPlace, OfSort}
-use Rattle.sc_keep_values.proofs.Types.{both, three, alike_sort, Has, IsScalar, has_whole, has_address, shape_whole, shape_address}
+use Rattle.sc_keep_values.proofs.Types.{both, three, Has, IsScalar, has_whole, has_address, shape_whole, shape_address}
 use Rattle.sc_keep_values.proofs.Bits.{constant_range}
 use Rattle.sc_keep_values.proofs.Loading.{any_ends, unless_ends, loaded_of, is_address_type, no_address_type}
 use Rattle.sc_keep_values.proofs.Fitting.{plain_sort, plain_fits, stored_fits, computed_typed, int_sort, binary_sort}

@@ -1,8 +1,7 @@
 -- What library functions give: values, of the sort of their results.
-use Rattle.std.specs.Prelude.{⊤, ◌&&◌, ◌||◌}
-use Rattle.std.proofs.Common.{◌≡◌, ℕ, zero, suc, ◌+◌, ◌*◌, ◌^◌, ◌==◌, ◌%◌, Bool, true, false, not, nat_lt, nat_le, if◌then◌else◌, List, [], ◌∷◌, ◌++◌, length, Option, Some, None, refl, ap, subst}
+use Rattle.std.specs.Prelude.{⊤, ◌||◌, ◌-◌, replicate}
+use Rattle.std.proofs.Common.{◌≡◌, ℕ, zero, suc, ◌+◌, ◌*◌, ◌^◌, ◌==◌, ◌%◌, Bool, true, false, nat_le, List, [], ◌∷◌, ◌++◌, length, Option, Some, None, refl, ap, subst}
 use Rattle.sc_base.specs.declared.integer.Int.{Int}
-use Rattle.sc_base.specs.declared.integer.Int.TheVariants as i
 use Rattle.sc_base.specs.declared.key.Key.{Key}
 use Rattle.sc_types.specs.declared.ctype.CType.{CType, out-CType}
 use Rattle.sc_types.specs.declared.ctype.CType.TheOpen.{CType-F}
@@ -11,18 +10,18 @@ use Rattle.sc_types.specs.Compatibility.{same_bool, same_int, same_const}
 use Rattle.sc_meaning.specs.declared.library.LibFun.{LibFun}
 use Rattle.sc_meaning.specs.declared.library.LibFun.TheVariants as lib
 use Rattle.sc_meaning.specs.Values.{Value, Number, FunctionAt, Pointer}
-use Rattle.sc_meaning.specs.World.{World, pass, Work, Put}
-use Rattle.sc_meaning.specs.Outcomes.{Outcome, Done, Over, and_then}
+use Rattle.sc_meaning.specs.World.{World}
+use Rattle.sc_meaning.specs.Outcomes.{Outcome, Done, Over}
 use Rattle.sc_meaning.specs.Versions.{History}
-use Rattle.sc_meaning.specs.Violations.{bits, is_null}
-use Rattle.sc_meaning.specs.Expressions.{Answer, Plain, Place, Part, Nothing, either}
-use Rattle.sc_meaning.specs.Integers.{layer_is_integer, is_integer, IsNumber, IsInteger, Gives}
-use Rattle.sc_meaning.specs.Library.{value_at, text_at, text_upto, byte_read, past, apart, bytes_written, taken, block_tested, given_back, block_size_at}
+use Rattle.sc_meaning.specs.Violations.{bits, is_null, reach_rule, write_rule}
+use Rattle.sc_meaning.specs.Expressions.{Answer, Plain, Place, Part, Nothing}
+use Rattle.sc_meaning.specs.Integers.{layer_is_integer, IsInteger, Gives}
+use Rattle.sc_meaning.specs.Library.{value_at, text_at, text_upto, byte_read, past, apart, bytes_written, taken, block_tested}
 use Rattle.sc_meaning.specs.Signatures.{Shape, ToNone, ToInt, ToVoid, ToText, has_shape, have_shapes, shapes_of, fits_shapes, takes, is_variadic}
 use Rattle.sc_meaning.specs.Functions.{library_call, malloc, zeroed, enlarged, reallocated, copied_bytes, text_written, first_found, last_found, read_count}
 use Rattle.sc_meaning.proofs.Numbers.{then_, either_, unless_}
 use Rattle.sc_meaning.proofs.LibraryNumbers.{library_number}
-use Rattle.sc_keep_values.specs.Fits.{Sort, Whole, Address, sort, sort_of, IsBits, IsValue, IsResult}
+use Rattle.sc_keep_values.specs.Fits.{Whole, Address, sort, sort_of, IsBits, IsValue, IsResult}
 use Rattle.sc_keep_values.proofs.Types.{both, one_int}
 use Rattle.sc_keep_values.proofs.Loading.{any_gives}
 
@@ -45,7 +44,7 @@ reallocated_plain : (p : Value) (n : ℕ) (w : World) → Gives IsPlain (realloc
 reallocated_plain p n w = either_ IsPlain (n == 0) _ _ w tt (then_ IsPlain (taken n w) _ (λ o u. enlarged_plain p n o u))
 
 copied_plain : (to from : Value) (n : ℕ) (w : World) → Gives IsPlain (copied_bytes to from n w)
-copied_plain to from n w = unless_ IsPlain _ _ _ w (λ e. tt)
+copied_plain to from n w = unless_ IsPlain (write_rule w.objects to 0 n) _ _ w (λ e. tt)
 
 written_plain : (to : Value) (at : ℕ) (from : Value) (bs : List ℕ) (w : World) → Gives IsPlain (text_written to at from bs w)
 written_plain to at from bs w = then_ IsPlain (apart _ (length bs) from (length bs) w) _ (λ x u. then_ IsPlain (bytes_written to at bs u) _ (λ y v. tt))
@@ -129,13 +128,13 @@ pointer_plain h lib.Malloc key vs w e = malloc_plain (bits (value_at vs 0)) w
 pointer_plain h lib.Calloc key vs w e = let n = bits (value_at vs 0) in let m = bits (value_at vs 1) in either_ IsPlain (n * m == 0 || nat_le (2 ^ 32) (n * m)) _ _ w tt (then_ IsPlain (taken (n * m) w) _ (λ o u. zeroed_plain (n * m) o u))
 pointer_plain h lib.Realloc key vs w e = let p = value_at vs 0 in let n = bits (value_at vs 1) in either_ IsPlain (is_null p) _ _ w (malloc_plain n w) (then_ IsPlain (block_tested p w) _ (λ x u. reallocated_plain p n u))
 pointer_plain h lib.Free key vs w e = absurd (cc)
-pointer_plain h lib.Memcpy key vs w e = let to = value_at vs 0 in let from = value_at vs 1 in let n = bits (value_at vs 2) in either_ IsPlain (n == 0) _ _ w tt (unless_ IsPlain _ _ _ w (λ e. then_ IsPlain (apart to n from n w) _ (λ x u. copied_plain to from n u)))
-pointer_plain h lib.Memmove key vs w e = let to = value_at vs 0 in let from = value_at vs 1 in let n = bits (value_at vs 2) in either_ IsPlain (n == 0) _ _ w tt (unless_ IsPlain _ _ _ w (λ e. copied_plain to from n w))
-pointer_plain h lib.Memset key vs w e = let n = bits (value_at vs 2) in either_ IsPlain (n == 0) _ _ w tt (unless_ IsPlain _ _ _ w (λ e. tt))
+pointer_plain h lib.Memcpy key vs w e = let to = value_at vs 0 in let from = value_at vs 1 in let n = bits (value_at vs 2) in either_ IsPlain (n == 0) _ _ w tt (unless_ IsPlain (reach_rule w.objects from 0 n) _ _ w (λ e. then_ IsPlain (apart to n from n w) _ (λ x u. copied_plain to from n u)))
+pointer_plain h lib.Memmove key vs w e = let to = value_at vs 0 in let from = value_at vs 1 in let n = bits (value_at vs 2) in either_ IsPlain (n == 0) _ _ w tt (unless_ IsPlain (reach_rule w.objects from 0 n) _ _ w (λ e. copied_plain to from n w))
+pointer_plain h lib.Memset key vs w e = let n = bits (value_at vs 2) in either_ IsPlain (n == 0) _ _ w tt (unless_ IsPlain (write_rule w.objects (value_at vs 0) 0 n) _ _ w (λ e. tt))
 pointer_plain h lib.Memcmp key vs w e = absurd (cc)
 pointer_plain h lib.Strlen key vs w e = absurd (cc)
 pointer_plain h lib.Strcpy key vs w e = let to = value_at vs 0 in let from = value_at vs 1 in then_ IsPlain (text_at from w) _ (λ bs u. written_plain to 0 from (bs ++ 0 ∷ []) u)
-pointer_plain h lib.Strncpy key vs w e = let to = value_at vs 0 in let from = value_at vs 1 in let n = bits (value_at vs 2) in either_ IsPlain (n == 0) _ _ w tt (then_ IsPlain (text_upto n from 0 w) _ (λ bs u. then_ IsPlain (apart to n from (read_count n bs) u) _ (λ x v. then_ IsPlain (bytes_written to 0 _ v) _ (λ y z. tt))))
+pointer_plain h lib.Strncpy key vs w e = let to = value_at vs 0 in let from = value_at vs 1 in let n = bits (value_at vs 2) in either_ IsPlain (n == 0) _ _ w tt (then_ IsPlain (text_upto n from 0 w) _ (λ bs u. then_ IsPlain (apart to n from (read_count n bs) u) _ (λ x v. then_ IsPlain (bytes_written to 0 (bs ++ replicate (n - length bs) 0) v) _ (λ y z. tt))))
 pointer_plain h lib.Strcat key vs w e = let to = value_at vs 0 in let from = value_at vs 1 in then_ IsPlain (text_at from w) _ (λ bs u. then_ IsPlain (text_at to u) _ (λ old v. written_plain to (length old) from (bs ++ 0 ∷ []) v))
 pointer_plain h lib.Strcmp key vs w e = absurd (cc)
 pointer_plain h lib.Strncmp key vs w e = absurd (cc)

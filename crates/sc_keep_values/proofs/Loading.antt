@@ -1,19 +1,18 @@
 -- What is read, converted and computed has the sort of its type.
-use Rattle.std.proofs.Common.{◌≡◌, ◌⊎◌, inl, inr, ℕ, ◌+◌, ◌==◌, Bool, true, false, not, if◌then◌else◌, List, [], ◌∷◌, Option, Some, None, ℤ, refl, sym, ◌∙◌, subst, arith}
-use Rattle.std.specs.Prelude.{⊤, ◌&&◌}
-use Rattle.std.specs.List.{list_all, list_any}
-use Rattle.std.proofs.lemmas.Bool.Decides.{nat_tests}
+use Rattle.std.proofs.Common.{◌≡◌, ◌⊎◌, inl, inr, ℕ, Bool, true, false, if◌then◌else◌, List, [], ◌∷◌, Option, Some, None, refl, sym, ◌∙◌, subst}
+use Rattle.std.specs.Prelude.{⊤}
+use Rattle.std.specs.List.{list_any}
 use Rattle.sc_base.specs.declared.integer.Int.{Int}
-use Rattle.sc_base.specs.declared.operator.Op.{Op}
 use Rattle.sc_types.specs.declared.ctype.CType.{CType, out-CType}
 use Rattle.sc_types.specs.declared.ctype.CType.TheOpen.{CType-F}
 use Rattle.sc_check_operand.specs.Types.{Level}
-use Rattle.sc_meaning.specs.Values.{Value, Number, FunctionAt, Pointer, Cell, Unwritten, Byte, Piece, is_pointer_type, layer_is_pointer, layer_int, scalar_size, pointer_of, pointer_of_four, is_piece, value_of_cells, or_number, number_of_cells, byte_of}
-use Rattle.sc_meaning.specs.World.{World, object_at}
+use Rattle.sc_ops.specs.Numbers.{converted}
+use Rattle.sc_meaning.specs.Values.{Value, Number, FunctionAt, Pointer, Cell, Unwritten, Byte, Piece, is_pointer_type, layer_is_pointer, layer_int, scalar_size, pointer_of, value_of_cells, or_number, number_of_cells}
+use Rattle.sc_meaning.specs.World.{World}
 use Rattle.sc_meaning.specs.Outcomes.{Outcome, Done, Over, Breach, unless}
 use Rattle.sc_base.specs.declared.report.Rule.{Rule}
-use Rattle.sc_meaning.specs.Violations.{shift_rule, target, is_null, is_dead, is_outside, is_misaligned, reads_unwritten, is_mixed, is_fragment, is_zero, is_none, load_rule, cells_read}
-use Rattle.sc_meaning.specs.Accesses.{as_type, converted_value, loaded, placed, shifted, steps_of, order_breach}
+use Rattle.sc_meaning.specs.Violations.{is_null, is_dead, is_outside, is_misaligned, reads_unwritten, is_mixed, is_fragment, load_rule, cells_read}
+use Rattle.sc_meaning.specs.Accesses.{as_type, converted_value, loaded}
 use Rattle.sc_meaning.specs.Integers.{layer_is_integer, IsNumber, is_integer, Gives}
 use Rattle.sc_rules.specs.Orders.{first_rule}
 use Rattle.sc_base.specs.declared.report.Rule.TheVariants.{U1, U2, U3, U4, U10, U15}

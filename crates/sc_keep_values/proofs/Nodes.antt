@@ -1,6 +1,6 @@
 -- Formed expressions without calls: each answers by its form and its type, where its operands do.
-use Rattle.std.specs.Prelude.{⊤, ◌&&◌, ◌||◌}
-use Rattle.std.proofs.Common.{◌≡◌, ◌⊎◌, inl, inr, ℕ, Bool, true, false, not, List, refl, sym, ap, ◌∙◌, subst}
+use Rattle.std.specs.Prelude.{◌||◌}
+use Rattle.std.proofs.Common.{◌≡◌, inl, inr, ℕ, true, not, List, refl, sym, ◌∙◌, subst}
 use Rattle.sc_base.specs.declared.integer.Int.{Int}
 use Rattle.sc_base.specs.declared.integer.Int.TheVariants as i
 use Rattle.sc_base.specs.declared.operator.Op.{Op}
@@ -16,25 +16,24 @@ use Rattle.sc_core.specs.declared.expression.UnaryOperator.TheVariants as single
 use Rattle.sc_core.specs.declared.module.Auto.{Auto}
 use Rattle.sc_core.specs.declared.module.Core.{Core}
 use Rattle.sc_core.specs.Types.{type_of}
-use Rattle.sc_check_operand.specs.Types.{shape, is_scalar, is_pointer, is_function, is_array, is_const}
-use Rattle.sc_check_operand.specs.Operands.{is_place, is_lvalue}
-use Rattle.sc_core_needs.specs.Types.{alike, is_int_of, is_plain_of, points_to, targets_alike, targets_join}
+use Rattle.sc_check_operand.specs.Types.{shape, is_scalar, is_function, is_const}
+use Rattle.sc_check_operand.specs.Operands.{is_lvalue}
+use Rattle.sc_core_needs.specs.Types.{alike, is_int_of, is_plain_of, points_to, targets_alike}
 use Rattle.sc_core_needs.specs.Values.{is_done, value, is_value_for, is_condition}
 use Rattle.sc_core_needs.specs.Nodes as nodes
 use Rattle.sc_core_needs.specs.Operators as operators
-use Rattle.sc_check_operand.specs.Constants.{is_null}
 use Rattle.sc_meaning.specs.Values.{Value, Number, int_of, null}
 use Rattle.sc_meaning.specs.World.{World}
 use Rattle.sc_meaning.specs.Outcomes.{Outcome, and_then}
 use Rattle.sc_meaning.specs.Accesses.{computed, copied, stored, difference, compared, tested}
-use Rattle.sc_meaning.specs.Expressions.{Env, Eval, Answer, Plain, Place, Part, valued, one, two, plain, at_place, finished, address, part_of, offset_by, base_of, further_of, either, truth, unary, assigned_structure, compounded, moved_by, stepped}
+use Rattle.sc_meaning.specs.Expressions.{Env, Eval, Answer, Plain, Part, valued, one, two, plain, at_place, finished, address, part_of, offset_by, base_of, further_of, either, truth, unary, assigned_structure, compounded, moved_by, stepped}
 use Rattle.sc_ops.specs.Operators.{truth_of}
 use Rattle.sc_keep_calls.specs.Kept.{Ends}
 use Rattle.sc_keep_calls.proofs.Steps.{ends_then, ends_more}
-use Rattle.sc_keep_values.specs.Fits.{Sort, Whole, Address, Placed, sort_of, IsBits, IsOf, IsPlace, OfSort, Fits}
-use Rattle.sc_keep_values.proofs.Types.{both, three, alike_sort, Has, IsScalar, has_scalar, has_done, has_address}
+use Rattle.sc_keep_values.specs.Fits.{Sort, Whole, Address, Placed, sort_of, IsOf, IsPlace, OfSort, Fits}
+use Rattle.sc_keep_values.proofs.Types.{both, three, alike_sort, Has, IsScalar, has_done}
 use Rattle.sc_keep_values.proofs.Loading.{any_ends}
-use Rattle.sc_keep_values.proofs.Fitting.{valued_fits, plain_fits, place_fits, has_place, done_fits, plain_sort, int_sort, scalar_sort, points_sort, computed_fits, stored_fits, tested_ends}
+use Rattle.sc_keep_values.proofs.Fitting.{valued_fits, plain_fits, place_fits, has_place, done_fits, plain_sort, int_sort, scalar_sort, points_sort, computed_fits, stored_fits}
 use Rattle.sc_keep_values.proofs.Formed.{IsFormed, offset_of_both, binary_of, member_sort, part_fits, either_ends, then_ends, address_ends, compounded_fits, stepped_fits, difference_fits, compared_fits, single_integer, not_fits, step_scalar, compound_of, movement_of, structure_sort}
 
 module _ (core : Core) (blocks : List (List Auto)) (around : List ℕ) (env : Env) (ev : Eval) (ig : (e : CoreExpr) (w : World) → IsFormed core blocks around e → Ends (λ a v. Fits e a) (ev env e w)) where

@@ -1,6 +1,6 @@
 -- Statements return, and calls give, what is whole; and with them every expression of integer type gives a number.
 use Rattle.std.specs.Prelude.{⊤}
-use Rattle.std.proofs.Common.{◌≡◌, inl, inr, ℕ, zero, suc, ◌+◌, ◌-◌, nat_lt, true, List, [], ◌∷◌, drop, slice_index_or, Option, Some, None, refl, sym, subst}
+use Rattle.std.proofs.Common.{◌≡◌, inr, ℕ, zero, suc, ◌+◌, ◌-◌, nat_lt, true, List, [], ◌∷◌, drop, slice_index_or, Option, Some, None, refl, sym, subst}
 use Rattle.sc_base.specs.declared.key.Key.{Key}
 use Rattle.sc_core.specs.declared.expression.CoreExpr.{CoreExpr, out-CoreExpr}
 use Rattle.sc_core.specs.declared.statement.CoreStmt.{CoreStmt, out-CoreStmt}
@@ -16,26 +16,26 @@ use Rattle.sc_meaning.specs.Expressions.{Env, Eval, valued, begun, automatic_in,
 use Rattle.sc_meaning.specs.Statements.{Way, Normal, Broke, Continued, Jumped, Returned, Exec, Resume, place_in, jumped_to, after_list, list_of, resume_of, ended, born_autos, all_dead, block_autos, with_block, after_stmt, stmts_of, block_ended, block_with, block_of, id_of, initials, condition_at, optional, label_of, body_from, landed, after_switch, after_turn, discarded, discarded_if, first_of, holds, turn_of, returned, stmt_of, stmt_begun}
 use Rattle.sc_meaning.specs.Calls.{parameters, frame_of, answer_of, left, body_of, entered, call_of, eval, exec, turn, resume, call}
 use Rattle.sc_meaning.specs.Integers.{Every, Optionally, Gives}
-use Rattle.sc_meaning.specs.Expressions.{Answer, Plain, Nothing, used}
+use Rattle.sc_meaning.specs.Expressions.{Plain, Nothing, used}
 use Rattle.sc_meaning.specs.Functions.{library_call}
-use Rattle.sc_meaning.specs.Signatures.{takes}
 use Rattle.sc_meaning.specs.Calls.{full}
 use Rattle.sc_meaning.proofs.Numbers.{then_, by_, either_}
 use Rattle.sc_types.specs.declared.ctype.CType.{CType}
-use Rattle.sc_types.specs.declared.ctype.Signature.{Signature}
 use Rattle.sc_core.specs.Types.{type_of}
 use Rattle.sc_core_needs.specs.Types.{alike}
 use Rattle.sc_core_needs.specs.Values.{is_done}
+use Rattle.sc_core_formed.specs.Expressions.{node_level}
+use Rattle.sc_core_formed.specs.Known.{is_known}
 use Rattle.sc_keep_calls.specs.Kept.{Ends}
-use Rattle.sc_keep_values.specs.Fits.{Sort, Empty, Whole, Address, Placed, sort_of, IsBits, IsOf, IsResult, Fits}
-use Rattle.sc_keep_values.specs.Formed.{IsFormedIn, IsReturned, AreFormed, returns_layer, ReturnsTo, ReturnsValues}
+use Rattle.sc_keep_values.specs.Fits.{Sort, Empty, Whole, Address, Placed, sort_of, IsBits, IsResult, Fits}
+use Rattle.sc_keep_values.specs.Formed.{IsCallee, IsFormedIn, IsReturned, AreFormed, returns_layer, ReturnsTo, ReturnsValues}
 use Rattle.sc_keep_values.proofs.Types.{both, alike_sort, has_done}
 use Rattle.sc_keep_values.proofs.Loading.{any_gives, ends_gives}
 use Rattle.sc_keep_values.proofs.Fitting.{valued_fits}
 use Rattle.sc_keep_values.proofs.Formed.{expression_step}
 use Rattle.sc_keep_values.proofs.Library.{library_fits}
 use Rattle.sc_keep_values.proofs.Bodies.{formed_returns}
-use Rattle.sc_keep_values.proofs.Answering.{IsCallee, layer_answers}
+use Rattle.sc_keep_values.proofs.Answering.{layer_answers}
 
 abbrev pub Gone : CType → Way → Type 0
 Gone t Normal = ⊤
@@ -229,7 +229,7 @@ module _ (h : History) (a : AreFormed h) where
     eval_fits zero env around e w q = tt
     eval_fits (suc n) env around e w q =
         let s = expression_step env.text.core env.fun.blocks around e q in
-        layer_answers env.text.core env.fun.blocks around h env (eval n h) (call n h) (λ e w p. eval_fits n env around e w p) (calls_fit n) (out-CoreExpr e) (begun (out-CoreExpr e) w) s.0 s.1
+        layer_answers env.text.core env.fun.blocks around h env (eval n h) (call n h) (λ e w p. eval_fits n env around e w p) (calls_fit n) (out-CoreExpr e) (begun (out-CoreExpr e) w) s.0 (both (is_known env.text.core.structs (type_of e)) (node_level env.text.core env.fun.blocks around (out-CoreExpr e)) s.1).1
 
     pub exec_gives : (n : ℕ) (env : Env) (s : CoreStmt) (w : World) → ReturnsValues env.text.core env.fun s → Gives (Gone env.fun.of.result) (exec n h env s w)
     exec_gives zero env s w q = tt
@@ -249,3 +249,6 @@ module _ (h : History) (a : AreFormed h) where
 
 pub expression_fits : (h : History) (n : ℕ) (env : Env) (around : List ℕ) (e : CoreExpr) (w : World) → AreFormed h → IsFormedIn env around e → Gives (Fits e) (eval n h env e w)
 expression_fits h n env around e w a q = ends_gives (Fits e) (eval n h env e w) (eval_fits h a n env around e w q)
+
+pub call_fits : (h : History) (n : ℕ) (st : Sort) (key : Key) (vs : List Value) (w : World) → AreFormed h → IsCallee st (callee_of (version_at h w.count) key) → Gives (IsResult st) (call n h key vs w)
+call_fits h n st key vs w a i = calls_fit h a n st key vs w i

@@ -1,6 +1,6 @@
 -- Inside: plumbing, a representation, an invariant or a promise beside the claim (docs/TRUST.md).
 -- Texts of which each function that can be called is formed.
-use Rattle.std.specs.Prelude.{◌≡◌, ⊤, ℕ, zero, suc, true, List, Option, Some, None}
+use Rattle.std.specs.Prelude.{◌≡◌, ⊤, ℕ, zero, suc, true, List, Some}
 use Rattle.sc_base.specs.declared.key.Key.{Key}
 use Rattle.sc_core.specs.declared.expression.CoreExpr.{CoreExpr}
 use Rattle.sc_core.specs.declared.statement.CoreStmt.{CoreStmt, out-CoreStmt}
@@ -14,7 +14,10 @@ use Rattle.sc_core_formed.specs.Statements.{statement}
 use Rattle.sc_core_formed.specs.declared.statements.Body.{Body}
 use Rattle.sc_meaning.specs.Expressions.{Env}
 use Rattle.sc_meaning.specs.Integers.{Every, Optionally}
-use Rattle.sc_meaning.specs.Versions.{Text, History, InText, callee_of, version_at}
+use Rattle.sc_meaning.specs.Signatures.{takes}
+use Rattle.sc_meaning.specs.Versions.{Text, History, Callee, Missing, InText, InLibrary, callee_of, version_at}
+use Rattle.sc_types.specs.declared.ctype.Signature.{Signature}
+use Rattle.sc_keep_values.specs.Fits.{Sort, sort_of}
 
 -- an expression of the function that runs, in the blocks that enclose it there
 abbrev pub IsFormedIn : Env → List ℕ → CoreExpr → Type 0
@@ -50,3 +53,9 @@ ReturnsTo core f (suc k) s = returns_layer (IsReturned core f) (ReturnsTo core f
 
 abbrev pub ReturnsValues : Core → Fun → CoreStmt → Type 0
 ReturnsValues core f s = (k : ℕ) → ReturnsTo core f k s
+
+-- what is called gives results of a sort
+abbrev pub IsCallee : Sort → Callee → Type 0
+IsCallee st Missing = ⊤
+IsCallee st (InText t f) = sort_of f.of.result ≡ st
+IsCallee st (InLibrary f) = (s : Signature) × (takes f s ≡ true) × (sort_of s.result ≡ st)
