@@ -9,3 +9,4 @@ pub mod Answering
 pub mod Library
 pub mod Bodies
 pub mod Returning
+pub mod Texts

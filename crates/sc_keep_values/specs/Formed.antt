@@ -1,6 +1,6 @@
 -- Inside: plumbing, a representation, an invariant or a promise beside the claim (docs/TRUST.md).
 -- Texts of which each function that can be called is formed.
-use Rattle.std.specs.Prelude.{◌≡◌, ⊤, ℕ, zero, suc, true, List, Some}
+use Rattle.std.specs.Prelude.{◌≡◌, ⊤, ℕ, zero, suc, true, List, [], ◌∷◌, Some}
 use Rattle.sc_base.specs.declared.key.Key.{Key}
 use Rattle.sc_core.specs.declared.expression.CoreExpr.{CoreExpr}
 use Rattle.sc_core.specs.declared.statement.CoreStmt.{CoreStmt, out-CoreStmt}
@@ -10,6 +10,7 @@ use Rattle.sc_core.specs.declared.module.Fun.{Fun}
 use Rattle.sc_core_labels.specs.Targets.{Target}
 use Rattle.sc_core_needs.specs.Values.{is_value_for}
 use Rattle.sc_core_formed.specs.Expressions.{expression}
+use Rattle.sc_core_formed.specs.Modules.{formed}
 use Rattle.sc_core_formed.specs.Statements.{statement}
 use Rattle.sc_core_formed.specs.declared.statements.Body.{Body}
 use Rattle.sc_meaning.specs.Expressions.{Env}
@@ -25,6 +26,11 @@ IsFormedIn env around e = expression env.text.core env.fun.blocks around e ≡ t
 
 abbrev pub IsFormedBody : Core → Fun → Type 0
 IsFormedBody core f = (targets : List Target) × (around : List ℕ) × (body : Body) × (next : ℕ) × (last : ℕ) × (statement core f targets f.body around body next ≡ Some last)
+
+-- texts of formed modules
+abbrev pub AreTexts : List Text → Type 0
+AreTexts [] = ⊤
+AreTexts (t ∷ ts) = (formed t.core ≡ true) × AreTexts ts
 
 abbrev pub AreFormed : History → Type 0
 AreFormed h = (k : ℕ) (key : Key) (t : Text) (f : Fun) → callee_of (version_at h k) key ≡ InText t f → IsFormedBody t.core f
