@@ -4,4 +4,5 @@ pub mod Constants
 pub mod Scaling
 pub mod Pointers
 pub mod Comparing
+pub mod Moving
 pub mod Steps

@@ -47,7 +47,7 @@ product_signed a b p q h =
     let both : signed a *ℤ signed b ≡ number true a *ℤ number true b = ap₂ (λ x y. x *ℤ y) (signed_is a p) (signed_is b q) in
     let low : a * b % 4294967296 < 4294967296 = omega arith in
     let wrapped : signed (a * b % 4294967296) ≡ number true a *ℤ number true b =
-      wrapping_mul-bits w32 a b p q ∙ ap (int_wrap w32) both ∙ int_wrap_fits w32 (number true a *ℤ number true b) (fits (number true a *ℤ number true b) h) in
+    wrapping_mul-bits w32 a b p q ∙ ap (int_wrap w32) both ∙ int_wrap_fits w32 (number true a *ℤ number true b) (fits (number true a *ℤ number true b) h) in
     sym (back (a * b % 4294967296) low) ∙ ap bits_in (sym (signed_is (a * b % 4294967296) low) ∙ wrapped)
 
 pub product_unsigned : (a b : ℕ) → a < 4294967296 → b < 4294967296 → a * b % 4294967296 ≡ bits_in (number false a *ℤ number false b)

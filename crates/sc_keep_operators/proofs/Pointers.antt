@@ -90,7 +90,7 @@ no_steps (negsuc n) e = absurd (cc (e))
 zero_times : (s : ℕ) → 0 * s % 4294967296 ≡ 0
 zero_times s = omega arith
 
-tag_stays : (g : ℕ) → (if g == 0 then 0 else g) ≡ g
+pub tag_stays : (g : ℕ) → (if g == 0 then 0 else g) ≡ g
 tag_stays g = by (g == 0) refl
   where
     by : (b : Bool) → (g == 0) ≡ b → (if b then 0 else g) ≡ g
@@ -136,7 +136,7 @@ module _ (f : Key → ℕ) (fs : List Key) (m : Flat) (os : List Object) (h : He
       let bits : x.bits ≡ 0 = at (means.stands.0 ∙ z0) none in
       record { stands = (bits ∙ sym z0, tag means.stands.1); wide = subst (λ b. b < 4294967296) (sym bits) (omega arith); within = tt }
 
-  sum_of : (v : Value) → Means f m.objects w v → shift_rule os v (Number n) z s ≡ None → Means f m.objects (of_two reg.Add w (plain Q)) (placed v (target v z s))
+  pub sum_of : (v : Value) → Means f m.objects w v → shift_rule os v (Number n) z s ≡ None → Means f m.objects (of_two reg.Add w (plain Q)) (placed v (target v z s))
   sum_of (Pointer o i) means e =
       let t = shift_tests (is_number (Pointer o i) || is_pointer (Number n)) (is_dead os (Pointer o i)) (leaves_object os (Pointer o i) z s) e in
       moved_place o i z (of_two reg.Add w (plain Q)) means t.2 (tag_stays w.tag) (λ base top a high p q is at. ap (λ (b : ℕ). sum b Q) at ∙ sum_up base top i a n s z c high p q is)
@@ -149,7 +149,7 @@ module _ (f : Key → ℕ) (fs : List Key) (m : Flat) (os : List Object) (h : He
       zero_of : (k : ℕ) → ((true && not (k == 0)) || false) ≡ false → k ≡ 0
       zero_of k e = grind (arith, nat_tests, e)
 
-  difference_of : (v : Value) → Means f m.objects w v → shift_rule os v (Number n) (neg_ℤ z) s ≡ None → Means f m.objects (of_two reg.Sub w (plain Q)) (placed v (target v (neg_ℤ z) s))
+  pub difference_of : (v : Value) → Means f m.objects w v → shift_rule os v (Number n) (neg_ℤ z) s ≡ None → Means f m.objects (of_two reg.Sub w (plain Q)) (placed v (target v (neg_ℤ z) s))
   difference_of (Pointer o i) means e =
       let t = shift_tests (is_number (Pointer o i) || is_pointer (Number n)) (is_dead os (Pointer o i)) (leaves_object os (Pointer o i) (neg_ℤ z) s) e in
       moved_place o i (neg_ℤ z) (of_two reg.Sub w (plain Q)) means t.2 refl (λ base top a high p q is at. ap (λ (b : ℕ). difference b Q) at ∙ sum_down base top i a n s z c high p q is)

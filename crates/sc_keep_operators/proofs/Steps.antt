@@ -63,7 +63,7 @@ straight_steps (Reg op rd a b) s r lt h =
       memory = refl;
       at = refl;
       holds = subst (λ x. IsFile (with_word s.registers.words rd (of_two op x (register s.registers b))) (with r rd (of_two op (r a) (r b)))) (sym (h.each a lt.1))
-        (subst (λ x. IsFile (with_word s.registers.words rd (of_two op (r a) x)) (with r rd (of_two op (r a) (r b)))) (sym (h.each b lt.2)) (file_with s.registers.words r rd (of_two op (r a) (r b)) lt.0 h));
+          (subst (λ x. IsFile (with_word s.registers.words rd (of_two op (r a) x)) (with r rd (of_two op (r a) (r b)))) (sym (h.each b lt.2)) (file_with s.registers.words r rd (of_two op (r a) (r b)) lt.0 h));
     }
 straight_steps (Auipc rd upper) s r lt h = absurd lt
 straight_steps (Jal rd offset) s r lt h = absurd lt

@@ -1,5 +1,5 @@
 // What the code of operators makes of words. Each function here does nothing: its contract is the law.
-ghost use Rattle.std.specs.Prelude.{Bool, List, None, Some, [], false, true, ℕ, ℤ, ◌<◌, ◌==◌, ◌^◌, ◌∷◌, ◌≡◌};
+ghost use Rattle.std.specs.Prelude.{Bool, List, None, Some, [], false, true, ℕ, ℤ, ◌*◌, ◌<◌, ◌==◌, ◌^◌, ◌∷◌, ◌≡◌};
 ghost use Rattle.sc_base.specs.declared.integer.Int.{Int};
 ghost use Rattle.sc_base.specs.declared.integer.Int.TheVariants.{Int as PlainInt};
 ghost use Rattle.sc_base.specs.declared.key.Key.{Key};
@@ -8,7 +8,7 @@ ghost use Rattle.sc_core.specs.declared.expression.UnaryOperator.{UnaryOperator}
 ghost use Rattle.sc_core.specs.declared.expression.UnaryOperator.TheVariants.{Not};
 ghost use Rattle.sc_emu.specs.Machine.{State};
 ghost use Rattle.sc_emu.specs.Operations.{plain};
-ghost use Rattle.sc_gen_code.specs.Operators.{advanced, branch, immediate, is_comparison, is_unsigned, operate, unary_of};
+ghost use Rattle.sc_gen_code.specs.Operators.{advanced, branch, by_bytes, immediate, is_comparison, is_unsigned, operate, unary_of};
 ghost use Rattle.sc_gen_code.specs.declared.symbolic.Symbolic.{Symbolic};
 ghost use Rattle.sc_isa.specs.declared.instruction.Instr.{Instr};
 ghost use Rattle.sc_meaning.specs.Accesses.{placed, pointer_test, steps_of};
@@ -17,6 +17,7 @@ ghost use Rattle.sc_meaning.specs.Violations.{order_rule, shift_rule, target};
 ghost use Rattle.sc_meaning.specs.World.{Object};
 ghost use Rattle.sc_mem.specs.Flat.{Flat};
 ghost use Rattle.sc_objects.specs.declared.objects.Obj.{Obj};
+ghost use Rattle.sc_ops.specs.Numbers.{converted};
 ghost use Rattle.sc_ops.specs.Operators.{rule_of, truth_of, value_of};
 ghost use Rattle.sc_keep_words.specs.Means.{Means};
 ghost use Rattle.sc_keep_words.specs.Words.{HeldWords};
@@ -48,11 +49,13 @@ pub fn branches_take_what_is_meant()
     ensures { (r : Words) (x y n m : ℕ) (h : Operands r x y n m) (o : Op) (k : Int) (sense : Bool) (z : ℤ) → is_comparison o ≡ true → takes (branch o (is_unsigned k) sense x y z) r ≡ told sense (value_of o k n m) }
 {}
 
-/// The code of a pointer plus or minus a number of elements leaves in a0 the word of the pointer that C means, where no rule is broken.
+/// The code of a pointer plus or minus a number of elements leaves in a0 the word of the pointer that C means, where no rule is broken;
+/// so does the one instruction where the number is a constant that is few bytes.
 /// So does the code of an order of two pointers leave its truth.
-#[tactic(auto, using(crate::proofs::Pointers::advances, crate::proofs::Pointers::met, crate::proofs::Comparing::orders))]
+#[tactic(auto, using(crate::proofs::Pointers::advances, crate::proofs::Pointers::met, crate::proofs::Comparing::orders, crate::proofs::Moving::bytes_move))]
 pub fn pointers_go_as_is_meant()
     ensures advances { (f : Key → ℕ) (fs : List Key) (m : Flat) (os : List Object) → HeldWords fs m os → (r : Words) (size x y n : ℕ) (k : Int) (v : Value) (o : Op) → Advances f m.objects r size x y n k v → IsMove o → shift_rule os v (Number n) (steps_of o k (Number n)) size ≡ None → Means f m.objects (after (advanced o size x y) r 10) (placed v (target v (steps_of o k (Number n)) size)) }
+    ensures bytes { (f : Key → ℕ) (fs : List Key) (m : Flat) (os : List Object) → HeldWords fs m os → (r : Words) (x c size n : ℕ) (k : Int) (v : Value) (o : Op) → Means f m.objects (r x) v → converted c k ≡ c → n ≡ c * size → n < 2048 → IsMove o → shift_rule os v (Number c) (steps_of o k (Number c)) size ≡ None → Means f m.objects (after (by_bytes o x n ∷ []) r 10) (placed v (target v (steps_of o k (Number c)) size)) }
     ensures orders { (f : Key → ℕ) (fs : List Key) (m : Flat) (os : List Object) → HeldWords fs m os → (r : Words) (x y : ℕ) (v u : Value) (o : Op) → Means f m.objects (r x) v → Means f m.objects (r y) u → IsOrder o → order_rule os v u ≡ None → after (operate o true x y) r 10 ≡ plain (truth_of (pointer_test o v u)) }
     ensures met { (f : Key → ℕ) (t : List Obj) → Advances f t (λ j. plain 0) 4 10 11 0 PlainInt (Number 0) }
 {}
