@@ -1,0 +1,12 @@
+pub mod Types
+pub mod Bits
+pub mod Loading
+pub mod Fitting
+pub mod Formed
+pub mod Nodes
+pub mod Converting
+pub mod Answering
+pub mod Library
+pub mod Bodies
+pub mod Returning
+pub mod Texts
