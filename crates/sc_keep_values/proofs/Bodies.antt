@@ -10,7 +10,6 @@ use Rattle.sc_check_operand.specs.Types.{is_void}
 use Rattle.sc_core_needs.specs.Values.{is_value_for}
 use Rattle.sc_core_formed.specs.Expressions.{expression}
 use Rattle.sc_core_formed.specs.Statements.{Test, level, test_of, statement, each, when, is_test, is_block, is_switch, is_head, is_return, is_given, of_loop, of_switch}
-use Rattle.sc_core_formed.specs.declared.statements.Body.{Body}
 use Rattle.sc_meaning.specs.Integers.{Every}
 use Rattle.sc_keep_values.specs.Formed.{IsFormedBody, IsReturned, returns_layer, ReturnsTo, ReturnsValues}
 use Rattle.sc_keep_values.proofs.Types.{both}
@@ -29,18 +28,18 @@ module _ (core : Core) (f : Fun) (targets : List Target) where
 
   -- a statement that is formed somewhere
   abbrev Formed : CoreStmt → Type 0
-  Formed s = (around : List ℕ) × (body : Body) × (next : ℕ) × (last : ℕ) × (statement core f targets s around body next ≡ Some last)
+  Formed s = (around : List ℕ) × (body : _) × (next : ℕ) × (last : ℕ) × (statement core f targets s around body next ≡ Some last)
 
-  opened : (s : CoreStmt) (around : List ℕ) (body : Body) (next last : ℕ) → statement core f targets s around body next ≡ Some last → level core f targets (map-CoreStmt CoreStmt (CoreStmt → Test) T (out-CoreStmt s)) (out-CoreStmt s) around body next ≡ Some last
+  opened : (s : CoreStmt) (around : List ℕ) (body : _) (next last : ℕ) → statement core f targets s around body next ≡ Some last → level core f targets (map-CoreStmt CoreStmt (CoreStmt → Test) T (out-CoreStmt s)) (out-CoreStmt s) around body next ≡ Some last
   opened s around body next last e = sym (ap (λ (t : CoreStmt → Test). t s around body next) (fold_out-CoreStmt (CoreStmt → Test) (λ p s. level core f targets p (out-CoreStmt s)) s)) ∙ e
 
-  each_returns : (k : ℕ) → ((s : CoreStmt) → Formed s → ReturnsTo core f k s) → (ss : List CoreStmt) (around : List ℕ) (body : Body) (next last : ℕ) → each (map T ss) ss around body next ≡ Some last → Every (ReturnsTo core f k) ss
+  each_returns : (k : ℕ) → ((s : CoreStmt) → Formed s → ReturnsTo core f k s) → (ss : List CoreStmt) (around : List ℕ) (body : _) (next last : ℕ) → each (map T ss) ss around body next ≡ Some last → Every (ReturnsTo core f k) ss
   each_returns k ih [] around body next last e = tt
   each_returns k ih (s ∷ ss) around body next last e =
       let r = then_some (λ next. each (map T ss) ss around body next) (T s s around body next) last e in
       (ih s (around, body, next, r.0, r.1), each_returns k ih ss around body r.0 last r.2)
 
-  layer_returns : (k : ℕ) → ((s : CoreStmt) → Formed s → ReturnsTo core f k s) → (x : CoreStmt-F CoreStmt) (around : List ℕ) (body : Body) (next last : ℕ) → level core f targets (map-CoreStmt CoreStmt (CoreStmt → Test) T x) x around body next ≡ Some last → returns_layer (IsReturned core f) (ReturnsTo core f k) x
+  layer_returns : (k : ℕ) → ((s : CoreStmt) → Formed s → ReturnsTo core f k s) → (x : CoreStmt-F CoreStmt) (around : List ℕ) (body : _) (next last : ℕ) → level core f targets (map-CoreStmt CoreStmt (CoreStmt → Test) T x) x around body next ≡ Some last → returns_layer (IsReturned core f) (ReturnsTo core f k) x
   layer_returns k ih (CoreStmt-F.Block l n labels ss) around body next last e =
       let r = when_some (is_block f next n labels (length ss)) (each (map T ss) ss (n ∷ around) body (next + 1)) last e in each_returns k ih ss (n ∷ around) body (next + 1) last r.1
   layer_returns k ih (CoreStmt-F.Initialize l b n ps) around body next last e = tt

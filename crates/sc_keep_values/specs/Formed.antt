@@ -12,7 +12,6 @@ use Rattle.sc_core_needs.specs.Values.{is_value_for}
 use Rattle.sc_core_formed.specs.Expressions.{expression}
 use Rattle.sc_core_formed.specs.Modules.{formed}
 use Rattle.sc_core_formed.specs.Statements.{statement}
-use Rattle.sc_core_formed.specs.declared.statements.Body.{Body}
 use Rattle.sc_meaning.specs.Expressions.{Env}
 use Rattle.sc_meaning.specs.Integers.{Every, Optionally}
 use Rattle.sc_meaning.specs.Signatures.{takes}
@@ -25,7 +24,7 @@ abbrev pub IsFormedIn : Env → List ℕ → CoreExpr → Type 0
 IsFormedIn env around e = expression env.text.core env.fun.blocks around e ≡ true
 
 abbrev pub IsFormedBody : Core → Fun → Type 0
-IsFormedBody core f = (targets : List Target) × (around : List ℕ) × (body : Body) × (next : ℕ) × (last : ℕ) × (statement core f targets f.body around body next ≡ Some last)
+IsFormedBody core f = (targets : List Target) × (around : List ℕ) × (body : _) × (next : ℕ) × (last : ℕ) × (statement core f targets f.body around body next ≡ Some last)
 
 -- texts of formed modules
 abbrev pub AreTexts : List Text → Type 0
