@@ -63,8 +63,15 @@ abbrev pub swap_to : List ℕ → Option Form → Command
 swap_to name None = command.BadArguments
 swap_to name (Some form) = command.Swap name form
 
+-- the word for the text of the second compiler
+abbrev pub is_fast : List ℕ → Bool
+is_fast word = bytes_eq word (codes "fast")
+
+abbrev pub swap_by : List ℕ → List ℕ → Command
+swap_by name word = if is_fast word then command.SwapFast name else swap_to name (form_of word)
+
 abbrev pub swap_of : List (List ℕ) → Command
-swap_of (name ∷ word ∷ []) = if is_module_name name then swap_to name (form_of word) else command.BadArguments
+swap_of (name ∷ word ∷ []) = if is_module_name name then swap_by name word else command.BadArguments
 swap_of _ = command.BadArguments
 
 abbrev pub edit_of : List (List ℕ) → Command
@@ -75,6 +82,8 @@ edit_of _ = command.BadArguments
 
 abbrev pub compile_of : List (List ℕ) → Command
 compile_of (name ∷ []) = if is_module_name name then command.Compile name else command.BadArguments
+compile_of (name ∷ word ∷ []) =
+    if is_module_name name && is_fast word then command.CompileFast name else command.BadArguments
 compile_of _ = command.BadArguments
 
 abbrev pub run_of : List (List ℕ) → Command
@@ -199,8 +208,10 @@ abbrev pub IsNamed : Command → Type 0
 IsNamed (command.Load name) = is_module_name name ≡ true
 IsNamed (command.Unload name) = is_module_name name ≡ true
 IsNamed (command.Swap name form) = is_module_name name ≡ true
+IsNamed (command.SwapFast name) = is_module_name name ≡ true
 IsNamed (command.Edit name file) = (is_module_name name ≡ true) × IsFile file
 IsNamed (command.Compile name) = is_module_name name ≡ true
+IsNamed (command.CompileFast name) = is_module_name name ≡ true
 IsNamed (command.Run file) = IsFile file
 IsNamed _ = Unit {0}
 
