@@ -33,6 +33,7 @@ const COMMANDS: &str = "Commands, one on each line of the standard input:
   disas F         shows the instructions of a compiled function; F is NAME or M:NAME
   xref NAME       shows every place of a name of file scope
   whatis NAME     shows the type of a name of file scope in each module
+  eval M E        shows the value of an expression in the terms of a module
   report K        shows what a probe tells
   drop K          takes a probe away
   reset           gives the run up
