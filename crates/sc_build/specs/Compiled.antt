@@ -40,7 +40,7 @@ IsLimit file word line fault.TooLong = ⊥
 IsLimit file word line (fault.File name) = ⊥
 IsLimit file word line fault.NoMemory = Unit {0}
 
--- a module with its names and its object, or why it has none
+-- a module with what is kept beside it and its object, or why it has none
 abbrev pub Compiles : List ℕ → Core → Names → Result Built BuildFault → Type 0
-Compiles file core names (Ok built) = (built.core ≡ core) × (built.scopes ≡ names.scopes) × (built.places ≡ names.places) × IsObject core built.object
+Compiles file core names (Ok built) = (built.core ≡ core) × (built.scopes ≡ names.scopes) × (built.places ≡ names.places) × (built.kept ≡ names.kept) × IsObject core built.object
 Compiles file core names (Err f) = IsOver file core f

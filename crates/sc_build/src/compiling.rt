@@ -55,11 +55,16 @@ pub fn compiled(alloc: Global, file: &str, core: Core, names: Names) -> Result<B
 {
     match generate(alloc, &core) {
         Ok(object) => {
-            let Names { scopes, places } = names;
+            let Names {
+                scopes,
+                places,
+                kept,
+            } = names;
             Ok(Built {
                 core,
                 scopes,
                 places,
+                kept,
                 object,
             })
         }
