@@ -10,6 +10,7 @@ mod symbols;
 
 pub use definitions::{Definition, Fixup};
 pub use module::{
-    Compiled, GenFault, MAX_FILE, MAX_WORDS, Making, begun, compile, finished, generate, put_function,
+    Compiled, GenFault, MAX_FILE, MAX_WORDS, Making, begun, compile, finished, generate,
+    put_function,
 };
 pub use symbols::Home;

@@ -45,12 +45,7 @@ fn copy_of(n: u8, x: &Auto) -> Kept
     }
 }
 
-fn put_object(
-    body: &CoreStmt,
-    at: Object,
-    x: &Auto,
-    kept: &mut Items<Kept>,
-) -> Result<(), NoMemory>
+fn put_object(body: &CoreStmt, at: Object, x: &Auto, kept: &mut Items<Kept>) -> Result<(), NoMemory>
     ensures { OnOk result (kept.new ≡ spec.with_object body.now at x.now kept.old) }
 {
     let n = kept.len();

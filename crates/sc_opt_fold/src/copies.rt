@@ -77,7 +77,10 @@ fn object_copied(alloc: Global, x: &StaticObj) -> Result<StaticObj, NoMemory>
 }
 
 /// The objects of static storage duration.
-pub(crate) fn objects_copied(alloc: Global, objects: &[StaticObj]) -> Result<Items<StaticObj>, NoMemory>
+pub(crate) fn objects_copied(
+    alloc: Global,
+    objects: &[StaticObj],
+) -> Result<Items<StaticObj>, NoMemory>
     ensures { IfOk result (λ copy. copy ≡ objects.now) }
 {
     let mut all = Items::new(alloc);

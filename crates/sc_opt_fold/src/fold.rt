@@ -4,14 +4,24 @@ ghost use Rattle.sc_opt_fold.specs.Folded as spec;
 
 use crate::constants::{binary_value, constant, converted_value, unary_value};
 use crate::nodes::{
-    address_node, and_node, arrow_node, assign_node, assign_structure_node, automatic_node, binary_node, call_node, cast_node, comma_node, compare_node, compound_node, compound_offset_node, conditional_node, convert_node, difference_node, function_node, index_node, indirection_node, literal_node, member_node, number_node, offset_node, or_node, static_node, step_node, unary_node
+    address_node, and_node, arrow_node, assign_node, assign_structure_node, automatic_node,
+    binary_node, call_node, cast_node, comma_node, compare_node, compound_node,
+    compound_offset_node, conditional_node, convert_node, difference_node, function_node,
+    index_node, indirection_node, literal_node, member_node, number_node, offset_node, or_node,
+    static_node, step_node, unary_node,
 };
 use sc_base::{Items, NoMemory, Op, Shared};
 use sc_core::{CoreExpr, UnaryOperator};
 use sc_types::CType;
 use std::alloc::Global;
 
-fn unary_folded(alloc: Global, l: u32, t: &CType, o: UnaryOperator, a: Shared<CoreExpr>) -> Result<CoreExpr, NoMemory>
+fn unary_folded(
+    alloc: Global,
+    l: u32,
+    t: &CType,
+    o: UnaryOperator,
+    a: Shared<CoreExpr>,
+) -> Result<CoreExpr, NoMemory>
     ensures { IfOk result (λ e. e ≡ spec.unary_folded l t.now o a) }
 {
     match unary_value(o, constant(a.get())) {
@@ -23,7 +33,14 @@ fn unary_folded(alloc: Global, l: u32, t: &CType, o: UnaryOperator, a: Shared<Co
     }
 }
 
-fn binary_folded(alloc: Global, l: u32, t: &CType, o: Op, a: Shared<CoreExpr>, b: Shared<CoreExpr>) -> Result<CoreExpr, NoMemory>
+fn binary_folded(
+    alloc: Global,
+    l: u32,
+    t: &CType,
+    o: Op,
+    a: Shared<CoreExpr>,
+    b: Shared<CoreExpr>,
+) -> Result<CoreExpr, NoMemory>
     ensures { IfOk result (λ e. e ≡ spec.binary_folded l t.now o a b) }
 {
     match binary_value(o, constant(a.get()), constant(b.get())) {
@@ -48,7 +65,12 @@ fn cast_folded(alloc: Global, l: u32, t: &CType, a: Shared<CoreExpr>) -> Result<
     }
 }
 
-fn convert_folded(alloc: Global, l: u32, t: &CType, a: Shared<CoreExpr>) -> Result<CoreExpr, NoMemory>
+fn convert_folded(
+    alloc: Global,
+    l: u32,
+    t: &CType,
+    a: Shared<CoreExpr>,
+) -> Result<CoreExpr, NoMemory>
     ensures { IfOk result (λ e. e ≡ spec.convert_folded l t.now a) }
 {
     match converted_value(t, constant(a.get())) {
