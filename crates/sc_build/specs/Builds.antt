@@ -10,7 +10,7 @@ use Rattle.sc_check.specs.Units.{unit_of}
 use Rattle.sc_core.specs.declared.module.Core.{Core}
 use Rattle.sc_core_formed.specs.Modules.{formed}
 use Rattle.sc_eval.specs.Texts.{IsUnit}
-use Rattle.sc_gen.specs.Limits.{IsObject}
+use Rattle.sc_gen.specs.Limits.{IsObject, plain_code}
 use Rattle.sc_lex.specs.declared.token.Token.{Token}
 use Rattle.sc_outside.specs.Causes.{Rose}
 use Rattle.sc_outside.specs.Stored.{FileMap}
@@ -60,7 +60,7 @@ pub record Builds (held : Option FileMap) (file name : List ℕ) (built : Built)
   pub formed : formed built.core ≡ true
   pub scoped : built.scopes ≡ scopes_of items
   pub listed : built.places ≡ places_of items
-  pub compiled : IsObject built.core built.object
+  pub compiled : IsObject plain_code built.core built.object
 
 -- Where the first refusal of a file comes from: preprocessing; the grammar, where preprocessing refuses nothing; the rules
 -- of types, where the grammar refuses nothing; the limits of objects, where they refuse nothing.

@@ -6,7 +6,7 @@ use Rattle.sc_base.specs.declared.refusal.X.TheVariants as x
 use Rattle.sc_core.specs.declared.module.Core.{Core}
 use Rattle.sc_core.specs.declared.module.Fun.{Fun}
 use Rattle.sc_core.specs.Modules.{function_of}
-use Rattle.sc_gen.specs.Limits.{IsObject, first_long}
+use Rattle.sc_gen.specs.Limits.{IsObject, first_long, plain_code}
 use Rattle.sc_gen.specs.Objects.{object_of}
 use Rattle.sc_object.specs.Spelling.{spelled}
 use Rattle.sc_build.specs.declared.building.Built.{Built}
@@ -21,8 +21,8 @@ limit file word line = record { kind = x.X10 word; file = file; line = line }
 -- The first function whose text has more than 524,288 bytes is refused at the line of its name; where there is none, a file of more than
 -- 8,388,608 bytes at line 1.
 pub data Exceeds (file : List ℕ) (core : Core) : Refusal → Type 0 where
-  text : (f : Fun) → first_long core.funs ≡ Some f.name → function_of f.name core.funs ≡ Some f → Exceeds file core (limit file (codes "text") f.line)
-  object : first_long core.funs ≡ None → 8388608 < length (spelled (object_of core)) → Exceeds file core (limit file (codes "object") 1)
+  text : (f : Fun) → first_long plain_code core.funs ≡ Some f.name → function_of f.name core.funs ≡ Some f → Exceeds file core (limit file (codes "text") f.line)
+  object : first_long plain_code core.funs ≡ None → 8388608 < length (spelled (object_of plain_code core)) → Exceeds file core (limit file (codes "object") 1)
 
 -- a module is refused as too large, or no memory was left
 abbrev pub IsOver : List ℕ → Core → BuildFault → Type 0
@@ -42,5 +42,5 @@ IsLimit file word line fault.NoMemory = Unit {0}
 
 -- a module with what is kept beside it and its object, or why it has none
 abbrev pub Compiles : List ℕ → Core → Names → Result Built BuildFault → Type 0
-Compiles file core names (Ok built) = (built.core ≡ core) × (built.scopes ≡ names.scopes) × (built.places ≡ names.places) × (built.kept ≡ names.kept) × IsObject core built.object
+Compiles file core names (Ok built) = (built.core ≡ core) × (built.scopes ≡ names.scopes) × (built.places ≡ names.places) × (built.kept ≡ names.kept) × IsObject plain_code core built.object
 Compiles file core names (Err f) = IsOver file core f

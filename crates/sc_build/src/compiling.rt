@@ -1,6 +1,6 @@
 // The object of a module, and the limits of objects.
 ghost use Rattle.std.specs.Prelude.{◌≡◌, Some, codes};
-ghost use Rattle.sc_gen.specs.Limits.{IsFault, first_long};
+ghost use Rattle.sc_gen.specs.Limits.{IsFault, first_long, plain_code};
 ghost use Rattle.sc_build.specs.Compiled.{Compiles, IsLimit, IsOver};
 
 use crate::building::{BuildFault, Built, Names};
@@ -28,7 +28,7 @@ fn limit(alloc: Global, file: &str, word: &[u8], line: u32) -> BuildFault
 
 // The text of the function with this name is too long.
 fn long_text(alloc: Global, file: &str, core: &Core, name: &Name) -> BuildFault
-    requires { first_long core.now.funs ≡ Some name.now }
+    requires { first_long plain_code core.now.funs ≡ Some name.now }
     ensures { IsOver file.now core.now result }
 {
     match core.fun(name) {
@@ -39,7 +39,7 @@ fn long_text(alloc: Global, file: &str, core: &Core, name: &Name) -> BuildFault
 
 // Why a module has no object.
 fn over(alloc: Global, file: &str, core: &Core, fault: GenFault) -> BuildFault
-    requires { IsFault core.now fault }
+    requires { IsFault plain_code core.now fault }
     ensures { IsOver file.now core.now result }
 {
     match fault {
