@@ -33,7 +33,7 @@ module _ (old : Moment) (name : List ℕ) (c : Choice) (object : Object) (held :
     (there : object_named old.session.modules name c ≡ Some object) (same : held ≡ old.held)
     (compares : Compares old.held (object_file name c) object old.faults now found) where
   kept_by : IsKept old name c → (said : Answer) (new : Plain) → Reforms old.session name c said new → Swaps old name form.Object c said (moment new held now)
-  kept_by kept (answer.Swapped m g) new (plain, is, object, room, becomes) = (plain, is, object, (kept, room), becomes, same)
+  kept_by kept (answer.Swapped m g) new (plain, is, compiled, room, becomes) = (plain, is, compiled, (kept, room), becomes, same)
   kept_by kept (answer.SwappedFast m) new (fast, is, room, becomes) = (fast, is, (kept, room), becomes, same)
   kept_by kept (answer.Refused (denied.Space a)) new p = (refl, (p.0, same), (kept, p.1))
   kept_by kept answer.NoMemory new p = (p, same)
@@ -103,7 +103,7 @@ lacks_room true changed a e p = absurd (cc)
 lacks_room false changed a e p = p
 
 pub forms_reforms : (session : Plain) (name : List ℕ) (c : Choice) (said : Answer) (new : Plain) → HasRoomBy (stays session.state) (with_form name form.Object c session.modules) session.numbers → Forms session name form.Object c said new → Reforms session name c said new
-forms_reforms session name c (answer.Swapped m g) new room (plain, is, object, becomes) = (plain, is, object, room, becomes)
+forms_reforms session name c (answer.Swapped m g) new room (plain, is, compiled, becomes) = (plain, is, compiled, room, becomes)
 forms_reforms session name c (answer.SwappedFast m) new room (fast, is, becomes) = (fast, is, room, becomes)
 forms_reforms session name c answer.NoMemory new room p = p
 forms_reforms session name c (answer.Refused (denied.Space a)) new room (is, stayed, lacks, same) = (same, lacks_by (stays session.state) (swapped session name form.Object c) a stayed lacks)

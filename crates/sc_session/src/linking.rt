@@ -3,10 +3,10 @@ ghost use Rattle.std.specs.Prelude.{◌≡◌, map, IfErr, IfOk};
 ghost use Rattle.sc_image.specs.Placing as placing;
 ghost use Rattle.sc_session_forms.specs.Forms as forms;
 ghost use Rattle.sc_session.specs.Linking as spec;
-ghost use Rattle.sc_session.specs.Modules.{object_by};
+ghost use Rattle.sc_session.specs.Modules.{object_by as object_in};
 
 use crate::choice::Choice;
-use crate::present::{Present, is_named, object_by as object_of};
+use crate::present::{Present, is_named, object_by};
 use sc_base::{Duplicate, Form, Items, Name, NoMemory};
 use sc_core_held::Numbers;
 use sc_image::{Linking, full_area, image_of};
@@ -30,13 +30,13 @@ pub fn put_form(modules: &mut Vec<Present>, name: &Name, form: Form, choice: Cho
 
 // A module as it is linked in a form, with that object.
 fn linked_so(alloc: Global, p: &Present, form: Form, choice: Choice) -> Result<Linking, NoMemory>
-    ensures { IfOk result (λ l. l ≡ record { number = p.now.text.number; name = p.now.text.core.name; form = form; object = object_by choice p.now }) }
+    ensures { IfOk result (λ l. l ≡ record { number = p.now.text.number; name = p.now.text.core.name; form = form; object = object_in choice p.now }) }
 {
     Ok(Linking {
         number: p.text.number,
         name: p.text.core.get().name.copy(alloc)?,
         form,
-        object: object_of(p, choice).share()?,
+        object: object_by(p, choice).share()?,
     })
 }
 
