@@ -9,7 +9,7 @@ use Rattle.sc_core.specs.declared.module.Fun.{Fun}
 use Rattle.sc_gen_code.specs.declared.style.Kept.{Kept}
 use Rattle.sc_gen_code.specs.declared.style.Style.{Style}
 use Rattle.sc_gen_code.specs.Operators.{machine_type, is_scalar}
-use Rattle.sc_opt.specs.declared.uses.Object.{Object}
+use Rattle.sc_opt.specs.declared.uses.Candidate.{Candidate}
 use Rattle.sc_opt.specs.declared.uses.Use.{Use}
 use Rattle.sc_opt.specs.Uses.{counted, use_of_statement}
 
@@ -27,7 +27,7 @@ is_kept body b i x = is_scalar x.of && (nat_le x.slot.offset 2044 && is_paid b (
 abbrev pub copy_of : ℕ → Auto → Kept
 copy_of n x = record { offset = x.slot.offset; register = 28 + n; of = machine_type x.of }
 
-abbrev pub with_object : CoreStmt → Object → Auto → List Kept → List Kept
+abbrev pub with_object : CoreStmt → Candidate → Auto → List Kept → List Kept
 with_object body at x ks = if nat_lt (length ks) 4 && is_kept body at.block at.place x then ks ++ copy_of (length ks) x ∷ [] else ks
 
 -- the objects of a block from a place on

@@ -8,7 +8,7 @@ use Rattle.sc_core.specs.declared.statement.AutoInit.{AutoInit}
 use Rattle.sc_core.specs.declared.statement.AutoInit.TheVariants as piece
 use Rattle.sc_core.specs.declared.statement.CoreStmt.{CoreStmt, fold-CoreStmt}
 use Rattle.sc_core.specs.declared.statement.CoreStmt.TheOpen.{CoreStmt-F}
-use Rattle.sc_opt.specs.declared.uses.Object.{Object}
+use Rattle.sc_opt.specs.declared.uses.Candidate.{Candidate}
 use Rattle.sc_opt.specs.declared.uses.Shape.{Shape}
 use Rattle.sc_opt.specs.declared.uses.Shape.TheVariants as shape
 use Rattle.sc_opt.specs.declared.uses.Use.{Use}
@@ -107,16 +107,16 @@ place_or_other _ = shape.Other
 abbrev pub member : Use → Use
 member a = of_shape (place_or_other a.shape) a
 
-abbrev pub is_named : Object → ℕ → ℕ → Bool
+abbrev pub is_named : Candidate → ℕ → ℕ → Bool
 is_named x b i = x.block == b && x.place == i
 
-abbrev pub name : Object → ℕ → ℕ → Use
+abbrev pub name : Candidate → ℕ → ℕ → Use
 name x b i = if is_named x b i then plain shape.Same else plain shape.Place
 
 abbrev pub all : List Use → Use
 all us = fold beside (plain shape.Other) us
 
-abbrev pub use_layer : Object → CoreExpr-F Use → Use
+abbrev pub use_layer : Candidate → CoreExpr-F Use → Use
 use_layer x (CoreExpr-F.Number l t n) = plain shape.Number
 use_layer x (CoreExpr-F.Literal l t i) = plain shape.Other
 use_layer x (CoreExpr-F.Automatic l t b i) = name x b i
@@ -145,30 +145,30 @@ use_layer x (CoreExpr-F.CompoundOffset l t o n a b) = changed a b
 use_layer x (CoreExpr-F.Comma l t a b) = beside a b
 use_layer x (CoreExpr-F.Convert l t a) = converted a
 
-abbrev pub use_of : Object → CoreExpr → Use
+abbrev pub use_of : Candidate → CoreExpr → Use
 use_of x = fold-CoreExpr Use (use_layer x)
 
-abbrev pub use_of_option : Object → Option CoreExpr → Use
+abbrev pub use_of_option : Candidate → Option CoreExpr → Use
 use_of_option x None = plain shape.Other
 use_of_option x (Some e) = use_of x e
 
-abbrev pub use_of_test : Object → CoreExpr → Use
+abbrev pub use_of_test : Candidate → CoreExpr → Use
 use_of_test x e = tested (use_of x e)
 
-abbrev pub use_of_piece : Object → AutoInit → Use
+abbrev pub use_of_piece : Candidate → AutoInit → Use
 use_of_piece x (piece.Value n t e) = use_of x e
 use_of_piece x (piece.Text n bytes) = plain shape.Other
 use_of_piece x (piece.Zero n count) = plain shape.Other
 use_of_piece x (piece.Structure size e) = use_of x e
 
-abbrev pub initialized : Object → ℕ → ℕ → Use → Use
+abbrev pub initialized : Candidate → ℕ → ℕ → Use → Use
 initialized x b i a = costing (one_if (is_named x b i)) a
 
 abbrev pub or_plain : Option Use → Use
 or_plain None = plain shape.Other
 or_plain (Some a) = a
 
-abbrev pub statement_layer : Object → CoreStmt-F Use → Use
+abbrev pub statement_layer : Candidate → CoreStmt-F Use → Use
 statement_layer x (CoreStmt-F.Block l b labels ss) = all ss
 statement_layer x (CoreStmt-F.Initialize l b i ps) = initialized x b i (all (map (use_of_piece x) ps))
 statement_layer x (CoreStmt-F.Empty l) = plain shape.Other
@@ -187,5 +187,5 @@ statement_layer x (CoreStmt-F.Continue l) = plain shape.Other
 statement_layer x (CoreStmt-F.Break l) = plain shape.Other
 statement_layer x (CoreStmt-F.Return l e) = use_of_option x e
 
-abbrev pub use_of_statement : Object → CoreStmt → Use
+abbrev pub use_of_statement : Candidate → CoreStmt → Use
 use_of_statement x = fold-CoreStmt Use (statement_layer x)

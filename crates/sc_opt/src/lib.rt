@@ -7,4 +7,4 @@ mod uses;
 
 pub use fast::{compile_fast, fast_text, generate_fast};
 pub use kept::fast_style;
-pub use uses::{Object, Shape, Use, use_of, use_of_statement};
+pub use uses::{Candidate, Shape, Use, use_of, use_of_statement};

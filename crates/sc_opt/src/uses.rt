@@ -7,7 +7,7 @@ use sc_core::{AutoInit, CoreExpr, CoreStmt};
 
 /// A parameter or automatic object: its block, and its place in it.
 #[derive(Clone, Copy)]
-pub struct Object {
+pub struct Candidate {
     pub block: u32,
     pub place: u32,
 }
@@ -270,7 +270,7 @@ fn member(a: Use) -> Use
     of_shape(place_or_other(a.shape), a)
 }
 
-fn name(x: Object, block: u32, place: u32) -> Use
+fn name(x: Candidate, block: u32, place: u32) -> Use
     ensures { result ≡ spec.name x block place }
 {
     if x.block == block && x.place == place {
@@ -282,7 +282,7 @@ fn name(x: Object, block: u32, place: u32) -> Use
 
 /// How an expression uses an object.
 #[cycle(expressions)]
-pub fn use_of(x: Object, e: &CoreExpr) -> Use
+pub fn use_of(x: Candidate, e: &CoreExpr) -> Use
     ensures { result ≡ spec.use_of x e.now }
 {
     match e {
@@ -325,7 +325,7 @@ pub fn use_of(x: Object, e: &CoreExpr) -> Use
 }
 
 #[cycle(expressions)]
-fn uses_of(x: Object, es: &[Shared<CoreExpr>]) -> Use
+fn uses_of(x: Candidate, es: &[Shared<CoreExpr>]) -> Use
     ensures { result ≡ spec.all (map (spec.use_of x) es.now) }
 {
     let mut all = plain(Shape::Other);
@@ -335,7 +335,7 @@ fn uses_of(x: Object, es: &[Shared<CoreExpr>]) -> Use
     all
 }
 
-fn use_of_option(x: Object, e: &Option<Shared<CoreExpr>>) -> Use
+fn use_of_option(x: Candidate, e: &Option<Shared<CoreExpr>>) -> Use
     ensures { result ≡ spec.use_of_option x e.now }
 {
     match e {
@@ -344,13 +344,13 @@ fn use_of_option(x: Object, e: &Option<Shared<CoreExpr>>) -> Use
     }
 }
 
-fn use_of_test(x: Object, e: &CoreExpr) -> Use
+fn use_of_test(x: Candidate, e: &CoreExpr) -> Use
     ensures { result ≡ spec.use_of_test x e.now }
 {
     tested(use_of(x, e))
 }
 
-fn use_of_piece(x: Object, piece: &AutoInit) -> Use
+fn use_of_piece(x: Candidate, piece: &AutoInit) -> Use
     ensures { result ≡ spec.use_of_piece x piece.now }
 {
     match piece {
@@ -361,7 +361,7 @@ fn use_of_piece(x: Object, piece: &AutoInit) -> Use
     }
 }
 
-fn use_of_pieces(x: Object, pieces: &[AutoInit]) -> Use
+fn use_of_pieces(x: Candidate, pieces: &[AutoInit]) -> Use
     ensures { result ≡ spec.all (map (spec.use_of_piece x) pieces.now) }
 {
     let mut all = plain(Shape::Other);
@@ -371,7 +371,7 @@ fn use_of_pieces(x: Object, pieces: &[AutoInit]) -> Use
     all
 }
 
-fn initialized(x: Object, block: u32, place: u32, a: Use) -> Use
+fn initialized(x: Candidate, block: u32, place: u32, a: Use) -> Use
     ensures { result ≡ spec.initialized x block place a }
 {
     costing(one_if(x.block == block && x.place == place), a)
@@ -379,7 +379,7 @@ fn initialized(x: Object, block: u32, place: u32, a: Use) -> Use
 
 /// How a statement uses an object; what a loop repeats is counted eight times.
 #[cycle(statements)]
-pub fn use_of_statement(x: Object, s: &CoreStmt) -> Use
+pub fn use_of_statement(x: Candidate, s: &CoreStmt) -> Use
     ensures { result ≡ spec.use_of_statement x s.now }
 {
     match s {
@@ -419,7 +419,7 @@ pub fn use_of_statement(x: Object, s: &CoreStmt) -> Use
 }
 
 #[cycle(statements)]
-fn uses_of_statements(x: Object, items: &[Shared<CoreStmt>]) -> Use
+fn uses_of_statements(x: Candidate, items: &[Shared<CoreStmt>]) -> Use
     ensures { result ≡ spec.all (map (spec.use_of_statement x) items.now) }
 {
     let mut all = plain(Shape::Other);
