@@ -1,4 +1,4 @@
--- Yardstick: to be compared with what it restates (docs/TRUST.md).
+-- Machine: the program once more; a theorem ties it to a yardstick (docs/TRUST.md).
 -- Which objects of a function have copies in registers: the first four, in the order of their slots, of its parameters and automatic objects
 -- that have an integer or pointer type, that stand within reach of sp, that are never the operand of & in the given function, and of which a
 -- copy saves more words than it costs.

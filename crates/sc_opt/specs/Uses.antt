@@ -1,4 +1,4 @@
--- Yardstick: to be compared with what it restates (docs/TRUST.md).
+-- Machine: the program once more; a theorem ties it to a yardstick (docs/TRUST.md).
 -- What a copy of an object in a register would save, and what it would cost: a leaf that stands in a register already is one word less, and a
 -- write, a call and a parameter are one word more. Only the choice of the copies rests on this.
 use Rattle.std.specs.Prelude.{ℕ, ◌+◌, ◌*◌, ◌==◌, ◌&&◌, ◌||◌, min, Bool, true, false, if◌then◌else◌, List, [], ◌∷◌, map, fold, Option, Some, None}
