@@ -2,12 +2,14 @@
 -- What a copy of an object in a register would save, and what it would cost: a leaf that stands in a register already is one word less, and a
 -- write, a call and a parameter are one word more. Only the choice of the copies rests on this.
 use Rattle.std.specs.Prelude.{ℕ, ◌+◌, ◌*◌, ◌==◌, ◌&&◌, ◌||◌, min, Bool, true, false, if◌then◌else◌, List, [], ◌∷◌, map, fold, Option, Some, None}
+use Rattle.sc_types.specs.declared.ctype.CType.{CType}
 use Rattle.sc_core.specs.declared.expression.CoreExpr.{CoreExpr, fold-CoreExpr}
 use Rattle.sc_core.specs.declared.expression.CoreExpr.TheOpen.{CoreExpr-F}
 use Rattle.sc_core.specs.declared.statement.AutoInit.{AutoInit}
 use Rattle.sc_core.specs.declared.statement.AutoInit.TheVariants as piece
 use Rattle.sc_core.specs.declared.statement.CoreStmt.{CoreStmt, fold-CoreStmt}
 use Rattle.sc_core.specs.declared.statement.CoreStmt.TheOpen.{CoreStmt-F}
+use Rattle.sc_gen_code.specs.Operators.{is_scalar}
 use Rattle.sc_opt.specs.declared.uses.Candidate.{Candidate}
 use Rattle.sc_opt.specs.declared.uses.Shape.{Shape}
 use Rattle.sc_opt.specs.declared.uses.Shape.TheVariants as shape
@@ -100,18 +102,14 @@ read_shape _ = shape.Other
 abbrev pub converted : Use → Use
 converted a = of_shape (read_shape a.shape) a
 
-abbrev pub place_or_other : Shape → Shape
-place_or_other shape.Place = shape.Place
-place_or_other _ = shape.Other
-
-abbrev pub member : Use → Use
-member a = of_shape (place_or_other a.shape) a
+abbrev pub place : CType → Use
+place t = if is_scalar t then plain shape.Place else plain shape.Other
 
 abbrev pub is_named : Candidate → ℕ → ℕ → Bool
 is_named x b i = x.block == b && x.place == i
 
-abbrev pub name : Candidate → ℕ → ℕ → Use
-name x b i = if is_named x b i then plain shape.Same else plain shape.Place
+abbrev pub name : Candidate → CType → ℕ → ℕ → Use
+name x t b i = if is_named x b i then plain shape.Same else place t
 
 abbrev pub all : List Use → Use
 all us = fold beside (plain shape.Other) us
@@ -119,12 +117,12 @@ all us = fold beside (plain shape.Other) us
 abbrev pub use_layer : Candidate → CoreExpr-F Use → Use
 use_layer x (CoreExpr-F.Number l t n) = plain shape.Number
 use_layer x (CoreExpr-F.Literal l t i) = plain shape.Other
-use_layer x (CoreExpr-F.Automatic l t b i) = name x b i
-use_layer x (CoreExpr-F.Static l t key) = plain shape.Place
+use_layer x (CoreExpr-F.Automatic l t b i) = name x t b i
+use_layer x (CoreExpr-F.Static l t key) = place t
 use_layer x (CoreExpr-F.Function l t key) = plain shape.Other
 use_layer x (CoreExpr-F.Index l t n a b) = moved a b
 use_layer x (CoreExpr-F.Call l t f args) = costing 1 (beside f (all args))
-use_layer x (CoreExpr-F.Member l t n a) = member a
+use_layer x (CoreExpr-F.Member l t n a) = other a
 use_layer x (CoreExpr-F.Arrow l t n a) = other a
 use_layer x (CoreExpr-F.Step l t s n a) = stepped a
 use_layer x (CoreExpr-F.Address l t a) = addressed a
@@ -135,8 +133,8 @@ use_layer x (CoreExpr-F.Binary l t o a b) = binary a b
 use_layer x (CoreExpr-F.Offset l t o n a b) = moved a b
 use_layer x (CoreExpr-F.Difference l t n a b) = operands a b
 use_layer x (CoreExpr-F.Compare l t o a b) = operands a b
-use_layer x (CoreExpr-F.And l t a b) = beside (tested a) (tested b)
-use_layer x (CoreExpr-F.Or l t a b) = beside (tested a) (tested b)
+use_layer x (CoreExpr-F.And l t a b) = beside a b
+use_layer x (CoreExpr-F.Or l t a b) = beside a b
 use_layer x (CoreExpr-F.Conditional l t a b d) = beside (beside (tested a) b) d
 use_layer x (CoreExpr-F.Assign l t a b) = changed a b
 use_layer x (CoreExpr-F.AssignStructure l t n a b) = beside a b

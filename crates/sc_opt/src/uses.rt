@@ -4,6 +4,8 @@ ghost use Rattle.sc_opt.specs.Uses as spec;
 
 use sc_base::Shared;
 use sc_core::{AutoInit, CoreExpr, CoreStmt};
+use sc_gen_code::is_scalar;
+use sc_types::CType;
 
 /// A parameter or automatic object: its block, and its place in it.
 #[derive(Clone, Copy)]
@@ -12,8 +14,8 @@ pub struct Candidate {
     pub place: u32,
 }
 
-/// What an expression is: the object that is asked for, its value, a number, another place that is reached without code of its
-/// own, the value of one, or anything else.
+/// What an expression is: the object that is asked for, its value, a number, another scalar that has a name, the value of one,
+/// or anything else.
 #[derive(Clone, Copy)]
 pub enum Shape {
     Same,
@@ -251,32 +253,23 @@ fn converted(a: Use) -> Use
     of_shape(read_shape(a.shape), a)
 }
 
-fn place_or_other(shape: Shape) -> Shape
-    ensures { result ≡ spec.place_or_other shape }
+fn place(t: &CType) -> Use
+    ensures { result ≡ spec.place t.now }
 {
-    match shape {
-        Shape::Place => Shape::Place,
-        Shape::Same => Shape::Other,
-        Shape::Copy => Shape::Other,
-        Shape::Number => Shape::Other,
-        Shape::Leaf => Shape::Other,
-        Shape::Other => Shape::Other,
+    if is_scalar(t) {
+        plain(Shape::Place)
+    } else {
+        plain(Shape::Other)
     }
 }
 
-fn member(a: Use) -> Use
-    ensures { result ≡ spec.member a }
+fn name(x: Candidate, t: &CType, block: u32, i: u32) -> Use
+    ensures { result ≡ spec.name x t.now block i }
 {
-    of_shape(place_or_other(a.shape), a)
-}
-
-fn name(x: Candidate, block: u32, place: u32) -> Use
-    ensures { result ≡ spec.name x block place }
-{
-    if x.block == block && x.place == place {
+    if x.block == block && x.place == i {
         plain(Shape::Same)
     } else {
-        plain(Shape::Place)
+        place(t)
     }
 }
 
@@ -288,14 +281,14 @@ pub fn use_of(x: Candidate, e: &CoreExpr) -> Use
     match e {
         CoreExpr::Number(_, _, _) => plain(Shape::Number),
         CoreExpr::Literal(_, _, _) => plain(Shape::Other),
-        CoreExpr::Automatic(_, _, b, i) => name(x, *b, *i),
-        CoreExpr::Static(_, _, _) => plain(Shape::Place),
+        CoreExpr::Automatic(_, t, b, i) => name(x, t, *b, *i),
+        CoreExpr::Static(_, t, _) => place(t),
         CoreExpr::Function(_, _, _) => plain(Shape::Other),
         CoreExpr::Call(_, _, f, args) => {
             let others = uses_of(x, args.as_slice());
             costing(1, beside(use_of(x, f.get()), others))
         }
-        CoreExpr::Member(_, _, _, a) => member(use_of(x, a.get())),
+        CoreExpr::Member(_, _, _, a) => other(use_of(x, a.get())),
         CoreExpr::Arrow(_, _, _, a) => other(use_of(x, a.get())),
         CoreExpr::Step(_, _, _, _, a) => stepped(use_of(x, a.get())),
         CoreExpr::Address(_, _, a) => addressed(use_of(x, a.get())),
@@ -312,8 +305,8 @@ pub fn use_of(x: Candidate, e: &CoreExpr) -> Use
         CoreExpr::Offset(_, _, _, _, a, b) => moved(use_of(x, a.get()), use_of(x, b.get())),
         CoreExpr::Difference(_, _, _, a, b) => operands(use_of(x, a.get()), use_of(x, b.get())),
         CoreExpr::Compare(_, _, _, a, b) => operands(use_of(x, a.get()), use_of(x, b.get())),
-        CoreExpr::And(_, _, a, b) => beside(tested(use_of(x, a.get())), tested(use_of(x, b.get()))),
-        CoreExpr::Or(_, _, a, b) => beside(tested(use_of(x, a.get())), tested(use_of(x, b.get()))),
+        CoreExpr::And(_, _, a, b) => beside(use_of(x, a.get()), use_of(x, b.get())),
+        CoreExpr::Or(_, _, a, b) => beside(use_of(x, a.get()), use_of(x, b.get())),
         CoreExpr::Assign(_, _, a, b) => changed(use_of(x, a.get()), use_of(x, b.get())),
         CoreExpr::AssignStructure(_, _, _, a, b) => beside(use_of(x, a.get()), use_of(x, b.get())),
         CoreExpr::Compound(_, _, _, _, a, b) => changed(use_of(x, a.get()), use_of(x, b.get())),
