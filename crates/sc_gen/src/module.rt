@@ -1,6 +1,5 @@
 // The object of a module (ELF gABI, RISC-V psABI).
 ghost use Rattle.std.specs.Prelude.{◌≡◌, ◌<◌, ◌≤◌, ℕ, List, None, Some, IfErr, IfOk, OnOk, length, map};
-ghost use Rattle.sc_gen_code.specs.Styles.{plain_style};
 ghost use Rattle.sc_gen.specs.Limits as limits;
 ghost use Rattle.sc_gen.specs.Making as making;
 ghost use Rattle.sc_gen.specs.Definitions as definitions;
@@ -18,7 +17,7 @@ use sc_base::{Bytes, Duplicate, Items, Name, NoMemory, Shared};
 use sc_core::{Core, Fun, StaticObj};
 use sc_elf_write::write_object;
 use sc_gen_body::function;
-use sc_gen_code::{Style, Symbolic, plain_style};
+use sc_gen_code::{Symbolic, plain_style};
 use sc_gen_expr::fitted;
 use sc_object::{Object, Section};
 use std::alloc::Global;
@@ -106,19 +105,13 @@ pub fn put_function(
     Err(GenFault::Text(f.name.copy(alloc)?))
 }
 
-fn put_plain(
-    alloc: Global,
-    style: &Style,
-    home: &Name,
-    f: &Fun,
-    all: &mut Making,
-) -> Result<(), GenFault>
-    requires { style.now ≡ plain_style }
+fn put_plain(alloc: Global, home: &Name, f: &Fun, all: &mut Making) -> Result<(), GenFault>
     ensures ok { OnOk result (length (limits.plain_code f.now) ≤ 131072) }
     ensures puts { OnOk result (making.PutsText home.now f.now (limits.plain_code f.now) all.old all.new) }
     ensures err { IfErr result (limits.IsTextFault f.now (limits.plain_code f.now)) }
 {
-    let code = function(alloc, style, f)?;
+    let style = plain_style(alloc);
+    let code = function(alloc, &style, f)?;
     put_function(alloc, home, f, code.as_slice(), all)
 }
 
@@ -132,9 +125,8 @@ fn put_functions(
     ensures puts { OnOk result (making.PutsAll (map (sections.function_section limits.plain_code) funs.now) (map (definitions.function_definition limits.plain_code home.now) funs.now) all.old all.new) }
     ensures err { IfErr result (limits.IsFirstLong limits.plain_code funs.now) }
 {
-    let style = plain_style(alloc);
     for f in funs {
-        put_plain(alloc, &style, home, f.get(), all)?;
+        put_plain(alloc, home, f.get(), all)?;
     }
     Ok(())
 }

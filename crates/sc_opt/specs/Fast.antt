@@ -1,4 +1,4 @@
--- Yardstick: to be compared with what it restates (docs/TRUST.md).
+-- Machine: the program once more; a theorem ties it to a yardstick (docs/TRUST.md).
 -- The code of the second compiler: that of the folded function, with copies of the given function's objects in registers.
 use Rattle.sc_core.specs.declared.module.Fun.{Fun}
 use Rattle.sc_gen_code.specs.Code.{Code}

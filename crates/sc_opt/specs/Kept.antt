@@ -1,4 +1,4 @@
--- Yardstick: to be compared with what it restates (docs/TRUST.md).
+-- Machine: the program once more; a theorem ties it to a yardstick (docs/TRUST.md).
 -- Which objects of a function have copies in registers: the first four, in the order of their slots, of its parameters and automatic objects
 -- that have an integer or pointer type, that stand within reach of sp, that are never the operand of & in the given function, and of which a
 -- copy saves more words than it costs.
@@ -9,7 +9,7 @@ use Rattle.sc_core.specs.declared.module.Fun.{Fun}
 use Rattle.sc_gen_code.specs.declared.style.Kept.{Kept}
 use Rattle.sc_gen_code.specs.declared.style.Style.{Style}
 use Rattle.sc_gen_code.specs.Operators.{machine_type, is_scalar}
-use Rattle.sc_opt.specs.declared.uses.Object.{Object}
+use Rattle.sc_opt.specs.declared.uses.Candidate.{Candidate}
 use Rattle.sc_opt.specs.declared.uses.Use.{Use}
 use Rattle.sc_opt.specs.Uses.{counted, use_of_statement}
 
@@ -27,7 +27,7 @@ is_kept body b i x = is_scalar x.of && (nat_le x.slot.offset 2044 && is_paid b (
 abbrev pub copy_of : ℕ → Auto → Kept
 copy_of n x = record { offset = x.slot.offset; register = 28 + n; of = machine_type x.of }
 
-abbrev pub with_object : CoreStmt → Object → Auto → List Kept → List Kept
+abbrev pub with_object : CoreStmt → Candidate → Auto → List Kept → List Kept
 with_object body at x ks = if nat_lt (length ks) 4 && is_kept body at.block at.place x then ks ++ copy_of (length ks) x ∷ [] else ks
 
 -- the objects of a block from a place on

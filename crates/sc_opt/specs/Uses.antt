@@ -1,14 +1,16 @@
--- Yardstick: to be compared with what it restates (docs/TRUST.md).
+-- Machine: the program once more; a theorem ties it to a yardstick (docs/TRUST.md).
 -- What a copy of an object in a register would save, and what it would cost: a leaf that stands in a register already is one word less, and a
 -- write, a call and a parameter are one word more. Only the choice of the copies rests on this.
 use Rattle.std.specs.Prelude.{ℕ, ◌+◌, ◌*◌, ◌==◌, ◌&&◌, ◌||◌, min, Bool, true, false, if◌then◌else◌, List, [], ◌∷◌, map, fold, Option, Some, None}
+use Rattle.sc_types.specs.declared.ctype.CType.{CType}
 use Rattle.sc_core.specs.declared.expression.CoreExpr.{CoreExpr, fold-CoreExpr}
 use Rattle.sc_core.specs.declared.expression.CoreExpr.TheOpen.{CoreExpr-F}
 use Rattle.sc_core.specs.declared.statement.AutoInit.{AutoInit}
 use Rattle.sc_core.specs.declared.statement.AutoInit.TheVariants as piece
 use Rattle.sc_core.specs.declared.statement.CoreStmt.{CoreStmt, fold-CoreStmt}
 use Rattle.sc_core.specs.declared.statement.CoreStmt.TheOpen.{CoreStmt-F}
-use Rattle.sc_opt.specs.declared.uses.Object.{Object}
+use Rattle.sc_gen_code.specs.Operators.{is_scalar}
+use Rattle.sc_opt.specs.declared.uses.Candidate.{Candidate}
 use Rattle.sc_opt.specs.declared.uses.Shape.{Shape}
 use Rattle.sc_opt.specs.declared.uses.Shape.TheVariants as shape
 use Rattle.sc_opt.specs.declared.uses.Use.{Use}
@@ -100,31 +102,27 @@ read_shape _ = shape.Other
 abbrev pub converted : Use → Use
 converted a = of_shape (read_shape a.shape) a
 
-abbrev pub place_or_other : Shape → Shape
-place_or_other shape.Place = shape.Place
-place_or_other _ = shape.Other
+abbrev pub place : CType → Use
+place t = if is_scalar t then plain shape.Place else plain shape.Other
 
-abbrev pub member : Use → Use
-member a = of_shape (place_or_other a.shape) a
-
-abbrev pub is_named : Object → ℕ → ℕ → Bool
+abbrev pub is_named : Candidate → ℕ → ℕ → Bool
 is_named x b i = x.block == b && x.place == i
 
-abbrev pub name : Object → ℕ → ℕ → Use
-name x b i = if is_named x b i then plain shape.Same else plain shape.Place
+abbrev pub name : Candidate → CType → ℕ → ℕ → Use
+name x t b i = if is_named x b i then plain shape.Same else place t
 
 abbrev pub all : List Use → Use
 all us = fold beside (plain shape.Other) us
 
-abbrev pub use_layer : Object → CoreExpr-F Use → Use
+abbrev pub use_layer : Candidate → CoreExpr-F Use → Use
 use_layer x (CoreExpr-F.Number l t n) = plain shape.Number
 use_layer x (CoreExpr-F.Literal l t i) = plain shape.Other
-use_layer x (CoreExpr-F.Automatic l t b i) = name x b i
-use_layer x (CoreExpr-F.Static l t key) = plain shape.Place
+use_layer x (CoreExpr-F.Automatic l t b i) = name x t b i
+use_layer x (CoreExpr-F.Static l t key) = place t
 use_layer x (CoreExpr-F.Function l t key) = plain shape.Other
 use_layer x (CoreExpr-F.Index l t n a b) = moved a b
 use_layer x (CoreExpr-F.Call l t f args) = costing 1 (beside f (all args))
-use_layer x (CoreExpr-F.Member l t n a) = member a
+use_layer x (CoreExpr-F.Member l t n a) = other a
 use_layer x (CoreExpr-F.Arrow l t n a) = other a
 use_layer x (CoreExpr-F.Step l t s n a) = stepped a
 use_layer x (CoreExpr-F.Address l t a) = addressed a
@@ -135,8 +133,8 @@ use_layer x (CoreExpr-F.Binary l t o a b) = binary a b
 use_layer x (CoreExpr-F.Offset l t o n a b) = moved a b
 use_layer x (CoreExpr-F.Difference l t n a b) = operands a b
 use_layer x (CoreExpr-F.Compare l t o a b) = operands a b
-use_layer x (CoreExpr-F.And l t a b) = beside (tested a) (tested b)
-use_layer x (CoreExpr-F.Or l t a b) = beside (tested a) (tested b)
+use_layer x (CoreExpr-F.And l t a b) = beside a b
+use_layer x (CoreExpr-F.Or l t a b) = beside a b
 use_layer x (CoreExpr-F.Conditional l t a b d) = beside (beside (tested a) b) d
 use_layer x (CoreExpr-F.Assign l t a b) = changed a b
 use_layer x (CoreExpr-F.AssignStructure l t n a b) = beside a b
@@ -145,30 +143,30 @@ use_layer x (CoreExpr-F.CompoundOffset l t o n a b) = changed a b
 use_layer x (CoreExpr-F.Comma l t a b) = beside a b
 use_layer x (CoreExpr-F.Convert l t a) = converted a
 
-abbrev pub use_of : Object → CoreExpr → Use
+abbrev pub use_of : Candidate → CoreExpr → Use
 use_of x = fold-CoreExpr Use (use_layer x)
 
-abbrev pub use_of_option : Object → Option CoreExpr → Use
+abbrev pub use_of_option : Candidate → Option CoreExpr → Use
 use_of_option x None = plain shape.Other
 use_of_option x (Some e) = use_of x e
 
-abbrev pub use_of_test : Object → CoreExpr → Use
+abbrev pub use_of_test : Candidate → CoreExpr → Use
 use_of_test x e = tested (use_of x e)
 
-abbrev pub use_of_piece : Object → AutoInit → Use
+abbrev pub use_of_piece : Candidate → AutoInit → Use
 use_of_piece x (piece.Value n t e) = use_of x e
 use_of_piece x (piece.Text n bytes) = plain shape.Other
 use_of_piece x (piece.Zero n count) = plain shape.Other
 use_of_piece x (piece.Structure size e) = use_of x e
 
-abbrev pub initialized : Object → ℕ → ℕ → Use → Use
+abbrev pub initialized : Candidate → ℕ → ℕ → Use → Use
 initialized x b i a = costing (one_if (is_named x b i)) a
 
 abbrev pub or_plain : Option Use → Use
 or_plain None = plain shape.Other
 or_plain (Some a) = a
 
-abbrev pub statement_layer : Object → CoreStmt-F Use → Use
+abbrev pub statement_layer : Candidate → CoreStmt-F Use → Use
 statement_layer x (CoreStmt-F.Block l b labels ss) = all ss
 statement_layer x (CoreStmt-F.Initialize l b i ps) = initialized x b i (all (map (use_of_piece x) ps))
 statement_layer x (CoreStmt-F.Empty l) = plain shape.Other
@@ -187,5 +185,5 @@ statement_layer x (CoreStmt-F.Continue l) = plain shape.Other
 statement_layer x (CoreStmt-F.Break l) = plain shape.Other
 statement_layer x (CoreStmt-F.Return l e) = use_of_option x e
 
-abbrev pub use_of_statement : Object → CoreStmt → Use
+abbrev pub use_of_statement : Candidate → CoreStmt → Use
 use_of_statement x = fold-CoreStmt Use (statement_layer x)

@@ -2,7 +2,7 @@
 ghost use Rattle.std.specs.Prelude.{◌≡◌, ◌+◌, ◌≤◌, length, IfOk, OnOk};
 ghost use Rattle.sc_opt.specs.Kept as spec;
 
-use crate::uses::{Object, Use, use_of_statement};
+use crate::uses::{Candidate, Use, use_of_statement};
 use sc_base::{Items, NoMemory};
 use sc_core::{Auto, CoreStmt, Fun};
 use sc_gen_code::{Kept, Style, is_scalar, machine_type};
@@ -31,7 +31,7 @@ fn is_kept(body: &CoreStmt, block: u32, place: u32, x: &Auto) -> bool
 {
     is_scalar(&x.of)
         && x.slot.offset <= FARTHEST
-        && is_paid(block, use_of_statement(Object { block, place }, body))
+        && is_paid(block, use_of_statement(Candidate { block, place }, body))
 }
 
 fn copy_of(n: u8, x: &Auto) -> Kept
@@ -45,7 +45,12 @@ fn copy_of(n: u8, x: &Auto) -> Kept
     }
 }
 
-fn put_object(body: &CoreStmt, at: Object, x: &Auto, kept: &mut Items<Kept>) -> Result<(), NoMemory>
+fn put_object(
+    body: &CoreStmt,
+    at: Candidate,
+    x: &Auto,
+    kept: &mut Items<Kept>,
+) -> Result<(), NoMemory>
     ensures { OnOk result (kept.new ≡ spec.with_object body.now at x.now kept.old) }
 {
     let n = kept.len();
@@ -65,7 +70,7 @@ fn put_block(
 {
     let mut place: u32 = 0;
     for x in autos {
-        put_object(body, Object { block, place }, x, kept)?;
+        put_object(body, Candidate { block, place }, x, kept)?;
         place = place.saturating_add(1);
     }
     Ok(())

@@ -4,16 +4,18 @@ ghost use Rattle.sc_opt.specs.Uses as spec;
 
 use sc_base::Shared;
 use sc_core::{AutoInit, CoreExpr, CoreStmt};
+use sc_gen_code::is_scalar;
+use sc_types::CType;
 
 /// A parameter or automatic object: its block, and its place in it.
 #[derive(Clone, Copy)]
-pub struct Object {
+pub struct Candidate {
     pub block: u32,
     pub place: u32,
 }
 
-/// What an expression is: the object that is asked for, its value, a number, another place that is reached without code of its
-/// own, the value of one, or anything else.
+/// What an expression is: the object that is asked for, its value, a number, another scalar that has a name, the value of one,
+/// or anything else.
 #[derive(Clone, Copy)]
 pub enum Shape {
     Same,
@@ -251,51 +253,42 @@ fn converted(a: Use) -> Use
     of_shape(read_shape(a.shape), a)
 }
 
-fn place_or_other(shape: Shape) -> Shape
-    ensures { result ≡ spec.place_or_other shape }
+fn place(t: &CType) -> Use
+    ensures { result ≡ spec.place t.now }
 {
-    match shape {
-        Shape::Place => Shape::Place,
-        Shape::Same => Shape::Other,
-        Shape::Copy => Shape::Other,
-        Shape::Number => Shape::Other,
-        Shape::Leaf => Shape::Other,
-        Shape::Other => Shape::Other,
+    if is_scalar(t) {
+        plain(Shape::Place)
+    } else {
+        plain(Shape::Other)
     }
 }
 
-fn member(a: Use) -> Use
-    ensures { result ≡ spec.member a }
+fn name(x: Candidate, t: &CType, block: u32, i: u32) -> Use
+    ensures { result ≡ spec.name x t.now block i }
 {
-    of_shape(place_or_other(a.shape), a)
-}
-
-fn name(x: Object, block: u32, place: u32) -> Use
-    ensures { result ≡ spec.name x block place }
-{
-    if x.block == block && x.place == place {
+    if x.block == block && x.place == i {
         plain(Shape::Same)
     } else {
-        plain(Shape::Place)
+        place(t)
     }
 }
 
 /// How an expression uses an object.
 #[cycle(expressions)]
-pub fn use_of(x: Object, e: &CoreExpr) -> Use
+pub fn use_of(x: Candidate, e: &CoreExpr) -> Use
     ensures { result ≡ spec.use_of x e.now }
 {
     match e {
         CoreExpr::Number(_, _, _) => plain(Shape::Number),
         CoreExpr::Literal(_, _, _) => plain(Shape::Other),
-        CoreExpr::Automatic(_, _, b, i) => name(x, *b, *i),
-        CoreExpr::Static(_, _, _) => plain(Shape::Place),
+        CoreExpr::Automatic(_, t, b, i) => name(x, t, *b, *i),
+        CoreExpr::Static(_, t, _) => place(t),
         CoreExpr::Function(_, _, _) => plain(Shape::Other),
         CoreExpr::Call(_, _, f, args) => {
             let others = uses_of(x, args.as_slice());
             costing(1, beside(use_of(x, f.get()), others))
         }
-        CoreExpr::Member(_, _, _, a) => member(use_of(x, a.get())),
+        CoreExpr::Member(_, _, _, a) => other(use_of(x, a.get())),
         CoreExpr::Arrow(_, _, _, a) => other(use_of(x, a.get())),
         CoreExpr::Step(_, _, _, _, a) => stepped(use_of(x, a.get())),
         CoreExpr::Address(_, _, a) => addressed(use_of(x, a.get())),
@@ -312,8 +305,8 @@ pub fn use_of(x: Object, e: &CoreExpr) -> Use
         CoreExpr::Offset(_, _, _, _, a, b) => moved(use_of(x, a.get()), use_of(x, b.get())),
         CoreExpr::Difference(_, _, _, a, b) => operands(use_of(x, a.get()), use_of(x, b.get())),
         CoreExpr::Compare(_, _, _, a, b) => operands(use_of(x, a.get()), use_of(x, b.get())),
-        CoreExpr::And(_, _, a, b) => beside(tested(use_of(x, a.get())), tested(use_of(x, b.get()))),
-        CoreExpr::Or(_, _, a, b) => beside(tested(use_of(x, a.get())), tested(use_of(x, b.get()))),
+        CoreExpr::And(_, _, a, b) => beside(use_of(x, a.get()), use_of(x, b.get())),
+        CoreExpr::Or(_, _, a, b) => beside(use_of(x, a.get()), use_of(x, b.get())),
         CoreExpr::Assign(_, _, a, b) => changed(use_of(x, a.get()), use_of(x, b.get())),
         CoreExpr::AssignStructure(_, _, _, a, b) => beside(use_of(x, a.get()), use_of(x, b.get())),
         CoreExpr::Compound(_, _, _, _, a, b) => changed(use_of(x, a.get()), use_of(x, b.get())),
@@ -325,7 +318,7 @@ pub fn use_of(x: Object, e: &CoreExpr) -> Use
 }
 
 #[cycle(expressions)]
-fn uses_of(x: Object, es: &[Shared<CoreExpr>]) -> Use
+fn uses_of(x: Candidate, es: &[Shared<CoreExpr>]) -> Use
     ensures { result ≡ spec.all (map (spec.use_of x) es.now) }
 {
     let mut all = plain(Shape::Other);
@@ -335,7 +328,7 @@ fn uses_of(x: Object, es: &[Shared<CoreExpr>]) -> Use
     all
 }
 
-fn use_of_option(x: Object, e: &Option<Shared<CoreExpr>>) -> Use
+fn use_of_option(x: Candidate, e: &Option<Shared<CoreExpr>>) -> Use
     ensures { result ≡ spec.use_of_option x e.now }
 {
     match e {
@@ -344,13 +337,13 @@ fn use_of_option(x: Object, e: &Option<Shared<CoreExpr>>) -> Use
     }
 }
 
-fn use_of_test(x: Object, e: &CoreExpr) -> Use
+fn use_of_test(x: Candidate, e: &CoreExpr) -> Use
     ensures { result ≡ spec.use_of_test x e.now }
 {
     tested(use_of(x, e))
 }
 
-fn use_of_piece(x: Object, piece: &AutoInit) -> Use
+fn use_of_piece(x: Candidate, piece: &AutoInit) -> Use
     ensures { result ≡ spec.use_of_piece x piece.now }
 {
     match piece {
@@ -361,7 +354,7 @@ fn use_of_piece(x: Object, piece: &AutoInit) -> Use
     }
 }
 
-fn use_of_pieces(x: Object, pieces: &[AutoInit]) -> Use
+fn use_of_pieces(x: Candidate, pieces: &[AutoInit]) -> Use
     ensures { result ≡ spec.all (map (spec.use_of_piece x) pieces.now) }
 {
     let mut all = plain(Shape::Other);
@@ -371,7 +364,7 @@ fn use_of_pieces(x: Object, pieces: &[AutoInit]) -> Use
     all
 }
 
-fn initialized(x: Object, block: u32, place: u32, a: Use) -> Use
+fn initialized(x: Candidate, block: u32, place: u32, a: Use) -> Use
     ensures { result ≡ spec.initialized x block place a }
 {
     costing(one_if(x.block == block && x.place == place), a)
@@ -379,7 +372,7 @@ fn initialized(x: Object, block: u32, place: u32, a: Use) -> Use
 
 /// How a statement uses an object; what a loop repeats is counted eight times.
 #[cycle(statements)]
-pub fn use_of_statement(x: Object, s: &CoreStmt) -> Use
+pub fn use_of_statement(x: Candidate, s: &CoreStmt) -> Use
     ensures { result ≡ spec.use_of_statement x s.now }
 {
     match s {
@@ -419,7 +412,7 @@ pub fn use_of_statement(x: Object, s: &CoreStmt) -> Use
 }
 
 #[cycle(statements)]
-fn uses_of_statements(x: Object, items: &[Shared<CoreStmt>]) -> Use
+fn uses_of_statements(x: Candidate, items: &[Shared<CoreStmt>]) -> Use
     ensures { result ≡ spec.all (map (spec.use_of_statement x) items.now) }
 {
     let mut all = plain(Shape::Other);

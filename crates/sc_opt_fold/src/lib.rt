@@ -3,11 +3,11 @@
 
 mod constants;
 mod copies;
-mod fold;
+mod expressions;
 mod functions;
 mod nodes;
 mod statements;
 
-pub use fold::fold_expr;
+pub use expressions::fold_expr;
 pub use functions::{fold, fold_function};
 pub use statements::fold_statement;

@@ -2,7 +2,7 @@
 ghost use Rattle.std.specs.Prelude.{◌≡◌, IfOk, map, option_map};
 ghost use Rattle.sc_opt_fold.specs.Folded as spec;
 
-use crate::fold::fold_expr;
+use crate::expressions::fold_expr;
 use sc_base::{Duplicate, Items, NoMemory, Shared};
 use sc_core::{AutoInit, CoreExpr, CoreStmt, LabelAt, SwitchLabel};
 use std::alloc::Global;
