@@ -2,3 +2,4 @@
 pub mod Compiled
 pub mod Saying
 pub mod Builds
+pub mod Alike

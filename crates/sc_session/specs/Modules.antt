@@ -44,7 +44,7 @@ abbrev pub object_named : List Present → List ℕ → Choice → Option Object
 object_named [] name c = None
 object_named (p ∷ ps) name c = if bytes_eq p.text.core.name name then Some (object_by c p) else object_named ps name c
 
--- The objects of modules by the numbers of their texts. Both objects of a module have the frames of its functions.
+-- The objects of modules by the numbers of their texts. Both objects of a module have frames alike (`objects_are_alike` of `sc_build`).
 abbrev pub compiled : List Present → List Compiled
 compiled [] = []
 compiled (p ∷ ps) = record { number = p.text.number; object = p.object } ∷ compiled ps
