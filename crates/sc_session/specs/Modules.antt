@@ -4,6 +4,7 @@ use Rattle.std.specs.Prelude.{ℕ, ◌==◌, if◌then◌else◌, List, [], ◌�
 use Rattle.std.specs.Str.{bytes_eq}
 use Rattle.sc_base.specs.declared.memory.Form.TheVariants.{Source}
 use Rattle.sc_build.specs.declared.building.Built.{Built}
+use Rattle.sc_eval.specs.declared.starting.Kept.{Kept}
 use Rattle.sc_core_names.specs.declared.table.Scopes.{Scopes}
 use Rattle.sc_object.specs.declared.object.Object.{Object}
 use Rattle.sc_meaning.specs.Versions.{Text}
@@ -16,6 +17,7 @@ present_of number built = record {
   text = record { number = number; core = built.core; form = Source };
   scopes = built.scopes;
   places = built.places;
+  kept = built.kept;
   object = built.object;
 }
 
@@ -33,6 +35,11 @@ scopes_numbered (p ∷ ps) n = if p.text.number == n then Some p.scopes else sco
 abbrev pub object_named : List Present → List ℕ → Option Object
 object_named [] name = None
 object_named (p ∷ ps) name = if bytes_eq p.text.core.name name then Some p.object else object_named ps name
+
+-- what is kept of the text of the module with a name
+abbrev pub kept_named : List Present → List ℕ → Option Kept
+kept_named [] name = None
+kept_named (p ∷ ps) name = if bytes_eq p.text.core.name name then Some p.kept else kept_named ps name
 
 -- the objects of modules by the numbers of their texts
 abbrev pub compiled : List Present → List Compiled

@@ -5,6 +5,7 @@ mod asking;
 mod changing;
 mod compiling;
 mod disassembling;
+mod evaluating;
 mod going;
 mod hearing;
 mod input;

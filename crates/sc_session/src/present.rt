@@ -8,17 +8,20 @@ use sc_base::{Duplicate, Form, Items, Name, NoMemory, Shared};
 use sc_build::Built;
 use sc_core_held::Text;
 use sc_core_names::Scopes;
+use sc_eval::Kept;
 use sc_object::Object;
 use sc_session_forms::Compiled;
 use sc_xref::Place;
 use std::alloc::Global;
 
-/// A module that is present: its text, what its scopes declare, where it has the names of the file, and its object.
+/// A module that is present: its text, what its scopes declare, where it has the names of the file, what is kept of the text, and its
+/// object.
 #[derive(Drop)]
 pub struct Present {
     pub text: Text,
     pub scopes: Shared<Scopes>,
     pub places: Shared<Items<Place>>,
+    pub kept: Shared<Kept>,
     pub object: Shared<Object>,
 }
 
@@ -28,21 +31,24 @@ fn with_object(
     text: Text,
     scopes: Shared<Scopes>,
     places: Shared<Items<Place>>,
+    kept: Shared<Kept>,
     object: Object,
 ) -> Result<Present, NoMemory>
-    ensures { IfOk result (λ p. p ≡ record { text = text; scopes = scopes; places = places; object = object }) }
+    ensures { IfOk result (λ p. p ≡ record { text = text; scopes = scopes; places = places; kept = kept; object = object }) }
 {
     match Shared::new(alloc, object) {
         Ok(object) => Ok(Present {
             text,
             scopes,
             places,
+            kept,
             object,
         }),
         Err(_) => {
             drop(text);
             drop(scopes);
             drop(places);
+            drop(kept);
             Err(NoMemory)
         }
     }
@@ -54,15 +60,17 @@ fn with_places(
     text: Text,
     scopes: Shared<Scopes>,
     places: Items<Place>,
+    kept: Shared<Kept>,
     object: Object,
 ) -> Result<Present, NoMemory>
-    ensures { IfOk result (λ p. p ≡ record { text = text; scopes = scopes; places = places; object = object }) }
+    ensures { IfOk result (λ p. p ≡ record { text = text; scopes = scopes; places = places; kept = kept; object = object }) }
 {
     match Shared::new(alloc, places) {
-        Ok(places) => with_object(alloc, text, scopes, places, object),
+        Ok(places) => with_object(alloc, text, scopes, places, kept, object),
         Err(_) => {
             drop(text);
             drop(scopes);
+            drop(kept);
             drop(object);
             Err(NoMemory)
         }
@@ -75,15 +83,17 @@ fn with_scopes(
     text: Text,
     scopes: Scopes,
     places: Items<Place>,
+    kept: Shared<Kept>,
     object: Object,
 ) -> Result<Present, NoMemory>
-    ensures { IfOk result (λ p. p ≡ record { text = text; scopes = scopes; places = places; object = object }) }
+    ensures { IfOk result (λ p. p ≡ record { text = text; scopes = scopes; places = places; kept = kept; object = object }) }
 {
     match Shared::new(alloc, scopes) {
-        Ok(scopes) => with_places(alloc, text, scopes, places, object),
+        Ok(scopes) => with_places(alloc, text, scopes, places, kept, object),
         Err(_) => {
             drop(text);
             drop(places);
+            drop(kept);
             drop(object);
             Err(NoMemory)
         }
@@ -98,13 +108,15 @@ pub fn present_of(alloc: Global, number: u32, built: Built) -> Result<Present, N
         core,
         scopes,
         places,
+        kept,
         object,
     } = built;
     match Text::new(alloc, number, Form::Source, core) {
-        Ok(text) => with_scopes(alloc, text, scopes, places, object),
+        Ok(text) => with_scopes(alloc, text, scopes, places, kept, object),
         Err(_) => {
             drop(scopes);
             drop(places);
+            drop(kept);
             drop(object);
             Err(NoMemory)
         }
@@ -118,6 +130,7 @@ fn module_copied(alloc: Global, p: &Present) -> Result<Present, NoMemory>
         text: p.text.copy(alloc)?,
         scopes: p.scopes.share()?,
         places: p.places.share()?,
+        kept: p.kept.share()?,
         object: p.object.share()?,
     })
 }
@@ -182,6 +195,18 @@ pub fn object_named<'a>(modules: &'a [Present], name: &Name) -> Option<&'a Objec
     for p in modules {
         if is_named(name, p) {
             return Some(p.object.get());
+        }
+    }
+    None
+}
+
+/// What is kept of the text of the module with a name.
+pub fn kept_named<'a>(modules: &'a [Present], name: &Name) -> Option<&'a Kept>
+    ensures { MatchOption result (spec.kept_named modules.now name.now ≡ None) (λ k. spec.kept_named modules.now name.now ≡ Some k.now) }
+{
+    for p in modules {
+        if is_named(name, p) {
+            return Some(p.kept.get());
         }
     }
     None
