@@ -8,7 +8,8 @@ use Rattle.sc_core.specs.declared.module.Core.{Core}
 use Rattle.sc_core_formed.specs.Modules.{formed}
 use Rattle.sc_eval.specs.Texts.{IsUnit}
 use Rattle.sc_eval.specs.declared.starting.Kept.{Kept}
-use Rattle.sc_gen.specs.Limits.{IsObject}
+use Rattle.sc_gen.specs.Limits.{IsObject, plain_code}
+use Rattle.sc_opt.specs.Fast.{fast_code}
 use Rattle.sc_lex.specs.declared.token.Token.{Token}
 use Rattle.sc_outside.specs.Stored.{FileMap}
 use Rattle.sc_pp.specs.declared.unit.PpFault.{PpFault}
@@ -84,7 +85,8 @@ compiled_so tokens items file name core names (Ok built) unit checks named law t
       formed = ap formed p.0 ∙ law;
       scoped = p.1 ∙ ap (λ (n : Names). n.scopes) told;
       listed = p.2 ∙ ap (λ (n : Names). n.places) told;
-      compiled = subst (λ c. IsObject c built.object) (sym p.0) p.4;
+      compiled = subst (λ c. IsObject plain_code c built.object) (sym p.0) p.4;
+      fast = subst (λ c. IsObject fast_code c built.fast) (sym p.0) p.5;
     }
 compiled_so tokens items file name core names (Err (fault.Refused r)) unit checks named law told p held before now reads = in_code tokens items core r reads unit checks p
 compiled_so tokens items file name core names (Err fault.Missing) unit checks named law told p held before now reads = absurd p

@@ -10,7 +10,8 @@ use Rattle.sc_check.specs.Units.{unit_of}
 use Rattle.sc_core.specs.declared.module.Core.{Core}
 use Rattle.sc_core_formed.specs.Modules.{formed}
 use Rattle.sc_eval.specs.Texts.{IsUnit}
-use Rattle.sc_gen.specs.Limits.{IsObject}
+use Rattle.sc_gen.specs.Limits.{IsObject, plain_code}
+use Rattle.sc_opt.specs.Fast.{fast_code}
 use Rattle.sc_lex.specs.declared.token.Token.{Token}
 use Rattle.sc_outside.specs.Causes.{Rose}
 use Rattle.sc_outside.specs.Stored.{FileMap}
@@ -50,7 +51,7 @@ abbrev pub names_of : List Token → List External → Names
 names_of tokens items = record { scopes = scopes_of items; places = places_of items; kept = record { tokens = tokens } }
 
 -- The module in a file: its tokens, which are kept and are a unit, which the rules of types make this module, whose scopes and places
--- are these, and which has this object.
+-- are these, and which has these objects.
 pub record Builds (held : Option FileMap) (file name : List ℕ) (built : Built) : Type 0 where
   pub items : List External
   pub reads : Reads held file (Ok built.kept.tokens)
@@ -60,7 +61,8 @@ pub record Builds (held : Option FileMap) (file name : List ℕ) (built : Built)
   pub formed : formed built.core ≡ true
   pub scoped : built.scopes ≡ scopes_of items
   pub listed : built.places ≡ places_of items
-  pub compiled : IsObject built.core built.object
+  pub compiled : IsObject plain_code built.core built.object
+  pub fast : IsObject fast_code built.core built.fast
 
 -- Where the first refusal of a file comes from: preprocessing; the grammar, where preprocessing refuses nothing; the rules
 -- of types, where the grammar refuses nothing; the limits of objects, where they refuse nothing.

@@ -1,6 +1,8 @@
 // A module is translated (ANSI 2.1.1.2).
 ghost use Rattle.std.specs.Prelude.{◌≡◌, ◌≤◌, IfOk};
+ghost use Rattle.sc_core_names.specs.Scopes.{scopes_of as scopes_in};
 ghost use Rattle.sc_eval.specs.Texts.{IsUnit};
+ghost use Rattle.sc_xref.specs.Walks.{places_of as places_in};
 ghost use Rattle.sc_build.specs.Builds.{Answers, Checks, InFile, names_of, of_files};
 
 use crate::compiling::compiled;
@@ -30,21 +32,22 @@ pub enum BuildFault {
 }
 
 /// A module that was translated, what each of its scopes declares, where it has the names of the file, what is kept of its text,
-/// and its object.
+/// and its objects: that of the plain compiler and the faster one. All but the module can be shared.
 #[derive(Drop)]
 pub struct Built {
     pub core: Core,
-    pub scopes: Scopes,
-    pub places: Items<Place>,
+    pub scopes: Shared<Scopes>,
+    pub places: Shared<Items<Place>>,
     pub kept: Shared<Kept>,
-    pub object: Object,
+    pub object: Shared<Object>,
+    pub fast: Shared<Object>,
 }
 
 /// What is kept beside a module: what each of its scopes declares, where it has the names of the file, and its text.
 #[derive(Drop)]
 pub struct Names {
-    pub scopes: Scopes,
-    pub places: Items<Place>,
+    pub scopes: Shared<Scopes>,
+    pub places: Shared<Items<Place>>,
     pub kept: Shared<Kept>,
 }
 
@@ -78,16 +81,30 @@ fn in_file(alloc: Global, file: &str, fault: Fault) -> BuildFault
     }
 }
 
+fn shared_scopes(alloc: Global, unit: &Unit) -> Result<Shared<Scopes>, NoMemory>
+    ensures { IfOk result (λ scopes. scopes ≡ scopes_in unit.now.items) }
+{
+    let scopes = scopes_of(alloc, unit)?;
+    Ok(Shared::new(alloc, scopes)?)
+}
+
+fn shared_places(alloc: Global, unit: &Unit) -> Result<Shared<Items<Place>>, NoMemory>
+    ensures { IfOk result (λ places. places ≡ places_in unit.now.items) }
+{
+    let places = places_of(alloc, unit)?;
+    Ok(Shared::new(alloc, places)?)
+}
+
 // The names of a unit.
 fn names_of(alloc: Global, tokens: Items<Token>, unit: &Unit) -> Result<Names, NoMemory>
     ensures { IfOk result (λ names. names ≡ names_of tokens unit.now.items) }
 {
     let kept = Shared::new(alloc, Kept { tokens })?;
-    let Ok(scopes) = scopes_of(alloc, unit) else {
+    let Ok(scopes) = shared_scopes(alloc, unit) else {
         drop(kept);
         return Err(NoMemory);
     };
-    let Ok(places) = places_of(alloc, unit) else {
+    let Ok(places) = shared_places(alloc, unit) else {
         drop(scopes);
         drop(kept);
         return Err(NoMemory);
@@ -141,9 +158,9 @@ fn parsed(alloc: Global, name: &Name, file: &str, tokens: Items<Token>) -> Resul
     }
 }
 
-/// The module in a file, with this name, its scopes, its places, its tokens and its object. The refusal of a text is the first of preprocessing, with the file in
-/// which its line stands; else the grammar's, else that of the rules of types, else that of the limits of objects, in the module's own
-/// file. `File` is the name of a file that was asked for and could not be read, only where the count of faults rose.
+/// The module in a file, with this name, its scopes, its places, its tokens and its objects. The refusal of a text is the first of preprocessing, with the file in
+/// which its line stands; else the grammar's, else that of the rules of types, else that of the limits of objects, of the plain one
+/// before the faster, in the module's own file. `File` is the name of a file that was asked for and could not be read, only where the count of faults rose.
 pub fn build<F: Files>(
     alloc: Global,
     name: &Name,
