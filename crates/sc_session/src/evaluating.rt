@@ -1,13 +1,11 @@
 // An expression is evaluated: the run of a function that returns it.
 ghost use Rattle.std.specs.Prelude.{◌≡◌, ◌≤◌, ◌++◌, ◌∷◌, [], Err, IfOk, None, is_some};
 ghost use Rattle.sc_outside.specs.Causes.{Rose};
-ghost use Rattle.sc_session_forms.specs.Forms as forms;
 ghost use Rattle.sc_session.specs.Evaluating as spec;
 ghost use Rattle.sc_session.specs.Modules.{texts};
 ghost use Rattle.sc_session.specs.States.{if_absent};
 ghost use Rattle.sc_session.specs.Stopping as stopping;
 ghost use Rattle.sc_session.specs.Valued as valued;
-ghost use Rattle.sc_eval.specs.Starts.{Answers};
 ghost use Rattle.sc_world.specs.declared.post.Unsent.TheVariants as unsent;
 
 use crate::present::{kept_named, texts_of};

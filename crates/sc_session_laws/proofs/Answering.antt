@@ -26,6 +26,7 @@ use Rattle.sc_meaning.specs.Laws.{with_history}
 use Rattle.sc_isa_image.specs.declared.image.Image.{Image}
 use Rattle.sc_interp.specs.Ends.{start_of}
 use Rattle.sc_interp.specs.Steady.{alone}
+use Rattle.sc_interp.proofs.Unchanged.{present}
 use Rattle.sc_interp_laws.specs.Lean.{AreLean, LeanCallee, LeanStmt}
 use Rattle.sc_words.specs.declared.answer.Answer.{Answer}
 use Rattle.sc_words.specs.declared.answer.Answer.TheVariants as answer
@@ -225,7 +226,7 @@ unselected since (At home line enter) = refl
 unselected since (Out byte) = refl
 
 no_first : (since : ℕ) (entry : Bool) (old all new : List Event) → IsFirst (selects [] walk.Cont since) entry old all new → ⊥
-no_first since entry old all new (p, found, rest) =
+no_first since entry old all new (p, found, is, last) =
     let none : first_of (selects [] walk.Cont since) (drop (length old) all) ≡ None = none_selected (selects [] walk.Cont since) (unselected since) (drop (length old) all) in
     not_some p (sym none ∙ found)
   where
@@ -278,15 +279,11 @@ behind_lean t key [] lean p = one_lean t (fun_by key.«module» key.name t.core)
 behind_lean t key (u ∷ us) lean p =
     or_later_lean u (fun_by key.«module» key.name u.core) (callee_of us key) (callee_of (us ++ t ∷ []) key) p (behind_lean t key us lean)
 
-present_alone : (ts : List Text) (n : ℕ) → version_at (alone ts) n ≡ ts
-present_alone ts zero = refl
-present_alone ts (suc n) = refl
-
 with_lean : (t : Option Text) (ts : List Text) → AreFormed ts → LeanText t → AreLean (alone (with_evaluation t ts))
 with_lean None ts formed lean = formed_lean ts formed
 with_lean (Some t) ts formed lean = λ n key.
-    subst (λ us. LeanCallee (callee_of us key)) (sym (present_alone (ts ++ t ∷ []) n))
-    (behind_lean t key ts lean (subst (λ us. LeanCallee (callee_of us key)) (present_alone ts n) (formed_lean ts formed n key)))
+    subst (λ us. LeanCallee (callee_of us key)) (sym (present (ts ++ t ∷ []) n))
+    (behind_lean t key ts lean (subst (λ us. LeanCallee (callee_of us key)) (present ts n) (formed_lean ts formed n key)))
 
 -- ---- the modules change where a run stands
 
