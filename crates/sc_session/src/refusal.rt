@@ -204,7 +204,7 @@ pub fn replacing(state: &State, name: &Name, modules: &[Present]) -> Option<Deni
 }
 
 /// Why `eval` is refused before its line is looked at.
-pub fn evaluating(state: &State, name: &Name, modules: &[Present]) -> Option<Denied>
+pub fn valuing(state: &State, name: &Name, modules: &[Present]) -> Option<Denied>
     ensures { result ≡ spec.or_else (spec.starting state.now) (spec.if_absent name.now (texts modules.now)) }
 {
     match starting(state) {

@@ -28,8 +28,8 @@ use crate::listing::{Sight, calls_told, list_text, value_told};
 use crate::mixing::{is_mixed, mixed_calls_told, mixed_in, mixed_value_told};
 use crate::present::{Present, object_named, texts_of};
 use crate::refusal::{
-    continuing, deleting, evaluating, if_absent, if_no_probe, if_not_droppable, instructing,
-    loading, machining, replacing, setting, starting, stepping,
+    continuing, deleting, if_absent, if_no_probe, if_not_droppable, instructing, loading,
+    machining, replacing, setting, starting, stepping, valuing,
 };
 use crate::state::{State, is_over, put_state};
 use crate::stops::{Stop, delete_stop, put_stop};
@@ -269,7 +269,7 @@ impl Session {
     {
         match go {
             Go::Run(_) => starting(&self.state),
-            Go::Eval(name, _) => evaluating(&self.state, name, self.modules.as_slice()),
+            Go::Eval(name, _) => valuing(&self.state, name, self.modules.as_slice()),
             Go::Walk(walk) => self.walk_denied(*walk),
             Go::One => instructing(&self.state),
         }

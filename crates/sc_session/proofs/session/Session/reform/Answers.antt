@@ -11,8 +11,8 @@ pub returns-in-Ok-finish : goal.returns-in-Ok-finish
 returns-in-Ok-finish c =
     forms_swapped c.args.self.now c.args.name c.args.form c.args.choice c.swapped.result c.finish.new.self c.swapped.ensures
     (modules_changed c.args.self.now c.keep.new.self c.finish.new.self c.stays-stayed.result (with_form c.args.name c.args.form c.args.choice) c.put_form.new.modules.items c.in-Ok.ensures.1
-      (c.stays-stayed.ensures ∙ ap (λ p. stays p.state) c.self.view_is) (c.put_form.ensures ∙ ap (λ (p : Plain). with_form c.args.name c.args.form c.args.choice p.modules) c.self-in-Ok.view_is)
-      (subst (λ (p : Plain). Settles c.stays-stayed.result (record p { modules = c.put_form.new.modules.items }) c.finish.new.self) c.self-in-Ok.view_is c.in-Ok-finish.ensures))
+    (c.stays-stayed.ensures ∙ ap (λ p. stays p.state) c.self.view_is) (c.put_form.ensures ∙ ap (λ (p : Plain). with_form c.args.name c.args.form c.args.choice p.modules) c.self-in-Ok.view_is)
+    (subst (λ (p : Plain). Settles c.stays-stayed.result (record p { modules = c.put_form.new.modules.items }) c.finish.new.self) c.self-in-Ok.view_is c.in-Ok-finish.ensures))
 
 pub returns-in-Err-finish : goal.returns-in-Err-finish
 returns-in-Err-finish c =
