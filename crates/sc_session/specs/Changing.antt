@@ -46,7 +46,7 @@ with_modules modules session = record session {
 
 -- the session without a run
 abbrev pub at_rest : Plain → Plain
-at_rest session = record session { past = []; come = 0; state = state.Idle; evaluating = None }
+at_rest session = record session { past = []; come = 0; state = state.Idle }
 
 -- before such a change
 abbrev pub kept : Bool → Plain → Plain

@@ -243,6 +243,7 @@ impl Session {
     {
         if is_over(&self.state) {
             self.rest();
+            drop(self.evaluating.take());
         }
     }
 
@@ -253,7 +254,6 @@ impl Session {
         self.past.clear();
         self.come = 0;
         put_state(&mut self.state, State::Idle);
-        drop(self.evaluating.take());
     }
 
     // No change waits for the run any more.

@@ -788,7 +788,7 @@ carried old run k (command.Whatis name) front said new free a (none, p) = same_s
 carried old run k command.List front said new free a (none, p) = same_session old run k new p.1
 carried old run k (command.Report n) front said new free a (none, p) = same_session old run k new p.1
 carried old run k (command.Drop n) front said new free a (none, p) = (run, same_run run, drops old run k n said new.session p.0)
-carried old run k command.Reset front said new free a (none, p) = (None, no_run run, moved (at_rest old.session) new.session None p.1 (k.0, tt, refl))
+carried old run k command.Reset front said new free a (none, p) = (None, no_run run, moved (at_rest old.session) new.session None p.1 (k.0, k.1, refl))
 carried old run k command.Quit front said new free a (none, p) = (run, same_run run, moved (record old.session { over = true }) new.session run p.1 k)
 carried old run k command.Unknown front said new free a (none, p) = absurd p
 carried old run k command.BadArguments front said new free a (none, p) = absurd p
