@@ -55,20 +55,28 @@ makes_text v session modules kept name line r is same found from =
 
 -- ---- its run
 
-pub runs_source : (sink gained : Option (List ℕ)) (session : Plain) (t : Text) (name : List ℕ) (inside : Plain) (key : Key) (r : Result Answer Unsent) (new : Plain)
-    → inside ≡ with_text t session → key ≡ eval_key name → are_sources (texts session.modules) ≡ true → BeginsOut sink gained inside key [] r new → RunsText sink gained session t name r new
-runs_source sink gained session t name inside key r new put is source p =
-    inr (by_source r (subst (λ k. BeginsOut sink gained (with_text t session) k [] r new) is (subst (λ (s : Plain). BeginsOut sink gained s key [] r new) put p)))
+pub runs_source : (sink gained : Option (List ℕ)) (session : Plain) (t : Text) (name : List ℕ) (inside : Plain) (key : Key) (input : List ℕ) (r : Result Answer Unsent) (new : Plain)
+    → inside ≡ with_text t session → key ≡ eval_key name → input ≡ [] → are_sources (texts session.modules) ≡ true → BeginsOut sink gained inside key input r new → RunsText sink gained session t name r new
+runs_source sink gained session t name inside key input r new put is none source p =
+    inr (by_source r (subst (λ k. BeginsOut sink gained (with_text t session) k [] r new) is
+    (subst (λ (s : Plain). BeginsOut sink gained s key [] r new) put (subst (λ (bytes : List ℕ). BeginsOut sink gained inside key bytes r new) none p))))
   where
     by_source : (r : Result Answer Unsent) → BeginsOut sink gained (with_text t session) (eval_key name) [] r new → RunsOutBy (are_sources (texts session.modules)) sink gained (with_text t session) name r new
     by_source (Ok said) q = subst (λ b. RunsOutBy b sink gained (with_text t session) name (Ok said) new) (sym source) q
     by_source (Err e) q = q
 
-pub runs_mixed : (sink : Option (List ℕ)) (session : Plain) (t : Text) (name : List ℕ) (inside : Plain) (key : Key) (said : Answer) (new : Plain)
-    → inside ≡ with_text t session → key ≡ eval_key name → are_sources (texts session.modules) ≡ false → MixedBegins inside key [] said new → RunsText sink sink session t name (Ok said) new
-runs_mixed sink session t name inside key said new put is mixed p =
-    inr (subst (λ b. RunsOutBy b sink sink (with_text t session) name (Ok said) new) (sym mixed)
-    ([], appends_none sink, (refl, subst (λ k. MixedBegins (with_text t session) k [] said new) is (subst (λ (s : Plain). MixedBegins s key [] said new) put p))))
+pub runs_mixed : (sink : Option (List ℕ)) (session : Plain) (t : Text) (name : List ℕ) (inside : Plain) (key : Key) (input : List ℕ) (said : Answer) (new : Plain)
+    → inside ≡ with_text t session → key ≡ eval_key name → input ≡ [] → are_sources (texts session.modules) ≡ false → MixedBegins inside key input said new → RunsText sink sink session t name (Ok said) new
+runs_mixed sink session t name inside key input said new put is none mixed p =
+    inr (subst (λ b. RunsOutBy b sink sink (with_text t session) name (Ok said) new) (sym mixed) (
+      [],
+      appends_none sink,
+      (
+        refl,
+        subst (λ k. MixedBegins (with_text t session) k [] said new) is
+            (subst (λ (s : Plain). MixedBegins s key [] said new) put (subst (λ (bytes : List ℕ). MixedBegins inside key bytes said new) none p)),
+      ),
+    ))
 
 pub runs_not : (sink : Option (List ℕ)) (session : Plain) (t : Text) (name : List ℕ) → RunsText sink sink session t name (Ok answer.NoMemory) session
 runs_not sink session t name = inl (refl, (refl, refl))

@@ -203,10 +203,11 @@ impl Session {
             return Ok(Answer::NoMemory);
         };
         self.put_evaluation(text);
+        let input = Items::new(alloc);
         if are_sources(texts.as_slice()) {
-            self.start(alloc, &key, Items::new(alloc), out)
+            self.start(alloc, &key, input, out)
         } else {
-            Ok(self.start_mixed(alloc, &key, Items::new(alloc)))
+            Ok(self.start_mixed(alloc, &key, input))
         }
     }
 

@@ -248,8 +248,7 @@ never_stops (halt.Paused turns) since old all new s p (x, b) (r, is) = paused_or
 
 told_never : (turns : ℕ) (valued : Bool) (c : Course) (front text : List ℕ) (after : Option Course) (s : State) (told : IsTold [] walk.Cont turns valued c front text after) → IsBehind told.h s → IsAtStop s → ⊥
 told_never turns valued c front text after s told b stop =
-    let n : ℕ = suc told.new.steps in
-    never_stops told.h c.world.enters c.passed (events_upto n told.new.start) told.new.passed s (told.passes.halts n (omega arith)) b stop
+    never_stops told.h c.world.enters c.passed (events_upto (suc told.new.steps) told.new.start) told.new.passed s (told.passes.halts (suc told.new.steps) (omega arith)) b stop
 
 -- so it is, whether or not it is an evaluation
 lands : (t : Option Text) (past : List (List Present)) (come : ℕ) (modules : List Present) (ps : List StopAt) (how : Walk) (turns : ℕ) (c : Course) (front text : List ℕ) (after : Option Course) (s : State)
