@@ -11,10 +11,10 @@ returns-in_default-going_stops c = inl refl
 
 pub returns-in-Some : goal.returns-in-Some
 returns-in-Some c =
-    single_carries c.args.self.now c.take_mixed.new.self c.as_slice.result.now c.as_slice-2.result.now c.in-Some.run' c.go_one.result c.go_one.new.self
+    single_carries c.args.self.now c.take_mixed.new.self c.as_slice.result.now c.as_slice-in-Some.result.now c.in-Some.run' c.go_one.result c.go_one.new.self
     c.in-Some.ensures
     (c.as_slice.ensures ∙ c.in-Ok.ensures)
-    (c.as_slice-2.ensures ∙ c.in-Ok-going_stops.ensures)
+    (c.as_slice-in-Some.ensures ∙ c.in-Ok-going_stops.ensures)
     c.go_one.ensures
 
 pub go_one-requires : goal.go_one-requires
