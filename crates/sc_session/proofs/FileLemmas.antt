@@ -97,6 +97,7 @@ does_keep old new command.Quit said named p = keeps_same old.held new.held p.2.0
 does_keep old new command.Unknown said named p = absurd p
 does_keep old new command.BadArguments said named p = absurd p
 does_keep old new (command.Run file) said named p = absurd p
+does_keep old new (command.Eval name line) said named p = absurd p
 does_keep old new command.Step said named p = absurd p
 does_keep old new command.Next said named p = absurd p
 does_keep old new command.Cont said named p = absurd p

@@ -11,6 +11,7 @@ pub mod MixingLemmas
 pub mod SingleLemmas
 pub mod FormLemmas
 pub mod AskingLemmas
+pub mod EvaluatingLemmas
 pub mod PlacingLemmas
 pub mod RelinkingLemmas
 pub mod DisassemblingLemmas

@@ -22,6 +22,7 @@ walk_command walk.Cont = command.Cont
 -- the commands that let the program go on
 abbrev pub go_command : Go → Command
 go_command (go.Run file) = command.Run file
+go_command (go.Eval name line) = command.Eval name line
 go_command (go.Walk how) = walk_command how
 go_command go.One = command.StepOne
 

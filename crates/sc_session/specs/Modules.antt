@@ -4,6 +4,7 @@ use Rattle.std.specs.Prelude.{ℕ, ◌==◌, if◌then◌else◌, List, [], ◌�
 use Rattle.std.specs.Str.{bytes_eq}
 use Rattle.sc_base.specs.declared.memory.Form.TheVariants.{Source}
 use Rattle.sc_build.specs.declared.building.Built.{Built}
+use Rattle.sc_eval.specs.declared.starting.Kept.{Kept}
 use Rattle.sc_core_names.specs.declared.table.Scopes.{Scopes}
 use Rattle.sc_object.specs.declared.object.Object.{Object}
 use Rattle.sc_meaning.specs.Versions.{Text}
@@ -43,6 +44,11 @@ object_by choice.Fast p = p.fast
 abbrev pub object_named : List Present → List ℕ → Choice → Option Object
 object_named [] name c = None
 object_named (p ∷ ps) name c = if bytes_eq p.text.core.name name then Some (object_by c p) else object_named ps name c
+
+-- what is kept of the text of the module with a name
+abbrev pub kept_named : List Present → List ℕ → Option Kept
+kept_named [] name = None
+kept_named (p ∷ ps) name = if bytes_eq p.text.core.name name then Some p.kept else kept_named ps name
 
 -- The objects of modules by the numbers of their texts. Both objects of a module have frames alike (`objects_are_alike` of `sc_build`).
 abbrev pub compiled : List Present → List Compiled

@@ -128,6 +128,7 @@ refusal_of session (command.Edit name file) = or_else (changing session.state) (
 refusal_of session (command.Compile name) = if_absent name (texts session.modules)
 refusal_of session (command.CompileFast name) = if_absent name (texts session.modules)
 refusal_of session (command.Run file) = starting session.state
+refusal_of session (command.Eval name line) = or_else (starting session.state) (if_absent name (texts session.modules))
 refusal_of session (command.Stop p) = or_else (marking session.state) (if_nowhere p (texts session.modules))
 refusal_of session (command.Delete k) = or_else (marking session.state) (if_unset k session.stops)
 refusal_of session command.Step = stepping session.state

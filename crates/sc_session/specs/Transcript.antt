@@ -8,6 +8,7 @@ use Rattle.sc_build.specs.Builds.{Builds, Refuses, IsMissing, IsTooLong, Asks}
 use Rattle.sc_build.specs.declared.building.Built.{Built}
 use Rattle.sc_object.specs.Spelling.{spelled}
 use Rattle.sc_object.specs.declared.object.Object.{Object}
+use Rattle.sc_meaning.specs.Behaviour.{main_key}
 use Rattle.sc_meaning.specs.Versions.{Text}
 use Rattle.sc_outside.specs.Causes.{Rose}
 use Rattle.sc_session_forms.specs.Forms.{are_sources}
@@ -45,6 +46,7 @@ use Rattle.sc_session.specs.Probing.{Drops, Reports, ShowsMachine}
 use Rattle.sc_session.specs.Showing.{Lists}
 use Rattle.sc_session.specs.Single.{CarriesOne}
 use Rattle.sc_session.specs.Compiling.{Compiles, object_file}
+use Rattle.sc_session.specs.Evaluating.{EvalFirst, Evaluates}
 use Rattle.sc_session.specs.Going.{in_state, stays_in_line, has_main, IsInput, InputDenied, IsCutOff, IsGivenUp, Gains, WalkFirst, Begins, BeginFirst}
 use Rattle.sc_session.specs.Linking.{HasRoom, LacksRoom, with_form}
 use Rattle.sc_session.specs.Mixing.{is_mixed, Becomes, LacksImage, MixedBegins, Settles, ShowsCallsBy, ShowsValueBy, Unsettled, WalksBy, returned}
@@ -75,6 +77,7 @@ empty limits probes = record {
   stops = [];
   last = 0;
   state = state.Idle;
+  evaluating = None;
   in_line = false;
   probes = probes;
   over = false;
@@ -274,12 +277,12 @@ RunDenied old file faults d = (has_main (texts old.session.modules) ≡ true) ×
 
 -- the first bytes that the program writes as it is run so
 abbrev pub RunFirst : Moment → Option (List ℕ) → List ℕ → Type 0
-RunFirst old file front = (has_main (texts old.session.modules) ≡ true) × ((bytes : List ℕ) × IsInput old.held file bytes × BeginFirst old.session bytes front)
+RunFirst old file front = (has_main (texts old.session.modules) ≡ true) × ((bytes : List ℕ) × IsInput old.held file bytes × BeginFirst old.session main_key bytes front)
 
 -- the answers to `run` behind these bytes, which went out
 abbrev pub Runs : Moment → Option (List ℕ) → List ℕ → Answer → Moment → Type 0
 Runs old file front (answer.Ran text) new = (new.held ≡ old.held) × (has_main (texts old.session.modules) ≡ true)
-    × ((bytes : List ℕ) × IsInput old.held file bytes × Begins old.session bytes front text new.session)
+    × ((bytes : List ℕ) × IsInput old.held file bytes × Begins old.session main_key bytes front text new.session)
 Runs old file front (answer.Refused d) new = (front ≡ []) × Leaves old new old.session × RunDenied old file new.faults d
 Runs old file front answer.NoMemory new = (new.held ≡ old.held) × IsCutOff (RunFirst old file) old.session front new.session
 Runs old file front _ new = ⊥
@@ -292,7 +295,7 @@ RunsOut sink gained old file (Err e) new = Gains sink gained (λ front. RunFirst
 -- the answers to `run` of a program that has modules in object form
 abbrev pub MixedRuns : Moment → Option (List ℕ) → Answer → Moment → Type 0
 MixedRuns old file (answer.Ran text) new = (new.held ≡ old.held) × (has_main (texts old.session.modules) ≡ true)
-    × ((bytes : List ℕ) × IsInput old.held file bytes × MixedBegins old.session bytes (answer.Ran text) new.session)
+    × ((bytes : List ℕ) × IsInput old.held file bytes × MixedBegins old.session main_key bytes (answer.Ran text) new.session)
 MixedRuns old file (answer.Refused (denied.Space a)) new = Leaves old new old.session × (has_main (texts old.session.modules) ≡ true)
     × ((bytes : List ℕ) × IsInput old.held file bytes) × LacksRoom old.session.modules old.session.numbers a
 MixedRuns old file (answer.Refused d) new = Leaves old new old.session × RunDenied old file new.faults d
@@ -343,13 +346,14 @@ Does old _ said new = ⊥
 -- the session after it.
 abbrev pub Carried : Moment → Command → List ℕ → Answer → Moment → Type 0
 Carried old (command.Run file) front said new = RunsBy (are_sources (texts old.session.modules)) old file front said new
+Carried old (command.Eval name line) front said new = Evaluates old.session name line front said new.session × SameFiles old new
 Carried old command.Step front said new = WalksBy (is_mixed old.session.state) old.session walk.Step front said new.session × SameFiles old new
 Carried old command.Next front said new = WalksBy (is_mixed old.session.state) old.session walk.Next front said new.session × SameFiles old new
 Carried old command.Cont front said new = WalksBy (is_mixed old.session.state) old.session walk.Cont front said new.session × SameFiles old new
 Carried old command.StepOne front said new = (front ≡ []) × CarriesOne old.session said new.session × SameFiles old new
 Carried old c front said new = (front ≡ []) × Does old c said new
 
--- a run that ended is forgotten as another is asked for
+-- a run that ended is forgotten as another is asked for, and the text of an evaluation
 abbrev pub unended : State → State
 unended state.Ended = state.Idle
 unended s = s
@@ -361,15 +365,20 @@ past_going over past = if over then [] else past
 abbrev pub come_going : Bool → ℕ → ℕ
 come_going over come = if over then 0 else come
 
+abbrev pub evaluating_going : Bool → Option Text → Option Text
+evaluating_going over t = if over then None else t
+
 abbrev pub forgotten : Plain → Plain
 forgotten session = record session {
   past = past_going (is_over session.state) session.past;
   come = come_going (is_over session.state) session.come;
   state = unended session.state;
+  evaluating = evaluating_going (is_over session.state) session.evaluating;
 }
 
 abbrev pub asked : Command → Plain → Plain
 asked (command.Run file) session = forgotten session
+asked (command.Eval name line) session = forgotten session
 asked _ session = session
 
 -- a refused command leaves the session, and the files are not looked at
@@ -385,6 +394,7 @@ AnswersTo old c front said new =
 -- a command that lets the program go on
 abbrev pub is_go : Command → Bool
 is_go (command.Run file) = true
+is_go (command.Eval name line) = true
 is_go command.Step = true
 is_go command.Next = true
 is_go command.Cont = true
@@ -394,6 +404,7 @@ is_go _ = false
 -- the first bytes that the program writes as a command lets it go on
 abbrev pub WritesFirst : Moment → Command → List ℕ → Type 0
 WritesFirst old (command.Run file) front = RunFirst old file front
+WritesFirst old (command.Eval name line) front = EvalFirst old.session name line front
 WritesFirst old command.Step front = WalkFirst old.session walk.Step front
 WritesFirst old command.Next front = WalkFirst old.session walk.Next front
 WritesFirst old command.Cont front = WalkFirst old.session walk.Cont front
@@ -406,7 +417,8 @@ GoesOut sink gained old c (Err e) new = Gains sink gained (λ front. WritesFirst
 
 -- a refused command lets no program go on
 abbrev pub GoFirst : Moment → Command → List ℕ → Type 0
-GoFirst old c front = (refusal_of (asked c old.session) c ≡ None) × WritesFirst old c front
+GoFirst old c front =
+    (refusal_of (asked c old.session) c ≡ None) × WritesFirst (moment (asked c old.session) old.held old.faults) c front
 
 -- The answer behind what the sink gained meanwhile. A command that lets no program go on sends nothing.
 abbrev pub Speaks : Option (List ℕ) → Option (List ℕ) → Moment → Command → Answer → Moment → Type 0

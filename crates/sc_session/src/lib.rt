@@ -6,6 +6,7 @@ mod changing;
 mod choice;
 mod compiling;
 mod disassembling;
+mod evaluating;
 mod going;
 mod hearing;
 mod input;

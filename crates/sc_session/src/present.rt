@@ -150,6 +150,18 @@ pub fn object_named<'a>(modules: &'a [Present], name: &Name, choice: Choice) -> 
     None
 }
 
+/// What is kept of the text of the module with a name.
+pub fn kept_named<'a>(modules: &'a [Present], name: &Name) -> Option<&'a Kept>
+    ensures { MatchOption result (spec.kept_named modules.now name.now ≡ None) (λ k. spec.kept_named modules.now name.now ≡ Some k.now) }
+{
+    for p in modules {
+        if is_named(name, p) {
+            return Some(p.kept.get());
+        }
+    }
+    None
+}
+
 /// The plain objects of modules by the numbers of their texts. They are shared, and not copied.
 pub fn compiled_of(alloc: Global, modules: &[Present]) -> Result<Items<Compiled>, NoMemory>
     ensures { IfOk result (λ compiled. compiled ≡ spec.compiled modules.now) }

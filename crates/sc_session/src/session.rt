@@ -29,7 +29,7 @@ use crate::mixing::{is_mixed, mixed_calls_told, mixed_in, mixed_value_told};
 use crate::present::{Present, object_named, texts_of};
 use crate::refusal::{
     continuing, deleting, if_absent, if_no_probe, if_not_droppable, instructing, loading,
-    machining, replacing, setting, starting, stepping,
+    machining, replacing, setting, starting, stepping, valuing,
 };
 use crate::state::{State, is_over, put_state};
 use crate::stops::{Stop, delete_stop, put_stop};
@@ -47,7 +47,7 @@ use std::mem;
 
 /// The modules that are present, in the order in which they were loaded; what they were before each change of a run that goes on, and how
 /// many of these changes it has gone through; how many texts were loaded; the functions that have numbers; the stops; how a run
-/// stands; and how many probes there are. Beside that, whether some probe listens to a run that begins, what
+/// stands; the text of an evaluation; and how many probes there are. Beside that, whether some probe listens to a run that begins, what
 /// the last go recorded with the registers behind it, and the text of a probe that a report is asked of.
 #[derive(Drop)]
 pub struct Session {
@@ -60,6 +60,7 @@ pub struct Session {
     pub(crate) stops: Vec<Stop>,
     pub(crate) last: u32,
     pub(crate) state: State,
+    pub(crate) evaluating: Option<Text>,
     pub(crate) in_line: bool,
     pub(crate) probes: usize,
     pub(crate) over: bool,
@@ -81,7 +82,7 @@ impl Model for Session {
 
     ghost coded = { Prim.hlevel (codes, images.the_row.coded, types.the_row.coded, signatures.the_row.coded, expressions.the_row.coded, statements.the_row.coded) };
 
-    ghost view = { λ s. record { limits = s.limits; modules = s.modules.items; past = s.past.items; come = s.come; loaded = s.loaded; numbers = s.numbers; stops = s.stops.items; last = s.last; state = s.state; in_line = s.in_line; probes = s.probes; over = s.over } };
+    ghost view = { λ s. record { limits = s.limits; modules = s.modules.items; past = s.past.items; come = s.come; loaded = s.loaded; numbers = s.numbers; stops = s.stops.items; last = s.last; state = s.state; evaluating = s.evaluating; in_line = s.in_line; probes = s.probes; over = s.over } };
 }
 
 impl Session {
@@ -103,6 +104,7 @@ impl Session {
             stops: Vec::new(alloc),
             last: 0,
             state: State::Idle,
+            evaluating: None,
             in_line: false,
             probes,
             over: false,
@@ -169,7 +171,7 @@ impl Session {
         drop(self);
     }
 
-    /// Carries out a command. A refused command leaves the session as it was, but that `run` forgets a run that ended. What the program
+    /// Carries out a command. A refused command leaves the session as it was, but that `run` and `eval` forget a run that ended. What the program
     /// writes goes out while it goes on, whenever much of it waits: the answer is what is left to be written behind it.
     ///
     /// # Errors
@@ -230,6 +232,7 @@ impl Session {
     {
         match go {
             Go::Run(_) => self.forget(),
+            Go::Eval(..) => self.forget(),
             Go::Walk(_) => {}
             Go::One => {}
         }
@@ -240,6 +243,7 @@ impl Session {
     {
         if is_over(&self.state) {
             self.rest();
+            drop(self.evaluating.take());
         }
     }
 
@@ -265,6 +269,7 @@ impl Session {
     {
         match go {
             Go::Run(_) => starting(&self.state),
+            Go::Eval(name, _) => valuing(&self.state, name, self.modules.as_slice()),
             Go::Walk(walk) => self.walk_denied(*walk),
             Go::One => instructing(&self.state),
         }
@@ -298,6 +303,7 @@ impl Session {
     {
         match go {
             Go::Run(file) => self.run(alloc, file, out, files),
+            Go::Eval(name, line) => self.eval(alloc, name, line, out),
             Go::Walk(walk) => self.walk(alloc, walk, out),
             Go::One => Ok(self.step_one(alloc)),
         }
@@ -591,7 +597,12 @@ pub fn is_go(command: &Command) -> bool
 {
     matches!(
         command,
-        Command::Run(_) | Command::Step | Command::Next | Command::Cont | Command::StepOne
+        Command::Run(_)
+            | Command::Eval(..)
+            | Command::Step
+            | Command::Next
+            | Command::Cont
+            | Command::StepOne
     )
 }
 

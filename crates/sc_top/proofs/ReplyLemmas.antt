@@ -8,7 +8,7 @@ use Rattle.sc_outside.specs.Stored.{FileMap}
 use Rattle.sc_outside.specs.Streams.{Writes, AppendsSome}
 use Rattle.sc_outside.specs.declared.sink.Sent.{Sent}
 use Rattle.sc_outside.specs.declared.sink.Sent.TheVariants as sent
-use Rattle.sc_session.specs.Transcript.{Moment, Speaks, BreaksOff, GoFirst, WritesFirst, is_go}
+use Rattle.sc_session.specs.Transcript.{Moment, moment, asked, Speaks, BreaksOff, GoFirst, WritesFirst, is_go}
 use Rattle.sc_words.specs.Commands.{command_of}
 use Rattle.sc_words.specs.declared.answer.Answer.{Answer}
 use Rattle.sc_words.specs.declared.answer.Answer.TheVariants as answer
@@ -44,6 +44,7 @@ unread before line known waited later is = ([], inr (refl, is), later, still kno
 -- a command that lets no program go on is not broken off
 no_go : (old : Moment) (c : Command) (front : List ℕ) → is_go c ≡ false → WritesFirst old c front → ⊥
 no_go old (command.Run file) front p q = absurd (cc)
+no_go old (command.Eval name line) front p q = absurd (cc)
 no_go old command.Step front p q = absurd (cc)
 no_go old command.Next front p q = absurd (cc)
 no_go old command.Cont front p q = absurd (cc)
@@ -77,7 +78,8 @@ breaks_through before line c held old mid new waited waiting is none p (same, (f
     (same, front, inr (subst (λ c. GoFirst before c front) is first), subst (λ r. IsPartlyOnItsWay old new r (waited ++ front)) (sym none) (partly old new [] (waited ++ front) (through old mid new waited front p gains)))
 
 pub breaks_still : (before : Moment) (line : List ℕ) (c : Command) (held : Option FileMap) (old new : Option (List ℕ)) (waited waiting : List ℕ) → is_go c ≡ false → BreaksOff old new before c held → Unreplied before line held old new waited waiting
-breaks_still before line c held old new waited waiting still_there (same, (front, gains, first)) = absurd (no_go before c front still_there first.1)
+breaks_still before line c held old new waited waiting still_there (same, (front, gains, first)) =
+    absurd (no_go (moment (asked c before.session) before.held before.faults) c front still_there first.1)
 
 pub unflushed : (before : Moment) (line : List ℕ) (result : Sent) (old new : Option (List ℕ)) (waited waiting : List ℕ) → waiting ≡ [] → Writes old new result waited → Unreplied before line before.held old new waited waiting
 unflushed before line result old new waited waiting none wrote =
