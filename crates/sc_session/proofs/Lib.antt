@@ -12,5 +12,6 @@ pub mod SingleLemmas
 pub mod FormLemmas
 pub mod AskingLemmas
 pub mod PlacingLemmas
+pub mod RoomLemmas
 pub mod RelinkingLemmas
 pub mod DisassemblingLemmas

@@ -120,7 +120,7 @@ pub record AnswersBeside {A : Type 0} (see : Seen A) (old : Moment) (a : Audienc
 
 -- the answers to these lines, one after the other
 abbrev pub RunBeside : {A : Type 0} → Seen A → Moment → Audience A → List (List ℕ) → List ℕ → Moment → Audience A → Type 0
-RunBeside see old a [] text new b = (text ≡ []) × (new ≡ old) × (b ≡ a)
+RunBeside {A} see old a [] text new b = (text ≡ []) × (new ≡ old) × (b ≡ a)
 RunBeside {A} see old a (line ∷ lines) text new b = (mid : Moment) × (m : Audience A) × (first : List ℕ) × (rest : List ℕ)
     × (old.session.over ≡ false) × AnswersBeside see old a line first mid m × RunBeside see mid m lines rest new b × (text ≡ first ++ rest)
 
