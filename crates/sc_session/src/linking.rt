@@ -124,8 +124,12 @@ pub(crate) fn image_fault(fault: LinkFault) -> ImageFault
 pub fn linked(alloc: Global, modules: &[Present], numbers: &Numbers) -> Result<Image, NoMemory>
     ensures { IfOk result (spec.IsImage modules.now numbers.now) }
 {
-    let all = linkings(alloc, modules)?;
-    let functions = functions_by(alloc, numbers)?;
+    let Ok(all) = linkings(alloc, modules) else {
+        return Err(NoMemory);
+    };
+    let Ok(functions) = functions_by(alloc, numbers) else {
+        return Err(NoMemory);
+    };
     match image_of(alloc, all.as_slice(), functions.as_slice()) {
         Ok(image) => Ok(image),
         Err(_) => Err(NoMemory),
