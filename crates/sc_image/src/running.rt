@@ -7,7 +7,7 @@ ghost use Rattle.sc_image.specs.Placing.{placed_modules};
 ghost use Rattle.sc_image.specs.Refused.{IsShort};
 ghost use Rattle.sc_image.specs.Running as spec;
 
-use crate::adding::entry_behind;
+use crate::adding::{behind_statics, behind_texts, entry_behind};
 use crate::checking::may_be_linked;
 use crate::keeping::kept_places;
 use crate::module::Linking;
@@ -15,7 +15,7 @@ use crate::placing::place_modules;
 use crate::room::full_area;
 use sc_base::{Duplicate, Items, Key, Name, NoMemory};
 use sc_isa_image::Image;
-use sc_link::{LinkFault, Placed, link};
+use sc_link::{Area, LinkFault, MOST_FUNCTIONS, Placed, STATICS_END, TEXTS_END, link};
 use std::alloc::Global;
 use std::marker::Model;
 
@@ -52,6 +52,24 @@ impl Placements {
             Ok(entries) => Ok(Placements { entries }),
             Err(_) => Err(LinkFault::NoMemory),
         }
+    }
+
+    /// The first area, in the order of their addresses, that has no room for what is placed in it and for these functions: none
+    /// where all of it is within its areas.
+    pub fn full_area(&self, functions: &[Key]) -> Option<Area>
+        ensures { MatchOption result (spec.AreWithin self.now functions.now) (spec.IsOver self.now functions.now) }
+    {
+        let placed = self.entries.as_slice();
+        if functions.len() > MOST_FUNCTIONS {
+            return Some(Area::Stubs);
+        }
+        if behind_texts(placed) > u64::from(TEXTS_END) {
+            return Some(Area::Text);
+        }
+        if behind_statics(placed) > u64::from(STATICS_END) {
+            return Some(Area::Static);
+        }
+        None
     }
 
     /// The entries.

@@ -13,5 +13,6 @@ pub mod FormLemmas
 pub mod AskingLemmas
 pub mod EvaluatingLemmas
 pub mod PlacingLemmas
+pub mod RoomLemmas
 pub mod RelinkingLemmas
 pub mod DisassemblingLemmas

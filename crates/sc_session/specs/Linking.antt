@@ -40,7 +40,7 @@ HasRoom modules numbers = Fits (map linking_of modules) (functions_by numbers)
 abbrev pub IsImage : List Present → List Key → Image → Type 0
 IsImage modules numbers i = IsLinked (placed_modules (map linking_of modules)) (functions_by numbers) i
 
--- an area has none
+-- the first area, in the order of their addresses, that has none
 abbrev pub LacksRoom : List Present → List Key → Area → Type 0
 LacksRoom modules numbers area.Modules = ⊥
 LacksRoom modules numbers area.Stubs = IsFull (map linking_of modules) (functions_by numbers) place.Stubs
@@ -56,10 +56,6 @@ area_of place.Static = area.Static
 abbrev pub image_fault : LinkFault → ImageFault
 image_fault (fault.Space a) = short.Space (area_of a)
 image_fault fault.NoMemory = short.NoMemory
-
-abbrev pub FaultSaid : List Present → List Key → ImageFault → Type 0
-FaultSaid modules numbers (short.Space a) = LacksRoom modules numbers a
-FaultSaid modules numbers short.NoMemory = Unit {0}
 
 -- what the code finds of it; nothing is said where no memory was left
 abbrev pub RoomSaid : List Present → List Key → Option Area → Type 0

@@ -33,7 +33,7 @@ use Rattle.sc_session.specs.declared.state.State.{State}
 use Rattle.sc_session.specs.declared.state.State.TheVariants as state
 use Rattle.sc_session.specs.Changing.{at_rest, caught_up, compiled_held, scopes_held, texts_held, versions_left}
 use Rattle.sc_session.specs.Going.{IsGivenUp, Walks, in_state}
-use Rattle.sc_session.specs.Linking.{IsImage, LacksRoom}
+use Rattle.sc_session.specs.Linking.{IsImage}
 use Rattle.sc_session.specs.Modules.{texts}
 use Rattle.sc_session.specs.Placing.{IsImageOver, LacksRoomOver}
 use Rattle.sc_session.specs.Plain.{Plain}
@@ -99,7 +99,7 @@ Settles false session new = new ≡ at_rest session
 abbrev pub NeedsImage : Bool → State → Type 0
 NeedsImage b s = needs_image b s ≡ true
 
--- why it does not: this area has no room for what its modules place; or no memory was left
+-- why it does not: this area is the first that has no room for what its modules place; or no memory was left
 abbrev pub LacksImage : Plain → Area → Type 0
 LacksImage session a = NeedsImage (are_sources (texts session.modules)) session.state × LacksRoomOver session.past session.modules session.numbers a
 
@@ -171,10 +171,9 @@ pub record MixedStarts (session : Plain) (key : Key) (bytes : List ℕ) (m : Sta
   pub starts : Starts (going_texts session) image key session.limits.stack session.limits.heap bytes m
   pub empty : output m.world.trail ≡ []
 
--- it goes from its start on; or the image of the modules has no room
+-- It goes from its start on. The modules were found to have room as they were loaded, or as they got their forms.
 abbrev pub MixedBegins : Plain → Key → List ℕ → Answer → Plain → Type 0
 MixedBegins session key bytes (answer.Ran text) new = (m : Standing) × MixedStarts session key bytes m × MixedWent session walk.Cont m text new
-MixedBegins session key bytes (answer.Refused (denied.Space a)) new = (new ≡ session) × LacksRoom session.modules session.numbers a
 MixedBegins session key bytes answer.NoMemory new = IsGivenUp session new
 MixedBegins session key bytes _ new = ⊥
 

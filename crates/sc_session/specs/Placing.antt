@@ -7,9 +7,8 @@ use Rattle.sc_base.specs.declared.key.Key.{Key}
 use Rattle.sc_base.specs.declared.memory.Form.{Form}
 use Rattle.sc_base.specs.declared.memory.Form.TheVariants as form
 use Rattle.sc_image.specs.Placing.{IsFull, placed_modules}
-use Rattle.sc_image.specs.Running.{IsShortIn, IsShortOf, in_form, kept_places, present, with_module, without}
+use Rattle.sc_image.specs.Running.{AreWithin, IsOver, IsShortIn, IsShortOf, in_form, kept_places, present, with_module, without}
 use Rattle.sc_isa_image.specs.declared.image.Image.{Image}
-use Rattle.sc_link.specs.Areas.{IsRefused}
 use Rattle.sc_link.specs.Linked.{IsLinked}
 use Rattle.sc_link.specs.declared.placed.Area.{Area as Place}
 use Rattle.sc_link.specs.declared.placed.Area.TheVariants as place
@@ -97,11 +96,30 @@ abbrev pub placed_over : List (List Present) → List Present → List Placed
 placed_over [] modules = placed_first modules
 placed_over (first ∷ past) modules = versions_over first (past ++ modules ∷ []) (placed_first first)
 
--- an image is that of all this, with the functions by their numbers
+-- An image is that of all this, with the functions by their numbers. It is there only where no area lacks room.
 pub record IsImageOver (past : List (List Present)) (modules : List Present) (numbers : List Key) (i : Image) : Type 0 where
   pub linked : IsLinked (placed_over past modules) (functions_by numbers) i
+  pub room : AreWithin (placed_over past modules) (functions_by numbers)
 
 -- ---- which area has no room
+
+-- the areas as answers name them
+abbrev pub InArea : (Place → Type 0) → Area → Type 0
+InArea Lacks area.Modules = ⊥
+InArea Lacks area.Stubs = Lacks place.Stubs
+InArea Lacks area.Text = Lacks place.Text
+InArea Lacks area.Static = Lacks place.Static
+
+-- The first area, in the order of their addresses, that has no room for all that is placed. (How many modules there are is asked before.)
+pub record LacksRoomOver (past : List (List Present)) (modules : List Present) (numbers : List Key) (a : Area) : Type 0 where
+  pub lacks : InArea (IsOver (placed_over past modules) (functions_by numbers)) a
+
+-- ---- what the code finds
+
+-- nothing is said where no memory was left
+abbrev pub IsLacking : (Place → Type 0) → ImageFault → Type 0
+IsLacking Lacks (short.Space a) = InArea Lacks a
+IsLacking Lacks short.NoMemory = Unit {0}
 
 -- for a module, behind all that was placed before it
 abbrev pub LacksFor : List Placed → List Key → Present → List Key → Place → Type 0
@@ -134,26 +152,10 @@ abbrev pub LacksPlaces : List (List Present) → List Present → List Key → P
 LacksPlaces [] modules funs a = IsFull (map linking_of modules) funs a
 LacksPlaces (first ∷ past) modules funs a = IsFull (map linking_of first) funs a ⊎ LacksAfter funs first (past ++ modules ∷ []) (placed_first first) a
 
--- or for all that is placed
-abbrev pub LacksOver : List (List Present) → List Present → List Key → Place → Type 0
-LacksOver past modules funs a = LacksPlaces past modules funs a ⊎ IsRefused (placed_over past modules) funs (fault.Space a)
-
--- the same by the areas as answers name them
-abbrev pub InArea : (Place → Type 0) → Area → Type 0
-InArea Lacks area.Modules = ⊥
-InArea Lacks area.Stubs = Lacks place.Stubs
-InArea Lacks area.Text = Lacks place.Text
-InArea Lacks area.Static = Lacks place.Static
-
-pub record LacksRoomOver (past : List (List Present)) (modules : List Present) (numbers : List Key) (a : Area) : Type 0 where
-  pub lacks : InArea (LacksOver past modules (functions_by numbers)) a
-
--- ---- what the code finds
-
--- nothing is said where no memory was left
-abbrev pub IsLacking : (Place → Type 0) → ImageFault → Type 0
-IsLacking Lacks (short.Space a) = InArea Lacks a
-IsLacking Lacks short.NoMemory = Unit {0}
+-- what is said of that: where static objects have no room, which cannot be, that no memory was left
+abbrev pub lacking : ImageFault → ImageFault
+lacking (short.Space area.Static) = short.NoMemory
+lacking f = f
 
 -- what is placed behind each version
 abbrev pub each_over : List Present → List (List Present) → List Placed → List (List Placed)
@@ -175,9 +177,12 @@ plan_of session = record {
 abbrev pub last : List (List Placed) → Option (List Placed)
 last all = slice_get all (length all - 1)
 
--- an image is that of the last of some lists; and an area has no room for it
+-- an image is that of the last of some lists; and whether there is room for what this has placed
 abbrev pub IsLast : List (List Placed) → List Key → Image → Type 0
 IsLast all funs i = (es : List Placed) × (last all ≡ Some es) × IsLinked es funs i
 
-abbrev pub LacksLast : List (List Placed) → List Key → Place → Type 0
-LacksLast all funs a = (es : List Placed) × (last all ≡ Some es) × IsRefused es funs (fault.Space a)
+abbrev pub LastWithin : List (List Placed) → List Key → Type 0
+LastWithin all funs = (es : List Placed) → last all ≡ Some es → AreWithin es funs
+
+abbrev pub LastOver : List (List Placed) → List Key → Place → Type 0
+LastOver all funs a = (es : List Placed) × (last all ≡ Some es) × IsOver es funs a

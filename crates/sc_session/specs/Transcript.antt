@@ -153,8 +153,8 @@ FileDenied old changed file name now d = NotBuilt old.held old.faults now file n
 abbrev pub IsKept : Moment → List ℕ → Choice → Type 0
 IsKept old name c = (object : Object) × (object_named old.session.modules name c ≡ Some object) × HasBytes old.held (object_file name c) (spelled object)
 
--- Outside of a run the image of the modules has room or not. In one that stays it goes by all that was placed since its start; where there
--- is room, the run has that image (`Becomes`).
+-- Outside of a run the image of the modules has room or not. In one that stays it goes by all that was placed since its start: the run has that
+-- image (`Becomes`), which is there only where no area lacks room (`IsImageOver`).
 abbrev pub HasRoomBy : Bool → List Present → List Key → Type 0
 HasRoomBy true modules numbers = Unit {0}
 HasRoomBy false modules numbers = HasRoom modules numbers
@@ -296,8 +296,6 @@ RunsOut sink gained old file (Err e) new = Gains sink gained (λ front. RunFirst
 abbrev pub MixedRuns : Moment → Option (List ℕ) → Answer → Moment → Type 0
 MixedRuns old file (answer.Ran text) new = (new.held ≡ old.held) × (has_main (texts old.session.modules) ≡ true)
     × ((bytes : List ℕ) × IsInput old.held file bytes × MixedBegins old.session main_key bytes (answer.Ran text) new.session)
-MixedRuns old file (answer.Refused (denied.Space a)) new = Leaves old new old.session × (has_main (texts old.session.modules) ≡ true)
-    × ((bytes : List ℕ) × IsInput old.held file bytes) × LacksRoom old.session.modules old.session.numbers a
 MixedRuns old file (answer.Refused d) new = Leaves old new old.session × RunDenied old file new.faults d
 MixedRuns old file answer.NoMemory new = (new.held ≡ old.held) × IsGivenUp old.session new.session
 MixedRuns old file _ new = ⊥

@@ -1,5 +1,5 @@
 // The image of the modules that are present, and their forms.
-ghost use Rattle.std.specs.Prelude.{◌≡◌, map, IfErr, IfOk};
+ghost use Rattle.std.specs.Prelude.{◌≡◌, map, IfOk};
 ghost use Rattle.sc_image.specs.Placing as placing;
 ghost use Rattle.sc_session_forms.specs.Forms as forms;
 ghost use Rattle.sc_session.specs.Linking as spec;
@@ -90,7 +90,7 @@ fn linkings_formed(
     Ok(all)
 }
 
-fn area_of(area: Place) -> Area
+pub(crate) fn area_of(area: Place) -> Area
     ensures { result ≡ spec.area_of area }
 {
     match area {
@@ -100,7 +100,7 @@ fn area_of(area: Place) -> Area
     }
 }
 
-/// The area that has no room where the module with a name runs that object; none where all have.
+/// The first area that has no room where the module with a name runs that object; none where all have.
 pub fn full_with(
     alloc: Global,
     name: &Name,
@@ -134,19 +134,19 @@ pub(crate) fn image_fault(fault: LinkFault) -> ImageFault
     }
 }
 
-/// The image of the modules that are present.
-pub fn linked(alloc: Global, modules: &[Present], numbers: &Numbers) -> Result<Image, ImageFault>
-    ensures image { IfOk result (spec.IsImage modules.now numbers.now) }
-    ensures short { IfErr result (spec.FaultSaid modules.now numbers.now) }
+/// The image of the modules that are present. They were found to have room as they were loaded, or as they got their forms: that an area
+/// has none cannot be.
+pub fn linked(alloc: Global, modules: &[Present], numbers: &Numbers) -> Result<Image, NoMemory>
+    ensures { IfOk result (spec.IsImage modules.now numbers.now) }
 {
     let Ok(all) = linkings(alloc, modules) else {
-        return Err(ImageFault::NoMemory);
+        return Err(NoMemory);
     };
     let Ok(functions) = functions_by(alloc, numbers) else {
-        return Err(ImageFault::NoMemory);
+        return Err(NoMemory);
     };
     match image_of(alloc, all.as_slice(), functions.as_slice()) {
         Ok(image) => Ok(image),
-        Err(fault) => Err(image_fault(fault)),
+        Err(_) => Err(NoMemory),
     }
 }

@@ -8,11 +8,13 @@ ghost use Rattle.sc_session.specs.Modules.{texts};
 ghost use Rattle.sc_session.specs.Placing as spec;
 
 use crate::choice::Choice;
-use crate::linking::{ImageFault, image_fault, linking, linkings};
+use crate::linking::{ImageFault, area_of, image_fault, linking, linkings};
 use crate::present::{Present, is_named, texts_of};
 use sc_base::{Form, Items, Key, Name, NoMemory};
 use sc_image::Placements;
+use sc_link::Area as Place;
 use sc_mixed::kept_keys;
+use sc_words::Area;
 use std::alloc::Global;
 
 // The module of a version with a name.
@@ -364,8 +366,8 @@ fn one_placed(
     }
 }
 
-/// Where the modules of each version of a run are placed: those before its changes, and the present ones.
-pub fn placed_versions(
+// Where the modules of each version of a run are placed: those before its changes, and the present ones.
+fn placed_versions(
     alloc: Global,
     past: &[Items<Present>],
     modules: &[Present],
@@ -377,5 +379,56 @@ pub fn placed_versions(
     match past {
         [] => one_placed(alloc, modules, functions),
         [first, later @ ..] => all_placed(alloc, first, later, modules, functions),
+    }
+}
+
+// The first area that has no room for what is placed behind the last version.
+fn full_last(placed: &[Placements], functions: &[Key]) -> Option<Place>
+    ensures { MatchOption result (spec.LastWithin placed.now functions.now) (spec.LastOver placed.now functions.now) }
+{
+    match placed.last() {
+        Some(last) => last.full_area(functions),
+        None => None,
+    }
+}
+
+// Why there is no image where a module had no room. The bytes of static objects were counted as each module was loaded: that their
+// area has no room cannot be.
+fn lacking(fault: ImageFault) -> ImageFault
+    ensures { result ≡ spec.lacking fault }
+{
+    match fault {
+        ImageFault::Space(area) => match area {
+            Area::Modules => ImageFault::Space(Area::Modules),
+            Area::Stubs => ImageFault::Space(Area::Stubs),
+            Area::Text => ImageFault::Space(Area::Text),
+            Area::Static => ImageFault::NoMemory,
+        },
+        ImageFault::NoMemory => ImageFault::NoMemory,
+    }
+}
+
+/// Where the modules of each version of a run are placed, if no area lacks room for all of it. Else the first area is told, in the
+/// order of their addresses, that does.
+pub fn placed_within(
+    alloc: Global,
+    past: &[Items<Present>],
+    modules: &[Present],
+    functions: &[Key],
+) -> Result<Items<Placements>, ImageFault>
+    ensures ok { IfOk result (λ all. all ≡ spec.each_placed past.now modules.now) }
+    ensures room { OnOk result (running.AreWithin (spec.placed_over past.now modules.now) functions.now) }
+    ensures short { IfErr result (spec.IsLacking (running.IsOver (spec.placed_over past.now modules.now) functions.now)) }
+{
+    let placed = match placed_versions(alloc, past, modules, functions) {
+        Ok(placed) => placed,
+        Err(fault) => return Err(lacking(fault)),
+    };
+    match full_last(placed.as_slice(), functions) {
+        None => Ok(placed),
+        Some(area) => {
+            drop(placed);
+            Err(ImageFault::Space(area_of(area)))
+        }
     }
 }

@@ -274,11 +274,7 @@ impl Session {
     {
         match linked(alloc, self.modules.as_slice(), &self.numbers) {
             Ok(image) => self.start_in(alloc, key, image, input),
-            Err(ImageFault::Space(area)) => {
-                drop(input);
-                Answer::Refused(Denied::Space(area))
-            }
-            Err(ImageFault::NoMemory) => {
+            Err(_) => {
                 drop(input);
                 Answer::NoMemory
             }
@@ -371,8 +367,7 @@ impl Session {
         }
         match linked(alloc, self.modules.as_slice(), &self.numbers) {
             Ok(image) => Ok(Some(layout_of(alloc, texts.as_slice(), &image)?)),
-            // The modules were found to have room as they were loaded: it is memory.
-            Err(_) => Err(NoMemory),
+            Err(e) => Err(e),
         }
     }
 

@@ -47,8 +47,8 @@ use std::mem;
 
 /// The modules that are present, in the order in which they were loaded; what they were before each change of a run that goes on, and how
 /// many of these changes it has gone through; how many texts were loaded; the functions that have numbers; the stops; how a run
-/// stands; the text of an evaluation; and how many probes there are. Beside that, whether some probe listens to a run that begins, what
-/// the last go recorded with the registers behind it, and the text of a probe that a report is asked of.
+/// stands; the text of an evaluation; and how many probes there are. Beside that, whether some probe listens to a run that begins, and
+/// what the last go recorded with the registers behind it.
 #[derive(Drop)]
 pub struct Session {
     pub(crate) limits: Limits,
@@ -66,7 +66,6 @@ pub struct Session {
     pub(crate) over: bool,
     pub(crate) listened: bool,
     pub(crate) heard: Heard,
-    pub(crate) report: Option<Bytes>,
 }
 
 impl Model for Session {
@@ -110,7 +109,6 @@ impl Session {
             over: false,
             listened: false,
             heard: Heard::nothing(alloc),
-            report: None,
         }
     }
 
@@ -157,13 +155,6 @@ impl Session {
             Some(taken) => taken,
             None => mem::replace(&mut self.heard.record, nothing_taken(alloc)),
         }
-    }
-
-    /// The text of the probe of which the next command asks for a report.
-    pub fn put_report(&mut self, text: Option<Bytes>)
-        ensures { self.new ≡ self.old }
-    {
-        drop(mem::replace(&mut self.report, text));
     }
 
     /// Lets the session go, with all that it holds.
@@ -379,7 +370,7 @@ impl Session {
             Deed::Xref(name) => self.xref(alloc, name),
             Deed::Whatis(name) => self.whatis(alloc, name),
             Deed::List => self.list(alloc),
-            Deed::Report(k) => self.report(k),
+            Deed::Report(k) => self.report(alloc, k),
             Deed::Drop(k) => self.drop_probe(k),
             Deed::Reset => self.reset(),
             Deed::Quit => self.quit(),
@@ -430,15 +421,11 @@ impl Session {
         Answer::Deleted(k)
     }
 
-    // The text of the probe, which was asked for it before.
-    fn report(&mut self, k: u32) -> Answer
-        ensures answer { probing.Reports k result }
-        ensures session { self.new ≡ self.old }
+    // There is such a probe. Its text is put in by who has the probes.
+    fn report(&self, alloc: Global, k: u32) -> Answer
+        ensures { probing.Reports k result }
     {
-        match self.report.take() {
-            Some(text) => Answer::Reported(k, text),
-            None => Answer::NoMemory,
-        }
+        Answer::Reported(k, Bytes::from_vec(Vec::new(alloc)))
     }
 
     fn drop_probe(&mut self, k: u32) -> Answer

@@ -613,8 +613,7 @@ module _ (old : Moment) (run : Option Course) (k : Keeps (forgotten old.session)
 
   mixed_run_tells : (file : Option (List ℕ)) (front : List ℕ) (said : Answer) (new : Moment) → MixedRuns (anew old) file said new → (after : Option Course) × RunTellsBy false file front said after × Keeps new.session after
   mixed_run_tells file front (answer.Ran text) new (held, main, (bytes, input, (w, empty, went))) = (None, refl, mixed_keeps (anew old).session new.session walk.Cont w text k.0 k.1 went)
-  mixed_run_tells file front (answer.Refused (denied.Space a)) new p = (run, same_run run, moved (anew old).session new.session run p.0.0 k)
-  mixed_run_tells file front (answer.Refused _) new p = (run, same_run run, moved (anew old).session new.session run p.0.0 k)
+  mixed_run_tells file front (answer.Refused d) new p = (run, same_run run, moved (anew old).session new.session run p.0.0 k)
   mixed_run_tells file front answer.NoMemory new (held, up) = given_up_keeps (anew old).session new.session run k up
   mixed_run_tells file front _ new p = absurd p
 

@@ -15,7 +15,9 @@ use Rattle.sc_words.specs.declared.answer.Answer.TheVariants as answer
 use Rattle.sc_words.specs.declared.command.Command.{Command}
 use Rattle.sc_words.specs.declared.command.Command.TheVariants as command
 use Rattle.sc_top.specs.Transcript.{IsUnread, line_of, behind as after_answer}
-use Rattle.sc_top.specs.Sessions.{AnswersLine, LineAnswered, Replied, Sends, Unreplied, progress_of}
+use Rattle.sc_top.specs.Attended.{LineBeside}
+use Rattle.sc_top.specs.Beside.{Audience, Hears, Seen}
+use Rattle.sc_top.specs.Sessions.{LineAnswered, Replied, Sends, Unreplied, progress_of}
 use Rattle.sc_top.specs.declared.line.Progress.TheVariants as progress
 use Rattle.sc_world.specs.declared.post.Unsent.{Unsent}
 use Rattle.sc_top.specs.Waiting.{IsOnItsWay, IsPartlyOnItsWay, Posts}
@@ -117,19 +119,22 @@ sends_of sent.Done false old new waiting text p = (refl, p)
 sends_of sent.Failed over old new waiting text p = p
 sends_of sent.NoMemory over old new waiting text p = p
 
-pub line_answered : (before mid after : Moment) (line : List ℕ) (said : Answer) (s : Sent) (within over : Bool) (old through new : Option (List ℕ)) (waited first waiting : List ℕ)
+pub line_answered : {A : Type 0} (see : Seen A) (a b : Audience A) (before mid after : Moment) (line : List ℕ) (said : Answer) (s : Sent) (within over : Bool) (old through new : Option (List ℕ)) (waited first waiting : List ℕ)
     → within ≡ mid.session.in_line → after ≡ after_answer said mid → over ≡ after.session.over → Replied before line said mid old through waited first → Posts through new waiting s (first ++ line_of within said)
-    → AnswersLine before line after old new waited waiting (progress_of s over)
-line_answered before mid after line said s within over old through new waited first waiting at is ends (front, replies, later, on) posts =
+    → Hears see (command_of line) said mid.session.state a b → LineBeside see before line after old new waited waiting (progress_of s over) a b
+line_answered see a b before mid after line said s within over old through new waited first waiting at is ends (front, replies, later, on) posts hears =
     let whole : List ℕ = front ++ line_of mid.session.in_line said in
     let here : Posts through new waiting s (first ++ line_of mid.session.in_line said) = subst (λ o. Posts through new waiting s (first ++ line_of o said)) at posts in
     let all : Posts old new waiting s (waited ++ whole) =
     subst (Posts old new waiting s) (append_assoc waited front (line_of mid.session.in_line said)) (posts_behind s old through new first waiting (waited ++ front) (line_of mid.session.in_line said) on here) in
-    inl (record {
-      text = whole;
-      answers = record { front = front; said = said; mid = mid; replies = replies; text = refl; after = is; later = subst (λ (m : Moment). before.faults ≤ m.faults) (sym is) later };
-      sends = subst (λ b. Sends (progress_of s over) b old new waiting (waited ++ whole)) ends (sends_of s over old new waiting (waited ++ whole) all);
-    })
+    inl (
+      record {
+        text = whole;
+        answers = record { front = front; said = said; mid = mid; replies = replies; text = refl; after = is; later = subst (λ (m : Moment). before.faults ≤ m.faults) (sym is) later };
+        sends = subst (λ b. Sends (progress_of s over) b old new waiting (waited ++ whole)) ends (sends_of s over old new waiting (waited ++ whole) all);
+      },
+      hears,
+    )
 
 -- why an answer was not written
 fault_of : (s : Sent) (over : Bool) → progress_of s over ≡ progress.WriteFault → s ≡ sent.Failed
