@@ -3,7 +3,6 @@ use Rattle.std.proofs.Common.{◌≡◌, ℕ, ◌<◌, ◌≤◌, ◌&&◌, ◌^
 use Rattle.std.specs.Prelude.{max, nat_lt}
 use Rattle.std.proofs.lemmas.Bool.Decides.{nat_tests}
 use Rattle.sc_base.specs.declared.key.Key.{Key}
-use Rattle.sc_base.specs.declared.memory.Form.{Form}
 use Rattle.sc_object.specs.declared.object.Section.{Section}
 use Rattle.sc_link.specs.Entries.{is_object}
 use Rattle.sc_link.specs.Symbols.{is_text}
@@ -14,7 +13,7 @@ use Rattle.sc_link.specs.declared.placed.Placed.{Placed}
 use Rattle.sc_places.specs.Layout.{behind_text, behind_texts, first_kept, kept_or, places_from, rest_kept, static_after, text_after, text_end, text_reach, text_top, top_of}
 use Rattle.sc_image.specs.declared.module.Linking.{Linking}
 use Rattle.sc_image.specs.Placing.{IsFull, placed_from, placed_modules, static_behind, text_behind, texts_behind}
-use Rattle.sc_image.specs.Running.{IsOver, IsShortIn, IsShortOf, entry_behind, formed_by, in_form, is_present, module_of, present, retired_if, with_entry, without}
+use Rattle.sc_image.specs.Running.{IsOver, IsShortIn, IsShortOf, entry_behind, formed_by, is_present, present, retired_if, with_entry, without}
 
 max-left : (a b : ℕ) → a ≤ max a b
 max-left a b = grind (arith, nat_tests)
@@ -143,13 +142,13 @@ module_over es funs m keeps area.Stubs code p = p
 module_over es funs m keeps area.Text code p = (p.0, entry-over es m keeps p.1)
 module_over es funs m keeps area.Static code p = absurd code
 
-pub formed_grows : (o : Option Placed) (form : Form) (es : List Placed) → Grows es (formed_by o form es)
-formed_grows None form es = omega arith
-formed_grows (Some e) form es = entry-grows es (module_of e form) (map Some e.places)
+pub formed_grows : (o : Option Placed) (m : Linking) (es : List Placed) → Grows es (formed_by o m es)
+formed_grows None m es = omega arith
+formed_grows (Some e) m es = entry-grows es m (map Some e.places)
 
-pub formed_over : (o : Option Placed) (form : Form) (es : List Placed) (funs : List Key) (a : Area) → IsCode a → IsShortIn o es funs form (fault.Space a) → IsOver (formed_by o form es) funs a
-formed_over None form es funs a code p = absurd (cc)
-formed_over (Some e) form es funs a code p = module_over es funs (module_of e form) (map Some e.places) a code p
+pub formed_over : (o : Option Placed) (m : Linking) (es : List Placed) (funs : List Key) (a : Area) → IsCode a → IsShortIn o es funs m (fault.Space a) → IsOver (formed_by o m es) funs a
+formed_over None m es funs a code p = absurd (cc)
+formed_over (Some e) m es funs a code p = module_over es funs m (map Some e.places) a code p
 
 -- the modules with which a run begins
 modules-over : (text statics : ℕ) (ms : List Linking) → text ≤ 0x04100000 → 0x04100000 < texts_behind text ms → 0x04100000 < behind_texts (placed_from text statics ms)

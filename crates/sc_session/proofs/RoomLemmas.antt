@@ -23,13 +23,13 @@ use Rattle.sc_session.proofs.PlacingLemmas.{last_placed, the_same}
 so_grows : (w : Way) (kept : List Key) (p : Present) (es : List Placed) → Grows es (placed_so w kept p es)
 so_grows way.New kept p es = module_grows es (linking_of p) (kept_places es (linking_of p) [])
 so_grows way.Again kept p es = module_grows es (linking_of p) (kept_places es (linking_of p) kept)
-so_grows way.Formed kept p es = formed_grows (present p.text.core.name es) p.text.form es
+so_grows way.Formed kept p es = formed_grows (present p.text.core.name es) (linking_of p) es
 so_grows way.Same kept p es = grows_same es
 
 so_over : (w : Way) (funs kept : List Key) (p : Present) (es : List Placed) (a : Place) → IsCode a → LacksSo w funs kept p es a → IsOver (placed_so w kept p es) funs a
 so_over way.New funs kept p es a code l = module_over es funs (linking_of p) (kept_places es (linking_of p) []) a code l
 so_over way.Again funs kept p es a code l = module_over es funs (linking_of p) (kept_places es (linking_of p) kept) a code l
-so_over way.Formed funs kept p es a code l = formed_over (present p.text.core.name es) p.text.form es funs a code l
+so_over way.Formed funs kept p es a code l = formed_over (present p.text.core.name es) (linking_of p) es funs a code l
 so_over way.Same funs kept p es a code l = absurd l
 
 -- ---- the modules of a version
