@@ -42,28 +42,29 @@ over-one false text len other rest low high = absurd (omega (arith, low, high))
 
 over-sections : (text statics : ℕ) (ss : List Section) (kept : List (Option ℕ)) → text ≤ 0x04100000 → 0x04100000 < text_end true text ss → 0x04100000 < top_of text_reach ss (places_from true text statics ss kept)
 over-sections text statics [] kept low high = absurd (omega (arith, low, high))
-over-sections text statics (s ∷ ss) kept low high = by (nat_lt 0x04100000 (text_after true text s)) refl
+over-sections text statics (s ∷ ss) kept low high =
+    by (nat_lt 0x04100000 (text_after true text s)) refl (λ within. over-sections (text_after true text s) (static_after statics s (first_kept kept)) ss (rest_kept kept) within high)
   where
-    rest : ℕ
-    rest = top_of text_reach ss (places_from true (text_after true text s) (static_after statics s (first_kept kept)) ss (rest_kept kept))
-
-    by : (b : Bool) → nat_lt 0x04100000 (text_after true text s) ≡ b → 0x04100000 < top_of text_reach (s ∷ ss) (places_from true text statics (s ∷ ss) kept)
-    by true e = over-one (is_text s.kind) text (length s.bytes) (kept_or statics (first_kept kept)) (top_of text_reach ss (places_from true (text_after true text s) (static_after statics s (first_kept kept)) ss (rest_kept kept))) low (less 0x04100000 (text_after true text s) e)
-    by false e =
+    by : (b : Bool) → nat_lt 0x04100000 (text_after true text s) ≡ b
+        → (text_after true text s ≤ 0x04100000 → 0x04100000 < top_of text_reach ss (places_from true (text_after true text s) (static_after statics s (first_kept kept)) ss (rest_kept kept)))
+        → 0x04100000 < top_of text_reach (s ∷ ss) (places_from true text statics (s ∷ ss) kept)
+    by true e rest =
+        over-one (is_text s.kind) text (length s.bytes) (kept_or statics (first_kept kept)) (top_of text_reach ss (places_from true (text_after true text s) (static_after statics s (first_kept kept)) ss (rest_kept kept))) low
+        (less 0x04100000 (text_after true text s) e)
+    by false e rest =
         max-over 0x04100000 (top_of text_reach ss (places_from true (text_after true text s) (static_after statics s (first_kept kept)) ss (rest_kept kept)))
         (cond (is_text s.kind) (min (behind_text (cond (is_text s.kind) text (kept_or statics (first_kept kept))) (length s.bytes)) (2 ^ 32)) 0)
         (top_of text_reach ss (places_from true (text_after true text s) (static_after statics s (first_kept kept)) ss (rest_kept kept)))
-        (over-sections (text_after true text s) (static_after statics s (first_kept kept)) ss (rest_kept kept) (not-less 0x04100000 (text_after true text s) e) high)
-        (max-right _ _)
+        (rest (not-less 0x04100000 (text_after true text s) e)) (max-right _ _)
 
 -- one that is interpreted places no text
 no-text : (text : ℕ) (ss : List Section) → text_end false text ss ≡ text
 no-text text [] = refl
-no-text text (s ∷ ss) = by (is_text s.kind)
+no-text text (s ∷ ss) = by (is_text s.kind) (no-text text ss)
   where
-    by : (b : Bool) → text_end false (cond (b && false) (behind_text text (length s.bytes)) text) ss ≡ text
-    by true = no-text text ss
-    by false = no-text text ss
+    by : (b : Bool) → text_end false text ss ≡ text → text_end false (cond (b && false) (behind_text text (length s.bytes)) text) ss ≡ text
+    by true rest = rest
+    by false rest = rest
 
 -- an entry that is placed from two addresses on: it reaches beyond the area, or what was placed before it did
 over-top : (object : Bool) (text statics : ℕ) (ss : List Section) (kept : List (Option ℕ)) → text ≤ 0x04100000 → 0x04100000 < text_end object text ss → 0x04100000 < cond object (top_of text_reach ss (places_from object text statics ss kept)) 0
@@ -153,14 +154,16 @@ formed_over (Some e) m es funs a code p = module_over es funs m (map Some e.plac
 -- the modules with which a run begins
 modules-over : (text statics : ℕ) (ms : List Linking) → text ≤ 0x04100000 → 0x04100000 < texts_behind text ms → 0x04100000 < behind_texts (placed_from text statics ms)
 modules-over text statics [] low high = absurd (omega (arith, low, high))
-modules-over text statics (m ∷ ms) low high = by (nat_lt 0x04100000 (text_behind text m)) refl
+modules-over text statics (m ∷ ms) low high =
+    by (nat_lt 0x04100000 (text_behind text m)) refl (λ within. modules-over (text_behind text m) (static_behind statics m) ms within high)
   where
-    by : (b : Bool) → nat_lt 0x04100000 (text_behind text m) ≡ b → 0x04100000 < behind_texts (placed_from text statics (m ∷ ms))
-    by true e =
+    by : (b : Bool) → nat_lt 0x04100000 (text_behind text m) ≡ b
+        → (text_behind text m ≤ 0x04100000 → 0x04100000 < behind_texts (placed_from (text_behind text m) (static_behind statics m) ms)) → 0x04100000 < behind_texts (placed_from text statics (m ∷ ms))
+    by true e rest =
         let top = over-top (is_object m.form) text statics m.object.sections [] low (less 0x04100000 (text_behind text m) e) in
         max-over 0x04100000 _ _ _ top (max-left _ (behind_texts (placed_from (text_behind text m) (static_behind statics m) ms)))
-    by false e =
-        max-over 0x04100000 _ _ _ (modules-over (text_behind text m) (static_behind statics m) ms (not-less 0x04100000 (text_behind text m) e) high)
+    by false e rest =
+        max-over 0x04100000 _ _ _ (rest (not-less 0x04100000 (text_behind text m) e))
         (max-right (cond (is_object m.form) (top_of text_reach m.object.sections (places_from (is_object m.form) text statics m.object.sections [])) 0) _)
 
 pub begun_over : (ms : List Linking) (funs : List Key) (a : Area) → IsCode a → IsFull ms funs a → IsOver (placed_modules ms) funs a

@@ -43,10 +43,11 @@ module _ {A : Type 0} {see : Seen A} {commands ahead old mid new : Option (List 
       at.beside,
     )
 
-    -- no further line was taken
-    pub ends_beside : (how : Status) (at : Attends see commands ahead old new first a count waiting (moment coming held faults) b) → Ends how coming.over (length at.on.lines) ahead
-        → ReachedBeside see commands old new first (held, faults) waiting how a b
-    ends_beside how at ends = inl (ends_here how at.on ends, at.beside)
+-- no further line was taken
+pub ends_beside : {A : Type 0} {see : Seen A} {commands ahead old new : Option (List ℕ)} {first : Moment} {a b : Audience A} {count : ℕ} {waiting : List ℕ} {coming : Plain} {held : Option FileMap} {faults : ℕ}
+    → (how : Status) (at : Attends see commands ahead old new first a count waiting (moment coming held faults) b) → Ends how coming.over (length at.on.lines) ahead
+    → ReachedBeside see commands old new first (held, faults) waiting how a b
+ends_beside how at ends = inl (ends_here how at.on ends, at.beside)
 
 -- a line more
 module _ {A : Type 0} {see : Seen A} {commands ahead next old mid new : Option (List ℕ)} {first last : Moment} {a b e : Audience A} {count : ℕ} {waited waiting : List ℕ} (line : List ℕ) (at : Attends see commands ahead old mid first a count waited last b) (room : count < 1000000) (read : LineRead ahead next line) where

@@ -70,7 +70,7 @@ gains_of see given (suc n) (p ∷ ps) (q ∷ qs) (m ∷ ms) (o ∷ os) (this, th
 abbrev pub Handed : {A : Type 0} → Seen A → Bool → State → Audience A → Audience A → Type 0
 Handed see goes s a b = (given : Taken) × IsHandedOn goes s given × AllGain see (notes_of given.entries) a b
 
-abbrev nothing_on : (goes : Bool) (s : State) → IsHandedOn goes s (record { entries = []; before = 0; whole = false })
+nothing_on : (goes : Bool) (s : State) → IsHandedOn goes s (record { entries = []; before = 0; whole = false })
 nothing_on goes s = record { quiet = λ e. refl; lost = λ e. refl; recorded = λ w is whole. absurd (cc) }
 
 pub nothing_handed : {A : Type 0} (see : Seen A) (goes : Bool) (s : State) (ps : List A) (marks : List Bool) → Handed see goes s (audience ps marks) (audience ps marks)

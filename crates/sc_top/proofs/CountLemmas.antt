@@ -4,8 +4,7 @@ use Rattle.std.specs.Prelude.{nat_lt, remove}
 use Rattle.std.proofs.lemmas.Bool.{ltb-true}
 use Rattle.sc_base.specs.declared.memory.Form.{Form}
 use Rattle.sc_session.specs.declared.state.State.TheVariants as state
-use Rattle.sc_session.specs.Changing.{at_rest, caught_up}
-use Rattle.sc_session.specs.Going.{Begins, IsCutOff, IsGivenUp, Walks, cut_off, in_state}
+use Rattle.sc_session.specs.Going.{IsGivenUp, Walks, cut_off, in_state}
 use Rattle.sc_session.specs.Loading.{file_of, file_or}
 use Rattle.sc_session.specs.Mixing.{Becomes, MixedWalks, WalksBy, is_mixed}
 use Rattle.sc_session.specs.Modules.{texts}
@@ -58,10 +57,6 @@ becomes session new (s, relinks, is) = ap (λ (p : Plain). p.probes) is
 same : (session new : Plain) → new ≡ session → new.probes ≡ session.probes
 same session new e = ap (λ (p : Plain). p.probes) e
 
-cut : (First : List ℕ → Type 0) (session new : Plain) (front : List ℕ) → IsCutOff First session front new → new.probes ≡ session.probes
-cut First session new front (inl (none, e)) = same session new e
-cut First session new front (inr (first, e)) = same (cut_off front session) new e
-
 given_up : (session new : Plain) → IsGivenUp session new → new.probes ≡ session.probes
 given_up session new (inl e) = same session new e
 given_up session new (inr e) = same (in_state state.Ended session) new e
@@ -96,7 +91,8 @@ sets session place _ new p = absurd p
 
 walks_alone : (session : Plain) (how : Walk) (front : List ℕ) (said : Answer) (new : Plain) → Walks session how front said new → new.probes ≡ session.probes
 walks_alone session how front (answer.Ran text) new (r, runs, (s, went, e)) = ap (λ (p : Plain). p.probes) e
-walks_alone session how front answer.NoMemory new p = cut _ session new front p
+walks_alone session how front answer.NoMemory new (inl (none, e)) = same session new e
+walks_alone session how front answer.NoMemory new (inr (first, e)) = same (cut_off front session) new e
 walks_alone session how front _ new p = absurd p
 
 walks_mixed : (session : Plain) (how : Walk) (said : Answer) (new : Plain) → MixedWalks session how said new → new.probes ≡ session.probes
@@ -116,7 +112,8 @@ carries_one session _ new p = absurd p
 runs_alone : (old : Moment) (file : Option (List ℕ)) (front : List ℕ) (said : Answer) (new : Moment) → Runs old file front said new → new.session.probes ≡ old.session.probes
 runs_alone old file front (answer.Ran text) new (held, main, (bytes, input, (of, (s, went, e)))) = ap (λ (p : Plain). p.probes) e
 runs_alone old file front (answer.Refused d) new (none, leaves, why) = same old.session new.session leaves.0
-runs_alone old file front answer.NoMemory new (held, p) = cut _ old.session new.session front p
+runs_alone old file front answer.NoMemory new (held, inl (none, e)) = same old.session new.session e
+runs_alone old file front answer.NoMemory new (held, inr (first, e)) = same (cut_off front old.session) new.session e
 runs_alone old file front _ new p = absurd p
 
 runs_mixed : (old : Moment) (file : Option (List ℕ)) (said : Answer) (new : Moment) → MixedRuns old file said new → new.session.probes ≡ old.session.probes
