@@ -51,6 +51,7 @@ fn folded_functions(alloc: Global, funs: &[Shared<Fun>]) -> Result<Items<Shared<
 /// # Errors
 ///
 /// `NoMemory` alone.
+#[tactic(auto, using(crate::proofs::Settled::core_settled))]
 pub fn fold(alloc: Global, core: &Core) -> Result<Core, NoMemory>
     ensures value { IfOk result (λ c. c ≡ spec.folded_core core.now) }
     ensures settled { IfOk result (λ c. is_settled c ≡ true) }
