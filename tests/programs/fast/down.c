@@ -2,9 +2,9 @@
 
 int f(int n)
 {
-    if (n == 32766)
+    if (n == 2046)
         putchar('a');
-    if (n == 32767)
+    if (n == 2047)
         putchar('b');
     return f(n + 1);
 }
