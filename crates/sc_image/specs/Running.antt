@@ -4,7 +4,6 @@ use Rattle.std.specs.Prelude.{◌≡◌, ℕ, ◌<◌, ◌&&◌, Bool, true, fal
 use Rattle.std.specs.List.{list_any}
 use Rattle.std.specs.Str.{bytes_eq}
 use Rattle.sc_base.specs.declared.key.Key.{Key}
-use Rattle.sc_base.specs.declared.memory.Form.{Form}
 use Rattle.sc_object.specs.declared.object.Object.{Object}
 use Rattle.sc_object.specs.declared.object.Section.{Section}
 use Rattle.sc_object.specs.declared.object.Symbol.{Symbol}
@@ -80,16 +79,13 @@ with_entry es m keeps = without m.name es ++ entry_behind es m keeps ∷ []
 abbrev pub with_module : List Placed → Linking → List Key → List Placed
 with_module es m kept = with_entry es m (kept_places es m kept)
 
--- an entry as a module in another form, and the same list with it: its objects and literals stay
-abbrev pub module_of : Placed → Form → Linking
-module_of e form = record { number = e.number; name = e.home; form = form; object = e.object }
+-- a module with another text of its, which follows its present entry: its objects and literals stay
+abbrev pub formed_by : Option Placed → Linking → List Placed → List Placed
+formed_by None m es = es
+formed_by (Some e) m es = with_entry es m (map Some e.places)
 
-abbrev pub formed_by : Option Placed → Form → List Placed → List Placed
-formed_by None form es = es
-formed_by (Some e) form es = with_entry es (module_of e form) (map Some e.places)
-
-abbrev pub in_form : List ℕ → Form → List Placed → List Placed
-in_form name form es = formed_by (present name es) form es
+abbrev pub in_form : Linking → List Placed → List Placed
+in_form m es = formed_by (present m.name es) m es
 
 -- an area has no room for a module behind all that a list has placed; want of memory says nothing
 abbrev pub IsShortOf : List Placed → List Key → Linking → List (Option ℕ) → LinkFault → Type 0
@@ -98,6 +94,6 @@ IsShortOf es funs m keeps (fault.Space area.Text) = 0x04100000 < text_end (is_ob
 IsShortOf es funs m keeps (fault.Space area.Static) = 0x08100000 < static_end (behind_statics es) m.object.sections keeps
 IsShortOf es funs m keeps fault.NoMemory = Unit {0}
 
-abbrev pub IsShortIn : Option Placed → List Placed → List Key → Form → LinkFault → Type 0
-IsShortIn None es funs form f = f ≡ fault.NoMemory
-IsShortIn (Some e) es funs form f = IsShortOf es funs (module_of e form) (map Some e.places) f
+abbrev pub IsShortIn : Option Placed → List Placed → List Key → Linking → LinkFault → Type 0
+IsShortIn None es funs m f = f ≡ fault.NoMemory
+IsShortIn (Some e) es funs m f = IsShortOf es funs m (map Some e.places) f

@@ -17,18 +17,20 @@ use Rattle.sc_words.specs.declared.denied.Area.{Area}
 use Rattle.sc_words.specs.declared.denied.Area.TheVariants as area
 use Rattle.sc_session.specs.declared.linking.ImageFault.{ImageFault}
 use Rattle.sc_session.specs.declared.linking.ImageFault.TheVariants as short
+use Rattle.sc_session.specs.declared.choice.Choice.{Choice}
 use Rattle.sc_session.specs.declared.present.Present.{Present}
+use Rattle.sc_session.specs.Modules.{object_by}
 
--- the module with a name gets a form; its text and its object stay
-abbrev pub formed : List ℕ → Form → Present → Present
-formed name f p = if bytes_eq p.text.core.name name then record p { text = record p.text { form = f } } else p
+-- the module with a name gets a form, and the object that it runs in object form; its text and its objects stay
+abbrev pub formed : List ℕ → Form → Choice → Present → Present
+formed name f c p = if bytes_eq p.text.core.name name then record p { text = record p.text { form = f }; choice = c } else p
 
-abbrev pub with_form : List ℕ → Form → List Present → List Present
-with_form name f modules = map (formed name f) modules
+abbrev pub with_form : List ℕ → Form → Choice → List Present → List Present
+with_form name f c modules = map (formed name f c) modules
 
 -- a module as it is linked
 abbrev pub linking_of : Present → Linking
-linking_of p = record { number = p.text.number; name = p.text.core.name; form = p.text.form; object = p.object }
+linking_of p = record { number = p.text.number; name = p.text.core.name; form = p.text.form; object = object_by p.choice p }
 
 -- the image of modules has room
 abbrev pub HasRoom : List Present → List Key → Type 0

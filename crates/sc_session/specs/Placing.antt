@@ -19,6 +19,8 @@ use Rattle.sc_mixed.specs.Changing.{kept_keys}
 use Rattle.sc_session_forms.specs.Forms.{functions_by}
 use Rattle.sc_words.specs.declared.denied.Area.{Area}
 use Rattle.sc_words.specs.declared.denied.Area.TheVariants as area
+use Rattle.sc_session.specs.declared.choice.Choice.{Choice}
+use Rattle.sc_session.specs.declared.choice.Choice.TheVariants as choice
 use Rattle.sc_session.specs.declared.linking.ImageFault.{ImageFault}
 use Rattle.sc_session.specs.declared.linking.ImageFault.TheVariants as short
 use Rattle.sc_session.specs.declared.placing.Way.{Way}
@@ -36,16 +38,23 @@ use Rattle.sc_session.specs.Plain.{Plain}
 abbrev pub named : List ℕ → List Present → Option Present
 named name modules = find (λ p. bytes_eq p.text.core.name name) modules
 
--- what a module is beside that of its name in the version before: new; translated anew, which is another number; in another form; or the same
-abbrev pub way_by_form : Form → Form → Way
-way_by_form form.Source form.Source = way.Same
-way_by_form form.Source form.Object = way.Formed
-way_by_form form.Object form.Source = way.Formed
-way_by_form form.Object form.Object = way.Same
+-- What a module is beside that of its name in the version before: new; translated anew, which is another number; in another form, or with
+-- its other object; or the same.
+abbrev pub way_by_choice : Choice → Choice → Way
+way_by_choice choice.Plain choice.Plain = way.Same
+way_by_choice choice.Plain choice.Fast = way.Formed
+way_by_choice choice.Fast choice.Plain = way.Formed
+way_by_choice choice.Fast choice.Fast = way.Same
+
+abbrev pub way_by : Form → Choice → Form → Choice → Way
+way_by form.Source c form.Source d = way.Same
+way_by form.Source c form.Object d = way.Formed
+way_by form.Object c form.Source d = way.Formed
+way_by form.Object c form.Object d = way_by_choice c d
 
 abbrev pub way_from : Option Present → Present → Way
 way_from None p = way.New
-way_from (Some before) p = if before.text.number == p.text.number then way_by_form before.text.form p.text.form else way.Again
+way_from (Some before) p = if before.text.number == p.text.number then way_by before.text.form before.choice p.text.form p.choice else way.Again
 
 abbrev pub way_of : List Present → Present → Way
 way_of old p = way_from (named p.text.core.name old) p
@@ -54,7 +63,7 @@ way_of old p = way_from (named p.text.core.name old) p
 abbrev pub placed_so : Way → List Key → Present → List Placed → List Placed
 placed_so way.New kept p es = with_module es (linking_of p) []
 placed_so way.Again kept p es = with_module es (linking_of p) kept
-placed_so way.Formed kept p es = in_form p.text.core.name p.text.form es
+placed_so way.Formed kept p es = in_form (linking_of p) es
 placed_so way.Same kept p es = es
 
 -- the modules of a version, one behind the other, where those of the version before were these
@@ -99,7 +108,7 @@ abbrev pub LacksFor : List Placed → List Key → Present → List Key → Plac
 LacksFor es funs p kept a = IsShortOf es funs (linking_of p) (kept_places es (linking_of p) kept) (fault.Space a)
 
 abbrev pub LacksFormed : List Placed → List Key → Present → Place → Type 0
-LacksFormed es funs p a = IsShortIn (present p.text.core.name es) es funs p.text.form (fault.Space a)
+LacksFormed es funs p a = IsShortIn (present p.text.core.name es) es funs (linking_of p) (fault.Space a)
 
 abbrev pub LacksSo : Way → List Key → List Key → Present → List Placed → Place → Type 0
 LacksSo way.New funs kept p es a = LacksFor es funs p [] a

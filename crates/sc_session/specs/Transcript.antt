@@ -23,6 +23,8 @@ use Rattle.sc_words.specs.declared.options.Options.{Options}
 use Rattle.sc_words.specs.declared.stop.Walk.{Walk}
 use Rattle.sc_words.specs.declared.stop.Walk.TheVariants as walk
 use Rattle.sc_world.specs.declared.post.Unsent.{Unsent}
+use Rattle.sc_session.specs.declared.choice.Choice.{Choice}
+use Rattle.sc_session.specs.declared.choice.Choice.TheVariants as choice
 use Rattle.sc_session.specs.declared.joining.Taken.{Taken}
 use Rattle.sc_session.specs.declared.joining.Taken.TheVariants as taken
 use Rattle.sc_session.specs.declared.limits.Limits.{Limits}
@@ -127,9 +129,9 @@ replaced session built =
 abbrev pub unloaded : Plain → List ℕ → Plain
 unloaded session name = with_modules (without name session.modules) session
 
--- the session in which a module has a form
-abbrev pub swapped : Plain → List ℕ → Form → Plain
-swapped session name f = with_modules (with_form name f session.modules) session
+-- the session in which a module has a form, and that object to run
+abbrev pub swapped : Plain → List ℕ → Form → Choice → Plain
+swapped session name f c = with_modules (with_form name f c session.modules) session
 
 -- The session would be this one, but its run, which stays, has no room for that in its image.
 abbrev pub LacksPlace : Plain → Denied → Type 0
@@ -144,9 +146,9 @@ Clashes old changed file name d =
 abbrev pub FileDenied : Moment → (Plain → Built → Plain) → List ℕ → List ℕ → ℕ → Denied → Type 0
 FileDenied old changed file name now d = NotBuilt old.held old.faults now file name d ⊎ Clashes old changed file name d
 
--- the file of the module's object is the object that the session keeps
-abbrev pub IsKept : Moment → List ℕ → Type 0
-IsKept old name = (object : Object) × (object_named old.session.modules name ≡ Some object) × HasBytes old.held (object_file name) (spelled object)
+-- the file of that object of the module is the object that the session keeps
+abbrev pub IsKept : Moment → List ℕ → Choice → Type 0
+IsKept old name c = (object : Object) × (object_named old.session.modules name c ≡ Some object) × HasBytes old.held (object_file name c) (spelled object)
 
 -- Outside of a run the image of the modules has room or not. In one that stays it goes by all that was placed since its start; where there
 -- is room, the run has that image (`Becomes`).
@@ -159,22 +161,30 @@ LacksRoomBy true changed a = LacksImage changed a
 LacksRoomBy false changed a = LacksRoom changed.modules changed.numbers a
 
 -- a module may have a form: any may be interpreted; the object of one that is not has to be in its file, and to have room
-abbrev pub Allows : Moment → List ℕ → Form → Type 0
-Allows old name form.Source = Unit {0}
-Allows old name form.Object = IsKept old name × HasRoomBy (stays old.session.state) (with_form name form.Object old.session.modules) old.session.numbers
+abbrev pub Allows : Moment → List ℕ → Form → Choice → Type 0
+Allows old name form.Source c = Unit {0}
+Allows old name form.Object c = IsKept old name c × HasRoomBy (stays old.session.state) (with_form name form.Object c old.session.modules) old.session.numbers
 
 -- why it may not
-abbrev pub SwapDenied : Moment → List ℕ → ℕ → Denied → Type 0
-SwapDenied old name now (denied.Space a) = IsKept old name × LacksRoomBy (stays old.session.state) (swapped old.session name form.Object) a
-SwapDenied old name now d =
-    (object : Object) × (object_named old.session.modules name ≡ Some object) × NotKept old.held (object_file name) object old.faults now d
+abbrev pub SwapDenied : Moment → List ℕ → Choice → ℕ → Denied → Type 0
+SwapDenied old name c now (denied.Space a) = IsKept old name c × LacksRoomBy (stays old.session.state) (swapped old.session name form.Object c) a
+SwapDenied old name c now d =
+    (object : Object) × (object_named old.session.modules name c ≡ Some object) × NotKept old.held (object_file name c) object old.faults now d
 
--- the answers to `swap`
-abbrev pub Swaps : Moment → List ℕ → Form → Answer → Moment → Type 0
-Swaps old name f (answer.Swapped m g) new = (m ≡ name) × (g ≡ f) × Allows old name f × Becomes (swapped old.session name f) new.session × (new.held ≡ old.held)
-Swaps old name f (answer.Refused d) new = (f ≡ form.Object) × Leaves old new old.session × SwapDenied old name new.faults d
-Swaps old name f answer.NoMemory new = Leaves old new old.session
-Swaps old name f _ new = ⊥
+-- what is answered where it gets the form
+abbrev pub swapped_said : List ℕ → Form → Choice → Answer
+swapped_said name f choice.Plain = answer.Swapped name f
+swapped_said name f choice.Fast = answer.SwappedFast name
+
+-- The answers to `swap`. A module that is interpreted has the plain object to run, should it be compiled.
+abbrev pub Swaps : Moment → List ℕ → Form → Choice → Answer → Moment → Type 0
+Swaps old name f c (answer.Swapped m g) new =
+    (c ≡ choice.Plain) × (m ≡ name) × (g ≡ f) × Allows old name f c × Becomes (swapped old.session name f c) new.session × (new.held ≡ old.held)
+Swaps old name f c (answer.SwappedFast m) new =
+    (c ≡ choice.Fast) × (m ≡ name) × Allows old name f c × Becomes (swapped old.session name f c) new.session × (new.held ≡ old.held)
+Swaps old name f c (answer.Refused d) new = (f ≡ form.Object) × Leaves old new old.session × SwapDenied old name c new.faults d
+Swaps old name f c answer.NoMemory new = Leaves old new old.session
+Swaps old name f c _ new = ⊥
 
 -- what is answered where a module does not get it
 abbrev pub unformed : Form → ImageFault → Answer
@@ -183,12 +193,14 @@ unformed form.Object (short.Space a) = answer.Refused (denied.Space a)
 unformed form.Object short.NoMemory = answer.NoMemory
 
 -- the same of a module whose file is its object
-abbrev pub Reforms : Plain → List ℕ → Answer → Plain → Type 0
-Reforms session name (answer.Swapped m g) new =
-    (m ≡ name) × (g ≡ form.Object) × HasRoomBy (stays session.state) (with_form name form.Object session.modules) session.numbers × Becomes (swapped session name form.Object) new
-Reforms session name (answer.Refused (denied.Space a)) new = (new ≡ session) × LacksRoomBy (stays session.state) (swapped session name form.Object) a
-Reforms session name answer.NoMemory new = new ≡ session
-Reforms session name _ new = ⊥
+abbrev pub Reforms : Plain → List ℕ → Choice → Answer → Plain → Type 0
+Reforms session name c (answer.Swapped m g) new =
+    (c ≡ choice.Plain) × (m ≡ name) × (g ≡ form.Object) × HasRoomBy (stays session.state) (with_form name form.Object c session.modules) session.numbers × Becomes (swapped session name form.Object c) new
+Reforms session name c (answer.SwappedFast m) new =
+    (c ≡ choice.Fast) × (m ≡ name) × HasRoomBy (stays session.state) (with_form name form.Object c session.modules) session.numbers × Becomes (swapped session name form.Object c) new
+Reforms session name c (answer.Refused (denied.Space a)) new = (new ≡ session) × LacksRoomBy (stays session.state) (swapped session name form.Object c) a
+Reforms session name c answer.NoMemory new = new ≡ session
+Reforms session name c _ new = ⊥
 
 -- the answers to `unload`
 abbrev pub Unloads : Plain → List ℕ → Answer → Plain → Type 0
@@ -213,11 +225,12 @@ Edits old name file answer.NoMemory new = Leaves old new old.session
 Edits old name file _ new = ⊥
 
 -- a module gets a form where nothing speaks against it
-abbrev pub Forms : Plain → List ℕ → Form → Answer → Plain → Type 0
-Forms session name f (answer.Swapped m g) new = (m ≡ name) × (g ≡ f) × Becomes (swapped session name f) new
-Forms session name f (answer.Refused (denied.Space a)) new = (f ≡ form.Object) × (stays session.state ≡ true) × LacksImage (swapped session name f) a × (new ≡ session)
-Forms session name f answer.NoMemory new = new ≡ session
-Forms session name f _ new = ⊥
+abbrev pub Forms : Plain → List ℕ → Form → Choice → Answer → Plain → Type 0
+Forms session name f c (answer.Swapped m g) new = (c ≡ choice.Plain) × (m ≡ name) × (g ≡ f) × Becomes (swapped session name f c) new
+Forms session name f c (answer.SwappedFast m) new = (c ≡ choice.Fast) × (m ≡ name) × Becomes (swapped session name f c) new
+Forms session name f c (answer.Refused (denied.Space a)) new = (f ≡ form.Object) × (stays session.state ≡ true) × LacksImage (swapped session name f c) a × (new ≡ session)
+Forms session name f c answer.NoMemory new = new ≡ session
+Forms session name f c _ new = ⊥
 
 -- what became of a text that has this number of a next one behind it, where the modules are placed so with it
 abbrev pub Changes : Plain → ℕ → Present → List Present → Taken → Plain → Type 0
@@ -306,9 +319,11 @@ abbrev pub Does : Moment → Command → Answer → Moment → Type 0
 Does old command.Nothing said new = (said ≡ answer.Silent) × (new ≡ old)
 Does old (command.Load name) said new = Loads old name (file_of name) said new
 Does old (command.Unload name) said new = Unloads old.session name said new.session × SameFiles old new
-Does old (command.Swap name form) said new = Swaps old name form said new
+Does old (command.Swap name form) said new = Swaps old name form choice.Plain said new
+Does old (command.SwapFast name) said new = Swaps old name form.Object choice.Fast said new
 Does old (command.Edit name file) said new = Edits old name (file_or name file) said new
-Does old (command.Compile name) said new = (new.session ≡ old.session) × Compiles old.session old.held old.faults name said new.held new.faults
+Does old (command.Compile name) said new = (new.session ≡ old.session) × Compiles old.session old.held old.faults name choice.Plain said new.held new.faults
+Does old (command.CompileFast name) said new = (new.session ≡ old.session) × Compiles old.session old.held old.faults name choice.Fast said new.held new.faults
 Does old (command.Stop p) said new = Sets old.session p said new.session × SameFiles old new
 Does old (command.Delete k) said new = (said ≡ answer.Deleted k) × (new.session ≡ without_stop k old.session) × SameFiles old new
 Does old command.Frames said new = ShowsCallsBy (is_mixed old.session.state) old.session said × (new ≡ old)

@@ -3,6 +3,7 @@
 
 mod asking;
 mod changing;
+mod choice;
 mod compiling;
 mod disassembling;
 mod going;

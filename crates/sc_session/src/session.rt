@@ -19,6 +19,7 @@ ghost use Rattle.sc_session.specs.Transcript.{moment, BreaksOff, Does, Speaks};
 ghost use Rattle.sc_world.specs.declared.post.Unsent.TheVariants as unsent;
 
 use crate::asking::{Asked, Deed, Go, ask_for};
+use crate::choice::Choice;
 use crate::compiling::write_compiled;
 use crate::going::{run_in, stays_in_line};
 use crate::hearing::{Heard, nothing_taken, shown_machine, taken_in};
@@ -327,8 +328,10 @@ impl Session {
             Deed::Load(name) => loading(&self.state, name, self.modules.as_slice()),
             Deed::Unload(name) => replacing(&self.state, name, self.modules.as_slice()),
             Deed::Swap(name, _) => replacing(&self.state, name, self.modules.as_slice()),
+            Deed::SwapFast(name) => replacing(&self.state, name, self.modules.as_slice()),
             Deed::Edit(name, _) => replacing(&self.state, name, self.modules.as_slice()),
             Deed::Compile(name) => if_absent(name, self.modules.as_slice()),
+            Deed::CompileFast(name) => if_absent(name, self.modules.as_slice()),
             Deed::Stop(place) => setting(&self.state, place, self.modules.as_slice()),
             Deed::Delete(k) => deleting(&self.state, *k, self.stops.as_slice()),
             Deed::Frames => stepping(&self.state),
@@ -357,8 +360,10 @@ impl Session {
             Deed::Load(name) => self.load(alloc, name, files),
             Deed::Unload(name) => self.unload(alloc, name),
             Deed::Swap(name, form) => self.swap(alloc, name, form, files),
+            Deed::SwapFast(name) => self.swap_to_object(alloc, name, Choice::Fast, files),
             Deed::Edit(name, file) => self.edit(alloc, name, file, files),
-            Deed::Compile(name) => self.compile(alloc, name, files),
+            Deed::Compile(name) => self.compile(alloc, name, Choice::Plain, files),
+            Deed::CompileFast(name) => self.compile(alloc, name, Choice::Fast, files),
             Deed::Stop(place) => self.stop(alloc, place),
             Deed::Delete(k) => self.delete(k),
             Deed::Frames => self.frames(alloc),
@@ -375,15 +380,15 @@ impl Session {
         }
     }
 
-    // Writes the object of a module to its file.
-    fn compile<F: Files>(&self, alloc: Global, name: Name, files: &mut F) -> Answer
+    // Writes that object of a module to its file.
+    fn compile<F: Files>(&self, alloc: Global, name: Name, choice: Choice, files: &mut F) -> Answer
         requires named { is_module_name name ≡ true }
         requires present { if_absent name (texts self.now.modules) ≡ None }
-        ensures compiles { compiling.Compiles self.now (F.held files.old) (F.faults files.old) name result (F.held files.new) (F.faults files.new) }
+        ensures compiles { compiling.Compiles self.now (F.held files.old) (F.faults files.old) name choice result (F.held files.new) (F.faults files.new) }
         ensures later { F.faults files.old ≤ F.faults files.new }
     {
-        match object_named(self.modules.as_slice(), &name) {
-            Some(object) => write_compiled(alloc, name, object, files),
+        match object_named(self.modules.as_slice(), &name, choice) {
+            Some(object) => write_compiled(alloc, name, choice, object, files),
             None => unreachable!(),
         }
     }
@@ -440,12 +445,9 @@ impl Session {
     fn list(&self, alloc: Global) -> Answer
         ensures { showing.Lists self.now result }
     {
-        let Ok(texts) = texts_of(alloc, self.modules.as_slice()) else {
-            return Answer::NoMemory;
-        };
         match list_text(
             alloc,
-            texts.as_slice(),
+            self.modules.as_slice(),
             &self.numbers,
             self.stops.as_slice(),
             &self.state,

@@ -4,6 +4,9 @@ use Rattle.std.specs.List.{filter}
 use Rattle.std.proofs.lemmas.List.{length-append}
 use Rattle.std.specs.Str.{bytes_eq}
 use Rattle.sc_base.specs.declared.memory.Form.{Form}
+use Rattle.sc_base.specs.declared.memory.Form.TheVariants as form
+use Rattle.sc_session.specs.declared.choice.Choice.{Choice}
+use Rattle.sc_session.specs.declared.choice.Choice.TheVariants as choice
 use Rattle.sc_core_formed.specs.Modules.{formed}
 use Rattle.sc_meaning.specs.Versions.{Text}
 use Rattle.sc_meaning.specs.World.{World}
@@ -83,13 +86,14 @@ kept_formed keep [] p = tt
 kept_formed keep (q ∷ qs) p = one_formed (keep q) q (filter keep qs) (p.0, kept_formed keep qs p.1)
 
 -- a form of a module leaves what it was checked to be
-present_formed : (b : Bool) (f : Form) (p : Present) (ps : List Present) → formed p.text.core ≡ true → AreFormed (texts ps) → AreFormed (texts ((if b then record p { text = record p.text { form = f } } else p) ∷ ps))
-present_formed true f p ps e h = (e, h)
-present_formed false f p ps e h = (e, h)
+present_formed : (b : Bool) (f : Form) (c : Choice) (p : Present) (ps : List Present) → formed p.text.core ≡ true → AreFormed (texts ps)
+    → AreFormed (texts ((if b then record p { text = record p.text { form = f }; choice = c } else p) ∷ ps))
+present_formed true f c p ps e h = (e, h)
+present_formed false f c p ps e h = (e, h)
 
-swapped_formed : (name : List ℕ) (f : Form) (ps : List Present) → AreFormed (texts ps) → AreFormed (texts (with_form name f ps))
-swapped_formed name f [] p = tt
-swapped_formed name f (q ∷ qs) p = present_formed (bytes_eq q.text.core.name name) f q (with_form name f qs) p.0 (swapped_formed name f qs p.1)
+swapped_formed : (name : List ℕ) (f : Form) (c : Choice) (ps : List Present) → AreFormed (texts ps) → AreFormed (texts (with_form name f c ps))
+swapped_formed name f c [] p = tt
+swapped_formed name f c (q ∷ qs) p = present_formed (bytes_eq q.text.core.name name) f c q (with_form name f c qs) p.0 (swapped_formed name f c qs p.1)
 
 -- ---- the run stays where it is, or is there no more
 
@@ -116,6 +120,7 @@ refused old run (command.Load name) front d new = same_run run
 refused old run (command.Unload name) front d new = same_run run
 refused old run (command.Edit name file) front d new = same_run run
 refused old run (command.Swap name form) front d new = same_run run
+refused old run (command.SwapFast name) front d new = same_run run
 refused old run _ front d new = same_run run
 
 -- nor does want of memory before it was carried out
@@ -128,6 +133,7 @@ tells_nothing old run (command.Load name) front new = same_run run
 tells_nothing old run (command.Unload name) front new = same_run run
 tells_nothing old run (command.Edit name file) front new = same_run run
 tells_nothing old run (command.Swap name form) front new = same_run run
+tells_nothing old run (command.SwapFast name) front new = same_run run
 tells_nothing old run _ front new = same_run run
 
 -- ---- versions that wait
@@ -398,12 +404,14 @@ module _ (old : Moment) (run : Option Course) (k : Keeps old.session run) where
   edits name file answer.NoMemory new leaves = (run, same_run run, moved old.session new.session run leaves.0 k)
   edits name file _ new p = absurd p
 
-  swaps : (name : List ℕ) (f : Form) (said : Answer) (new : Moment) → Swaps old name f said new → (after : Option Course) × ChangeTells old run said (texts new.session.modules) after × Keeps new.session after
-  swaps name f (answer.Swapped m g) new (is, same, may, becomes, held) =
-      changes (swapped old.session name f) new.session becomes refl refl refl (swapped_formed name f old.session.modules k.0)
-  swaps name f (answer.Refused d) new (is, leaves, why) = (run, same_run run, moved old.session new.session run leaves.0 k)
-  swaps name f answer.NoMemory new leaves = (run, same_run run, moved old.session new.session run leaves.0 k)
-  swaps name f _ new p = absurd p
+  swaps : (name : List ℕ) (f : Form) (c : Choice) (said : Answer) (new : Moment) → Swaps old name f c said new → (after : Option Course) × ChangeTells old run said (texts new.session.modules) after × Keeps new.session after
+  swaps name f c (answer.Swapped m g) new (plain, is, same, may, becomes, held) =
+      changes (swapped old.session name f c) new.session becomes refl refl refl (swapped_formed name f c old.session.modules k.0)
+  swaps name f c (answer.SwappedFast m) new (fast, is, may, becomes, held) =
+      changes (swapped old.session name f c) new.session becomes refl refl refl (swapped_formed name f c old.session.modules k.0)
+  swaps name f c (answer.Refused d) new (is, leaves, why) = (run, same_run run, moved old.session new.session run leaves.0 k)
+  swaps name f c answer.NoMemory new leaves = (run, same_run run, moved old.session new.session run leaves.0 k)
+  swaps name f c _ new p = absurd p
 
   unloads : (name : List ℕ) (said : Answer) (new : Plain) → Unloads old.session name said new → (after : Option Course) × ChangeTells old run said (texts new.modules) after × Keeps new after
   unloads name (answer.Unloaded m) new (is, becomes) = changes (unloaded old.session name) new becomes refl refl refl (kept_formed _ old.session.modules k.0)
@@ -488,12 +496,14 @@ carried : (old : Moment) (run : Option Course) → Keeps old.session run → (c 
 carried old run k command.Nothing front said new free a (none, p) = same_session old run k new p.1
 carried old run k (command.Load name) front said new free a (none, p) = loads old run k name (file_of name) said new p
 carried old run k (command.Unload name) front said new free a (none, p) = unloads old run k name said new.session p.0
-carried old run k (command.Swap name form) front said new free a (none, p) = swaps old run k name form said new p
+carried old run k (command.Swap name f) front said new free a (none, p) = swaps old run k name f choice.Plain said new p
+carried old run k (command.SwapFast name) front said new free a (none, p) = swaps old run k name form.Object choice.Fast said new p
 carried old run k (command.Edit name file) front said new free a (none, p) = edits old run k name (file_or name file) said new p
 carried old run k (command.Run file) front said new free a p = runs old run a (all_come old.session.state old.session.past old.session.come free) file front said new p
 carried old run k (command.Stop place) front said new free a (none, p) = (run, same_run run, sets old run k place said new.session p.0)
 carried old run k (command.Delete n) front said new free a (none, p) = (run, same_run run, moved (without_stop n old.session) new.session run p.1 k)
 carried old run k (command.Compile name) front said new free a (none, p) = (run, same_run run, moved old.session new.session run p.0 k)
+carried old run k (command.CompileFast name) front said new free a (none, p) = (run, same_run run, moved old.session new.session run p.0 k)
 carried old run k command.Step front said new free a p = walks old run k walk.Step front said new.session p.0
 carried old run k command.Next front said new free a p = walks old run k walk.Next front said new.session p.0
 carried old run k command.Cont front said new free a p = walks old run k walk.Cont front said new.session p.0

@@ -183,6 +183,7 @@ ChangeTells old run (answer.Loaded m) new after = ChangesSo old run new after
 ChangeTells old run (answer.Edited m) new after = ChangesSo old run new after
 ChangeTells old run (answer.Unloaded m) new after = ChangesSo old run new after
 ChangeTells old run (answer.Swapped m f) new after = ChangesSo old run new after
+ChangeTells old run (answer.SwappedFast m) new after = ChangesSo old run new after
 ChangeTells old run _ new after = Stays run after
 
 -- What an answer tells of a session's run, behind these bytes, which went out; the texts of the modules then; and where the run stands.
@@ -195,6 +196,7 @@ Tells old run (command.Load name) front said new after = ChangeTells old run sai
 Tells old run (command.Unload name) front said new after = ChangeTells old run said new after
 Tells old run (command.Edit name file) front said new after = ChangeTells old run said new after
 Tells old run (command.Swap name form) front said new after = ChangeTells old run said new after
+Tells old run (command.SwapFast name) front said new after = ChangeTells old run said new after
 Tells old run _ front said new after = Stays run after
 
 -- The run of interpreted modules that goes on in a session stands in this world, in which `where` and `print` are answered.

@@ -1,0 +1,10 @@
+//! The second compiler: constants are folded, and registers keep copies of objects where that pays.
+#![tactic(auto)]
+
+mod fast;
+mod kept;
+mod uses;
+
+pub use fast::{compile_fast, fast_text, generate_fast};
+pub use kept::fast_style;
+pub use uses::{Object, Shape, Use, use_of, use_of_statement};
