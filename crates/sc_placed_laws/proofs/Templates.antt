@@ -45,8 +45,11 @@ kept_less false n h = omega arith
 back_less : (n m : ℕ) → places.kept_back n m < 2048
 back_less n m = kept_less (places.is_kept_back n m) (n + m) (λ e. less (n + m) 2048 e)
 
+abbrev kept_of : CoreExpr → places.Away
+kept_of = fold-CoreExpr places.Away (λ p x. places.away_layer p (out-CoreExpr x))
+
 abbrev Near : CoreExpr → Type 0
-Near e = places.away_part e e < 2048
+Near e = kept_of e e < 2048
 
 abbrev NearOne : Type 0
 NearOne = (e : CoreExpr) × Near e
@@ -55,7 +58,7 @@ abbrev near_plain : CoreExpr-F NearOne → CoreExpr-F CoreExpr
 near_plain y = map-CoreExpr NearOne CoreExpr (λ e. e.0) y
 
 abbrev NearLayer : CoreExpr-F CoreExpr → Type 0
-NearLayer x = places.away_layer (map-CoreExpr CoreExpr places.Away places.away_part x) x < 2048
+NearLayer x = places.away_layer (map-CoreExpr CoreExpr places.Away kept_of x) x < 2048
 
 element_less : (n : ℕ) (o : Option ℕ) → n < 2048 → places.away_element n o < 2048
 element_less n None h = h
@@ -69,12 +72,12 @@ nothing_less : 0 < 2048
 nothing_less = omega arith
 
 layer_less : (y : CoreExpr-F NearOne) → NearLayer (near_plain y)
-layer_less (CoreExpr-F.Member l t n a) = back_less n (places.away_part a.0 a.0)
-layer_less (CoreExpr-F.Arrow l t n a) = back_less n (places.away_part a.0 a.0)
+layer_less (CoreExpr-F.Member l t n a) = back_less n (kept_of a.0 a.0)
+layer_less (CoreExpr-F.Arrow l t n a) = back_less n (kept_of a.0 a.0)
 layer_less (CoreExpr-F.Address l t a) = a.1
 layer_less (CoreExpr-F.Indirection l t a) = a.1
-layer_less (CoreExpr-F.Index l t n a b) = either_less (operators.is_pointer (type_of a.0)) (places.away_element (places.away_part a.0 a.0) (places.element b.0 n)) (places.away_part b.0 b.0) (element_less (places.away_part a.0 a.0) (places.element b.0 n) a.1) b.1
-layer_less (CoreExpr-F.Convert l t a) = either_less (places.is_passed a.0 t) (places.away_part a.0 a.0) 0 a.1 nothing_less
+layer_less (CoreExpr-F.Index l t n a b) = either_less (operators.is_pointer (type_of a.0)) (places.away_element (kept_of a.0 a.0) (places.element b.0 n)) (kept_of b.0 b.0) (element_less (kept_of a.0 a.0) (places.element b.0 n) a.1) b.1
+layer_less (CoreExpr-F.Convert l t a) = either_less (places.is_passed a.0 t) (kept_of a.0 a.0) 0 a.1 nothing_less
 layer_less (CoreExpr-F.Number l t n) = nothing_less
 layer_less (CoreExpr-F.Literal l t n) = nothing_less
 layer_less (CoreExpr-F.Automatic l t b n) = nothing_less
@@ -97,10 +100,10 @@ layer_less (CoreExpr-F.Compound l t o k a b) = nothing_less
 layer_less (CoreExpr-F.CompoundOffset l t o n a b) = nothing_less
 layer_less (CoreExpr-F.Comma l t a b) = nothing_less
 
-unrolled_near : (x : CoreExpr-F CoreExpr) → places.away_part (roll-CoreExpr x) (roll-CoreExpr x) ≡ places.away_layer (map-CoreExpr CoreExpr places.Away places.away_part x) x
+unrolled_near : (x : CoreExpr-F CoreExpr) → kept_of (roll-CoreExpr x) (roll-CoreExpr x) ≡ places.away_layer (map-CoreExpr CoreExpr places.Away kept_of x) x
 unrolled_near x =
     ap (λ (p : places.Away). p (roll-CoreExpr x)) (fold-roll-CoreExpr places.Away (λ p x. places.away_layer p (out-CoreExpr x)) x)
-    ∙ ap (λ (z : CoreExpr-F CoreExpr). places.away_layer (map-CoreExpr CoreExpr places.Away places.away_part x) z) (out-roll-CoreExpr x)
+    ∙ ap (λ (z : CoreExpr-F CoreExpr). places.away_layer (map-CoreExpr CoreExpr places.Away kept_of x) z) (out-roll-CoreExpr x)
 
 pub away_less : (e : CoreExpr) → Near e
 away_less = ind-CoreExpr Near

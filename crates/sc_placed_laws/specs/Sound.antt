@@ -38,6 +38,3 @@ IsSoundCode (x ∷ xs) = (Fits x × Follows x xs) × IsSoundCode xs
 -- the copies of a style stand in registers that there are
 pub record HasRegisters (st : Style) : Type 0 where
   pub registers : list_all (λ (k : Kept). nat_lt k.register 32) st.kept ≡ true
-
-abbrev pub Probe : Type 0
-Probe = Unit {0}

@@ -1,5 +1,5 @@
-use Rattle.sc_placed_laws.proofs.Sequences.{app, even_offset}
+use Rattle.sc_placed_laws.proofs.Statements.{function_sound}
 use Rattle.sc_placed_laws.proofs.laws.code_is_sound.Goals as goal
 
 pub returns : goal.returns
-returns c = ?
+returns c = function_sound
