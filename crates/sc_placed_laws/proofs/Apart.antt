@@ -119,20 +119,20 @@ home_by ds d t n true e h = refl
 home_by ds d t n false e h = absurd (cc)
 
 home_later : (ds : List Definition) (d : Definition) (t : Target) (n : ℕ) (h : Home) (b : Bool) → target_eq d.target t ≡ b → (b ≡ true → ⊥) → home_from (n + 1) ds t ≡ Some h → (if b then Some (home n d) else home_from (n + 1) ds t) ≡ Some h
-home_later ds d t n h true e no g = absurd (no refl)
-home_later ds d t n h false e no g = g
+home_later ds d t n h true e bare g = absurd (bare refl)
+home_later ds d t n h false e bare g = g
 
 home_own : (code : Fun → Code) (own : List ℕ) (f : Fun) (bs : List Fun) (later : List Definition) (n : ℕ) → Each (Other f) bs →
     home_from n (map (function_definition code own) bs ++ function_definition code own f ∷ later) (Named (key_of own f)) ≡ Some (home (n + length bs) (function_definition code own f))
-home_own code own f [] later n no =
+home_own code own f [] later n bare =
     let s : n ≡ n + 0 = omega arith in
     home_by later (function_definition code own f) (Named (key_of own f)) n (target_eq (Named (key_of own f)) (Named (key_of own f))) refl (key_self (key_of own f))
     ∙ ap (λ (k : ℕ). Some (home k (function_definition code own f))) s
-home_own code own f (b ∷ bs) later n no =
+home_own code own f (b ∷ bs) later n bare =
     let s : (n + 1) + length bs ≡ n + suc (length bs) = omega arith in
     home_later (map (function_definition code own) bs ++ function_definition code own f ∷ later) (function_definition code own b) (Named (key_of own f)) n (home (n + suc (length bs)) (function_definition code own f))
-    (target_eq (Named (key_of own b)) (Named (key_of own f))) refl (λ e. no.0 (name_of (key_of own b) (key_of own f) (target_same (Named (key_of own b)) (Named (key_of own f)) e)))
-    (home_own code own f bs later (n + 1) no.1 ∙ ap (λ (k : ℕ). Some (home k (function_definition code own f))) s)
+    (target_eq (Named (key_of own b)) (Named (key_of own f))) refl (λ e. bare.0 (name_of (key_of own b) (key_of own f) (target_same (Named (key_of own b)) (Named (key_of own f)) e)))
+    (home_own code own f bs later (n + 1) bare.1 ∙ ap (λ (k : ℕ). Some (home k (function_definition code own f))) s)
 
 -- ---- the text of a frame
 
@@ -244,7 +244,7 @@ module _ (e : Placed) (made : IsMade e.object) (text statics : ℕ) (keeps_ : Li
 
   -- the symbol of a function has the number of its section
   section_number : (bs fs : List Fun) (f : Fun) (s : Symbol) → core.funs ≡ bs ++ f ∷ fs → Each (Other f) bs → slice_get e.object.symbols (symbol_number known (Named (key_of core.name f))) ≡ Some s → s.section ≡ Some (length bs)
-  section_number bs fs f s is no g =
+  section_number bs fs f s is bare g =
       let t = Named (key_of core.name f) in
       let ds = definitions code core in
       let rest = map (object_definition core.literals) core.objects ++ literal_definitions 0 core.literals in
@@ -254,7 +254,7 @@ module _ (e : Placed) (made : IsMade e.object) (text statics : ℕ) (keeps_ : Li
           append_assoc (map (function_definition code core.name) core.funs) (map (object_definition core.literals) core.objects) (literal_definitions 0 core.literals)
           ∙ ap (λ (z : List Fun). map (function_definition code core.name) z ++ rest) is ∙ ap (λ (z : List Definition). z ++ rest) (map-append (function_definition code core.name) bs (f ∷ fs))
           ∙ append_assoc (map (function_definition code core.name) bs) (function_definition code core.name f ∷ map (function_definition code core.name) fs) rest in
-      let home_is = ap (λ (z : List Definition). home_from 0 z t) split ∙ home_own code core.name f bs (map (function_definition code core.name) fs ++ rest) 0 no in
+      let home_is = ap (λ (z : List Definition). home_from 0 z t) split ∙ home_own code core.name f bs (map (function_definition code core.name) fs ++ rest) 0 bare in
       let count : length bs ≤ length core.funs = (let c = ap length is in let a = length-append bs (f ∷ fs) in omega (arith, c, a)) in
       let many = total_many code text core.funs made.some in
       let i = inside in
@@ -262,9 +262,9 @@ module _ (e : Placed) (made : IsMade e.object) (text statics : ℕ) (keeps_ : Li
       ap (λ (z : Symbol). z.section) (sym found.1.1) ∙ ap (λ (u : Target). (symbol_of ds u).section) same ∙ ap (λ (h : Option Home). (symbol_by t h).section) home_is ∙ ap Some low
 
   own_text : (bs fs : List Fun) (f : Fun) (t : Text) → core.funs ≡ bs ++ f ∷ fs → Each (Other f) bs → text_of e (frame f) ≡ Some t → (t.at.start ≡ total code text bs) × (length t.words ≡ length (code f))
-  own_text bs fs f t is no h =
+  own_text bs fs f t is bare h =
       let s = then_some (text_by e (frame f)) (slice_get e.object.symbols (frame f).symbol) t h in
-      let n = section_number bs fs f s.0 is no s.1.0 in
+      let n = section_number bs fs f s.0 is bare s.1.0 in
       let k = length bs in
       let of = text_numbered e (frame f) t k (section_of e.object s.0) (place_of e s.0) (symbol_key e.home s.0)
           (ap (option_and_then (slice_get e.object.sections)) (sym n)) (ap (option_and_then (slice_get e.places)) (sym n)) s.1.1 in
@@ -289,7 +289,7 @@ module _ (e : Placed) (made : IsMade e.object) (text statics : ℕ) (keeps_ : Li
   frames_chain bs (f ∷ fs) is new =
       let names = map (λ (b : Fun). b.name) bs in
       let fresh = not_true (list_any (bytes_eq f.name) names) (first (not (list_any (bytes_eq f.name) names)) (are_new bytes_eq (names ++ f.name ∷ []) (map (λ (b : Fun). b.name) fs)) new) in
-      let no = others f bs fresh in
+      let bare = others f bs fresh in
       let next : total code text (bs ++ f ∷ []) ≡ total code text bs + 4 * length (code f) = total_more code text bs (f ∷ []) in
       let later = second (not (list_any (bytes_eq f.name) names)) (are_new bytes_eq (names ++ f.name ∷ []) (map (λ (b : Fun). b.name) fs)) new in
       let again : are_new bytes_eq (map (λ (b : Fun). b.name) (bs ++ f ∷ [])) (map (λ (b : Fun). b.name) fs) ≡ true =
@@ -297,7 +297,7 @@ module _ (e : Placed) (made : IsMade e.object) (text statics : ℕ) (keeps_ : Li
       let rest = frames_chain (bs ++ f ∷ []) fs (is ∙ sym (append_assoc bs (f ∷ []) fs)) again in
       let c = subst (λ (n : ℕ). Chain (total code n fs) n (flat_map (λ x. option_to_list (text_of e x)) (map frame fs))) next rest in
       option_chain (text_of e (frame f)) (flat_map (λ x. option_to_list (text_of e x)) (map frame fs)) (total code (total code text bs + 4 * length (code f)) fs) (total code text bs) (total code text bs + 4 * length (code f)) (omega arith)
-      (λ t h. let o = own_text bs fs f t is no h in let a = o.0 in let b = o.1 in (omega (arith, a), omega (arith, a, b))) c
+      (λ t h. let o = own_text bs fs f t is bare h in let a = o.0 in let b = o.1 in (omega (arith, a), omega (arith, a, b))) c
 
   entry_chain : are_new bytes_eq [] (map (λ (b : Fun). b.name) core.funs) ≡ true → Chain (text_end true text e.object.sections) text (texts_of e)
   entry_chain new =

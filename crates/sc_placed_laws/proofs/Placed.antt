@@ -320,29 +320,29 @@ each_at P (y ∷ xs) (suc k) x p e = each_at P xs k x p.1 e
 -- a text is one of a function
 pub text_index : (code : Fun → Code) (fs : List Fun) (more : List Section) (k : ℕ) (sec : Section) → Each NoText more → slice_get (map (function_section code) fs ++ more) k ≡ Some sec → is_text sec.kind ≡ true →
     (f : Fun) × ((slice_get fs k ≡ Some f) × (function_section code f ≡ sec))
-text_index code [] more k sec no e t = absurd (true_false (sym t ∙ each_at NoText more k sec no e))
-text_index code (f ∷ fs) more zero sec no e t = (f, (refl, same_some (function_section code f) sec e))
-text_index code (f ∷ fs) more (suc k) sec no e t = text_index code fs more k sec no e t
+text_index code [] more k sec bare e t = absurd (true_false (sym t ∙ each_at NoText more k sec bare e))
+text_index code (f ∷ fs) more zero sec bare e t = (f, (refl, same_some (function_section code f) sec e))
+text_index code (f ∷ fs) more (suc k) sec bare e t = text_index code fs more k sec bare e t
 
 -- behind the functions there is none
 text_before : (code : Fun → Code) (fs : List Fun) (more : List Section) (k : ℕ) (sec : Section) → Each NoText more → length fs ≤ k → slice_get (map (function_section code) fs ++ more) k ≡ Some sec → is_text sec.kind ≡ false
-text_before code [] more k sec no l e = each_at NoText more k sec no e
-text_before code (f ∷ fs) more zero sec no l e = absurd (omega (arith, l))
-text_before code (f ∷ fs) more (suc k) sec no l e = text_before code fs more k sec no (omega (arith, l)) e
+text_before code [] more k sec bare l e = each_at NoText more k sec bare e
+text_before code (f ∷ fs) more zero sec bare l e = absurd (omega (arith, l))
+text_before code (f ∷ fs) more (suc k) sec bare l e = text_before code fs more k sec bare (omega (arith, l)) e
 
 after_text : (text L : ℕ) → behind_text text (4 * L) ≡ text + 4 * L
 after_text text L = omega arith
 
 no_text_end : (ss : List Section) (text : ℕ) → Each NoText ss → text_end true text ss ≡ text
-no_text_end [] text no = refl
-no_text_end (s ∷ ss) text no = ap (λ (b : Bool). text_end true (if b && true then behind_text text (length s.bytes) else text) ss) no.0 ∙ no_text_end ss text no.1
+no_text_end [] text bare = refl
+no_text_end (s ∷ ss) text bare = ap (λ (b : Bool). text_end true (if b && true then behind_text text (length s.bytes) else text) ss) bare.0 ∙ no_text_end ss text bare.1
 
 pub end_total : (code : Fun → Code) (fs : List Fun) (more : List Section) (text : ℕ) → Each NoText more → text_end true text (map (function_section code) fs ++ more) ≡ total code text fs
-end_total code [] more text no = no_text_end more text no
-end_total code (f ∷ fs) more text no =
+end_total code [] more text bare = no_text_end more text bare
+end_total code (f ∷ fs) more text bare =
     ap (λ (n : ℕ). text_end true (behind_text text n) (map (function_section code) fs ++ more)) (bytes-length (code f))
     ∙ ap (λ (n : ℕ). text_end true n (map (function_section code) fs ++ more)) (after_text text (length (code f)))
-    ∙ end_total code fs more (text + 4 * length (code f)) no
+    ∙ end_total code fs more (text + 4 * length (code f)) bare
 
 pub text_grows : (b : Bool) (ss : List Section) (text : ℕ) → text ≤ text_end b text ss
 text_grows b [] text = omega arith
@@ -503,7 +503,7 @@ entry_fixes Q e made text statics keeps ep fits meets =
     let code = made.code in
     let more = map object_section core.objects ++ literal_sections 0 core.literals in
     let others = map (object_definition core.literals) core.objects ++ literal_definitions 0 core.literals in
-    let no = each_app NoText (map object_section core.objects) (literal_sections 0 core.literals) (objects_no_text core.objects) (literals_no_text 0 core.literals) in
+    let bare = each_app NoText (map object_section core.objects) (literal_sections 0 core.literals) (objects_no_text core.objects) (literals_no_text 0 core.literals) in
     let es : e.object.sections ≡ map (function_section code) core.funs ++ more =
         ap (λ (o : Object). o.sections) made.same ∙ append_assoc (map (function_section code) core.funs) (map object_section core.objects) (literal_sections 0 core.literals) in
     let ds : definitions code core ≡ map (function_definition code core.name) core.funs ++ others =
@@ -511,11 +511,11 @@ entry_fixes Q e made text statics keeps ep fits meets =
     let rs : e.object.relocs ≡ relocs_from (targets code core) 0 (map (function_definition code core.name) core.funs ++ others) =
         ap (λ (o : Object). o.relocs) made.same ∙ ap (relocs_from (targets code core) 0) ds in
     let inside : total code text core.funs ≤ 0x04100000 =
-        subst (λ (n : ℕ). n ≤ 0x04100000) (ap (text_end true text) es ∙ end_total code core.funs more text no) fits in
+        subst (λ (n : ℕ). n ≤ 0x04100000) (ap (text_end true text) es ∙ end_total code core.funs more text bare) fits in
     let many = total_many code text core.funs made.some in
     let at = functions_at Q e code core.funs more [] [] 0 text statics keeps es (ep ∙ ap (λ (z : List Section). places_from true text statics z keeps) es) refl refl in
     let later = data_found Q e code (targets code core) core.name (length core.funs) (omega (arith, many, inside))
-        (λ k sec l g. text_before code core.funs more k sec no l (ap (λ (z : List Section). slice_get z k) (sym es) ∙ g)) others (0 + length core.funs) (omega arith) in
+        (λ k sec l g. text_before code core.funs more k sec bare l (ap (λ (z : List Section). slice_get z k) (sym es) ∙ g)) others (0 + length core.funs) (omega arith) in
     each_flat Q (fixes_of e) e.object.relocs
     (subst (λ (z : List Reloc). Each (Found Q e) z) (sym rs)
     (functions_found Q e code (targets code core) core.name core.funs 0 text others at (omega (arith, many, inside)) inside meets later))
@@ -526,10 +526,10 @@ ends e made text pc l =
     let core = made.core in
     let code = made.code in
     let more = map object_section core.objects ++ literal_sections 0 core.literals in
-    let no = each_app NoText (map object_section core.objects) (literal_sections 0 core.literals) (objects_no_text core.objects) (literals_no_text 0 core.literals) in
+    let bare = each_app NoText (map object_section core.objects) (literal_sections 0 core.literals) (objects_no_text core.objects) (literals_no_text 0 core.literals) in
     let es : e.object.sections ≡ map (function_section code) core.funs ++ more =
         ap (λ (o : Object). o.sections) made.same ∙ append_assoc (map (function_section code) core.funs) (map object_section core.objects) (literal_sections 0 core.literals) in
-    subst (λ (n : ℕ). n ≤ pc) (ap (text_end true text) es ∙ end_total code core.funs more text no) l
+    subst (λ (n : ℕ). n ≤ pc) (ap (text_end true text) es ∙ end_total code core.funs more text bare) l
 
 entry_avoids : (e : Placed) (b : Bool) (made : IsMade e.object) (text statics : ℕ) (keeps : List (Option ℕ)) (pc : ℕ) → e.places ≡ places_from b text statics e.object.sections keeps →
     text_end b text e.object.sections ≤ 0x04100000 → (pc < text) ⊎ (text_end b text e.object.sections ≤ pc) → Each (Avoids pc) (if b then flat_map (fixes_of e) e.object.relocs else [])
@@ -623,11 +623,11 @@ module _ (value : Key → Option ℕ) (before es : List Placed) (e : Placed) (lo
       let core = made.core in
       let code = made.code in
       let more = map object_section core.objects ++ literal_sections 0 core.literals in
-      let no = each_app NoText (map object_section core.objects) (literal_sections 0 core.literals) (objects_no_text core.objects) (literals_no_text 0 core.literals) in
+      let bare = each_app NoText (map object_section core.objects) (literal_sections 0 core.literals) (objects_no_text core.objects) (literals_no_text 0 core.literals) in
       let ss : e.object.sections ≡ map (function_section code) core.funs ++ more =
           ap (λ (o : Object). o.sections) made.same ∙ append_assoc (map (function_section code) core.funs) (map object_section core.objects) (literal_sections 0 core.literals) in
       let k = of.number in
-      let found = text_index code core.funs more k of.section no (ap (λ (z : List Section). slice_get z k) (sym ss) ∙ of.section_is) of.is_one in
+      let found = text_index code core.funs more k of.section bare (ap (λ (z : List Section). slice_get z k) (sym ss) ∙ of.section_is) of.is_one in
       let f = found.0 in
       let at = functions_at (Avoids 0) e code core.funs more [] [] 0 text statics keeps_ ss (ep ∙ ap (λ (z : List Section). places_from true text statics z keeps_) ss) refl refl in
       let zero_k : k ≡ 0 + k = omega arith in
@@ -638,7 +638,7 @@ module _ (value : Key → Option ℕ) (before es : List Placed) (e : Placed) (lo
       let one = get_mapped symbolic_word (code f) m w (ap (λ (z : List ℕ). slice_get z m) (sym ws) ∙ g) in
       let x = one.0 in
       let pc = start code text core.funs k + 4 * m in
-      let inside : total code text core.funs ≡ text_end true text e.object.sections = sym (ap (text_end true text) ss ∙ end_total code core.funs more text no) in
+      let inside : total code text core.funs ≡ text_end true text e.object.sections = sym (ap (text_end true text) ss ∙ end_total code core.funs more text bare) in
       let from = start_from code text core.funs k in
       let to = start_inside code text core.funs k f found.1.0 in
       let short : m < length (code f) = slice_get_within (code f) m x one.1.0 in
