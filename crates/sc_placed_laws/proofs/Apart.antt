@@ -207,6 +207,7 @@ others f (b ∷ bs) h = (one (bytes_eq f.name b.name) (list_any (bytes_eq f.name
     one : (c d : Bool) → bytes_eq f.name b.name ≡ c → (c || d) ≡ false → Other f b
     one true d e h = absurd (cc)
     one false d e h = λ same. true_false (sym (ap (bytes_eq f.name) same ∙ bytes_self f.name) ∙ e)
+
     rest : (c d : Bool) → (c || d) ≡ false → d ≡ false
     rest true d h = absurd (cc)
     rest false d h = h
@@ -251,9 +252,9 @@ module _ (e : Placed) (made : IsMade e.object) (text statics : ℕ) (keeps_ : Li
       let found = get_mapped (symbol_of ds) known (symbol_number known t) s (ap (λ (o : Object). slice_get o.symbols (symbol_number known t)) (sym made.same) ∙ g) in
       let same = number_same known t found.0 symbols_few found.1.0 in
       let split : ds ≡ map (function_definition code core.name) bs ++ (function_definition code core.name f ∷ (map (function_definition code core.name) fs ++ rest)) =
-          append_assoc (map (function_definition code core.name) core.funs) (map (object_definition core.literals) core.objects) (literal_definitions 0 core.literals)
-          ∙ ap (λ (z : List Fun). map (function_definition code core.name) z ++ rest) is ∙ ap (λ (z : List Definition). z ++ rest) (map-append (function_definition code core.name) bs (f ∷ fs))
-          ∙ append_assoc (map (function_definition code core.name) bs) (function_definition code core.name f ∷ map (function_definition code core.name) fs) rest in
+      append_assoc (map (function_definition code core.name) core.funs) (map (object_definition core.literals) core.objects) (literal_definitions 0 core.literals)
+      ∙ ap (λ (z : List Fun). map (function_definition code core.name) z ++ rest) is ∙ ap (λ (z : List Definition). z ++ rest) (map-append (function_definition code core.name) bs (f ∷ fs))
+      ∙ append_assoc (map (function_definition code core.name) bs) (function_definition code core.name f ∷ map (function_definition code core.name) fs) rest in
       let home_is = ap (λ (z : List Definition). home_from 0 z t) split ∙ home_own code core.name f bs (map (function_definition code core.name) fs ++ rest) 0 bare in
       let count : length bs ≤ length core.funs = (let c = ap length is in let a = length-append bs (f ∷ fs) in omega (arith, c, a)) in
       let many = total_many code text core.funs made.some in
@@ -267,16 +268,16 @@ module _ (e : Placed) (made : IsMade e.object) (text statics : ℕ) (keeps_ : Li
       let n = section_number bs fs f s.0 is bare s.1.0 in
       let k = length bs in
       let of = text_numbered e (frame f) t k (section_of e.object s.0) (place_of e s.0) (symbol_key e.home s.0)
-          (ap (option_and_then (slice_get e.object.sections)) (sym n)) (ap (option_and_then (slice_get e.places)) (sym n)) s.1.1 in
+      (ap (option_and_then (slice_get e.object.sections)) (sym n)) (ap (option_and_then (slice_get e.places)) (sym n)) s.1.1 in
       let index = text_index code core.funs more k of.section no_more (ap (λ (z : List Section). slice_get z k) (sym sections_are) ∙ of.section_is) of.is_one in
       let mine : slice_get core.funs k ≡ Some f = ap (λ (z : List Fun). slice_get z k) is ∙ get_behind bs fs f k refl in
       let same : index.0 ≡ f = same_some index.0 f (sym index.1.0 ∙ mine) in
       let at = functions_at (Avoids 0) e code core.funs more [] [] 0 text statics keeps_ sections_are (ep ∙ ap (λ (z : List Section). places_from true text statics z keeps_) sections_are) refl refl in
       let zero_k : k ≡ 0 + k = omega arith in
       let begins : t.at.start ≡ start code text core.funs k =
-          same_some t.at.start (start code text core.funs k) (sym of.place_is ∙ ap (slice_get e.places) zero_k ∙ place_at (Avoids 0) e code core.funs 0 text k f at mine) in
+      same_some t.at.start (start code text core.funs k) (sym of.place_is ∙ ap (slice_get e.places) zero_k ∙ place_at (Avoids 0) e code core.funs 0 text k f at mine) in
       let ws : t.words ≡ map symbolic_word (code f) =
-          of.words_are ∙ ap (λ (z : Section). words z.bytes) (sym index.1.1) ∙ ap (λ (z : Fun). words (function_section code z).bytes) same ∙ code_words (code f) (made.sound f) in
+      of.words_are ∙ ap (λ (z : Section). words z.bytes) (sym index.1.1) ∙ ap (λ (z : Fun). words (function_section code z).bytes) same ∙ code_words (code f) (made.sound f) in
       (begins ∙ ap (λ (z : List Fun). start code text z k) is ∙ start_behind code text bs fs f, ap length ws ∙ length-map (code f) symbolic_word)
 
   option_chain : (o : Option Text) (rest : List Text) (high low next : ℕ) → low ≤ next → ((t : Text) → o ≡ Some t → (low ≤ t.at.start) × (end_of t ≤ next)) → Chain high next rest → Chain high low (option_to_list o ++ rest)
@@ -293,7 +294,7 @@ module _ (e : Placed) (made : IsMade e.object) (text statics : ℕ) (keeps_ : Li
       let next : total code text (bs ++ f ∷ []) ≡ total code text bs + 4 * length (code f) = total_more code text bs (f ∷ []) in
       let later = second (not (list_any (bytes_eq f.name) names)) (are_new bytes_eq (names ++ f.name ∷ []) (map (λ (b : Fun). b.name) fs)) new in
       let again : are_new bytes_eq (map (λ (b : Fun). b.name) (bs ++ f ∷ [])) (map (λ (b : Fun). b.name) fs) ≡ true =
-          ap (λ (z : List (List ℕ)). are_new bytes_eq z (map (λ (b : Fun). b.name) fs)) (map-append (λ (b : Fun). b.name) bs (f ∷ [])) ∙ later in
+      ap (λ (z : List (List ℕ)). are_new bytes_eq z (map (λ (b : Fun). b.name) fs)) (map-append (λ (b : Fun). b.name) bs (f ∷ [])) ∙ later in
       let rest = frames_chain (bs ++ f ∷ []) fs (is ∙ sym (append_assoc bs (f ∷ []) fs)) again in
       let c = subst (λ (n : ℕ). Chain (total code n fs) n (flat_map (λ x. option_to_list (text_of e x)) (map frame fs))) next rest in
       option_chain (text_of e (frame f)) (flat_map (λ x. option_to_list (text_of e x)) (map frame fs)) (total code (total code text bs + 4 * length (code f)) fs) (total code text bs) (total code text bs + 4 * length (code f)) (omega arith)

@@ -166,6 +166,7 @@ module _ (Q : Fix → Type 0) (e : Placed) where
       front : (c d : Bool) → (c && d) ≡ true → c ≡ true
       front true d h = refl
       front false d h = cc
+
       back : (c d : Bool) → (c && d) ≡ true → d ≡ true
       back true d h = h
       back false d h = cc
@@ -268,8 +269,8 @@ module _ (Q : Fix → Type 0) (e : Placed) (code : Fun → Code) (known : List T
       let same : fitted n ≡ n = omega (arith, few) in
       let t = total_from code (text + 4 * length (code f)) fs in
       let own = all_found Q e known n text (function_section code f) (code f)
-          (ap (λ (k : ℕ). slice_get e.object.sections k) same ∙ at.0.0) (ap (λ (k : ℕ). slice_get e.places k) same ∙ at.0.1)
-          (bytes-length (code f)) (omega (arith, t, fits)) meets.0 0 [] (code f) refl refl in
+      (ap (λ (k : ℕ). slice_get e.object.sections k) same ∙ at.0.0) (ap (λ (k : ℕ). slice_get e.places k) same ∙ at.0.1)
+      (bytes-length (code f)) (omega (arith, t, fits)) meets.0 0 [] (code f) refl refl in
       let s : n + length (f ∷ fs) ≡ (n + 1) + length fs = omega arith in
       each_app (Found Q e) (map (reloc_of known n) (text_fixups 0 (code f))) (relocs_from known (n + 1) (map (function_definition code home) fs ++ rest))
       (each_map (Found Q e) (reloc_of known n) (text_fixups 0 (code f)) own)
@@ -362,17 +363,16 @@ module _ (Q : Fix → Type 0) (e : Placed) (code : Fun → Code) where
       let s = function_section code f in
       let rest = map (function_section code) fs ++ more in
       let later = places_from true (text_after true text s) (static_after statics s (first_kept keeps)) rest (rest_kept keeps) in
-      let here : text_after true text s ≡ text + 4 * length (code f) = ap (behind_text text) (bytes-length (code f)) ∙ after_text text (length (code f)) in
-      (
+      let here : text_after true text s ≡ text + 4 * length (code f) = ap (behind_text text) (bytes-length (code f)) ∙ after_text text (length (code f)) in (
         (
           ap (λ (z : List Section). slice_get z n) es ∙ get_behind front rest s n lf,
           ap (λ (z : List ℕ). slice_get z n) ep ∙ get_behind before later text n lb,
         ),
         functions_at fs more (front ++ s ∷ []) (before ++ text ∷ []) (n + 1) (text + 4 * length (code f)) (static_after statics s (first_kept keeps)) (rest_kept keeps)
-        (es ∙ sym (append_assoc front (s ∷ []) rest))
-        (ep ∙ sym (append_assoc before (text ∷ []) later)
-        ∙ ap (λ (t : ℕ). (before ++ text ∷ []) ++ places_from true t (static_after statics s (first_kept keeps)) rest (rest_kept keeps)) here)
-        (omega (arith, length-append front (s ∷ []), lf)) (omega (arith, length-append before (text ∷ []), lb)),
+            (es ∙ sym (append_assoc front (s ∷ []) rest))
+            (ep ∙ sym (append_assoc before (text ∷ []) later)
+            ∙ ap (λ (t : ℕ). (before ++ text ∷ []) ++ places_from true t (static_after statics s (first_kept keeps)) rest (rest_kept keeps)) here)
+            (omega (arith, length-append front (s ∷ []), lf)) (omega (arith, length-append before (text ∷ []), lb)),
       )
 
   pub place_at : (fs : List Fun) (n text k : ℕ) (f : Fun) → At Q e code n text fs → slice_get fs k ≡ Some f → slice_get e.places (n + k) ≡ Some (start code text fs k)
@@ -479,16 +479,14 @@ all_own : (value : Key → Option ℕ) (code : Fun → Code) (fs : List Fun) (te
 all_own value code [] text k m f x sound h g = absurd (none_some f h)
 all_own value code (g0 ∷ fs) text zero m f x sound h g =
     let s : slice_get (code g0) m ≡ Some x = ap (λ (z : Fun). slice_get (code z) m) (same_some g0 f h) ∙ g in
-    let w : m < length (code g0) = slice_get_within (code g0) m x s in
-    (
+    let w : m < length (code g0) = slice_get_within (code g0) m x s in (
       own_meets value (code g0) text m x (sound g0) s,
       all_ahead code (Keeps (Class x) value (text + 4 * m)) (text + 4 * m) fs (text + 4 * length (code g0)) (λ j n. keeps (Class x) value (text + 4 * m) j n) (omega (arith, w)),
     )
 all_own value code (g0 ∷ fs) text (suc k) m f x sound h g =
     let next = text + 4 * length (code g0) in
     let pc = start code next fs k + 4 * m in
-    let l = start_from code next fs k in
-    (
+    let l = start_from code next fs k in (
       one_behind (Keeps (Class x) value pc) pc text (code g0) (λ j n. keeps (Class x) value pc j n) (omega (arith, l)),
       all_own value code fs next k m f x sound h g,
     )
@@ -505,17 +503,17 @@ entry_fixes Q e made text statics keeps ep fits meets =
     let others = map (object_definition core.literals) core.objects ++ literal_definitions 0 core.literals in
     let bare = each_app NoText (map object_section core.objects) (literal_sections 0 core.literals) (objects_no_text core.objects) (literals_no_text 0 core.literals) in
     let es : e.object.sections ≡ map (function_section code) core.funs ++ more =
-        ap (λ (o : Object). o.sections) made.same ∙ append_assoc (map (function_section code) core.funs) (map object_section core.objects) (literal_sections 0 core.literals) in
+    ap (λ (o : Object). o.sections) made.same ∙ append_assoc (map (function_section code) core.funs) (map object_section core.objects) (literal_sections 0 core.literals) in
     let ds : definitions code core ≡ map (function_definition code core.name) core.funs ++ others =
-        append_assoc (map (function_definition code core.name) core.funs) (map (object_definition core.literals) core.objects) (literal_definitions 0 core.literals) in
+    append_assoc (map (function_definition code core.name) core.funs) (map (object_definition core.literals) core.objects) (literal_definitions 0 core.literals) in
     let rs : e.object.relocs ≡ relocs_from (targets code core) 0 (map (function_definition code core.name) core.funs ++ others) =
-        ap (λ (o : Object). o.relocs) made.same ∙ ap (relocs_from (targets code core) 0) ds in
+    ap (λ (o : Object). o.relocs) made.same ∙ ap (relocs_from (targets code core) 0) ds in
     let inside : total code text core.funs ≤ 0x04100000 =
-        subst (λ (n : ℕ). n ≤ 0x04100000) (ap (text_end true text) es ∙ end_total code core.funs more text bare) fits in
+    subst (λ (n : ℕ). n ≤ 0x04100000) (ap (text_end true text) es ∙ end_total code core.funs more text bare) fits in
     let many = total_many code text core.funs made.some in
     let at = functions_at Q e code core.funs more [] [] 0 text statics keeps es (ep ∙ ap (λ (z : List Section). places_from true text statics z keeps) es) refl refl in
     let later = data_found Q e code (targets code core) core.name (length core.funs) (omega (arith, many, inside))
-        (λ k sec l g. text_before code core.funs more k sec bare l (ap (λ (z : List Section). slice_get z k) (sym es) ∙ g)) others (0 + length core.funs) (omega arith) in
+    (λ k sec l g. text_before code core.funs more k sec bare l (ap (λ (z : List Section). slice_get z k) (sym es) ∙ g)) others (0 + length core.funs) (omega arith) in
     each_flat Q (fixes_of e) e.object.relocs
     (subst (λ (z : List Reloc). Each (Found Q e) z) (sym rs)
     (functions_found Q e code (targets code core) core.name core.funs 0 text others at (omega (arith, many, inside)) inside meets later))
@@ -528,7 +526,7 @@ ends e made text pc l =
     let more = map object_section core.objects ++ literal_sections 0 core.literals in
     let bare = each_app NoText (map object_section core.objects) (literal_sections 0 core.literals) (objects_no_text core.objects) (literals_no_text 0 core.literals) in
     let es : e.object.sections ≡ map (function_section code) core.funs ++ more =
-        ap (λ (o : Object). o.sections) made.same ∙ append_assoc (map (function_section code) core.funs) (map object_section core.objects) (literal_sections 0 core.literals) in
+    ap (λ (o : Object). o.sections) made.same ∙ append_assoc (map (function_section code) core.funs) (map object_section core.objects) (literal_sections 0 core.literals) in
     subst (λ (n : ℕ). n ≤ pc) (ap (text_end true text) es ∙ end_total code core.funs more text bare) l
 
 entry_avoids : (e : Placed) (b : Bool) (made : IsMade e.object) (text statics : ℕ) (keeps : List (Option ℕ)) (pc : ℕ) → e.places ≡ places_from b text statics e.object.sections keeps →
@@ -559,8 +557,7 @@ all_away : (es : List Placed) (low pc : ℕ) → AreMade es → Stand low es →
 all_away [] low pc made s l = tt
 all_away (e ∷ es) low pc made s l =
     let h = s.1.0 in
-    let g = text_grows (is_object e.form) e.object.sections s.0 in
-    (
+    let g = text_grows (is_object e.form) e.object.sections s.0 in (
       one_away e s.0 pc made.0 s.1.1.0 (stand_inside es (text_end (is_object e.form) s.0 e.object.sections) s.1.1.1) (inl (omega (arith, h, l))),
       all_away es (text_end (is_object e.form) s.0 e.object.sections) pc made.1 s.1.1.1 (omega (arith, h, g, l)),
     )
@@ -625,16 +622,16 @@ module _ (value : Key → Option ℕ) (before es : List Placed) (e : Placed) (lo
       let more = map object_section core.objects ++ literal_sections 0 core.literals in
       let bare = each_app NoText (map object_section core.objects) (literal_sections 0 core.literals) (objects_no_text core.objects) (literals_no_text 0 core.literals) in
       let ss : e.object.sections ≡ map (function_section code) core.funs ++ more =
-          ap (λ (o : Object). o.sections) made.same ∙ append_assoc (map (function_section code) core.funs) (map object_section core.objects) (literal_sections 0 core.literals) in
+      ap (λ (o : Object). o.sections) made.same ∙ append_assoc (map (function_section code) core.funs) (map object_section core.objects) (literal_sections 0 core.literals) in
       let k = of.number in
       let found = text_index code core.funs more k of.section bare (ap (λ (z : List Section). slice_get z k) (sym ss) ∙ of.section_is) of.is_one in
       let f = found.0 in
       let at = functions_at (Avoids 0) e code core.funs more [] [] 0 text statics keeps_ ss (ep ∙ ap (λ (z : List Section). places_from true text statics z keeps_) ss) refl refl in
       let zero_k : k ≡ 0 + k = omega arith in
       let begins : t.at.start ≡ start code text core.funs k =
-          same_some t.at.start (start code text core.funs k) (sym of.place_is ∙ ap (slice_get e.places) zero_k ∙ place_at (Avoids 0) e code core.funs 0 text k f at found.1.0) in
+      same_some t.at.start (start code text core.funs k) (sym of.place_is ∙ ap (slice_get e.places) zero_k ∙ place_at (Avoids 0) e code core.funs 0 text k f at found.1.0) in
       let ws : t.words ≡ map symbolic_word (code f) =
-          of.words_are ∙ ap (λ (s : Section). words s.bytes) (sym found.1.1) ∙ code_words (code f) (made.sound f) in
+      of.words_are ∙ ap (λ (s : Section). words s.bytes) (sym found.1.1) ∙ code_words (code f) (made.sound f) in
       let one = get_mapped symbolic_word (code f) m w (ap (λ (z : List ℕ). slice_get z m) (sym ws) ∙ g) in
       let x = one.0 in
       let pc = start code text core.funs k + 4 * m in
@@ -643,8 +640,8 @@ module _ (value : Key → Option ℕ) (before es : List Placed) (e : Placed) (lo
       let to = start_inside code text core.funs k f found.1.0 in
       let short : m < length (code f) = slice_get_within (code f) m x one.1.0 in
       let own : Each (Keeps (Class x) value pc) (fixes_if e) =
-          subst (λ (b : Bool). Each (Keeps (Class x) value pc) (if b then flat_map (fixes_of e) e.object.relocs else [])) (sym form)
-          (entry_fixes (Keeps (Class x) value pc) e made text statics keeps_ ep fits (all_own value code core.funs text k m f x made.sound found.1.0 one.1.0)) in
+      subst (λ (b : Bool). Each (Keeps (Class x) value pc) (if b then flat_map (fixes_of e) e.object.relocs else [])) (sym form)
+      (entry_fixes (Keeps (Class x) value pc) e made text statics keeps_ ep fits (all_own value code core.funs text k m f x made.sound found.1.0 one.1.0)) in
       let first : Class x w = subst (Class x) one.1.1 (class_first x (fits_at (code f) m x (made.sound f) one.1.0)) in
       let last = class_text x (fixed_all value (fixes_if e) pc w) (kept (Class x) value (fixes_if e) pc w own first) in
       let whole = fixed_middle value pc w before es e (hb pc (omega (arith, l, from))) (ha pc (omega (arith, to, short, inside))) in

@@ -237,7 +237,7 @@ pub jump_fits : (from to : ℕ) → Fits (jump from to)
 jump_fits from to =
     let near_both = nat_lt from 262144 && nat_lt to 262144 in
     let j = if_jumps near_both (pos (4 * to) -ℤ pos (4 * from)) (pos 0)
-        (λ e. between from to (less from 262144 (both-left (nat_lt from 262144) (nat_lt to 262144) e)) (less to 262144 (both-right (nat_lt from 262144) (nat_lt to 262144) e)) (nat_le from to) refl) stays in
+    (λ e. between from to (less from 262144 (both-left (nat_lt from 262144) (nat_lt to 262144) e)) (less to 262144 (both-right (nat_lt from 262144) (nat_lt to 262144) e)) (nat_le from to) refl) stays in
     (r-x0, j.0, j.1)
 
 -- branches

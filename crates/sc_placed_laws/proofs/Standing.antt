@@ -46,9 +46,16 @@ retired_top false e = refl
 pub without_stand : (name : List ℕ) (es : List Placed) (low high : ℕ) → StandTo high low es → StandTo high low (without name es)
 without_stand name [] low high s = s
 without_stand name (e ∷ es) low high s =
-    let b = is_present name e in
-    (s.0, (s.1.0, (retired_placed b s.0 e s.1.1.0,
-    subst (λ (n : ℕ). StandTo high n (without name es)) (retired_end b s.0 e) (without_stand name es (text_end (is_object e.form) s.0 e.object.sections) high s.1.1.1))))
+    let b = is_present name e in (
+      s.0,
+      (
+        s.1.0,
+        (
+          retired_placed b s.0 e s.1.1.0,
+          subst (λ (n : ℕ). StandTo high n (without name es)) (retired_end b s.0 e) (without_stand name es (text_end (is_object e.form) s.0 e.object.sections) high s.1.1.1),
+        ),
+      ),
+    )
 
 pub without_behind : (name : List ℕ) (es : List Placed) → behind_texts es ≡ behind_texts (without name es)
 without_behind name [] = refl
@@ -75,7 +82,7 @@ reached_by ss s text statics later keeps true e h r =
     let after : text_after true text s ≡ behind_text text (length s.bytes) = ap (λ (b : Bool). if b && true then behind_text text (length s.bytes) else text) e in
     let place : place_one true text statics s (first_kept keeps) ≡ text = ap (λ (b : Bool). if b then text else kept_or statics (first_kept keeps)) e in
     let own : text_reach s (place_one true text statics s (first_kept keeps)) ≡ min (behind_text text (length s.bytes)) (2 ^ 32) =
-        ap (text_reach s) place ∙ ap (λ (b : Bool). if b then min (behind_text text (length s.bytes)) (2 ^ 32) else 0) e in
+    ap (text_reach s) place ∙ ap (λ (b : Bool). if b then min (behind_text text (length s.bytes)) (2 ^ 32) else 0) e in
     let g = grows true ss (text_after true text s) in
     omega (arith, after, own, g, r, h)
 reached_by ss s text statics later keeps false e h r =

@@ -286,14 +286,21 @@ frame_taken_sound cost =
     if_told (nat_le cost 2048) (addi sp sp (neg_ℤ (pos cost)) ∷ []) (li t0 cost ++ apply reg.Sub sp sp t0 ∷ [])
     (λ e. (((r-sp, r-sp, neg_short cost (at_most cost 2048 e)), tt), tt))
     (λ e. app (li t0 cost) (apply reg.Sub sp sp t0 ∷ []) (li_sound t0 cost r-t0) (apply_sound reg.Sub sp sp t0 r-sp r-sp r-t0))
-    where
-      at_most : (m n : ℕ) → nat_le m n ≡ true → m ≤ n
-      at_most m n h = grind (arith, nat_tests)
+  where
+    at_most : (m n : ℕ) → nat_le m n ≡ true → m ≤ n
+    at_most m n h = grind (arith, nat_tests)
 
 prologue_sound : (cost : ℕ) → IsSoundCode (prologue cost)
-prologue_sound cost =
-    (((r-t0, r-x0, pos_short 2 (omega arith)), tt), (((r-t1, r-x0, zero_short), tt), ((tt, tt),
-    app (frame_taken cost) (near (cost - 4) (access.Store Sw ra)) (frame_taken_sound cost) (near_sound (cost - 4) (access.Store Sw ra) r-ra))))
+prologue_sound cost = (
+  ((r-t0, r-x0, pos_short 2 (omega arith)), tt),
+  (
+    ((r-t1, r-x0, zero_short), tt),
+    (
+      (tt, tt),
+      app (frame_taken cost) (near (cost - 4) (access.Store Sw ra)) (frame_taken_sound cost) (near_sound (cost - 4) (access.Store Sw ra) r-ra),
+    ),
+  ),
+)
 
 -- copies of parameters
 parameter_sound : (cost : ℕ) (k : Kept) (o : Option ℕ) → k.register < 32 → IsSoundCode (parameter_kept cost k o)
