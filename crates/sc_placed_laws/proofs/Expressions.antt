@@ -1,5 +1,5 @@
 -- The code of expressions, in words that are instructions.
-use Rattle.std.proofs.Common.{◌≡◌, ◌<◌, ℤ, ℕ, zero, suc, ◌+◌, ◌*◌, ◌-◌, Bool, true, false, not, if◌then◌else◌, List, [], ◌∷◌, ◌++◌, length, map, Option, Some, None, refl, ap, sym, subst, ◌∙◌, arith, pos, neg_ℤ}
+use Rattle.std.proofs.Common.{◌≡◌, ◌<◌, ℤ, ℕ, zero, suc, ◌+◌, ◌*◌, ◌-◌, Bool, true, false, not, if◌then◌else◌, List, [], ◌∷◌, ◌++◌, length, map, Option, Some, None, ap, sym, subst, ◌∙◌, arith, pos, neg_ℤ}
 use Rattle.std.proofs.lemmas.Bool.Decides.{nat_tests}
 use Rattle.std.specs.Prelude.{◌≤◌, nat_le, ◌&&◌}
 use Rattle.sc_base.specs.declared.key.Key.{Key}
@@ -17,7 +17,7 @@ use Rattle.sc_gen_code.specs.declared.symbolic.Target.TheVariants as target
 use Rattle.sc_gen_code.specs.declared.symbolic.Access.TheVariants as access
 use Rattle.sc_gen_code.specs.declared.style.Style.{Style}
 use Rattle.sc_gen_code.specs.declared.style.Spot.{Spot}
-use Rattle.sc_gen_code.specs.Code.{Code, x0, a0, a1, apply, mv, li, push, pop, over, jump, skip_if, skip_unless, tagged, address, at_target}
+use Rattle.sc_gen_code.specs.Code.{Code, x0, a0, a1, apply, mv, push, pop, over, jump, skip_if, skip_unless, tagged}
 use Rattle.sc_gen_code.specs.Operators as operators
 use Rattle.sc_gen_code.specs.Calls as calls
 use Rattle.sc_gen_code.specs.Styles.{behind, deeper}
@@ -26,7 +26,6 @@ use Rattle.sc_gen_operand.specs.declared.plans.Want.TheVariants.{Word, Foot}
 use Rattle.sc_gen_operand.specs.declared.plans.Plan.{Plan}
 use Rattle.sc_gen_operand.specs.declared.plans.Plan.TheVariants.{Neither, Left, Right, Late, Register, Memory}
 use Rattle.sc_gen_operand.specs.declared.plans.Operands.{Operands}
-use Rattle.sc_gen_operand.specs.declared.templates.Compared.{Compared}
 use Rattle.sc_gen_operand.specs.Places as places
 use Rattle.sc_gen_operand.specs.Plans as plans
 use Rattle.sc_gen_operand.specs.Plans.{Mode, As, Skips, Part, word, foot, unless, fetched_as, is_fetched, left_by, right_by, left_code, right_code, standing}
@@ -35,8 +34,8 @@ use Rattle.sc_gen_expr.specs.Expressions.{place, wanted, pair, logical, choice, 
 use Rattle.sc_placed_laws.specs.Sound.{Fits, IsSoundCode}
 use Rattle.sc_placed_laws.proofs.Sequences.{app, if_sound, if_told, r-x0, r-a0, r-a1, li_sound, push_sound, pop_sound, tagged_sound, at_target_sound, address_sound, over_fits, jump_fits, Branches, branch_eight}
 use Rattle.sc_placed_laws.proofs.Sequences as sequences
-use Rattle.sc_placed_laws.proofs.Operators.{before, apply_sound, mv_sound, convert_sound, reconvert_sound, further_sound, unary_sound, AllKept}
-use Rattle.sc_placed_laws.proofs.Templates.{reach_sound, fetched_as_sound, unless_sound, late_sound, PlanFits, value_plan, structure_plan, binary_plan, offset_plan, assign_plan, compound_plan, moving_plan, member_sound, operated_sound, offset_end_sound, difference_end_sound, compared_end_sound, assign_end_sound, structure_end_sound, compound_end_sound, moving_end_sound, step_end_sound, read_sound, transfer_sound, ComparedFits, comparison_fits, branched_fits}
+use Rattle.sc_placed_laws.proofs.Operators.{apply_sound, mv_sound, convert_sound, reconvert_sound, further_sound, unary_sound, AllKept}
+use Rattle.sc_placed_laws.proofs.Templates.{reach_sound, fetched_as_sound, unless_sound, late_sound, PlanFits, value_plan, structure_plan, binary_plan, offset_plan, assign_plan, compound_plan, moving_plan, member_sound, operated_sound, offset_end_sound, difference_end_sound, compared_end_sound, assign_end_sound, structure_end_sound, compound_end_sound, moving_end_sound, step_end_sound, read_sound, transfer_sound, comparison_fits, branched_fits}
 
 over_first : (n : ℕ) (xs : Code) → IsSoundCode xs → IsSoundCode (over n ∷ xs)
 over_first n xs h = ((over_fits n, tt), h)

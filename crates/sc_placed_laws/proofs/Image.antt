@@ -1,5 +1,5 @@
 -- Each word of an image of compiled modules is one of an instruction: those of stubs, and those of texts.
-use Rattle.std.proofs.Common.{◌≡◌, ◌<◌, ℕ, ◌%◌, ◌^◌, ◌==◌, Bool, true, false, if◌then◌else◌, nat_lt, List, [], ◌∷◌, refl, subst, sym, ap, ◌∙◌, pos, Option, Some, None, arith}
+use Rattle.std.proofs.Common.{◌≡◌, ℕ, ◌%◌, ◌^◌, ◌==◌, Bool, true, false, if◌then◌else◌, nat_lt, List, refl, subst, sym, ap, ◌∙◌, pos, Option, Some, None, arith}
 use Rattle.std.proofs.lemmas.Int.{ints}
 use Rattle.std.specs.Prelude.{slice_get, option_and_then}
 use Rattle.sc_base.specs.declared.key.Key.{Key}
@@ -9,7 +9,7 @@ use Rattle.sc_isa.specs.Table.{word_of, IsShort}
 use Rattle.sc_isa.proofs.Fields.{short_fits}
 use Rattle.sc_isa_image.specs.declared.image.Image.{Image}
 use Rattle.sc_isa_image.specs.Lookups.{word_at}
-use Rattle.sc_isa_image.specs.Stubs.{call_words, jump_words, lower_of, stub_of_word, upper_of}
+use Rattle.sc_isa_image.specs.Stubs.{lower_of, stub_of_word, upper_of}
 use Rattle.sc_link.specs.declared.placed.Placed.{Placed}
 use Rattle.sc_link.specs.Entries.{fixes_in, jumps_in, texts_in}
 use Rattle.sc_link.specs.Linked.{IsLinked, place_in, stub_half, stub_in, stub_words, text_word_in, value_in, word_in}

@@ -1,5 +1,5 @@
 -- Operators, calls and copies whose words are instructions.
-use Rattle.std.proofs.Common.{◌≡◌, ◌<◌, ◌≤◌, ℕ, zero, suc, ◌+◌, ◌-◌, ◌*◌, ◌%◌, ◌^◌, ◌==◌, Bool, true, false, ◌&&◌, ◌||◌, if◌then◌else◌, nat_lt, nat_le, min, List, [], ◌∷◌, ◌++◌, refl, ℤ, pos, negsuc, neg_ℤ, Option, Some, None, arith}
+use Rattle.std.proofs.Common.{◌≡◌, ◌<◌, ◌≤◌, ℕ, zero, suc, ◌+◌, ◌-◌, ◌*◌, ◌%◌, ◌^◌, ◌==◌, Bool, true, false, ◌&&◌, if◌then◌else◌, nat_lt, min, List, [], ◌∷◌, ◌++◌, refl, ℤ, pos, neg_ℤ, Option, Some, None, arith}
 use Rattle.std.proofs.lemmas.Bool.Decides.{nat_tests}
 use Rattle.std.proofs.lemmas.Int.{ints}
 use Rattle.std.specs.List.{list_all}
@@ -11,13 +11,12 @@ use Rattle.sc_base.specs.declared.integer.Int.TheVariants as int
 use Rattle.sc_base.specs.declared.operator.Op.{Op}
 use Rattle.sc_base.specs.declared.operator.Op.TheVariants as op
 use Rattle.sc_types.specs.declared.ctype.CType.{CType}
-use Rattle.sc_isa.specs.declared.instruction.Instr.{Instr}
 use Rattle.sc_isa.specs.declared.instruction.Instr.TheVariants.{Branch, Imm, Jalr}
 use Rattle.sc_isa.specs.declared.instruction.ImmOp.{ImmOp}
 use Rattle.sc_isa.specs.declared.instruction.ImmOp.TheVariants.{Addi, Slli, Slti, Sltiu, Xori, Srli, Srai, Ori, Andi}
 use Rattle.sc_isa.specs.declared.instruction.RegOp.{RegOp}
 use Rattle.sc_isa.specs.declared.instruction.RegOp.TheVariants as reg
-use Rattle.sc_isa.specs.Table.{IsSound, IsShort, IsImmediate}
+use Rattle.sc_isa.specs.Table.{IsShort, IsImmediate}
 use Rattle.sc_core.specs.declared.expression.Step.{Step}
 use Rattle.sc_core.specs.declared.expression.UnaryOperator.{UnaryOperator}
 use Rattle.sc_core.specs.declared.expression.UnaryOperator.TheVariants as unary
@@ -34,7 +33,7 @@ use Rattle.sc_gen_code.specs.Operators as operators
 use Rattle.sc_gen_code.specs.Calls as calls
 use Rattle.sc_gen_code.specs.Styles.{copied_or_not, found, framed, kept_at, taken_again, reloaded}
 use Rattle.sc_placed_laws.specs.Sound.{Fits, IsSoundCode}
-use Rattle.sc_placed_laws.proofs.Sequences.{app, if_sound, if_told, if_instruction, less, not_less, pos_short, zero_short, neg_short, r-x0, r-ra, r-sp, r-t0, r-t1, r-t2, r-a0, r-a1, r-a2, Reaches, li_sound, near_sound, Shifts, ShiftFits, shifts, shift_fits, Branches, branch_eight}
+use Rattle.sc_placed_laws.proofs.Sequences.{app, if_sound, if_told, if_instruction, less, not_less, pos_short, zero_short, neg_short, r-x0, r-ra, r-sp, r-t0, r-t1, r-t2, r-a0, r-a1, r-a2, Reaches, li_sound, near_sound, Shifts, ShiftFits, shifts, shift_fits, Branches}
 
 -- a word alone, and in front of others
 pub before : (x : Symbolic) (xs : Code) → IsSoundCode (x ∷ []) → IsSoundCode xs → IsSoundCode (x ∷ xs)

@@ -1,5 +1,5 @@
 -- Each word of a text that is placed, with its relocations, is one of an instruction.
-use Rattle.std.proofs.Common.{◌≡◌, ◌<◌, ◌≤◌, ◌⊎◌, inl, inr, ℕ, zero, suc, ◌+◌, ◌-◌, ◌*◌, ◌/◌, ◌%◌, ◌^◌, ◌==◌, Bool, true, false, ◌&&◌, if◌then◌else◌, nat_lt, nat_le, min, List, [], ◌∷◌, ◌++◌, length, map, find, refl, sym, ap, subst, ◌∙◌, ℤ, pos, Option, Some, None, arith, append_assoc, length-append}
+use Rattle.std.proofs.Common.{◌≡◌, ◌<◌, ◌≤◌, ◌⊎◌, inl, inr, ℕ, zero, suc, ◌+◌, ◌-◌, ◌*◌, ◌/◌, ◌%◌, ◌^◌, ◌==◌, Bool, true, false, ◌&&◌, if◌then◌else◌, nat_lt, nat_le, List, [], ◌∷◌, ◌++◌, length, map, find, refl, sym, ap, subst, ◌∙◌, pos, Option, Some, None, arith, append_assoc, length-append}
 use Rattle.std.proofs.lemmas.Bool.Decides.{nat_tests}
 use Rattle.std.proofs.lemmas.Option.{slice_get_within}
 use Rattle.std.proofs.lemmas.List.{length-map}
@@ -7,7 +7,6 @@ use Rattle.std.specs.Prelude.{flat_map, slice_get, option_and_then, option_to_li
 use Rattle.std.specs.Option.{option_map}
 use Rattle.std.specs.List.{list_all}
 use Rattle.sc_base.specs.declared.key.Key.{Key}
-use Rattle.sc_core.specs.declared.module.Core.{Core}
 use Rattle.sc_core.specs.declared.module.Fun.{Fun}
 use Rattle.sc_core.specs.declared.module.StaticObj.{StaticObj}
 use Rattle.sc_object.specs.declared.object.FrameTable.{FrameTable}
@@ -15,20 +14,18 @@ use Rattle.sc_object.specs.declared.object.Object.{Object}
 use Rattle.sc_object.specs.declared.object.Reloc.{Reloc}
 use Rattle.sc_object.specs.declared.object.Section.{Section}
 use Rattle.sc_object.specs.declared.object.SectionKind.TheVariants.{Data, Rodata, Bss}
-use Rattle.sc_object.specs.declared.object.Symbol.{Symbol}
 use Rattle.sc_object.specs.Words as bytes
 use Rattle.sc_isa_image.specs.declared.text.Text.{Text}
 use Rattle.sc_isa_image.specs.Texts.{end_of, holds, text_with, text_word, word_in_found}
 use Rattle.sc_link.specs.declared.placed.Placed.{Placed}
-use Rattle.sc_link.specs.Entries.{each, is_object, text_at, text_by, text_of, texts_of, texts_if, texts_in, Fix, fix_at, fixes_at, fixes_from, fixes_if, fixes_in, fixes_of, has_second, jumps_in, spot_at}
+use Rattle.sc_link.specs.Entries.{is_object, text_at, text_by, text_of, texts_of, texts_if, texts_in, Fix, fix_at, fixes_at, fixes_if, fixes_in, fixes_of, has_second, jumps_in, spot_at}
 use Rattle.sc_link.specs.Linked.{base_value, fixed_all, fixed_by, text_word_in, value_in}
 use Rattle.sc_link.specs.Linked as linked
 use Rattle.sc_link.specs.Relocation.{relocated, target_of, words}
 use Rattle.sc_link.specs.Symbols.{is_text, key_of, section_of, place_of}
-use Rattle.sc_places.specs.Layout.{behind_text, first_kept, place_one, places_from, rest_kept, static_after, text_after, text_end}
+use Rattle.sc_places.specs.Layout.{behind_text, first_kept, places_from, rest_kept, static_after, text_after, text_end}
 use Rattle.sc_gen_code.specs.declared.symbolic.Symbolic.{Symbolic}
 use Rattle.sc_gen_code.specs.declared.symbolic.Symbolic.TheVariants.{Plain, Upper, Lower, Call}
-use Rattle.sc_gen_code.specs.declared.symbolic.Access.{Access}
 use Rattle.sc_gen_code.specs.declared.symbolic.Access.TheVariants as access
 use Rattle.sc_gen_code.specs.declared.symbolic.Target.{Target}
 use Rattle.sc_gen_code.specs.Code.{Code}
@@ -36,8 +33,8 @@ use Rattle.sc_gen_expr.specs.Words.{fitted, relocation, symbolic_word}
 use Rattle.sc_gen.specs.declared.definitions.Definition.{Definition}
 use Rattle.sc_gen.specs.declared.definitions.Fixup.{Fixup}
 use Rattle.sc_gen.specs.Definitions.{definitions, fixup, function_definition, literal_definitions, object_definition, text_fixups, word_fixups}
-use Rattle.sc_gen.specs.Objects.{object_of, reloc_of, relocs_from, targets}
-use Rattle.sc_gen.specs.Sections.{function_section, is_zero, kind_of, literal_section, literal_sections, object_section, sections, text_bytes}
+use Rattle.sc_gen.specs.Objects.{reloc_of, relocs_from, targets}
+use Rattle.sc_gen.specs.Sections.{function_section, is_zero, literal_sections, object_section, sections, text_bytes}
 use Rattle.sc_placed_laws.specs.Sound.{Fits, Follows, IsSoundCode, Links}
 use Rattle.sc_placed_laws.specs.Texts.{AreMade, HasText, IsMade, IsPlaced, Stand}
 use Rattle.sc_placed_laws.proofs.Words.{Class, call_kept, class_first, class_text, link_kept, lower_kept, symbolic_small, upper_kept, word_back}

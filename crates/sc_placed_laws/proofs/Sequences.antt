@@ -1,18 +1,14 @@
 -- Short sequences whose words are instructions.
-use Rattle.std.proofs.Common.{◌≡◌, ◌<◌, ◌≤◌, ℕ, zero, suc, ◌+◌, ◌-◌, ◌*◌, ◌^◌, ◌==◌, Bool, true, false, ◌&&◌, ◌||◌, if◌then◌else◌, nat_lt, nat_le, min, List, [], ◌∷◌, ◌++◌, refl, subst, sym, ℤ, pos, negsuc, neg_ℤ, ◌-ℤ◌, Option, Some, None, arith}
+use Rattle.std.proofs.Common.{◌≡◌, ◌<◌, ◌≤◌, ℕ, zero, suc, ◌+◌, ◌-◌, ◌*◌, ◌^◌, ◌==◌, Bool, true, false, ◌&&◌, ◌||◌, if◌then◌else◌, nat_lt, nat_le, [], ◌∷◌, ◌++◌, refl, subst, ℤ, pos, negsuc, neg_ℤ, ◌-ℤ◌, Option, Some, None, arith}
 use Rattle.std.proofs.lemmas.Bool.Decides.{nat_tests}
 use Rattle.std.proofs.lemmas.Int.{ints}
-use Rattle.std.specs.Prelude.{◌≤ℤ◌}
 use Rattle.std.specs.Int.{w32, cast_signed}
 use Rattle.sc_isa.specs.declared.instruction.Instr.{Instr}
-use Rattle.sc_isa.specs.declared.instruction.Instr.TheVariants.{Lui, Jal, Reg}
-use Rattle.sc_isa.specs.declared.instruction.LoadOp.{LoadOp}
+use Rattle.sc_isa.specs.declared.instruction.Instr.TheVariants.{Lui}
 use Rattle.sc_isa.specs.declared.instruction.LoadOp.TheVariants.{Lw}
-use Rattle.sc_isa.specs.declared.instruction.StoreOp.{StoreOp}
 use Rattle.sc_isa.specs.declared.instruction.StoreOp.TheVariants.{Sw}
 use Rattle.sc_isa.specs.declared.instruction.RegOp.TheVariants as reg
 use Rattle.sc_isa.specs.Table.{IsSound, IsShort, IsBetween, IsEven}
-use Rattle.sc_isa.specs.Reading.{extend}
 use Rattle.sc_isa_image.specs.Stubs.{upper_of, lower_of}
 use Rattle.sc_gen_code.specs.declared.symbolic.Symbolic.{Symbolic}
 use Rattle.sc_gen_code.specs.declared.symbolic.Symbolic.TheVariants.{Plain, Upper, Lower, Call}
@@ -20,7 +16,7 @@ use Rattle.sc_gen_code.specs.declared.symbolic.Access.{Access}
 use Rattle.sc_gen_code.specs.declared.symbolic.Access.TheVariants as access
 use Rattle.sc_gen_code.specs.declared.symbolic.Target.{Target}
 use Rattle.sc_gen_code.specs.Code.{Code, x0, ra, sp, t0, t1, t2, a0, a1, a2, addi, apply, ecall, accessed, li, near, push, pop, service, block_service, tagged, copied, at_target, address, shift_of, over, jump}
-use Rattle.sc_placed_laws.specs.Sound.{Fits, Follows, IsSoundCode, IsLink, Links}
+use Rattle.sc_placed_laws.specs.Sound.{Fits, Follows, IsSoundCode, Links}
 
 links_app : (x y : Code) → Links x → Links (x ++ y)
 links_app [] y h = absurd h

@@ -1,17 +1,15 @@
 -- Entries that are placed one behind the other.
-use Rattle.std.proofs.Common.{◌≡◌, ◌<◌, ◌≤◌, ℕ, ◌+◌, ◌*◌, ◌/◌, ◌^◌, Bool, true, false, ◌&&◌, if◌then◌else◌, min, List, [], ◌∷◌, ◌++◌, length, map, refl, sym, ap, subst, ◌∙◌, Option, Some, None, arith}
+use Rattle.std.proofs.Common.{◌≡◌, ◌≤◌, ℕ, ◌+◌, ◌^◌, Bool, true, false, ◌&&◌, if◌then◌else◌, min, List, [], ◌∷◌, ◌++◌, length, refl, sym, ap, subst, ◌∙◌, Option, arith}
 use Rattle.std.specs.Prelude.{max}
 use Rattle.sc_object.specs.declared.object.Section.{Section}
-use Rattle.sc_base.specs.declared.key.Key.{Key}
-use Rattle.sc_base.specs.declared.memory.Form.{Form}
 use Rattle.sc_link.specs.declared.placed.Placed.{Placed}
 use Rattle.sc_link.specs.Entries.{is_object}
 use Rattle.sc_link.specs.Symbols.{is_text}
-use Rattle.sc_places.specs.Layout.{behind_statics, behind_text, behind_texts, first_kept, first_place, kept_or, place_one, places_from, reach_by, rest_kept, rest_places, static_after, text_after, text_end, text_reach, text_top, top_of}
+use Rattle.sc_places.specs.Layout.{behind_statics, behind_text, behind_texts, first_kept, kept_or, place_one, places_from, rest_kept, static_after, text_after, text_end, text_reach, text_top, top_of}
 use Rattle.sc_image.specs.declared.module.Linking.{Linking}
-use Rattle.sc_image.specs.Placing.{Fits, entry_at, placed_from, placed_modules, static_behind, text_behind, texts_behind}
+use Rattle.sc_image.specs.Placing.{placed_from, placed_modules, static_behind, text_behind, texts_behind}
 use Rattle.sc_image.specs.Running.{entry_behind, is_present, retired_if, with_entry, without}
-use Rattle.sc_placed_laws.specs.Texts.{IsPlaced, Stand, StandTo}
+use Rattle.sc_placed_laws.specs.Texts.{IsPlaced, StandTo}
 
 -- ---- modules, from nothing
 

@@ -1,5 +1,5 @@
 -- The code of statements and functions, in words that are instructions.
-use Rattle.std.proofs.Common.{◌≡◌, ◌<◌, ◌≤◌, ℕ, suc, ◌+◌, ◌-◌, ◌*◌, ◌%◌, ◌^◌, ◌==◌, Bool, true, false, ◌||◌, if◌then◌else◌, List, [], ◌∷◌, ◌++◌, length, map, nat_lt, nat_le, pos, negsuc, neg_ℤ, Option, Some, None, refl, sym, ap, subst, ◌∙◌, arith}
+use Rattle.std.proofs.Common.{◌≡◌, ◌<◌, ◌≤◌, ℕ, ◌+◌, ◌-◌, ◌*◌, ◌%◌, ◌^◌, ◌==◌, Bool, true, false, ◌||◌, if◌then◌else◌, List, [], ◌∷◌, ◌++◌, length, map, nat_lt, nat_le, pos, negsuc, neg_ℤ, Option, Some, None, sym, ap, subst, ◌∙◌, arith}
 use Rattle.std.proofs.lemmas.Bool.Decides.{nat_tests}
 use Rattle.std.specs.Prelude.{slice_get}
 use Rattle.std.specs.Int.{w32, cast_signed}
@@ -35,7 +35,7 @@ use Rattle.sc_gen_body.specs.Frames.{Frame, frame, entered_in, value}
 use Rattle.sc_gen_body.specs.Statements.{Body, epilogue, entry_of, whole, whole_by, items_code, starts, value_or_none, test_of, ends_turn, loop, choice, case_code, cases_code, default_code, switched, switch_inner, returned, go_to, turns_code, statement_layer, body_of, statement_code}
 use Rattle.sc_gen_body.specs.Functions.{frame_taken, prologue, first_temporary, first_block, parameter_at, parameter_kept, parameters_taken, before_body, function_code}
 use Rattle.sc_placed_laws.specs.Sound.{Fits, HasRegisters, IsSoundCode}
-use Rattle.sc_placed_laws.proofs.Sequences.{app, if_sound, if_told, less, not_less, pos_short, zero_short, neg_short, r-x0, r-ra, r-sp, r-t0, r-t1, r-t2, r-a0, r-a1, li_sound, near_sound, service_sound, block_service_sound, copied_sound, over_fits, jump_fits, branch_on, branch_seven}
+use Rattle.sc_placed_laws.proofs.Sequences.{app, if_sound, if_told, less, pos_short, zero_short, neg_short, r-x0, r-ra, r-sp, r-t0, r-t1, r-t2, r-a0, r-a1, li_sound, near_sound, service_sound, block_service_sound, copied_sound, over_fits, jump_fits, branch_on, branch_seven}
 use Rattle.sc_placed_laws.proofs.Operators.{before, apply_sound, mv_sound, AllKept, framed_sound, first_kept, rest_kept}
 use Rattle.sc_placed_laws.proofs.Expressions.{expression_good, test_back_good}
 

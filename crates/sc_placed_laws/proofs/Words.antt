@@ -1,8 +1,7 @@
 -- Words of instructions, and what relocations leave of them.
-use Rattle.std.proofs.Common.{◌≡◌, ◌<◌, ◌≤◌, ℕ, zero, suc, ◌+◌, ◌-◌, ◌*◌, ◌/◌, ◌%◌, ◌^◌, ◌==◌, Bool, true, false, ◌&&◌, if◌then◌else◌, nat_lt, List, [], ◌∷◌, ◌++◌, length, map, refl, sym, ap, subst, ◌∙◌, ℤ, pos, negsuc, Option, Some, None, arith}
+use Rattle.std.proofs.Common.{◌≡◌, ◌<◌, ℕ, ◌+◌, ◌*◌, ◌/◌, ◌%◌, ◌^◌, ◌==◌, Bool, true, false, ◌&&◌, if◌then◌else◌, nat_lt, List, ◌∷◌, ◌++◌, refl, sym, ap, subst, ◌∙◌, ℤ, pos, negsuc, Some, arith}
 use Rattle.std.proofs.lemmas.Bool.Decides.{nat_tests}
 use Rattle.std.proofs.lemmas.Int.{ints}
-use Rattle.std.specs.Prelude.{flat_map, slice_get}
 use Rattle.sc_isa.specs.declared.instruction.Instr.{Instr}
 use Rattle.sc_isa.specs.declared.instruction.Instr.TheVariants.{Lui, Auipc, Jal, Jalr, Branch, Load, Store, Imm, Reg, Ecall, Fence}
 use Rattle.sc_isa.specs.declared.instruction.BranchOp.{BranchOp}
@@ -20,8 +19,6 @@ use Rattle.sc_isa.specs.Reading.{instr_of, by_opcode, extend}
 use Rattle.sc_isa.proofs.Complete.{complete as decodes}
 use Rattle.sc_isa.proofs.Fields.{low_short, short_fits}
 use Rattle.sc_isa_image.specs.Stubs.{upper_of}
-use Rattle.sc_disas.specs.Reading.{instr_of_line}
-use Rattle.sc_disas.specs.Writing.{text_of}
 use Rattle.sc_disas.proofs.Lines.{complete as reads}
 use Rattle.sc_object.specs.Words as bytes
 use Rattle.sc_link.specs.Relocation.{relocated, with_upper, with_lower, with_split, words}
@@ -29,7 +26,7 @@ use Rattle.sc_gen_code.specs.declared.symbolic.Symbolic.{Symbolic}
 use Rattle.sc_gen_code.specs.declared.symbolic.Symbolic.TheVariants.{Plain, Upper, Lower, Call}
 use Rattle.sc_gen_code.specs.declared.symbolic.Access.{Access}
 use Rattle.sc_gen_code.specs.declared.symbolic.Access.TheVariants as access
-use Rattle.sc_gen_code.specs.Code.{Code, ra, t0, accessed}
+use Rattle.sc_gen_code.specs.Code.{ra, t0, accessed}
 use Rattle.sc_gen_code.specs.Operators.{is_short}
 use Rattle.sc_gen_expr.specs.Words.{is_between, is_even, is_immediate, is_sound, plain_word, symbolic_word, lower_kind}
 use Rattle.sc_placed_laws.specs.Sound.{Fits, IsLink}

@@ -1,6 +1,6 @@
 -- Yardstick: to be compared with what it restates (docs/TRUST.md).
 -- Code each of whose words is one of an instruction, also where an address is filled in later (RISC-V psABI).
-use Rattle.std.specs.Prelude.{◌≡◌, true, nat_lt, List, [], ◌∷◌, pos}
+use Rattle.std.specs.Prelude.{◌≡◌, true, nat_lt, [], ◌∷◌, pos}
 use Rattle.std.specs.List.{list_all}
 use Rattle.sc_isa.specs.declared.instruction.Instr.{Instr}
 use Rattle.sc_isa.specs.declared.instruction.Instr.TheVariants.{Jalr}
