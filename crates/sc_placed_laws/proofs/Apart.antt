@@ -17,7 +17,7 @@ use Rattle.sc_object.specs.declared.object.Object.{Object}
 use Rattle.sc_object.specs.declared.object.Section.{Section}
 use Rattle.sc_object.specs.declared.object.Symbol.{Symbol}
 use Rattle.sc_isa_image.specs.declared.text.Text.{Text}
-use Rattle.sc_isa_image.specs.Texts.{end_of, text_with}
+use Rattle.sc_isa_image.specs.Texts.{end_of, holds, text_with}
 use Rattle.sc_isa_image.proofs.Functions.{key-same}
 use Rattle.sc_link.specs.declared.placed.Placed.{Placed}
 use Rattle.sc_link.specs.Entries.{is_object, text_at, text_by, text_of, texts_if, texts_in, texts_of}
@@ -25,8 +25,6 @@ use Rattle.sc_link.specs.Linked.{AreApart}
 use Rattle.sc_link.specs.Relocation.{words}
 use Rattle.sc_link.specs.Symbols.{is_text, key_of as symbol_key, place_of, section_of}
 use Rattle.sc_places.specs.Layout.{places_from, text_end}
-use Rattle.sc_image.specs.Ordered.{are_ordered, is_behind}
-use Rattle.sc_image.proofs.Behind.{ordered-apart}
 use Rattle.sc_gen_code.specs.declared.symbolic.Target.{Target}
 use Rattle.sc_gen_code.specs.declared.symbolic.Target.TheVariants.{Named, Literal}
 use Rattle.sc_gen_code.specs.Code.{Code}
@@ -185,19 +183,42 @@ chain_app : (xs ys : List Text) (low mid high : ℕ) → Chain mid low xs → Ch
 chain_app [] ys low mid high p q = chain_low ys high mid low p q
 chain_app (x ∷ xs) ys low mid high p q = (p.0, chain_app xs ys (end_of x) mid high p.1 q)
 
-chain_ends : (ts : List Text) (high low : ℕ) → Chain high low ts → low ≤ high
-chain_ends [] high low c = c
-chain_ends (t ∷ ts) high low c = let h = chain_ends ts high (end_of t) c.1 in let l = c.0 in omega (arith, h, l)
+at_most : (m n : ℕ) → nat_le m n ≡ true → m ≤ n
+at_most m n h = grind (arith, nat_tests)
 
-at_least : (m n : ℕ) → m ≤ n → nat_le m n ≡ true
-at_least m n h = grind (arith, nat_tests)
+less : (m n : ℕ) → nat_lt m n ≡ true → m < n
+less m n h = grind (arith, nat_tests)
 
-chain_ordered : (ts : List Text) (low : ℕ) → Chain 0x04100000 low ts → are_ordered low ts ≡ true
-chain_ordered [] low c = refl
-chain_ordered (t ∷ ts) low c =
-    both (is_behind low t) (are_ordered (end_of t) ts)
-    (both (nat_le low t.at.start) (nat_le (end_of t) 0x04100000) (at_least low t.at.start c.0) (at_least (end_of t) 0x04100000 (chain_ends ts 0x04100000 (end_of t) c.1)))
-    (chain_ordered ts (end_of t) c.1)
+begun : (pc : ℕ) (t : Text) → holds pc t ≡ true → t.at.start ≤ pc
+begun pc t h = at_most t.at.start pc (first (nat_le t.at.start pc) (nat_lt pc (end_of t)) h)
+
+not_over : (pc : ℕ) (t : Text) → holds pc t ≡ true → pc < end_of t
+not_over pc t h = less pc (end_of t) (second (nat_le t.at.start pc) (nat_lt pc (end_of t)) h)
+
+-- an address of one of them stands behind where they begin
+chain_holds : (ts : List Text) (high low n pc : ℕ) (u : Text) → Chain high low ts → slice_get ts n ≡ Some u → holds pc u ≡ true → low ≤ pc
+chain_holds [] high low n pc u c g h = absurd (none_some u g)
+chain_holds (t ∷ ts) high low zero pc u c g h =
+    let s : t.at.start ≤ pc = begun pc t (ap (holds pc) (same_some t u g) ∙ h) in
+    let l = c.0 in
+    omega (arith, l, s)
+chain_holds (t ∷ ts) high low (suc n) pc u c g h =
+    let r = chain_holds ts high (end_of t) n pc u c.1 g h in
+    let l = c.0 in
+    omega (arith, l, r)
+
+never : (ts : List Text) (high n pc : ℕ) (x t u : Text) → Chain high (end_of x) ts → Some x ≡ Some t → slice_get ts n ≡ Some u → holds pc t ≡ true → holds pc u ≡ true → ⊥
+never ts high n pc x t u c e g p q =
+    let l = not_over pc x (ap (holds pc) (same_some x t e) ∙ p) in
+    let r = chain_holds ts high (end_of x) n pc u c g q in
+    absurd (omega (arith, l, r))
+
+chain_apart : (ts : List Text) (high low : ℕ) → Chain high low ts → AreApart ts
+chain_apart [] high low c m n t u pc g e p q = absurd (none_some t g)
+chain_apart (x ∷ ts) high low c zero zero t u pc g e p q = refl
+chain_apart (x ∷ ts) high low c zero (suc n) t u pc g e p q = absurd (never ts high n pc x t u c.1 g e p q)
+chain_apart (x ∷ ts) high low c (suc m) zero t u pc g e p q = absurd (never ts high m pc x u t c.1 e g q p)
+chain_apart (x ∷ ts) high low c (suc m) (suc n) t u pc g e p q = ap suc (chain_apart ts high (end_of x) c.1 m n t u pc g e p q)
 
 -- none of the names before is that of a new one
 others : (f : Fun) (bs : List Fun) → list_any (bytes_eq f.name) (map (λ (b : Fun). b.name) bs) ≡ false → Each (Other f) bs
@@ -328,4 +349,4 @@ all_chain (e ∷ es) low made n s =
 
 -- no two texts hold one address
 pub texts_apart : (es : List Placed) (made : AreMade es) → AreNumbered es made → Stand 0x00100000 es → AreApart (texts_in es)
-texts_apart es made n s = ordered-apart 0x00100000 (texts_in es) (chain_ordered (texts_in es) 0x00100000 (all_chain es 0x00100000 made n s))
+texts_apart es made n s = chain_apart (texts_in es) 0x04100000 0x00100000 (all_chain es 0x00100000 made n s)
