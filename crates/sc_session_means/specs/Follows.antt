@@ -18,7 +18,7 @@ use Rattle.sc_mixed_goes.specs.Stretches.{standing_at}
 -- a run is followed
 pub record Follows (at : Placing) (run : Option Course) (c : Course) : Type 0 where
   pub is : run ≡ Some c
-  pub run : IsRun c
+  pub runs : IsRun c
   pub placed : ArePlaced at (c.build ∷ c.later)
 
 -- under the present texts
