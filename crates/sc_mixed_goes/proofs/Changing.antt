@@ -1,5 +1,5 @@
 -- A change of the texts at a stop is one more version of the run's history.
-use Rattle.std.proofs.Common.{◌≡◌, ◌⊎◌, inl, inr, ℕ, suc, ◌+◌, ◌<◌, ◌≤◌, List, [], ◌∷◌, ◌++◌, arith, refl, sym, ap, ◌∙◌, subst, Option, Some, None}
+use Rattle.std.proofs.Common.{◌≡◌, ◌⊎◌, inl, inr, ℕ, ◌+◌, ◌<◌, ◌≤◌, List, [], ◌∷◌, ◌++◌, arith, refl, sym, ap, ◌∙◌, subst, Some}
 use Rattle.sc_interp.specs.Ends.{end_of}
 use Rattle.sc_interp.specs.declared.stepped.Shown.{Shown}
 use Rattle.sc_interp.specs.declared.stepped.Shown.TheVariants.{Nothing}
@@ -10,9 +10,8 @@ use Rattle.sc_like.specs.Outcomes.{EndsAlike}
 use Rattle.sc_meaning.specs.Behaviour.{first_world}
 use Rattle.sc_meaning.specs.Changes.{changed}
 use Rattle.sc_meaning.specs.Outcomes.{Done, Ending, Outcome, Over as Ends}
-use Rattle.sc_meaning.specs.Versions.{Text}
 use Rattle.sc_meaning.specs.World.{World}
-use Rattle.sc_mixed.specs.Changing.{Changes, ChangesTo, IsPlaced}
+use Rattle.sc_mixed.specs.Changing.{ChangesTo, IsPlaced}
 use Rattle.sc_mixed.specs.Standing.{Standing}
 use Rattle.sc_mixed.specs.declared.calls.Next.{Next}
 use Rattle.sc_mixed.specs.declared.course.Course.{Course as Stand}

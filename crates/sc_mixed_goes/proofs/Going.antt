@@ -1,12 +1,11 @@
 -- A go of a session's run of both forms, through the change that waits for it.
-use Rattle.std.proofs.Common.{◌≡◌, ◌⊎◌, inl, inr, ℕ, suc, ◌+◌, ◌<◌, ◌≤◌, Bool, true, false, List, [], ◌∷◌, ◌++◌, append_assoc, drop, length, arith, refl, sym, ap, ◌∙◌, subst, Option, Some, None}
+use Rattle.std.proofs.Common.{◌≡◌, ◌⊎◌, inl, inr, ℕ, suc, ◌+◌, ◌<◌, ◌≤◌, List, [], ◌∷◌, ◌++◌, append_assoc, arith, refl, sym, ap, ◌∙◌, subst, Option}
 use Rattle.std.proofs.lemmas.List.{append-nil}
 use Rattle.std.specs.Prelude.{map}
 use Rattle.sc_interp.specs.declared.stepped.Shown.{Shown}
 use Rattle.sc_interp.specs.declared.stepped.Shown.TheVariants.{Nothing}
 use Rattle.sc_interp_access.specs.declared.ended.Ended.TheVariants.{NoRoom}
 use Rattle.sc_interp_change_laws.specs.Showing.{IsEvent}
-use Rattle.sc_isa_image.specs.declared.image.Image.{Image}
 use Rattle.sc_meaning.specs.Versions.{Text}
 use Rattle.sc_meaning.specs.World.{World}
 use Rattle.sc_mixed.specs.Changing.{Changes}
@@ -14,18 +13,17 @@ use Rattle.sc_mixed.specs.Goes.{Goes, Leads, Reaches, leads_lost, leads_on, lead
 use Rattle.sc_mixed.specs.Single as single
 use Rattle.sc_mixed.specs.Single.{Settling, StepsOne, passes_none, passes_one, settling_further, settling_here, steps_lost, steps_to}
 use Rattle.sc_mixed.specs.Standing.{IsLost, Standing}
-use Rattle.sc_mixed.specs.declared.calls.Next.{Next}
 use Rattle.sc_mixed.specs.declared.course.Course.{Course as Stand}
 use Rattle.sc_mixed.specs.declared.course.Course.TheVariants.{On, Over}
 use Rattle.sc_mixed.specs.declared.ended.MixedEnd.{MixedEnd}
 use Rattle.sc_mixed.specs.declared.ended.MixedEnd.TheVariants.{Meant}
-use Rattle.sc_mixed_means.specs.Runs.{in_world, texts_in}
+use Rattle.sc_mixed_means.specs.Runs.{texts_in}
 use Rattle.sc_mixed_means.specs.Stages.{Build}
 use Rattle.sc_words.specs.declared.stop.StopAt.{StopAt}
 use Rattle.sc_words.specs.declared.stop.Walk.TheVariants.{Cont}
 use Rattle.sc_world.specs.Wants.{Want}
 use Rattle.sc_world.specs.declared.halt.Halt.{Halt}
-use Rattle.sc_mixed_goes.specs.Shows.{AtEvent, ClaimsIn, CompilerIsRight, Course, EndsSo, IsMeant, IsRun, IsUnclaimed, Passes, RunsOn, StandsAt, with_build}
+use Rattle.sc_mixed_goes.specs.Shows.{AtEvent, ClaimsIn, Course, EndsSo, IsMeant, IsRun, IsUnclaimed, Passes, RunsOn, StandsAt, with_build}
 use Rattle.sc_mixed_goes.specs.Stretches.{Walks, goes_by, halt_of, showing_at, standing_at, steps_by}
 use Rattle.sc_mixed_goes.proofs.Changing.{changes_show}
 use Rattle.sc_mixed_goes.proofs.Showing.{walks_show}

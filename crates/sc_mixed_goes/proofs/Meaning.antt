@@ -1,21 +1,18 @@
 -- What the call of a run's entry gives is what the run's meaning gives from its start on.
-use Rattle.std.proofs.Common.{◌≡◌, ◌⊎◌, inl, inr, ℕ, zero, suc, ◌+◌, ◌<◌, ◌≤◌, Bool, true, false, nat_lt, if◌then◌else◌, List, [], ◌∷◌, ◌++◌, append_assoc, arith, refl, sym, ap, ◌∙◌, subst, Option, Some, None}
+use Rattle.std.proofs.Common.{◌≡◌, ◌⊎◌, ℕ, zero, suc, ◌+◌, ◌<◌, ◌≤◌, Bool, true, false, nat_lt, if◌then◌else◌, List, [], ◌∷◌, ◌++◌, append_assoc, arith, refl, sym, ap, ◌∙◌}
 use Rattle.std.proofs.lemmas.Bool.Decides.{nat_tests}
 use Rattle.std.proofs.lemmas.List.{append-nil}
 use Rattle.std.specs.Prelude.{◌==◌, map}
-use Rattle.sc_base.specs.declared.key.Key.{Key}
 use Rattle.sc_interp_laws.specs.Events.{IsPrefix}
 use Rattle.sc_base.specs.declared.memory.Form.{Form}
 use Rattle.sc_interp_world.specs.Outputs.{output, written_by}
-use Rattle.sc_like.specs.Alike.{Like, Shown as Shows, item_if, item_shown, shown_along, shown_of, shows_lines, with_item}
-use Rattle.sc_program.specs.declared.storage.StaticId.{StaticId}
+use Rattle.sc_like.specs.Alike.{Shown as Shows, item_if, item_shown, shown_along, shown_of, shows_lines, with_item}
 use Rattle.sc_like.specs.Counts.{events_shown}
-use Rattle.sc_like.specs.Outcomes.{EndsAlike}
-use Rattle.sc_meaning.specs.Behaviour.{Start, ending, ending_of, entry_called, first_world, started, status_of}
-use Rattle.sc_meaning.specs.Changes.{changed, changed_if, settled, settled_from, statics_born}
+use Rattle.sc_meaning.specs.Behaviour.{Start, ending, ending_of, entry_called, first_world}
+use Rattle.sc_meaning.specs.Changes.{changed_if, settled_from, statics_born}
 use Rattle.sc_meaning.specs.Expressions.{Answer}
 use Rattle.sc_meaning.specs.Laws.{with_history}
-use Rattle.sc_meaning.specs.Outcomes.{Breach, Ending, Outcome, Done, Over, Exit, Undefined, and_then, went, world_after, world_at}
+use Rattle.sc_meaning.specs.Outcomes.{Ending, Outcome, Done, Over, and_then, went, world_after, world_at}
 use Rattle.sc_meaning.specs.Versions.{History, Text, Version}
 use Rattle.sc_meaning.specs.World.{World, Event, Enter, Leave, At, Out, Item, Work, Begin, End, GoesOut, ComesBack, Declares, Happens, Birth, Death, Put, Copy, TakeFree, TakeNew, Give, Stack, Read, Seed, Push, Pop, OpenBlock, CloseBlock, Name, Unname, events, pass}
 use Rattle.sc_meaning.proofs.Trails.{events-append}

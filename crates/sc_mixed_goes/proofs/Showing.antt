@@ -1,17 +1,14 @@
 -- What a go of a run leaves is as the meaning has it.
-use Rattle.std.proofs.Common.{◌≡◌, ◌⊎◌, inl, inr, ℕ, suc, ◌+◌, ◌<◌, ◌≤◌, List, [], ◌∷◌, arith, refl, sym, ap, ◌∙◌, subst, Option, Some, None}
+use Rattle.std.proofs.Common.{◌≡◌, ◌⊎◌, inl, inr, ℕ, ◌+◌, ◌<◌, ◌≤◌, List, [], ◌∷◌, arith, refl, sym, ap, ◌∙◌, subst, Some}
 use Rattle.std.proofs.lemmas.List.{append-nil}
 use Rattle.std.specs.Prelude.{Err}
-use Rattle.sc_base.specs.declared.key.Key.{Key}
 use Rattle.sc_interp.specs.Ends.{end_of}
 use Rattle.sc_interp.specs.declared.going.Going.{Going}
 use Rattle.sc_interp.specs.declared.going.Going.TheVariants as going
-use Rattle.sc_interp.specs.declared.stepped.Shown.{Shown}
 use Rattle.sc_interp_access.specs.Gives as gives
 use Rattle.sc_interp_access.specs.declared.ended.Ended.TheVariants.{Exit, NoRoom}
 use Rattle.sc_interp_access.specs.declared.stop.Stop.{Stop}
 use Rattle.sc_interp_access.specs.declared.stop.Stop.TheVariants as stop
-use Rattle.sc_interp_change_laws.specs.Showing.{IsEvent}
 use Rattle.sc_interp_laws.specs.Events.{IsPrefix}
 use Rattle.sc_interp_machine.specs.Runs.{Caller}
 use Rattle.sc_interp_world.specs.Outputs.{output}
@@ -22,10 +19,10 @@ use Rattle.sc_like.proofs.Keeping.{passes}
 use Rattle.sc_meaning.specs.Behaviour.{first_world, status_of}
 use Rattle.sc_meaning.specs.Expressions.{Answer}
 use Rattle.sc_meaning.specs.Outcomes as out
-use Rattle.sc_meaning.specs.Outcomes.{Done, Ending, Over, world_after, world_at}
+use Rattle.sc_meaning.specs.Outcomes.{Done, world_after, world_at}
 use Rattle.sc_meaning.specs.World.{World, ComesBack, events, pass}
 use Rattle.sc_mixed.specs.Machine.{Moves}
-use Rattle.sc_mixed.specs.Standing.{IsLost, Standing, ended_by, standing_over, status_among, status_at, status_in, stopped_so}
+use Rattle.sc_mixed.specs.Standing.{Standing, ended_by, standing_over, status_among, status_at, status_in, stopped_so}
 use Rattle.sc_mixed.specs.declared.broken.Break.{Break}
 use Rattle.sc_mixed.specs.declared.broken.Break.TheVariants as broken
 use Rattle.sc_mixed.specs.declared.calls.Calls.{Calls}
@@ -39,7 +36,7 @@ use Rattle.sc_mixed_means.proofs.Returns.{runs_return}
 use Rattle.sc_mixed_means.proofs.Runs.{runs_end, runs_show}
 use Rattle.sc_world.specs.declared.halt.Halt.{Halt}
 use Rattle.sc_mixed_goes.specs.Shows.{AtEvent, ClaimsIn, CompilerIsRight, Course, EndsSo, IsBegun, IsMeant, IsPastTo, IsRun, IsUnclaimed, Passes, RunsOn, ShowsFirst, StandsAt, WalksShowTheMeaning, meant}
-use Rattle.sc_mixed_goes.specs.Stretches.{Went, breaks_off, comes_back, finds_no_room, halt_of, showing_at, standing_at, stays_on}
+use Rattle.sc_mixed_goes.specs.Stretches.{Went, breaks_off, comes_back, finds_no_room, halt_of, standing_at, stays_on}
 use Rattle.sc_mixed_goes.proofs.Meaning.{ends_by, ends_shown, ends_written, meant_by, shown_first, written_first}
 use Rattle.sc_mixed_goes.proofs.Stretches.{walks_stretch}
 

@@ -1,22 +1,20 @@
 -- A run that starts stands at the first place of a run as the theorem has it.
-use Rattle.std.proofs.Common.{◌≡◌, ℕ, List, [], ◌∷◌, refl, sym, ap, ◌∙◌, subst}
+use Rattle.std.proofs.Common.{◌≡◌, ℕ, List, [], ◌∷◌, sym, ap, ◌∙◌, subst}
 use Rattle.std.specs.Prelude.{Result, Ok, Err}
 use Rattle.sc_base.specs.declared.key.Key.{Key}
 use Rattle.sc_interp.specs.declared.stepped.Shown.{Shown}
 use Rattle.sc_isa_image.specs.declared.image.Image.{Image}
-use Rattle.sc_meaning.specs.Versions.{Text, callee_of}
+use Rattle.sc_meaning.specs.Versions.{Text}
 use Rattle.sc_meaning.specs.World.{World}
-use Rattle.sc_mixed.specs.Bridge.{is_code}
 use Rattle.sc_mixed.specs.Standing.{Standing, ended_by}
-use Rattle.sc_mixed.specs.Starting.{Begins, EntryGoes, Starts, first_course, kept_first, no_calls, world_first}
+use Rattle.sc_mixed.specs.Starting.{Begins, first_course, kept_first, no_calls, world_first}
 use Rattle.sc_mixed.specs.declared.broken.Break.{Break}
 use Rattle.sc_mixed.specs.declared.course.Course.{Course as Stand}
 use Rattle.sc_mixed.specs.declared.course.Course.TheVariants.{On, Over}
 use Rattle.sc_mixed.specs.declared.calls.Next.{Next}
 use Rattle.sc_mixed_means.specs.Runs.{Place, gone_none}
 use Rattle.sc_program.specs.declared.storage.StaticId.{StaticId}
-use Rattle.sc_mixed_goes.specs.Shows.{Course, IsRun, StartsAreRuns, begun_course}
-use Rattle.sc_mixed_goes.specs.Stretches.{showing_at}
+use Rattle.sc_mixed_goes.specs.Shows.{IsRun, StartsAreRuns, begun_course}
 
 module _ (texts : List Text) (i : Image) (key : Key) (stack heap : ℕ) (input : List ℕ) (places : List (StaticId × ℕ)) (m : Standing) (next : Next) (now : Shown) (functions : List Key) (kept : List (StaticId × ℕ)) where
   abbrev first : Place

@@ -4,14 +4,13 @@ use Rattle.std.specs.Option.{is_some}
 use Rattle.std.specs.Prelude.{⊤, Result, Ok, Err}
 use Rattle.sc_interp.specs.declared.stepped.Shown.{Shown}
 use Rattle.sc_interp.specs.declared.stepped.Shown.TheVariants.{Nothing, Line, Entered}
-use Rattle.sc_interp_access.specs.declared.ended.Ended.TheVariants.{Exit, NoRoom}
+use Rattle.sc_interp_access.specs.declared.ended.Ended.TheVariants.{NoRoom}
 use Rattle.sc_interp_change_laws.specs.Showing.{IsEvent}
 use Rattle.sc_isa_image.specs.declared.image.Image.{Image}
-use Rattle.sc_meaning.specs.Versions.{Text}
-use Rattle.sc_meaning.specs.World.{World, Frame, ComesBack, pass}
+use Rattle.sc_meaning.specs.World.{World, Frame}
 use Rattle.sc_mixed.specs.Goes.{Goes, Leads, Reaches, halts_in, leads_lost, leads_on, leads_over, lost_at, reaches_further, reaches_here, rested, rested_by, rested_in, rests, rests_at, rests_in, want_from}
 use Rattle.sc_mixed.specs.Machine.{Moves}
-use Rattle.sc_mixed.specs.Single.{Passes, Settling, StepsOne, StepsOneTo, passes_none, passes_one, settling_further, settling_here, steps_lost, steps_to}
+use Rattle.sc_mixed.specs.Single.{Passes, Settling, StepsOne, passes_none, passes_one, settling_further, settling_here, steps_lost, steps_to}
 use Rattle.sc_mixed.specs.Standing.{IsLost, Standing, ended_by, standing_on, standing_over, status_at}
 use Rattle.sc_mixed.specs.declared.broken.Break.{Break}
 use Rattle.sc_mixed.specs.declared.calls.Calls.{Calls}
@@ -24,12 +23,11 @@ use Rattle.sc_mixed.specs.declared.ended.MixedEnd.TheVariants.{Meant}
 use Rattle.sc_mixed_means.specs.Runs.{Gone, Place, gone_moved}
 use Rattle.sc_mixed_means.specs.Stages.{Build}
 use Rattle.sc_words.specs.declared.stop.StopAt.{StopAt}
-use Rattle.sc_words.specs.declared.stop.Walk.{Walk}
 use Rattle.sc_words.specs.declared.stop.Walk.TheVariants.{Cont}
 use Rattle.sc_world.specs.Wants.{Want, else_over, else_paused, halt_if, wanted}
 use Rattle.sc_world.specs.declared.halt.Halt.{Halt}
 use Rattle.sc_world.specs.declared.halt.Halt.TheVariants as halt
-use Rattle.sc_mixed_goes.specs.Stretches.{HaltsAtShown, Walks, WalksAreMoves, Went, breaks_off, comes_back, finds_no_room, goes_by, halt_of, showing_at, standing_at, stays_on, steps_by}
+use Rattle.sc_mixed_goes.specs.Stretches.{HaltsAtShown, Walks, WalksAreMoves, Went, breaks_off, comes_back, finds_no_room, goes_by, halt_of, showing_at, stays_on, steps_by}
 
 -- ---- what halts a go where it goes on
 

@@ -1,7 +1,5 @@
 -- Where the answer of the entry's call is there and nothing waits for it, it is the one that the meaning's call gives.
-use Rattle.std.proofs.Common.{◌≡◌, ◌⊎◌, inl, inr, ℕ, ◌+◌, ◌≤◌, ◌<◌, List, [], ◌∷◌, arith, refl, sym, ap, ◌∙◌, subst}
-use Rattle.sc_base.specs.declared.key.Key.{Key}
-use Rattle.sc_interp.specs.declared.going.Going.{Going}
+use Rattle.std.proofs.Common.{◌≡◌, ◌⊎◌, inl, inr, ℕ, ◌+◌, ◌≤◌, ◌<◌, List, [], ◌∷◌, arith, sym, ◌∙◌, subst}
 use Rattle.sc_interp.specs.declared.going.Going.TheVariants as going
 use Rattle.sc_interp.specs.declared.stepped.Shown.{Shown}
 use Rattle.sc_interp_laws.specs.Worlds.{world_of}
@@ -17,10 +15,9 @@ use Rattle.sc_mixed.specs.declared.calls.Calls.{Calls}
 use Rattle.sc_mixed.specs.declared.calls.Lower.{Lower}
 use Rattle.sc_mixed.specs.declared.calls.Next.{Next}
 use Rattle.sc_mixed.specs.declared.calls.Next.TheVariants.{Steps}
-use Rattle.sc_world.specs.Standing.{state_of}
 use Rattle.sc_mixed_means.specs.Places.{LowerAfter, Means, StepsMean}
-use Rattle.sc_mixed_means.specs.Runs.{Gone, IsPastOf, Place, RunsReturnAsMeant, WasPast, entry_gives, history_of}
-use Rattle.sc_mixed_means.specs.Stages.{Build, Live, Past, Stage, Gives, from_here}
+use Rattle.sc_mixed_means.specs.Runs.{RunsReturnAsMeant, entry_gives, history_of}
+use Rattle.sc_mixed_means.specs.Stages.{Live, Stage, Gives, from_here}
 use Rattle.sc_mixed_means.proofs.Runs.{held, live, stage_at}
 
 -- the answer is there, in a world that is alike

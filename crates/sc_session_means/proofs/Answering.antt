@@ -1,5 +1,5 @@
 -- What the answers to commands tell of a session's run of both forms.
-use Rattle.std.proofs.Common.{◌≡◌, ◌⊎◌, inl, inr, ℕ, zero, suc, ◌+◌, ◌≤◌, Bool, true, false, List, [], ◌∷◌, ◌++◌, drop, length, refl, ◌∙◌, sym, ap, subst, arith, Option, Some, None, is_some}
+use Rattle.std.proofs.Common.{◌≡◌, ◌⊎◌, inl, inr, ℕ, zero, suc, ◌+◌, ◌≤◌, Bool, true, false, List, [], ◌∷◌, ◌++◌, drop, length, refl, ◌∙◌, sym, ap, subst, Option, Some, None, is_some}
 use Rattle.std.specs.Prelude.{map}
 use Rattle.sc_interp.specs.declared.stepped.Shown.{Shown}
 use Rattle.sc_interp.specs.declared.stepped.Shown.TheVariants.{Nothing}
@@ -39,12 +39,12 @@ use Rattle.sc_session.specs.declared.limits.Limits.{Limits}
 use Rattle.sc_session.specs.declared.present.Present.{Present}
 use Rattle.sc_session.specs.declared.state.State.{State}
 use Rattle.sc_session.specs.declared.state.State.TheVariants as state
-use Rattle.sc_session.specs.Changing.{all_texts, at_rest, caught_up, come_with, is_over, past_with, state_with, stays, versions_by, versions_left}
+use Rattle.sc_session.specs.Changing.{at_rest, caught_up, come_with, is_over, past_with, state_with, stays, versions_by, versions_left}
 use Rattle.sc_session.specs.Evaluating.{Evaluates}
 use Rattle.sc_session.specs.Going as going
-use Rattle.sc_session.specs.Going.{IsCutOff, IsGivenUp, cut_off, in_state, state_after}
-use Rattle.sc_session.specs.Linking.{IsImage, with_form}
-use Rattle.sc_session.specs.Mixing.{Becomes, GoesOver, MixedGoneThrough, MixedIn, MixedStarts, MixedWalks, MixedWent, Relinks, WalksBy, is_mixed, mixed_state}
+use Rattle.sc_session.specs.Going.{IsCutOff, IsGivenUp, in_state}
+use Rattle.sc_session.specs.Linking.{IsImage}
+use Rattle.sc_session.specs.Mixing.{Becomes, MixedGoneThrough, MixedIn, MixedStarts, MixedWalks, MixedWent, Relinks, WalksBy, is_mixed, mixed_state}
 use Rattle.sc_session.specs.Modules.{texts}
 use Rattle.sc_session.specs.Placing.{IsImageOver}
 use Rattle.sc_session.specs.Plain.{Plain}
@@ -54,8 +54,8 @@ use Rattle.sc_session.specs.States.{refusal_of, starting}
 use Rattle.sc_session.specs.Loading.{file_of, file_or}
 use Rattle.sc_session.specs.Stopping.{Sets, places, with_stop, without_stop}
 use Rattle.sc_session.specs.Transcript.{AnswersTo, Carried, Decides, Edits, Loads, MixedRuns, Moment, Runs, RunsBy, RunFirst, Swaps, Unloads, asked, come_going, empty, evaluating_going, forgotten, joined, moment, past_going, replaced, swapped, unended, unloaded}
-use Rattle.sc_session.specs.Valued.{going_stops, going_texts, is_valued, stops_by, with_evaluation}
-use Rattle.sc_session_means.specs.Follows.{Follows, FollowsIn, FollowsPaused, FollowsThere, Keeps, OneWaits, StandsNow, Waits}
+use Rattle.sc_session.specs.Valued.{going_texts, is_valued, stops_by, with_evaluation}
+use Rattle.sc_session_means.specs.Follows.{FollowsIn, FollowsThere, Keeps, StandsNow, Waits}
 use Rattle.sc_session_means.specs.Sessions.{ArePlaced, ChangeTells, EvalTells, GoesFirst, GoesFrom, IsTold, Placing, RunTells, RunsSoBy, Stays, Tells, WalkTells, WalksSoBy, changed_run, kept_at, kept_by, left_by}
 use Rattle.sc_mixed_goes.specs.Shows.{AtEvent, Course, IsRun, Passes, RunsOn, StandsAt, begun_course}
 use Rattle.sc_mixed_goes.specs.Stretches.{Walks, goes_by, halt_of, showing_at, standing_at, steps_by}
@@ -390,8 +390,8 @@ module _ (at : Placing) where
           refl,
           moved (in_state s session) new after e
               (subst (λ t. FollowsIn at t session.past session.come session.modules s after) (sym valued)
-                  (subst (λ x. FollowsIn at old.session.evaluating x session.come session.modules s after) (sym past)
-                      (subst (λ x. FollowsIn at old.session.evaluating (past_with (stays old.session.state) old.session.past old.session.modules) x session.modules s after) (sym come) there))),
+              (subst (λ x. FollowsIn at old.session.evaluating x session.come session.modules s after) (sym past)
+              (subst (λ x. FollowsIn at old.session.evaluating (past_with (stays old.session.state) old.session.past old.session.modules) x session.modules s after) (sym come) there))),
         )
 
     abbrev pub Changed : Answer → Plain → Type 0

@@ -4,7 +4,6 @@
 -- start by `run` on. It is followed no more where two changes wait at one stop, and where it was over at once. A run that evaluates an expression is not
 -- followed.
 use Rattle.std.specs.Prelude.{◌≡◌, ◌⊎◌, ⊤, ℕ, Bool, true, false, List, [], ◌∷◌, drop, length, Option, Some, None}
-use Rattle.sc_interp.specs.declared.stepped.Shown.{Shown}
 use Rattle.sc_interp_world.specs.Outputs.{output}
 use Rattle.sc_isa_image.specs.declared.image.Image.{Image}
 use Rattle.sc_meaning.specs.Behaviour.{main_key}
@@ -70,7 +69,7 @@ pub record IsTold (at : Placing) (before : ℕ) (came : List (List Text)) (i : I
 abbrev pub GoesFirst : Placing → Plain → List ℕ → Standing → Stand → List ℕ → Option Course → Type 0
 GoesFirst at session bytes m (On next now) text after =
     (beside : Beside) × (born : World) × IsTold at 0 [] m.image
-        (begun_course (texts session.modules) m.image main_key session.limits.stack session.limits.heap bytes (at m.image) beside born (record { next = next; calls = m.calls; world = m.world; now = now })) text after
+    (begun_course (texts session.modules) m.image main_key session.limits.stack session.limits.heap bytes (at m.image) beside born (record { next = next; calls = m.calls; world = m.world; now = now })) text after
 GoesFirst at session bytes m (Over end) text after = after ≡ None
 
 abbrev pub RunsSo : Placing → Moment → Option (List ℕ) → List ℕ → Option Course → Type 0
