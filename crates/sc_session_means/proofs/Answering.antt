@@ -114,12 +114,12 @@ module _ (at : Placing) where
   halted_follows : (t : Option Text) → t ≡ None → (past : List (List Present)) (modules : List Present) (h : Halt) (n : Standing) (d : Course) (s : Stand) → RunsOn s d → StandsAt s d n → AtEvent h s d → ArePlaced at (d.build ∷ d.later) → d.present.texts ≡ texts modules
       → FollowsIn at t past (length past) modules (mixed_state h n) (left_by s h d)
   halted_follows t plain past modules halt.Entered n d (On next now) run stands event placed same =
-      inr (plain, d, record { is = refl; runs = run; placed = placed }, event, inl (refl, record { texts = same; at = stands }))
+      inr (plain, (d, record { is = refl; runs = run; placed = placed }, event, inl (refl, record { texts = same; at = stands })))
   halted_follows t plain past modules halt.AtLine n d (On next now) run stands event placed same =
-      inr (plain, d, record { is = refl; runs = run; placed = placed }, event, inl (refl, record { texts = same; at = stands }))
+      inr (plain, (d, record { is = refl; runs = run; placed = placed }, event, inl (refl, record { texts = same; at = stands })))
   halted_follows t plain past modules halt.Ended n d (On next now) run stands event placed same = refl
   halted_follows t plain past modules (halt.Paused turns) n d (On next now) run stands event placed same =
-      inr (plain, d, record { is = refl; runs = run; placed = placed }, record { texts = same; at = stands })
+      inr (plain, (d, record { is = refl; runs = run; placed = placed }, record { texts = same; at = stands }))
   halted_follows t plain past modules h n d (Over end) run stands event placed same = none_follows t past (length past) modules (mixed_state h n)
 
   left_follows : (t : Option Text) → t ≡ None → (past : List (List Present)) (modules : List Present) (h : Option Halt) (n : Standing) (d : Course) (s : Stand) → RunsOn s d → StandsAt s d n → AtEvent (halt_of h) s d → ArePlaced at (d.build ∷ d.later) → d.present.texts ≡ texts modules
@@ -265,12 +265,12 @@ module _ (at : Placing) where
     by_state (state.Paused r) run m n text is stood through went f = absurd stood
     by_state state.Ended run m n text is stood through went f = absurd stood
     by_state (state.StoppedMixed q) run m n text is stood through went (inl none) = unfollowed run text none
-    by_state (state.StoppedMixed q) run m n text is stood through went (inr (plain, c, f, event, waits)) =
+    by_state (state.StoppedMixed q) run m n text is stood through went (inr (plain, (c, f, event, waits))) =
         subst (λ r. Goes r text) (sym f.is)
         (stopped_goes c m n text f.runs f.placed event (ap (λ s. drop old.come (versions_by (stays s) old.past old.modules)) is)
         (subst (λ (x : Standing). Waits old.past old.come old.modules c x) (sym stood) waits) (subst (λ s. MixedIn s m) (sym is) stood) through (went plain))
     by_state (state.PausedMixed q) run m n text is stood through went (inl none) = unfollowed run text none
-    by_state (state.PausedMixed q) run m n text is stood through went (inr (plain, c, f, now)) =
+    by_state (state.PausedMixed q) run m n text is stood through went (inr (plain, (c, f, now))) =
         let left : versions_left old ≡ [] = ap (λ s. drop old.come (versions_by (stays s) old.past old.modules)) is ∙ nothing_left old.come [] refl in
         subst (λ r. Goes r text) (sym f.is)
         (paused_goes c m n text f.runs f.placed (subst (λ (x : Standing). StandsNow old.modules c x) (sym stood) now) (subst (λ s. MixedIn s m) (sym is) stood) [] left (through_by [] m n left through) through refl (went plain))
@@ -308,14 +308,16 @@ module _ (at : Placing) where
       (subst (λ vs. FollowsIn at t (past ++ modules ∷ []) come new (state.StoppedMixed (record m { image = i })) (kept_by (drop 1 vs) run)) (sym (left_now past come modules none))
       (inr (
         plain,
-        c,
-        f,
-        event,
-        inr (record {
-          image = i;
-          left = left_two past come modules new none ∙ ap (λ (ts : List Text). ts ∷ texts new ∷ []) (sym now.texts);
-          at = ap (λ (x : Standing). record x { image = i }) now.at;
-        }),
+        (
+          c,
+          f,
+          event,
+          inr (record {
+            image = i;
+            left = left_two past come modules new none ∙ ap (λ (ts : List Text). ts ∷ texts new ∷ []) (sym now.texts);
+            at = ap (λ (x : Standing). record x { image = i }) now.at;
+          }),
+        ),
       )))
   one_more t plain Is b past come modules new m s run i (c, f, event, inr one) e =
       subst (λ vs. FollowsIn at t (past ++ modules ∷ []) come new s (kept_by (drop 1 vs) run)) (sym one.left) (none_follows t (past ++ modules ∷ []) come new s)
