@@ -2,11 +2,16 @@
 use Rattle.std.proofs.Common.{◌≡◌, ◌-◌, ◌<◌, ◌≤◌, ◌&&◌, ℕ, zero, suc, Bool, true, false, if◌then◌else◌, List, [], ◌∷◌, length, map, Option, Some, None, inl, inr, refl, ◌∙◌, sym, ap, subst, arith}
 use Rattle.std.specs.Prelude.{nat_lt, remove}
 use Rattle.std.proofs.lemmas.Bool.{ltb-true}
+use Rattle.sc_base.specs.declared.key.Key.{Key}
 use Rattle.sc_base.specs.declared.memory.Form.{Form}
+use Rattle.sc_base.specs.declared.memory.Form.TheVariants as form
+use Rattle.sc_session.specs.declared.choice.Choice.{Choice}
+use Rattle.sc_session.specs.declared.choice.Choice.TheVariants as choice
 use Rattle.sc_session.specs.declared.state.State.TheVariants as state
-use Rattle.sc_session.specs.Going.{IsGivenUp, Walks, cut_off, in_state}
+use Rattle.sc_session.specs.Evaluating.{Evaluates, RunsBy as EvaluatesBy, eval_key, with_text}
+use Rattle.sc_session.specs.Going.{BeginsSo, IsGivenUp, Walks, cut_off, in_state}
 use Rattle.sc_session.specs.Loading.{file_of, file_or}
-use Rattle.sc_session.specs.Mixing.{Becomes, MixedWalks, WalksBy, is_mixed}
+use Rattle.sc_session.specs.Mixing.{Becomes, MixedBegins, MixedWalks, WalksBy, is_mixed}
 use Rattle.sc_session.specs.Modules.{texts}
 use Rattle.sc_session.specs.Plain.{Plain}
 use Rattle.sc_session.specs.Probing.{Drops}
@@ -73,11 +78,12 @@ edits old name file (answer.Refused d) new (leaves, why) = same old.session new.
 edits old name file answer.NoMemory new leaves = same old.session new.session leaves.0
 edits old name file _ new p = absurd p
 
-swaps : (old : Moment) (name : List ℕ) (f : Form) (said : Answer) (new : Moment) → Swaps old name f said new → new.session.probes ≡ old.session.probes
-swaps old name f (answer.Swapped m g) new (is, so, may, changed, held) = becomes (swapped old.session name f) new.session changed
-swaps old name f (answer.Refused d) new (is, leaves, why) = same old.session new.session leaves.0
-swaps old name f answer.NoMemory new leaves = same old.session new.session leaves.0
-swaps old name f _ new p = absurd p
+swaps : (old : Moment) (name : List ℕ) (f : Form) (c : Choice) (said : Answer) (new : Moment) → Swaps old name f c said new → new.session.probes ≡ old.session.probes
+swaps old name f c (answer.Swapped m g) new (chosen, is, so, may, changed, held) = becomes (swapped old.session name f c) new.session changed
+swaps old name f c (answer.SwappedFast m) new (chosen, is, may, changed, held) = becomes (swapped old.session name f c) new.session changed
+swaps old name f c (answer.Refused d) new (is, leaves, why) = same old.session new.session leaves.0
+swaps old name f c answer.NoMemory new leaves = same old.session new.session leaves.0
+swaps old name f c _ new p = absurd p
 
 unloads : (session : Plain) (name : List ℕ) (said : Answer) (new : Plain) → Unloads session name said new → new.probes ≡ session.probes
 unloads session name (answer.Unloaded m) new (is, changed) = becomes (unloaded session name) new changed
@@ -108,6 +114,26 @@ carries_one : (session : Plain) (said : Answer) (new : Plain) → CarriesOne ses
 carries_one session (answer.Ran text) new (m, stands, (n, through, went)) = ap (λ (p : Plain). p.probes) went.follows
 carries_one session answer.NoMemory new p = given_up session new p
 carries_one session _ new p = absurd p
+
+-- a run that begins by a call of a function, of interpreted modules or of both forms
+begins : (session : Plain) (key : Key) (bytes front : List ℕ) (said : Answer) (new : Plain) → BeginsSo session key bytes front said new → new.probes ≡ session.probes
+begins session key bytes front (answer.Ran text) new (of, (s, went, e)) = ap (λ (p : Plain). p.probes) e
+begins session key bytes front answer.NoMemory new (inl (none, e)) = same session new e
+begins session key bytes front answer.NoMemory new (inr (first, e)) = same (cut_off front session) new e
+begins session key bytes front _ new p = absurd p
+
+mixed_begins : (session : Plain) (key : Key) (bytes : List ℕ) (said : Answer) (new : Plain) → MixedBegins session key bytes said new → new.probes ≡ session.probes
+mixed_begins session key bytes (answer.Ran text) new (m, starts, went) = ap (λ (p : Plain). p.probes) went.follows
+mixed_begins session key bytes answer.NoMemory new p = given_up session new p
+mixed_begins session key bytes _ new p = absurd p
+
+evaluates_by : (b : Bool) (session : Plain) (name front : List ℕ) (said : Answer) (new : Plain) → EvaluatesBy b session name front said new → new.probes ≡ session.probes
+evaluates_by true session name front said new p = begins session (eval_key name) [] front said new p
+evaluates_by false session name front said new p = mixed_begins session (eval_key name) [] said new p.1
+
+evaluates : (session : Plain) (name line front : List ℕ) (said : Answer) (new : Plain) → Evaluates session name line front said new → new.probes ≡ session.probes
+evaluates session name line front said new (inl (none, e, why)) = same session new e
+evaluates session name line front said new (inr (t, asks, p)) = evaluates_by (are_sources (texts session.modules)) (with_text t session) name front said new p
 
 runs_alone : (old : Moment) (file : Option (List ℕ)) (front : List ℕ) (said : Answer) (new : Moment) → Runs old file front said new → new.session.probes ≡ old.session.probes
 runs_alone old file front (answer.Ran text) new (held, main, (bytes, input, (of, (s, went, e)))) = ap (λ (p : Plain). p.probes) e
@@ -146,12 +172,15 @@ carried : (old : Moment) (c : Command) (front : List ℕ) (said : Answer) (new :
 carried old command.Nothing front said new free (none, p) = here old new p.1
 carried old (command.Load name) front said new free (none, p) = stays _ _ (loads old name (file_of name) said new p)
 carried old (command.Unload name) front said new free (none, p) = stays _ _ (unloads old.session name said new.session p.0)
-carried old (command.Swap name form) front said new free (none, p) = stays _ _ (swaps old name form said new p)
+carried old (command.Swap name form) front said new free (none, p) = stays _ _ (swaps old name form choice.Plain said new p)
+carried old (command.SwapFast name) front said new free (none, p) = stays _ _ (swaps old name form.Object choice.Fast said new p)
 carried old (command.Edit name file) front said new free (none, p) = stays _ _ (edits old name (file_or name file) said new p)
 carried old (command.Run file) front said new free p = stays _ _ (runs (are_sources (texts old.session.modules)) (moment (asked (command.Run file) old.session) old.held old.faults) file front said new p)
 carried old (command.Stop place) front said new free (none, p) = stays _ _ (sets old.session place said new.session p.0)
 carried old (command.Delete n) front said new free (none, p) = stays _ _ (ap (λ (s : Plain). s.probes) p.1)
 carried old (command.Compile name) front said new free (none, p) = stays _ _ (same old.session new.session p.0)
+carried old (command.CompileFast name) front said new free (none, p) = stays _ _ (same old.session new.session p.0)
+carried old (command.Eval name line) front said new free p = stays _ _ (evaluates (asked (command.Eval name line) old.session) name line front said new.session p.0)
 carried old command.Step front said new free p = stays _ _ (walks (is_mixed old.session.state) old.session walk.Step front said new.session p.0)
 carried old command.Next front said new free p = stays _ _ (walks (is_mixed old.session.state) old.session walk.Next front said new.session p.0)
 carried old command.Cont front said new free p = stays _ _ (walks (is_mixed old.session.state) old.session walk.Cont front said new.session p.0)
@@ -181,6 +210,7 @@ gone_unread (Some k) = refl
 
 asked_count : (c : Command) (session : Plain) → (asked c session).probes ≡ session.probes
 asked_count (command.Run file) session = refl
+asked_count (command.Eval name line) session = refl
 asked_count _ session = refl
 
 decided : (o : Option Denied) (old : Moment) (c : Command) (front : List ℕ) (said : Answer) (new : Moment) → refusal_of (asked c old.session) c ≡ o → Decides o (moment (asked c old.session) old.held old.faults) c front said new
