@@ -28,7 +28,7 @@ ORIGINALS = {
     "Memory": "the same tests by addresses",
     "Interpreter": "nothing: steps that theorems tie to the meaning",
     "Compiler": "the RISC-V manual, ELF32; the generator with nothing yet",
-    "Session": "[COMMANDS](COMMANDS.md); runs of both forms with nothing yet",
+    "Session": "[COMMANDS](COMMANDS.md); runs of both forms with the meaning, from premises",
 }
 KINDS = ("Yardstick", "Machine", "Inside")
 MARKS = ("<!-- tests/believed.py: begin -->\n", "<!-- tests/believed.py: end -->")

@@ -6,3 +6,4 @@ pub mod Change
 pub mod Start
 pub mod Runs
 pub mod Sources
+pub mod Returns

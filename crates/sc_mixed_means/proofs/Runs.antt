@@ -61,11 +61,11 @@ shows_from w v u a l =
 
 -- ---- the stage of a run with these texts
 
-abbrev stage_at : Past → Build → List Build → Stage
+abbrev pub stage_at : Past → Build → List Build → Stage
 stage_at p c cs = record { past = p; image = c.image; places = c.places; later = cs }
 
 -- the history of a run has no version that has not come
-live : (b : Build) (bs : List Build) (c : Build) (cs : List Build) (p : Past) → IsPastOf b bs c cs p → (v : World) → Live p v (history_of p)
+pub live : (b : Build) (bs : List Build) (c : Build) (cs : List Build) (p : Past) → IsPastOf b bs c cs p → (v : World) → Live p v (history_of p)
 live b bs c cs p so v = (v.count + 1, history_fits p so.order (v.count + 1), omega arith)
 
 code_shown : (m : ℕ) (s : Stage) (next : Next) (c : Calls) (w : World) (now : Shown) (out : History → Outcome Answer) (h : History) → ((v : World) → Live s.past v h) → CodeStands m s next c w now out → IsShownIn w (world_after (out h))
@@ -87,7 +87,7 @@ module _ (first : Place) (b : Build) (bs : List Build) where
   right_at _ _ _ _ (gone_changed k p c d ds placed x g event is goes) r = (right_at k p c (d ∷ ds) g r).1
 
   module _ (n : ℕ) (key : Key) (start born : World) (right : CompiledTextsAreRight (b ∷ bs)) (enters : Enters b key start born first) (memory : MemoryIsKept first b bs n key born) where
-    abbrev Kept : ℕ → Place → Build → List Build → Type 0
+    abbrev pub Kept : ℕ → Place → Build → List Build → Type 0
     Kept m p c cs = (past : Past) × IsPastOf b bs c cs past × Means m (stage_at past c cs) p.next p.calls p.world p.now (entry_gives n key born)
 
     lost_here : (k : ℕ) (p : Place) (c : Build) (cs : List Build) (past : Past) → Gone first b bs k p c cs → IsPastOf b bs c cs past → IsLostFrom (stage_at past c cs) p.world (entry_gives n key born) → WasPast first b bs n key born
@@ -144,7 +144,7 @@ module _ (first : Place) (b : Build) (bs : List Build) where
           z.2,
         )
 
-    held : (k m : ℕ) (p : Place) (c : Build) (cs : List Build) → suc (m + k) ≤ n → Gone first b bs k p c cs → Kept m p c cs ⊎ WasPast first b bs n key born
+    pub held : (k m : ℕ) (p : Place) (c : Build) (cs : List Build) → suc (m + k) ≤ n → Gone first b bs k p c cs → Kept m p c cs ⊎ WasPast first b bs n key born
     held _ m _ _ _ le gone_none =
         inl (
           First b.texts,

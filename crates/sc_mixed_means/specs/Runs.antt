@@ -4,6 +4,7 @@
 use Rattle.std.specs.Prelude.{◌≡◌, ◌⊎◌, ⊤, ℕ, suc, ◌+◌, ◌<◌, true, List, [], ◌∷◌, ◌++◌, map, Ok, Err, Some}
 use Rattle.sc_base.specs.declared.key.Key.{Key}
 use Rattle.sc_interp.specs.declared.going.Going.{Going}
+use Rattle.sc_interp.specs.declared.going.Going.TheVariants as going
 use Rattle.sc_interp.specs.declared.stepped.Shown.{Shown}
 use Rattle.sc_interp.specs.declared.stepped.Shown.TheVariants.{Nothing}
 use Rattle.sc_interp_access.specs.Gives.{ending_of}
@@ -154,3 +155,11 @@ ChangesEndAsMeant =
     (b : Build) (bs : List Build) (n : ℕ) (key : Key) (start born : World) (first : Place) → CompiledTextsAreRight (b ∷ bs) → Enters b key start born first → MemoryIsKept first b bs n key born →
     (k : ℕ) (p : Place) (c d : Build) (ds : List Build) (placed : World) (e : Ending) → k < n → Gone first b bs k p c (d ∷ ds) → IsEvent p.now → IsPlaced p.world placed → changed c.texts d.texts placed ≡ Over e →
     ((past : Past) × IsPastOf b bs d ds past × (f : Ending) × EndsAlike Like e f × (entry_gives n key born (history_of past) ≡ Over f)) ⊎ WasPast first b bs n key born
+
+-- Where the answer of the entry's call is there and nothing waits for it, the meaning's call gives it, in a world that is alike; or the run was past such a
+-- step.
+abbrev pub RunsReturnAsMeant : Type 0
+RunsReturnAsMeant =
+    (b : Build) (bs : List Build) (n : ℕ) (key : Key) (start born : World) (first : Place) → CompiledTextsAreRight (b ∷ bs) → Enters b key start born first → MemoryIsKept first b bs n key born →
+    (k : ℕ) (p : Place) (c : Build) (cs : List Build) (a : Answer) → k < n → Gone first b bs k p c cs → p.next ≡ Steps (going.Answers a) → p.calls.callers ≡ [] → p.calls.lower ≡ [] →
+    ((past : Past) × IsPastOf b bs c cs past × (u : World) × Like p.world u × (entry_gives n key born (history_of past) ≡ Done a u)) ⊎ WasPast first b bs n key born

@@ -2,7 +2,7 @@
 ghost use Rattle.std.specs.Prelude.{List, ℕ};
 ghost use Rattle.sc_mixed_means.specs.Owed.{CompiledTextsAreRight};
 ghost use Rattle.sc_mixed_means.specs.Places.{MovesKeepTheMeaning};
-ghost use Rattle.sc_mixed_means.specs.Runs.{AreInOrder, ChangesEndAsMeant, RunsEndAsMeant, RunsShowTheirMeaning, history_of};
+ghost use Rattle.sc_mixed_means.specs.Runs.{AreInOrder, ChangesEndAsMeant, RunsEndAsMeant, RunsReturnAsMeant, RunsShowTheirMeaning, history_of};
 ghost use Rattle.sc_mixed_means.specs.Sources.{BuildsAreSources};
 ghost use Rattle.sc_mixed_means.specs.Stages.{Build, Fits, Past};
 
@@ -14,12 +14,13 @@ pub fn moves_keep_the_meaning()
 {}
 
 /// What a run of both forms shows, through moves and changes of its texts, begins what the meaning of its call shows under a history of these texts. Where a
-/// move or a change ends the run, the meaning ends so. From an undefined step of compiled code on no more is said, and not before.
-#[tactic(auto, using(crate::proofs::Runs::runs_show, crate::proofs::Runs::runs_end, crate::proofs::Runs::changes_over))]
+/// move or a change ends the run, or the entry's call has returned, the meaning ends so. From an undefined step of compiled code on no more is said, and not before.
+#[tactic(auto, using(crate::proofs::Runs::runs_show, crate::proofs::Runs::runs_end, crate::proofs::Runs::changes_over, crate::proofs::Returns::runs_return))]
 pub fn mixed_runs_show_their_meaning()
     ensures shown { RunsShowTheirMeaning }
     ensures ends { RunsEndAsMeant }
     ensures changes { ChangesEndAsMeant }
+    ensures returned { RunsReturnAsMeant }
 {}
 
 /// The history of a run's texts is one that the run can have, and no further version comes in it.
