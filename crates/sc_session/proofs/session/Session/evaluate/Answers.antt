@@ -15,8 +15,8 @@ returns-then-are_sources-clause-evaluates g c =
     (form_by c.are_sources.result true c.as_slice-2.result.now c.as_slice.result.now _ c.args.self.now c.self.view_is c.as_slice.ensures.value (c.as_slice-2.ensures ∙ c.in-Ok-texts_of.ensures) c.are_sources.ensures c.if-are_sources.true)
     c.start.ensures.begins
 
-pub returns-else-are_sources-clause-evaluates : goal.returns-else-are_sources-clause-evaluates
-returns-else-are_sources-clause-evaluates g c =
+pub returns-clause-evaluates : goal.returns-clause-evaluates
+returns-clause-evaluates g c =
     runs_mixed (g.K.Sink.written c.args.out.now) c.args.self.now c.args.text c.args.name.now c.put_evaluation.new.self c.in-Ok.key c.new-input.result c.start_mixed.result c.start_mixed.new.self
     c.put_evaluation.ensures c.in-Ok.ensures c.new-input.ensures
     (form_by c.are_sources.result false c.as_slice-2.result.now c.as_slice.result.now _ c.args.self.now c.self.view_is c.as_slice.ensures.value (c.as_slice-2.ensures ∙ c.in-Ok-texts_of.ensures) c.are_sources.ensures c.if-are_sources.false)
