@@ -79,7 +79,7 @@ runs_mixed sink session t name inside key input said new put is none mixed p =
     ))
 
 pub runs_not : (sink : Option (List ℕ)) (session : Plain) (t : Text) (name : List ℕ) → RunsText sink sink session t name (Ok answer.NoMemory) session
-runs_not sink session t name = inl (refl, (refl, refl))
+runs_not sink session t name = inl (refl, refl, refl)
 
 pub form_by : (b c : Bool) (modules : List Text) (listed : List Present) (v session : Plain) → v ≡ session → listed ≡ v.modules → modules ≡ texts listed → b ≡ are_sources modules → b ≡ c → are_sources (texts session.modules) ≡ c
 form_by b c modules listed v session is same found said it =

@@ -164,7 +164,6 @@ pub mixed_begun : (old : Moment) (file : Option (List ℕ)) (bytes : List ℕ) (
     → (said : Answer) → MixedBegins old.session main_key bytes said new → MixedRuns old file said (moment new held now)
 mixed_begun old file bytes now held new main input same (answer.Ran text) p = (same, main, (bytes, input, p))
 mixed_begun old file bytes now held new main input same answer.NoMemory p = (same, p)
-mixed_begun old file bytes now held new main input same (answer.Refused (denied.Space a)) p = ((p.0, same), main, (bytes, input), p.1)
 mixed_begun old file bytes now held new main input same _ p = absurd p
 
 no_space : {P : Type 0} (held : Option FileMap) (file : Option (List ℕ)) (before now : ℕ) (d : Denied) → (a : Area) → d ≡ denied.Space a → InputDenied held file before now d → P

@@ -9,6 +9,6 @@ returns-in-Err-clause-short c = first_lacking c.args.past.now c.args.modules.now
 pub returns-in-None-clause-room : goal.returns-in-None-clause-room
 returns-in-None-clause-room c = within_last c.args.past.now c.args.modules.now c.args.functions.now c.as_slice.result.now (c.as_slice.ensures ∙ c.in-Ok.ensures.ok) c.in-None.ensures
 
-pub returns-clause-short : goal.returns-clause-short
-returns-clause-short c =
+pub returns-in-Some-clause-short : goal.returns-in-Some-clause-short
+returns-in-Some-clause-short c =
     over_last c.args.past.now c.args.modules.now c.args.functions.now c.as_slice.result.now c.in-Some.area _ (c.as_slice.ensures ∙ c.in-Ok.ensures.ok) c.in-Some.ensures (ap short.Space c.area_of.ensures)

@@ -21,10 +21,10 @@ returns-in-Ok-gone-clause-walks g c =
     c.in-Some.ensures
     (c.as_slice.ensures ∙ c.in-Ok.ensures)
     (c.as_slice-2.ensures ∙ c.in-Ok-going_stops.ensures)
-    (ap (λ (p : Plain). p.limits.turns) c.self-2.view_is)
+    (ap (λ (p : Plain). p.limits.turns) c.self.view_is)
     c.is_valued-valued.ensures
     c.in-Ok-gone.ensures.went
-    c.put_state.ensures (c.catch_up.ensures ∙ ap (λ p. in_state c.put_state.new.place (caught_up p)) c.self-2.view_is)
+    c.put_state.ensures (c.catch_up.ensures ∙ ap (λ p. in_state c.put_state.new.place (caught_up p)) c.self.view_is)
 
 pub returns-in-NoMemory-clause-walks : goal.returns-in-NoMemory-clause-walks
 returns-in-NoMemory-clause-walks g c =
@@ -33,9 +33,9 @@ returns-in-NoMemory-clause-walks g c =
     c.in-Some.ensures
     (c.as_slice.ensures ∙ c.in-Ok.ensures)
     (c.as_slice-2.ensures ∙ c.in-Ok-going_stops.ensures)
-    (ap (λ (p : Plain). p.limits.turns) c.self-2.view_is)
-    (ap (λ (p : Plain). p.in_line) c.self-2.view_is)
-    (ap (λ (p : Plain). record p { in_line = c.in-NoMemory.within }) c.self-2.view_is) (lost_memory _ _ _ _ _ _ c.in-NoMemory.is c.in-Err.ensures.lost)
+    (ap (λ (p : Plain). p.limits.turns) c.self.view_is)
+    (ap (λ (p : Plain). p.in_line) c.self.view_is)
+    (ap (λ (p : Plain). record p { in_line = c.in-NoMemory.within }) c.self.view_is) (lost_memory _ _ _ _ _ _ c.in-NoMemory.is c.in-Err.ensures.lost)
 
 pub returns-clause-walks : goal.returns-clause-walks
 returns-clause-walks g c =
@@ -44,5 +44,5 @@ returns-clause-walks g c =
     c.in-Some.ensures
     (c.as_slice.ensures ∙ c.in-Ok.ensures)
     (c.as_slice-2.ensures ∙ c.in-Ok-going_stops.ensures)
-    (ap (λ (p : Plain). p.limits.turns) c.self-2.view_is)
+    (ap (λ (p : Plain). p.limits.turns) c.self.view_is)
     (lost_write _ _ _ _ _ _ c.in-Unsent.is c.in-Err.ensures.lost)
