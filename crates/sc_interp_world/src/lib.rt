@@ -3,6 +3,7 @@
 #![tactic(auto)]
 
 mod account;
+mod addresses;
 mod cells;
 mod event;
 mod held;

@@ -1,12 +1,8 @@
 // The world of a run, and the single changes to it.
-ghost use Rattle.std.specs.Prelude.{◌≡◌, true, false, not, ℕ, ◌+◌, ◌-◌, ◌∷◌, ◌++◌, [], List, length, reverse, IfOk, IfSome, IsSome, MatchOption, None, Some, ⊤, slice_index, slice_set, replicate};
-ghost use Rattle.sc_meaning.specs.Beside.{born_in, empty_memory, kept_in, nothing_beside, with_memory, word_of};
-ghost use Rattle.sc_mem.specs.Flat.{aligned_place, raw_read};
+ghost use Rattle.std.specs.Prelude.{◌≡◌, true, false, not, ℕ, ◌+◌, ◌-◌, ◌∷◌, ◌++◌, [], List, length, reverse, IfOk, IfSome, MatchOption, ⊤, slice_index, slice_set, replicate};
+ghost use Rattle.sc_meaning.specs.Beside.{born_in, empty_memory, nothing_beside, with_memory};
 ghost use Rattle.sc_meaning.specs.Values as value;
 ghost use Rattle.sc_meaning.specs.World as spec;
-ghost use Rattle.sc_mem.specs.Words.{IsSize};
-ghost use Rattle.sc_mem_store.specs.Holding.{value_at};
-ghost use Rattle.sc_mem_store.specs.Living.{IsBare, IsByteOf, IsLiveAt, IsLiving, IsTagAt};
 ghost use Rattle.sc_interp_world.specs.Keeping.{beside_of};
 ghost use Rattle.sc_interp_world.specs.Happenings.{item_of};
 ghost use Rattle.sc_interp_world.specs.Outputs.{bytes_moved, output};
@@ -18,10 +14,10 @@ use crate::held::Held;
 use crate::names::Names;
 use crate::object::{Born, Frame, Object};
 use crate::places::Places;
-use sc_base::{Bytes, Duplicate, Items, Key, Kind, Name, NoMemory, Shared, Stack, Word};
+use sc_base::{Bytes, Duplicate, Items, Key, Kind, Name, NoMemory, Shared, Stack};
 use sc_meaning::Spot;
 use sc_meaning_values::Value;
-use sc_mem_store::{Cell, Place};
+use sc_mem_store::Cell;
 use sc_program::StaticId;
 use std::alloc::Global;
 use std::marker::Model;
@@ -735,75 +731,5 @@ impl World {
     {
         self.names.take(&id);
         self.note(Change::Unname(id))
-    }
-}
-
-impl World {
-    /// The address of a live object's first byte: `None` where no live object has this number. It stays until the object
-    /// dies. Also `None` behind a change that was given up for want of memory.
-    pub fn base(&self, id: u32) -> Option<u32>
-        ensures { IfSome result (λ _. IsLiving self.now.objects id) }
-    {
-        self.objects.base(id)
-    }
-
-    /// The byte of a live object that stands at an address: `None` where the byte there belongs to no live object, as just
-    /// behind the last byte of one. Also `None` behind a change that was given up for want of memory.
-    pub fn live_at(&self, address: u32) -> Option<Place>
-        ensures lives { IfSome result (λ p. IsLiveAt self.now.objects p.id p.offset) }
-        ensures place { IfSome result (λ p. IfSome self.now.beside.memory (λ m. IsByteOf m.flat.objects p.id p.offset address)) }
-    {
-        self.objects.live_at(address)
-    }
-
-    /// The tag of what stands at an address: that of functions at a function's stub, else the number of the live object that has
-    /// the byte there or ends just in front of it. `None` where there is neither.
-    pub fn tag_at(&self, address: u32) -> Option<u32>
-        ensures { IfSome self.now.beside.memory (λ m. IsTagAt self.now.beside.functions m.flat.objects address result) }
-    {
-        self.objects.tag_at(address)
-    }
-
-    /// What the `size` bytes at an address hold, whether or not they are an object's: `None` exactly outside the static area,
-    /// the heap and the stack, and where the address is no multiple of the size. An unwritten byte reads as 0, and only four
-    /// bytes that are one pointer have a tag.
-    pub fn load(&self, at: u32, size: u8) -> Option<Word>
-        requires { IsSize size }
-        ensures { MatchOption self.now.beside.memory (result ≡ None) (λ m. result ≡ raw_read m.flat at size) }
-    {
-        self.objects.load(at, size)
-    }
-
-    /// The value of a word: a number, the function whose stub begins there, or a place in the object that its tag names.
-    pub fn value(&self, w: Word) -> Result<Value, NoMemory>
-        ensures { IfOk result (λ v. IfSome self.now.beside.memory (λ m. v ≡ value_at self.now.beside.functions m.flat.objects w.tag w.bits)) }
-    {
-        self.objects.value(w)
-    }
-
-    /// The word of a value: of a place in an object its address, with the object's number as the tag.
-    ///
-    /// # Errors
-    ///
-    /// `NoMemory` for a function that has no stub and for a place in an object that was not born, which no run has.
-    pub fn word(&self, v: &Value) -> Result<Word, NoMemory>
-        ensures { IfOk result (λ w. IfSome self.now.beside.memory (λ m. w ≡ word_of self.now.beside.functions m.flat.objects v.now)) }
-    {
-        self.objects.word(v)
-    }
-
-    /// Writes a word to the `size` bytes at an address that belong to no live object, as compiled code does with what it
-    /// saves on the stack. No object changes, and the trail keeps nothing of it. `None`, where nothing is written, if the first
-    /// byte is a live object's, outside the static area, the heap and the stack, at no multiple of the size, or if the word
-    /// has the tag of an object that was not born.
-    pub fn keep(&mut self, at: u32, size: u8, w: Word) -> Result<Option<()>, NoMemory>
-        requires { IsSize size }
-        ensures same { self.new ≡ record self.old { beside = record self.old.beside { memory = self.new.beside.memory } } }
-        ensures kept { IfOk result (λ kept. MatchOption kept (self.new ≡ self.old) (λ _. self.new ≡ record self.old { beside = with_memory (kept_in at size w) self.old.beside })) }
-        ensures place { IfOk result (λ kept. IfSome kept (λ _. MatchOption self.old.beside.memory ⊥ (λ m. IsSome (aligned_place m.flat at size) × IsBare m.flat.objects at))) }
-    {
-        let kept = self.objects.keep(at, size, w)?;
-        self.account.tell_kept(at, size, w, kept.is_some())?;
-        Ok(kept)
     }
 }
