@@ -6,7 +6,10 @@ use Rattle.sc_check.specs.Outcomes as rules
 use Rattle.sc_check.specs.Units.{unit_of}
 use Rattle.sc_core.specs.declared.module.Core.{Core}
 use Rattle.sc_core_formed.specs.Modules.{formed}
-use Rattle.sc_gen.specs.Limits.{IsObject}
+use Rattle.sc_eval.specs.Texts.{IsUnit}
+use Rattle.sc_eval.specs.declared.starting.Kept.{Kept}
+use Rattle.sc_gen.specs.Limits.{IsObject, plain_code}
+use Rattle.sc_opt.specs.Fast.{fast_code}
 use Rattle.sc_lex.specs.declared.token.Token.{Token}
 use Rattle.sc_outside.specs.Stored.{FileMap}
 use Rattle.sc_pp.specs.declared.unit.PpFault.{PpFault}
@@ -23,7 +26,7 @@ use Rattle.sc_build.specs.declared.building.Built.{Built}
 use Rattle.sc_build.specs.declared.building.Names.{Names}
 use Rattle.sc_build.specs.declared.building.BuildFault.{BuildFault}
 use Rattle.sc_build.specs.declared.building.BuildFault.TheVariants as fault
-use Rattle.sc_build.specs.Builds.{Answers, Checks, Reads, IsUnit, Refuses, in_preprocessing, in_grammar, in_types, in_code, InFile, names_of, of_files}
+use Rattle.sc_build.specs.Builds.{Answers, Checks, Reads, Refuses, in_preprocessing, in_grammar, in_types, in_code, InFile, names_of, of_files}
 
 -- preprocessing fails
 pub files_fail : (held : Option FileMap) (before now : ℕ) (file name : List ℕ) (f : PpFault)
@@ -69,20 +72,22 @@ types_fail tokens items file name base.NoMemory fault.NoMemory unit told e held 
 
 -- the module is there, or too large for an object
 pub compiled_so : (tokens : List Token) (items : List External) (file name : List ℕ) (core : Core) (names : Names) (result : Result Built BuildFault)
-    → IsUnit tokens items → unit_of name items ≡ Ok core → core.name ≡ name → formed core ≡ true → names ≡ names_of items → Compiles file core names result
+    → IsUnit tokens items → unit_of name items ≡ Ok core → core.name ≡ name → formed core ≡ true → names ≡ names_of tokens items → Compiles file core names result
     → Checks tokens file name result
-compiled_so tokens items file name core names (Ok built) unit checks named law told p held before now reads = record {
-  tokens = tokens;
-  items = items;
-  reads = reads;
-  parses = unit;
-  checks = checks ∙ ap Ok (sym p.0);
-  named = ap (λ c. c.name) p.0 ∙ named;
-  formed = ap formed p.0 ∙ law;
-  scoped = p.1 ∙ ap (λ (n : Names). n.scopes) told;
-  listed = p.2 ∙ ap (λ (n : Names). n.places) told;
-  compiled = subst (λ c. IsObject c built.object) (sym p.0) p.3;
-}
+compiled_so tokens items file name core names (Ok built) unit checks named law told p held before now reads =
+    let same : tokens ≡ built.kept.tokens = sym (ap (λ (k : Kept). k.tokens) (p.3 ∙ ap (λ (n : Names). n.kept) told)) in
+    record {
+      items = items;
+      reads = subst (λ ts. Reads held file (Ok ts)) same reads;
+      parses = subst (λ ts. IsUnit ts items) same unit;
+      checks = checks ∙ ap Ok (sym p.0);
+      named = ap (λ c. c.name) p.0 ∙ named;
+      formed = ap formed p.0 ∙ law;
+      scoped = p.1 ∙ ap (λ (n : Names). n.scopes) told;
+      listed = p.2 ∙ ap (λ (n : Names). n.places) told;
+      compiled = subst (λ c. IsObject plain_code c built.object) (sym p.0) p.4;
+      fast = subst (λ c. IsObject fast_code c built.fast) (sym p.0) p.5;
+    }
 compiled_so tokens items file name core names (Err (fault.Refused r)) unit checks named law told p held before now reads = in_code tokens items core r reads unit checks p
 compiled_so tokens items file name core names (Err fault.Missing) unit checks named law told p held before now reads = absurd p
 compiled_so tokens items file name core names (Err fault.TooLong) unit checks named law told p held before now reads = absurd p

@@ -9,7 +9,9 @@ use Rattle.sc_check.specs.Outcomes.{IsRefused}
 use Rattle.sc_check.specs.Units.{unit_of}
 use Rattle.sc_core.specs.declared.module.Core.{Core}
 use Rattle.sc_core_formed.specs.Modules.{formed}
-use Rattle.sc_gen.specs.Limits.{IsObject}
+use Rattle.sc_eval.specs.Texts.{IsUnit}
+use Rattle.sc_gen.specs.Limits.{IsObject, plain_code}
+use Rattle.sc_opt.specs.Fast.{fast_code}
 use Rattle.sc_lex.specs.declared.token.Token.{Token}
 use Rattle.sc_outside.specs.Causes.{Rose}
 use Rattle.sc_outside.specs.Stored.{FileMap}
@@ -21,8 +23,6 @@ use Rattle.sc_pp.specs.Asked.{asked_in}
 use Rattle.sc_core_names.specs.Scopes.{scopes_of}
 use Rattle.sc_parse_tokens.specs.Symbols.{symbols}
 use Rattle.sc_tree.specs.declared.statement.External.{External}
-use Rattle.sc_parse_expr.specs.Brackets.{AreShallow}
-use Rattle.sc_parse_unit.specs.Grammar as grammar
 use Rattle.sc_parse_laws.specs.Causes.{Cause}
 use Rattle.sc_xref.specs.Walks.{places_of}
 use Rattle.sc_build.specs.Compiled.{Exceeds}
@@ -35,10 +35,6 @@ use Rattle.sc_build.specs.declared.building.BuildFault.TheVariants as fault
 abbrev pub Reads : Option FileMap → List ℕ → Result (List Token) PpFault → Type 0
 Reads held file outcome = Known held (λ map. preprocessed map file ≡ outcome)
 
--- The tokens are a unit of the grammar within the limits, which has these functions and declarations; at most 500 brackets are open at one place.
-abbrev pub IsUnit : List Token → List External → Type 0
-IsUnit tokens items = grammar.IsUnit true (symbols tokens) items × AreShallow 0 (symbols tokens)
-
 -- there is no such file, or it is longer than a file may be
 abbrev pub IsMissing : Option FileMap → List ℕ → Type 0
 IsMissing held file = Reads held file (Err pp.Missing)
@@ -50,23 +46,23 @@ IsTooLong held file = Reads held file (Err pp.TooLong)
 abbrev pub Asks : Option FileMap → List ℕ → List ℕ → Type 0
 Asks held file asked = Known held (λ map. Contains (asked_in map file) asked)
 
--- the names of a unit
-abbrev pub names_of : List External → Names
-names_of items = record { scopes = scopes_of items; places = places_of items }
+-- what is kept beside the module of these tokens, which are this unit
+abbrev pub names_of : List Token → List External → Names
+names_of tokens items = record { scopes = scopes_of items; places = places_of items; kept = record { tokens = tokens } }
 
--- The module in a file: its tokens, which are a unit, which the rules of types make this module, whose scopes and places are these, and
--- which has this object.
+-- The module in a file: its tokens, which are kept and are a unit, which the rules of types make this module, whose scopes and places
+-- are these, and which has these objects.
 pub record Builds (held : Option FileMap) (file name : List ℕ) (built : Built) : Type 0 where
-  pub tokens : List Token
   pub items : List External
-  pub reads : Reads held file (Ok tokens)
-  pub parses : IsUnit tokens items
+  pub reads : Reads held file (Ok built.kept.tokens)
+  pub parses : IsUnit built.kept.tokens items
   pub checks : unit_of name items ≡ Ok built.core
   pub named : built.core.name ≡ name
   pub formed : formed built.core ≡ true
   pub scoped : built.scopes ≡ scopes_of items
   pub listed : built.places ≡ places_of items
-  pub compiled : IsObject built.core built.object
+  pub compiled : IsObject plain_code built.core built.object
+  pub fast : IsObject fast_code built.core built.fast
 
 -- Where the first refusal of a file comes from: preprocessing; the grammar, where preprocessing refuses nothing; the rules
 -- of types, where the grammar refuses nothing; the limits of objects, where they refuse nothing.

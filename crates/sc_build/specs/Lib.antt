@@ -1,3 +1,5 @@
 -- Inside: plumbing, a representation, an invariant or a promise beside the claim (docs/TRUST.md).
 pub mod Compiled
+pub mod Saying
 pub mod Builds
+pub mod Alike

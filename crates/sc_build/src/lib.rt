@@ -3,5 +3,7 @@
 
 mod building;
 mod compiling;
+mod laws;
 
 pub use building::{BuildFault, Built, build};
+pub use laws::objects_are_alike;

@@ -9,6 +9,7 @@ use Rattle.sc_check.specs.Outcomes as rules
 use Rattle.sc_check.specs.Units.{unit_of}
 use Rattle.sc_core.specs.declared.module.Core.{Core}
 use Rattle.sc_core.specs.Modules.{function_of}
+use Rattle.sc_core_formed.specs.Modules.{formed}
 use Rattle.sc_lex.specs.declared.token.Token.{Token}
 use Rattle.sc_lex.specs.Tokens as lexed
 use Rattle.sc_tree.specs.declared.expression.Expr.{Expr}
@@ -71,9 +72,9 @@ types_refuse name items (fault.Refused r) f a b =
     (λ kind e. (r.line, subst (λ (v : X). rules.IsRefused (unit_of name items) v r.line) (sym e) a.0)) b
 types_refuse name items fault.NoMemory f a b = subst (λ (v : Fault). Types name items (Err v)) (sym b) tt
 
-pub types_make : (name : List ℕ) (items : List External) (core : Core) (s : Evaluation) → unit_of name items ≡ Ok core → function_of eval_name core.funs ≡ Some s.function → s.structs ≡ core.structs →
+pub types_make : (name : List ℕ) (items : List External) (core : Core) (s : Evaluation) → unit_of name items ≡ Ok core → formed core ≡ true → function_of eval_name core.funs ≡ Some s.function → s.structs ≡ core.structs →
     Types name items (Ok s)
-types_make name items core s c f h = record { core = core; checks = c; function = f; structs = h }
+types_make name items core s c law f h = record { core = core; checks = c; formed = law; function = f; structs = h }
 
 -- the line's tokens
 pub line_refused : (tokens : List Token) (name line : List ℕ) (r f : Fault) → lexed.Gives (lexed.tokens 0 line) (Err r) → InLine r f → Answers tokens name line (Err f)

@@ -10,6 +10,7 @@ use Rattle.sc_check.specs.Outcomes.{IsRefused}
 use Rattle.sc_check.specs.Units.{unit_of}
 use Rattle.sc_core.specs.declared.module.Core.{Core}
 use Rattle.sc_core.specs.Modules.{function_of}
+use Rattle.sc_core_formed.specs.Modules.{formed}
 use Rattle.sc_eval.specs.Strings.{has_string}
 use Rattle.sc_eval.specs.Texts.{IsUnit, eval_name, text_of}
 use Rattle.sc_eval.specs.declared.starting.Evaluation.{Evaluation}
@@ -57,10 +58,11 @@ pub record IsAsked (tokens e : List Token) (items : List External) : Type 0 wher
   pub strings : has_string a.tree ≡ false
   pub unit : IsUnit (text_of tokens e) items
 
--- By the rules of types these functions and declarations are a module, which has this function and these structures.
+-- By the rules of types these functions and declarations are a module, which is formed and has this function and these structures.
 pub record Makes (name : List ℕ) (items : List External) (s : Evaluation) : Type 0 where
   pub core : Core
   pub checks : unit_of name items ≡ Ok core
+  pub formed : formed core ≡ true
   pub function : function_of eval_name core.funs ≡ Some s.function
   pub structs : s.structs ≡ core.structs
 

@@ -9,7 +9,6 @@ use Rattle.sc_parse_tokens.specs.Symbols.{symbols}
 use Rattle.sc_parse_unit.specs.Grammar as grammar
 
 -- The tokens are a unit of the grammar within the limits, which has these functions and declarations; at most 500 brackets are open at one place.
--- `sc_build` has the same under this name; it is to name this one where it stands on this crate.
 abbrev pub IsUnit : List Token → List External → Type 0
 IsUnit tokens items = grammar.IsUnit true (symbols tokens) items × AreShallow 0 (symbols tokens)
 

@@ -19,11 +19,10 @@ use sc_tree::Unit;
 use sc_types::Structs;
 use std::alloc::Global;
 
-/// What is kept of a module's text: its tokens behind preprocessing, and the unit that they are.
+/// What is kept of a module's text: its tokens behind preprocessing.
 #[derive(Drop)]
 pub struct Kept {
     pub tokens: Items<Token>,
-    pub unit: Unit,
 }
 
 /// What evaluates an expression: a function without parameters that returns its value as `long`, and the table of structures

@@ -3,8 +3,7 @@ use Rattle.std.proofs.Common.{◌≡◌, ◌<◌, ◌≤◌, ℕ, ◌+◌, Bool,
 use Rattle.std.proofs.lemmas.Bool.Decides.{nat_tests}
 use Rattle.std.proofs.lemmas.List.{drop_more, map_more}
 use Rattle.sc_core.specs.declared.module.Fun.{Fun}
-use Rattle.sc_gen_body.specs.Functions.{function_code}
-use Rattle.sc_gen_code.specs.Styles.{plain_style}
+use Rattle.sc_gen_code.specs.Code.{Code}
 use Rattle.sc_gen.specs.Limits.{first_long, is_long}
 
 -- what an element is mapped to stands behind the others
@@ -21,11 +20,11 @@ fits : (n : ℕ) → n ≤ 131072 → nat_lt 131072 n ≡ false
 fits n h = grind (arith, nat_tests)
 
 -- a function whose text is not too long
-pub short_step : (fs : List Fun) (i : ℕ) (f g : Fun) (all : Option (List ℕ)) → i < length fs → f ≡ get_or fs i f → g ≡ f → length (function_code plain_style g) ≤ 131072 →
-    first_long (drop i fs) ≡ all → first_long (drop (i + 1) fs) ≡ all
-short_step fs i f g all h is same few inv =
+pub short_step : (code : Fun → Code) (fs : List Fun) (i : ℕ) (f g : Fun) (all : Option (List ℕ)) → i < length fs → f ≡ get_or fs i f → g ≡ f → length (code g) ≤ 131072 →
+    first_long code (drop i fs) ≡ all → first_long code (drop (i + 1) fs) ≡ all
+short_step code fs i f g all h is same few inv =
     let opened : drop i fs ≡ f ∷ drop (i + 1) fs = drop_more fs i f h ∙ ap (λ (x : Fun). x ∷ drop (i + 1) fs) (sym is) in
-    let short : is_long f ≡ false = ap is_long (sym same) ∙ fits (length (function_code plain_style g)) few in
-    sym (ap (λ (b : Bool). if b then Some f.name else first_long (drop (i + 1) fs)) short)
-    ∙ sym (ap first_long opened)
+    let short : is_long code f ≡ false = ap (is_long code) (sym same) ∙ fits (length (code g)) few in
+    sym (ap (λ (b : Bool). if b then Some f.name else first_long code (drop (i + 1) fs)) short)
+    ∙ sym (ap (first_long code) opened)
     ∙ inv

@@ -19,8 +19,6 @@ use Rattle.sc_gen_code.specs.Code.{Code}
 use Rattle.sc_gen_expr.specs.Words.{relocation, fitted}
 use Rattle.sc_gen.specs.declared.definitions.Fixup.{Fixup}
 use Rattle.sc_gen.specs.declared.definitions.Definition.{Definition}
-use Rattle.sc_gen_body.specs.Functions.{function_code}
-use Rattle.sc_gen_code.specs.Styles.{plain_style}
 use Rattle.sc_gen.specs.Sections.{init_size, kind_of, object_size}
 
 -- a function of external linkage is named alone, one of internal linkage with its module
@@ -78,8 +76,9 @@ fixups_in Bss literals xs = []
 abbrev pub text_definition : Key → Code → Definition
 text_definition key code = record { target = target.Named key; kind = 2; size = fitted (4 * length code); fixups = text_fixups 0 code }
 
-abbrev pub function_definition : List ℕ → Fun → Definition
-function_definition home f = text_definition (key_of home f) (function_code plain_style f)
+-- by the code that a compiler gives to each function
+abbrev pub function_definition : (Fun → Code) → List ℕ → Fun → Definition
+function_definition code home f = text_definition (key_of home f) (code f)
 
 abbrev pub object_definition : List (List ℕ) → StaticObj → Definition
 object_definition literals x = record { target = target.Named x.key; kind = 1; size = object_size x; fixups = fixups_in (kind_of x) literals x.init }
@@ -92,7 +91,10 @@ abbrev pub literal_definitions : ℕ → List (List ℕ) → List Definition
 literal_definitions n [] = []
 literal_definitions n (bytes ∷ more) = literal_definition (fitted n) bytes ∷ literal_definitions (n + 1) more
 
+abbrev pub data_definitions : Core → List Definition
+data_definitions core = map (object_definition core.literals) core.objects ++ literal_definitions 0 core.literals
+
 -- one for each section, in their order
-abbrev pub definitions : Core → List Definition
-definitions core =
-    (map (function_definition core.name) core.funs ++ map (object_definition core.literals) core.objects) ++ literal_definitions 0 core.literals
+abbrev pub definitions : (Fun → Code) → Core → List Definition
+definitions code core =
+    (map (function_definition code core.name) core.funs ++ map (object_definition core.literals) core.objects) ++ literal_definitions 0 core.literals

@@ -10,12 +10,14 @@ use Rattle.sc_object.specs.declared.object.Symbol.{Symbol}
 use Rattle.sc_object.specs.declared.object.Reloc.{Reloc}
 use Rattle.sc_object.specs.declared.object.FrameTable.{FrameTable}
 use Rattle.sc_object.specs.declared.object.Object.{Object}
+use Rattle.sc_gen_code.specs.Code.{Code}
 use Rattle.sc_gen_code.specs.declared.symbolic.Target.{Target}
 use Rattle.sc_gen_code.specs.declared.symbolic.Target.TheVariants as target
 use Rattle.sc_gen_expr.specs.Words.{target_eq, mention, fitted}
 use Rattle.sc_gen.specs.declared.definitions.Fixup.{Fixup}
 use Rattle.sc_gen.specs.declared.definitions.Definition.{Definition}
 use Rattle.sc_gen.specs.declared.symbols.Home.{Home}
+use Rattle.sc_object.specs.declared.object.Section.{Section}
 use Rattle.sc_gen.specs.Blocks.{frame_table}
 use Rattle.sc_gen.specs.Sections.{sections, literal_name}
 use Rattle.sc_gen.specs.Definitions.{key_of, or_else, definitions}
@@ -52,8 +54,8 @@ named_all global known ts = fold (named global) known ts
 abbrev pub targets_of : List Definition → List Declared → List Target
 targets_of ds declared = named_all true (named_all false [] (all_mentions ds declared)) (all_mentions ds declared)
 
-abbrev pub targets : Core → List Target
-targets core = targets_of (definitions core) core.declared
+abbrev pub targets : (Fun → Code) → Core → List Target
+targets code core = targets_of (definitions code core) core.declared
 
 abbrev pub home : ℕ → Definition → Home
 home n d = record { section = fitted n; kind = d.kind; size = d.size }
@@ -85,10 +87,15 @@ relocs_from known n (d ∷ ds) = map (reloc_of known n) d.fixups ++ relocs_from 
 abbrev pub frame_of : List ℕ → List Target → Fun → FrameTable
 frame_of name known f = frame_table (symbol_number known (target.Named (key_of name f))) f
 
-abbrev pub object_of : Core → Object
-object_of core = record {
-  sections = sections core;
-  symbols = map (symbol_of (definitions core)) (targets core);
-  relocs = relocs_from (targets core) 0 (definitions core);
-  frames = map (frame_of core.name (targets core)) core.funs;
+-- by its sections and what they define
+abbrev pub object_by : Core → List Section → List Definition → Object
+object_by core ss ds = record {
+  sections = ss;
+  symbols = map (symbol_of ds) (targets_of ds core.declared);
+  relocs = relocs_from (targets_of ds core.declared) 0 ds;
+  frames = map (frame_of core.name (targets_of ds core.declared)) core.funs;
 }
+
+-- by the code that a compiler gives to each function
+abbrev pub object_of : (Fun → Code) → Core → Object
+object_of code core = object_by core (sections code core) (definitions code core)

@@ -13,8 +13,6 @@ use Rattle.sc_object.specs.declared.object.Section.{Section}
 use Rattle.sc_object.specs.Words.{word}
 use Rattle.sc_gen_code.specs.Code.{Code}
 use Rattle.sc_gen_expr.specs.Words.{words, fitted}
-use Rattle.sc_gen_body.specs.Functions.{function_code}
-use Rattle.sc_gen_code.specs.Styles.{plain_style}
 
 -- words, each with its lowest byte first
 abbrev pub text_bytes : Code → List ℕ
@@ -67,10 +65,14 @@ abbrev pub literal_sections : ℕ → List (List ℕ) → List Section
 literal_sections n [] = []
 literal_sections n (bytes ∷ more) = literal_section (fitted n) bytes ∷ literal_sections (n + 1) more
 
--- the text of a function
-abbrev pub function_section : Fun → Section
-function_section f = text_section f.name (function_code plain_style f)
+-- the text of a function, by the code that a compiler gives to each
+abbrev pub function_section : (Fun → Code) → Fun → Section
+function_section code f = text_section f.name (code f)
+
+-- objects and literals, each in the order of the module
+abbrev pub data_sections : Core → List Section
+data_sections core = map object_section core.objects ++ literal_sections 0 core.literals
 
 -- functions, objects and literals, each in the order of the module
-abbrev pub sections : Core → List Section
-sections core = (map function_section core.funs ++ map object_section core.objects) ++ literal_sections 0 core.literals
+abbrev pub sections : (Fun → Code) → Core → List Section
+sections code core = (map (function_section code) core.funs ++ map object_section core.objects) ++ literal_sections 0 core.literals

@@ -9,5 +9,8 @@ mod sections;
 mod symbols;
 
 pub use definitions::{Definition, Fixup};
-pub use module::{Compiled, GenFault, MAX_FILE, MAX_WORDS, Making, compile, generate};
+pub use module::{
+    Compiled, GenFault, MAX_FILE, MAX_WORDS, Making, begun, compile, finished, generate,
+    put_function,
+};
 pub use symbols::Home;

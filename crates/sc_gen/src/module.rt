@@ -1,7 +1,5 @@
 // The object of a module (ELF gABI, RISC-V psABI).
 ghost use Rattle.std.specs.Prelude.{◌≡◌, ◌<◌, ◌≤◌, ℕ, List, None, Some, IfErr, IfOk, OnOk, length, map};
-ghost use Rattle.sc_gen_body.specs.Functions.{function_code};
-ghost use Rattle.sc_gen_code.specs.Styles.{plain_style};
 ghost use Rattle.sc_gen.specs.Limits as limits;
 ghost use Rattle.sc_gen.specs.Making as making;
 ghost use Rattle.sc_gen.specs.Definitions as definitions;
@@ -62,19 +60,14 @@ fn put(all: &mut Making, section: Section, definition: Definition) -> Result<(),
     all.definitions.push(definition)
 }
 
-/// The code of a function, where it is not too long.
-fn text_of(alloc: Global, f: &Fun) -> Result<Items<Symbolic>, GenFault>
-    ensures ok { IfOk result (λ code. (code ≡ function_code plain_style f.now) × (length code ≤ 131072)) }
-    ensures err { IfErr result (limits.IsTextFault f.now) }
+/// An object without sections.
+pub fn begun(alloc: Global) -> Making
+    ensures { result ≡ making.nothing }
 {
-    let style = plain_style(alloc);
-    let code = function(alloc, &style, f)?;
-    if code.len() <= MAX_WORDS {
-        return Ok(code);
+    Making {
+        sections: Items::new(alloc),
+        definitions: Items::new(alloc),
     }
-    let name = f.name.copy(alloc)?;
-    drop(code);
-    Err(GenFault::Text(name))
 }
 
 fn put_text(
@@ -85,7 +78,7 @@ fn put_text(
     all: &mut Making,
 ) -> Result<(), NoMemory>
     requires { length code.now ≤ 131072 }
-    ensures { OnOk result (making.Puts (sections.text_section f.now.name code.now) (definitions.text_definition (definitions.key_of home.now f.now) code.now) all.old all.new) }
+    ensures { OnOk result (making.PutsText home.now f.now code.now all.old all.new) }
 {
     let key = key_of(alloc, home, f)?;
     let section = text_section(alloc, &f.name, code)?;
@@ -93,14 +86,33 @@ fn put_text(
     put(all, section, definition)
 }
 
-fn put_function(alloc: Global, home: &Name, f: &Fun, all: &mut Making) -> Result<(), GenFault>
-    ensures ok { OnOk result (length (function_code plain_style f.now) ≤ 131072) }
-    ensures puts { OnOk result (making.Puts (sections.function_section f.now) (definitions.function_definition home.now f.now) all.old all.new) }
-    ensures err { IfErr result (limits.IsTextFault f.now) }
+/// A function of the module `home` more, with its text: `Text` says that this has more than 524,288 bytes.
+pub fn put_function(
+    alloc: Global,
+    home: &Name,
+    f: &Fun,
+    code: &[Symbolic],
+    all: &mut Making,
+) -> Result<(), GenFault>
+    ensures ok { OnOk result (length code.now ≤ 131072) }
+    ensures puts { OnOk result (making.PutsText home.now f.now code.now all.old all.new) }
+    ensures err { IfErr result (limits.IsTextFault f.now code.now) }
 {
-    let code = text_of(alloc, f)?;
-    put_text(alloc, home, f, code.as_slice(), all)?;
-    Ok(())
+    if code.len() <= MAX_WORDS {
+        put_text(alloc, home, f, code, all)?;
+        return Ok(());
+    }
+    Err(GenFault::Text(f.name.copy(alloc)?))
+}
+
+fn put_plain(alloc: Global, home: &Name, f: &Fun, all: &mut Making) -> Result<(), GenFault>
+    ensures ok { OnOk result (length (limits.plain_code f.now) ≤ 131072) }
+    ensures puts { OnOk result (making.PutsText home.now f.now (limits.plain_code f.now) all.old all.new) }
+    ensures err { IfErr result (limits.IsTextFault f.now (limits.plain_code f.now)) }
+{
+    let style = plain_style(alloc);
+    let code = function(alloc, &style, f)?;
+    put_function(alloc, home, f, code.as_slice(), all)
 }
 
 fn put_functions(
@@ -109,12 +121,12 @@ fn put_functions(
     funs: &[Shared<Fun>],
     all: &mut Making,
 ) -> Result<(), GenFault>
-    ensures ok { OnOk result (limits.first_long funs.now ≡ None) }
-    ensures puts { OnOk result (making.PutsAll (map sections.function_section funs.now) (map (definitions.function_definition home.now) funs.now) all.old all.new) }
-    ensures err { IfErr result (limits.IsFirstLong funs.now) }
+    ensures ok { OnOk result (limits.first_long limits.plain_code funs.now ≡ None) }
+    ensures puts { OnOk result (making.PutsAll (map (sections.function_section limits.plain_code) funs.now) (map (definitions.function_definition limits.plain_code home.now) funs.now) all.old all.new) }
+    ensures err { IfErr result (limits.IsFirstLong limits.plain_code funs.now) }
 {
     for f in funs {
-        put_function(alloc, home, f.get(), all)?;
+        put_plain(alloc, home, f.get(), all)?;
     }
     Ok(())
 }
@@ -171,23 +183,17 @@ fn put_data(alloc: Global, core: &Core, all: &mut Making) -> Result<(), NoMemory
     put_literals(alloc, texts, all)
 }
 
-/// All sections of a module, and what each of them defines.
-fn made(alloc: Global, core: &Core) -> Result<Making, GenFault>
-    ensures ok { IfOk result (λ all. making.IsMade core.now all) }
-    ensures short { OnOk result (limits.first_long core.now.funs ≡ None) }
-    ensures err { IfErr result (limits.IsFirstLong core.now.funs) }
+fn texts_of(alloc: Global, core: &Core) -> Result<Making, GenFault>
+    ensures ok { IfOk result (making.HasTexts limits.plain_code core.now) }
+    ensures err { IfErr result (limits.IsFirstLong limits.plain_code core.now.funs) }
 {
-    let mut all = Making {
-        sections: Items::new(alloc),
-        definitions: Items::new(alloc),
-    };
+    let mut all = begun(alloc);
     put_functions(alloc, &core.name, core.funs.as_slice(), &mut all)?;
-    put_data(alloc, core, &mut all)?;
     Ok(all)
 }
 
-fn finished(alloc: Global, core: &Core, all: Making) -> Result<Object, NoMemory>
-    ensures { making.IsMade core.now all → IfOk result (λ o. o ≡ spec.object_of core.now) }
+fn joined(alloc: Global, core: &Core, all: Making) -> Result<Object, NoMemory>
+    ensures { IfOk result (λ o. o ≡ spec.object_by core.now all.sections all.definitions) }
 {
     let Making {
         sections,
@@ -206,14 +212,12 @@ fn finished(alloc: Global, core: &Core, all: Making) -> Result<Object, NoMemory>
     })
 }
 
-fn object_of(alloc: Global, core: &Core) -> Result<Object, GenFault>
-    ensures object { IfOk result (λ o. o ≡ spec.object_of core.now) }
-    ensures short { OnOk result (limits.first_long core.now.funs ≡ None) }
-    ensures err { IfErr result (limits.IsFirstLong core.now.funs) }
+fn object_with(alloc: Global, core: &Core, texts: Making) -> Result<Object, NoMemory>
+    ensures { IfOk result (λ o. o ≡ making.object_with core.now texts) }
 {
-    let all = made(alloc, core)?;
-    let object = finished(alloc, core, all)?;
-    Ok(object)
+    let mut all = texts;
+    put_data(alloc, core, &mut all)?;
+    joined(alloc, core, all)
 }
 
 /// An object, and the bytes of its file.
@@ -223,13 +227,13 @@ pub struct Compiled {
     pub file: Bytes,
 }
 
-/// The object of a checked module and its file: `Text` names the first function whose text has more than 524,288 bytes, and
-/// `Object` says that the file would have more than 8,388,608.
-pub fn compile(alloc: Global, core: &Core) -> Result<Compiled, GenFault>
-    ensures compiled { IfOk result (limits.IsCompiled core.now) }
-    ensures err { IfErr result (limits.IsFault core.now) }
+/// The object of a module by the texts of its functions, with its file: `Object` says that this would have more than
+/// 8,388,608 bytes.
+pub fn finished(alloc: Global, core: &Core, texts: Making) -> Result<Compiled, GenFault>
+    ensures filed { IfOk result (limits.IsFiled (making.object_with core.now texts)) }
+    ensures err { IfErr result (limits.IsFileFault (making.object_with core.now texts)) }
 {
-    let object = object_of(alloc, core)?;
+    let object = object_with(alloc, core, texts)?;
     let file = write_object(alloc, &object)?;
     if file.len() > MAX_FILE {
         drop(object);
@@ -241,10 +245,20 @@ pub fn compile(alloc: Global, core: &Core) -> Result<Compiled, GenFault>
     })
 }
 
+/// The object of a checked module and its file: `Text` names the first function whose text has more than 524,288 bytes, and
+/// `Object` says that the file would have more than 8,388,608.
+pub fn compile(alloc: Global, core: &Core) -> Result<Compiled, GenFault>
+    ensures compiled { IfOk result (limits.IsCompiled limits.plain_code core.now) }
+    ensures err { IfErr result (limits.IsFault limits.plain_code core.now) }
+{
+    let texts = texts_of(alloc, core)?;
+    finished(alloc, core, texts)
+}
+
 /// The object of a checked module, by the same limits.
 pub fn generate(alloc: Global, core: &Core) -> Result<Object, GenFault>
-    ensures object { IfOk result (limits.IsObject core.now) }
-    ensures err { IfErr result (limits.IsFault core.now) }
+    ensures object { IfOk result (limits.IsObject limits.plain_code core.now) }
+    ensures err { IfErr result (limits.IsFault limits.plain_code core.now) }
 {
     let Compiled { object, file: _ } = compile(alloc, core)?;
     Ok(object)

@@ -27,8 +27,6 @@ use Rattle.sc_gen_code.specs.declared.symbolic.Target.{Target}
 use Rattle.sc_gen_code.specs.declared.symbolic.Target.TheVariants.{Named, Literal}
 use Rattle.sc_gen_code.specs.Code.{Code}
 use Rattle.sc_gen_expr.specs.Words.{fitted, relocation, symbolic_word}
-use Rattle.sc_gen_body.specs.Functions.{function_code}
-use Rattle.sc_gen_code.specs.Styles.{plain_style}
 use Rattle.sc_gen.specs.declared.definitions.Fixup.{Fixup}
 use Rattle.sc_gen.specs.declared.definitions.Definition.{Definition}
 use Rattle.sc_gen.specs.declared.symbols.Home.{Home}
@@ -119,25 +117,25 @@ literal-named n h = all_join (λ (b : ℕ). not (b == 0)) (codes "$") (decimal n
 few : (n : ℕ) → nat_lt 131072 n ≡ false → n ≤ 131072
 few n h = grind (arith, nat_tests)
 
-short-first : (f : Fun) (fs : List Fun) → first_long (f ∷ fs) ≡ None → (length (function_code plain_style f) ≤ 131072) × (first_long fs ≡ None)
-short-first f fs h =
-    elim (is_long f) as (λ b. is_long f ≡ b → (if b then Some f.name else first_long fs) ≡ None → (length (function_code plain_style f) ≤ 131072) × (first_long fs ≡ None)) [
+short-first : (code : Fun → Code) (f : Fun) (fs : List Fun) → first_long code (f ∷ fs) ≡ None → (length (code f) ≤ 131072) × (first_long code fs ≡ None)
+short-first code f fs h =
+    elim (is_long code f) as (λ b. is_long code f ≡ b → (if b then Some f.name else first_long code fs) ≡ None → (length (code f) ≤ 131072) × (first_long code fs ≡ None)) [
       | true ↦ λ e k. cc
-      | false ↦ λ e k. (few (length (function_code plain_style f)) e, k)
+      | false ↦ λ e k. (few (length (code f)) e, k)
     ] refl h
 
-functions-stand : (fs : List Fun) → first_long fs ≡ None → list_all function_fits fs ≡ true → list_all is_section (map function_section fs) ≡ true
-functions-stand [] h k = refl
-functions-stand (f ∷ fs) h k =
-    let code = function_code plain_style f in
-    let s = short-first f fs h in
+functions-stand : (code : Fun → Code) (fs : List Fun) → first_long code fs ≡ None → list_all function_fits fs ≡ true → list_all is_section (map (function_section code) fs) ≡ true
+functions-stand code [] h k = refl
+functions-stand code (f ∷ fs) h k =
+    let text = code f in
+    let s = short-first code f fs h in
     let n = s.0 in
-    let size : 4 * length code < 4294967296 = omega (arith, n) in
-    both (is_section (function_section f)) (list_all is_section (map function_section fs))
-    (three (is_name f.name) (length (text_bytes code) == fitted (4 * length code)) (is_word (fitted (4 * length code)))
+    let size : 4 * length text < 4294967296 = omega (arith, n) in
+    both (is_section (function_section code f)) (list_all is_section (map (function_section code) fs))
+    (three (is_name f.name) (length (text_bytes text) == fitted (4 * length text)) (is_word (fitted (4 * length text)))
     (and-left (is_name f.name) (table_fits (frame_table 0 f)) (and-left (function_fits f) (list_all function_fits fs) k))
-    (eq-eqb (length (text_bytes code)) (fitted (4 * length code)) (text-length code ∙ sym (exact (4 * length code) size))) (word (4 * length code)))
-    (functions-stand fs s.1 (and-right (function_fits f) (list_all function_fits fs) k))
+    (eq-eqb (length (text_bytes text)) (fitted (4 * length text)) (text-length text ∙ sym (exact (4 * length text) size))) (word (4 * length text)))
+    (functions-stand code fs s.1 (and-right (function_fits f) (list_all function_fits fs) k))
 
 objects-stand : (xs : List StaticObj) → list_all object_fits xs ≡ true → list_all is_section (map object_section xs) ≡ true
 objects-stand [] k = refl
@@ -160,12 +158,12 @@ literals-stand n (t ∷ ts) k =
     (literal-named (fitted n) (omega arith)) (eq-eqb (length t) (fitted (length t)) (sym (exact (length t) own))) (word (length t)))
     (literals-stand (n + 1) ts (and-right (is_word (length t)) (list_all (λ bytes. is_word (length bytes)) ts) k))
 
-sections-stand : (core : Core) → IsKept core → first_long core.funs ≡ None → list_all is_section (sections core) ≡ true
-sections-stand core kept short =
-    let fs = map function_section core.funs in
+sections-stand : (code : Fun → Code) (core : Core) → IsKept code core → first_long code core.funs ≡ None → list_all is_section (sections code core) ≡ true
+sections-stand code core kept short =
+    let fs = map (function_section code) core.funs in
     let os = map object_section core.objects in
     all_join is_section (fs ++ os) (literal_sections 0 core.literals)
-    (all_join is_section fs os (functions-stand core.funs short kept.functions_fit) (objects-stand core.objects kept.objects_fit))
+    (all_join is_section fs os (functions-stand code core.funs short kept.functions_fit) (objects-stand core.objects kept.objects_fit))
     (literals-stand 0 core.literals kept.literals_fit)
 
 -- names of symbols
@@ -221,10 +219,10 @@ kept-addends Bss literals xs h = refl
 abbrev addends_fit : Definition → Bool
 addends_fit d = list_all addend_fits d.fixups
 
-functions-addends : (name : List ℕ) (fs : List Fun) → list_all addends_fit (map (function_definition name) fs) ≡ true
-functions-addends name [] = refl
-functions-addends name (f ∷ fs) =
-    both (addends_fit (function_definition name f)) (list_all addends_fit (map (function_definition name) fs)) (text-addends 0 (function_code plain_style f)) (functions-addends name fs)
+functions-addends : (code : Fun → Code) (name : List ℕ) (fs : List Fun) → list_all addends_fit (map (function_definition code name) fs) ≡ true
+functions-addends code name [] = refl
+functions-addends code name (f ∷ fs) =
+    both (addends_fit (function_definition code name f)) (list_all addends_fit (map (function_definition code name) fs)) (text-addends 0 (code f)) (functions-addends code name fs)
 
 objects-addends : (literals : List (List ℕ)) (xs : List StaticObj) → list_all object_fits xs ≡ true → list_all addends_fit (map (object_definition literals) xs) ≡ true
 objects-addends literals [] h = refl
@@ -240,12 +238,12 @@ literals-addends : (n : ℕ) (ts : List (List ℕ)) → list_all addends_fit (li
 literals-addends n [] = refl
 literals-addends n (t ∷ ts) = literals-addends (n + 1) ts
 
-definitions-addends : (core : Core) → IsKept core → list_all addends_fit (definitions core) ≡ true
-definitions-addends core kept =
-    let gs = map (function_definition core.name) core.funs in
+definitions-addends : (code : Fun → Code) (core : Core) → IsKept code core → list_all addends_fit (definitions code core) ≡ true
+definitions-addends code core kept =
+    let gs = map (function_definition code core.name) core.funs in
     let ps = map (object_definition core.literals) core.objects in
     all_join addends_fit (gs ++ ps) (literal_definitions 0 core.literals)
-    (all_join addends_fit gs ps (functions-addends core.name core.funs) (objects-addends core.literals core.objects kept.objects_fit)) (literals-addends 0 core.literals)
+    (all_join addends_fit gs ps (functions-addends code core.name core.funs) (objects-addends core.literals core.objects kept.objects_fit)) (literals-addends 0 core.literals)
 
 group-addends : (known : List Target) (n : ℕ) (xs : List Fixup) → list_all addend_fits xs ≡ true → list_all (λ (r : Reloc). is_addend r.addend) (map (reloc_of known n) xs) ≡ true
 group-addends known n [] h = refl
@@ -288,20 +286,20 @@ frame-whole n f h k =
     (and-left (is_word f.cost) (is_word (length f.blocks) && list_all (is_block 2) f.blocks) k)
     (and-left (is_word (length f.blocks)) (list_all (is_block 2) f.blocks) a) (and-right (is_word (length f.blocks)) (list_all (is_block 2) f.blocks) a)
 
-pub has_file : (core : Core) → IsKept core → first_long core.funs ≡ None → is_spellable 2 (object_of core) ≡ true
-has_file core kept short =
-    let o = object_of core in
-    let inside = refers_inside core in
-    let ds = definitions core in
-    let known = targets core in
+pub has_file : (code : Fun → Code) (core : Core) → IsKept code core → first_long code core.funs ≡ None → is_spellable 2 (object_of code core) ≡ true
+has_file code core kept short =
+    let o = object_of code core in
+    let inside = refers_inside code core in
+    let ds = definitions code core in
+    let known = targets code core in
     let m = length o.sections in
     let n = length o.symbols in
     seven (list_all is_section o.sections) (list_all (is_symbol m) o.symbols) (locals_first o.symbols) (list_all (is_reloc m n) o.relocs) (by_sections 0 o.relocs)
     (list_all (is_frame 2 n) o.frames) (fits o (length (spelled_as 2 o)))
-    (sections-stand core kept short)
+    (sections-stand code core kept short)
     (merged (symbol_refers m) (λ (s : Symbol). is_name s.name) (is_symbol m) o.symbols (symbol-whole m) inside.symbols_refer (symbols-named ds known kept.targets_fit))
     inside.locals_come_first
-    (merged (reloc_refers m n) (λ (r : Reloc). is_addend r.addend) (is_reloc m n) o.relocs (reloc-whole m n) inside.relocs_refer (relocs-addends known 0 ds (definitions-addends core kept)))
+    (merged (reloc_refers m n) (λ (r : Reloc). is_addend r.addend) (is_reloc m n) o.relocs (reloc-whole m n) inside.relocs_refer (relocs-addends known 0 ds (definitions-addends code core kept)))
     inside.relocs_are_ordered
     (merged (frame_refers n) table_fits (is_frame 2 n) o.frames (frame-whole n) inside.frames_refer (frames-kept core.name known core.funs kept.functions_fit))
     kept.counts_fit

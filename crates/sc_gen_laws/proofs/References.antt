@@ -30,8 +30,6 @@ use Rattle.sc_gen_code.specs.declared.symbolic.Target.TheVariants.{Named, Litera
 use Rattle.sc_gen_code.specs.Code.{Code}
 use Rattle.sc_gen_expr.specs.Words.{target_eq, mention, fitted, relocation}
 use Rattle.sc_gen_expr.proofs.Mentions.{Known, mention-known}
-use Rattle.sc_gen_body.specs.Functions.{function_code}
-use Rattle.sc_gen_code.specs.Styles.{plain_style}
 use Rattle.sc_gen.specs.declared.definitions.Fixup.{Fixup}
 use Rattle.sc_gen.specs.declared.definitions.Definition.{Definition}
 use Rattle.sc_gen.specs.declared.symbols.Home.{Home}
@@ -61,12 +59,12 @@ literals-same : (n : ℕ) (ts : List (List ℕ)) → length (literal_sections n 
 literals-same n [] = refl
 literals-same n (t ∷ ts) = ap suc (literals-same (n + 1) ts)
 
-pub sections-same : (core : Core) → length (sections core) ≡ length (definitions core)
-sections-same core =
-    let fs = map function_section core.funs in
+pub sections-same : (code : Fun → Code) (core : Core) → length (sections code core) ≡ length (definitions code core)
+sections-same code core =
+    let fs = map (function_section code) core.funs in
     let os = map object_section core.objects in
     let ls = literal_sections 0 core.literals in
-    let gs = map (function_definition core.name) core.funs in
+    let gs = map (function_definition code core.name) core.funs in
     let ps = map (object_definition core.literals) core.objects in
     let ms = literal_definitions 0 core.literals in
     omega (
@@ -75,8 +73,8 @@ sections-same core =
       length-append fs os,
       length-append (gs ++ ps) ms,
       length-append gs ps,
-      length-map core.funs function_section,
-      length-map core.funs (function_definition core.name),
+      length-map core.funs (function_section code),
+      length-map core.funs (function_definition code core.name),
       length-map core.objects object_section,
       length-map core.objects (object_definition core.literals),
       literals-same 0 core.literals,
@@ -176,10 +174,10 @@ mentioned-front : (known : List Target) (xs ys : List Definition) → Mentioned 
 mentioned-front known [] ys m = tt
 mentioned-front known (x ∷ xs) ys m = (m.0, mentioned-front known xs ys m.1)
 
-pub mentioned : (core : Core) → Mentioned (targets core) (definitions core)
-mentioned core =
-    by-definitions (targets core) (definitions core)
-    (known-front (targets core) (flat_map mentions (definitions core)) (flat_map declared_target core.declared) (all-mentioned (definitions core) core.declared))
+pub mentioned : (code : Fun → Code) (core : Core) → Mentioned (targets code core) (definitions code core)
+mentioned code core =
+    by-definitions (targets code core) (definitions code core)
+    (known-front (targets code core) (flat_map mentions (definitions code core)) (flat_map declared_target core.declared) (all-mentioned (definitions code core) core.declared))
 
 -- the number of what is known
 place-below : (p : Target → Bool) (xs : List Target) → list_any p xs ≡ true → position_or_len p xs < length xs
@@ -232,12 +230,12 @@ kept-fits Bss literals xs = refl
 abbrev definition_fits : Definition → Bool
 definition_fits d = (nat_lt d.kind 3 && is_word d.size) && list_all fixup_fits d.fixups
 
-functions-fit : (name : List ℕ) (fs : List Fun) → list_all definition_fits (map (function_definition name) fs) ≡ true
-functions-fit name [] = refl
-functions-fit name (f ∷ fs) =
-    let d = function_definition name f in
-    both (definition_fits d) (list_all definition_fits (map (function_definition name) fs))
-    (both (is_word d.size) (list_all fixup_fits d.fixups) (word (4 * length (function_code plain_style f))) (text-fits 0 (function_code plain_style f))) (functions-fit name fs)
+functions-fit : (code : Fun → Code) (name : List ℕ) (fs : List Fun) → list_all definition_fits (map (function_definition code name) fs) ≡ true
+functions-fit code name [] = refl
+functions-fit code name (f ∷ fs) =
+    let d = function_definition code name f in
+    both (definition_fits d) (list_all definition_fits (map (function_definition code name) fs))
+    (both (is_word d.size) (list_all fixup_fits d.fixups) (word (4 * length (code f))) (text-fits 0 (code f))) (functions-fit code name fs)
 
 objects-fit : (literals : List (List ℕ)) (xs : List StaticObj) → list_all definition_fits (map (object_definition literals) xs) ≡ true
 objects-fit literals [] = refl
@@ -252,11 +250,11 @@ literals-fit n (t ∷ ts) =
     both (definition_fits (literal_definition (fitted n) t)) (list_all definition_fits (literal_definitions (n + 1) ts))
     (both (is_word (fitted (length t))) true (word (length t)) refl) (literals-fit (n + 1) ts)
 
-pub definitions-fit : (core : Core) → list_all definition_fits (definitions core) ≡ true
-definitions-fit core =
-    let gs = map (function_definition core.name) core.funs in
+pub definitions-fit : (code : Fun → Code) (core : Core) → list_all definition_fits (definitions code core) ≡ true
+definitions-fit code core =
+    let gs = map (function_definition code core.name) core.funs in
     let ps = map (object_definition core.literals) core.objects in
-    all_join definition_fits (gs ++ ps) (literal_definitions 0 core.literals) (all_join definition_fits gs ps (functions-fit core.name core.funs) (objects-fit core.literals core.objects))
+    all_join definition_fits (gs ++ ps) (literal_definitions 0 core.literals) (all_join definition_fits gs ps (functions-fit code core.name core.funs) (objects-fit core.literals core.objects))
     (literals-fit 0 core.literals)
 
 and-left : (a b : Bool) → (a && b) ≡ true → a ≡ true
@@ -393,23 +391,23 @@ relocs-ordered known m n (d ∷ ds) h =
     group-ordered known m n d.fixups (relocs_from known (n + 1) ds) h (λ k l. relocs-ordered known k (n + 1) ds (omega (arith, l)))
 
 -- frames
-frames-refer : (known : List Target) (name : List ℕ) (fs : List Fun) → Mentioned known (map (function_definition name) fs) →
+frames-refer : (code : Fun → Code) (known : List Target) (name : List ℕ) (fs : List Fun) → Mentioned known (map (function_definition code name) fs) →
     list_all (frame_refers (length known)) (map (frame_of name known) fs) ≡ true
-frames-refer known name [] k = refl
-frames-refer known name (f ∷ fs) k =
+frames-refer code known name [] k = refl
+frames-refer code known name (f ∷ fs) k =
     both (frame_refers (length known) (frame_of name known f)) (list_all (frame_refers (length known)) (map (frame_of name known) fs))
-    (lt (symbol_number known (Named (key_of name f))) (length known) (number-below known (Named (key_of name f)) k.0.0)) (frames-refer known name fs k.1)
+    (lt (symbol_number known (Named (key_of name f))) (length known) (number-below known (Named (key_of name f)) k.0.0)) (frames-refer code known name fs k.1)
 
-pub refers_inside : (core : Core) → RefersInside (object_of core)
-refers_inside core =
-    let ds = definitions core in
-    let known = targets core in
-    let m = length (sections core) in
-    let same = sections-same core in
-    let fits = definitions-fit core in
-    let named = mentioned core in
+pub refers_inside : (code : Fun → Code) (core : Core) → RefersInside (object_of code core)
+refers_inside code core =
+    let ds = definitions code core in
+    let known = targets code core in
+    let m = length (sections code core) in
+    let same = sections-same code core in
+    let fits = definitions-fit code core in
+    let named = mentioned code core in
     let count : length (map (symbol_of ds) known) ≡ length known = length-map known (symbol_of ds) in
-    let gs = map (function_definition core.name) core.funs in
+    let gs = map (function_definition code core.name) core.funs in
     let ps = map (object_definition core.literals) core.objects in
     record {
       symbols_refer = symbols-refer m ds known fits (omega (arith, same));
@@ -417,5 +415,5 @@ refers_inside core =
       relocs_refer = subst (λ (n : ℕ). list_all (reloc_refers m n) (relocs_from known 0 ds) ≡ true) (sym count) (relocs-refer known m 0 ds (omega (arith, same)) fits named);
       relocs_are_ordered = relocs-ordered known 0 0 ds (omega arith);
       frames_refer = subst (λ (n : ℕ). list_all (frame_refers n) (map (frame_of core.name known) core.funs) ≡ true) (sym count)
-          (frames-refer known core.name core.funs (mentioned-front known gs ps (mentioned-front known (gs ++ ps) (literal_definitions 0 core.literals) named)));
+          (frames-refer code known core.name core.funs (mentioned-front known gs ps (mentioned-front known (gs ++ ps) (literal_definitions 0 core.literals) named)));
     }

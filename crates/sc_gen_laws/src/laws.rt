@@ -12,6 +12,7 @@ ghost use Rattle.sc_gen.specs.Objects.{object_of};
 ghost use Rattle.sc_gen_body.specs.declared.jumps.Place.{Place};
 ghost use Rattle.sc_gen_code.specs.declared.style.Spot.{Spot};
 ghost use Rattle.sc_gen_code.specs.declared.style.Style.{Style};
+ghost use Rattle.sc_gen_code.specs.Code.{Code};
 ghost use Rattle.sc_gen_code.specs.Styles.{IsStyle};
 ghost use Rattle.sc_gen_body.specs.Functions.{function_code};
 ghost use Rattle.sc_gen_body.specs.Jumps.{go, go_in};
@@ -48,12 +49,12 @@ pub fn frames_are_sound()
 {}
 
 /// What the object of a module refers to, it has: symbols name its sections, relocations and frames its symbols. Local symbols
-/// stand first, and relocations by their sections.
+/// stand first, and relocations by their sections. So it is by whatever compiler.
 pub fn objects_refer_inside()
-    ensures { (core : Core) → RefersInside (object_of core) }
+    ensures { (code : Fun → Code) (core : Core) → RefersInside (object_of code core) }
 {}
 
-/// The object of a module has a file, where no text is too long and names, numbers and counts fit.
+/// The object of a module, by whatever compiler, has a file, where no text is too long and names, numbers and counts fit.
 pub fn objects_have_files()
-    ensures { (core : Core) → IsKept core → first_long core.funs ≡ None → is_spellable 2 (object_of core) ≡ true }
+    ensures { (code : Fun → Code) (core : Core) → IsKept code core → first_long code core.funs ≡ None → is_spellable 2 (object_of code core) ≡ true }
 {}

@@ -5,3 +5,4 @@ mod Behind
 mod OnePlaces
 mod Linkables
 mod Inside
+pub mod Tops

@@ -51,8 +51,8 @@ pub record Fits (ms : List Linking) (funs : List Key) : Type 0 where
   pub texts : texts_behind 0x00100000 ms ≤ 0x04100000
   pub statics : statics_behind 0x08000000 ms ≤ 0x08100000
 
--- an area has no room for what is placed in it
+-- The first area, in the order of their addresses, that has no room for what is placed in it: those before it have.
 abbrev pub IsFull : List Linking → List Key → Area → Type 0
 IsFull ms funs area.Stubs = 65536 < length funs
-IsFull ms funs area.Text = 0x04100000 < texts_behind 0x00100000 ms
-IsFull ms funs area.Static = 0x08100000 < statics_behind 0x08000000 ms
+IsFull ms funs area.Text = (length funs ≤ 65536) × (0x04100000 < texts_behind 0x00100000 ms)
+IsFull ms funs area.Static = (length funs ≤ 65536) × (texts_behind 0x00100000 ms ≤ 0x04100000) × (0x08100000 < statics_behind 0x08000000 ms)

@@ -1,10 +1,9 @@
 -- Yardstick: to be compared with what it restates (docs/TRUST.md).
 -- The entries of a program that changes while it runs: what was placed stays where it is, and what is new is placed behind it.
-use Rattle.std.specs.Prelude.{◌≡◌, ℕ, ◌<◌, ◌&&◌, Bool, true, false, not, if◌then◌else◌, List, [], ◌∷◌, ◌++◌, map, find, length, replicate, slice_set, Option, Some, None}
+use Rattle.std.specs.Prelude.{◌≡◌, ℕ, ◌<◌, ◌≤◌, ◌&&◌, Bool, true, false, not, if◌then◌else◌, List, [], ◌∷◌, ◌++◌, map, find, length, replicate, slice_set, Option, Some, None}
 use Rattle.std.specs.List.{list_any}
 use Rattle.std.specs.Str.{bytes_eq}
 use Rattle.sc_base.specs.declared.key.Key.{Key}
-use Rattle.sc_base.specs.declared.memory.Form.{Form}
 use Rattle.sc_object.specs.declared.object.Object.{Object}
 use Rattle.sc_object.specs.declared.object.Section.{Section}
 use Rattle.sc_object.specs.declared.object.Symbol.{Symbol}
@@ -14,6 +13,7 @@ use Rattle.sc_link.specs.declared.placed.Placed.{Placed}
 use Rattle.sc_link.specs.declared.placed.LiteralAt.{LiteralAt}
 use Rattle.sc_link.specs.declared.placed.LinkFault.{LinkFault}
 use Rattle.sc_link.specs.declared.placed.LinkFault.TheVariants as fault
+use Rattle.sc_link.specs.declared.placed.Area.{Area}
 use Rattle.sc_link.specs.declared.placed.Area.TheVariants as area
 use Rattle.sc_link.specs.Entries.{is_object, literals_in, statics_in}
 use Rattle.sc_link.specs.Linked.{literal_place, place_in}
@@ -80,24 +80,34 @@ with_entry es m keeps = without m.name es ++ entry_behind es m keeps ∷ []
 abbrev pub with_module : List Placed → Linking → List Key → List Placed
 with_module es m kept = with_entry es m (kept_places es m kept)
 
--- an entry as a module in another form, and the same list with it: its objects and literals stay
-abbrev pub module_of : Placed → Form → Linking
-module_of e form = record { number = e.number; name = e.home; form = form; object = e.object }
+-- a module with another text of its, which follows its present entry: its objects and literals stay
+abbrev pub formed_by : Option Placed → Linking → List Placed → List Placed
+formed_by None m es = es
+formed_by (Some e) m es = with_entry es m (map Some e.places)
 
-abbrev pub formed_by : Option Placed → Form → List Placed → List Placed
-formed_by None form es = es
-formed_by (Some e) form es = with_entry es (module_of e form) (map Some e.places)
+abbrev pub in_form : Linking → List Placed → List Placed
+in_form m es = formed_by (present m.name es) m es
 
-abbrev pub in_form : List ℕ → Form → List Placed → List Placed
-in_form name form es = formed_by (present name es) form es
-
--- an area has no room for a module behind all that a list has placed; want of memory says nothing
+-- The first area, in the order of their addresses, that has no room for a module behind all that a list has placed; want of memory says nothing.
 abbrev pub IsShortOf : List Placed → List Key → Linking → List (Option ℕ) → LinkFault → Type 0
 IsShortOf es funs m keeps (fault.Space area.Stubs) = 65536 < length funs
-IsShortOf es funs m keeps (fault.Space area.Text) = 0x04100000 < text_end (is_object m.form) (behind_texts es) m.object.sections
-IsShortOf es funs m keeps (fault.Space area.Static) = 0x08100000 < static_end (behind_statics es) m.object.sections keeps
+IsShortOf es funs m keeps (fault.Space area.Text) = (length funs ≤ 65536) × (0x04100000 < text_end (is_object m.form) (behind_texts es) m.object.sections)
+IsShortOf es funs m keeps (fault.Space area.Static) =
+    (length funs ≤ 65536) × (text_end (is_object m.form) (behind_texts es) m.object.sections ≤ 0x04100000) × (0x08100000 < static_end (behind_statics es) m.object.sections keeps)
 IsShortOf es funs m keeps fault.NoMemory = Unit {0}
 
-abbrev pub IsShortIn : Option Placed → List Placed → List Key → Form → LinkFault → Type 0
-IsShortIn None es funs form f = f ≡ fault.NoMemory
-IsShortIn (Some e) es funs form f = IsShortOf es funs (module_of e form) (map Some e.places) f
+abbrev pub IsShortIn : Option Placed → List Placed → List Key → Linking → LinkFault → Type 0
+IsShortIn None es funs m f = f ≡ fault.NoMemory
+IsShortIn (Some e) es funs m f = IsShortOf es funs m (map Some e.places) f
+
+-- all that a list has placed is within its areas, and each function has a number
+pub record AreWithin (es : List Placed) (funs : List Key) : Type 0 where
+  pub stubs : length funs ≤ 65536
+  pub texts : behind_texts es ≤ 0x04100000
+  pub statics : behind_statics es ≤ 0x08100000
+
+-- the first area, in the order of their addresses, that has no room for what a list has placed in it: those before it have
+abbrev pub IsOver : List Placed → List Key → Area → Type 0
+IsOver es funs area.Stubs = 65536 < length funs
+IsOver es funs area.Text = (length funs ≤ 65536) × (0x04100000 < behind_texts es)
+IsOver es funs area.Static = (length funs ≤ 65536) × (behind_texts es ≤ 0x04100000) × (0x08100000 < behind_statics es)

@@ -12,7 +12,7 @@ use sc_places::{place_sections, static_end, static_top, text_end, text_top};
 use std::alloc::Global;
 
 // The address behind all texts of a list.
-fn behind_texts(list: &[Placed]) -> u64
+pub(crate) fn behind_texts(list: &[Placed]) -> u64
     ensures { result ≡ layout.behind_texts list.now }
 {
     let mut top = 0;
@@ -25,7 +25,7 @@ fn behind_texts(list: &[Placed]) -> u64
 }
 
 // The address behind all objects of a list.
-fn behind_statics(list: &[Placed]) -> u64
+pub(crate) fn behind_statics(list: &[Placed]) -> u64
     ensures { result ≡ layout.behind_statics list.now }
 {
     let mut top = 0;
@@ -108,7 +108,7 @@ fn entry_at(
 }
 
 /// The entry of a module that is placed behind all that a list has placed; some sections keep the places that they have. `Space`
-/// names an area that has no room for it.
+/// names the first area, in the order of their addresses, that has no room for it.
 pub fn entry_behind(
     alloc: Global,
     list: &[Placed],

@@ -7,15 +7,15 @@ ghost use Rattle.sc_image.specs.Placing.{placed_modules};
 ghost use Rattle.sc_image.specs.Refused.{IsShort};
 ghost use Rattle.sc_image.specs.Running as spec;
 
-use crate::adding::entry_behind;
+use crate::adding::{behind_statics, behind_texts, entry_behind};
 use crate::checking::may_be_linked;
 use crate::keeping::kept_places;
 use crate::module::Linking;
 use crate::placing::place_modules;
 use crate::room::full_area;
-use sc_base::{Duplicate, Form, Items, Key, Name, NoMemory};
+use sc_base::{Duplicate, Items, Key, Name, NoMemory};
 use sc_isa_image::Image;
-use sc_link::{LinkFault, Placed, link};
+use sc_link::{Area, LinkFault, MOST_FUNCTIONS, Placed, STATICS_END, TEXTS_END, link};
 use std::alloc::Global;
 use std::marker::Model;
 
@@ -52,6 +52,24 @@ impl Placements {
             Ok(entries) => Ok(Placements { entries }),
             Err(_) => Err(LinkFault::NoMemory),
         }
+    }
+
+    /// The first area, in the order of their addresses, that has no room for what is placed in it and for these functions: none
+    /// where all of it is within its areas.
+    pub fn full_area(&self, functions: &[Key]) -> Option<Area>
+        ensures { MatchOption result (spec.AreWithin self.now functions.now) (spec.IsOver self.now functions.now) }
+    {
+        let placed = self.entries.as_slice();
+        if functions.len() > MOST_FUNCTIONS {
+            return Some(Area::Stubs);
+        }
+        if behind_texts(placed) > u64::from(TEXTS_END) {
+            return Some(Area::Text);
+        }
+        if behind_statics(placed) > u64::from(STATICS_END) {
+            return Some(Area::Static);
+        }
+        None
     }
 
     /// The entries.
@@ -92,8 +110,9 @@ impl Placements {
         }
     }
 
-    /// The present module of a name in another form: its text is placed behind all others, its objects and literals stay where
-    /// they are, and its entry becomes a former one.
+    /// A module in another form, or with the other of its objects, in the place of the present one of its name: its text is placed
+    /// behind all others, its objects and literals stay where they are, section by section, and the entry before becomes a former
+    /// one. Where no module of the name is present the list stays.
     ///
     /// # Errors
     ///
@@ -101,16 +120,15 @@ impl Placements {
     pub fn formed(
         &self,
         alloc: Global,
-        name: &Name,
-        form: Form,
+        module: &Linking,
         functions: &[Key],
     ) -> Result<Placements, LinkFault>
-        ensures ok { IfOk result (λ p. p ≡ spec.in_form name.now form self.now) }
-        ensures short { IfErr result (spec.IsShortIn (spec.present name.now self.now) self.now functions.now form) }
+        ensures ok { IfOk result (λ p. p ≡ spec.in_form «module».now self.now) }
+        ensures short { IfErr result (spec.IsShortIn (spec.present «module».now.name self.now) self.now functions.now «module».now) }
     {
         let placed = self.entries.as_slice();
-        match present(placed, name) {
-            Some(entry) => in_form(alloc, placed, entry, form, functions),
+        match present(placed, &module.name) {
+            Some(entry) => in_form(alloc, placed, entry, module, functions),
             None => match self.copy(alloc) {
                 Ok(same) => Ok(same),
                 Err(_) => Err(LinkFault::NoMemory),
@@ -241,20 +259,6 @@ fn with_entry(
     }
 }
 
-// An entry as a module in a form.
-fn module_of(alloc: Global, entry: &Placed, form: Form) -> Result<Linking, NoMemory>
-    ensures { IfOk result (λ m. m ≡ spec.module_of entry.now form) }
-{
-    let name = entry.home.copy(alloc)?;
-    let object = entry.object.share()?;
-    Ok(Linking {
-        number: entry.number,
-        name,
-        form,
-        object,
-    })
-}
-
 // All places, as those that sections keep.
 fn all_places(alloc: Global, places: &[u32]) -> Result<Vec<Option<u32>>, NoMemory>
     ensures { IfOk result (λ keeps. keeps.items ≡ map Some places.now) }
@@ -266,22 +270,19 @@ fn all_places(alloc: Global, places: &[u32]) -> Result<Vec<Option<u32>>, NoMemor
     Ok(keeps)
 }
 
-// An entry of a list in another form.
+// A module with another text, behind an entry of a list.
 fn in_form(
     alloc: Global,
     placed: &[Placed],
     entry: &Placed,
-    form: Form,
+    module: &Linking,
     functions: &[Key],
 ) -> Result<Placements, LinkFault>
-    ensures ok { IfOk result (λ p. p ≡ spec.formed_by (Some entry.now) form placed.now) }
-    ensures short { IfErr result (spec.IsShortIn (Some entry.now) placed.now functions.now form) }
+    ensures ok { IfOk result (λ p. p ≡ spec.formed_by (Some entry.now) «module».now placed.now) }
+    ensures short { IfErr result (spec.IsShortIn (Some entry.now) placed.now functions.now «module».now) }
 {
-    let Ok(module) = module_of(alloc, entry, form) else {
-        return Err(LinkFault::NoMemory);
-    };
     let Ok(keeps) = all_places(alloc, entry.places.as_slice()) else {
         return Err(LinkFault::NoMemory);
     };
-    with_entry(alloc, placed, &module, keeps.as_slice(), functions)
+    with_entry(alloc, placed, module, keeps.as_slice(), functions)
 }

@@ -150,6 +150,7 @@ impl MixedRun {
     {
         let layout = layout_of(alloc, texts, &image)?;
         let mut world = World::new(alloc, stack, heap, input, layout, heard)?;
+        world.name_entry(key)?;
         let mut calls = no_calls(alloc);
         let first = begun(texts, key, &image, &mut calls, &mut world);
         let course = course_of(first)?;

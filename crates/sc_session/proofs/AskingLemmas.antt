@@ -19,7 +19,9 @@ use Rattle.sc_session.specs.declared.asking.Deed.TheVariants as deed
 use Rattle.sc_session.specs.declared.asking.Go.{Go}
 use Rattle.sc_session.specs.declared.asking.Go.TheVariants as go
 use Rattle.sc_session.specs.declared.state.State.TheVariants as state
+use Rattle.sc_words.specs.declared.denied.Denied.TheVariants as why
 use Rattle.sc_session.specs.Asking.{AsksFor, deed_command, go_command, walk_command}
+use Rattle.sc_session.specs.Evaluating.{EvaluatesOut}
 use Rattle.sc_session.specs.Mixing.{is_mixed}
 use Rattle.sc_session.specs.Plain.{Plain}
 use Rattle.sc_session.specs.Single.{CarriesOne}
@@ -54,6 +56,7 @@ walk_goes walk.Cont = refl
 
 pub go_goes : (g : Go) → is_go (go_command g) ≡ true
 go_goes (go.Run file) = refl
+go_goes (go.Eval name line) = refl
 go_goes (go.Walk how) = walk_goes how
 go_goes go.One = refl
 
@@ -62,8 +65,10 @@ deed_asks deed.Nothing session = refl
 deed_asks (deed.Load name) session = refl
 deed_asks (deed.Unload name) session = refl
 deed_asks (deed.Swap name form) session = refl
+deed_asks (deed.SwapFast name) session = refl
 deed_asks (deed.Edit name file) session = refl
 deed_asks (deed.Compile name) session = refl
+deed_asks (deed.CompileFast name) session = refl
 deed_asks (deed.Stop place) session = refl
 deed_asks (deed.Delete k) session = refl
 deed_asks deed.Frames session = refl
@@ -104,8 +109,10 @@ unasked command.BadArguments session d denied = refl
 unasked (command.Load name) session d denied = refl
 unasked (command.Unload name) session d denied = refl
 unasked (command.Swap name form) session d denied = refl
+unasked (command.SwapFast name) session d denied = refl
 unasked (command.Edit name file) session d denied = refl
 unasked (command.Compile name) session d denied = refl
+unasked (command.CompileFast name) session d denied = refl
 unasked (command.Run file) session d denied = absurd (free_then file session d denied)
   where
     none_some : (d : Denied) → ◌≡◌ {A = Option Denied} None (Some d) → ⊥
@@ -113,6 +120,10 @@ unasked (command.Run file) session d denied = absurd (free_then file session d d
 
     free_then : (file : Option (List ℕ)) (session : Plain) (d : Denied) → ((s : Plain) → refusal_of s (command.Run file) ≡ Some d) → ⊥
     free_then file session d denied = none_some d (denied (record session { state = state.Idle }))
+unasked (command.Eval name line) session d denied = absurd (two_reasons d (denied (record session { state = state.Stopped None })) (denied (record session { state = state.Idle; modules = [] })))
+  where
+    two_reasons : (d : Denied) → Some why.RunActive ≡ Some d → Some why.NoModule ≡ Some d → ⊥
+    two_reasons d p q = cc
 unasked (command.Stop place) session d denied = refl
 unasked (command.Delete k) session d denied = refl
 unasked command.Step session d denied = refl
@@ -163,6 +174,13 @@ pub one_said : (sink : Option (List ℕ)) (old new : Plain) (held : Option FileM
     → CarriesOne old said new → GoesOut sink sink (moment old held faults) (go_command g) (Ok said) (moment new held faults)
 one_said sink old new held faults g said is p =
     subst (λ x. GoesOut sink sink (moment old held faults) (go_command x) (Ok said) (moment new held faults)) (sym is) ([], appends_none sink, (refl, p, (refl, refl)))
+
+pub eval_said : (sink gained : Option (List ℕ)) (old new : Plain) (held : Option FileMap) (faults : ℕ) (g : Go) (name line : List ℕ) (out : Result Answer Unsent) → g ≡ go.Eval name line
+    → EvaluatesOut sink gained old name line out new → GoesOut sink gained (moment old held faults) (go_command g) out (moment new held faults)
+eval_said sink gained old new held faults g name line (Ok said) is (front, gains, p) =
+    subst (λ x. GoesOut sink gained (moment old held faults) (go_command x) (Ok said) (moment new held faults)) (sym is) (front, gains, (p, (refl, refl)))
+eval_said sink gained old new held faults g name line (Err e) is p =
+    subst (λ x. GoesOut sink gained (moment old held faults) (go_command x) (Err e) (moment new held faults)) (sym is) p
 
 pub run_said : (sink gained : Option (List ℕ)) (old new : Moment) (g : Go) (file : Option (List ℕ)) (out : Result Answer Unsent) → g ≡ go.Run file
     → RunsOutBy (are_sources (texts old.session.modules)) sink gained old file out new → GoesOut sink gained old (go_command g) out new

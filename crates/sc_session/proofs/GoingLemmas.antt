@@ -1,7 +1,6 @@
 -- A go of a session, as its code comes to it: the modules, the stops and the run are the session's.
-use Rattle.std.proofs.Common.{◌≡◌, ℕ, List, drop, Option, Some, ap, ◌∙◌, subst}
+use Rattle.std.proofs.Common.{◌≡◌, ℕ, Bool, List, drop, Option, Some, ap, ◌∙◌, subst}
 use Rattle.sc_base.specs.declared.key.Key.{Key}
-use Rattle.sc_meaning.specs.Behaviour.{main_key}
 use Rattle.sc_meaning.specs.Versions.{Text}
 use Rattle.sc_interp.specs.Ends.{start_of}
 use Rattle.sc_words.specs.declared.answer.Answer.TheVariants as answer
@@ -15,16 +14,16 @@ use Rattle.sc_session.specs.declared.state.State.{State}
 use Rattle.sc_session.specs.declared.state.State.TheVariants as state
 use Rattle.sc_session.specs.Changing.{caught_up, gone_through, versions}
 use Rattle.sc_session.specs.Going.{RunsIn, TakesRun, Went, Walks, Begins, run_of, in_state}
-use Rattle.sc_session.specs.Modules.{texts}
 use Rattle.sc_session.specs.Plain.{Plain}
-use Rattle.sc_session.specs.Stopping.{places}
+use Rattle.sc_session.specs.Valued.{going_stops, going_texts, is_valued}
 
-went_in : (old : Plain) (how : Walk) (modules : List Text) (stops : List StopAt) (turns : ℕ) (r : Option Standing) (front text : List ℕ) (s : State)
-    → modules ≡ texts old.modules → stops ≡ places old.stops → turns ≡ old.limits.turns → Went modules stops how turns r front text s
-    → Went (texts old.modules) (places old.stops) how old.limits.turns r front text s
-went_in old how modules stops turns r front text s m p t went =
-    subst (λ x. Went (texts old.modules) (places old.stops) how x r front text s) t
-    (subst (λ x. Went (texts old.modules) x how turns r front text s) p (subst (λ x. Went x stops how turns r front text s) m went))
+went_in : (old : Plain) (how : Walk) (modules : List Text) (stops : List StopAt) (turns : ℕ) (valued : Bool) (r : Option Standing) (front text : List ℕ) (s : State)
+    → modules ≡ going_texts old → stops ≡ going_stops old → turns ≡ old.limits.turns → valued ≡ is_valued old → Went modules stops how turns valued r front text s
+    → Went (going_texts old) (going_stops old) how old.limits.turns (is_valued old) r front text s
+went_in old how modules stops turns valued r front text s m p t v went =
+    subst (λ x. Went (going_texts old) (going_stops old) how old.limits.turns x r front text s) v
+    (subst (λ x. Went (going_texts old) (going_stops old) how x valued r front text s) t
+    (subst (λ x. Went (going_texts old) x how turns valued r front text s) p (subst (λ x. Went x stops how turns valued r front text s) m went)))
 
 -- another state stands in the session
 pub taken_lost : (old v : Plain) (s : State) → v ≡ old → s ≡ state.Ended → record v { state = s } ≡ in_state state.Ended old
@@ -40,33 +39,31 @@ taken_out old v before s all left r run is was over are from runs went = (
 )
 
 -- the run was taken out of the session, and went through the changes that waited
-pub walked : (old mid new : Plain) (how : Walk) (modules : List Text) (stops : List StopAt) (turns : ℕ) (run : Option Standing) (front text : List ℕ) (s after : State)
-    → TakesRun old run mid → modules ≡ texts old.modules → stops ≡ places old.stops → turns ≡ mid.limits.turns
-    → Went modules stops how turns run front text s → after ≡ s → new ≡ in_state after (caught_up mid) → Walks old how front (answer.Ran text) new
-walked old mid new how modules stops turns run front text s after ((r, runs, settles), taken) m p t went same is = (
+pub walked : (old mid new : Plain) (how : Walk) (modules : List Text) (stops : List StopAt) (turns : ℕ) (valued : Bool) (run : Option Standing) (front text : List ℕ) (s after : State)
+    → TakesRun old run mid → modules ≡ going_texts old → stops ≡ going_stops old → turns ≡ mid.limits.turns → valued ≡ is_valued old
+    → Went modules stops how turns valued run front text s → after ≡ s → new ≡ in_state after (caught_up mid) → Walks old how front (answer.Ran text) new
+walked old mid new how modules stops turns valued run front text s after ((r, runs, settles), taken) m p t v went same is = (
   r,
   runs,
   (
     s,
-    subst (λ x. Went (texts old.modules) (places old.stops) how old.limits.turns x front text s) settles
-        (went_in old how modules stops turns run front text s m p (t ∙ ap (λ (x : Plain). x.limits.turns) taken) went),
+    subst (λ x. Went (going_texts old) (going_stops old) how old.limits.turns (is_valued old) x front text s) settles
+        (went_in old how modules stops turns valued run front text s m p (t ∙ ap (λ (x : Plain). x.limits.turns) taken) v went),
     is ∙ ap (λ x. in_state x (caught_up mid)) same ∙ ap (λ x. in_state s (caught_up x)) taken,
   ),
 )
 
-pub begins : (old new : Plain) (first modules : List Text) (stops : List StopAt) (key : Key) (stack heap turns : ℕ) (input : List ℕ) (r : Option Standing) (front text : List ℕ) (s after : State)
-    → first ≡ texts old.modules → modules ≡ texts old.modules → stops ≡ places old.stops → stack ≡ old.limits.stack → heap ≡ old.limits.heap → turns ≡ old.limits.turns
-    → key ≡ main_key → r ≡ Some (started first key stack heap input) → IsRunOf (start_of first key stack heap input) first r
-    → Went modules stops walk.Cont turns r front text s → after ≡ s → new ≡ in_state after old → Begins old input front text new
-begins old new first modules stops key stack heap turns input r front text s after f m p k h t e is meant went follows put =
-    let same : r ≡ run_of old input =
-    is ∙ ap (λ x. Some (started x key stack heap input)) f ∙ ap (λ x. Some (started (texts old.modules) x stack heap input)) e ∙ ap (λ x. Some (started (texts old.modules) main_key x heap input)) k ∙ ap (λ x. Some (started (texts old.modules) main_key old.limits.stack x input)) h in
-    let at_modules : IsRunOf (start_of (texts old.modules) main_key stack heap input) (texts old.modules) r =
-    subst (λ x. IsRunOf (start_of (texts old.modules) x stack heap input) (texts old.modules) r) e
-    (subst (λ x. IsRunOf (start_of x key stack heap input) x r) f meant) in
-    let at_limits : IsRunOf (start_of (texts old.modules) main_key old.limits.stack old.limits.heap input) (texts old.modules) r =
-    subst (λ x. IsRunOf (start_of (texts old.modules) main_key old.limits.stack x input) (texts old.modules) r) h
-    (subst (λ x. IsRunOf (start_of (texts old.modules) main_key x heap input) (texts old.modules) r) k at_modules) in (
-      subst (λ x. IsRunOf (start_of (texts old.modules) main_key old.limits.stack old.limits.heap input) (texts old.modules) x) same at_limits,
-      (s, subst (λ x. Went (texts old.modules) (places old.stops) walk.Cont old.limits.turns x front text s) same (went_in old walk.Cont modules stops turns r front text s m p t went), put ∙ ap (λ x. in_state x old) follows),
+pub begins : (old new : Plain) (first modules : List Text) (stops : List StopAt) (key : Key) (stack heap turns : ℕ) (valued : Bool) (input : List ℕ) (r : Option Standing) (front text : List ℕ) (s after : State)
+    → first ≡ going_texts old → modules ≡ going_texts old → stops ≡ going_stops old → stack ≡ old.limits.stack → heap ≡ old.limits.heap → turns ≡ old.limits.turns → valued ≡ is_valued old
+    → r ≡ Some (started first key stack heap input) → IsRunOf (start_of first key stack heap input) first r
+    → Went modules stops walk.Cont turns valued r front text s → after ≡ s → new ≡ in_state after old → Begins old key input front text new
+begins old new first modules stops key stack heap turns valued input r front text s after f m p k h t v is meant went follows put =
+    let same : r ≡ run_of old key input =
+    is ∙ ap (λ x. Some (started x key stack heap input)) f ∙ ap (λ x. Some (started (going_texts old) key x heap input)) k ∙ ap (λ x. Some (started (going_texts old) key old.limits.stack x input)) h in
+    let at_modules : IsRunOf (start_of (going_texts old) key stack heap input) (going_texts old) r = subst (λ x. IsRunOf (start_of x key stack heap input) x r) f meant in
+    let at_limits : IsRunOf (start_of (going_texts old) key old.limits.stack old.limits.heap input) (going_texts old) r =
+    subst (λ x. IsRunOf (start_of (going_texts old) key old.limits.stack x input) (going_texts old) r) h
+    (subst (λ x. IsRunOf (start_of (going_texts old) key x heap input) (going_texts old) r) k at_modules) in (
+      subst (λ x. IsRunOf (start_of (going_texts old) key old.limits.stack old.limits.heap input) (going_texts old) x) same at_limits,
+      (s, subst (λ x. Went (going_texts old) (going_stops old) walk.Cont old.limits.turns (is_valued old) x front text s) same (went_in old walk.Cont modules stops turns valued r front text s m p t v went), put ∙ ap (λ x. in_state x old) follows),
     )

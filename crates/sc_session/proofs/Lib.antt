@@ -11,6 +11,8 @@ pub mod MixingLemmas
 pub mod SingleLemmas
 pub mod FormLemmas
 pub mod AskingLemmas
+pub mod EvaluatingLemmas
 pub mod PlacingLemmas
+pub mod RoomLemmas
 pub mod RelinkingLemmas
 pub mod DisassemblingLemmas

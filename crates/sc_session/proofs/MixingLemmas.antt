@@ -32,7 +32,7 @@ use Rattle.sc_session.specs.Changing.{caught_up, versions}
 use Rattle.sc_session.specs.Mixing.{MixedGoneThrough, MixedThrough, TakesMixed, IsActive, MixedBegins, MixedGoes, MixedIn, MixedShowsCalls, MixedShowsValue, MixedStarts, MixedTellsCalls, MixedTellsValue, MixedWalks, MixedWent, ShowsCallsBy, ShowsValueBy, is_mixed, mixed_state}
 use Rattle.sc_session.specs.Linking.{IsImage}
 use Rattle.sc_session.specs.Modules.{texts}
-use Rattle.sc_session.specs.Stopping.{places}
+use Rattle.sc_session.specs.Valued.{going_stops, going_texts, is_valued}
 use Rattle.sc_session.specs.Plain.{Plain}
 use Rattle.sc_session.specs.Showing.{ShowsCalls, ShowsValue, sight_of}
 use Rattle.sc_session.specs.Transcript.{Moment, MixedRuns, RunsOut, RunsOutBy, WalksOutBy, moment}
@@ -64,18 +64,18 @@ is_by v session b c is said it = sym (ap (λ s. is_mixed s.state) is) ∙ sym sa
 
 -- ---- a go
 
-went : (session inside : Plain) (modules : List Text) (stops : List StopAt) (how : Walk) (m : Standing) (text : List ℕ) (new : Plain) → inside ≡ in_state state.Ended session → modules ≡ texts session.modules → stops ≡ places session.stops
+went : (session inside : Plain) (modules : List Text) (stops : List StopAt) (how : Walk) (m : Standing) (text : List ℕ) (new : Plain) → inside ≡ in_state state.Ended session → modules ≡ going_texts session → stops ≡ going_stops session
     → MixedGoes inside modules stops how m (answer.Ran text) new → MixedWent session how m text new
 went session inside modules stops how m text new is same at g = record {
   halts = g.0;
   stands = g.1;
-  gone = subst (λ (ps : List StopAt). MixedGone (texts session.modules) ps how session.limits.turns m g.0 g.1 text) at
-      (subst (λ (ms : List Text). MixedGone ms stops how session.limits.turns m g.0 g.1 text) same
-      (subst (λ (p : Plain). MixedGone modules stops how p.limits.turns m g.0 g.1 text) is g.2));
+  gone = subst (λ (ps : List StopAt). MixedGone (going_texts session) ps how session.limits.turns (is_valued session) m g.0 g.1 text) at
+      (subst (λ (ms : List Text). MixedGone ms stops how session.limits.turns (is_valued session) m g.0 g.1 text) same
+      (subst (λ (p : Plain). MixedGone modules stops how p.limits.turns (is_valued p) m g.0 g.1 text) is g.2));
   follows = g.3 ∙ ap (λ p. in_state (mixed_state g.0 g.1) (caught_up p)) is;
 }
 
-pub goes_walks : (session mid : Plain) (modules : List Text) (stops : List StopAt) (how : Walk) (n : Standing) (said : Answer) (new : Plain) → TakesMixed session n mid → modules ≡ texts session.modules → stops ≡ places session.stops
+pub goes_walks : (session mid : Plain) (modules : List Text) (stops : List StopAt) (how : Walk) (n : Standing) (said : Answer) (new : Plain) → TakesMixed session n mid → modules ≡ going_texts session → stops ≡ going_stops session
     → MixedGoes mid modules stops how n said new → MixedWalks session how said new
 goes_walks session mid modules stops how n (answer.Ran text) new ((m, there, through), taken) same at g = (m, there, (n, through, went session mid modules stops how n text new taken same at g))
 goes_walks session mid modules stops how n answer.NoMemory new ((m, there, through), taken) same at g = inr (g ∙ taken)
@@ -97,21 +97,21 @@ mixed_out old v before s all left m n is was over are from there through = (
 pub over_there : (session n : Plain) (mid : Standing) → TakesMixed session mid n → n.state ≡ state.Ended
 over_there session n mid takes = ap (λ (p : Plain). p.state) takes.1
 
-pub goes_begins : (session inside : Plain) (bytes : List ℕ) (modules : List Text) (stops : List StopAt) (m : Standing) (said : Answer) (new : Plain) → inside ≡ in_state state.Ended session → modules ≡ texts session.modules → stops ≡ places session.stops
-    → MixedStarts session bytes m → MixedGoes inside modules stops walk.Cont m said new → MixedBegins session bytes said new
-goes_begins session inside bytes modules stops m (answer.Ran text) new is same at starts g = (m, starts, went session inside modules stops walk.Cont m text new is same at g)
-goes_begins session inside bytes modules stops m answer.NoMemory new is same at starts g = inr (g ∙ is)
-goes_begins session inside bytes modules stops m _ new is same at starts g = absurd g
+pub goes_begins : (session inside : Plain) (key : Key) (bytes : List ℕ) (modules : List Text) (stops : List StopAt) (m : Standing) (said : Answer) (new : Plain) → inside ≡ in_state state.Ended session → modules ≡ going_texts session → stops ≡ going_stops session
+    → MixedStarts session key bytes m → MixedGoes inside modules stops walk.Cont m said new → MixedBegins session key bytes said new
+goes_begins session inside key bytes modules stops m (answer.Ran text) new is same at starts g = (m, starts, went session inside modules stops walk.Cont m text new is same at g)
+goes_begins session inside key bytes modules stops m answer.NoMemory new is same at starts g = inr (g ∙ is)
+goes_begins session inside key bytes modules stops m _ new is same at starts g = absurd g
 
 -- a run that was started in the image of the modules
-pub started_so : (session v : Plain) (i : Image) (modules : List Text) (key : Key) (stack heap : ℕ) (bytes : List ℕ) (m : Standing) → v ≡ session → modules ≡ texts session.modules → stack ≡ session.limits.stack → heap ≡ session.limits.heap
-    → IsImage session.modules session.numbers i → key ≡ main_key → Starts modules i key stack heap bytes m → output m.world.trail ≡ [] → MixedStarts session bytes m
-started_so session v i modules key stack heap bytes m is same deep wide links at starts empty = record {
+pub started_so : (session v : Plain) (i : Image) (modules : List Text) (key : Key) (stack heap : ℕ) (bytes : List ℕ) (m : Standing) → v ≡ session → modules ≡ going_texts session → stack ≡ session.limits.stack → heap ≡ session.limits.heap
+    → IsImage session.modules session.numbers i → Starts modules i key stack heap bytes m → output m.world.trail ≡ [] → MixedStarts session key bytes m
+started_so session v i modules key stack heap bytes m is same deep wide links starts empty = record {
   image = i;
   links = links;
-  starts = subst (λ (ms : List Text). Starts ms i main_key session.limits.stack session.limits.heap bytes m) same
-      (subst (λ (n : ℕ). Starts modules i main_key n session.limits.heap bytes m) deep
-      (subst (λ (n : ℕ). Starts modules i main_key stack n bytes m) wide (subst (λ (k : Key). Starts modules i k stack heap bytes m) at starts)));
+  starts = subst (λ (ms : List Text). Starts ms i key session.limits.stack session.limits.heap bytes m) same
+      (subst (λ (n : ℕ). Starts modules i key n session.limits.heap bytes m) deep
+      (subst (λ (n : ℕ). Starts modules i key stack n bytes m) wide starts));
   empty = empty;
 }
 
@@ -123,10 +123,10 @@ put_so v old s t is same = (λ i. record v { state = same i }) ∙ ap (in_state 
 pub caught_so : (v old : Plain) (s t : State) → v ≡ old → s ≡ t → record v { state = s; come = length v.past } ≡ in_state t (caught_up old)
 caught_so v old s t is same = ap (λ x. record v { state = x; come = length v.past }) same ∙ ap (λ p. in_state t (caught_up p)) is
 
-pub goes_told : (v old new : Plain) (s : State) (modules : List Text) (stops : List StopAt) (how : Walk) (m n : Standing) (h : Halt) (text : List ℕ) → v ≡ old → s ≡ mixed_state h n → MixedGone modules stops how v.limits.turns m h n text
+pub goes_told : (v old new : Plain) (s : State) (modules : List Text) (stops : List StopAt) (how : Walk) (m n : Standing) (h : Halt) (valued : Bool) (text : List ℕ) → v ≡ old → s ≡ mixed_state h n → valued ≡ is_valued old → MixedGone modules stops how v.limits.turns valued m h n text
     → new ≡ caught_up (record v { state = s }) → MixedGoes old modules stops how m (answer.Ran text) new
-goes_told v old new s modules stops how m n h text is same gone caught =
-    (h, n, subst (λ (p : Plain). MixedGone modules stops how p.limits.turns m h n text) is gone, caught ∙ caught_so v old s (mixed_state h n) is same)
+goes_told v old new s modules stops how m n h valued text is same known gone caught =
+    (h, n, subst (λ b. MixedGone modules stops how old.limits.turns b m h n text) known (subst (λ (p : Plain). MixedGone modules stops how p.limits.turns valued m h n text) is gone), caught ∙ caught_so v old s (mixed_state h n) is same)
 
 -- ---- either run
 
@@ -161,10 +161,9 @@ are_by b c listed v session is same said it = sym (ap (λ m. are_sources (texts 
 -- ---- a start
 
 pub mixed_begun : (old : Moment) (file : Option (List ℕ)) (bytes : List ℕ) (now : ℕ) (held : Option FileMap) (new : Plain) → has_main (texts old.session.modules) ≡ true → IsInput old.held file bytes → held ≡ old.held
-    → (said : Answer) → MixedBegins old.session bytes said new → MixedRuns old file said (moment new held now)
+    → (said : Answer) → MixedBegins old.session main_key bytes said new → MixedRuns old file said (moment new held now)
 mixed_begun old file bytes now held new main input same (answer.Ran text) p = (same, main, (bytes, input, p))
 mixed_begun old file bytes now held new main input same answer.NoMemory p = (same, p)
-mixed_begun old file bytes now held new main input same (answer.Refused (denied.Space a)) p = ((p.0, same), main, (bytes, input), p.1)
 mixed_begun old file bytes now held new main input same _ p = absurd p
 
 no_space : {P : Type 0} (held : Option FileMap) (file : Option (List ℕ)) (before now : ℕ) (d : Denied) → (a : Area) → d ≡ denied.Space a → InputDenied held file before now d → P

@@ -4,7 +4,6 @@ use Rattle.std.proofs.lemmas.List.{drop_more}
 use Rattle.sc_base.specs.declared.key.Key.{Key}
 use Rattle.sc_image.specs.Placing.{IsFull}
 use Rattle.sc_isa_image.specs.declared.image.Image.{Image}
-use Rattle.sc_link.specs.Areas.{IsRefused}
 use Rattle.sc_link.specs.Linked.{IsLinked}
 use Rattle.sc_link.specs.declared.placed.Area.{Area as Place}
 use Rattle.sc_link.specs.declared.placed.Area.TheVariants as place
@@ -17,7 +16,7 @@ use Rattle.sc_session.specs.declared.linking.ImageFault.TheVariants as short
 use Rattle.sc_session.specs.declared.placing.Way.{Way}
 use Rattle.sc_session.specs.declared.present.Present.{Present}
 use Rattle.sc_session.specs.Linking.{image_fault, linking_of}
-use Rattle.sc_session.specs.Placing.{IsLacking, IsLast, LacksAfter, LacksAmong, LacksIn, LacksLast, LacksPlaces, LacksSo, each_over, each_placed, last, modules_over, named, placed_first, placed_over, placed_so, version_over, versions_over, way_from, way_of, without_if}
+use Rattle.sc_session.specs.Placing.{IsLacking, IsLast, LacksAfter, LacksAmong, LacksIn, LacksPlaces, LacksSo, each_over, each_placed, last, modules_over, named, placed_first, placed_over, placed_so, version_over, versions_over, way_from, way_of, without_if}
 
 -- ---- which area has no room
 
@@ -65,9 +64,6 @@ the_same x y e = cc
 
 pub linked_last : (past : List (List Present)) (modules : List Present) (funs : List Key) (i : Image) → IsLast (each_placed past modules) funs i → IsLinked (placed_over past modules) funs i
 linked_last past modules funs i (es, is, linked) = subst (λ xs. IsLinked xs funs i) (the_same es (placed_over past modules) (sym is ∙ last_placed past modules)) linked
-
-pub refused_last : (past : List (List Present)) (modules : List Present) (funs : List Key) (a : Place) → LacksLast (each_placed past modules) funs a → IsRefused (placed_over past modules) funs (fault.Space a)
-refused_last past modules funs a (es, is, refused) = subst (λ xs. IsRefused xs funs (fault.Space a)) (the_same es (placed_over past modules) (sym is ∙ last_placed past modules)) refused
 
 -- ---- a module
 

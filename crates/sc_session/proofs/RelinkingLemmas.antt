@@ -1,6 +1,7 @@
 -- A run that stays as the modules change, over an image or not.
 use Rattle.std.proofs.Common.{◌≡◌, Bool, true, false, List, refl, sym, ap, subst, ◌∙◌, inl, inr, Result, Ok, Err, MatchResult}
 use Rattle.sc_base.specs.declared.key.Key.{Key}
+use Rattle.sc_image.specs.Running.{AreWithin, IsOver}
 use Rattle.sc_isa_image.specs.declared.image.Image.{Image}
 use Rattle.sc_link.specs.declared.placed.Placed.{Placed}
 use Rattle.sc_session_forms.specs.Forms.{are_sources, functions_by}
@@ -13,9 +14,9 @@ use Rattle.sc_session.specs.Going.{in_state}
 use Rattle.sc_session.specs.declared.relinking.Plan.{Plan}
 use Rattle.sc_session.specs.Mixing.{Becomes, BecomesBy, BecomesOver, IsUnlinked, Relinks, needs_image}
 use Rattle.sc_session.specs.Modules.{texts}
-use Rattle.sc_session.specs.Placing.{IsImageOver, IsLacking, IsLast, LacksLast, LacksOver, LacksPlaces, each_placed, plan_of}
+use Rattle.sc_session.specs.Placing.{IsImageOver, IsLacking, IsLast, each_placed, placed_over, plan_of}
 use Rattle.sc_session.specs.Plain.{Plain}
-use Rattle.sc_session.proofs.PlacingLemmas.{lacking_by, lacking_none, linked_last, refused_last}
+use Rattle.sc_session.proofs.PlacingLemmas.{lacking_none, linked_last}
 
 module _ (Is : Image → Type 0) where
   relinks_by : (b : Bool) (s t : State) → needs_image b s ≡ true → Relinks Is false s t → Relinks Is b s t
@@ -55,13 +56,13 @@ becomes_same session new needs is =
     (session.state, relinks_same (IsImageOver session.past session.modules session.numbers) (are_sources (texts session.modules)) session.state needs, is)
 
 unlinked : (session : Plain) (f : ImageFault) → needs_image (are_sources (texts session.modules)) session.state ≡ true
-    → IsLacking (LacksOver session.past session.modules (functions_by session.numbers)) f → IsUnlinked session f
+    → IsLacking (IsOver (placed_over session.past session.modules) (functions_by session.numbers)) f → IsUnlinked session f
 unlinked session (short.Space a) needs lacks = (needs, record { lacks = lacks })
 unlinked session short.NoMemory needs lacks = tt
 
 -- what the code finds of a run that goes over to an image, and what becomes of the session
 abbrev pub Found : Plain → Result (Unit {0}) ImageFault → Plain → Type 0
-Found session r new = MatchResult r (λ _. BecomesBy false session new) (λ f. IsLacking (LacksOver session.past session.modules (functions_by session.numbers)) f × (new ≡ session))
+Found session r new = MatchResult r (λ _. BecomesBy false session new) (λ f. IsLacking (IsOver (placed_over session.past session.modules) (functions_by session.numbers)) f × (new ≡ session))
 
 pub relinked : (session new : Plain) (r : Result (Unit {0}) ImageFault) → needs_image (are_sources (texts session.modules)) session.state ≡ true → Found session r new
     → MatchResult r (λ _. Becomes session new) (λ f. IsUnlinked session f × (new ≡ session))
@@ -71,7 +72,7 @@ relinked session new (Err f) needs p = (unlinked session f needs p.0, p.1)
 pub gone_over_so : (session new : Plain) (r : Result (Unit {0}) ImageFault) (i : Image) → IsImageOver session.past session.modules session.numbers i
     → MatchResult r (λ _. BecomesOver (λ j. j ≡ i) false session new) (λ f. (f ≡ short.NoMemory) × (new ≡ session)) → Found session r new
 gone_over_so session new (Ok t) i is (s, relinks, e) = (s, relinks_so (IsImageOver session.past session.modules session.numbers) i is false session.state s relinks, e)
-gone_over_so session new (Err f) i is p = (lacking_none (LacksOver session.past session.modules (functions_by session.numbers)) f p.0, p.1)
+gone_over_so session new (Err f) i is p = (lacking_none (IsOver (placed_over session.past session.modules) (functions_by session.numbers)) f p.0, p.1)
 
 -- the tests of the code are those of the session
 pub needs_by : (v session : Plain) (listed : List Present) (all : Bool) (b c : Bool) → v ≡ session → listed ≡ v.modules → all ≡ are_sources (texts listed) → b ≡ needs_image all v.state → b ≡ c
@@ -89,29 +90,25 @@ given_back old v s t is back put = ap (λ x. record v { state = x }) (put ∙ ba
 -- ---- the plan
 
 pub planned : (session : Plain) (plan : Plan) (placed : List (List Placed)) (funs : List Key) (i : Image) → plan ≡ plan_of session → placed ≡ plan.placed → funs ≡ plan.functions
-    → IsLast placed funs i → IsImageOver session.past session.modules session.numbers i
-planned session plan placed funs i is at by p = record {
+    → AreWithin (placed_over session.past session.modules) (functions_by session.numbers) → IsLast placed funs i → IsImageOver session.past session.modules session.numbers i
+planned session plan placed funs i is at by room p = record {
+  room = room;
   linked =
       linked_last session.past session.modules (functions_by session.numbers) i
       (subst (λ fs. IsLast (each_placed session.past session.modules) fs i) (by ∙ ap (λ (q : Plan). q.functions) is) (subst (λ xs. IsLast xs funs i) (at ∙ ap (λ (q : Plan). q.placed) is) p));
 }
 
-pub planned_lacks : (session : Plain) (plan : Plan) (placed : List (List Placed)) (funs : List Key) (f : ImageFault) → plan ≡ plan_of session → placed ≡ plan.placed → funs ≡ plan.functions
-    → IsLacking (LacksLast placed funs) f → IsLacking (LacksOver session.past session.modules (functions_by session.numbers)) f
-planned_lacks session plan placed funs f is at by p =
-    lacking_by (LacksLast (each_placed session.past session.modules) (functions_by session.numbers)) (LacksOver session.past session.modules (functions_by session.numbers))
-    (λ a q. inr (refused_last session.past session.modules (functions_by session.numbers) a q)) f
-    (subst (λ fs. IsLacking (LacksLast (each_placed session.past session.modules) fs) f) (by ∙ ap (λ (q : Plan). q.functions) is)
-    (subst (λ xs. IsLacking (LacksLast xs funs) f) (at ∙ ap (λ (q : Plan). q.placed) is) p))
-
-pub unplanned : (session : Plain) (f : ImageFault) → IsLacking (LacksPlaces session.past session.modules (functions_by session.numbers)) f
-    → IsLacking (LacksOver session.past session.modules (functions_by session.numbers)) f
-unplanned session f p =
-    lacking_by (LacksPlaces session.past session.modules (functions_by session.numbers)) (LacksOver session.past session.modules (functions_by session.numbers)) (λ a q. inl q) f p
-
+-- what is found of the session's own list
 pub plan_lacks : (session v : Plain) (past : List (List Present)) (modules : List Present) (funs : List Key) (f : ImageFault) → v ≡ session → past ≡ v.past → modules ≡ v.modules → funs ≡ functions_by v.numbers
-    → IsLacking (LacksPlaces past modules funs) f → IsLacking (LacksPlaces session.past session.modules (functions_by session.numbers)) f
+    → IsLacking (IsOver (placed_over past modules) funs) f → IsLacking (IsOver (placed_over session.past session.modules) (functions_by session.numbers)) f
 plan_lacks session v past modules funs f is before same by p =
-    subst (λ s. IsLacking (LacksPlaces s.past s.modules (functions_by s.numbers)) f) is
-    (subst (λ fs. IsLacking (LacksPlaces v.past v.modules fs) f) by
-    (subst (λ ms. IsLacking (LacksPlaces v.past ms funs) f) same (subst (λ ps. IsLacking (LacksPlaces ps modules funs) f) before p)))
+    subst (λ s. IsLacking (IsOver (placed_over s.past s.modules) (functions_by s.numbers)) f) is
+    (subst (λ fs. IsLacking (IsOver (placed_over v.past v.modules) fs) f) by
+    (subst (λ ms. IsLacking (IsOver (placed_over v.past ms) funs) f) same (subst (λ ps. IsLacking (IsOver (placed_over ps modules) funs) f) before p)))
+
+pub plan_within : (session v : Plain) (past : List (List Present)) (modules : List Present) (funs : List Key) → v ≡ session → past ≡ v.past → modules ≡ v.modules → funs ≡ functions_by v.numbers
+    → AreWithin (placed_over past modules) funs → AreWithin (placed_over session.past session.modules) (functions_by session.numbers)
+plan_within session v past modules funs is before same by p =
+    subst (λ s. AreWithin (placed_over s.past s.modules) (functions_by s.numbers)) is
+    (subst (λ fs. AreWithin (placed_over v.past v.modules) fs) by
+    (subst (λ ms. AreWithin (placed_over v.past ms) funs) same (subst (λ ps. AreWithin (placed_over ps modules) funs) before p)))

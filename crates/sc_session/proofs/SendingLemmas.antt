@@ -41,22 +41,24 @@ use Rattle.sc_session.specs.Asking.{AsksFor, deed_command, go_command, walk_comm
 use Rattle.sc_session.specs.Changing.{caught_up, settled}
 use Rattle.sc_session.specs.Modules.{texts}
 use Rattle.sc_session.specs.Plain.{Plain}
-use Rattle.sc_session.specs.Stopping.{places}
+use Rattle.sc_session.specs.Valued.{going_stops, going_texts, is_valued}
 use Rattle.sc_session.specs.States.{refusal_of}
 use Rattle.sc_session.specs.Transcript.{Moment, moment, asked, is_go, AnswersTo, BreaksOff, Carried, Decides, Does, GoesOut, GoFirst, RunDenied, RunFirst, Runs, RunsOut, RunsOutBy, Speaks, WalksOutBy, WritesFirst}
 use Rattle.sc_session.proofs.GoingLemmas.{walked, begins}
 
 -- nothing is said of the end of a run of which nothing is known
-none_says : (w : World) (said : List ℕ) → Says halt.Ended None w said → ⊥
-none_says w said (ended.Exit status, p, told) = absurd (cc)
-none_says w said (ended.Undefined b, p, told) = absurd (cc)
-none_says w said (ended.StackFull key, p, told) = absurd (cc)
-none_says w said (ended.BirthLimit, p, told) = absurd (cc)
-none_says w said (ended.OutOfSteps, p, told) = absurd (cc)
-none_says w said (ended.NoRoom, p, told) = absurd (cc)
+none_says : (valued : Bool) (w : World) (said : List ℕ) → Says valued halt.Ended None w said → ⊥
+none_says valued w said (ended.Exit status, p, told) = absurd (cc)
+none_says valued w said (ended.Undefined b, p, told) = absurd (cc)
+none_says valued w said (ended.StackFull key, p, told) = absurd (cc)
+none_says valued w said (ended.BirthLimit, p, told) = absurd (cc)
+none_says true w said (ended.OutOfSteps, p, told) = absurd (cc)
+none_says false w said (ended.OutOfSteps, p, told) = absurd (cc)
+none_says true w said (ended.NoRoom, p, told) = absurd (cc)
+none_says false w said (ended.NoRoom, p, told) = absurd (cc)
 
-lost_says : (h : Halt) (r : Option Standing) (w : World) (said : List ℕ) → h ≡ halt.Ended → r ≡ None → Says h r w said → ⊥
-lost_says h r w said p q says = none_says w said (subst (λ h. Says h None w said) p (subst (λ r. Says h r w said) q says))
+lost_says : (valued : Bool) (h : Halt) (r : Option Standing) (w : World) (said : List ℕ) → h ≡ halt.Ended → r ≡ None → Says valued h r w said → ⊥
+lost_says valued h r w said p q says = none_says valued w said (subst (λ h. Says valued h None w said) p (subst (λ r. Says valued h r w said) q says))
 
 -- what was posted, by its places
 posted_length : (from to : ℕ) (bytes front : List ℕ) → from ≤ to → to ≤ length bytes → drop from bytes ≡ front ++ drop to bytes → to ≡ from + length front
@@ -93,15 +95,15 @@ few_behind h n before sent front at few goes_on w is =
     let here : length (output (world_of n.state).trail) < before + length front + 4096 = omega (arith, less, at) in
     subst (λ (v : World). length (output v.trail) < before + length front + 4096) (same_world (world_of n.state) w is) here
 
-pub went_behind : (sink gained : Option (List ℕ)) (modules : List Text) (stops : List StopAt) (how : Walk) (turns : ℕ) (r : Option Standing) (first : World) (before sent : ℕ) (h : Halt) (new : Option Standing) (text : List ℕ) (after : State)
+pub went_behind : (sink gained : Option (List ℕ)) (modules : List Text) (stops : List StopAt) (how : Walk) (turns : ℕ) (valued : Bool) (r : Option Standing) (first : World) (before sent : ℕ) (h : Halt) (new : Option Standing) (text : List ℕ) (after : State)
     → IsWorldOf r first → before ≡ length (output first.trail) → Goes modules stops how turns r h new → Sends sink gained modules stops how turns r sent new → LeavesFew h sent new
-    → ((s : Start) → IsRunOf s modules r → IsRunOf s modules new) → ToldBehind before sent h new text → after ≡ state_after h new
-    → Gains sink gained (λ front. Went modules stops how turns r front text after)
-went_behind sink gained modules stops how turns None first before sent h new text after stood at goes sends few meant told follows =
-    absurd (lost_says h new told.world told.said goes.0 goes.1 told.says)
-went_behind sink gained modules stops how turns (Some m) first before sent h None text after stood at goes sends few meant told follows =
-    absurd (lost_says h None told.world told.said goes refl told.says)
-went_behind sink gained modules stops how turns (Some m) first before sent h (Some n) text after stood at goes sends few meant told follows =
+    → ((s : Start) → IsRunOf s modules r → IsRunOf s modules new) → ToldBehind valued before sent h new text → after ≡ state_after h new
+    → Gains sink gained (λ front. Went modules stops how turns valued r front text after)
+went_behind sink gained modules stops how turns valued None first before sent h new text after stood at goes sends few meant told follows =
+    absurd (lost_says valued h new told.world told.said goes.0 goes.1 told.says)
+went_behind sink gained modules stops how turns valued (Some m) first before sent h None text after stood at goes sends few meant told follows =
+    absurd (lost_says valued h None told.world told.said goes refl told.says)
+went_behind sink gained modules stops how turns valued (Some m) first before sent h (Some n) text after stood at goes sends few meant told follows =
     let from : length (written m) ≡ before = sym (at ∙ ap (λ w. length (output w.trail)) (stood (world_of m.state) refl)) in
     let there : world_of n.state ≡ told.world = sym (told.stands (world_of n.state) refl) in
     let behind : drop before (written n) ≡ sends.front ++ drop sent (written n) =
@@ -120,7 +122,7 @@ went_behind sink gained modules stops how turns (Some m) first before sent h (So
         new = Some n;
         goes = goes;
         meant = meant;
-        told = subst (λ k. Told k h (Some n) (sends.front ++ text)) at (record { world = told.world; stands = told.stands; said = told.said; says = told.says; whole = told.whole sends.front whole });
+        told = subst (λ k. Told valued k h (Some n) (sends.front ++ text)) at (record { world = told.world; stands = told.stands; said = told.said; says = told.says; whole = told.whole sends.front whole });
         few = subst (λ k. KeepsFew h k sends.front (Some n)) at (few_behind h n before sent sends.front reached few);
         follows = follows;
       },
@@ -206,32 +208,32 @@ untold_so sink gained modules stops how turns r first before sent h new within (
     first_of sink gained modules stops how turns r (sends_some sink gained modules stops how turns sent r new h goes sends)
 
 first_in : (old : Plain) (how : Walk) (modules : List Text) (stops : List StopAt) (turns : ℕ) (r : Option Standing) (front : List ℕ)
-    → modules ≡ texts old.modules → stops ≡ places old.stops → turns ≡ old.limits.turns → IsFirstOf modules stops how turns r front
-    → IsFirstOf (texts old.modules) (places old.stops) how old.limits.turns r front
+    → modules ≡ going_texts old → stops ≡ going_stops old → turns ≡ old.limits.turns → IsFirstOf modules stops how turns r front
+    → IsFirstOf (going_texts old) (going_stops old) how old.limits.turns r front
 first_in old how modules stops turns r front m p t first =
-    subst (λ x. IsFirstOf (texts old.modules) (places old.stops) how x r front) t
-    (subst (λ x. IsFirstOf (texts old.modules) x how turns r front) p (subst (λ x. IsFirstOf x stops how turns r front) m first))
+    subst (λ x. IsFirstOf (going_texts old) (going_stops old) how x r front) t
+    (subst (λ x. IsFirstOf (going_texts old) x how turns r front) p (subst (λ x. IsFirstOf x stops how turns r front) m first))
 
-pub walk_told : (sink gained : Option (List ℕ)) (old mid new : Plain) (how : Walk) (modules : List Text) (stops : List StopAt) (turns : ℕ) (run : Option Standing) (text : List ℕ) (s after : State)
-    → TakesRun old run mid → modules ≡ texts old.modules → stops ≡ places old.stops → turns ≡ mid.limits.turns
-    → Gains sink gained (λ front. Went modules stops how turns run front text s) → after ≡ s → new ≡ in_state after (caught_up mid)
+pub walk_told : (sink gained : Option (List ℕ)) (old mid new : Plain) (how : Walk) (modules : List Text) (stops : List StopAt) (turns : ℕ) (valued : Bool) (run : Option Standing) (text : List ℕ) (s after : State)
+    → TakesRun old run mid → modules ≡ going_texts old → stops ≡ going_stops old → turns ≡ mid.limits.turns → valued ≡ is_valued old
+    → Gains sink gained (λ front. Went modules stops how turns valued run front text s) → after ≡ s → new ≡ in_state after (caught_up mid)
     → WalksOut sink gained old how (Ok (answer.Ran text)) new
-walk_told sink gained old mid new how modules stops turns run text s after takes m p t (front, gains, went) same is =
-    (front, gains, walked old mid new how modules stops turns run front text s after takes m p t went same is)
+walk_told sink gained old mid new how modules stops turns valued run text s after takes m p t v (front, gains, went) same is =
+    (front, gains, walked old mid new how modules stops turns valued run front text s after takes m p t v went same is)
 
 -- the first bytes of a go of the run that was taken out
 first_taken : (old mid : Plain) (how : Walk) (modules : List Text) (stops : List StopAt) (turns : ℕ) (run : Option Standing) (front : List ℕ)
-    → TakesRun old run mid → modules ≡ texts old.modules → stops ≡ places old.stops → turns ≡ mid.limits.turns
+    → TakesRun old run mid → modules ≡ going_texts old → stops ≡ going_stops old → turns ≡ mid.limits.turns
     → IsFirstOf modules stops how turns run front → WalkFirst old how front
 first_taken old mid how modules stops turns run front ((r, runs, settles), taken) m p t first = (
   r,
   runs,
-  subst (λ x. IsFirstOf (texts old.modules) (places old.stops) how old.limits.turns x front) settles
+  subst (λ x. IsFirstOf (going_texts old) (going_stops old) how old.limits.turns x front) settles
       (first_in old how modules stops turns run front m p (t ∙ ap (λ (x : Plain). x.limits.turns) taken) first),
 )
 
 pub walk_first : (sink gained : Option (List ℕ)) (old mid : Plain) (how : Walk) (modules : List Text) (stops : List StopAt) (turns : ℕ) (run : Option Standing)
-    → TakesRun old run mid → modules ≡ texts old.modules → stops ≡ places old.stops → turns ≡ mid.limits.turns
+    → TakesRun old run mid → modules ≡ going_texts old → stops ≡ going_stops old → turns ≡ mid.limits.turns
     → Gains sink gained (λ front. IsFirstOf modules stops how turns run front) → Gains sink gained (λ front. WalkFirst old how front)
 walk_first sink gained old mid how modules stops turns run takes m p t (front, gains, first) =
     (front, gains, first_taken old mid how modules stops turns run front takes m p t first)
@@ -264,7 +266,7 @@ given_up : (old new : Plain) (how : Walk) → IsGoing old.state → IsGivenUp ol
 given_up old new how going (inl is) = inl (refl, is)
 given_up old new how going (inr is) =
     let run = some_run old.state going in
-    inr ((run.0, run.1, first_nothing (texts old.modules) (places old.stops) how old.limits.turns (settled old run.0)), is)
+    inr ((run.0, run.1, first_nothing (going_texts old) (going_stops old) how old.limits.turns (settled old run.0)), is)
 
 -- no memory was left as the run was taken out
 pub walk_untaken : (sink : Option (List ℕ)) (old new : Plain) (how : Walk) → IsGoing old.state → IsGivenUp old new → WalksOut sink sink old how (Ok answer.NoMemory) new
@@ -277,7 +279,7 @@ cut_there old v s now front is over told =
     ∙ ap (λ (x : Plain). record x { state = state.Ended; in_line = stays_in_line old.in_line front }) is
 
 pub walk_lost : (sink gained : Option (List ℕ)) (old mid new : Plain) (how : Walk) (modules : List Text) (stops : List StopAt) (turns : ℕ) (run : Option Standing) (within now : Bool)
-    → TakesRun old run mid → modules ≡ texts old.modules → stops ≡ places old.stops → turns ≡ mid.limits.turns → within ≡ mid.in_line
+    → TakesRun old run mid → modules ≡ going_texts old → stops ≡ going_stops old → turns ≡ mid.limits.turns → within ≡ mid.in_line
     → new ≡ record mid { in_line = now } → Gains sink gained (λ front. IsFirstOf modules stops how turns run front × (now ≡ stays_in_line within front))
     → WalksOut sink gained old how (Ok answer.NoMemory) new
 walk_lost sink gained old mid new how modules stops turns run within now takes m p t o is (front, gains, (first, told)) =
@@ -285,58 +287,60 @@ walk_lost sink gained old mid new how modules stops turns run within now takes m
     let cut : new ≡ cut_off front old = is ∙ ap (λ (x : Plain). record x { in_line = now }) takes.1 ∙ ap (λ b. record old { state = state.Ended; in_line = b }) open_line in
     (front, gains, inr (first_taken old mid how modules stops turns run front takes m p t first, cut))
 
-run_is : (old : Plain) (first : List Text) (key : Key) (stack heap : ℕ) (input : List ℕ) (r : Option Standing) → first ≡ texts old.modules → stack ≡ old.limits.stack → heap ≡ old.limits.heap → key ≡ main_key → r ≡ Some (started first key stack heap input) → r ≡ run_of old input
-run_is old first key stack heap input r f k h e is =
-    is ∙ ap (λ x. Some (started x key stack heap input)) f ∙ ap (λ x. Some (started (texts old.modules) x stack heap input)) e ∙ ap (λ x. Some (started (texts old.modules) main_key x heap input)) k ∙ ap (λ x. Some (started (texts old.modules) main_key old.limits.stack x input)) h
+run_is : (old : Plain) (first : List Text) (key : Key) (stack heap : ℕ) (input : List ℕ) (r : Option Standing) → first ≡ going_texts old → stack ≡ old.limits.stack → heap ≡ old.limits.heap → r ≡ Some (started first key stack heap input) → r ≡ run_of old key input
+run_is old first key stack heap input r f k h is =
+    is ∙ ap (λ x. Some (started x key stack heap input)) f ∙ ap (λ x. Some (started (going_texts old) key x heap input)) k ∙ ap (λ x. Some (started (going_texts old) key old.limits.stack x input)) h
 
-pub begin_told : (sink gained : Option (List ℕ)) (old new : Plain) (first modules : List Text) (stops : List StopAt) (key : Key) (stack heap turns : ℕ) (input : List ℕ) (r : Option Standing) (text : List ℕ) (s after : State)
-    → first ≡ texts old.modules → modules ≡ texts old.modules → stops ≡ places old.stops → stack ≡ old.limits.stack → heap ≡ old.limits.heap → turns ≡ old.limits.turns
-    → key ≡ main_key → r ≡ Some (started first key stack heap input) → IsRunOf (start_of first key stack heap input) first r
-    → Gains sink gained (λ front. Went modules stops walk.Cont turns r front text s) → after ≡ s → new ≡ in_state after old
-    → BeginsOut sink gained old input (Ok (answer.Ran text)) new
-begin_told sink gained old new first modules stops key stack heap turns input r text s after f m p k h t e is meant (front, gains, went) follows put =
-    (front, gains, begins old new first modules stops key stack heap turns input r front text s after f m p k h t e is meant went follows put)
+pub begin_told : (sink gained : Option (List ℕ)) (old new : Plain) (first modules : List Text) (stops : List StopAt) (key : Key) (stack heap turns : ℕ) (valued : Bool) (input : List ℕ) (r : Option Standing) (text : List ℕ) (s after : State)
+    → first ≡ going_texts old → modules ≡ going_texts old → stops ≡ going_stops old → stack ≡ old.limits.stack → heap ≡ old.limits.heap → turns ≡ old.limits.turns → valued ≡ is_valued old
+    → r ≡ Some (started first key stack heap input) → IsRunOf (start_of first key stack heap input) first r
+    → Gains sink gained (λ front. Went modules stops walk.Cont turns valued r front text s) → after ≡ s → new ≡ in_state after old
+    → BeginsOut sink gained old key input (Ok (answer.Ran text)) new
+begin_told sink gained old new first modules stops key stack heap turns valued input r text s after f m p k h t v is meant (front, gains, went) follows put =
+    (front, gains, begins old new first modules stops key stack heap turns valued input r front text s after f m p k h t v is meant went follows put)
 
 first_begun : (old : Plain) (first modules : List Text) (stops : List StopAt) (key : Key) (stack heap turns : ℕ) (input : List ℕ) (r : Option Standing) (front : List ℕ)
-    → first ≡ texts old.modules → modules ≡ texts old.modules → stops ≡ places old.stops → stack ≡ old.limits.stack → heap ≡ old.limits.heap → turns ≡ old.limits.turns
-    → key ≡ main_key → r ≡ Some (started first key stack heap input) → IsFirstOf modules stops walk.Cont turns r front → BeginFirst old input front
-first_begun old first modules stops key stack heap turns input r front f m p k h t e is q =
-    subst (λ r. IsFirstOf (texts old.modules) (places old.stops) walk.Cont old.limits.turns r front) (run_is old first key stack heap input r f k h e is) (first_in old walk.Cont modules stops turns r front m p t q)
+    → first ≡ going_texts old → modules ≡ going_texts old → stops ≡ going_stops old → stack ≡ old.limits.stack → heap ≡ old.limits.heap → turns ≡ old.limits.turns
+    → r ≡ Some (started first key stack heap input) → IsFirstOf modules stops walk.Cont turns r front → BeginFirst old key input front
+first_begun old first modules stops key stack heap turns input r front f m p k h t is q =
+    subst (λ r. IsFirstOf (going_texts old) (going_stops old) walk.Cont old.limits.turns r front) (run_is old first key stack heap input r f k h is) (first_in old walk.Cont modules stops turns r front m p t q)
 
 pub begin_first : (sink gained : Option (List ℕ)) (old : Plain) (first modules : List Text) (stops : List StopAt) (key : Key) (stack heap turns : ℕ) (input : List ℕ) (r : Option Standing)
-    → first ≡ texts old.modules → modules ≡ texts old.modules → stops ≡ places old.stops → stack ≡ old.limits.stack → heap ≡ old.limits.heap → turns ≡ old.limits.turns
-    → key ≡ main_key → r ≡ Some (started first key stack heap input)
-    → Gains sink gained (λ front. IsFirstOf modules stops walk.Cont turns r front) → Gains sink gained (λ front. BeginFirst old input front)
-begin_first sink gained old first modules stops key stack heap turns input r f m p k h t e is (front, gains, q) =
-    (front, gains, first_begun old first modules stops key stack heap turns input r front f m p k h t e is q)
+    → first ≡ going_texts old → modules ≡ going_texts old → stops ≡ going_stops old → stack ≡ old.limits.stack → heap ≡ old.limits.heap → turns ≡ old.limits.turns
+    → r ≡ Some (started first key stack heap input)
+    → Gains sink gained (λ front. IsFirstOf modules stops walk.Cont turns r front) → Gains sink gained (λ front. BeginFirst old key input front)
+begin_first sink gained old first modules stops key stack heap turns input r f m p k h t is (front, gains, q) =
+    (front, gains, first_begun old first modules stops key stack heap turns input r front f m p k h t is q)
 
-pub begin_unbegun : (sink : Option (List ℕ)) (old new : Plain) (input : List ℕ) → new ≡ old → BeginsOut sink sink old input (Ok answer.NoMemory) new
-begin_unbegun sink old new input is = ([], appends_none sink, inl (refl, is))
+pub begin_unbegun : (sink : Option (List ℕ)) (old new : Plain) (key : Key) (input : List ℕ) → new ≡ old → BeginsOut sink sink old key input (Ok answer.NoMemory) new
+begin_unbegun sink old new key input is = ([], appends_none sink, inl (refl, is))
 
 pub begin_lost : (sink gained : Option (List ℕ)) (old v : Plain) (first modules : List Text) (stops : List StopAt) (key : Key) (stack heap turns : ℕ) (input : List ℕ) (r : Option Standing) (s : State) (within now : Bool)
-    → first ≡ texts old.modules → modules ≡ texts old.modules → stops ≡ places old.stops → stack ≡ old.limits.stack → heap ≡ old.limits.heap → turns ≡ old.limits.turns
-    → key ≡ main_key → r ≡ Some (started first key stack heap input) → within ≡ old.in_line → v ≡ old → s ≡ state.Ended
+    → first ≡ going_texts old → modules ≡ going_texts old → stops ≡ going_stops old → stack ≡ old.limits.stack → heap ≡ old.limits.heap → turns ≡ old.limits.turns
+    → r ≡ Some (started first key stack heap input) → within ≡ old.in_line → v ≡ old → s ≡ state.Ended
     → Gains sink gained (λ front. IsFirstOf modules stops walk.Cont turns r front × (now ≡ stays_in_line within front))
-    → BeginsOut sink gained old input (Ok answer.NoMemory) (record v { state = s; in_line = now })
-begin_lost sink gained old v first modules stops key stack heap turns input r s within now f m p k h t e is o same over (front, gains, (q, told)) =
-    (front, gains, inr (first_begun old first modules stops key stack heap turns input r front f m p k h t e is q, cut_there old v s now front same over (told ∙ ap (λ x. stays_in_line x front) o)))
+    → BeginsOut sink gained old key input (Ok answer.NoMemory) (record v { state = s; in_line = now })
+begin_lost sink gained old v first modules stops key stack heap turns input r s within now f m p k h t is o same over (front, gains, (q, told)) =
+    (front, gains, inr (first_begun old first modules stops key stack heap turns input r front f m p k h t is q, cut_there old v s now front same over (told ∙ ap (λ x. stays_in_line x front) o)))
 
 -- a run that begins so
 begun_cut_off : (old : Moment) (file : Option (List ℕ)) (bytes front : List ℕ) (new : Plain) → has_main (texts old.session.modules) ≡ true → IsInput old.held file bytes
-    → IsCutOff (BeginFirst old.session bytes) old.session front new → IsCutOff (RunFirst old file) old.session front new
+    → IsCutOff (BeginFirst old.session main_key bytes) old.session front new → IsCutOff (RunFirst old file) old.session front new
 begun_cut_off old file bytes front new main input (inl p) = inl p
 begun_cut_off old file bytes front new main input (inr (first, is)) = inr ((main, (bytes, input, first)), is)
 
 begun_answers : (old : Moment) (file : Option (List ℕ)) (bytes front : List ℕ) (now : ℕ) (held : Option FileMap) (new : Plain) → has_main (texts old.session.modules) ≡ true → IsInput old.held file bytes → held ≡ old.held
-    → (said : Answer) → BeginsSo old.session bytes front said new → Runs old file front said (moment new held now)
+    → (said : Answer) → BeginsSo old.session main_key bytes front said new → Runs old file front said (moment new held now)
 begun_answers old file bytes front now held new main input same (answer.Ran text) p = (same, main, (bytes, input, p))
 begun_answers old file bytes front now held new main input same answer.NoMemory p = (same, begun_cut_off old file bytes front new main input p)
 begun_answers old file bytes front now held new main input same answer.Silent p = absurd p
 begun_answers old file bytes front now held new main input same (answer.Loaded name) p = absurd p
 begun_answers old file bytes front now held new main input same (answer.Unloaded name) p = absurd p
 begun_answers old file bytes front now held new main input same (answer.Swapped name form) p = absurd p
+begun_answers old file bytes front now held new main input same (answer.SwappedFast name) p = absurd p
 begun_answers old file bytes front now held new main input same (answer.Edited name) p = absurd p
 begun_answers old file bytes front now held new main input same (answer.Compiled name) p = absurd p
+begun_answers old file bytes front now held new main input same (answer.CompiledFast name) p = absurd p
 begun_answers old file bytes front now held new main input same (answer.StopSet k place) p = absurd p
 begun_answers old file bytes front now held new main input same (answer.Deleted k) p = absurd p
 begun_answers old file bytes front now held new main input same (answer.Reported k text) p = absurd p
@@ -347,7 +351,7 @@ begun_answers old file bytes front now held new main input same answer.Bye p = a
 begun_answers old file bytes front now held new main input same (answer.Refused d) p = absurd p
 
 pub begun_so : (sink gained : Option (List ℕ)) (old : Moment) (file : Option (List ℕ)) (bytes : List ℕ) (now : ℕ) (held : Option FileMap) (new : Plain) (r : Result Answer Unsent) → has_main (texts old.session.modules) ≡ true → IsInput old.held file bytes → held ≡ old.held
-    → BeginsOut sink gained old.session bytes r new → RunsOut sink gained old file r (moment new held now)
+    → BeginsOut sink gained old.session main_key bytes r new → RunsOut sink gained old file r (moment new held now)
 begun_so sink gained old file bytes now held new (Ok said) main input same (front, gains, p) = (front, gains, begun_answers old file bytes front now held new main input same said p)
 begun_so sink gained old file bytes now held new (Err e) main input same (front, gains, p) = (front, gains, (main, (bytes, input, p)))
 
@@ -418,35 +422,6 @@ module _ (sink gained : Option (List ℕ)) (old new : Plain) (held : Option File
   conts_so (Ok said) is p = subst (λ c. GoesOut sink gained (moment old held faults) c (Ok said) (moment new held faults)) (sym is) (walks_there sink gained old new held faults walk.Cont (Ok said) p)
   conts_so (Err e) is p = subst (λ c. GoesOut sink gained (moment old held faults) c (Err e) (moment new held faults)) (sym is) p
 
--- The first bytes of a go do not depend on whether an ended run was forgotten before it.
-writes_first : (old : Moment) (c : Command) (front : List ℕ) → WritesFirst (moment (asked c old.session) old.held old.faults) c front → WritesFirst old c front
-writes_first old (command.Run file) front p = p
-writes_first old command.Step front p = p
-writes_first old command.Next front p = p
-writes_first old command.Cont front p = p
-writes_first old command.StepOne front p = p
-writes_first old command.Nothing front p = p
-writes_first old command.Unknown front p = p
-writes_first old command.BadArguments front p = p
-writes_first old (command.Load name) front p = p
-writes_first old (command.Unload name) front p = p
-writes_first old (command.Swap name form) front p = p
-writes_first old (command.Edit name file) front p = p
-writes_first old (command.Compile name) front p = p
-writes_first old (command.Stop place) front p = p
-writes_first old (command.Delete k) front p = p
-writes_first old command.Frames front p = p
-writes_first old (command.Print name) front p = p
-writes_first old command.Machine front p = p
-writes_first old (command.Disas home fun) front p = p
-writes_first old (command.Xref name) front p = p
-writes_first old (command.Whatis name) front p = p
-writes_first old command.List front p = p
-writes_first old (command.Report k) front p = p
-writes_first old (command.Drop k) front p = p
-writes_first old command.Reset front p = p
-writes_first old command.Quit front p = p
-
 -- a command that lets no program go on has nothing before its answer
 quiet_so : (old : Moment) (c : Command) (said : Answer) (new : Moment) → Does old c said new → Carried old c [] said new
 quiet_so old command.Nothing said new p = (refl, p)
@@ -455,9 +430,12 @@ quiet_so old command.BadArguments said new p = absurd p
 quiet_so old (command.Load name) said new p = (refl, p)
 quiet_so old (command.Unload name) said new p = (refl, p)
 quiet_so old (command.Swap name form) said new p = (refl, p)
+quiet_so old (command.SwapFast name) said new p = (refl, p)
 quiet_so old (command.Edit name file) said new p = (refl, p)
 quiet_so old (command.Compile name) said new p = (refl, p)
+quiet_so old (command.CompileFast name) said new p = (refl, p)
 quiet_so old (command.Run file) said new p = absurd p
+quiet_so old (command.Eval name line) said new p = absurd p
 quiet_so old (command.Stop place) said new p = (refl, p)
 quiet_so old (command.Delete k) said new p = (refl, p)
 quiet_so old command.Step said new p = absurd p
@@ -498,7 +476,7 @@ module _ (old : Moment) (c : Command) (mid : Plain) (r : Option Denied) (is : mi
         (subst (λ x. Carried (moment x old.held old.faults) c front said new) is carried)
 
     go_first : (front : List ℕ) → WritesFirst (moment mid old.held old.faults) c front → GoFirst old c front
-    go_first front p = (said_so ∙ free, writes_first old c front (subst (λ x. WritesFirst (moment x old.held old.faults) c front) is p))
+    go_first front p = (said_so ∙ free, subst (λ x. WritesFirst (moment x old.held old.faults) c front) is p)
 
     pub goes_so : (sink gained : Option (List ℕ)) (out : Result Answer Unsent) → is_go c ≡ true → new.held ≡ old.held → GoesOut sink gained (moment mid old.held old.faults) c out new
         → MatchResult out (λ said. Speaks sink gained old c said new) (λ _. BreaksOff sink gained old c new.held)

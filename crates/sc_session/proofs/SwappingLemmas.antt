@@ -7,6 +7,8 @@ use Rattle.sc_object.specs.Spelling.{spelled}
 use Rattle.sc_object.specs.declared.object.Object.{Object}
 use Rattle.sc_outside.specs.Stored.{FileMap}
 use Rattle.sc_session_forms.specs.Differences.{difference}
+use Rattle.sc_session.specs.declared.choice.Choice.{Choice}
+use Rattle.sc_session.specs.declared.choice.Choice.TheVariants as choice
 use Rattle.sc_session.specs.declared.swapping.Compared.{Compared}
 use Rattle.sc_session.specs.declared.swapping.Compared.TheVariants as compared
 use Rattle.sc_session.specs.Compiling.{object_file}
@@ -16,59 +18,69 @@ use Rattle.sc_session.specs.declared.linking.ImageFault.TheVariants as short
 use Rattle.sc_session.specs.declared.present.Present.{Present}
 use Rattle.sc_session.specs.Changing.{stays}
 use Rattle.sc_session.specs.Linking.{HasRoom, LacksRoom, RoomSaid, with_form}
-use Rattle.sc_session.specs.Mixing.{IsUnlinked, LacksImage}
+use Rattle.sc_session.specs.Mixing.{Becomes, IsUnlinked, LacksImage}
 use Rattle.sc_session.specs.Modules.{object_named}
 use Rattle.sc_session.specs.Plain.{Plain}
 use Rattle.sc_session.specs.Swapping.{Compares, ComparesBytes, HasBytes, NotOursSaid}
-use Rattle.sc_session.specs.Transcript.{Forms, HasRoomBy, IsKept, LacksRoomBy, Moment, Reforms, Swaps, moment, swapped, unformed}
+use Rattle.sc_session.specs.Transcript.{Forms, HasRoomBy, IsKept, LacksRoomBy, Moment, Reforms, Swaps, moment, swapped, swapped_said, unformed}
 use Rattle.sc_words.specs.declared.answer.Answer.{Answer}
 use Rattle.sc_words.specs.declared.answer.Answer.TheVariants as answer
 use Rattle.sc_words.specs.declared.denied.Area.{Area}
 use Rattle.sc_words.specs.declared.denied.Denied.{Denied}
 use Rattle.sc_words.specs.declared.denied.Denied.TheVariants as denied
 
-module _ (old : Moment) (name : List ℕ) (object : Object) (held : Option FileMap) (now : ℕ) (found : Compared)
-    (there : object_named old.session.modules name ≡ Some object) (same : held ≡ old.held)
-    (compares : Compares old.held (object_file name) object old.faults now found) where
-  kept_by : IsKept old name → (said : Answer) (new : Plain) → Reforms old.session name said new → Swaps old name form.Object said (moment new held now)
-  kept_by kept (answer.Swapped m g) new p = (p.0, p.1, (kept, p.2), p.3, same)
+module _ (old : Moment) (name : List ℕ) (c : Choice) (object : Object) (held : Option FileMap) (now : ℕ) (found : Compared)
+    (there : object_named old.session.modules name c ≡ Some object) (same : held ≡ old.held)
+    (compares : Compares old.held (object_file name c) object old.faults now found) where
+  kept_by : IsKept old name c → (said : Answer) (new : Plain) → Reforms old.session name c said new → Swaps old name form.Object c said (moment new held now)
+  kept_by kept (answer.Swapped m g) new (plain, is, compiled, room, becomes) = (plain, is, compiled, (kept, room), becomes, same)
+  kept_by kept (answer.SwappedFast m) new (fast, is, room, becomes) = (fast, is, (kept, room), becomes, same)
   kept_by kept (answer.Refused (denied.Space a)) new p = (refl, (p.0, same), (kept, p.1))
   kept_by kept answer.NoMemory new p = (p, same)
   kept_by kept _ new p = absurd p
 
-  pub swap_kept : (said : Answer) (new : Plain) → found ≡ compared.Same → Reforms old.session name said new → Swaps old name form.Object said (moment new held now)
-  swap_kept said new is p = kept_by (object, there, subst (Compares old.held (object_file name) object old.faults now) is compares) said new p
+  pub swap_kept : (said : Answer) (new : Plain) → found ≡ compared.Same → Reforms old.session name c said new → Swaps old name form.Object c said (moment new held now)
+  swap_kept said new is p = kept_by (object, there, subst (Compares old.held (object_file name c) object old.faults now) is compares) said new p
 
-  refused_by : (d : Denied) (new : Plain) → Compares old.held (object_file name) object old.faults now (compared.Denied d) → new ≡ old.session → Swaps old name form.Object (answer.Refused d) (moment new held now)
+  refused_by : (d : Denied) (new : Plain) → Compares old.held (object_file name c) object old.faults now (compared.Denied d) → new ≡ old.session → Swaps old name form.Object c (answer.Refused d) (moment new held now)
   refused_by (denied.Space a) new p stays = absurd p
   refused_by d new p stays = (refl, (stays, same), (object, there, p))
 
-  pub swap_refused : (d : Denied) (new : Plain) → found ≡ compared.Denied d → new ≡ old.session → Swaps old name form.Object (answer.Refused d) (moment new held now)
-  swap_refused d new is stays = refused_by d new (subst (Compares old.held (object_file name) object old.faults now) is compares) stays
+  pub swap_refused : (d : Denied) (new : Plain) → found ≡ compared.Denied d → new ≡ old.session → Swaps old name form.Object c (answer.Refused d) (moment new held now)
+  swap_refused d new is stays = refused_by d new (subst (Compares old.held (object_file name c) object old.faults now) is compares) stays
 
-pub swap_none : (old : Moment) (name : List ℕ) (held : Option FileMap) (now : ℕ) (new : Plain) → held ≡ old.held → new ≡ old.session → Swaps old name form.Object answer.NoMemory (moment new held now)
-swap_none old name held now new same stays = (stays, same)
+pub swap_none : (old : Moment) (name : List ℕ) (c : Choice) (held : Option FileMap) (now : ℕ) (new : Plain) → held ≡ old.held → new ≡ old.session → Swaps old name form.Object c answer.NoMemory (moment new held now)
+swap_none old name c held now new same stays = (stays, same)
 
 -- a module gets a form, where it may
 not_object : form.Source ≡ form.Object → ⊥
 not_object e = absurd (cc)
 
-pub forms_swaps : (old : Moment) (name : List ℕ) (f : Form) (said : Answer) (new : Plain) → f ≡ form.Source → Forms old.session name f said new → Swaps old name f said (moment new old.held old.faults)
-forms_swaps old name f said new is forms = subst (λ g. Swaps old name g said (moment new old.held old.faults)) (sym is) (by said (subst (λ g. Forms old.session name g said new) is forms))
+pub forms_swaps : (old : Moment) (name : List ℕ) (f : Form) (c : Choice) (said : Answer) (new : Plain) → f ≡ form.Source → Forms old.session name f c said new → Swaps old name f c said (moment new old.held old.faults)
+forms_swaps old name f c said new is forms = subst (λ g. Swaps old name g c said (moment new old.held old.faults)) (sym is) (by said (subst (λ g. Forms old.session name g c said new) is forms))
   where
-    by : (said : Answer) → Forms old.session name form.Source said new → Swaps old name form.Source said (moment new old.held old.faults)
-    by (answer.Swapped m g) p = (p.0, p.1, tt, p.2, refl)
+    by : (said : Answer) → Forms old.session name form.Source c said new → Swaps old name form.Source c said (moment new old.held old.faults)
+    by (answer.Swapped m g) (plain, is, source, becomes) = (plain, is, source, tt, becomes, refl)
+    by (answer.SwappedFast m) (fast, is, becomes) = (fast, is, tt, becomes, refl)
     by answer.NoMemory p = (p, refl)
     by (answer.Refused (denied.Space a)) p = absurd (not_object p.0)
     by (answer.Refused d) p = absurd p
     by _ p = absurd p
 
--- why a module does not get a form
-pub forms_failed : (session : Plain) (name : List ℕ) (f : Form) (fault : ImageFault) (said : Answer) (new : Plain) → stays session.state ≡ true → IsUnlinked (swapped session name f) fault → said ≡ unformed f fault → new ≡ session
-    → Forms session name f said new
-forms_failed session name f fault said new stayed unlinked is same = subst (λ a. Forms session name f a new) (sym is) (by f fault unlinked)
+-- a module got a form
+pub forms_swapped : (session : Plain) (name : List ℕ) (f : Form) (c : Choice) (said : Answer) (new : Plain) → said ≡ swapped_said name f c → Becomes (swapped session name f c) new → Forms session name f c said new
+forms_swapped session name f c said new is becomes = subst (λ a. Forms session name f c a new) (sym is) (by c becomes)
   where
-    by : (f : Form) (fault : ImageFault) → IsUnlinked (swapped session name f) fault → Forms session name f (unformed f fault) new
+    by : (c : Choice) → Becomes (swapped session name f c) new → Forms session name f c (swapped_said name f c) new
+    by choice.Plain becomes = (refl, refl, refl, becomes)
+    by choice.Fast becomes = (refl, refl, becomes)
+
+-- why a module does not get a form
+pub forms_failed : (session : Plain) (name : List ℕ) (f : Form) (c : Choice) (fault : ImageFault) (said : Answer) (new : Plain) → stays session.state ≡ true → IsUnlinked (swapped session name f c) fault → said ≡ unformed f fault → new ≡ session
+    → Forms session name f c said new
+forms_failed session name f c fault said new stayed unlinked is same = subst (λ a. Forms session name f c a new) (sym is) (by f fault unlinked)
+  where
+    by : (f : Form) (fault : ImageFault) → IsUnlinked (swapped session name f c) fault → Forms session name f c (unformed f fault) new
     by form.Source fault lacks = same
     by form.Object (short.Space a) lacks = (refl, stayed, lacks, same)
     by form.Object short.NoMemory lacks = same
@@ -90,29 +102,30 @@ pub lacks_room : (b : Bool) (changed : Plain) (a : Area) → b ≡ false → Lac
 lacks_room true changed a e p = absurd (cc)
 lacks_room false changed a e p = p
 
-pub forms_reforms : (session : Plain) (name : List ℕ) (said : Answer) (new : Plain) → HasRoomBy (stays session.state) (with_form name form.Object session.modules) session.numbers → Forms session name form.Object said new → Reforms session name said new
-forms_reforms session name (answer.Swapped m g) new room p = (p.0, p.1, room, p.2)
-forms_reforms session name answer.NoMemory new room p = p
-forms_reforms session name (answer.Refused (denied.Space a)) new room (is, stayed, lacks, same) = (same, lacks_by (stays session.state) (swapped session name form.Object) a stayed lacks)
-forms_reforms session name _ new room p = absurd p
+pub forms_reforms : (session : Plain) (name : List ℕ) (c : Choice) (said : Answer) (new : Plain) → HasRoomBy (stays session.state) (with_form name form.Object c session.modules) session.numbers → Forms session name form.Object c said new → Reforms session name c said new
+forms_reforms session name c (answer.Swapped m g) new room (plain, is, compiled, becomes) = (plain, is, compiled, room, becomes)
+forms_reforms session name c (answer.SwappedFast m) new room (fast, is, becomes) = (fast, is, room, becomes)
+forms_reforms session name c answer.NoMemory new room p = p
+forms_reforms session name c (answer.Refused (denied.Space a)) new room (is, stayed, lacks, same) = (same, lacks_by (stays session.state) (swapped session name form.Object c) a stayed lacks)
+forms_reforms session name c _ new room p = absurd p
 
-pub stays_reforms : (session : Plain) (name : List ℕ) (said : Answer) (new : Plain) → stays session.state ≡ true → Forms session name form.Object said new → Reforms session name said new
-stays_reforms session name said new stayed p = forms_reforms session name said new (has_by (stays session.state) (with_form name form.Object session.modules) session.numbers stayed) p
+pub stays_reforms : (session : Plain) (name : List ℕ) (c : Choice) (said : Answer) (new : Plain) → stays session.state ≡ true → Forms session name form.Object c said new → Reforms session name c said new
+stays_reforms session name c said new stayed p = forms_reforms session name c said new (has_by (stays session.state) (with_form name form.Object c session.modules) session.numbers stayed) p
 
 -- the room that the code finds outside of a run
-pub found_room : (v session : Plain) (name : List ℕ) (modules : List Present) (full : Option Area) → v ≡ session → modules ≡ v.modules → RoomSaid (with_form name form.Object modules) v.numbers full → RoomSaid (with_form name form.Object session.modules) session.numbers full
-found_room v session name modules full is same p =
-    subst (λ (s : Plain). RoomSaid (with_form name form.Object s.modules) s.numbers full) is (subst (λ ms. RoomSaid (with_form name form.Object ms) v.numbers full) same p)
+pub found_room : (v session : Plain) (name : List ℕ) (c : Choice) (modules : List Present) (full : Option Area) → v ≡ session → modules ≡ v.modules → RoomSaid (with_form name form.Object c modules) v.numbers full → RoomSaid (with_form name form.Object c session.modules) session.numbers full
+found_room v session name c modules full is same p =
+    subst (λ (s : Plain). RoomSaid (with_form name form.Object c s.modules) s.numbers full) is (subst (λ ms. RoomSaid (with_form name form.Object c ms) v.numbers full) same p)
 
-pub room_reforms : (session : Plain) (name : List ℕ) (full : Option Area) (said : Answer) (new : Plain) → full ≡ None → RoomSaid (with_form name form.Object session.modules) session.numbers full → Forms session name form.Object said new → Reforms session name said new
-room_reforms session name full said new is found p =
-    forms_reforms session name said new
-    (has_room (stays session.state) (with_form name form.Object session.modules) session.numbers (subst (RoomSaid (with_form name form.Object session.modules) session.numbers) is found)) p
+pub room_reforms : (session : Plain) (name : List ℕ) (c : Choice) (full : Option Area) (said : Answer) (new : Plain) → full ≡ None → RoomSaid (with_form name form.Object c session.modules) session.numbers full → Forms session name form.Object c said new → Reforms session name c said new
+room_reforms session name c full said new is found p =
+    forms_reforms session name c said new
+    (has_room (stays session.state) (with_form name form.Object c session.modules) session.numbers (subst (RoomSaid (with_form name form.Object c session.modules) session.numbers) is found)) p
 
-pub full_refused : (session : Plain) (name : List ℕ) (full : Option Area) (a : Area) → stays session.state ≡ false → full ≡ Some a → RoomSaid (with_form name form.Object session.modules) session.numbers full
-    → Reforms session name (answer.Refused (denied.Space a)) session
-full_refused session name full a rests is found =
-    (refl, lacks_room (stays session.state) (swapped session name form.Object) a rests (subst (RoomSaid (with_form name form.Object session.modules) session.numbers) is found))
+pub full_refused : (session : Plain) (name : List ℕ) (c : Choice) (full : Option Area) (a : Area) → stays session.state ≡ false → full ≡ Some a → RoomSaid (with_form name form.Object c session.modules) session.numbers full
+    → Reforms session name c (answer.Refused (denied.Space a)) session
+full_refused session name c full a rests is found =
+    (refl, lacks_room (stays session.state) (swapped session name form.Object c) a rests (subst (RoomSaid (with_form name form.Object c session.modules) session.numbers) is found))
 
 -- ---- the file
 

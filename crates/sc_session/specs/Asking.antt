@@ -22,6 +22,7 @@ walk_command walk.Cont = command.Cont
 -- the commands that let the program go on
 abbrev pub go_command : Go → Command
 go_command (go.Run file) = command.Run file
+go_command (go.Eval name line) = command.Eval name line
 go_command (go.Walk how) = walk_command how
 go_command go.One = command.StepOne
 
@@ -31,8 +32,10 @@ deed_command deed.Nothing = command.Nothing
 deed_command (deed.Load name) = command.Load name
 deed_command (deed.Unload name) = command.Unload name
 deed_command (deed.Swap name form) = command.Swap name form
+deed_command (deed.SwapFast name) = command.SwapFast name
 deed_command (deed.Edit name file) = command.Edit name file
 deed_command (deed.Compile name) = command.Compile name
+deed_command (deed.CompileFast name) = command.CompileFast name
 deed_command (deed.Stop place) = command.Stop place
 deed_command (deed.Delete k) = command.Delete k
 deed_command deed.Frames = command.Frames

@@ -2,6 +2,7 @@
 -- What a run answers that begins or goes on, and how the session stands behind it.
 use Rattle.std.specs.Io.KnownBytes.{Appends}
 use Rattle.std.specs.Prelude.{◌≡◌, ◌≢◌, ◌<◌, ◌≤◌, ◌⊎◌, ℕ, ◌+◌, ◌-◌, ◌==◌, not, Bool, true, false, List, [], ◌++◌, length, take, drop, slice_get, Option, Some, None, Result, Ok, Err}
+use Rattle.sc_base.specs.declared.key.Key.{Key}
 use Rattle.sc_meaning.specs.Behaviour.{Start, main_key}
 use Rattle.sc_meaning.specs.Versions.{Text, Callee, callee_of, Missing}
 use Rattle.sc_meaning.specs.World.{World}
@@ -13,7 +14,7 @@ use Rattle.sc_interp.specs.Ends.{start_of}
 use Rattle.sc_interp_access.specs.declared.ended.Ended.{Ended}
 use Rattle.sc_interp_access.specs.declared.ended.Ended.TheVariants as ended
 use Rattle.sc_interp_world.specs.Outputs.{output}
-use Rattle.sc_session_texts.specs.Ends.{entered_text, line_text, end_text, stop_text, on_new_line}
+use Rattle.sc_session_texts.specs.Ends.{entered_text, line_text, outcome_text, stop_text, on_new_line}
 use Rattle.sc_words.specs.declared.answer.Answer.{Answer}
 use Rattle.sc_words.specs.declared.answer.Answer.TheVariants as answer
 use Rattle.sc_words.specs.declared.denied.Denied.{Denied}
@@ -36,9 +37,8 @@ use Rattle.sc_session.specs.declared.input.Input.TheVariants as input
 use Rattle.sc_session.specs.declared.state.State.{State}
 use Rattle.sc_session.specs.declared.state.State.TheVariants as state
 use Rattle.sc_session.specs.Changing.{caught_up, settled}
-use Rattle.sc_session.specs.Modules.{texts}
 use Rattle.sc_session.specs.Plain.{Plain}
-use Rattle.sc_session.specs.Stopping.{places}
+use Rattle.sc_session.specs.Valued.{going_stops, going_texts, is_valued}
 
 -- the same session in another state
 abbrev pub in_state : State → Plain → Plain
@@ -82,28 +82,28 @@ Finds held file before now input.NoMemory = Unit {0}
 abbrev pub IsWorldOf : Option Standing → World → Type 0
 IsWorldOf r w = (v : World) → world_in r ≡ Some v → w ≡ v
 
--- what is said of where a run halted
-abbrev pub Says : Halt → Option Standing → World → List ℕ → Type 0
-Says halt.Entered r w said = said ≡ entered_text w.frames
-Says halt.AtLine r w said = said ≡ line_text w.frames
-Says halt.Ended r w said = (e : Ended) × EndedSo r e × (Some said ≡ end_text e w)
-Says (halt.Paused turns) r w said = Some said ≡ stop_text turns ended.OutOfSteps w
+-- what is said of where a run halted, by whether it is an evaluation
+abbrev pub Says : Bool → Halt → Option Standing → World → List ℕ → Type 0
+Says valued halt.Entered r w said = said ≡ entered_text w.frames
+Says valued halt.AtLine r w said = said ≡ line_text w.frames
+Says valued halt.Ended r w said = (e : Ended) × EndedSo r e × (Some said ≡ outcome_text valued e w)
+Says valued (halt.Paused turns) r w said = Some said ≡ stop_text turns ended.OutOfSteps w
 
 -- the text on a go that halted so: what the program wrote in it, behind so many bytes before, and on a line of its own where the
 -- run halted
-pub record Told (before : ℕ) (h : Halt) (r : Option Standing) (text : List ℕ) : Type 0 where
+pub record Told (valued : Bool) (before : ℕ) (h : Halt) (r : Option Standing) (text : List ℕ) : Type 0 where
   pub world : World
   pub stands : IsWorldOf r world
   pub said : List ℕ
-  pub says : Says h r world said
+  pub says : Says valued h r world said
   pub whole : text ≡ on_new_line (drop before (output world.trail)) said
 
 -- the same, where the bytes behind the first place and before the second went out in the go: what is left of the text
-pub record ToldBehind (before sent : ℕ) (h : Halt) (r : Option Standing) (text : List ℕ) : Type 0 where
+pub record ToldBehind (valued : Bool) (before sent : ℕ) (h : Halt) (r : Option Standing) (text : List ℕ) : Type 0 where
   pub world : World
   pub stands : IsWorldOf r world
   pub said : List ℕ
-  pub says : Says h r world said
+  pub says : Says valued h r world said
   pub whole : (front : List ℕ) → drop before (output world.trail) ≡ front ++ drop sent (output world.trail) → front ++ text ≡ on_new_line (drop before (output world.trail)) said
 
 -- the state behind a go
@@ -120,14 +120,14 @@ KeepsFew h before front r = h ≢ halt.Ended → (w : World) → world_in r ≡ 
 
 -- A go over these modules that halted: the run was the old one, and is the new one, which is a run of the same program if the old
 -- one was. The first bytes went out in the go, and the text stands behind them.
-pub record Went (modules : List Text) (stops : List StopAt) (how : Walk) (turns : ℕ) (old : Option Standing) (front text : List ℕ) (after : State) : Type 0 where
+pub record Went (modules : List Text) (stops : List StopAt) (how : Walk) (turns : ℕ) (valued : Bool) (old : Option Standing) (front text : List ℕ) (after : State) : Type 0 where
   pub first : World
   pub stood : IsWorldOf old first
   pub stops_at : Halt
   pub new : Option Standing
   pub goes : Goes modules stops how turns old stops_at new
   pub meant : (s : Start) → IsRunOf s modules old → IsRunOf s modules new
-  pub told : Told (length (output first.trail)) stops_at new (front ++ text)
+  pub told : Told valued (length (output first.trail)) stops_at new (front ++ text)
   pub few : KeepsFew stops_at (length (output first.trail)) front new
   pub follows : after ≡ state_after stops_at new
 
@@ -206,11 +206,11 @@ TakesRun session run new = ((r : Option Standing) × RunsIn session.state r × (
 -- one go of a session from a run, with the text that answers it behind what went out, and the session behind it
 abbrev pub GoesOn : Plain → Walk → Option Standing → List ℕ → List ℕ → Plain → Type 0
 GoesOn session how r front text new =
-    (s : State) × Went (texts session.modules) (places session.stops) how session.limits.turns r front text s × (new ≡ in_state s session)
+    (s : State) × Went (going_texts session) (going_stops session) how session.limits.turns (is_valued session) r front text s × (new ≡ in_state s session)
 
 -- the first bytes that the program writes as a session's run goes on so, behind the changes that wait for it
 abbrev pub WalkFirst : Plain → Walk → List ℕ → Type 0
-WalkFirst session how front = (r : Option Standing) × RunsIn session.state r × IsFirstOf (texts session.modules) (places session.stops) how session.limits.turns (settled session r) front
+WalkFirst session how front = (r : Option Standing) × RunsIn session.state r × IsFirstOf (going_texts session) (going_stops session) how session.limits.turns (settled session r) front
 
 -- The answers to `step`, `next` and `cont` behind these bytes, which went out: the run goes through the changes that wait for it, and on from
 -- there under the present modules.
@@ -224,27 +224,28 @@ abbrev pub WalksOut : Option (List ℕ) → Option (List ℕ) → Plain → Walk
 WalksOut sink gained session how (Ok said) new = Gains sink gained (λ front. Walks session how front said new)
 WalksOut sink gained session how (Err e) new = Gains sink gained (λ front. WalkFirst session how front)
 
--- the run of a session's program from its start on
-abbrev pub run_of : Plain → List ℕ → Option Standing
-run_of session bytes = Some (started (texts session.modules) main_key session.limits.stack session.limits.heap bytes)
+-- the run of a session's program from its start on, by a call of the function with this key
+abbrev pub run_of : Plain → Key → List ℕ → Option Standing
+run_of session key bytes = Some (started (going_texts session) key session.limits.stack session.limits.heap bytes)
 
--- a run with this input goes from its start on: it is one of the program that the modules are
-abbrev pub Begins : Plain → List ℕ → List ℕ → List ℕ → Plain → Type 0
-Begins session bytes front text new =
-    IsRunOf (start_of (texts session.modules) main_key session.limits.stack session.limits.heap bytes) (texts session.modules) (run_of session bytes)
-    × GoesOn session walk.Cont (run_of session bytes) front text new
+-- A run with this input goes from its start on: it is one of the program that the modules are, with the text of an evaluation behind them
+-- where the session has one.
+abbrev pub Begins : Plain → Key → List ℕ → List ℕ → List ℕ → Plain → Type 0
+Begins session key bytes front text new =
+    IsRunOf (start_of (going_texts session) key session.limits.stack session.limits.heap bytes) (going_texts session) (run_of session key bytes)
+    × GoesOn session walk.Cont (run_of session key bytes) front text new
 
 -- the first bytes that it writes there
-abbrev pub BeginFirst : Plain → List ℕ → List ℕ → Type 0
-BeginFirst session bytes front = IsFirstOf (texts session.modules) (places session.stops) walk.Cont session.limits.turns (run_of session bytes) front
+abbrev pub BeginFirst : Plain → Key → List ℕ → List ℕ → Type 0
+BeginFirst session key bytes front = IsFirstOf (going_texts session) (going_stops session) walk.Cont session.limits.turns (run_of session key bytes) front
 
 -- what is answered as it goes from its start on
-abbrev pub BeginsSo : Plain → List ℕ → List ℕ → Answer → Plain → Type 0
-BeginsSo session bytes front (answer.Ran text) new = Begins session bytes front text new
-BeginsSo session bytes front answer.NoMemory new = IsCutOff (BeginFirst session bytes) session front new
-BeginsSo session bytes front _ new = ⊥
+abbrev pub BeginsSo : Plain → Key → List ℕ → List ℕ → Answer → Plain → Type 0
+BeginsSo session key bytes front (answer.Ran text) new = Begins session key bytes front text new
+BeginsSo session key bytes front answer.NoMemory new = IsCutOff (BeginFirst session key bytes) session front new
+BeginsSo session key bytes front _ new = ⊥
 
 -- and what comes of it
-abbrev pub BeginsOut : Option (List ℕ) → Option (List ℕ) → Plain → List ℕ → Result Answer Unsent → Plain → Type 0
-BeginsOut sink gained session bytes (Ok said) new = Gains sink gained (λ front. BeginsSo session bytes front said new)
-BeginsOut sink gained session bytes (Err e) new = Gains sink gained (λ front. BeginFirst session bytes front)
+abbrev pub BeginsOut : Option (List ℕ) → Option (List ℕ) → Plain → Key → List ℕ → Result Answer Unsent → Plain → Type 0
+BeginsOut sink gained session key bytes (Ok said) new = Gains sink gained (λ front. BeginsSo session key bytes front said new)
+BeginsOut sink gained session key bytes (Err e) new = Gains sink gained (λ front. BeginFirst session key bytes front)

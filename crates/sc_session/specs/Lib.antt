@@ -7,12 +7,14 @@ pub mod Asking
 pub mod Loading
 pub mod Stopping
 pub mod Showing
+pub mod Valued
 pub mod Going
 pub mod Compiling
 pub mod Linking
 pub mod Placing
 pub mod Swapping
 pub mod Mixing
+pub mod Evaluating
 pub mod Single
 pub mod Disassembling
 pub mod Referring

@@ -17,18 +17,20 @@ use Rattle.sc_words.specs.declared.denied.Area.{Area}
 use Rattle.sc_words.specs.declared.denied.Area.TheVariants as area
 use Rattle.sc_session.specs.declared.linking.ImageFault.{ImageFault}
 use Rattle.sc_session.specs.declared.linking.ImageFault.TheVariants as short
+use Rattle.sc_session.specs.declared.choice.Choice.{Choice}
 use Rattle.sc_session.specs.declared.present.Present.{Present}
+use Rattle.sc_session.specs.Modules.{object_by}
 
--- the module with a name gets a form; its text and its object stay
-abbrev pub formed : List ℕ → Form → Present → Present
-formed name f p = if bytes_eq p.text.core.name name then record p { text = record p.text { form = f } } else p
+-- the module with a name gets a form, and the object that it runs in object form; its text and its objects stay
+abbrev pub formed : List ℕ → Form → Choice → Present → Present
+formed name f c p = if bytes_eq p.text.core.name name then record p { text = record p.text { form = f }; choice = c } else p
 
-abbrev pub with_form : List ℕ → Form → List Present → List Present
-with_form name f modules = map (formed name f) modules
+abbrev pub with_form : List ℕ → Form → Choice → List Present → List Present
+with_form name f c modules = map (formed name f c) modules
 
 -- a module as it is linked
 abbrev pub linking_of : Present → Linking
-linking_of p = record { number = p.text.number; name = p.text.core.name; form = p.text.form; object = p.object }
+linking_of p = record { number = p.text.number; name = p.text.core.name; form = p.text.form; object = object_by p.choice p }
 
 -- the image of modules has room
 abbrev pub HasRoom : List Present → List Key → Type 0
@@ -38,7 +40,7 @@ HasRoom modules numbers = Fits (map linking_of modules) (functions_by numbers)
 abbrev pub IsImage : List Present → List Key → Image → Type 0
 IsImage modules numbers i = IsLinked (placed_modules (map linking_of modules)) (functions_by numbers) i
 
--- an area has none
+-- the first area, in the order of their addresses, that has none
 abbrev pub LacksRoom : List Present → List Key → Area → Type 0
 LacksRoom modules numbers area.Modules = ⊥
 LacksRoom modules numbers area.Stubs = IsFull (map linking_of modules) (functions_by numbers) place.Stubs
@@ -54,10 +56,6 @@ area_of place.Static = area.Static
 abbrev pub image_fault : LinkFault → ImageFault
 image_fault (fault.Space a) = short.Space (area_of a)
 image_fault fault.NoMemory = short.NoMemory
-
-abbrev pub FaultSaid : List Present → List Key → ImageFault → Type 0
-FaultSaid modules numbers (short.Space a) = LacksRoom modules numbers a
-FaultSaid modules numbers short.NoMemory = Unit {0}
 
 -- what the code finds of it; nothing is said where no memory was left
 abbrev pub RoomSaid : List Present → List Key → Option Area → Type 0

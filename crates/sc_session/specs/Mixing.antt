@@ -5,7 +5,7 @@ use Rattle.std.specs.Prelude.{◌≡◌, ℕ, Bool, true, false, not, List, [], 
 use Rattle.sc_core_names.specs.declared.table.Scopes.{Scopes}
 use Rattle.sc_interp_world.specs.Outputs.{output}
 use Rattle.sc_isa_image.specs.declared.image.Image.{Image}
-use Rattle.sc_meaning.specs.Behaviour.{main_key}
+use Rattle.sc_base.specs.declared.key.Key.{Key}
 use Rattle.sc_meaning.specs.Versions.{Text}
 use Rattle.sc_meaning.specs.World.{World, Frame}
 use Rattle.sc_mixed.specs.Changing.{Changes, IsTakenFrom}
@@ -33,12 +33,12 @@ use Rattle.sc_session.specs.declared.state.State.{State}
 use Rattle.sc_session.specs.declared.state.State.TheVariants as state
 use Rattle.sc_session.specs.Changing.{at_rest, caught_up, compiled_held, scopes_held, texts_held, versions_left}
 use Rattle.sc_session.specs.Going.{IsGivenUp, Walks, in_state}
-use Rattle.sc_session.specs.Linking.{IsImage, LacksRoom}
+use Rattle.sc_session.specs.Linking.{IsImage}
 use Rattle.sc_session.specs.Modules.{texts}
 use Rattle.sc_session.specs.Placing.{IsImageOver, LacksRoomOver}
 use Rattle.sc_session.specs.Plain.{Plain}
 use Rattle.sc_session.specs.Showing.{ShowsCalls, ShowsValue, sight_of}
-use Rattle.sc_session.specs.Stopping.{places}
+use Rattle.sc_session.specs.Valued.{going_stops, going_texts, is_valued}
 
 -- a run of both forms goes on in a state
 abbrev pub is_mixed : State → Bool
@@ -99,7 +99,7 @@ Settles false session new = new ≡ at_rest session
 abbrev pub NeedsImage : Bool → State → Type 0
 NeedsImage b s = needs_image b s ≡ true
 
--- why it does not: this area has no room for what its modules place; or no memory was left
+-- why it does not: this area is the first that has no room for what its modules place; or no memory was left
 abbrev pub LacksImage : Plain → Area → Type 0
 LacksImage session a = NeedsImage (are_sources (texts session.modules)) session.state × LacksRoomOver session.past session.modules session.numbers a
 
@@ -142,13 +142,13 @@ mixed_state (halt.Paused turns) m = state.PausedMixed m
 pub record MixedWent (session : Plain) (how : Walk) (old : Standing) (text : List ℕ) (new : Plain) : Type 0 where
   pub halts : Halt
   pub stands : Standing
-  pub gone : MixedGone (texts session.modules) (places session.stops) how session.limits.turns old halts stands text
+  pub gone : MixedGone (going_texts session) (going_stops session) how session.limits.turns (is_valued session) old halts stands text
   pub follows : new ≡ in_state (mixed_state halts stands) (caught_up session)
 
 -- the answer to a go of a session whose run of both forms, which stood there, was taken out of it, by these texts and stops
 abbrev pub MixedGoes : Plain → List Text → List StopAt → Walk → Standing → Answer → Plain → Type 0
 MixedGoes session modules stops how m (answer.Ran text) new =
-    (h : Halt) × (n : Standing) × MixedGone modules stops how session.limits.turns m h n text × (new ≡ in_state (mixed_state h n) (caught_up session))
+    (h : Halt) × (n : Standing) × MixedGone modules stops how session.limits.turns (is_valued session) m h n text × (new ≡ in_state (mixed_state h n) (caught_up session))
 MixedGoes session modules stops how m answer.NoMemory new = new ≡ session
 MixedGoes session modules stops how m _ new = ⊥
 
@@ -164,19 +164,18 @@ abbrev pub WalksBy : Bool → Plain → Walk → List ℕ → Answer → Plain �
 WalksBy false session how front said new = Walks session how front said new
 WalksBy true session how front said new = (front ≡ []) × MixedWalks session how said new
 
--- a run of both forms with this input, at its start, in the image of the modules, before which nothing was written
-pub record MixedStarts (session : Plain) (bytes : List ℕ) (m : Standing) : Type 0 where
+-- a run of both forms with this input, at its start by a call of the function with this key, in the image of the modules, before which nothing was written
+pub record MixedStarts (session : Plain) (key : Key) (bytes : List ℕ) (m : Standing) : Type 0 where
   pub image : Image
   pub links : IsImage session.modules session.numbers image
-  pub starts : Starts (texts session.modules) image main_key session.limits.stack session.limits.heap bytes m
+  pub starts : Starts (going_texts session) image key session.limits.stack session.limits.heap bytes m
   pub empty : output m.world.trail ≡ []
 
--- it goes from its start on; or the image of the modules has no room
-abbrev pub MixedBegins : Plain → List ℕ → Answer → Plain → Type 0
-MixedBegins session bytes (answer.Ran text) new = (m : Standing) × MixedStarts session bytes m × MixedWent session walk.Cont m text new
-MixedBegins session bytes (answer.Refused (denied.Space a)) new = (new ≡ session) × LacksRoom session.modules session.numbers a
-MixedBegins session bytes answer.NoMemory new = IsGivenUp session new
-MixedBegins session bytes _ new = ⊥
+-- It goes from its start on. The modules were found to have room as they were loaded, or as they got their forms.
+abbrev pub MixedBegins : Plain → Key → List ℕ → Answer → Plain → Type 0
+MixedBegins session key bytes (answer.Ran text) new = (m : Standing) × MixedStarts session key bytes m × MixedWent session walk.Cont m text new
+MixedBegins session key bytes answer.NoMemory new = IsGivenUp session new
+MixedBegins session key bytes _ new = ⊥
 
 -- ---- what is shown
 

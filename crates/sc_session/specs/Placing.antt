@@ -7,9 +7,8 @@ use Rattle.sc_base.specs.declared.key.Key.{Key}
 use Rattle.sc_base.specs.declared.memory.Form.{Form}
 use Rattle.sc_base.specs.declared.memory.Form.TheVariants as form
 use Rattle.sc_image.specs.Placing.{IsFull, placed_modules}
-use Rattle.sc_image.specs.Running.{IsShortIn, IsShortOf, in_form, kept_places, present, with_module, without}
+use Rattle.sc_image.specs.Running.{AreWithin, IsOver, IsShortIn, IsShortOf, in_form, kept_places, present, with_module, without}
 use Rattle.sc_isa_image.specs.declared.image.Image.{Image}
-use Rattle.sc_link.specs.Areas.{IsRefused}
 use Rattle.sc_link.specs.Linked.{IsLinked}
 use Rattle.sc_link.specs.declared.placed.Area.{Area as Place}
 use Rattle.sc_link.specs.declared.placed.Area.TheVariants as place
@@ -19,6 +18,8 @@ use Rattle.sc_mixed.specs.Changing.{kept_keys}
 use Rattle.sc_session_forms.specs.Forms.{functions_by}
 use Rattle.sc_words.specs.declared.denied.Area.{Area}
 use Rattle.sc_words.specs.declared.denied.Area.TheVariants as area
+use Rattle.sc_session.specs.declared.choice.Choice.{Choice}
+use Rattle.sc_session.specs.declared.choice.Choice.TheVariants as choice
 use Rattle.sc_session.specs.declared.linking.ImageFault.{ImageFault}
 use Rattle.sc_session.specs.declared.linking.ImageFault.TheVariants as short
 use Rattle.sc_session.specs.declared.placing.Way.{Way}
@@ -36,16 +37,23 @@ use Rattle.sc_session.specs.Plain.{Plain}
 abbrev pub named : List ℕ → List Present → Option Present
 named name modules = find (λ p. bytes_eq p.text.core.name name) modules
 
--- what a module is beside that of its name in the version before: new; translated anew, which is another number; in another form; or the same
-abbrev pub way_by_form : Form → Form → Way
-way_by_form form.Source form.Source = way.Same
-way_by_form form.Source form.Object = way.Formed
-way_by_form form.Object form.Source = way.Formed
-way_by_form form.Object form.Object = way.Same
+-- What a module is beside that of its name in the version before: new; translated anew, which is another number; in another form, or with
+-- its other object; or the same.
+abbrev pub way_by_choice : Choice → Choice → Way
+way_by_choice choice.Plain choice.Plain = way.Same
+way_by_choice choice.Plain choice.Fast = way.Formed
+way_by_choice choice.Fast choice.Plain = way.Formed
+way_by_choice choice.Fast choice.Fast = way.Same
+
+abbrev pub way_by : Form → Choice → Form → Choice → Way
+way_by form.Source c form.Source d = way.Same
+way_by form.Source c form.Object d = way.Formed
+way_by form.Object c form.Source d = way.Formed
+way_by form.Object c form.Object d = way_by_choice c d
 
 abbrev pub way_from : Option Present → Present → Way
 way_from None p = way.New
-way_from (Some before) p = if before.text.number == p.text.number then way_by_form before.text.form p.text.form else way.Again
+way_from (Some before) p = if before.text.number == p.text.number then way_by before.text.form before.choice p.text.form p.choice else way.Again
 
 abbrev pub way_of : List Present → Present → Way
 way_of old p = way_from (named p.text.core.name old) p
@@ -54,7 +62,7 @@ way_of old p = way_from (named p.text.core.name old) p
 abbrev pub placed_so : Way → List Key → Present → List Placed → List Placed
 placed_so way.New kept p es = with_module es (linking_of p) []
 placed_so way.Again kept p es = with_module es (linking_of p) kept
-placed_so way.Formed kept p es = in_form p.text.core.name p.text.form es
+placed_so way.Formed kept p es = in_form (linking_of p) es
 placed_so way.Same kept p es = es
 
 -- the modules of a version, one behind the other, where those of the version before were these
@@ -88,18 +96,37 @@ abbrev pub placed_over : List (List Present) → List Present → List Placed
 placed_over [] modules = placed_first modules
 placed_over (first ∷ past) modules = versions_over first (past ++ modules ∷ []) (placed_first first)
 
--- an image is that of all this, with the functions by their numbers
+-- An image is that of all this, with the functions by their numbers. It is there only where no area lacks room.
 pub record IsImageOver (past : List (List Present)) (modules : List Present) (numbers : List Key) (i : Image) : Type 0 where
   pub linked : IsLinked (placed_over past modules) (functions_by numbers) i
+  pub room : AreWithin (placed_over past modules) (functions_by numbers)
 
 -- ---- which area has no room
+
+-- the areas as answers name them
+abbrev pub InArea : (Place → Type 0) → Area → Type 0
+InArea Lacks area.Modules = ⊥
+InArea Lacks area.Stubs = Lacks place.Stubs
+InArea Lacks area.Text = Lacks place.Text
+InArea Lacks area.Static = Lacks place.Static
+
+-- The first area, in the order of their addresses, that has no room for all that is placed. (How many modules there are is asked before.)
+pub record LacksRoomOver (past : List (List Present)) (modules : List Present) (numbers : List Key) (a : Area) : Type 0 where
+  pub lacks : InArea (IsOver (placed_over past modules) (functions_by numbers)) a
+
+-- ---- what the code finds
+
+-- nothing is said where no memory was left
+abbrev pub IsLacking : (Place → Type 0) → ImageFault → Type 0
+IsLacking Lacks (short.Space a) = InArea Lacks a
+IsLacking Lacks short.NoMemory = Unit {0}
 
 -- for a module, behind all that was placed before it
 abbrev pub LacksFor : List Placed → List Key → Present → List Key → Place → Type 0
 LacksFor es funs p kept a = IsShortOf es funs (linking_of p) (kept_places es (linking_of p) kept) (fault.Space a)
 
 abbrev pub LacksFormed : List Placed → List Key → Present → Place → Type 0
-LacksFormed es funs p a = IsShortIn (present p.text.core.name es) es funs p.text.form (fault.Space a)
+LacksFormed es funs p a = IsShortIn (present p.text.core.name es) es funs (linking_of p) (fault.Space a)
 
 abbrev pub LacksSo : Way → List Key → List Key → Present → List Placed → Place → Type 0
 LacksSo way.New funs kept p es a = LacksFor es funs p [] a
@@ -125,26 +152,10 @@ abbrev pub LacksPlaces : List (List Present) → List Present → List Key → P
 LacksPlaces [] modules funs a = IsFull (map linking_of modules) funs a
 LacksPlaces (first ∷ past) modules funs a = IsFull (map linking_of first) funs a ⊎ LacksAfter funs first (past ++ modules ∷ []) (placed_first first) a
 
--- or for all that is placed
-abbrev pub LacksOver : List (List Present) → List Present → List Key → Place → Type 0
-LacksOver past modules funs a = LacksPlaces past modules funs a ⊎ IsRefused (placed_over past modules) funs (fault.Space a)
-
--- the same by the areas as answers name them
-abbrev pub InArea : (Place → Type 0) → Area → Type 0
-InArea Lacks area.Modules = ⊥
-InArea Lacks area.Stubs = Lacks place.Stubs
-InArea Lacks area.Text = Lacks place.Text
-InArea Lacks area.Static = Lacks place.Static
-
-pub record LacksRoomOver (past : List (List Present)) (modules : List Present) (numbers : List Key) (a : Area) : Type 0 where
-  pub lacks : InArea (LacksOver past modules (functions_by numbers)) a
-
--- ---- what the code finds
-
--- nothing is said where no memory was left
-abbrev pub IsLacking : (Place → Type 0) → ImageFault → Type 0
-IsLacking Lacks (short.Space a) = InArea Lacks a
-IsLacking Lacks short.NoMemory = Unit {0}
+-- what is said of that: where static objects have no room, which cannot be, that no memory was left
+abbrev pub lacking : ImageFault → ImageFault
+lacking (short.Space area.Static) = short.NoMemory
+lacking f = f
 
 -- what is placed behind each version
 abbrev pub each_over : List Present → List (List Present) → List Placed → List (List Placed)
@@ -166,9 +177,12 @@ plan_of session = record {
 abbrev pub last : List (List Placed) → Option (List Placed)
 last all = slice_get all (length all - 1)
 
--- an image is that of the last of some lists; and an area has no room for it
+-- an image is that of the last of some lists; and whether there is room for what this has placed
 abbrev pub IsLast : List (List Placed) → List Key → Image → Type 0
 IsLast all funs i = (es : List Placed) × (last all ≡ Some es) × IsLinked es funs i
 
-abbrev pub LacksLast : List (List Placed) → List Key → Place → Type 0
-LacksLast all funs a = (es : List Placed) × (last all ≡ Some es) × IsRefused es funs (fault.Space a)
+abbrev pub LastWithin : List (List Placed) → List Key → Type 0
+LastWithin all funs = (es : List Placed) → last all ≡ Some es → AreWithin es funs
+
+abbrev pub LastOver : List (List Placed) → List Key → Place → Type 0
+LastOver all funs a = (es : List Placed) × (last all ≡ Some es) × IsOver es funs a

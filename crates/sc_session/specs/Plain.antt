@@ -1,7 +1,8 @@
 -- Yardstick: to be compared with what it restates (docs/TRUST.md).
 -- A session as contracts see it.
-use Rattle.std.specs.Prelude.{ℕ, Bool, List}
+use Rattle.std.specs.Prelude.{ℕ, Bool, List, Option}
 use Rattle.sc_base.specs.declared.key.Key.{Key}
+use Rattle.sc_meaning.specs.Versions.{Text}
 use Rattle.sc_session.specs.declared.limits.Limits.{Limits}
 use Rattle.sc_session.specs.declared.present.Present.{Present}
 use Rattle.sc_session.specs.declared.state.State.{State}
@@ -23,6 +24,8 @@ pub record Plain : Type 0 where
   pub stops : List Stop
   pub last : ℕ
   pub state : State
+  -- the text that has the function of an evaluation, where the run that goes on or went last is one; a run that begins has it or none
+  pub evaluating : Option Text
   -- whether the last byte that was written is a program's and no LF, so that an answer has to end its line first
   pub in_line : Bool
   -- how many probes there are

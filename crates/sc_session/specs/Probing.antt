@@ -19,7 +19,7 @@ ShowsMachine (answer.Shown lines) = (m : Machine) × (lines ≡ machine_lines m)
 ShowsMachine answer.NoMemory = Unit {0}
 ShowsMachine _ = ⊥
 
--- the text of the probe with this number
+-- a report of the probe with this number; its text is said where the probes are (sc_top)
 abbrev pub Reports : ℕ → Answer → Type 0
 Reports k (answer.Reported n text) = n ≡ k
 Reports k answer.NoMemory = Unit {0}

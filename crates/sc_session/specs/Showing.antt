@@ -2,11 +2,13 @@
 -- What `where`, `print` and `list` show.
 use Rattle.std.specs.Prelude.{◌≡◌, ℕ, List, [], ◌∷◌, ◌++◌, Option, Some, None, codes, decimal}
 use Rattle.sc_base.specs.declared.key.Key.{Key}
+use Rattle.sc_base.specs.declared.memory.Form.{Form}
+use Rattle.sc_base.specs.declared.memory.Form.TheVariants as form
 use Rattle.sc_meaning.specs.Versions.{Text}
 use Rattle.sc_meaning.specs.World.{World}
 use Rattle.sc_core_names.specs.declared.table.Scopes.{Scopes}
 use Rattle.sc_session_show.specs.Frames.{where_lines}
-use Rattle.sc_session_show.specs.Listings.{module_lines, fun_lines}
+use Rattle.sc_session_show.specs.Listings.{module_line, fun_lines}
 use Rattle.sc_session_show.specs.Visible.{print_line}
 use Rattle.sc_words.specs.Texts.{stop_text}
 use Rattle.sc_words.specs.declared.answer.Answer.{Answer}
@@ -14,6 +16,9 @@ use Rattle.sc_words.specs.declared.answer.Answer.TheVariants as answer
 use Rattle.sc_words.specs.declared.denied.Denied.TheVariants as denied
 use Rattle.sc_world.specs.Declaring.{declaring_at}
 use Rattle.sc_world.specs.Standing.{Standing}
+use Rattle.sc_session.specs.declared.choice.Choice.{Choice}
+use Rattle.sc_session.specs.declared.choice.Choice.TheVariants as choice
+use Rattle.sc_session.specs.declared.present.Present.{Present}
 use Rattle.sc_session.specs.declared.state.State.{State}
 use Rattle.sc_session.specs.declared.state.State.TheVariants as state
 use Rattle.sc_session.specs.declared.stops.Stop.{Stop}
@@ -38,12 +43,25 @@ state_line (state.StoppedMixed w) = codes "> stopped\n"
 state_line (state.PausedMixed w) = codes "> paused\n"
 state_line state.Ended = codes "> ended\n"
 
+abbrev pub object_word : Choice → List ℕ
+object_word choice.Plain = codes "object"
+object_word choice.Fast = codes "fast"
+
+abbrev pub form_word : Form → Choice → List ℕ
+form_word form.Source c = codes "source"
+form_word form.Object c = object_word c
+
+-- a module, and its form: in object form by the object that it runs
+abbrev pub module_lines : List Present → List ℕ
+module_lines [] = []
+module_lines (p ∷ ps) = module_line p.text.core.name (form_word p.text.form p.choice) ++ module_lines ps
+
 -- the modules, the functions that they define, the stops, and the state
-abbrev pub listing : List Text → List Key → List Stop → State → List ℕ
-listing modules numbers stops s = module_lines modules ++ fun_lines modules numbers ++ stop_lines stops ++ state_line s
+abbrev pub listing : List Present → List Key → List Stop → State → List ℕ
+listing modules numbers stops s = module_lines modules ++ fun_lines (texts modules) numbers ++ stop_lines stops ++ state_line s
 
 abbrev pub list_text : Plain → List ℕ
-list_text session = listing (texts session.modules) session.numbers session.stops session.state
+list_text session = listing session.modules session.numbers session.stops session.state
 
 -- the answers to `list`
 abbrev pub Lists : Plain → Answer → Type 0

@@ -13,9 +13,8 @@ use Rattle.sc_session.specs.declared.state.State.TheVariants as state
 use Rattle.sc_session.specs.Changing.{caught_up, versions_left}
 use Rattle.sc_session.specs.Going.{IsGivenUp, in_state}
 use Rattle.sc_session.specs.Mixing.{MixedGoneThrough, MixedIn, mixed_state}
-use Rattle.sc_session.specs.Modules.{texts}
 use Rattle.sc_session.specs.Plain.{Plain}
-use Rattle.sc_session.specs.Stopping.{places}
+use Rattle.sc_session.specs.Valued.{going_stops, going_texts, is_valued}
 
 -- the state behind a step that halted the run so, or did not, where the run stands here
 abbrev pub single_state : Option Halt → Standing → State
@@ -26,13 +25,13 @@ single_state (Some h) m = mixed_state h m
 pub record SingleWent (session : Plain) (old : Standing) (text : List ℕ) (new : Plain) : Type 0 where
   pub halts : Option Halt
   pub stands : Standing
-  pub gone : StepGone (texts session.modules) (places session.stops) old halts stands text
+  pub gone : StepGone (going_texts session) (going_stops session) (is_valued session) old halts stands text
   pub follows : new ≡ in_state (single_state halts stands) (caught_up session)
 
 -- the answer to a step of a session whose run of both forms, which stood there, was taken out of it, by these texts and stops
 abbrev pub SingleGoes : Plain → List Text → List StopAt → Standing → Answer → Plain → Type 0
 SingleGoes session modules stops m (answer.Ran text) new =
-    (h : Option Halt) × (n : Standing) × StepGone modules stops m h n text × (new ≡ in_state (single_state h n) (caught_up session))
+    (h : Option Halt) × (n : Standing) × StepGone modules stops (is_valued session) m h n text × (new ≡ in_state (single_state h n) (caught_up session))
 SingleGoes session modules stops m answer.NoMemory new = new ≡ session
 SingleGoes session modules stops m _ new = ⊥
 

@@ -9,6 +9,7 @@ use Rattle.sc_outside.specs.declared.files.FileGot.{FileGot}
 use Rattle.sc_session_forms.specs.Differences.{difference}
 use Rattle.sc_words.specs.declared.denied.Denied.{Denied}
 use Rattle.sc_words.specs.declared.denied.Denied.TheVariants as denied
+use Rattle.sc_session.specs.declared.choice.Choice.{Choice}
 use Rattle.sc_session.specs.declared.swapping.Compared.{Compared}
 use Rattle.sc_session.specs.declared.swapping.Compared.TheVariants as compared
 use Rattle.sc_session.specs.Compiling.{object_file}
@@ -39,10 +40,10 @@ Compares held file object before now compared.Same = HasBytes held file (spelled
 Compares held file object before now (compared.Denied d) = NotKept held file object before now d
 Compares held file object before now compared.NoMemory = Unit {0}
 
--- the same with the object that the session keeps of a module
-abbrev pub ComparesKept : Plain → Option FileMap → List ℕ → ℕ → ℕ → Compared → Type 0
-ComparesKept session held name before now found =
-    (object : Object) × (object_named session.modules name ≡ Some object) × Compares held (object_file name) object before now found
+-- the same with that object that the session keeps of a module
+abbrev pub ComparesKept : Plain → Option FileMap → List ℕ → Choice → ℕ → ℕ → Compared → Type 0
+ComparesKept session held name c before now found =
+    (object : Object) × (object_named session.modules name c ≡ Some object) × Compares held (object_file name c) object before now found
 
 abbrev pub ComparesBytes : List ℕ → Object → Compared → Type 0
 ComparesBytes bytes object compared.Same = bytes ≡ spelled object

@@ -8,6 +8,7 @@ use Rattle.sc_build.specs.Builds.{Builds, Refuses, IsMissing, IsTooLong, Asks}
 use Rattle.sc_build.specs.declared.building.Built.{Built}
 use Rattle.sc_object.specs.Spelling.{spelled}
 use Rattle.sc_object.specs.declared.object.Object.{Object}
+use Rattle.sc_meaning.specs.Behaviour.{main_key}
 use Rattle.sc_meaning.specs.Versions.{Text}
 use Rattle.sc_outside.specs.Causes.{Rose}
 use Rattle.sc_session_forms.specs.Forms.{are_sources}
@@ -23,6 +24,8 @@ use Rattle.sc_words.specs.declared.options.Options.{Options}
 use Rattle.sc_words.specs.declared.stop.Walk.{Walk}
 use Rattle.sc_words.specs.declared.stop.Walk.TheVariants as walk
 use Rattle.sc_world.specs.declared.post.Unsent.{Unsent}
+use Rattle.sc_session.specs.declared.choice.Choice.{Choice}
+use Rattle.sc_session.specs.declared.choice.Choice.TheVariants as choice
 use Rattle.sc_session.specs.declared.joining.Taken.{Taken}
 use Rattle.sc_session.specs.declared.joining.Taken.TheVariants as taken
 use Rattle.sc_session.specs.declared.limits.Limits.{Limits}
@@ -43,6 +46,7 @@ use Rattle.sc_session.specs.Probing.{Drops, Reports, ShowsMachine}
 use Rattle.sc_session.specs.Showing.{Lists}
 use Rattle.sc_session.specs.Single.{CarriesOne}
 use Rattle.sc_session.specs.Compiling.{Compiles, object_file}
+use Rattle.sc_session.specs.Evaluating.{EvalFirst, Evaluates}
 use Rattle.sc_session.specs.Going.{in_state, stays_in_line, has_main, IsInput, InputDenied, IsCutOff, IsGivenUp, Gains, WalkFirst, Begins, BeginFirst}
 use Rattle.sc_session.specs.Linking.{HasRoom, LacksRoom, with_form}
 use Rattle.sc_session.specs.Mixing.{is_mixed, Becomes, LacksImage, MixedBegins, Settles, ShowsCallsBy, ShowsValueBy, Unsettled, WalksBy, returned}
@@ -73,6 +77,7 @@ empty limits probes = record {
   stops = [];
   last = 0;
   state = state.Idle;
+  evaluating = None;
   in_line = false;
   probes = probes;
   over = false;
@@ -127,9 +132,9 @@ replaced session built =
 abbrev pub unloaded : Plain → List ℕ → Plain
 unloaded session name = with_modules (without name session.modules) session
 
--- the session in which a module has a form
-abbrev pub swapped : Plain → List ℕ → Form → Plain
-swapped session name f = with_modules (with_form name f session.modules) session
+-- the session in which a module has a form, and that object to run
+abbrev pub swapped : Plain → List ℕ → Form → Choice → Plain
+swapped session name f c = with_modules (with_form name f c session.modules) session
 
 -- The session would be this one, but its run, which stays, has no room for that in its image.
 abbrev pub LacksPlace : Plain → Denied → Type 0
@@ -144,12 +149,12 @@ Clashes old changed file name d =
 abbrev pub FileDenied : Moment → (Plain → Built → Plain) → List ℕ → List ℕ → ℕ → Denied → Type 0
 FileDenied old changed file name now d = NotBuilt old.held old.faults now file name d ⊎ Clashes old changed file name d
 
--- the file of the module's object is the object that the session keeps
-abbrev pub IsKept : Moment → List ℕ → Type 0
-IsKept old name = (object : Object) × (object_named old.session.modules name ≡ Some object) × HasBytes old.held (object_file name) (spelled object)
+-- the file of that object of the module is the object that the session keeps
+abbrev pub IsKept : Moment → List ℕ → Choice → Type 0
+IsKept old name c = (object : Object) × (object_named old.session.modules name c ≡ Some object) × HasBytes old.held (object_file name c) (spelled object)
 
--- Outside of a run the image of the modules has room or not. In one that stays it goes by all that was placed since its start; where there
--- is room, the run has that image (`Becomes`).
+-- Outside of a run the image of the modules has room or not. In one that stays it goes by all that was placed since its start: the run has that
+-- image (`Becomes`), which is there only where no area lacks room (`IsImageOver`).
 abbrev pub HasRoomBy : Bool → List Present → List Key → Type 0
 HasRoomBy true modules numbers = Unit {0}
 HasRoomBy false modules numbers = HasRoom modules numbers
@@ -159,22 +164,30 @@ LacksRoomBy true changed a = LacksImage changed a
 LacksRoomBy false changed a = LacksRoom changed.modules changed.numbers a
 
 -- a module may have a form: any may be interpreted; the object of one that is not has to be in its file, and to have room
-abbrev pub Allows : Moment → List ℕ → Form → Type 0
-Allows old name form.Source = Unit {0}
-Allows old name form.Object = IsKept old name × HasRoomBy (stays old.session.state) (with_form name form.Object old.session.modules) old.session.numbers
+abbrev pub Allows : Moment → List ℕ → Form → Choice → Type 0
+Allows old name form.Source c = Unit {0}
+Allows old name form.Object c = IsKept old name c × HasRoomBy (stays old.session.state) (with_form name form.Object c old.session.modules) old.session.numbers
 
 -- why it may not
-abbrev pub SwapDenied : Moment → List ℕ → ℕ → Denied → Type 0
-SwapDenied old name now (denied.Space a) = IsKept old name × LacksRoomBy (stays old.session.state) (swapped old.session name form.Object) a
-SwapDenied old name now d =
-    (object : Object) × (object_named old.session.modules name ≡ Some object) × NotKept old.held (object_file name) object old.faults now d
+abbrev pub SwapDenied : Moment → List ℕ → Choice → ℕ → Denied → Type 0
+SwapDenied old name c now (denied.Space a) = IsKept old name c × LacksRoomBy (stays old.session.state) (swapped old.session name form.Object c) a
+SwapDenied old name c now d =
+    (object : Object) × (object_named old.session.modules name c ≡ Some object) × NotKept old.held (object_file name c) object old.faults now d
 
--- the answers to `swap`
-abbrev pub Swaps : Moment → List ℕ → Form → Answer → Moment → Type 0
-Swaps old name f (answer.Swapped m g) new = (m ≡ name) × (g ≡ f) × Allows old name f × Becomes (swapped old.session name f) new.session × (new.held ≡ old.held)
-Swaps old name f (answer.Refused d) new = (f ≡ form.Object) × Leaves old new old.session × SwapDenied old name new.faults d
-Swaps old name f answer.NoMemory new = Leaves old new old.session
-Swaps old name f _ new = ⊥
+-- what is answered where it gets the form
+abbrev pub swapped_said : List ℕ → Form → Choice → Answer
+swapped_said name f choice.Plain = answer.Swapped name f
+swapped_said name f choice.Fast = answer.SwappedFast name
+
+-- The answers to `swap`. A module that is interpreted has the plain object to run, should it be compiled.
+abbrev pub Swaps : Moment → List ℕ → Form → Choice → Answer → Moment → Type 0
+Swaps old name f c (answer.Swapped m g) new =
+    (c ≡ choice.Plain) × (m ≡ name) × (g ≡ f) × Allows old name f c × Becomes (swapped old.session name f c) new.session × (new.held ≡ old.held)
+Swaps old name f c (answer.SwappedFast m) new =
+    (c ≡ choice.Fast) × (m ≡ name) × Allows old name f c × Becomes (swapped old.session name f c) new.session × (new.held ≡ old.held)
+Swaps old name f c (answer.Refused d) new = (f ≡ form.Object) × Leaves old new old.session × SwapDenied old name c new.faults d
+Swaps old name f c answer.NoMemory new = Leaves old new old.session
+Swaps old name f c _ new = ⊥
 
 -- what is answered where a module does not get it
 abbrev pub unformed : Form → ImageFault → Answer
@@ -183,12 +196,14 @@ unformed form.Object (short.Space a) = answer.Refused (denied.Space a)
 unformed form.Object short.NoMemory = answer.NoMemory
 
 -- the same of a module whose file is its object
-abbrev pub Reforms : Plain → List ℕ → Answer → Plain → Type 0
-Reforms session name (answer.Swapped m g) new =
-    (m ≡ name) × (g ≡ form.Object) × HasRoomBy (stays session.state) (with_form name form.Object session.modules) session.numbers × Becomes (swapped session name form.Object) new
-Reforms session name (answer.Refused (denied.Space a)) new = (new ≡ session) × LacksRoomBy (stays session.state) (swapped session name form.Object) a
-Reforms session name answer.NoMemory new = new ≡ session
-Reforms session name _ new = ⊥
+abbrev pub Reforms : Plain → List ℕ → Choice → Answer → Plain → Type 0
+Reforms session name c (answer.Swapped m g) new =
+    (c ≡ choice.Plain) × (m ≡ name) × (g ≡ form.Object) × HasRoomBy (stays session.state) (with_form name form.Object c session.modules) session.numbers × Becomes (swapped session name form.Object c) new
+Reforms session name c (answer.SwappedFast m) new =
+    (c ≡ choice.Fast) × (m ≡ name) × HasRoomBy (stays session.state) (with_form name form.Object c session.modules) session.numbers × Becomes (swapped session name form.Object c) new
+Reforms session name c (answer.Refused (denied.Space a)) new = (new ≡ session) × LacksRoomBy (stays session.state) (swapped session name form.Object c) a
+Reforms session name c answer.NoMemory new = new ≡ session
+Reforms session name c _ new = ⊥
 
 -- the answers to `unload`
 abbrev pub Unloads : Plain → List ℕ → Answer → Plain → Type 0
@@ -213,11 +228,12 @@ Edits old name file answer.NoMemory new = Leaves old new old.session
 Edits old name file _ new = ⊥
 
 -- a module gets a form where nothing speaks against it
-abbrev pub Forms : Plain → List ℕ → Form → Answer → Plain → Type 0
-Forms session name f (answer.Swapped m g) new = (m ≡ name) × (g ≡ f) × Becomes (swapped session name f) new
-Forms session name f (answer.Refused (denied.Space a)) new = (f ≡ form.Object) × (stays session.state ≡ true) × LacksImage (swapped session name f) a × (new ≡ session)
-Forms session name f answer.NoMemory new = new ≡ session
-Forms session name f _ new = ⊥
+abbrev pub Forms : Plain → List ℕ → Form → Choice → Answer → Plain → Type 0
+Forms session name f c (answer.Swapped m g) new = (c ≡ choice.Plain) × (m ≡ name) × (g ≡ f) × Becomes (swapped session name f c) new
+Forms session name f c (answer.SwappedFast m) new = (c ≡ choice.Fast) × (m ≡ name) × Becomes (swapped session name f c) new
+Forms session name f c (answer.Refused (denied.Space a)) new = (f ≡ form.Object) × (stays session.state ≡ true) × LacksImage (swapped session name f c) a × (new ≡ session)
+Forms session name f c answer.NoMemory new = new ≡ session
+Forms session name f c _ new = ⊥
 
 -- what became of a text that has this number of a next one behind it, where the modules are placed so with it
 abbrev pub Changes : Plain → ℕ → Present → List Present → Taken → Plain → Type 0
@@ -261,12 +277,12 @@ RunDenied old file faults d = (has_main (texts old.session.modules) ≡ true) ×
 
 -- the first bytes that the program writes as it is run so
 abbrev pub RunFirst : Moment → Option (List ℕ) → List ℕ → Type 0
-RunFirst old file front = (has_main (texts old.session.modules) ≡ true) × ((bytes : List ℕ) × IsInput old.held file bytes × BeginFirst old.session bytes front)
+RunFirst old file front = (has_main (texts old.session.modules) ≡ true) × ((bytes : List ℕ) × IsInput old.held file bytes × BeginFirst old.session main_key bytes front)
 
 -- the answers to `run` behind these bytes, which went out
 abbrev pub Runs : Moment → Option (List ℕ) → List ℕ → Answer → Moment → Type 0
 Runs old file front (answer.Ran text) new = (new.held ≡ old.held) × (has_main (texts old.session.modules) ≡ true)
-    × ((bytes : List ℕ) × IsInput old.held file bytes × Begins old.session bytes front text new.session)
+    × ((bytes : List ℕ) × IsInput old.held file bytes × Begins old.session main_key bytes front text new.session)
 Runs old file front (answer.Refused d) new = (front ≡ []) × Leaves old new old.session × RunDenied old file new.faults d
 Runs old file front answer.NoMemory new = (new.held ≡ old.held) × IsCutOff (RunFirst old file) old.session front new.session
 Runs old file front _ new = ⊥
@@ -279,9 +295,7 @@ RunsOut sink gained old file (Err e) new = Gains sink gained (λ front. RunFirst
 -- the answers to `run` of a program that has modules in object form
 abbrev pub MixedRuns : Moment → Option (List ℕ) → Answer → Moment → Type 0
 MixedRuns old file (answer.Ran text) new = (new.held ≡ old.held) × (has_main (texts old.session.modules) ≡ true)
-    × ((bytes : List ℕ) × IsInput old.held file bytes × MixedBegins old.session bytes (answer.Ran text) new.session)
-MixedRuns old file (answer.Refused (denied.Space a)) new = Leaves old new old.session × (has_main (texts old.session.modules) ≡ true)
-    × ((bytes : List ℕ) × IsInput old.held file bytes) × LacksRoom old.session.modules old.session.numbers a
+    × ((bytes : List ℕ) × IsInput old.held file bytes × MixedBegins old.session main_key bytes (answer.Ran text) new.session)
 MixedRuns old file (answer.Refused d) new = Leaves old new old.session × RunDenied old file new.faults d
 MixedRuns old file answer.NoMemory new = (new.held ≡ old.held) × IsGivenUp old.session new.session
 MixedRuns old file _ new = ⊥
@@ -306,9 +320,11 @@ abbrev pub Does : Moment → Command → Answer → Moment → Type 0
 Does old command.Nothing said new = (said ≡ answer.Silent) × (new ≡ old)
 Does old (command.Load name) said new = Loads old name (file_of name) said new
 Does old (command.Unload name) said new = Unloads old.session name said new.session × SameFiles old new
-Does old (command.Swap name form) said new = Swaps old name form said new
+Does old (command.Swap name form) said new = Swaps old name form choice.Plain said new
+Does old (command.SwapFast name) said new = Swaps old name form.Object choice.Fast said new
 Does old (command.Edit name file) said new = Edits old name (file_or name file) said new
-Does old (command.Compile name) said new = (new.session ≡ old.session) × Compiles old.session old.held old.faults name said new.held new.faults
+Does old (command.Compile name) said new = (new.session ≡ old.session) × Compiles old.session old.held old.faults name choice.Plain said new.held new.faults
+Does old (command.CompileFast name) said new = (new.session ≡ old.session) × Compiles old.session old.held old.faults name choice.Fast said new.held new.faults
 Does old (command.Stop p) said new = Sets old.session p said new.session × SameFiles old new
 Does old (command.Delete k) said new = (said ≡ answer.Deleted k) × (new.session ≡ without_stop k old.session) × SameFiles old new
 Does old command.Frames said new = ShowsCallsBy (is_mixed old.session.state) old.session said × (new ≡ old)
@@ -328,13 +344,14 @@ Does old _ said new = ⊥
 -- the session after it.
 abbrev pub Carried : Moment → Command → List ℕ → Answer → Moment → Type 0
 Carried old (command.Run file) front said new = RunsBy (are_sources (texts old.session.modules)) old file front said new
+Carried old (command.Eval name line) front said new = Evaluates old.session name line front said new.session × SameFiles old new
 Carried old command.Step front said new = WalksBy (is_mixed old.session.state) old.session walk.Step front said new.session × SameFiles old new
 Carried old command.Next front said new = WalksBy (is_mixed old.session.state) old.session walk.Next front said new.session × SameFiles old new
 Carried old command.Cont front said new = WalksBy (is_mixed old.session.state) old.session walk.Cont front said new.session × SameFiles old new
 Carried old command.StepOne front said new = (front ≡ []) × CarriesOne old.session said new.session × SameFiles old new
 Carried old c front said new = (front ≡ []) × Does old c said new
 
--- a run that ended is forgotten as another is asked for
+-- a run that ended is forgotten as another is asked for, and the text of an evaluation
 abbrev pub unended : State → State
 unended state.Ended = state.Idle
 unended s = s
@@ -346,15 +363,20 @@ past_going over past = if over then [] else past
 abbrev pub come_going : Bool → ℕ → ℕ
 come_going over come = if over then 0 else come
 
+abbrev pub evaluating_going : Bool → Option Text → Option Text
+evaluating_going over t = if over then None else t
+
 abbrev pub forgotten : Plain → Plain
 forgotten session = record session {
   past = past_going (is_over session.state) session.past;
   come = come_going (is_over session.state) session.come;
   state = unended session.state;
+  evaluating = evaluating_going (is_over session.state) session.evaluating;
 }
 
 abbrev pub asked : Command → Plain → Plain
 asked (command.Run file) session = forgotten session
+asked (command.Eval name line) session = forgotten session
 asked _ session = session
 
 -- a refused command leaves the session, and the files are not looked at
@@ -370,6 +392,7 @@ AnswersTo old c front said new =
 -- a command that lets the program go on
 abbrev pub is_go : Command → Bool
 is_go (command.Run file) = true
+is_go (command.Eval name line) = true
 is_go command.Step = true
 is_go command.Next = true
 is_go command.Cont = true
@@ -379,6 +402,7 @@ is_go _ = false
 -- the first bytes that the program writes as a command lets it go on
 abbrev pub WritesFirst : Moment → Command → List ℕ → Type 0
 WritesFirst old (command.Run file) front = RunFirst old file front
+WritesFirst old (command.Eval name line) front = EvalFirst old.session name line front
 WritesFirst old command.Step front = WalkFirst old.session walk.Step front
 WritesFirst old command.Next front = WalkFirst old.session walk.Next front
 WritesFirst old command.Cont front = WalkFirst old.session walk.Cont front
@@ -391,7 +415,8 @@ GoesOut sink gained old c (Err e) new = Gains sink gained (λ front. WritesFirst
 
 -- a refused command lets no program go on
 abbrev pub GoFirst : Moment → Command → List ℕ → Type 0
-GoFirst old c front = (refusal_of (asked c old.session) c ≡ None) × WritesFirst old c front
+GoFirst old c front =
+    (refusal_of (asked c old.session) c ≡ None) × WritesFirst (moment (asked c old.session) old.held old.faults) c front
 
 -- The answer behind what the sink gained meanwhile. A command that lets no program go on sends nothing.
 abbrev pub Speaks : Option (List ℕ) → Option (List ℕ) → Moment → Command → Answer → Moment → Type 0

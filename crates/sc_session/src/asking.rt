@@ -1,13 +1,14 @@
 // What a command asks a session for.
 ghost use Rattle.sc_session.specs.Asking as spec;
 
-use sc_base::{Form, Name};
+use sc_base::{Bytes, Form, Name};
 use sc_words::{Command, Denied, StopAt, Walk};
 
-/// The program goes on: a run begins, whose input is a file or nothing; or the one that stands goes on so, or by one instruction.
+/// The program goes on: a run begins, whose input is a file or nothing; an expression is evaluated in a module; or the run that stands goes on so, or by one instruction.
 #[derive(Drop)]
 pub enum Go {
     Run(Option<Name>),
+    Eval(Name, Bytes),
     Walk(Walk),
     One,
 }
@@ -19,8 +20,10 @@ pub enum Deed {
     Load(Name),
     Unload(Name),
     Swap(Name, Form),
+    SwapFast(Name),
     Edit(Name, Option<Name>),
     Compile(Name),
+    CompileFast(Name),
     Stop(StopAt),
     Delete(u32),
     /// The active calls are shown.
@@ -62,9 +65,12 @@ pub fn ask_for(command: Command) -> Asked
         Command::Load(name) => Asked::Do(Deed::Load(name)),
         Command::Unload(name) => Asked::Do(Deed::Unload(name)),
         Command::Swap(name, form) => Asked::Do(Deed::Swap(name, form)),
+        Command::SwapFast(name) => Asked::Do(Deed::SwapFast(name)),
         Command::Edit(name, file) => Asked::Do(Deed::Edit(name, file)),
         Command::Compile(name) => Asked::Do(Deed::Compile(name)),
+        Command::CompileFast(name) => Asked::Do(Deed::CompileFast(name)),
         Command::Run(file) => Asked::Go(Go::Run(file)),
+        Command::Eval(name, line) => Asked::Go(Go::Eval(name, line)),
         Command::Stop(place) => Asked::Do(Deed::Stop(place)),
         Command::Delete(k) => Asked::Do(Deed::Delete(k)),
         Command::Step => Asked::Go(Go::Walk(Walk::Step)),

@@ -11,6 +11,7 @@ ghost use Rattle.sc_session.specs.Swapping as swapping;
 ghost use Rattle.sc_session.specs.Transcript as spec;
 ghost use Rattle.sc_session.specs.Transcript.{moment};
 
+use crate::choice::Choice;
 use crate::input::file_text;
 use crate::joining::{Taken, take_anew, take_away, take_new};
 use crate::linking::{ImageFault, full_with, put_form};
@@ -305,7 +306,7 @@ impl Session {
         }
     }
 
-    // The module with a name gets a form.
+    // The module with a name gets a form; in object form it runs the plain object.
     pub(crate) fn swap<F: Files>(
         &mut self,
         alloc: Global,
@@ -315,27 +316,27 @@ impl Session {
     ) -> Answer
         requires named { is_module_name name ≡ true }
         requires present { if_absent name (texts self.old.modules) ≡ None }
-        ensures answer { spec.Swaps (moment self.old (F.held files.old) (F.faults files.old)) name form result (moment self.new (F.held files.new) (F.faults files.new)) }
+        ensures answer { spec.Swaps (moment self.old (F.held files.old) (F.faults files.old)) name form Choice.Plain result (moment self.new (F.held files.new) (F.faults files.new)) }
         ensures later { F.faults files.old ≤ F.faults files.new }
         ensures held { F.held files.new ≡ F.held files.old }
     {
         match form {
-            Form::Source => self.reform(alloc, name, form),
-            Form::Object => self.swap_to_object(alloc, name, files),
+            Form::Source => self.reform(alloc, name, form, Choice::Plain),
+            Form::Object => self.swap_to_object(alloc, name, Choice::Plain, files),
         }
     }
 
-    fn reform(&mut self, alloc: Global, name: Name, form: Form) -> Answer
-        ensures { spec.Forms self.old name form result self.new }
+    fn reform(&mut self, alloc: Global, name: Name, form: Form, choice: Choice) -> Answer
+        ensures { spec.Forms self.old name form choice result self.new }
     {
         let stayed = stays(&self.state);
         let before = kept_count(&self.past);
         let numbers = self.numbers.len();
         match self.keep(alloc, stayed) {
             Ok(back) => {
-                put_form(&mut self.modules, &name, form);
+                put_form(&mut self.modules, &name, form, choice);
                 match self.finish(alloc, back, before, numbers, stayed) {
-                    Ok(()) => Answer::Swapped(name, form),
+                    Ok(()) => swapped(name, form, choice),
                     Err(fault) => {
                         drop(name);
                         unformed(form, fault)
@@ -349,16 +350,22 @@ impl Session {
         }
     }
 
-    // The object of a module is to be run, where its file is the object.
-    fn swap_to_object<F: Files>(&mut self, alloc: Global, name: Name, files: &mut F) -> Answer
+    // That object of a module is to be run, where its file is the object.
+    pub(crate) fn swap_to_object<F: Files>(
+        &mut self,
+        alloc: Global,
+        name: Name,
+        choice: Choice,
+        files: &mut F,
+    ) -> Answer
         requires named { is_module_name name ≡ true }
         requires present { if_absent name (texts self.old.modules) ≡ None }
-        ensures answer { spec.Swaps (moment self.old (F.held files.old) (F.faults files.old)) name Form.Object result (moment self.new (F.held files.new) (F.faults files.new)) }
+        ensures answer { spec.Swaps (moment self.old (F.held files.old) (F.faults files.old)) name Form.Object choice result (moment self.new (F.held files.new) (F.faults files.new)) }
         ensures later { F.faults files.old ≤ F.faults files.new }
         ensures held { F.held files.new ≡ F.held files.old }
     {
-        match self.compare(alloc, &name, files) {
-            Compared::Same => self.swap_kept(alloc, name),
+        match self.compare(alloc, &name, choice, files) {
+            Compared::Same => self.swap_kept(alloc, name, choice),
             Compared::Denied(denied) => {
                 drop(name);
                 Answer::Refused(denied)
@@ -370,39 +377,55 @@ impl Session {
         }
     }
 
-    // The file of a module's object beside the object.
-    fn compare<F: Files>(&self, alloc: Global, name: &Name, files: &mut F) -> Compared
+    // The file of that object of a module beside the object.
+    fn compare<F: Files>(
+        &self,
+        alloc: Global,
+        name: &Name,
+        choice: Choice,
+        files: &mut F,
+    ) -> Compared
         requires named { is_module_name name.now ≡ true }
         requires present { if_absent name.now (texts self.now.modules) ≡ None }
-        ensures compares { swapping.ComparesKept self.now (F.held files.old) name.now (F.faults files.old) (F.faults files.new) result }
+        ensures compares { swapping.ComparesKept self.now (F.held files.old) name.now choice (F.faults files.old) (F.faults files.new) result }
         ensures later { F.faults files.old ≤ F.faults files.new }
         ensures held { F.held files.new ≡ F.held files.old }
     {
-        match object_named(self.modules.as_slice(), name) {
-            Some(object) => compare_file(alloc, name, object, files),
+        match object_named(self.modules.as_slice(), name, choice) {
+            Some(object) => compare_file(alloc, name, choice, object, files),
             None => unreachable!(),
         }
     }
 
-    // The object of a module is to be run, where the image has room for it.
-    fn swap_kept(&mut self, alloc: Global, name: Name) -> Answer
-        ensures { spec.Reforms self.old name result self.new }
+    // That object of a module is to be run, where the image has room for it.
+    fn swap_kept(&mut self, alloc: Global, name: Name, choice: Choice) -> Answer
+        ensures { spec.Reforms self.old name choice result self.new }
     {
         if stays(&self.state) {
-            return self.reform(alloc, name, Form::Object);
+            return self.reform(alloc, name, Form::Object, choice);
         }
         let modules = self.modules.as_slice();
-        let Ok(full) = full_with(alloc, &name, Form::Object, modules, &self.numbers) else {
+        let Ok(full) = full_with(alloc, &name, choice, modules, &self.numbers) else {
             drop(name);
             return Answer::NoMemory;
         };
         match full {
-            None => self.reform(alloc, name, Form::Object),
+            None => self.reform(alloc, name, Form::Object, choice),
             Some(area) => {
                 drop(name);
                 Answer::Refused(Denied::Space(area))
             }
         }
+    }
+}
+
+// The answer where a module got a form.
+fn swapped(name: Name, form: Form, choice: Choice) -> Answer
+    ensures { result ≡ spec.swapped_said name form choice }
+{
+    match choice {
+        Choice::Plain => Answer::Swapped(name, form),
+        Choice::Fast => Answer::SwappedFast(name),
     }
 }
 

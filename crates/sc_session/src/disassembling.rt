@@ -1,10 +1,9 @@
 // What `disas` shows: the words of a function's text in the image of the modules.
-ghost use Rattle.std.specs.Prelude.{◌≡◌, ◌++◌, IfErr, IfOk, MatchOption, OnOk, None, Some};
+ghost use Rattle.std.specs.Prelude.{◌≡◌, ◌++◌, IfOk, MatchOption, OnOk, None, Some};
 ghost use Rattle.sc_session.specs.Disassembling as spec;
 ghost use Rattle.sc_session.specs.Modules.{texts};
-ghost use Rattle.sc_session.specs.Placing as placing;
 
-use crate::linking::{ImageFault, image_fault};
+use crate::linking::ImageFault;
 use crate::present::Present;
 use crate::session::Session;
 use sc_base::{Bytes, Duplicate, Form, Key, Name, NoMemory};
@@ -127,26 +126,21 @@ fn code_text(alloc: Global, image: &Image, placed: &[Placed], key: &Key) -> Resu
     }
 }
 
-// The same in the image of what is placed behind the last version.
+// The same in the image of what is placed behind the last version, which has room.
 fn last_text(
     alloc: Global,
     placed: &[Placements],
     functions: &[Key],
     key: &Key,
-) -> Result<Bytes, ImageFault>
-    ensures lines { IfOk result (spec.ShowsLast placed.now functions.now key.now) }
-    ensures short { IfErr result (placing.IsLacking (placing.LacksLast placed.now functions.now)) }
+) -> Result<Bytes, NoMemory>
+    ensures { IfOk result (spec.ShowsLast placed.now functions.now key.now) }
 {
     let Some(last) = placed.last() else {
-        return Err(ImageFault::NoMemory);
+        return Err(NoMemory);
     };
-    let image = match last.image(alloc, functions) {
-        Ok(image) => image,
-        Err(fault) => return Err(image_fault(fault)),
-    };
-    match code_text(alloc, &image, last.as_slice(), key) {
-        Ok(lines) => Ok(lines),
-        Err(_) => Err(ImageFault::NoMemory),
+    match last.image(alloc, functions) {
+        Ok(image) => code_text(alloc, &image, last.as_slice(), key),
+        Err(_) => Err(NoMemory),
     }
 }
 
@@ -206,7 +200,7 @@ impl Session {
             key,
         ) {
             Ok(lines) => Answer::Shown(lines),
-            Err(fault) => unlinked(fault),
+            Err(_) => Answer::NoMemory,
         }
     }
 }

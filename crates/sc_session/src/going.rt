@@ -17,7 +17,7 @@ use sc_interp::main_key;
 use sc_interp_access::Ended;
 use sc_interp_world::World;
 use sc_outside::Sink;
-use sc_session_texts::{end_text, entered_text, line_text, put, stop_text};
+use sc_session_texts::{entered_text, line_text, outcome_text, put, stop_text};
 use sc_words::{StopAt, Walk};
 use sc_world::{Halt, Halted, Run, Unsent, behind};
 use std::alloc::Global;
@@ -50,23 +50,29 @@ fn is_found(texts: &[Text], key: &Key) -> bool
 }
 
 // How a run ended. One that is over says so.
-fn ended_text(alloc: Global, run: &Run, world: &World) -> Result<Vec<u8>, NoMemory>
-    ensures { IfOk result (λ text. spec.Says Halt.Ended run.now world.now text.items) }
+fn ended_text(alloc: Global, valued: bool, run: &Run, world: &World) -> Result<Vec<u8>, NoMemory>
+    ensures { IfOk result (λ text. spec.Says valued Halt.Ended run.now world.now text.items) }
 {
     match run.end() {
-        Some(ended) => end_text(alloc, ended, world),
+        Some(ended) => outcome_text(alloc, valued, ended, world),
         None => Err(NoMemory),
     }
 }
 
-// Where a run halted.
-fn said(alloc: Global, halt: Halt, run: &Run, world: &World) -> Result<Vec<u8>, NoMemory>
-    ensures { IfOk result (λ text. spec.Says halt run.now world.now text.items) }
+// Where a run halted, by whether it is an evaluation.
+fn said(
+    alloc: Global,
+    valued: bool,
+    halt: Halt,
+    run: &Run,
+    world: &World,
+) -> Result<Vec<u8>, NoMemory>
+    ensures { IfOk result (λ text. spec.Says valued halt run.now world.now text.items) }
 {
     match halt {
         Halt::Entered => entered_text(alloc, world),
         Halt::AtLine => line_text(alloc, world),
-        Halt::Ended => ended_text(alloc, run, world),
+        Halt::Ended => ended_text(alloc, valued, run, world),
         Halt::Paused(turns) => stop_text(alloc, turns, &Ended::OutOfSteps, world),
     }
 }
@@ -99,11 +105,17 @@ fn rest_on_new_line(
 }
 
 // The text on a go that halted so, behind what went out of it: the run stands here, and so many bytes had been written before.
-fn told_text(alloc: Global, before: usize, halted: Halted, run: &Run) -> Result<Bytes, NoMemory>
-    ensures { IfOk result (λ text. spec.ToldBehind before halted.sent halted.halt run.now text) }
+fn told_text(
+    alloc: Global,
+    valued: bool,
+    before: usize,
+    halted: Halted,
+    run: &Run,
+) -> Result<Bytes, NoMemory>
+    ensures { IfOk result (λ text. spec.ToldBehind valued before halted.sent halted.halt run.now text) }
 {
     let world = run.world();
-    let said = said(alloc, halted.halt, run, world)?;
+    let said = said(alloc, valued, halted.halt, run, world)?;
     let shown = behind(world.output(), before);
     let waiting = behind(world.output(), halted.sent);
     let text = rest_on_new_line(alloc, shown, waiting, said.as_slice())?;
@@ -191,7 +203,7 @@ fn untold(before: usize, halted: Halted, run: &Run, within: bool) -> Lost
     Lost::NoMemory(stays_in_line(within, sent))
 }
 
-/// One go of a run: what is told of it behind what it sent, and the state behind it. A line was open before it, or not.
+/// One go of a run, which is an evaluation or not: what is told of it behind what it sent, and the state behind it. A line was open before it, or not.
 ///
 /// # Errors
 ///
@@ -202,18 +214,19 @@ pub fn gone<K: Sink>(
     stops: &[StopAt],
     walk: Walk,
     turns: u64,
+    valued: bool,
     within: bool,
     mut run: Run,
     out: &mut K,
 ) -> Result<Told, Lost>
-    ensures went { IfOk result (λ g. spec.Gains (K.written out.old) (K.written out.new) (λ front. spec.Went texts.now stops.now walk turns run front g.text g.state)) }
+    ensures went { IfOk result (λ g. spec.Gains (K.written out.old) (K.written out.new) (λ front. spec.Went texts.now stops.now walk turns valued run front g.text g.state)) }
     ensures lost { IfErr result (λ l. spec.Loses (K.written out.old) (K.written out.new) (λ front. spec.IsFirstOf texts.now stops.now walk turns run front) within l) }
     ensures later { K.faults out.old ≤ K.faults out.new }
     ensures failed { result ≡ Err (lost.Unsent unsent.Failed) → Rose (K.faults out.old) (K.faults out.new) }
 {
     let before = run.world().output().len();
     match run.go(texts, stops, walk, turns, out) {
-        Ok(halted) => match told_text(alloc, before, halted, &run) {
+        Ok(halted) => match told_text(alloc, valued, before, halted, &run) {
             Ok(text) => {
                 let heard = heard_in(alloc, &mut run, halted.halt);
                 Ok(Told {

@@ -3,8 +3,10 @@
 
 mod asking;
 mod changing;
+mod choice;
 mod compiling;
 mod disassembling;
+mod evaluating;
 mod going;
 mod hearing;
 mod input;

@@ -2,14 +2,16 @@
 ghost use Rattle.std.specs.Prelude.{◌≡◌, ◌++◌, Some, IfOk, OnOk};
 ghost use Rattle.sc_session.specs.Showing as spec;
 
+use crate::choice::Choice;
+use crate::present::{Present, texts_of};
 use crate::state::State;
 use crate::stops::Stop;
-use sc_base::{Bytes, Duplicate, Items, Name, NoMemory};
+use sc_base::{Bytes, Duplicate, Form, Items, Name, NoMemory};
 use sc_core_held::{Numbers, Text};
 use sc_core_names::Scopes;
 use sc_interp_world::World;
 use sc_program::StaticId;
-use sc_session_show::{fun_lines, module_lines, print_line, where_lines};
+use sc_session_show::{fun_lines, print_line, put_module, where_lines};
 use sc_session_texts::put;
 use sc_words::{Answer, Denied, stop_line};
 use std::alloc::Global;
@@ -37,19 +39,48 @@ fn put_stops(text: &mut Vec<u8>, alloc: Global, stops: &[Stop]) -> Result<(), No
     Ok(())
 }
 
+fn object_word(choice: Choice) -> &'static [u8]
+    ensures { result.now ≡ spec.object_word choice }
+{
+    match choice {
+        Choice::Plain => b"object",
+        Choice::Fast => b"fast",
+    }
+}
+
+fn form_word(form: Form, choice: Choice) -> &'static [u8]
+    ensures { result.now ≡ spec.form_word form choice }
+{
+    match form {
+        Form::Source => b"source",
+        Form::Object => object_word(choice),
+    }
+}
+
+fn put_modules(text: &mut Vec<u8>, alloc: Global, modules: &[Present]) -> Result<(), NoMemory>
+    ensures { OnOk result (text.new.items ≡ text.old.items ++ spec.module_lines modules.now) }
+{
+    for p in modules {
+        let word = form_word(p.text.form, p.choice);
+        put_module(text, alloc, &p.text.core.get().name, word)?;
+    }
+    Ok(())
+}
+
 /// The modules, the functions that they define, the stops, and the state: a line for each.
 pub fn list_text(
     alloc: Global,
-    texts: &[Text],
+    modules: &[Present],
     numbers: &Numbers,
     stops: &[Stop],
     state: &State,
 ) -> Result<Bytes, NoMemory>
-    ensures { IfOk result (λ text. text ≡ spec.listing texts.now numbers.now stops.now state.now) }
+    ensures { IfOk result (λ text. text ≡ spec.listing modules.now numbers.now stops.now state.now) }
 {
-    let modules = module_lines(alloc, texts)?;
-    let functions = fun_lines(alloc, texts, numbers)?;
-    let mut text = Vec::from_slice(alloc, modules.as_slice())?;
+    let texts = texts_of(alloc, modules)?;
+    let functions = fun_lines(alloc, texts.as_slice(), numbers)?;
+    let mut text = Vec::new(alloc);
+    put_modules(&mut text, alloc, modules)?;
     put(&mut text, functions.as_slice())?;
     put_stops(&mut text, alloc, stops)?;
     put(&mut text, state_line(state))?;

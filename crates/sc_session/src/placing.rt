@@ -7,11 +7,14 @@ ghost use Rattle.sc_session.specs.Linking.{linking_of};
 ghost use Rattle.sc_session.specs.Modules.{texts};
 ghost use Rattle.sc_session.specs.Placing as spec;
 
-use crate::linking::{ImageFault, image_fault, linking, linkings};
+use crate::choice::Choice;
+use crate::linking::{ImageFault, area_of, image_fault, linking, linkings};
 use crate::present::{Present, is_named, texts_of};
 use sc_base::{Form, Items, Key, Name, NoMemory};
 use sc_image::Placements;
+use sc_link::Area as Place;
 use sc_mixed::kept_keys;
+use sc_words::Area;
 use std::alloc::Global;
 
 // The module of a version with a name.
@@ -26,7 +29,8 @@ fn named<'a>(name: &Name, modules: &'a [Present]) -> Option<&'a Present>
     None
 }
 
-/// What a module is beside that of its name in the version before: new; translated anew; in another form; or the same.
+/// What a module is beside that of its name in the version before: new; translated anew; in another form or with its other object; or
+/// the same.
 #[derive(Clone, Copy)]
 pub enum Way {
     New,
@@ -35,17 +39,33 @@ pub enum Way {
     Same,
 }
 
-fn way_by_form(before: Form, form: Form) -> Way
-    ensures { result ≡ spec.way_by_form before form }
+fn way_by_choice(before: Choice, choice: Choice) -> Way
+    ensures { result ≡ spec.way_by_choice before choice }
 {
     match before {
-        Form::Source => match form {
+        Choice::Plain => match choice {
+            Choice::Plain => Way::Same,
+            Choice::Fast => Way::Formed,
+        },
+        Choice::Fast => match choice {
+            Choice::Plain => Way::Formed,
+            Choice::Fast => Way::Same,
+        },
+    }
+}
+
+// By the forms, and where both are objects by which they are.
+fn way_by(before: &Present, p: &Present) -> Way
+    ensures { result ≡ spec.way_by before.now.text.form before.now.choice p.now.text.form p.now.choice }
+{
+    match before.text.form {
+        Form::Source => match p.text.form {
             Form::Source => Way::Same,
             Form::Object => Way::Formed,
         },
-        Form::Object => match form {
+        Form::Object => match p.text.form {
             Form::Source => Way::Formed,
-            Form::Object => Way::Same,
+            Form::Object => way_by_choice(before.choice, p.choice),
         },
     }
 }
@@ -55,7 +75,7 @@ fn way_from(before: &Present, p: &Present) -> Way
     ensures { result ≡ spec.way_from (Some before.now) p.now }
 {
     if before.text.number == p.text.number {
-        way_by_form(before.text.form, p.text.form)
+        way_by(before, p)
     } else {
         Way::Again
     }
@@ -90,7 +110,7 @@ fn with_module(
     ensures ok { IfOk result (λ es. es ≡ running.with_module placed.now (linking_of p.now) kept.now) }
     ensures short { IfErr result (spec.IsLacking (spec.LacksFor placed.now functions.now p.now kept.now)) }
 {
-    let Ok(module) = linking(alloc, p, p.text.form) else {
+    let Ok(module) = linking(alloc, p) else {
         return Err(ImageFault::NoMemory);
     };
     match placed.with(alloc, &module, kept, functions) {
@@ -99,17 +119,20 @@ fn with_module(
     }
 }
 
-// A module in another form.
+// A module in another form, or with its other object.
 fn formed(
     alloc: Global,
     placed: &Placements,
     p: &Present,
     functions: &[Key],
 ) -> Result<Placements, ImageFault>
-    ensures ok { IfOk result (λ es. es ≡ running.in_form p.now.text.core.name p.now.text.form placed.now) }
+    ensures ok { IfOk result (λ es. es ≡ running.in_form (linking_of p.now) placed.now) }
     ensures short { IfErr result (spec.IsLacking (spec.LacksFormed placed.now functions.now p.now)) }
 {
-    match placed.formed(alloc, &p.text.core.get().name, p.text.form, functions) {
+    let Ok(module) = linking(alloc, p) else {
+        return Err(ImageFault::NoMemory);
+    };
+    match placed.formed(alloc, &module, functions) {
         Ok(next) => Ok(next),
         Err(fault) => Err(image_fault(fault)),
     }
@@ -343,8 +366,8 @@ fn one_placed(
     }
 }
 
-/// Where the modules of each version of a run are placed: those before its changes, and the present ones.
-pub fn placed_versions(
+// Where the modules of each version of a run are placed: those before its changes, and the present ones.
+fn placed_versions(
     alloc: Global,
     past: &[Items<Present>],
     modules: &[Present],
@@ -356,5 +379,56 @@ pub fn placed_versions(
     match past {
         [] => one_placed(alloc, modules, functions),
         [first, later @ ..] => all_placed(alloc, first, later, modules, functions),
+    }
+}
+
+// The first area that has no room for what is placed behind the last version.
+fn full_last(placed: &[Placements], functions: &[Key]) -> Option<Place>
+    ensures { MatchOption result (spec.LastWithin placed.now functions.now) (spec.LastOver placed.now functions.now) }
+{
+    match placed.last() {
+        Some(last) => last.full_area(functions),
+        None => None,
+    }
+}
+
+// Why there is no image where a module had no room. The bytes of static objects were counted as each module was loaded: that their
+// area has no room cannot be.
+fn lacking(fault: ImageFault) -> ImageFault
+    ensures { result ≡ spec.lacking fault }
+{
+    match fault {
+        ImageFault::Space(area) => match area {
+            Area::Modules => ImageFault::Space(Area::Modules),
+            Area::Stubs => ImageFault::Space(Area::Stubs),
+            Area::Text => ImageFault::Space(Area::Text),
+            Area::Static => ImageFault::NoMemory,
+        },
+        ImageFault::NoMemory => ImageFault::NoMemory,
+    }
+}
+
+/// Where the modules of each version of a run are placed, if no area lacks room for all of it. Else the first area is told, in the
+/// order of their addresses, that does.
+pub fn placed_within(
+    alloc: Global,
+    past: &[Items<Present>],
+    modules: &[Present],
+    functions: &[Key],
+) -> Result<Items<Placements>, ImageFault>
+    ensures ok { IfOk result (λ all. all ≡ spec.each_placed past.now modules.now) }
+    ensures room { OnOk result (running.AreWithin (spec.placed_over past.now modules.now) functions.now) }
+    ensures short { IfErr result (spec.IsLacking (running.IsOver (spec.placed_over past.now modules.now) functions.now)) }
+{
+    let placed = match placed_versions(alloc, past, modules, functions) {
+        Ok(placed) => placed,
+        Err(fault) => return Err(lacking(fault)),
+    };
+    match full_last(placed.as_slice(), functions) {
+        None => Ok(placed),
+        Some(area) => {
+            drop(placed);
+            Err(ImageFault::Space(area_of(area)))
+        }
     }
 }

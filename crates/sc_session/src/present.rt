@@ -4,90 +4,28 @@ ghost use Rattle.std.specs.Str.{bytes_eq};
 ghost use Rattle.sc_session_conflicts.specs.Clashes.{is_present};
 ghost use Rattle.sc_session.specs.Modules as spec;
 
+use crate::choice::Choice;
 use sc_base::{Duplicate, Form, Items, Name, NoMemory, Shared};
 use sc_build::Built;
 use sc_core_held::Text;
 use sc_core_names::Scopes;
+use sc_eval::Kept;
 use sc_object::Object;
 use sc_session_forms::Compiled;
 use sc_xref::Place;
 use std::alloc::Global;
 
-/// A module that is present: its text, what its scopes declare, where it has the names of the file, and its object.
+/// A module that is present: its text, what its scopes declare, where it has the names of the file, what is kept of the text, its
+/// objects, and which of them it runs in object form.
 #[derive(Drop)]
 pub struct Present {
     pub text: Text,
     pub scopes: Shared<Scopes>,
     pub places: Shared<Items<Place>>,
+    pub kept: Shared<Kept>,
     pub object: Shared<Object>,
-}
-
-// A module with its object, which is shared.
-fn with_object(
-    alloc: Global,
-    text: Text,
-    scopes: Shared<Scopes>,
-    places: Shared<Items<Place>>,
-    object: Object,
-) -> Result<Present, NoMemory>
-    ensures { IfOk result (λ p. p ≡ record { text = text; scopes = scopes; places = places; object = object }) }
-{
-    match Shared::new(alloc, object) {
-        Ok(object) => Ok(Present {
-            text,
-            scopes,
-            places,
-            object,
-        }),
-        Err(_) => {
-            drop(text);
-            drop(scopes);
-            drop(places);
-            Err(NoMemory)
-        }
-    }
-}
-
-// A module with its places and its object.
-fn with_places(
-    alloc: Global,
-    text: Text,
-    scopes: Shared<Scopes>,
-    places: Items<Place>,
-    object: Object,
-) -> Result<Present, NoMemory>
-    ensures { IfOk result (λ p. p ≡ record { text = text; scopes = scopes; places = places; object = object }) }
-{
-    match Shared::new(alloc, places) {
-        Ok(places) => with_object(alloc, text, scopes, places, object),
-        Err(_) => {
-            drop(text);
-            drop(scopes);
-            drop(object);
-            Err(NoMemory)
-        }
-    }
-}
-
-// A module with its scopes, its places and its object.
-fn with_scopes(
-    alloc: Global,
-    text: Text,
-    scopes: Scopes,
-    places: Items<Place>,
-    object: Object,
-) -> Result<Present, NoMemory>
-    ensures { IfOk result (λ p. p ≡ record { text = text; scopes = scopes; places = places; object = object }) }
-{
-    match Shared::new(alloc, scopes) {
-        Ok(scopes) => with_places(alloc, text, scopes, places, object),
-        Err(_) => {
-            drop(text);
-            drop(places);
-            drop(object);
-            Err(NoMemory)
-        }
-    }
+    pub fast: Shared<Object>,
+    pub choice: Choice,
 }
 
 /// A module that was translated. Its text gets this number.
@@ -98,14 +36,26 @@ pub fn present_of(alloc: Global, number: u32, built: Built) -> Result<Present, N
         core,
         scopes,
         places,
+        kept,
         object,
+        fast,
     } = built;
     match Text::new(alloc, number, Form::Source, core) {
-        Ok(text) => with_scopes(alloc, text, scopes, places, object),
+        Ok(text) => Ok(Present {
+            text,
+            scopes,
+            places,
+            kept,
+            object,
+            fast,
+            choice: Choice::Plain,
+        }),
         Err(_) => {
             drop(scopes);
             drop(places);
+            drop(kept);
             drop(object);
+            drop(fast);
             Err(NoMemory)
         }
     }
@@ -118,7 +68,10 @@ fn module_copied(alloc: Global, p: &Present) -> Result<Present, NoMemory>
         text: p.text.copy(alloc)?,
         scopes: p.scopes.share()?,
         places: p.places.share()?,
+        kept: p.kept.share()?,
         object: p.object.share()?,
+        fast: p.fast.share()?,
+        choice: p.choice,
     })
 }
 
@@ -175,19 +128,41 @@ pub fn scopes_numbered(modules: &[Present], n: u32) -> Option<&Scopes>
     None
 }
 
-/// The object of the module with a name.
-pub fn object_named<'a>(modules: &'a [Present], name: &Name) -> Option<&'a Object>
-    ensures { MatchOption result (spec.object_named modules.now name.now ≡ None) (λ o. spec.object_named modules.now name.now ≡ Some o.now) }
+/// That object of a module.
+pub fn object_by(p: &Present, choice: Choice) -> &Shared<Object>
+    ensures { result.now ≡ spec.object_by choice p.now }
+{
+    match choice {
+        Choice::Plain => &p.object,
+        Choice::Fast => &p.fast,
+    }
+}
+
+/// That object of the module with a name.
+pub fn object_named<'a>(modules: &'a [Present], name: &Name, choice: Choice) -> Option<&'a Object>
+    ensures { MatchOption result (spec.object_named modules.now name.now choice ≡ None) (λ o. spec.object_named modules.now name.now choice ≡ Some o.now) }
 {
     for p in modules {
         if is_named(name, p) {
-            return Some(p.object.get());
+            return Some(object_by(p, choice).get());
         }
     }
     None
 }
 
-/// The objects of modules by the numbers of their texts. They are shared, and not copied.
+/// What is kept of the text of the module with a name.
+pub fn kept_named<'a>(modules: &'a [Present], name: &Name) -> Option<&'a Kept>
+    ensures { MatchOption result (spec.kept_named modules.now name.now ≡ None) (λ k. spec.kept_named modules.now name.now ≡ Some k.now) }
+{
+    for p in modules {
+        if is_named(name, p) {
+            return Some(p.kept.get());
+        }
+    }
+    None
+}
+
+/// The plain objects of modules by the numbers of their texts. They are shared, and not copied.
 pub fn compiled_of(alloc: Global, modules: &[Present]) -> Result<Items<Compiled>, NoMemory>
     ensures { IfOk result (λ compiled. compiled ≡ spec.compiled modules.now) }
 {

@@ -203,6 +203,16 @@ pub fn replacing(state: &State, name: &Name, modules: &[Present]) -> Option<Deni
     }
 }
 
+/// Why `eval` is refused before its line is looked at.
+pub fn valuing(state: &State, name: &Name, modules: &[Present]) -> Option<Denied>
+    ensures { result ≡ spec.or_else (spec.starting state.now) (spec.if_absent name.now (texts modules.now)) }
+{
+    match starting(state) {
+        Some(denied) => Some(denied),
+        None => if_absent(name, modules),
+    }
+}
+
 /// Why `stop` is refused.
 pub fn setting(state: &State, place: &StopAt, modules: &[Present]) -> Option<Denied>
     ensures { result ≡ spec.or_else (spec.marking state.now) (spec.if_nowhere place.now (texts modules.now)) }

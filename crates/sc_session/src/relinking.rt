@@ -1,16 +1,17 @@
 // A run that stands at a stop goes over to another image.
-ghost use Rattle.std.specs.Prelude.{◌≡◌, ◌+◌, [], false, drop, slice_get, IfErr, IfOk, MatchOption, MatchResult, None, Some};
+ghost use Rattle.std.specs.Prelude.{◌≡◌, ◌+◌, [], false, drop, slice_get, IfErr, IfOk, MatchOption, MatchResult, None, OnOk, Some};
+ghost use Rattle.sc_image.specs.Running as running;
 ghost use Rattle.sc_session_forms.specs.Forms.{functions_by};
 ghost use Rattle.sc_session.specs.Mixing as spec;
 ghost use Rattle.sc_session.specs.Placing as placing;
 
-use crate::linking::{ImageFault, image_fault};
-use crate::placing::placed_versions;
+use crate::linking::ImageFault;
+use crate::placing::placed_within;
 use crate::present::texts_of;
 use crate::session::Session;
 use crate::state::{State, put_state};
 use crate::versions::texts_held;
-use sc_base::{Items, Key};
+use sc_base::{Items, Key, NoMemory};
 use sc_core_held::Text;
 use sc_image::Placements;
 use sc_isa_image::Image;
@@ -118,25 +119,25 @@ pub fn placed_from(placed: &[Placements], come: usize) -> &[Placements]
     later
 }
 
-// The image of what is placed behind the last version.
-fn last_image(alloc: Global, placed: &[Placements], functions: &[Key]) -> Result<Image, ImageFault>
-    ensures image { IfOk result (placing.IsLast placed.now functions.now) }
-    ensures short { IfErr result (placing.IsLacking (placing.LacksLast placed.now functions.now)) }
+// The image of what is placed behind the last version, which has room: that the linker finds none cannot be.
+fn last_image(alloc: Global, placed: &[Placements], functions: &[Key]) -> Result<Image, NoMemory>
+    ensures { IfOk result (placing.IsLast placed.now functions.now) }
 {
     let Some(last) = placed.last() else {
-        return Err(ImageFault::NoMemory);
+        return Err(NoMemory);
     };
     match last.image(alloc, functions) {
         Ok(image) => Ok(image),
-        Err(fault) => Err(image_fault(fault)),
+        Err(_) => Err(NoMemory),
     }
 }
 
 impl Session {
-    /// What the image of a run is for that stays.
+    /// What the image of a run is for that stays, if no area lacks room.
     pub(crate) fn plan(&self, alloc: Global) -> Result<Plan, ImageFault>
         ensures ok { IfOk result (λ plan. plan ≡ placing.plan_of self.now) }
-        ensures short { IfErr result (placing.IsLacking (placing.LacksPlaces self.now.past self.now.modules (functions_by self.now.numbers))) }
+        ensures room { OnOk result (running.AreWithin (placing.placed_over self.now.past self.now.modules) (functions_by self.now.numbers)) }
+        ensures short { IfErr result (placing.IsLacking (running.IsOver (placing.placed_over self.now.past self.now.modules) (functions_by self.now.numbers))) }
     {
         let past = self.past.as_slice();
         let modules = self.modules.as_slice();
@@ -146,7 +147,7 @@ impl Session {
         let Ok(held) = texts_held(alloc, past, modules) else {
             return Err(ImageFault::NoMemory);
         };
-        match placed_versions(alloc, past, modules, functions.as_slice()) {
+        match placed_within(alloc, past, modules, functions.as_slice()) {
             Ok(placed) => Ok(Plan {
                 functions,
                 held,
@@ -171,7 +172,7 @@ impl Session {
     }
 
     fn relink_planned(&mut self, alloc: Global) -> Result<(), ImageFault>
-        ensures { MatchResult result (λ _. spec.BecomesBy false self.old self.new) (λ f. placing.IsLacking (placing.LacksOver self.old.past self.old.modules (functions_by self.old.numbers)) f × (self.new ≡ self.old)) }
+        ensures { MatchResult result (λ _. spec.BecomesBy false self.old self.new) (λ f. placing.IsLacking (running.IsOver (placing.placed_over self.old.past self.old.modules) (functions_by self.old.numbers)) f × (self.new ≡ self.old)) }
     {
         let plan = match self.plan(alloc) {
             Ok(plan) => plan,
@@ -179,7 +180,7 @@ impl Session {
         };
         match last_image(alloc, plan.placed.as_slice(), plan.functions.as_slice()) {
             Ok(image) => self.go_over(alloc, image, &plan),
-            Err(fault) => Err(fault),
+            Err(_) => Err(ImageFault::NoMemory),
         }
     }
 

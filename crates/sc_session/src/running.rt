@@ -1,5 +1,6 @@
 // A session's run begins and goes on.
 ghost use Rattle.std.specs.Prelude.{◌≡◌, ◌≤◌, true, Err, MatchOption};
+ghost use Rattle.sc_meaning.specs.Behaviour.{main_key};
 ghost use Rattle.sc_outside.specs.Causes.{Rose};
 ghost use Rattle.sc_words.specs.Commands.{IsFile};
 ghost use Rattle.sc_session_forms.specs.Forms as forms;
@@ -20,9 +21,8 @@ use crate::present::texts_of;
 use crate::relinking::{Plan, placed_from};
 use crate::session::Session;
 use crate::state::{State, put_state};
-use crate::stops::places;
 use crate::versions::{go_through, versions_from};
-use sc_base::{Items, Name, NoMemory};
+use sc_base::{Items, Key, Name, NoMemory};
 use sc_core_held::Text;
 use sc_interp::main_key;
 use sc_interp_world::Layout;
@@ -59,10 +59,10 @@ impl Session {
         requires { mixing.is_mixed self.old.state ≡ true }
         ensures { mixing.MixedWalks self.old walk result self.new }
     {
-        let Ok(texts) = texts_of(alloc, self.modules.as_slice()) else {
+        let Ok(texts) = self.going_texts(alloc) else {
             return Answer::NoMemory;
         };
-        let Ok(stops) = places(alloc, self.stops.as_slice()) else {
+        let Ok(stops) = self.going_stops(alloc) else {
             return Answer::NoMemory;
         };
         match self.take_mixed(alloc) {
@@ -110,7 +110,8 @@ impl Session {
         requires { self.old.state ≡ State.Ended }
         ensures { mixing.MixedGoes self.old texts.now stops.now walk run result self.new }
     {
-        match mixed_gone(alloc, texts, stops, walk, self.limits.turns, run) {
+        let valued = self.is_valued();
+        match mixed_gone(alloc, texts, stops, walk, self.limits.turns, valued, run) {
             Ok(told) => {
                 let mut run = told.run;
                 self.heard = mixed_heard_in(alloc, &mut run, told.halt);
@@ -133,12 +134,13 @@ impl Session {
         ensures later { K.faults out.old ≤ K.faults out.new }
         ensures failed { result ≡ Err unsent.Failed → Rose (K.faults out.old) (K.faults out.new) }
     {
-        let Ok(texts) = texts_of(alloc, self.modules.as_slice()) else {
+        let Ok(texts) = self.going_texts(alloc) else {
             return Ok(Answer::NoMemory);
         };
-        let Ok(stops) = places(alloc, self.stops.as_slice()) else {
+        let Ok(stops) = self.going_stops(alloc) else {
             return Ok(Answer::NoMemory);
         };
+        let valued = self.is_valued();
         let Some(run) = self.take_run(alloc) else {
             return Ok(Answer::NoMemory);
         };
@@ -148,6 +150,7 @@ impl Session {
             stops.as_slice(),
             walk,
             self.limits.turns,
+            valued,
             self.in_line,
             run,
             out,
@@ -246,23 +249,32 @@ impl Session {
         ensures held { F.held files.new ≡ F.held files.old }
     {
         match input_of(alloc, &file, files) {
-            Input::Bytes(bytes) => self.start_mixed(alloc, bytes),
+            Input::Bytes(bytes) => self.start_main_mixed(alloc, bytes),
             Input::Denied(denied) => Answer::Refused(denied),
             Input::NoMemory => Answer::NoMemory,
         }
     }
 
-    // The run of a program of both forms goes from its start on.
-    fn start_mixed(&mut self, alloc: Global, input: Items<u8>) -> Answer
-        ensures { mixing.MixedBegins self.old input result self.new }
+    // The run of a program of both forms goes from its start on, by a call of `main`.
+    fn start_main_mixed(&mut self, alloc: Global, input: Items<u8>) -> Answer
+        ensures { mixing.MixedBegins self.old main_key input result self.new }
+    {
+        match main_key(alloc) {
+            Ok(key) => self.start_mixed(alloc, &key, input),
+            Err(_) => {
+                drop(input);
+                Answer::NoMemory
+            }
+        }
+    }
+
+    // It goes from its start on, by a call of the function with this key.
+    pub(crate) fn start_mixed(&mut self, alloc: Global, key: &Key, input: Items<u8>) -> Answer
+        ensures { mixing.MixedBegins self.old key.now input result self.new }
     {
         match linked(alloc, self.modules.as_slice(), &self.numbers) {
-            Ok(image) => self.start_in(alloc, image, input),
-            Err(ImageFault::Space(area)) => {
-                drop(input);
-                Answer::Refused(Denied::Space(area))
-            }
-            Err(ImageFault::NoMemory) => {
+            Ok(image) => self.start_in(alloc, key, image, input),
+            Err(_) => {
                 drop(input);
                 Answer::NoMemory
             }
@@ -270,17 +282,14 @@ impl Session {
     }
 
     // The same in an image.
-    fn start_in(&mut self, alloc: Global, image: Image, input: Items<u8>) -> Answer
+    fn start_in(&mut self, alloc: Global, key: &Key, image: Image, input: Items<u8>) -> Answer
         requires { linking.IsImage self.old.modules self.old.numbers image }
-        ensures { mixing.MixedBegins self.old input result self.new }
+        ensures { mixing.MixedBegins self.old key.now input result self.new }
     {
-        let Ok(texts) = texts_of(alloc, self.modules.as_slice()) else {
+        let Ok(texts) = self.going_texts(alloc) else {
             return Answer::NoMemory;
         };
-        let Ok(stops) = places(alloc, self.stops.as_slice()) else {
-            return Answer::NoMemory;
-        };
-        let Ok(key) = main_key(alloc) else {
+        let Ok(stops) = self.going_stops(alloc) else {
             return Answer::NoMemory;
         };
         let stack = u64::from(self.limits.stack);
@@ -289,7 +298,7 @@ impl Session {
             alloc,
             texts.as_slice(),
             image,
-            &key,
+            key,
             stack,
             heap,
             input,
@@ -345,7 +354,7 @@ impl Session {
         ensures held { F.held files.new ≡ F.held files.old }
     {
         match input_of(alloc, &file, files) {
-            Input::Bytes(bytes) => self.start(alloc, bytes, out),
+            Input::Bytes(bytes) => self.start_main(alloc, bytes, out),
             Input::Denied(denied) => Ok(Answer::Refused(denied)),
             Input::NoMemory => Ok(Answer::NoMemory),
         }
@@ -358,8 +367,7 @@ impl Session {
         }
         match linked(alloc, self.modules.as_slice(), &self.numbers) {
             Ok(image) => Ok(Some(layout_of(alloc, texts.as_slice(), &image)?)),
-            // The modules were found to have room as they were loaded: it is memory.
-            Err(_) => Err(NoMemory),
+            Err(e) => Err(e),
         }
     }
 
@@ -374,24 +382,42 @@ impl Session {
         }
     }
 
-    // The run of the program goes from its start on.
-    fn start<K: Sink>(
+    // The run of the program goes from its start on, by a call of `main`.
+    fn start_main<K: Sink>(
         &mut self,
         alloc: Global,
         input: Items<u8>,
         out: &mut K,
     ) -> Result<Answer, Unsent>
-        ensures begins { going.BeginsOut (K.written out.old) (K.written out.new) self.old input result self.new }
+        ensures begins { going.BeginsOut (K.written out.old) (K.written out.new) self.old main_key input result self.new }
         ensures later { K.faults out.old ≤ K.faults out.new }
         ensures failed { result ≡ Err unsent.Failed → Rose (K.faults out.old) (K.faults out.new) }
     {
-        let Ok(texts) = texts_of(alloc, self.modules.as_slice()) else {
+        match main_key(alloc) {
+            Ok(key) => self.start(alloc, &key, input, out),
+            Err(_) => {
+                drop(input);
+                Ok(Answer::NoMemory)
+            }
+        }
+    }
+
+    // It goes from its start on, by a call of the function with this key.
+    pub(crate) fn start<K: Sink>(
+        &mut self,
+        alloc: Global,
+        key: &Key,
+        input: Items<u8>,
+        out: &mut K,
+    ) -> Result<Answer, Unsent>
+        ensures begins { going.BeginsOut (K.written out.old) (K.written out.new) self.old key.now input result self.new }
+        ensures later { K.faults out.old ≤ K.faults out.new }
+        ensures failed { result ≡ Err unsent.Failed → Rose (K.faults out.old) (K.faults out.new) }
+    {
+        let Ok(texts) = self.going_texts(alloc) else {
             return Ok(Answer::NoMemory);
         };
-        let Ok(stops) = places(alloc, self.stops.as_slice()) else {
-            return Ok(Answer::NoMemory);
-        };
-        let Ok(key) = main_key(alloc) else {
+        let Ok(stops) = self.going_stops(alloc) else {
             return Ok(Answer::NoMemory);
         };
         let stack = u64::from(self.limits.stack);
@@ -399,7 +425,8 @@ impl Session {
         let Ok(layout) = self.layout_heard(alloc, &texts) else {
             return Ok(Answer::NoMemory);
         };
-        let Ok(run) = Run::start(alloc, texts.as_slice(), &key, stack, heap, input, layout) else {
+        let valued = self.is_valued();
+        let Ok(run) = Run::start(alloc, texts.as_slice(), key, stack, heap, input, layout) else {
             return Ok(Answer::NoMemory);
         };
         put_state(&mut self.state, State::Ended);
@@ -409,6 +436,7 @@ impl Session {
             stops.as_slice(),
             Walk::Cont,
             self.limits.turns,
+            valued,
             self.in_line,
             run,
             out,

@@ -19,6 +19,7 @@ ghost use Rattle.sc_session.specs.Transcript.{moment, BreaksOff, Does, Speaks};
 ghost use Rattle.sc_world.specs.declared.post.Unsent.TheVariants as unsent;
 
 use crate::asking::{Asked, Deed, Go, ask_for};
+use crate::choice::Choice;
 use crate::compiling::write_compiled;
 use crate::going::{run_in, stays_in_line};
 use crate::hearing::{Heard, nothing_taken, shown_machine, taken_in};
@@ -28,7 +29,7 @@ use crate::mixing::{is_mixed, mixed_calls_told, mixed_in, mixed_value_told};
 use crate::present::{Present, object_named, texts_of};
 use crate::refusal::{
     continuing, deleting, if_absent, if_no_probe, if_not_droppable, instructing, loading,
-    machining, replacing, setting, starting, stepping,
+    machining, replacing, setting, starting, stepping, valuing,
 };
 use crate::state::{State, is_over, put_state};
 use crate::stops::{Stop, delete_stop, put_stop};
@@ -46,8 +47,8 @@ use std::mem;
 
 /// The modules that are present, in the order in which they were loaded; what they were before each change of a run that goes on, and how
 /// many of these changes it has gone through; how many texts were loaded; the functions that have numbers; the stops; how a run
-/// stands; and how many probes there are. Beside that, whether some probe listens to a run that begins, what
-/// the last go recorded with the registers behind it, and the text of a probe that a report is asked of.
+/// stands; the text of an evaluation; and how many probes there are. Beside that, whether some probe listens to a run that begins, and
+/// what the last go recorded with the registers behind it.
 #[derive(Drop)]
 pub struct Session {
     pub(crate) limits: Limits,
@@ -59,12 +60,12 @@ pub struct Session {
     pub(crate) stops: Vec<Stop>,
     pub(crate) last: u32,
     pub(crate) state: State,
+    pub(crate) evaluating: Option<Text>,
     pub(crate) in_line: bool,
     pub(crate) probes: usize,
     pub(crate) over: bool,
     pub(crate) listened: bool,
     pub(crate) heard: Heard,
-    pub(crate) report: Option<Bytes>,
 }
 
 impl Model for Session {
@@ -80,7 +81,7 @@ impl Model for Session {
 
     ghost coded = { Prim.hlevel (codes, images.the_row.coded, types.the_row.coded, signatures.the_row.coded, expressions.the_row.coded, statements.the_row.coded) };
 
-    ghost view = { λ s. record { limits = s.limits; modules = s.modules.items; past = s.past.items; come = s.come; loaded = s.loaded; numbers = s.numbers; stops = s.stops.items; last = s.last; state = s.state; in_line = s.in_line; probes = s.probes; over = s.over } };
+    ghost view = { λ s. record { limits = s.limits; modules = s.modules.items; past = s.past.items; come = s.come; loaded = s.loaded; numbers = s.numbers; stops = s.stops.items; last = s.last; state = s.state; evaluating = s.evaluating; in_line = s.in_line; probes = s.probes; over = s.over } };
 }
 
 impl Session {
@@ -102,12 +103,12 @@ impl Session {
             stops: Vec::new(alloc),
             last: 0,
             state: State::Idle,
+            evaluating: None,
             in_line: false,
             probes,
             over: false,
             listened: false,
             heard: Heard::nothing(alloc),
-            report: None,
         }
     }
 
@@ -156,19 +157,12 @@ impl Session {
         }
     }
 
-    /// The text of the probe of which the next command asks for a report.
-    pub fn put_report(&mut self, text: Option<Bytes>)
-        ensures { self.new ≡ self.old }
-    {
-        drop(mem::replace(&mut self.report, text));
-    }
-
     /// Lets the session go, with all that it holds.
     pub fn close(self) {
         drop(self);
     }
 
-    /// Carries out a command. A refused command leaves the session as it was, but that `run` forgets a run that ended. What the program
+    /// Carries out a command. A refused command leaves the session as it was, but that `run` and `eval` forget a run that ended. What the program
     /// writes goes out while it goes on, whenever much of it waits: the answer is what is left to be written behind it.
     ///
     /// # Errors
@@ -229,6 +223,7 @@ impl Session {
     {
         match go {
             Go::Run(_) => self.forget(),
+            Go::Eval(..) => self.forget(),
             Go::Walk(_) => {}
             Go::One => {}
         }
@@ -239,6 +234,7 @@ impl Session {
     {
         if is_over(&self.state) {
             self.rest();
+            drop(self.evaluating.take());
         }
     }
 
@@ -264,6 +260,7 @@ impl Session {
     {
         match go {
             Go::Run(_) => starting(&self.state),
+            Go::Eval(name, _) => valuing(&self.state, name, self.modules.as_slice()),
             Go::Walk(walk) => self.walk_denied(*walk),
             Go::One => instructing(&self.state),
         }
@@ -297,6 +294,7 @@ impl Session {
     {
         match go {
             Go::Run(file) => self.run(alloc, file, out, files),
+            Go::Eval(name, line) => self.eval(alloc, name, line, out),
             Go::Walk(walk) => self.walk(alloc, walk, out),
             Go::One => Ok(self.step_one(alloc)),
         }
@@ -327,8 +325,10 @@ impl Session {
             Deed::Load(name) => loading(&self.state, name, self.modules.as_slice()),
             Deed::Unload(name) => replacing(&self.state, name, self.modules.as_slice()),
             Deed::Swap(name, _) => replacing(&self.state, name, self.modules.as_slice()),
+            Deed::SwapFast(name) => replacing(&self.state, name, self.modules.as_slice()),
             Deed::Edit(name, _) => replacing(&self.state, name, self.modules.as_slice()),
             Deed::Compile(name) => if_absent(name, self.modules.as_slice()),
+            Deed::CompileFast(name) => if_absent(name, self.modules.as_slice()),
             Deed::Stop(place) => setting(&self.state, place, self.modules.as_slice()),
             Deed::Delete(k) => deleting(&self.state, *k, self.stops.as_slice()),
             Deed::Frames => stepping(&self.state),
@@ -357,8 +357,10 @@ impl Session {
             Deed::Load(name) => self.load(alloc, name, files),
             Deed::Unload(name) => self.unload(alloc, name),
             Deed::Swap(name, form) => self.swap(alloc, name, form, files),
+            Deed::SwapFast(name) => self.swap_to_object(alloc, name, Choice::Fast, files),
             Deed::Edit(name, file) => self.edit(alloc, name, file, files),
-            Deed::Compile(name) => self.compile(alloc, name, files),
+            Deed::Compile(name) => self.compile(alloc, name, Choice::Plain, files),
+            Deed::CompileFast(name) => self.compile(alloc, name, Choice::Fast, files),
             Deed::Stop(place) => self.stop(alloc, place),
             Deed::Delete(k) => self.delete(k),
             Deed::Frames => self.frames(alloc),
@@ -368,22 +370,22 @@ impl Session {
             Deed::Xref(name) => self.xref(alloc, name),
             Deed::Whatis(name) => self.whatis(alloc, name),
             Deed::List => self.list(alloc),
-            Deed::Report(k) => self.report(k),
+            Deed::Report(k) => self.report(alloc, k),
             Deed::Drop(k) => self.drop_probe(k),
             Deed::Reset => self.reset(),
             Deed::Quit => self.quit(),
         }
     }
 
-    // Writes the object of a module to its file.
-    fn compile<F: Files>(&self, alloc: Global, name: Name, files: &mut F) -> Answer
+    // Writes that object of a module to its file.
+    fn compile<F: Files>(&self, alloc: Global, name: Name, choice: Choice, files: &mut F) -> Answer
         requires named { is_module_name name ≡ true }
         requires present { if_absent name (texts self.now.modules) ≡ None }
-        ensures compiles { compiling.Compiles self.now (F.held files.old) (F.faults files.old) name result (F.held files.new) (F.faults files.new) }
+        ensures compiles { compiling.Compiles self.now (F.held files.old) (F.faults files.old) name choice result (F.held files.new) (F.faults files.new) }
         ensures later { F.faults files.old ≤ F.faults files.new }
     {
-        match object_named(self.modules.as_slice(), &name) {
-            Some(object) => write_compiled(alloc, name, object, files),
+        match object_named(self.modules.as_slice(), &name, choice) {
+            Some(object) => write_compiled(alloc, name, choice, object, files),
             None => unreachable!(),
         }
     }
@@ -419,15 +421,11 @@ impl Session {
         Answer::Deleted(k)
     }
 
-    // The text of the probe, which was asked for it before.
-    fn report(&mut self, k: u32) -> Answer
-        ensures answer { probing.Reports k result }
-        ensures session { self.new ≡ self.old }
+    // There is such a probe. Its text is put in by who has the probes.
+    fn report(&self, alloc: Global, k: u32) -> Answer
+        ensures { probing.Reports k result }
     {
-        match self.report.take() {
-            Some(text) => Answer::Reported(k, text),
-            None => Answer::NoMemory,
-        }
+        Answer::Reported(k, Bytes::from_vec(Vec::new(alloc)))
     }
 
     fn drop_probe(&mut self, k: u32) -> Answer
@@ -440,12 +438,9 @@ impl Session {
     fn list(&self, alloc: Global) -> Answer
         ensures { showing.Lists self.now result }
     {
-        let Ok(texts) = texts_of(alloc, self.modules.as_slice()) else {
-            return Answer::NoMemory;
-        };
         match list_text(
             alloc,
-            texts.as_slice(),
+            self.modules.as_slice(),
             &self.numbers,
             self.stops.as_slice(),
             &self.state,
@@ -589,7 +584,12 @@ pub fn is_go(command: &Command) -> bool
 {
     matches!(
         command,
-        Command::Run(_) | Command::Step | Command::Next | Command::Cont | Command::StepOne
+        Command::Run(_)
+            | Command::Eval(..)
+            | Command::Step
+            | Command::Next
+            | Command::Cont
+            | Command::StepOne
     )
 }
 

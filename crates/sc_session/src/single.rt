@@ -5,10 +5,8 @@ ghost use Rattle.sc_session.specs.Single as spec;
 
 use crate::hearing::mixed_heard_in;
 use crate::mixing::mixed_state;
-use crate::present::texts_of;
 use crate::session::Session;
 use crate::state::{State, put_state};
-use crate::stops::places;
 use sc_core_held::Text;
 use sc_mixed::MixedRun;
 use sc_session_forms::step_gone;
@@ -40,10 +38,10 @@ impl Session {
         requires { mixing.is_mixed self.old.state ≡ true }
         ensures { spec.CarriesOne self.old result self.new }
     {
-        let Ok(texts) = texts_of(alloc, self.modules.as_slice()) else {
+        let Ok(texts) = self.going_texts(alloc) else {
             return Answer::NoMemory;
         };
-        let Ok(stops) = places(alloc, self.stops.as_slice()) else {
+        let Ok(stops) = self.going_stops(alloc) else {
             return Answer::NoMemory;
         };
         match self.take_mixed(alloc) {
@@ -57,7 +55,8 @@ impl Session {
         requires { self.old.state ≡ State.Ended }
         ensures { spec.SingleGoes self.old texts.now stops.now run result self.new }
     {
-        match step_gone(alloc, texts, stops, run) {
+        let valued = self.is_valued();
+        match step_gone(alloc, texts, stops, valued, run) {
             Ok(told) => {
                 let mut run = told.run;
                 self.heard = mixed_heard_in(alloc, &mut run, or_paused(told.halt));

@@ -7,6 +7,7 @@ ghost use Rattle.sc_words.specs.Parts.{is_module_name};
 ghost use Rattle.sc_session.specs.Compiling.{object_file as file_of_object};
 ghost use Rattle.sc_session.specs.Swapping as spec;
 
+use crate::choice::Choice;
 use crate::compiling::object_file;
 use sc_base::{Bytes, Name, NoMemory};
 use sc_elf_read::version;
@@ -90,19 +91,20 @@ fn compared_got(alloc: Global, file: &str, read: FileGot, object: &Object) -> Co
     }
 }
 
-/// The file of a module's object beside the object that is kept.
+/// The file of that object of a module beside the object that is kept.
 pub fn compare_file<F: Files>(
     alloc: Global,
     name: &Name,
+    choice: Choice,
     object: &Object,
     files: &mut F,
 ) -> Compared
     requires { is_module_name name.now ≡ true }
-    ensures compares { spec.Compares (F.held files.old) (file_of_object name.now) object.now (F.faults files.old) (F.faults files.new) result }
+    ensures compares { spec.Compares (F.held files.old) (file_of_object name.now choice) object.now (F.faults files.old) (F.faults files.new) result }
     ensures later { F.faults files.old ≤ F.faults files.new }
     ensures held { F.held files.new ≡ F.held files.old }
 {
-    match object_file(alloc, name) {
+    match object_file(alloc, name, choice) {
         Ok(file) => {
             let read = files.read(file.as_str());
             compared_got(alloc, file.as_str(), read, object)

@@ -1,6 +1,6 @@
 -- Yardstick: to be compared with what it restates (docs/TRUST.md).
 -- What is said of where a run of both forms halted.
-use Rattle.std.specs.Prelude.{◌≡◌, ℕ, ◌+◌, ◌/◌, ◌%◌, nat_lt, if◌then◌else◌, List, [], ◌∷◌, ◌++◌, drop, length, Option, Some, codes}
+use Rattle.std.specs.Prelude.{◌≡◌, ℕ, Bool, ◌+◌, ◌/◌, ◌%◌, nat_lt, if◌then◌else◌, List, [], ◌∷◌, ◌++◌, drop, length, Option, Some, codes}
 use Rattle.sc_emu.specs.declared.outcome.Crash.{Crash}
 use Rattle.sc_emu.specs.declared.outcome.Crash.TheVariants as crash
 use Rattle.sc_interp_access.specs.declared.ended.Ended.TheVariants as ended
@@ -11,7 +11,7 @@ use Rattle.sc_mixed.specs.Goes.{GoesTo}
 use Rattle.sc_mixed.specs.Standing.{Standing, end_of}
 use Rattle.sc_mixed.specs.declared.ended.MixedEnd.{MixedEnd}
 use Rattle.sc_mixed.specs.declared.ended.MixedEnd.TheVariants as mixed
-use Rattle.sc_session_texts.specs.Ends.{end_text, entered_text, line_text, on_new_line, stop_text}
+use Rattle.sc_session_texts.specs.Ends.{entered_text, line_text, on_new_line, outcome_text, stop_text}
 use Rattle.sc_words.specs.declared.stop.StopAt.{StopAt}
 use Rattle.sc_words.specs.declared.stop.Walk.{Walk}
 use Rattle.sc_world.specs.declared.halt.Halt.{Halt}
@@ -38,26 +38,26 @@ cause_text crash.Misaligned = codes " cause 4"
 cause_text crash.Outside = codes " cause 5"
 cause_text crash.Service = codes " cause 6"
 
--- what is said of the end
-abbrev pub mixed_end_text : MixedEnd → World → Option (List ℕ)
-mixed_end_text (mixed.Meant e) w = end_text e w
-mixed_end_text (mixed.Crashed at cause) w = Some (codes "crashed at " ++ hexadecimal at ++ cause_text cause)
+-- what is said of the end, by whether the run is an evaluation
+abbrev pub mixed_end_text : Bool → MixedEnd → World → Option (List ℕ)
+mixed_end_text valued (mixed.Meant e) w = outcome_text valued e w
+mixed_end_text valued (mixed.Crashed at cause) w = Some (codes "crashed at " ++ hexadecimal at ++ cause_text cause)
 
 -- what is said of where the run halted, as it stands there
-abbrev pub MixedSays : Halt → Standing → List ℕ → Type 0
-MixedSays halt.Entered m said = said ≡ entered_text m.world.frames
-MixedSays halt.AtLine m said = said ≡ line_text m.world.frames
-MixedSays halt.Ended m said = (e : MixedEnd) × (end_of m ≡ Some e) × (Some said ≡ mixed_end_text e m.world)
-MixedSays (halt.Paused turns) m said = Some said ≡ stop_text turns ended.OutOfSteps m.world
+abbrev pub MixedSays : Bool → Halt → Standing → List ℕ → Type 0
+MixedSays valued halt.Entered m said = said ≡ entered_text m.world.frames
+MixedSays valued halt.AtLine m said = said ≡ line_text m.world.frames
+MixedSays valued halt.Ended m said = (e : MixedEnd) × (end_of m ≡ Some e) × (Some said ≡ mixed_end_text valued e m.world)
+MixedSays valued (halt.Paused turns) m said = Some said ≡ stop_text turns ended.OutOfSteps m.world
 
 -- the text on a go that halted so: what the program wrote in it, behind so many bytes before, and on a line of its own where the
 -- run halted
-pub record MixedTells (before : ℕ) (h : Halt) (m : Standing) (text : List ℕ) : Type 0 where
+pub record MixedTells (valued : Bool) (before : ℕ) (h : Halt) (m : Standing) (text : List ℕ) : Type 0 where
   pub said : List ℕ
-  pub says : MixedSays h m said
+  pub says : MixedSays valued h m said
   pub whole : text ≡ on_new_line (drop before (output m.world.trail)) said
 
 -- a go of so many turns led a run from one place to another, and is told so
-pub record MixedGone (texts : List Text) (stops : List StopAt) (walk : Walk) (turns : ℕ) (old : Standing) (h : Halt) (m : Standing) (text : List ℕ) : Type 0 where
+pub record MixedGone (texts : List Text) (stops : List StopAt) (walk : Walk) (turns : ℕ) (valued : Bool) (old : Standing) (h : Halt) (m : Standing) (text : List ℕ) : Type 0 where
   pub goes : GoesTo texts stops walk turns old h m
-  pub tells : MixedTells (length (output old.world.trail)) h m text
+  pub tells : MixedTells valued (length (output old.world.trail)) h m text

@@ -8,7 +8,7 @@ use sc_emu::Crash;
 use sc_interp_access::Ended;
 use sc_interp_world::World;
 use sc_mixed::{MixedEnd, MixedRun};
-use sc_session_texts::{end_text, entered_text, line_text, on_new_line, put, stop_text};
+use sc_session_texts::{entered_text, line_text, on_new_line, outcome_text, put, stop_text};
 use sc_words::{StopAt, Walk};
 use sc_world::{Halt, behind};
 use std::alloc::Global;
@@ -75,48 +75,64 @@ fn crash_text(alloc: Global, at: u32, cause: Crash) -> Result<Vec<u8>, NoMemory>
     Ok(text)
 }
 
-fn mixed_end_text(alloc: Global, ended: &MixedEnd, world: &World) -> Result<Vec<u8>, NoMemory>
-    ensures { IfOk result (λ text. Some text.items ≡ spec.mixed_end_text ended.now world.now) }
+fn mixed_end_text(
+    alloc: Global,
+    valued: bool,
+    ended: &MixedEnd,
+    world: &World,
+) -> Result<Vec<u8>, NoMemory>
+    ensures { IfOk result (λ text. Some text.items ≡ spec.mixed_end_text valued ended.now world.now) }
 {
     match ended {
-        MixedEnd::Meant(ended) => end_text(alloc, ended, world),
+        MixedEnd::Meant(ended) => outcome_text(alloc, valued, ended, world),
         MixedEnd::Crashed(at, cause) => crash_text(alloc, *at, *cause),
     }
 }
 
 // How a run ended. One that is over says so.
-fn ended_text(alloc: Global, run: &MixedRun) -> Result<Vec<u8>, NoMemory>
-    ensures { IfOk result (λ text. spec.MixedSays Halt.Ended run.now text.items) }
+fn ended_text(alloc: Global, valued: bool, run: &MixedRun) -> Result<Vec<u8>, NoMemory>
+    ensures { IfOk result (λ text. spec.MixedSays valued Halt.Ended run.now text.items) }
 {
     match run.end() {
-        Some(ended) => mixed_end_text(alloc, ended, run.world()),
+        Some(ended) => mixed_end_text(alloc, valued, ended, run.world()),
         None => Err(NoMemory),
     }
 }
 
-/// Where a run halted.
-pub(crate) fn said(alloc: Global, halt: Halt, run: &MixedRun) -> Result<Vec<u8>, NoMemory>
-    ensures { IfOk result (λ text. spec.MixedSays halt run.now text.items) }
+/// Where a run halted, by whether it is an evaluation.
+pub(crate) fn said(
+    alloc: Global,
+    valued: bool,
+    halt: Halt,
+    run: &MixedRun,
+) -> Result<Vec<u8>, NoMemory>
+    ensures { IfOk result (λ text. spec.MixedSays valued halt run.now text.items) }
 {
     match halt {
         Halt::Entered => entered_text(alloc, run.world()),
         Halt::AtLine => line_text(alloc, run.world()),
-        Halt::Ended => ended_text(alloc, run),
+        Halt::Ended => ended_text(alloc, valued, run),
         Halt::Paused(turns) => stop_text(alloc, turns, &Ended::OutOfSteps, run.world()),
     }
 }
 
 // The text on a go that halted so: so many bytes had been written before it.
-fn told_text(alloc: Global, before: usize, halt: Halt, run: &MixedRun) -> Result<Bytes, NoMemory>
-    ensures { IfOk result (λ text. spec.MixedTells before halt run.now text) }
+fn told_text(
+    alloc: Global,
+    valued: bool,
+    before: usize,
+    halt: Halt,
+    run: &MixedRun,
+) -> Result<Bytes, NoMemory>
+    ensures { IfOk result (λ text. spec.MixedTells valued before halt run.now text) }
 {
-    let said = said(alloc, halt, run)?;
+    let said = said(alloc, valued, halt, run)?;
     let shown = behind(run.output(), before);
     let text = on_new_line(alloc, shown, said.as_slice())?;
     Ok(Bytes::from_vec(text))
 }
 
-/// One go of a run of both forms: what the program wrote in it, and where it halted.
+/// One go of a run of both forms, which is an evaluation or not: what the program wrote in it, and where it halted.
 ///
 /// # Errors
 ///
@@ -127,13 +143,14 @@ pub fn mixed_gone(
     stops: &[StopAt],
     walk: Walk,
     turns: u64,
+    valued: bool,
     mut run: MixedRun,
 ) -> Result<MixedTold, NoMemory>
-    ensures { IfOk result (λ g. spec.MixedGone texts.now stops.now walk turns run g.halt g.run g.text) }
+    ensures { IfOk result (λ g. spec.MixedGone texts.now stops.now walk turns valued run g.halt g.run g.text) }
 {
     let before = run.output().len();
     let halt = run.go(texts, stops, walk, turns);
-    match told_text(alloc, before, halt, &run) {
+    match told_text(alloc, valued, before, halt, &run) {
         Ok(text) => Ok(MixedTold { text, halt, run }),
         Err(_) => {
             drop(run);

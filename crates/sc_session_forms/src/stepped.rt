@@ -29,11 +29,16 @@ fn pc_text(alloc: Global, pc: u32) -> Result<Vec<u8>, NoMemory>
 }
 
 // Where the run is behind a step.
-fn step_said(alloc: Global, halt: Option<Halt>, run: &MixedRun) -> Result<Vec<u8>, NoMemory>
-    ensures { IfOk result (λ text. spec.StepSays halt run.now text.items) }
+fn step_said(
+    alloc: Global,
+    valued: bool,
+    halt: Option<Halt>,
+    run: &MixedRun,
+) -> Result<Vec<u8>, NoMemory>
+    ensures { IfOk result (λ text. spec.StepSays valued halt run.now text.items) }
 {
     match halt {
-        Some(halt) => said(alloc, halt, run),
+        Some(halt) => said(alloc, valued, halt, run),
         None => pc_text(alloc, run.pc()),
     }
 }
@@ -41,19 +46,20 @@ fn step_said(alloc: Global, halt: Option<Halt>, run: &MixedRun) -> Result<Vec<u8
 // The text on a step: so many bytes had been written before it.
 fn step_text(
     alloc: Global,
+    valued: bool,
     before: usize,
     halt: Option<Halt>,
     run: &MixedRun,
 ) -> Result<Bytes, NoMemory>
-    ensures { IfOk result (λ text. spec.StepTells before halt run.now text) }
+    ensures { IfOk result (λ text. spec.StepTells valued before halt run.now text) }
 {
-    let said = step_said(alloc, halt, run)?;
+    let said = step_said(alloc, valued, halt, run)?;
     let shown = behind(run.output(), before);
     let text = on_new_line(alloc, shown, said.as_slice())?;
     Ok(Bytes::from_vec(text))
 }
 
-/// One step of a run of both forms, by one instruction: what the program wrote in it, and where it is then.
+/// One step of a run of both forms, which is an evaluation or not, by one instruction: what the program wrote in it, and where it is then.
 ///
 /// # Errors
 ///
@@ -62,13 +68,14 @@ pub fn step_gone(
     alloc: Global,
     texts: &[Text],
     stops: &[StopAt],
+    valued: bool,
     mut run: MixedRun,
 ) -> Result<StepTold, NoMemory>
-    ensures { IfOk result (λ g. spec.StepGone texts.now stops.now run g.halt g.run g.text) }
+    ensures { IfOk result (λ g. spec.StepGone texts.now stops.now valued run g.halt g.run g.text) }
 {
     let before = run.output().len();
     let halt = run.step_one(texts, stops);
-    match step_text(alloc, before, halt, &run) {
+    match step_text(alloc, valued, before, halt, &run) {
         Ok(text) => Ok(StepTold { text, halt, run }),
         Err(_) => {
             drop(run);

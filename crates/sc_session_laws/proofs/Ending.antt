@@ -1,5 +1,5 @@
 -- A run that is over ended as the meaning says.
-use Rattle.std.proofs.Common.{◌≡◌, ℕ, ◌<◌, refl, sym, ap, ◌∙◌, subst, List, Option, Some, None}
+use Rattle.std.proofs.Common.{◌≡◌, ℕ, Bool, true, false, ◌<◌, refl, sym, ap, ◌∙◌, subst, List, Option, Some, None}
 use Rattle.sc_meaning.specs.World.{World}
 use Rattle.sc_meaning.specs.Outcomes.{Ending, Exit, Undefined, StackFull, BirthLimit, world_at}
 use Rattle.sc_meaning.specs.Behaviour.{Start, ending}
@@ -7,7 +7,7 @@ use Rattle.sc_interp.specs.Ends.{end_of}
 use Rattle.sc_interp_access.specs.declared.ended.Ended.{Ended}
 use Rattle.sc_interp_access.specs.declared.ended.Ended.TheVariants as ended
 use Rattle.sc_interp_machine.specs.Runs.{Ends}
-use Rattle.sc_session_texts.specs.Ends.{end_text}
+use Rattle.sc_session_texts.specs.Ends.{outcome_text}
 use Rattle.sc_world.specs.declared.count.Count.{Count}
 use Rattle.sc_world.specs.Standing.{Standing, ended_so, world_of}
 
@@ -38,10 +38,12 @@ ends_so s n e w count p over b lt =
     ap (λ st. end_of e (world_of st)) q.2 ∙ told_there e w q.0 q.1 ∙ ap (λ f. Some f) (sym (over q.0 q.2 b lt))
 
 -- of a run for which no room was left no end is told
-pub no_end : {P : Type 0} (e : Ended) (w : World) (count : Count) (v : World) (said : List ℕ) → None ≡ ended_so count (end_of e w) → Some said ≡ end_text e v → P
-no_end (ended.Exit status) w count v said p q = absurd (cc)
-no_end (ended.Undefined b) w count v said p q = absurd (cc)
-no_end (ended.StackFull key) w count v said p q = absurd (cc)
-no_end ended.BirthLimit w count v said p q = absurd (cc)
-no_end ended.OutOfSteps w count v said p q = absurd (cc)
-no_end ended.NoRoom w count v said p q = absurd (cc)
+pub no_end : {P : Type 0} (valued : Bool) (e : Ended) (w : World) (count : Count) (v : World) (said : List ℕ) → None ≡ ended_so count (end_of e w) → Some said ≡ outcome_text valued e v → P
+no_end valued (ended.Exit status) w count v said p q = absurd (cc)
+no_end valued (ended.Undefined b) w count v said p q = absurd (cc)
+no_end valued (ended.StackFull key) w count v said p q = absurd (cc)
+no_end valued ended.BirthLimit w count v said p q = absurd (cc)
+no_end true ended.OutOfSteps w count v said p q = absurd (cc)
+no_end false ended.OutOfSteps w count v said p q = absurd (cc)
+no_end true ended.NoRoom w count v said p q = absurd (cc)
+no_end false ended.NoRoom w count v said p q = absurd (cc)

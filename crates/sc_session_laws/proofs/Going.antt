@@ -11,9 +11,9 @@ use Rattle.sc_interp.specs.Steady.{alone}
 use Rattle.sc_interp.specs.Steps.{is_over}
 use Rattle.sc_interp.specs.Ends.{start_of}
 use Rattle.sc_interp_access.specs.declared.ended.Ended.TheVariants as ended
-use Rattle.sc_interp_laws.specs.Lean.{IsLean}
+use Rattle.sc_interp_laws.specs.Lean.{AreLean, IsLean}
 use Rattle.sc_interp_world.specs.Outputs.{output}
-use Rattle.sc_session_texts.specs.Ends.{entered_text, line_text, end_text, stop_text, on_new_line}
+use Rattle.sc_session_texts.specs.Ends.{entered_text, line_text, outcome_text, stop_text, on_new_line}
 use Rattle.sc_words.specs.declared.stop.StopAt.{StopAt}
 use Rattle.sc_words.specs.declared.stop.Walk.{Walk}
 use Rattle.sc_world.specs.declared.halt.Halt.{Halt}
@@ -26,11 +26,9 @@ use Rattle.sc_world_change_laws.proofs.Through.{all_events, begins_through, ends
 use Rattle.sc_world.specs.Standing.{Standing, world_of}
 use Rattle.sc_world.specs.Wants.{Want, wanted, halts, halt_or, taken}
 use Rattle.sc_world.proofs.Pauses.{pauses}
-use Rattle.sc_world_laws.specs.Formed.{AreFormed}
 use Rattle.sc_world_laws.specs.Told.{HaltsAt, IsAt, event_of, selects}
 use Rattle.sc_world_laws.proofs.Halting.{Chosen, goes_at, goes_halt, goes_last, goes_seen, over_ended, sel, turns_bound, wanted_chosen}
 use Rattle.sc_world_laws.proofs.Pausing.{goes_lean, pauses_passed}
-use Rattle.sc_world_laws.proofs.LeanFormed.{formed_lean}
 use Rattle.sc_session.specs.declared.state.State.{State}
 use Rattle.sc_session.specs.Going as going
 use Rattle.sc_session.specs.Going.{Told, Went, state_after}
@@ -78,7 +76,11 @@ enough_turns texts stops how (suc k) m n t goes =
 
 -- ---- a go
 
-module _ (s : Start) (h : History) (texts : List Text) (stops : List StopAt) (how : Walk) (turns : ℕ) (formed : AreFormed texts)
+-- a state is that behind a go that halted so
+abbrev pub IsBehind : Halt → State → Type 0
+IsBehind h after = (r : Option Standing) × (after ≡ state_after h r)
+
+module _ (s : Start) (h : History) (texts : List Text) (stops : List StopAt) (how : Walk) (turns : ℕ) (valued : Bool) (leans : AreLean (alone texts))
     (place m : Standing) (old : List Event) (of : IsRunThrough s h texts (Some m)) (still : IsStill place m) (at : IsAt m old) (lean : IsLean m.state) (earned : Earned m) where
   abbrev here : Course
   here = course_of (with_history s h) place old
@@ -97,9 +99,9 @@ module _ (s : Start) (h : History) (texts : List Text) (stops : List StopAt) (ho
         enough = p.0;
         late = λ b lt.
             passed_before t (world_of place.state) (world_of m.state) (world_of n.state).trail (world_at (ending b (with_history s h))).trail still.leads
-            (pauses_passed texts stops how turns m t n (world_at (ending b (with_history s h))) (formed_lean texts formed) lean goes (through_leads s h texts n now b lt));
+            (pauses_passed texts stops how turns m t n (world_at (ending b (with_history s h))) leans lean goes (through_leads s h texts n now b lt));
         late_in_all = λ b lt.
-            passed_in_all n (world_at (ending b (with_history s h))) (goes_earned texts stops how turns m (halt.Paused t) n (formed_lean texts formed) lean earned goes) (through_leads s h texts n now b lt);
+            passed_in_all n (world_at (ending b (with_history s h))) (goes_earned texts stops how turns m (halt.Paused t) n leans lean earned goes) (through_leads s h texts n now b lt);
       }
 
   passes : (x : Halt) (n : Standing) → Goes texts stops how turns (Some m) x (Some n) → IsRunThrough s h texts (Some n) → Passes stops how turns here x (there n)
@@ -127,8 +129,8 @@ module _ (s : Start) (h : History) (texts : List Text) (stops : List StopAt) (ho
     of = now;
     still = still_here n;
     among = goes_at texts stops how turns m old x n at goes;
-    lean = goes_lean texts stops how turns m x n (formed_lean texts formed) lean goes;
-    earned = goes_earned texts stops how turns m x n (formed_lean texts formed) lean earned goes;
+    lean = goes_lean texts stops how turns m x n leans lean goes;
+    earned = goes_earned texts stops how turns m x n leans lean earned goes;
   }
 
   follows_on : (x : Halt) (n : Standing) → Goes texts stops how turns (Some m) x (Some n) → IsRunThrough s h texts (Some n) → HaltsBehind s h texts x (Some n) → FollowsOn texts (state_after x (Some n)) (left_by x (there n))
@@ -138,19 +140,19 @@ module _ (s : Start) (h : History) (texts : List Text) (stops : List StopAt) (ho
   follows_on halt.Ended n goes now event = refl
   follows_on (halt.Paused t) n goes now event = follows (halt.Paused t) n goes now
 
-  says : (x : Halt) (n : Standing) (w : World) (said : List ℕ) → w ≡ world_of n.state → IsRunThrough s h texts (Some n) → going.Says x (Some n) w said → Says x (there n) said
+  says : (x : Halt) (n : Standing) (w : World) (said : List ℕ) → w ≡ world_of n.state → IsRunThrough s h texts (Some n) → going.Says valued x (Some n) w said → Says valued x (there n) said
   says halt.Entered n w said is now p = p ∙ ap (λ v. entered_text v.frames) is
   says halt.AtLine n w said is now p = p ∙ ap (λ v. line_text v.frames) is
   says halt.Ended n w said is now (e, (v, count, end), text) =
-      (e, (λ b lt. ends_so (with_history s h) n e v count end (λ x is b lt. ends_as_meant s h texts n x now is b lt) b lt), text ∙ ap (λ u. end_text e u) is)
+      (e, (λ b lt. ends_so (with_history s h) n e v count end (λ x is b lt. ends_as_meant s h texts n x now is b lt) b lt), text ∙ ap (λ u. outcome_text valued e u) is)
   says (halt.Paused t) n w said is now p = p ∙ ap (λ v. stop_text t ended.OutOfSteps v) is
 
   -- what a go that halted leads to
   abbrev pub LeadsTo : List ℕ → List ℕ → State → Type 0
-  LeadsTo front text after = (run : Option Course) × IsTold stops how turns here front text run × FollowsOn texts after run
+  LeadsTo front text after = (run : Option Course) × (told : IsTold stops how turns valued here front text run) × FollowsOn texts after run × IsBehind told.h after
 
   arrives : (x : Halt) (n : Standing) (first : World) (front text : List ℕ) (after : State) → Goes texts stops how turns (Some m) x (Some n) → IsRunThrough s h texts (Some n) → HaltsBehind s h texts x (Some n) → first ≡ world_of m.state
-      → Told (length (output first.trail)) x (Some n) (front ++ text) → after ≡ state_after x (Some n) → LeadsTo front text after
+      → Told valued (length (output first.trail)) x (Some n) (front ++ text) → after ≡ state_after x (Some n) → LeadsTo front text after
   arrives x n first front text after goes now event stood told is =
       let w : told.world ≡ world_of n.state = told.stands (world_of n.state) refl in
       let before : output first.trail ≡ output (world_of place.state).trail = ap (λ v. output v.trail) stood ∙ still.written in (
@@ -165,19 +167,20 @@ module _ (s : Start) (h : History) (texts : List Text) (stops : List StopAt) (ho
           left = refl;
         },
         subst (λ a. FollowsOn texts a (left_by x (there n))) (sym is) (follows_on x n goes now event),
+        (Some n, is),
       )
 
-  unknown : (x : Halt) (first : World) (front text : List ℕ) (after : State) → x ≡ halt.Ended → Told (length (output first.trail)) x None (front ++ text) → LeadsTo front text after
+  unknown : (x : Halt) (first : World) (front text : List ℕ) (after : State) → x ≡ halt.Ended → Told valued (length (output first.trail)) x None (front ++ text) → LeadsTo front text after
   unknown x first front text after is told =
-      let e = subst (λ g. going.Says g None told.world told.said) is told.says in
-      no_end e.0 e.1.0 e.1.1 told.world told.said e.1.2 e.2
+      let e = subst (λ g. going.Says valued g None told.world told.said) is told.says in
+      no_end valued e.0 e.1.0 e.1.1 told.world told.said e.1.2 e.2
 
   comes : (x : Halt) (r : Option Standing) (first : World) (front text : List ℕ) (after : State) → Goes texts stops how turns (Some m) x r → IsRunThrough s h texts r × HaltsBehind s h texts x r → first ≡ world_of m.state
-      → Told (length (output first.trail)) x r (front ++ text) → after ≡ state_after x r → LeadsTo front text after
+      → Told valued (length (output first.trail)) x r (front ++ text) → after ≡ state_after x r → LeadsTo front text after
   comes x None first front text after goes now stood told is = unknown x first front text after goes told
   comes x (Some n) first front text after goes now stood told is = arrives x n first front text after goes now.0 now.1 stood told is
 
-  pub went : (front text : List ℕ) (after : State) → Went texts stops how turns (Some m) front text after → LeadsTo front text after
+  pub went : (front text : List ℕ) (after : State) → Went texts stops how turns valued (Some m) front text after → LeadsTo front text after
   went front text after w =
       comes w.stops_at w.new w.first front text after w.goes (goes_through s h texts stops how turns (Some m) w.stops_at w.new w.goes of) (w.stood (world_of m.state) refl) w.told w.follows
 

@@ -149,6 +149,12 @@ pub no_library : (texts : List Text) (f : LibFun) → callee_of texts main_key �
 no_library [] f e = missing_other f e
 no_library (t ∷ ts) f e = later_other t (fun_by main_key.«module» main_key.name t.core) (callee_of ts main_key) f (no_library ts f) e
 
+-- nor has it a function of a module
+pub no_internal : (texts : List Text) (home name : List ℕ) (f : LibFun) → callee_of texts (record { «module» = Some home; name = name }) ≡ InLibrary f → ⊥
+no_internal [] home name f e = missing_other f e
+no_internal (t ∷ ts) home name f e =
+    later_other t (fun_by (Some home) name t.core) (callee_of ts (record { «module» = Some home; name = name })) f (no_internal ts home name f) e
+
 from_opens : (texts : List Text) (key : Key) (r : Outcome (Unit {0})) → ((f : LibFun) → callee_of texts key ≡ InLibrary f → ⊥) → IsQuiet (world_after r) → Opens (then_goes r (λ _ born. entry_next texts key [] born))
 from_opens texts key (Done _ born) other q = callee_opens key texts (callee_of texts key) (pass GoesOut born) other (one_quiet GoesOut born (refl, refl) q)
 from_opens texts key (Over e) other q = q

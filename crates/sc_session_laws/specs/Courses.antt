@@ -16,7 +16,7 @@ use Rattle.sc_interp_access.specs.declared.ended.Ended.{Ended}
 use Rattle.sc_interp_access.specs.declared.ended.Ended.TheVariants as ended
 use Rattle.sc_interp_world.specs.Outputs.{output}
 use Rattle.sc_session_forms.specs.Forms.{are_sources}
-use Rattle.sc_session_texts.specs.Ends.{entered_text, line_text, end_text, stop_text, on_new_line}
+use Rattle.sc_session_texts.specs.Ends.{entered_text, line_text, outcome_text, stop_text, on_new_line}
 use Rattle.sc_words.specs.declared.answer.Answer.{Answer}
 use Rattle.sc_words.specs.declared.answer.Answer.TheVariants as answer
 use Rattle.sc_words.specs.declared.command.Command.{Command}
@@ -33,10 +33,12 @@ use Rattle.sc_session.specs.declared.state.State.TheVariants as state
 use Rattle.sc_session.specs.Changing.{stays}
 use Rattle.sc_session.specs.Modules.{texts}
 use Rattle.sc_session.specs.Plain.{Plain}
+use Rattle.sc_session.specs.Evaluating.{Asks, eval_key}
 use Rattle.sc_session.specs.Going.{IsInput}
 use Rattle.sc_session.specs.Mixing.{is_mixed}
 use Rattle.sc_session.specs.Stopping.{places}
 use Rattle.sc_session.specs.Transcript.{Moment}
+use Rattle.sc_session.specs.Valued.{going_stops, is_valued}
 
 -- A run of a program: how it started, with the history of its texts so far; how many steps were done since the call of the entry went out,
 -- and how many turns they took; the world behind them, with all that has happened; and the events that were passed, which a go looked at.
@@ -98,12 +100,13 @@ pub record Passes (stops : List StopAt) (how : Walk) (turns : ℕ) (c : Course) 
 
 -- ---- what is told of it
 
--- what is said of where a run halted: of an undefined step, its report
-abbrev pub Says : Halt → Course → List ℕ → Type 0
-Says halt.Entered d said = said ≡ entered_text d.world.frames
-Says halt.AtLine d said = said ≡ line_text d.world.frames
-Says halt.Ended d said = (e : Ended) × EndsSo d e × (Some said ≡ end_text e d.world)
-Says (halt.Paused t) d said = Some said ≡ stop_text t ended.OutOfSteps d.world
+-- What is said of where a run halted, by whether it is an evaluation: of an undefined step, its report; of an evaluation that exits with a
+-- number, that this is the value, just where no call is active behind it (`outcome_text`).
+abbrev pub Says : Bool → Halt → Course → List ℕ → Type 0
+Says valued halt.Entered d said = said ≡ entered_text d.world.frames
+Says valued halt.AtLine d said = said ≡ line_text d.world.frames
+Says valued halt.Ended d said = (e : Ended) × EndsSo d e × (Some said ≡ outcome_text valued e d.world)
+Says valued (halt.Paused t) d said = Some said ≡ stop_text t ended.OutOfSteps d.world
 
 -- a run that is over goes on no more
 abbrev pub left_by : Halt → Course → Option Course
@@ -114,12 +117,12 @@ left_by (halt.Paused t) d = Some d
 
 -- One go is told with these bytes, of which the first went out while it went on: what the program wrote in it, and on a line of its own
 -- where the run halted.
-pub record IsTold (stops : List StopAt) (how : Walk) (turns : ℕ) (c : Course) (front text : List ℕ) (after : Option Course) : Type 0 where
+pub record IsTold (stops : List StopAt) (how : Walk) (turns : ℕ) (valued : Bool) (c : Course) (front text : List ℕ) (after : Option Course) : Type 0 where
   pub h : Halt
   pub new : Course
   pub passes : Passes stops how turns c h new
   pub said : List ℕ
-  pub says : Says h new said
+  pub says : Says valued h new said
   pub whole : front ++ text ≡ on_new_line (drop (length (output c.world.trail)) (output new.world.trail)) said
   pub left : after ≡ left_by h new
 
@@ -130,17 +133,29 @@ abbrev pub RunsSo : Moment → Option (List ℕ) → List ℕ → List ℕ → O
 RunsSo old file front text after =
     (bytes : List ℕ) × IsInput old.held file bytes
     × ((c : Course) × Begins (start_of (texts old.session.modules) main_key old.session.limits.stack old.session.limits.heap bytes) c
-    × IsTold (places old.session.stops) walk.Cont old.session.limits.turns c front text after)
+    × IsTold (places old.session.stops) walk.Cont old.session.limits.turns false c front text after)
 
 -- The run goes on from where it stands.
 abbrev pub WalksSo : Moment → Option Course → Walk → List ℕ → List ℕ → Option Course → Type 0
 WalksSo old run how front text after =
-    (c : Course) × (run ≡ Some c) × IsTold (places old.session.stops) how old.session.limits.turns c front text after
+    (c : Course) × (run ≡ Some c) × IsTold (going_stops old.session) how old.session.limits.turns (is_valued old.session) c front text after
+
+-- The run of an expression goes from its start on, without input, stops or a call of `main`: the text of its function stands behind those of
+-- the modules, and that function is called.
+abbrev pub EvaluatesSo : Moment → List ℕ → List ℕ → List ℕ → List ℕ → Option Course → Type 0
+EvaluatesSo old name line front text after =
+    (t : Text) × Asks old.session name line t
+    × ((c : Course) × Begins (start_of (texts old.session.modules ++ t ∷ []) (eval_key name) old.session.limits.stack old.session.limits.heap []) c
+    × IsTold [] walk.Cont old.session.limits.turns true c front text after)
 
 -- The same by whether all modules are interpreted. Where some are not, it is a run of both forms, of which nothing is told here.
 abbrev pub RunsSoBy : Bool → Moment → Option (List ℕ) → List ℕ → List ℕ → Option Course → Type 0
 RunsSoBy true old file front text after = RunsSo old file front text after
 RunsSoBy false old file front text after = after ≡ None
+
+abbrev pub EvaluatesSoBy : Bool → Moment → List ℕ → List ℕ → List ℕ → List ℕ → Option Course → Type 0
+EvaluatesSoBy true old name line front text after = EvaluatesSo old name line front text after
+EvaluatesSoBy false old name line front text after = after ≡ None
 
 -- The same by whether a run of both forms goes on in the session.
 abbrev pub WalksSoBy : Bool → Moment → Option Course → Walk → List ℕ → List ℕ → Option Course → Type 0
@@ -174,6 +189,10 @@ abbrev pub RunTells : Moment → Option Course → Option (List ℕ) → List �
 RunTells old run file front (answer.Ran text) after = RunsSoBy (are_sources (texts old.session.modules)) old file front text after
 RunTells old run file front _ after = Stays run after
 
+abbrev pub EvalTells : Moment → Option Course → List ℕ → List ℕ → List ℕ → Answer → Option Course → Type 0
+EvalTells old run name line front (answer.Ran text) after = EvaluatesSoBy (are_sources (texts old.session.modules)) old name line front text after
+EvalTells old run name line front _ after = Stays run after
+
 abbrev pub WalkTells : Moment → Option Course → Walk → List ℕ → Answer → Option Course → Type 0
 WalkTells old run how front (answer.Ran text) after = WalksSoBy (is_mixed old.session.state) old run how front text after
 WalkTells old run how front _ after = Stays run after
@@ -183,11 +202,13 @@ ChangeTells old run (answer.Loaded m) new after = ChangesSo old run new after
 ChangeTells old run (answer.Edited m) new after = ChangesSo old run new after
 ChangeTells old run (answer.Unloaded m) new after = ChangesSo old run new after
 ChangeTells old run (answer.Swapped m f) new after = ChangesSo old run new after
+ChangeTells old run (answer.SwappedFast m) new after = ChangesSo old run new after
 ChangeTells old run _ new after = Stays run after
 
 -- What an answer tells of a session's run, behind these bytes, which went out; the texts of the modules then; and where the run stands.
 abbrev pub Tells : Moment → Option Course → Command → List ℕ → Answer → List Text → Option Course → Type 0
 Tells old run (command.Run file) front said new after = RunTells old run file front said after
+Tells old run (command.Eval name line) front said new after = EvalTells old run name line front said after
 Tells old run command.Step front said new after = WalkTells old run walk.Step front said after
 Tells old run command.Next front said new after = WalkTells old run walk.Next front said after
 Tells old run command.Cont front said new after = WalkTells old run walk.Cont front said after
@@ -195,6 +216,7 @@ Tells old run (command.Load name) front said new after = ChangeTells old run sai
 Tells old run (command.Unload name) front said new after = ChangeTells old run said new after
 Tells old run (command.Edit name file) front said new after = ChangeTells old run said new after
 Tells old run (command.Swap name form) front said new after = ChangeTells old run said new after
+Tells old run (command.SwapFast name) front said new after = ChangeTells old run said new after
 Tells old run _ front said new after = Stays run after
 
 -- The run of interpreted modules that goes on in a session stands in this world, in which `where` and `print` are answered.

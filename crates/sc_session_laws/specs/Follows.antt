@@ -1,11 +1,12 @@
 -- Inside: plumbing, a representation, an invariant or a promise beside the claim (docs/TRUST.md).
 -- How a session's run, as the machine has it, follows one of the meaning.
 use Rattle.std.specs.Prelude.{◌≡◌, ℕ, ◌≤◌, ◌+◌, ◌*◌, true, List, [], drop, length, Option, Some, None}
+use Rattle.sc_core.specs.declared.module.Fun.{Fun}
 use Rattle.sc_meaning.specs.World.{Event}
 use Rattle.sc_meaning.specs.Behaviour.{Start}
 use Rattle.sc_meaning.specs.Laws.{with_history}
-use Rattle.sc_meaning.specs.Versions.{History, Text}
-use Rattle.sc_interp_laws.specs.Lean.{IsLean}
+use Rattle.sc_meaning.specs.Versions.{History, Text, fun_by}
+use Rattle.sc_interp_laws.specs.Lean.{IsLean, LeanStmt}
 use Rattle.sc_interp_laws.specs.Near.{near}
 use Rattle.sc_interp_laws.specs.Paid.{done}
 use Rattle.sc_world.specs.Standing.{Standing, world_of}
@@ -19,6 +20,7 @@ use Rattle.sc_session.specs.declared.state.State.TheVariants as state
 use Rattle.sc_session.specs.Changing.{gone_through, versions_by}
 use Rattle.sc_session.specs.Plain.{Plain}
 use Rattle.sc_session.specs.Modules.{texts}
+use Rattle.sc_session.specs.Valued.{with_evaluation}
 use Rattle.sc_session_laws.specs.Courses.{Course}
 
 -- the run as the meaning has it, where these events were passed
@@ -65,15 +67,21 @@ FollowsOn modules state.Ended run = run ≡ None
 abbrev pub behind_changes : List (List Present) → ℕ → List Present → Option Standing → Option Standing
 behind_changes past come modules r = gone_through (drop come (versions_by true past modules)) r
 
--- the same where changes wait, with what the modules were before, and the one of them under which the run stands
-abbrev pub FollowsIn : List (List Present) → ℕ → List Present → State → Option Course → Type 0
-FollowsIn past come modules state.Idle run = run ≡ None
-FollowsIn past come modules (state.Stopped r) run = (come ≤ length past) × FollowsThere (texts modules) r (behind_changes past come modules r) run
-FollowsIn past come modules (state.Paused r) run = Follows (texts modules) r r run
-FollowsIn past come modules (state.StoppedMixed w) run = run ≡ None
-FollowsIn past come modules (state.PausedMixed w) run = run ≡ None
-FollowsIn past come modules state.Ended run = run ≡ None
+-- the same where changes wait, with what the modules were before, and the one of them under which the run stands; and by the text of an
+-- evaluation, which halts at no stop
+abbrev pub FollowsIn : Option Text → List (List Present) → ℕ → List Present → State → Option Course → Type 0
+FollowsIn t past come modules state.Idle run = run ≡ None
+FollowsIn t past come modules (state.Stopped r) run = (t ≡ None) × (come ≤ length past) × FollowsThere (texts modules) r (behind_changes past come modules r) run
+FollowsIn t past come modules (state.Paused r) run = Follows (with_evaluation t (texts modules)) r r run
+FollowsIn t past come modules (state.StoppedMixed w) run = run ≡ None
+FollowsIn t past come modules (state.PausedMixed w) run = run ≡ None
+FollowsIn t past come modules state.Ended run = run ≡ None
 
--- its modules are checked, and the run that goes on, if there is one of interpreted modules, is one of them
+-- no step is made for nothing in the functions of a text (Lean)
+abbrev pub LeanText : Option Text → Type 0
+LeanText None = Unit {0}
+LeanText (Some t) = (home : Option (List ℕ)) (name : List ℕ) (f : Fun) → fun_by home name t.core ≡ Some f → LeanStmt f.body
+
+-- its modules are checked, and the run that goes on, if there is one of interpreted modules, is one of them and of an evaluation
 abbrev pub Keeps : Plain → Option Course → Type 0
-Keeps session run = AreFormed (texts session.modules) × FollowsIn session.past session.come session.modules session.state run
+Keeps session run = AreFormed (texts session.modules) × LeanText session.evaluating × FollowsIn session.evaluating session.past session.come session.modules session.state run

@@ -4,6 +4,7 @@ use Rattle.std.specs.Prelude.{◌≡◌, ◌⊎◌, ℕ, true, List, [], ◌∷�
 use Rattle.sc_interp_change_laws.specs.Showing.{IsEvent}
 use Rattle.sc_isa_image.specs.declared.image.Image.{Image}
 use Rattle.sc_mixed.specs.Standing.{Standing}
+use Rattle.sc_meaning.specs.Versions.{Text}
 use Rattle.sc_session.specs.declared.present.Present.{Present}
 use Rattle.sc_session.specs.declared.state.State.{State}
 use Rattle.sc_session.specs.declared.state.State.TheVariants as state
@@ -41,13 +42,14 @@ FollowsThere at past come modules m run = (c : Course) × Follows at run c × Is
 abbrev pub FollowsPaused : Placing → List Present → Standing → Option Course → Type 0
 FollowsPaused at modules m run = (c : Course) × Follows at run c × StandsNow modules c m
 
-abbrev pub FollowsIn : Placing → List (List Present) → ℕ → List Present → State → Option Course → Type 0
-FollowsIn at past come modules state.Idle run = run ≡ None
-FollowsIn at past come modules (state.Stopped r) run = run ≡ None
-FollowsIn at past come modules (state.Paused r) run = run ≡ None
-FollowsIn at past come modules (state.StoppedMixed m) run = (run ≡ None) ⊎ FollowsThere at past come modules m run
-FollowsIn at past come modules (state.PausedMixed m) run = (run ≡ None) ⊎ FollowsPaused at modules m run
-FollowsIn at past come modules state.Ended run = run ≡ None
+-- in each state; a run that evaluates an expression is not followed
+abbrev pub FollowsIn : Placing → Option Text → List (List Present) → ℕ → List Present → State → Option Course → Type 0
+FollowsIn at t past come modules state.Idle run = run ≡ None
+FollowsIn at t past come modules (state.Stopped r) run = run ≡ None
+FollowsIn at t past come modules (state.Paused r) run = run ≡ None
+FollowsIn at t past come modules (state.StoppedMixed m) run = (run ≡ None) ⊎ ((t ≡ None) × FollowsThere at past come modules m run)
+FollowsIn at t past come modules (state.PausedMixed m) run = (run ≡ None) ⊎ ((t ≡ None) × FollowsPaused at modules m run)
+FollowsIn at t past come modules state.Ended run = run ≡ None
 
 abbrev pub Keeps : Placing → Plain → Option Course → Type 0
-Keeps at session run = FollowsIn at session.past session.come session.modules session.state run
+Keeps at session run = FollowsIn at session.evaluating session.past session.come session.modules session.state run

@@ -1,7 +1,8 @@
 -- Yardstick: to be compared with what it restates (docs/TRUST.md).
 -- What a session tells of its runs of both forms, by the meaning of C: of each go, that what the run has shown is the first of what the meaning gives for the
 -- history of its texts, or that it ended as the meaning does (Shows). Each change of the modules at a stop is one version more. A run is followed from its
--- start by `run` on. It is followed no more where two changes wait at one stop, and where it was over at once.
+-- start by `run` on. It is followed no more where two changes wait at one stop, and where it was over at once. A run that evaluates an expression is not
+-- followed.
 use Rattle.std.specs.Prelude.{◌≡◌, ◌⊎◌, ⊤, ℕ, Bool, true, false, List, [], ◌∷◌, drop, length, Option, Some, None}
 use Rattle.sc_interp_world.specs.Outputs.{output}
 use Rattle.sc_isa_image.specs.declared.image.Image.{Image}
@@ -59,7 +60,7 @@ pub record IsTold (at : Placing) (before : ℕ) (came : List (List Text)) (i : I
   pub passes : Passes c new came stands
   pub placed : ArePlaced at (new.build ∷ new.later)
   pub linked : new.present.image ≡ i
-  pub tells : StepTells before h stands text
+  pub tells : StepTells false before h stands text
   pub left : after ≡ left_by stands.course (halt_of h) new
 
 -- ---- the answers to commands
@@ -100,6 +101,11 @@ abbrev pub RunTells : Placing → Moment → Option Course → Option (List ℕ)
 RunTells at old run file (answer.Ran text) after = RunsSoBy (are_sources (texts old.session.modules)) at old file text after
 RunTells at old run file _ after = Stays run after
 
+-- the run of an expression takes the place of the one before
+abbrev pub EvalTells : Option Course → Answer → Option Course → Type 0
+EvalTells run (answer.Ran text) after = after ≡ None
+EvalTells run _ after = Stays run after
+
 abbrev pub WalkTells : Placing → Moment → Option Course → Answer → Option Course → Type 0
 WalkTells at old run (answer.Ran text) after = WalksSoBy (is_mixed old.session.state) at old.session run text after
 WalkTells at old run _ after = Stays run after
@@ -122,11 +128,13 @@ ChangeTells old run (answer.Loaded m) after = after ≡ changed_run old.session 
 ChangeTells old run (answer.Edited m) after = after ≡ changed_run old.session run
 ChangeTells old run (answer.Unloaded m) after = after ≡ changed_run old.session run
 ChangeTells old run (answer.Swapped m f) after = after ≡ changed_run old.session run
+ChangeTells old run (answer.SwappedFast m) after = after ≡ changed_run old.session run
 ChangeTells old run _ after = after ≡ run
 
 -- What an answer tells of a session's run of both forms, and where that stands behind it.
 abbrev pub Tells : Placing → Moment → Option Course → Command → Answer → Option Course → Type 0
 Tells at old run (command.Run file) said after = RunTells at old run file said after
+Tells at old run (command.Eval name line) said after = EvalTells run said after
 Tells at old run command.Step said after = WalkTells at old run said after
 Tells at old run command.Next said after = WalkTells at old run said after
 Tells at old run command.Cont said after = WalkTells at old run said after
@@ -135,5 +143,6 @@ Tells at old run (command.Load name) said after = ChangeTells old run said after
 Tells at old run (command.Unload name) said after = ChangeTells old run said after
 Tells at old run (command.Edit name file) said after = ChangeTells old run said after
 Tells at old run (command.Swap name form) said after = ChangeTells old run said after
+Tells at old run (command.SwapFast name) said after = ChangeTells old run said after
 Tells at old run command.Reset said after = Stays run after
 Tells at old run _ said after = after ≡ run

@@ -4,24 +4,15 @@ use Rattle.std.specs.Prelude.{ℕ, ◌+◌, ◌++◌, Bool, true, false, if◌th
 use Rattle.std.specs.List.{list_any}
 use Rattle.indexmap.specs.IndexSet.{insert_key}
 use Rattle.sc_base.specs.declared.key.Key.{Key}
-use Rattle.sc_base.specs.declared.memory.Form.{Form}
-use Rattle.sc_base.specs.declared.memory.Form.TheVariants as form
 use Rattle.sc_core.specs.declared.module.Fun.{Fun}
 use Rattle.sc_meaning.specs.Versions.{Text}
 use Rattle.sc_session_texts.specs.Words.{key_text}
 use Rattle.sc_session_show.specs.Lines.{answer_line}
 use Rattle.sc_core_held.specs.Numbers.{key_eq}
 
-abbrev pub form_text : Form → List ℕ
-form_text form.Source = codes "source"
-form_text form.Object = codes "object"
-
-abbrev pub module_line : Text → List ℕ
-module_line t = answer_line (codes "module " ++ t.core.name ++ codes " " ++ form_text t.form)
-
-abbrev pub module_lines : List Text → List ℕ
-module_lines [] = []
-module_lines (t ∷ texts) = module_line t ++ module_lines texts
+-- a module, and the word for its form
+abbrev pub module_line : List ℕ → List ℕ → List ℕ
+module_line name form = answer_line (codes "module " ++ name ++ codes " " ++ form)
 
 -- the key of a function that a module defines
 abbrev pub home_if : Bool → List ℕ → Option (List ℕ)

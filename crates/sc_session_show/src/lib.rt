@@ -13,6 +13,6 @@ mod tasks;
 mod types;
 
 pub use frames::{put_line, where_line, where_lines};
-pub use listing::{defined_key, fun_lines, module_lines};
+pub use listing::{defined_key, fun_lines, put_module};
 pub use names::{Seen, print_line, print_line_in, visible};
 pub use references::{Found, is_declared_in, places_text, put_found, put_type_line};

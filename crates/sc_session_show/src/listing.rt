@@ -4,7 +4,7 @@ ghost use Rattle.sc_session_show.specs.Listings as spec;
 
 use crate::frames::put_line;
 use indexmap::IndexSet;
-use sc_base::{Bytes, Duplicate, Form, Key, Name, NoMemory, Shared};
+use sc_base::{Bytes, Duplicate, Key, Name, NoMemory, Shared};
 use sc_core::Fun;
 use sc_core_held::{Numbers, Text, insert_key};
 use sc_session_texts::{put, put_decimal, put_key};
@@ -13,35 +13,21 @@ use std::alloc::Global;
 /// The number of the first function behind those of the library.
 const FIRST_NUMBER: u32 = 39;
 
-fn form_text(form: Form) -> &'static [u8]
-    ensures { result.now ≡ spec.form_text form }
-{
-    match form {
-        Form::Source => b"source",
-        Form::Object => b"object",
-    }
-}
-
-fn put_module(text: &mut Vec<u8>, alloc: Global, t: &Text) -> Result<(), NoMemory>
-    ensures { OnOk result (text.new.items ≡ text.old.items ++ spec.module_line t.now) }
+/// A line for a module: its name, and the word for its form.
+pub fn put_module(
+    text: &mut Vec<u8>,
+    alloc: Global,
+    name: &Name,
+    form: &[u8],
+) -> Result<(), NoMemory>
+    ensures { OnOk result (text.new.items ≡ text.old.items ++ spec.module_line name.now form.now) }
 {
     let mut said = Vec::new(alloc);
     put(&mut said, b"module ")?;
-    put(&mut said, t.core.get().name.as_slice())?;
+    put(&mut said, name.as_slice())?;
     put(&mut said, b" ")?;
-    put(&mut said, form_text(t.form))?;
+    put(&mut said, form)?;
     put_line(text, said.as_slice())
-}
-
-/// A line for each module, in their order: its name and its form.
-pub fn module_lines(alloc: Global, texts: &[Text]) -> Result<Bytes, NoMemory>
-    ensures { IfOk result (λ text. text ≡ spec.module_lines texts.now) }
-{
-    let mut text = Vec::new(alloc);
-    for t in texts {
-        put_module(&mut text, alloc, t)?;
-    }
-    Ok(Bytes::from_vec(text))
 }
 
 /// The key of a function that a module defines.

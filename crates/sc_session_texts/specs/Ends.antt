@@ -1,6 +1,6 @@
 -- Yardstick: to be compared with what it restates (docs/TRUST.md).
 -- What is said of the end of a run, and how an answer stands behind the bytes that the program wrote.
-use Rattle.std.specs.Prelude.{ℕ, ◌++◌, ◌==◌, ◌-◌, if◌then◌else◌, List, [], ◌∷◌, length, slice_get, Option, Some, None, codes, decimal}
+use Rattle.std.specs.Prelude.{ℕ, Bool, true, false, ◌++◌, ◌==◌, ◌-◌, if◌then◌else◌, List, [], ◌∷◌, length, slice_get, Option, Some, None, codes, decimal}
 use Rattle.std.specs.Fmt.{signed_decimal}
 use Rattle.sc_base.specs.declared.integer.Int.TheVariants.{Int as PlainInt}
 use Rattle.sc_ops.specs.Numbers.{number_of}
@@ -45,3 +45,17 @@ abbrev pub end_text : Ended → World → Option (List ℕ)
 end_text ended.OutOfSteps w = None
 end_text ended.NoRoom w = None
 end_text e w = stop_text 0 e w
+
+-- How an evaluation ended that exits with a number: its function came back with that value, and is active no more; or `exit` was called.
+abbrev pub came_back : List Frame → List ℕ
+came_back [] = codes "value "
+came_back (f ∷ frames) = codes "exit "
+
+abbrev pub evaluation_text : Ended → World → Option (List ℕ)
+evaluation_text (ended.Exit status) w = Some (came_back w.frames ++ signed_decimal (number_of PlainInt status))
+evaluation_text e w = end_text e w
+
+-- what is said of the end of a run, by whether it is an evaluation
+abbrev pub outcome_text : Bool → Ended → World → Option (List ℕ)
+outcome_text false e w = end_text e w
+outcome_text true e w = evaluation_text e w

@@ -127,14 +127,18 @@ fn translated(alloc: Global, number: u32, name: &[u8], text: &str) -> Result<Par
         core,
         scopes,
         places,
+        kept,
         object,
+        fast,
     } = built;
     drop(scopes);
     drop(places);
+    drop(kept);
+    drop(fast);
     Ok(Part {
         number,
         core: Module::new(alloc, core)?,
-        object: Shared::new(alloc, object)?,
+        object,
     })
 }
 

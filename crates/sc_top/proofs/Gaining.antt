@@ -4,18 +4,18 @@ use Rattle.std.specs.Prelude.{remove, nat_lt, ⊤}
 use Rattle.std.proofs.lemmas.Bool.{ltb-true, lt-ltb}
 use Rattle.sc_base.specs.declared.note.Note.{Note}
 use Rattle.sc_outside.specs.Causes.{Rose}
-use Rattle.sc_top.specs.Given.{Hears, IsGiven, EachIsGiven}
+use Rattle.sc_top.specs.Given.{Hears, GainedBy, IsGiven, EachIsGiven, first_mark, later_marks}
 use Rattle.sc_top.specs.Hearing.{AreHeard, AreLeft, AreTold, Gained, HaveGained}
 use Rattle.sc_top.specs.Listed.{marks_without, may_go}
-use Rattle.sc_top.specs.Marked.{AllGained, AreMarked, GainedBy, first_mark, later_marks}
+use Rattle.sc_top.specs.Marked.{AllGained, AreMarked}
 use Rattle.sc_top.proofs.Hearing.{takes_both, takes_part, takes_more, takes_nothing}
 use Rattle.sc_top.proofs.Lasting.{heard_same, heard_on, heard_given, heard_dropped, heard_alike}
 
-gained_none : (told : Option (List Note)) (lost : ℕ) (m : Bool) → GainedBy [] told told lost lost m m
+pub gained_none : (told : Option (List Note)) (lost : ℕ) (m : Bool) → GainedBy [] told told lost lost m m
 gained_none told lost true = (refl, refl, refl)
 gained_none told lost false = record { notes = takes_nothing told; faults = refl }
 
-gained_alike : (told told' : Option (List Note)) (lost lost' : ℕ) (m : Bool) → told' ≡ told → lost' ≡ lost → GainedBy [] told told' lost lost' m m
+pub gained_alike : (told told' : Option (List Note)) (lost lost' : ℕ) (m : Bool) → told' ≡ told → lost' ≡ lost → GainedBy [] told told' lost lost' m m
 gained_alike told told' lost lost' m same still =
     subst (λ t. GainedBy [] told t lost lost' m m) (sym same) (subst (λ n. GainedBy [] told told lost n m m) (sym still) (gained_none told lost m))
 
@@ -47,10 +47,10 @@ all_on notes faults a b (p ∷ ps) (q ∷ qs) (r ∷ rs) ms ns os (inl (g, h)) (
 all_on notes faults a b (p ∷ ps) (q ∷ qs) (r ∷ rs) ms ns os (inr h) k = inr (all_on notes faults a b ps (q ∷ qs) (r ∷ rs) (later_marks ms) ns os h k)
 
 -- each tells the notes that it told, and counts the faults that it counted
-same_head : {X : Type 0} (a b : X) (xs ys : List X) → a ∷ xs ≡ b ∷ ys → a ≡ b
+pub same_head : {X : Type 0} (a b : X) (xs ys : List X) → a ∷ xs ≡ b ∷ ys → a ≡ b
 same_head a b xs ys e = cc
 
-same_tail : {X : Type 0} (a b : X) (xs ys : List X) → a ∷ xs ≡ b ∷ ys → xs ≡ ys
+pub same_tail : {X : Type 0} (a b : X) (xs ys : List X) → a ∷ xs ≡ b ∷ ys → xs ≡ ys
 same_tail a b xs ys e = cc
 
 all_alike : {A : Type 0} (notes : A → Option (List Note)) (faults : A → ℕ) (ps qs : List A) (marks : List Bool) → map notes qs ≡ map notes ps → map faults qs ≡ map faults ps → AllGained notes faults [] ps marks qs marks
@@ -64,7 +64,7 @@ all_alike notes faults (p ∷ ps) (q ∷ qs) marks same still =
     )
 
 -- what a go gives
-gained_given : {A : Type 0} (notes : A → Option (List Note)) (faults : A → ℕ) (given : List Note) (p q : A) (m m' : Bool) → IsGiven notes faults given p q m m' → GainedBy given (notes p) (notes q) (faults p) (faults q) m m'
+pub gained_given : {A : Type 0} (notes : A → Option (List Note)) (faults : A → ℕ) (given : List Note) (p q : A) (m m' : Bool) → IsGiven notes faults given p q m m' → GainedBy given (notes p) (notes q) (faults p) (faults q) m m'
 gained_given notes faults given p q true m' (same, mark) = (ap notes same, ap faults same, mark)
 gained_given notes faults given p q false false h = h
 gained_given notes faults given p q false true h = h

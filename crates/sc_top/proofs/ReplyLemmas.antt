@@ -8,14 +8,16 @@ use Rattle.sc_outside.specs.Stored.{FileMap}
 use Rattle.sc_outside.specs.Streams.{Writes, AppendsSome}
 use Rattle.sc_outside.specs.declared.sink.Sent.{Sent}
 use Rattle.sc_outside.specs.declared.sink.Sent.TheVariants as sent
-use Rattle.sc_session.specs.Transcript.{Moment, Speaks, BreaksOff, GoFirst, WritesFirst, is_go}
+use Rattle.sc_session.specs.Transcript.{Moment, moment, asked, Speaks, BreaksOff, GoFirst, WritesFirst, is_go}
 use Rattle.sc_words.specs.Commands.{command_of}
 use Rattle.sc_words.specs.declared.answer.Answer.{Answer}
 use Rattle.sc_words.specs.declared.answer.Answer.TheVariants as answer
 use Rattle.sc_words.specs.declared.command.Command.{Command}
 use Rattle.sc_words.specs.declared.command.Command.TheVariants as command
 use Rattle.sc_top.specs.Transcript.{IsUnread, line_of, behind as after_answer}
-use Rattle.sc_top.specs.Sessions.{AnswersLine, LineAnswered, Replied, Sends, Unreplied, progress_of}
+use Rattle.sc_top.specs.Attended.{LineBeside}
+use Rattle.sc_top.specs.Beside.{Audience, Hears, Seen}
+use Rattle.sc_top.specs.Sessions.{LineAnswered, Replied, Sends, Unreplied, progress_of}
 use Rattle.sc_top.specs.declared.line.Progress.TheVariants as progress
 use Rattle.sc_world.specs.declared.post.Unsent.{Unsent}
 use Rattle.sc_top.specs.Waiting.{IsOnItsWay, IsPartlyOnItsWay, Posts}
@@ -44,6 +46,7 @@ unread before line known waited later is = ([], inr (refl, is), later, still kno
 -- a command that lets no program go on is not broken off
 no_go : (old : Moment) (c : Command) (front : List ℕ) → is_go c ≡ false → WritesFirst old c front → ⊥
 no_go old (command.Run file) front p q = absurd (cc)
+no_go old (command.Eval name line) front p q = absurd (cc)
 no_go old command.Step front p q = absurd (cc)
 no_go old command.Next front p q = absurd (cc)
 no_go old command.Cont front p q = absurd (cc)
@@ -54,8 +57,10 @@ no_go old command.BadArguments front p q = q
 no_go old (command.Load name) front p q = q
 no_go old (command.Unload name) front p q = q
 no_go old (command.Swap name form) front p q = q
+no_go old (command.SwapFast name) front p q = q
 no_go old (command.Edit name file) front p q = q
 no_go old (command.Compile name) front p q = q
+no_go old (command.CompileFast name) front p q = q
 no_go old (command.Stop place) front p q = q
 no_go old (command.Delete k) front p q = q
 no_go old command.Frames front p q = q
@@ -75,7 +80,8 @@ breaks_through before line c held old mid new waited waiting is none p (same, (f
     (same, front, inr (subst (λ c. GoFirst before c front) is first), subst (λ r. IsPartlyOnItsWay old new r (waited ++ front)) (sym none) (partly old new [] (waited ++ front) (through old mid new waited front p gains)))
 
 pub breaks_still : (before : Moment) (line : List ℕ) (c : Command) (held : Option FileMap) (old new : Option (List ℕ)) (waited waiting : List ℕ) → is_go c ≡ false → BreaksOff old new before c held → Unreplied before line held old new waited waiting
-breaks_still before line c held old new waited waiting still_there (same, (front, gains, first)) = absurd (no_go before c front still_there first.1)
+breaks_still before line c held old new waited waiting still_there (same, (front, gains, first)) =
+    absurd (no_go (moment (asked c before.session) before.held before.faults) c front still_there first.1)
 
 pub unflushed : (before : Moment) (line : List ℕ) (result : Sent) (old new : Option (List ℕ)) (waited waiting : List ℕ) → waiting ≡ [] → Writes old new result waited → Unreplied before line before.held old new waited waiting
 unflushed before line result old new waited waiting none wrote =
@@ -113,19 +119,22 @@ sends_of sent.Done false old new waiting text p = (refl, p)
 sends_of sent.Failed over old new waiting text p = p
 sends_of sent.NoMemory over old new waiting text p = p
 
-pub line_answered : (before mid after : Moment) (line : List ℕ) (said : Answer) (s : Sent) (within over : Bool) (old through new : Option (List ℕ)) (waited first waiting : List ℕ)
+pub line_answered : {A : Type 0} (see : Seen A) (a b : Audience A) (before mid after : Moment) (line : List ℕ) (said : Answer) (s : Sent) (within over : Bool) (old through new : Option (List ℕ)) (waited first waiting : List ℕ)
     → within ≡ mid.session.in_line → after ≡ after_answer said mid → over ≡ after.session.over → Replied before line said mid old through waited first → Posts through new waiting s (first ++ line_of within said)
-    → AnswersLine before line after old new waited waiting (progress_of s over)
-line_answered before mid after line said s within over old through new waited first waiting at is ends (front, replies, later, on) posts =
+    → Hears see (command_of line) said mid.session.state a b → LineBeside see before line after old new waited waiting (progress_of s over) a b
+line_answered see a b before mid after line said s within over old through new waited first waiting at is ends (front, replies, later, on) posts hears =
     let whole : List ℕ = front ++ line_of mid.session.in_line said in
     let here : Posts through new waiting s (first ++ line_of mid.session.in_line said) = subst (λ o. Posts through new waiting s (first ++ line_of o said)) at posts in
     let all : Posts old new waiting s (waited ++ whole) =
     subst (Posts old new waiting s) (append_assoc waited front (line_of mid.session.in_line said)) (posts_behind s old through new first waiting (waited ++ front) (line_of mid.session.in_line said) on here) in
-    inl (record {
-      text = whole;
-      answers = record { front = front; said = said; mid = mid; replies = replies; text = refl; after = is; later = subst (λ (m : Moment). before.faults ≤ m.faults) (sym is) later };
-      sends = subst (λ b. Sends (progress_of s over) b old new waiting (waited ++ whole)) ends (sends_of s over old new waiting (waited ++ whole) all);
-    })
+    inl (
+      record {
+        text = whole;
+        answers = record { front = front; said = said; mid = mid; replies = replies; text = refl; after = is; later = subst (λ (m : Moment). before.faults ≤ m.faults) (sym is) later };
+        sends = subst (λ b. Sends (progress_of s over) b old new waiting (waited ++ whole)) ends (sends_of s over old new waiting (waited ++ whole) all);
+      },
+      hears,
+    )
 
 -- why an answer was not written
 fault_of : (s : Sent) (over : Bool) → progress_of s over ≡ progress.WriteFault → s ≡ sent.Failed

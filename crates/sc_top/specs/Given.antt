@@ -33,6 +33,21 @@ IsGiven notes faults given p q true mark = (q ≡ p) × (mark ≡ true)
 IsGiven notes faults given p q false false = Hears (notes p) (notes q) (faults p) (faults q) given true
 IsGiven notes faults given p q false true = Hears (notes p) (notes q) (faults p) (faults q) given false
 
+-- the mark of the first, which is not set where there is none, and those of the others
+abbrev pub first_mark : List Bool → Bool
+first_mark [] = false
+first_mark (m ∷ marks) = m
+
+abbrev pub later_marks : List Bool → List Bool
+later_marks [] = []
+later_marks (m ∷ marks) = marks
+
+-- what one gained of some notes, by what it tells before and behind them: one that was marked gained nothing, and one that lost a note is marked
+abbrev pub GainedBy : List Note → Option (List Note) → Option (List Note) → ℕ → ℕ → Bool → Bool → Type 0
+GainedBy given told told' lost lost' true mark = (told' ≡ told) × (lost' ≡ lost) × (mark ≡ true)
+GainedBy given told told' lost lost' false false = Hears told told' lost lost' given true
+GainedBy given told told' lost lost' false true = Hears told told' lost lost' given false
+
 -- the same for the first n of a list, place by place; the others are let alone
 abbrev pub EachIsGiven : {A : Type 0} → ℕ → (A → Option (List Note)) → (A → ℕ) → List Note → List A → List A → List Bool → List Bool → Type 0
 EachIsGiven zero notes faults given ps qs marks marks' = (qs ≡ ps) × (marks' ≡ marks)

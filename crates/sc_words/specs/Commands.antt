@@ -5,7 +5,7 @@ use Rattle.std.specs.Option.{option_map_or}
 use Rattle.std.specs.Str.{bytes_eq}
 use Rattle.sc_base.specs.declared.memory.Form.{Form}
 use Rattle.sc_base.specs.declared.memory.Form.TheVariants as form
-use Rattle.sc_words.specs.Lines.{words_of}
+use Rattle.sc_words.specs.Lines.{words_of, behind_word}
 use Rattle.sc_words.specs.Parts.{is_module_name, is_identifier, is_file_name, is_numeral, number_of, parts_of}
 use Rattle.sc_words.specs.declared.stop.StopAt.TheVariants.{InFun, AtLine}
 use Rattle.sc_words.specs.declared.verb.Verb.{Verb}
@@ -35,10 +35,11 @@ verb_of word =
     else (if bytes_eq word (codes "disas") then Some verb.Disas
     else (if bytes_eq word (codes "xref") then Some verb.Xref
     else (if bytes_eq word (codes "whatis") then Some verb.Whatis
+    else (if bytes_eq word (codes "eval") then Some verb.Eval
     else (if bytes_eq word (codes "report") then Some verb.Report
     else (if bytes_eq word (codes "drop") then Some verb.Drop
     else (if bytes_eq word (codes "reset") then Some verb.Reset
-    else (if bytes_eq word (codes "quit") then Some verb.Quit else None))))))))))))))))))))))
+    else (if bytes_eq word (codes "quit") then Some verb.Quit else None)))))))))))))))))))))))
 
 -- ---- the further words
 
@@ -63,8 +64,15 @@ abbrev pub swap_to : List ℕ → Option Form → Command
 swap_to name None = command.BadArguments
 swap_to name (Some form) = command.Swap name form
 
+-- the word for the text of the second compiler
+abbrev pub is_fast : List ℕ → Bool
+is_fast word = bytes_eq word (codes "fast")
+
+abbrev pub swap_by : List ℕ → List ℕ → Command
+swap_by name word = if is_fast word then command.SwapFast name else swap_to name (form_of word)
+
 abbrev pub swap_of : List (List ℕ) → Command
-swap_of (name ∷ word ∷ []) = if is_module_name name then swap_to name (form_of word) else command.BadArguments
+swap_of (name ∷ word ∷ []) = if is_module_name name then swap_by name word else command.BadArguments
 swap_of _ = command.BadArguments
 
 abbrev pub edit_of : List (List ℕ) → Command
@@ -75,6 +83,8 @@ edit_of _ = command.BadArguments
 
 abbrev pub compile_of : List (List ℕ) → Command
 compile_of (name ∷ []) = if is_module_name name then command.Compile name else command.BadArguments
+compile_of (name ∷ word ∷ []) =
+    if is_module_name name && is_fast word then command.CompileFast name else command.BadArguments
 compile_of _ = command.BadArguments
 
 abbrev pub run_of : List (List ℕ) → Command
@@ -141,38 +151,49 @@ abbrev pub disas_of : List (List ℕ) → Command
 disas_of (place ∷ []) = code_of (function_of place (parts_of place))
 disas_of _ = command.BadArguments
 
+-- a module, and the text of an expression, which has words
+abbrev pub eval_in : List (List ℕ) → List ℕ → Command
+eval_in (name ∷ word ∷ words) text = if is_module_name name then command.Eval name text else command.BadArguments
+eval_in _ text = command.BadArguments
+
+abbrev pub eval_of : List ℕ → Command
+eval_of rest = eval_in (words_of rest) (behind_word rest)
+
 -- ---- the whole line
 
-abbrev pub command_by : Verb → List (List ℕ) → Command
-command_by verb.Load words = load_of words
-command_by verb.Unload words = unload_of words
-command_by verb.Swap words = swap_of words
-command_by verb.Edit words = edit_of words
-command_by verb.Compile words = compile_of words
-command_by verb.Run words = run_of words
-command_by verb.Stop words = stop_of words
-command_by verb.Delete words = delete_of words
-command_by verb.Step words = alone command.Step words
-command_by verb.Next words = alone command.Next words
-command_by verb.Cont words = alone command.Cont words
-command_by verb.StepOne words = alone command.StepOne words
-command_by verb.Where words = alone command.Frames words
-command_by verb.Print words = print_of words
-command_by verb.List words = alone command.List words
-command_by verb.Machine words = alone command.Machine words
-command_by verb.Disas words = disas_of words
-command_by verb.Xref words = xref_of words
-command_by verb.Whatis words = whatis_of words
-command_by verb.Report words = report_of words
-command_by verb.Drop words = drop_of words
-command_by verb.Reset words = alone command.Reset words
-command_by verb.Quit words = alone command.Quit words
+-- a command by its first word and what stands behind that
+
+abbrev pub command_by : Verb → List ℕ → Command
+command_by verb.Load rest = load_of (words_of rest)
+command_by verb.Unload rest = unload_of (words_of rest)
+command_by verb.Swap rest = swap_of (words_of rest)
+command_by verb.Edit rest = edit_of (words_of rest)
+command_by verb.Compile rest = compile_of (words_of rest)
+command_by verb.Run rest = run_of (words_of rest)
+command_by verb.Stop rest = stop_of (words_of rest)
+command_by verb.Delete rest = delete_of (words_of rest)
+command_by verb.Step rest = alone command.Step (words_of rest)
+command_by verb.Next rest = alone command.Next (words_of rest)
+command_by verb.Cont rest = alone command.Cont (words_of rest)
+command_by verb.StepOne rest = alone command.StepOne (words_of rest)
+command_by verb.Where rest = alone command.Frames (words_of rest)
+command_by verb.Print rest = print_of (words_of rest)
+command_by verb.List rest = alone command.List (words_of rest)
+command_by verb.Machine rest = alone command.Machine (words_of rest)
+command_by verb.Disas rest = disas_of (words_of rest)
+command_by verb.Xref rest = xref_of (words_of rest)
+command_by verb.Whatis rest = whatis_of (words_of rest)
+command_by verb.Eval rest = eval_of rest
+command_by verb.Report rest = report_of (words_of rest)
+command_by verb.Drop rest = drop_of (words_of rest)
+command_by verb.Reset rest = alone command.Reset (words_of rest)
+command_by verb.Quit rest = alone command.Quit (words_of rest)
 
 -- the first word is no command; or the line has more than 1,024 bytes
-abbrev pub asked : Bool → Option Verb → List (List ℕ) → Command
-asked fits None words = command.Unknown
-asked false (Some v) words = command.BadArguments
-asked true (Some v) words = command_by v words
+abbrev pub asked : Bool → Option Verb → List ℕ → Command
+asked fits None rest = command.Unknown
+asked false (Some v) rest = command.BadArguments
+asked true (Some v) rest = command_by v rest
 
 -- a word that begins a comment
 abbrev pub is_comment : List ℕ → Bool
@@ -180,13 +201,13 @@ is_comment [] = false
 is_comment (b ∷ bytes) = b == 35
 
 -- a line without words, or whose first word begins with `#`, asks for nothing
-abbrev pub command_of_words : Bool → List (List ℕ) → Command
-command_of_words fits [] = command.Nothing
-command_of_words fits (word ∷ words) =
-    if is_comment word then command.Nothing else asked fits (verb_of word) words
+abbrev pub command_of_words : Bool → List (List ℕ) → List ℕ → Command
+command_of_words fits [] rest = command.Nothing
+command_of_words fits (word ∷ words) rest =
+    if is_comment word then command.Nothing else asked fits (verb_of word) rest
 
 abbrev pub command_of : List ℕ → Command
-command_of line = command_of_words (nat_le (length line) 1024) (words_of line)
+command_of line = command_of_words (nat_le (length line) 1024) (words_of line) (behind_word line)
 
 -- ---- what is known of a command
 
@@ -199,8 +220,11 @@ abbrev pub IsNamed : Command → Type 0
 IsNamed (command.Load name) = is_module_name name ≡ true
 IsNamed (command.Unload name) = is_module_name name ≡ true
 IsNamed (command.Swap name form) = is_module_name name ≡ true
+IsNamed (command.SwapFast name) = is_module_name name ≡ true
 IsNamed (command.Edit name file) = (is_module_name name ≡ true) × IsFile file
 IsNamed (command.Compile name) = is_module_name name ≡ true
+IsNamed (command.CompileFast name) = is_module_name name ≡ true
+IsNamed (command.Eval name text) = is_module_name name ≡ true
 IsNamed (command.Run file) = IsFile file
 IsNamed _ = Unit {0}
 

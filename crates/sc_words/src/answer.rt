@@ -15,8 +15,12 @@ pub enum Answer {
     Loaded(Name),
     Unloaded(Name),
     Swapped(Name, Form),
+    /// The module runs the text of the second compiler.
+    SwappedFast(Name),
     Edited(Name),
     Compiled(Name),
+    /// The object of the second compiler was written.
+    CompiledFast(Name),
     /// A stop was set, with its number.
     StopSet(u32, StopAt),
     Deleted(u32),
@@ -182,6 +186,13 @@ fn swapped_text(alloc: Global, name: &Name, form: Form) -> Result<Vec<u8>, NoMem
     with_word(alloc, name.as_slice(), form_text(form))
 }
 
+// A module, and the word for the text of the second compiler.
+fn fast_text(alloc: Global, name: &Name) -> Result<Vec<u8>, NoMemory>
+    ensures { IfOk result (λ text. text.items ≡ name.now ++ codes " fast") }
+{
+    with_word(alloc, name.as_slice(), b" fast")
+}
+
 fn form_text(form: Form) -> &'static [u8]
     ensures { result.now ≡ spec.form_text form }
 {
@@ -275,8 +286,12 @@ pub fn answer_text(alloc: Global, answer: &Answer) -> Result<Bytes, NoMemory>
             b"> ",
             swapped_text(alloc, name, *form)?.as_slice(),
         ),
+        Answer::SwappedFast(name) => line_of(alloc, b"> ", fast_text(alloc, name)?.as_slice()),
         Answer::Edited(name) => line_of(alloc, b"> edited ", name.as_slice()),
         Answer::Compiled(name) => line_of(alloc, b"> compiled ", name.as_slice()),
+        Answer::CompiledFast(name) => {
+            line_of(alloc, b"> compiled ", fast_text(alloc, name)?.as_slice())
+        }
         Answer::StopSet(number, stop) => stop_line(alloc, *number, stop),
         Answer::Deleted(number) => deleted_line(alloc, *number),
         Answer::Ran(text) => Bytes::from_slice(alloc, text.as_slice()),

@@ -2,7 +2,7 @@
 ghost use Rattle.std.specs.Prelude.{◌≡◌, true, [], ◌∷◌, IfOk, OnErr, IfSome, IfNone, Some, None, option_map};
 ghost use Rattle.sc_words.specs.Lines.{words_of};
 ghost use Rattle.sc_words.specs.Parts.{is_module_name, parts_of};
-ghost use Rattle.sc_words.specs.Commands.{command_of, command_by, alone, load_of, unload_of, swap_of, swap_to, form_of, edit_of, compile_of, run_of, stop_of, function_of, in_function, at_line, number_alone, delete_of, report_of, drop_of, name_alone, print_of, xref_of, whatis_of, disas_of, is_comment, IsNamed, IsAnswered};
+ghost use Rattle.sc_words.specs.Commands.{command_of, command_by, alone, load_of, unload_of, swap_of, swap_by, swap_to, form_of, is_fast, edit_of, compile_of, run_of, stop_of, function_of, in_function, at_line, number_alone, delete_of, report_of, drop_of, name_alone, print_of, xref_of, whatis_of, eval_of, disas_of, is_comment, IsNamed, IsAnswered};
 
 use crate::line::next_word;
 use crate::part::{
@@ -10,7 +10,7 @@ use crate::part::{
 };
 use crate::stop::StopAt;
 use crate::verb::{Verb, verb_of};
-use sc_base::{Form, Name, NoMemory};
+use sc_base::{Bytes, Form, Name, NoMemory};
 use std::alloc::Global;
 
 /// The most bytes that a command's line may have.
@@ -28,10 +28,14 @@ pub enum Command {
     Unload(Name),
     /// `swap M source`, or `swap M object`
     Swap(Name, Form),
+    /// `swap M fast`
+    SwapFast(Name),
     /// `edit M`, or `edit M FILE`
     Edit(Name, Option<Name>),
     /// `compile M`
     Compile(Name),
+    /// `compile M fast`
+    CompileFast(Name),
     /// `run`, or `run FILE`
     Run(Option<Name>),
     /// `stop in F`, `stop in M:F` or `stop at M:N`
@@ -55,6 +59,8 @@ pub enum Command {
     Xref(Name),
     /// `whatis NAME`
     Whatis(Name),
+    /// `eval M E`: the module, and the text of the expression
+    Eval(Name, Bytes),
     /// `report K`
     Report(u32),
     /// `drop K`
@@ -98,9 +104,9 @@ fn is_comment(word: &[u8]) -> bool
 }
 
 fn command_by(alloc: Global, verb: Verb, rest: &[u8]) -> Result<Command, NoMemory>
-    ensures command { IfOk result (λ command. command ≡ command_by verb (words_of rest.now)) }
+    ensures command { IfOk result (λ command. command ≡ command_by verb rest.now) }
     ensures named { IfOk result IsNamed }
-    ensures no_memory { OnErr result (IsAnswered (command_by verb (words_of rest.now))) }
+    ensures no_memory { OnErr result (IsAnswered (command_by verb rest.now)) }
 {
     match verb {
         Verb::Load => load_of(alloc, rest),
@@ -122,6 +128,7 @@ fn command_by(alloc: Global, verb: Verb, rest: &[u8]) -> Result<Command, NoMemor
         Verb::Disas => disas_of(alloc, rest),
         Verb::Xref => xref_of(alloc, rest),
         Verb::Whatis => whatis_of(alloc, rest),
+        Verb::Eval => eval_of(alloc, rest),
         Verb::Report => Ok(report_of(rest)),
         Verb::Drop => Ok(drop_of(rest)),
         Verb::Reset => Ok(alone(Command::Reset, rest)),
@@ -181,6 +188,12 @@ fn form_of(word: &[u8]) -> Option<Form>
     None
 }
 
+fn is_fast(word: &[u8]) -> bool
+    ensures { result ≡ is_fast word.now }
+{
+    word == b"fast".as_slice()
+}
+
 fn swap_of(alloc: Global, rest: &[u8]) -> Result<Command, NoMemory>
     ensures command { IfOk result (λ command. command ≡ swap_of (words_of rest.now)) }
     ensures named { IfOk result IsNamed }
@@ -194,6 +207,20 @@ fn swap_of(alloc: Global, rest: &[u8]) -> Result<Command, NoMemory>
     };
     if next_word(rest).is_some() || !is_module_name(name) {
         return Ok(Command::BadArguments);
+    }
+    swap_by(alloc, name, word)
+}
+
+// What a word asks of the module with a name.
+fn swap_by(alloc: Global, name: &[u8], word: &[u8]) -> Result<Command, NoMemory>
+    requires { is_module_name name.now ≡ true }
+    ensures command { IfOk result (λ command. command ≡ swap_by name.now word.now) }
+    ensures named { IfOk result IsNamed }
+    ensures no_memory { OnErr result (IsAnswered (swap_by name.now word.now)) }
+{
+    if is_fast(word) {
+        let name = name_of(alloc, name)?;
+        return Ok(Command::SwapFast(name));
     }
     swap_to(alloc, name, form_of(word))
 }
@@ -243,11 +270,18 @@ fn compile_of(alloc: Global, rest: &[u8]) -> Result<Command, NoMemory>
     let Some((name, rest)) = next_word(rest) else {
         return Ok(Command::BadArguments);
     };
-    if next_word(rest).is_some() || !is_module_name(name) {
+    if !is_module_name(name) {
+        return Ok(Command::BadArguments);
+    }
+    let Some((word, rest)) = next_word(rest) else {
+        let name = name_of(alloc, name)?;
+        return Ok(Command::Compile(name));
+    };
+    if next_word(rest).is_some() || !is_fast(word) {
         return Ok(Command::BadArguments);
     }
     let name = name_of(alloc, name)?;
-    Ok(Command::Compile(name))
+    Ok(Command::CompileFast(name))
 }
 
 fn run_of(alloc: Global, rest: &[u8]) -> Result<Command, NoMemory>
@@ -433,6 +467,23 @@ fn whatis_of(alloc: Global, rest: &[u8]) -> Result<Command, NoMemory>
     };
     let name = name_of(alloc, name)?;
     Ok(Command::Whatis(name))
+}
+
+// A module, and behind it the text of an expression, which has words.
+fn eval_of(alloc: Global, rest: &[u8]) -> Result<Command, NoMemory>
+    ensures command { IfOk result (λ command. command ≡ eval_of rest.now) }
+    ensures named { IfOk result IsNamed }
+    ensures no_memory { OnErr result (IsAnswered (eval_of rest.now)) }
+{
+    let Some((name, text)) = next_word(rest) else {
+        return Ok(Command::BadArguments);
+    };
+    if next_word(text).is_none() || !is_module_name(name) {
+        return Ok(Command::BadArguments);
+    }
+    let name = name_of(alloc, name)?;
+    let text = Bytes::from_slice(alloc, text)?;
+    Ok(Command::Eval(name, text))
 }
 
 fn disas_of(alloc: Global, rest: &[u8]) -> Result<Command, NoMemory>

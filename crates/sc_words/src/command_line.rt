@@ -16,8 +16,10 @@ const COMMANDS: &str = "Commands, one on each line of the standard input:
   unload M        takes the module away
   swap M source   interprets the module
   swap M object   runs the module as its object in M.o
+  swap M fast     runs the module as its faster object in M.fast.o
   edit M [FILE]   puts the text of FILE, or of M.c, in the module's place
   compile M       writes the object of the module to M.o
+  compile M fast  writes the faster object of the module to M.fast.o
   run [FILE]      runs main, with the bytes of FILE as input
   stop in F       stops at the entry of a function; F is NAME or M:NAME
   stop at M:N     stops at a line
@@ -33,6 +35,7 @@ const COMMANDS: &str = "Commands, one on each line of the standard input:
   disas F         shows the instructions of a compiled function; F is NAME or M:NAME
   xref NAME       shows every place of a name of file scope
   whatis NAME     shows the type of a name of file scope in each module
+  eval M E        shows the value of an expression in the terms of a module
   report K        shows what a probe tells
   drop K          takes a probe away
   reset           gives the run up

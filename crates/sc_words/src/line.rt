@@ -1,7 +1,7 @@
 // The words of a line, one at a time from the front.
 ghost use Rattle.std.specs.Prelude.{◌≡◌, ℕ, [], ◌∷◌, length, IfSome, IfNone};
 ghost use Rattle.std.specs.List.{take_while};
-ghost use Rattle.sc_words.specs.Lines.{words_of, is_space, is_word_byte};
+ghost use Rattle.sc_words.specs.Lines.{words_of, behind_word, is_space, is_word_byte};
 
 fn is_space(b: u8) -> bool
     ensures { result ≡ is_space b }
@@ -27,6 +27,7 @@ fn joined(text: &[u8]) -> usize
 pub fn next_word<'a>(text: &'a [u8]) -> Option<(&'a [u8], &'a [u8])>
     ensures none { IfNone result (words_of text.now ≡ []) }
     ensures some { IfSome result (λ found. words_of text.now ≡ found.0.now ∷ words_of found.1.now) }
+    ensures behind { IfSome result (λ found. found.1.now ≡ behind_word text.now) }
 {
     let start = skipped(text);
     let (_, rest) = text.split_at(start);

@@ -23,6 +23,7 @@ pub enum Verb {
     Disas,
     Xref,
     Whatis,
+    Eval,
     Report,
     Drop,
     Reset,
@@ -88,6 +89,9 @@ pub fn verb_of(word: &[u8]) -> Option<Verb>
     }
     if word == b"whatis".as_slice() {
         return Some(Verb::Whatis);
+    }
+    if word == b"eval".as_slice() {
+        return Some(Verb::Eval);
     }
     if word == b"report".as_slice() {
         return Some(Verb::Report);

@@ -73,9 +73,10 @@ impl Model for Run {
     ghost view = { λ r. spec.standing r.course r.callers r.world r.count };
 }
 
-// A world in which nothing is there yet. Where it is heard its objects will stand at addresses.
+// A world in which nothing is there yet. Where it is heard its objects will stand at addresses, and the entry has a number.
 fn world_of(
     alloc: Global,
+    key: &Key,
     stack: u64,
     heap: u64,
     input: Items<u8>,
@@ -85,7 +86,11 @@ fn world_of(
 {
     match heard {
         None => World::nowhere(alloc, stack, heap, input),
-        Some(layout) => World::heard(alloc, stack, heap, input, layout),
+        Some(layout) => {
+            let mut world = World::heard(alloc, stack, heap, input, layout)?;
+            world.name_entry(key)?;
+            Ok(world)
+        }
     }
 }
 
@@ -109,7 +114,7 @@ impl Run {
         ensures starts { IfOk result (λ r. r ≡ Some (started texts.now key.now stack heap input)) }
         ensures meant { IfOk result (λ r. IsRunOf (start_of texts.now key.now stack heap input) texts.now r) }
     {
-        let mut world = world_of(alloc, stack, heap, input, heard)?;
+        let mut world = world_of(alloc, key, stack, heap, input, heard)?;
         let callers = Stack::new(alloc);
         let first = begun(texts, key, &callers, &mut world);
         let course = course_of(first)?;

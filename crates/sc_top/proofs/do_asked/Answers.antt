@@ -11,6 +11,9 @@ returns-in-Some-clause-ended g c = λ none. not_counted c.args.options.now.make 
 pub returns-in-Some-clause-meaning : goal.returns-in-Some-clause-meaning
 returns-in-Some-clause-meaning g c = λ none. not_counted c.args.options.now.make c.in-Some.count c.in-Some.is none
 
+pub returns-in-Some-clause-heard : goal.returns-in-Some-clause-heard
+returns-in-Some-clause-heard g c = λ none. not_counted c.args.options.now.make c.in-Some.count c.in-Some.is none
+
 pub returns-in-Some-clause-made : goal.returns-in-Some-clause-made
 returns-in-Some-clause-made g c = λ count is. (
   refl,

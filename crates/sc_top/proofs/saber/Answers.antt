@@ -7,11 +7,13 @@ use Rattle.sc_top.specs.Making.{IsMade}
 use Rattle.sc_session_means.specs.Sessions.{Placing}
 use Rattle.sc_top.specs.BothForms.{EndedAsShown}
 use Rattle.sc_top.specs.Meaning.{EndedAsMeant}
+use Rattle.sc_top.specs.Beside.{EndedBeside, seen}
 use Rattle.sc_top.specs.Sessions.{Ended}
 use Rattle.sc_top.specs.declared.status.Status.TheVariants as status
 use Rattle.sc_top.proofs.MakingLemmas.{as_asked}
 use Rattle.sc_top.proofs.BothFormsLemmas.{as_shown}
 use Rattle.sc_top.proofs.MeaningLemmas.{as_meant}
+use Rattle.sc_top.proofs.AttendLemmas.{unbegun_beside}
 use Rattle.sc_top.proofs.SessionLemmas.{unbegun}
 use Rattle.sc_top.proofs.WaitingLemmas.{appends_none}
 use Rattle.sc_top.proofs.saber.Goals as goal
@@ -27,6 +29,9 @@ returns-in-Err-NoMemory-clause-sources g c = keeps_none (g.F.Files.held c.args.f
 
 pub returns-in-Err-NoMemory-clause-meaning : goal.returns-in-Err-NoMemory-clause-meaning
 returns-in-Err-NoMemory-clause-meaning g c = λ asked is none. as_meant (limits_of asked) _ _ _ _ _ _ _ status.NoMemory (inl (unbegun (limits_of asked) _ _ _ _ _))
+
+pub returns-in-Err-NoMemory-clause-heard : goal.returns-in-Err-NoMemory-clause-heard
+returns-in-Err-NoMemory-clause-heard g c = λ asked is none. unbegun_beside _ (limits_of asked) _ _ _ _ _ c.args.probes.now.items
 
 pub returns-in-Err-NoMemory-clause-both_forms : goal.returns-in-Err-NoMemory-clause-both_forms
 returns-in-Err-NoMemory-clause-both_forms g c = λ asked is none at. as_shown (limits_of asked) (length c.args.probes.now.items) _ _ _ _ _ _ status.NoMemory (inl (unbegun (limits_of asked) _ _ _ _ _)) at
@@ -45,6 +50,14 @@ returns-in-Ok-clause-meaning g c =
     as_asked (λ (o : Asked). o.make ≡ None → EndedAsMeant (g.S.Source.left c.args.commands.now) (g.K.Sink.written c.args.out.now) (g.K.Sink.written c.do_asked.new.out)
     (moment (empty (limits_of o) (length c.args.probes.now.items)) (g.F.Files.held c.args.files.now) (g.F.Files.faults c.args.files.now)) (g.F.Files.held c.do_asked.new.files, g.F.Files.faults c.do_asked.new.files) c.do_asked.result)
     _ c.in-Ok.options c.in-Ok.ensures.ok c.do_asked.ensures.meaning
+
+pub returns-in-Ok-clause-heard : goal.returns-in-Ok-clause-heard
+returns-in-Ok-clause-heard g c =
+    as_asked (λ (o : Asked). o.make ≡ None → EndedBeside (seen (λ p. (goal.Probe-dyn g (p.vtable, p.value)).notes p.value) (λ p. (goal.Probe-dyn g (p.vtable, p.value)).faults p.value) (λ p. (goal.Probe-dyn g (p.vtable, p.value)).report p.value))
+    (g.S.Source.left c.args.commands.now) (g.K.Sink.written c.args.out.now) (g.K.Sink.written c.do_asked.new.out)
+    (moment (empty (limits_of o) (length c.args.probes.now.items)) (g.F.Files.held c.args.files.now) (g.F.Files.faults c.args.files.now)) (g.F.Files.held c.do_asked.new.files, g.F.Files.faults c.do_asked.new.files) c.do_asked.result
+    c.args.probes.now.items c.do_asked.new.probes.items)
+    _ c.in-Ok.options c.in-Ok.ensures.ok c.do_asked.ensures.heard
 
 pub returns-in-Ok-clause-both_forms : goal.returns-in-Ok-clause-both_forms
 returns-in-Ok-clause-both_forms g c =

@@ -1,6 +1,6 @@
-use Rattle.std.proofs.Common.{sym, subst, ap, ◌∙◌, Ok, Err}
+use Rattle.std.proofs.Common.{sym, subst, Err}
 use Rattle.sc_build.specs.declared.building.BuildFault.{BuildFault}
-use Rattle.sc_build.specs.Builds.{Answers, Reads}
+use Rattle.sc_build.specs.Builds.{Answers}
 use Rattle.sc_build.proofs.Phases.{files_fail}
 use Rattle.sc_build.proofs.building.build.Goals as goal
 
@@ -11,6 +11,4 @@ returns-in-Err-clause-answers g c =
 
 pub returns-in-Ok-clause-answers : goal.returns-in-Ok-clause-answers
 returns-in-Ok-clause-answers g c =
-    let reads : Reads (g.F.Files.held c.args.files.now) c.args.file.now (Ok c.as_slice.result.now) =
-    λ map known. c.in-Ok.ensures.gives map known ∙ ap Ok (sym c.as_slice.ensures) in
-    c.parsed.ensures (g.F.Files.held c.args.files.now) (g.F.Files.faults c.args.files.now) (g.F.Files.faults c.preprocess.new.files) reads
+    c.parsed.ensures (g.F.Files.held c.args.files.now) (g.F.Files.faults c.args.files.now) (g.F.Files.faults c.preprocess.new.files) c.in-Ok.ensures.gives

@@ -1,15 +1,9 @@
-use Rattle.std.proofs.Common.{rules, ◌≡◌, ◌≤◌, ℕ, length, subst, ap, ◌∙◌}
-use Rattle.sc_object.specs.Spelling.{spelled}
-use Rattle.sc_gen.specs.Objects.{object_of}
+use Rattle.sc_gen.specs.Limits.{plain_code}
+use Rattle.sc_gen.proofs.Finishing.{compiled_is, fault_is}
 use Rattle.sc_gen.proofs.module.compile.Goals as goal
 
 pub returns-clause-compiled : goal.returns-clause-compiled
-returns-clause-compiled c =
-    let made = c.in_ok-object.ensures in
-    let file : c.in_ok-file.file.items ≡ spelled (object_of c.args.core.now) = c.in_ok-file.ensures ∙ ap spelled made.object in
-    let few : length c.in_ok-file.file.items ≤ 8388608 = search rules in
-    let whole : c.from_vec.result ≡ c.in_ok-file.file.items = search rules in
-    record {
-      is_object = record { object_is = made.object; short = made.short; small = subst (λ (n : ℕ). n ≤ 8388608) (ap length file) few };
-      file_is = whole ∙ file;
-    }
+returns-clause-compiled c = compiled_is plain_code c.args.core.now c.in_ok-texts.texts c.finished.result c.in_ok-texts.ensures.ok c.finished.ensures.filed
+
+pub returns-clause-err : goal.returns-clause-err
+returns-clause-err c = fault_is plain_code c.args.core.now c.in_ok-texts.texts c.finished.result c.in_ok-texts.ensures.ok c.finished.ensures.err

@@ -5,7 +5,7 @@ use Rattle.sc_session.proofs.going.gone.Goals as goal
 
 pub returns-in-Ok-told_text-clause-went : goal.returns-in-Ok-told_text-clause-went
 returns-in-Ok-told_text-clause-went g c =
-    went_behind (g.K.Sink.written c.args.out.now) (g.K.Sink.written c.go.new.out) c.args.texts.now c.args.stops.now c.args.walk c.args.turns c.args.run c.world.result.now
+    went_behind (g.K.Sink.written c.args.out.now) (g.K.Sink.written c.go.new.out) c.args.texts.now c.args.stops.now c.args.walk c.args.turns c.args.valued c.args.run c.world.result.now
     (length c.output-before.result.now) c.in-Ok.halted.sent c.in-Ok.halted.halt c.go.new.self c.in-Ok-told_text.text c.state_after.result
     c.world.ensures (ap (λ bytes. length bytes) c.output-before.ensures) c.in-Ok.ensures.goes c.in-Ok.ensures.sends c.in-Ok.ensures.few c.go.ensures.meant c.in-Ok-told_text.ensures (c.state_after.ensures ∙ ap (state_after c.in-Ok.halted.halt) c.heard_in-heard.ensures)
 

@@ -5,5 +5,5 @@ use Rattle.sc_session_forms.proofs.halts.mixed_gone.Goals as goal
 pub returns-in-Ok : goal.returns-in-Ok
 returns-in-Ok c = record {
   goes = c.go-halt.ensures.goes;
-  tells = subst (λ bytes. MixedTells (length bytes) c.go-halt.result c.go-halt.new.self c.in-Ok.text) c.output-before.ensures c.in-Ok.ensures;
+  tells = subst (λ bytes. MixedTells c.args.valued (length bytes) c.go-halt.result c.go-halt.new.self c.in-Ok.text) c.output-before.ensures c.in-Ok.ensures;
 }

@@ -1,8 +1,12 @@
-use Rattle.std.proofs.Common.{refl, arith, ◌∙◌, sym}
+use Rattle.std.proofs.Common.{refl, arith, ◌∙◌, subst, sym}
 use Rattle.sc_outside.specs.declared.sink.Sent.TheVariants as sent
+use Rattle.sc_top.specs.Attended.{HearBoth}
+use Rattle.sc_top.specs.Beside.{audience, seen}
+use Rattle.sc_top.proofs.BesideLemmas.{unheard, unread_heard}
 use Rattle.sc_top.proofs.Gaining.{marked_same}
 use Rattle.sc_session.proofs.FileLemmas.{keeps_none}
 use Rattle.sc_session.specs.Transcript.{moment}
+use Rattle.sc_words.specs.Commands.{command_of}
 use Rattle.sc_top.proofs.ReplyLemmas.{replies_so, replies_behind, unread, unflushed}
 use Rattle.sc_top.proofs.line.reply.Goals as goal
 
@@ -50,3 +54,22 @@ returns-in-Failed-clause-probes g c = marked_same _ _ c.args.probes.now.items c.
 
 pub returns-in-NoMemory-clause-probes : goal.returns-in-NoMemory-clause-probes
 returns-in-NoMemory-clause-probes g c = marked_same _ _ c.args.probes.now.items c.args.deaf.now
+
+pub returns-in-Err-clause-heard : goal.returns-in-Err-clause-heard
+returns-in-Err-clause-heard g c = unread_heard _ (command_of c.args.line.now) c.args.session.now.state c.args.probes.now.items c.args.deaf.now
+
+pub returns-then-not-is_go-clause-heard : goal.returns-then-not-is_go-clause-heard
+returns-then-not-is_go-clause-heard g c =
+    subst (λ d. HearBoth (seen (λ p. (goal.Probe-dyn g (p.vtable, p.value)).notes p.value) (λ p. (goal.Probe-dyn g (p.vtable, p.value)).faults p.value) (λ p. (goal.Probe-dyn g (p.vtable, p.value)).report p.value)) d c.carried.result c.carried.new.session.state
+    (audience c.args.probes.now.items c.args.deaf.now) (audience c.carried.new.probes.items c.carried.new.deaf)) c.in-Ok.ensures.command c.carried.ensures.heard
+
+pub returns-in-Done-clause-heard : goal.returns-in-Done-clause-heard
+returns-in-Done-clause-heard g c =
+    subst (λ d. HearBoth (seen (λ p. (goal.Probe-dyn g (p.vtable, p.value)).notes p.value) (λ p. (goal.Probe-dyn g (p.vtable, p.value)).faults p.value) (λ p. (goal.Probe-dyn g (p.vtable, p.value)).report p.value)) d c.carried-in-Done.result c.carried-in-Done.new.session.state
+    (audience c.args.probes.now.items c.args.deaf.now) (audience c.carried-in-Done.new.probes.items c.carried-in-Done.new.deaf)) c.in-Ok.ensures.command c.carried-in-Done.ensures.heard
+
+pub returns-in-Failed-clause-heard : goal.returns-in-Failed-clause-heard
+returns-in-Failed-clause-heard g c = unheard _ (command_of c.args.line.now) c.args.probes.now.items c.args.deaf.now
+
+pub returns-in-NoMemory-clause-heard : goal.returns-in-NoMemory-clause-heard
+returns-in-NoMemory-clause-heard g c = unheard _ (command_of c.args.line.now) c.args.probes.now.items c.args.deaf.now

@@ -1,5 +1,6 @@
 use Rattle.sc_session.specs.Transcript.{moment}
-use Rattle.sc_session.proofs.AskingLemmas.{one_said, run_said, walk_said}
+use Rattle.sc_session.proofs.AskingLemmas.{eval_said, one_said, run_said, walk_said}
+use Rattle.sc_session.proofs.EvaluatingLemmas.{named_there}
 use Rattle.sc_session.proofs.SingleLemmas.{mixed_there}
 use Rattle.sc_session.proofs.session.Session.go_on.Goals as goal
 
@@ -19,3 +20,11 @@ returns-in-One-clause-step g c =
 
 pub step_one-requires : goal.step_one-requires
 step_one-requires g c = mixed_there c.args.self.now c.args.go c.in-One.is c.requires.allowed
+
+pub returns-in-Eval-clause-step : goal.returns-in-Eval-clause-step
+returns-in-Eval-clause-step g c =
+    eval_said (g.K.Sink.written c.args.out.now) (g.K.Sink.written c.eval.new.out) c.args.self.now c.eval.new.self (g.F.Files.held c.args.files.now) (g.F.Files.faults c.args.files.now)
+    c.args.go c.in-Eval.name c.in-Eval.line c.eval.result c.in-Eval.is c.eval.ensures.evaluates
+
+pub eval-requires : goal.eval-requires
+eval-requires g c = named_there c.args.self.now c.args.go c.in-Eval.name c.in-Eval.line c.in-Eval.is c.requires.allowed

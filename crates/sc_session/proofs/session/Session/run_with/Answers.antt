@@ -5,8 +5,8 @@ use Rattle.sc_session.proofs.session.Session.run_with.Goals as goal
 
 pub returns-in-Bytes-clause-runs : goal.returns-in-Bytes-clause-runs
 returns-in-Bytes-clause-runs g c =
-    begun_so (g.K.Sink.written c.args.out.now) (g.K.Sink.written c.start.new.out) (moment c.args.self.now (g.F.Files.held c.args.files.now) (g.F.Files.faults c.args.files.now)) c.args.file c.in-Bytes.bytes
-    (g.F.Files.faults c.input_of.new.files) (g.F.Files.held c.input_of.new.files) c.start.new.self c.start.result c.requires.main c.in-Bytes.ensures.finds c.input_of.ensures.held c.start.ensures.begins
+    begun_so (g.K.Sink.written c.args.out.now) (g.K.Sink.written c.start_main.new.out) (moment c.args.self.now (g.F.Files.held c.args.files.now) (g.F.Files.faults c.args.files.now)) c.args.file c.in-Bytes.bytes
+    (g.F.Files.faults c.input_of.new.files) (g.F.Files.held c.input_of.new.files) c.start_main.new.self c.start_main.result c.requires.main c.in-Bytes.ensures.finds c.input_of.ensures.held c.start_main.ensures.begins
 
 pub returns-in-Denied-clause-runs : goal.returns-in-Denied-clause-runs
 returns-in-Denied-clause-runs g c =

@@ -1,6 +1,4 @@
-use Rattle.std.proofs.Common.{ap, inl, refl, ◌∙◌}
-use Rattle.sc_session.specs.Modules.{texts}
-use Rattle.sc_session.specs.Stopping.{places}
+use Rattle.std.proofs.Common.{inl, refl, ◌∙◌}
 use Rattle.sc_session.proofs.MixingLemmas.{over_there}
 use Rattle.sc_session.proofs.SingleLemmas.{single_carries}
 use Rattle.sc_session.proofs.session.Session.step_one.Goals as goal
@@ -8,15 +6,15 @@ use Rattle.sc_session.proofs.session.Session.step_one.Goals as goal
 pub returns-in_default : goal.returns-in_default
 returns-in_default c = inl refl
 
-pub returns-in_default-places : goal.returns-in_default-places
-returns-in_default-places c = inl refl
+pub returns-in_default-going_stops : goal.returns-in_default-going_stops
+returns-in_default-going_stops c = inl refl
 
 pub returns-in-Some : goal.returns-in-Some
 returns-in-Some c =
-    single_carries c.args.self.now c.take_mixed.new.self c.as_slice-in-Some.result.now c.as_slice-in-Some-2.result.now c.in-Some.run' c.go_one.result c.go_one.new.self
+    single_carries c.args.self.now c.take_mixed.new.self c.as_slice.result.now c.as_slice-in-Some.result.now c.in-Some.run' c.go_one.result c.go_one.new.self
     c.in-Some.ensures
-    (c.as_slice-in-Some.ensures ∙ c.in-Ok.ensures ∙ ap texts (c.as_slice.ensures.value ∙ ap (λ p. p.modules) c.self.view_is))
-    (c.as_slice-in-Some-2.ensures ∙ c.in-Ok-places.ensures ∙ ap places (c.as_slice-2.ensures.value ∙ ap (λ p. p.stops) c.self.view_is))
+    (c.as_slice.ensures ∙ c.in-Ok.ensures)
+    (c.as_slice-in-Some.ensures ∙ c.in-Ok-going_stops.ensures)
     c.go_one.ensures
 
 pub go_one-requires : goal.go_one-requires

@@ -1,0 +1,4 @@
+-- Inside: plumbing, a representation, an invariant or a promise beside the claim (docs/TRUST.md).
+pub mod Uses
+pub mod Kept
+pub mod Fast

@@ -1,0 +1,11 @@
+pub mod Sequences
+pub mod Operators
+pub mod Templates
+pub mod Expressions
+pub mod Statements
+pub mod Words
+pub mod Placed
+pub mod Standing
+pub mod Made
+pub mod Image
+pub mod Apart

@@ -1,0 +1,6 @@
+int main(void)
+{
+    while (1)
+        ;
+    return 0;
+}
