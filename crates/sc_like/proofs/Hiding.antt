@@ -4,9 +4,9 @@ use Rattle.std.proofs.lemmas.List.{append-nil}
 use Rattle.sc_base.specs.declared.memory.Form.{Form}
 use Rattle.sc_base.specs.declared.memory.Form.TheVariants as form
 use Rattle.sc_meaning.specs.Beside.{Beside}
-use Rattle.sc_meaning.specs.World.{World, Frame, Item, Work, Begin, End, GoesOut, ComesBack, Declares, Happens, Birth, Death, Put, Copy, TakeFree, TakeNew, Give, Stack, Read, Seed, Push, Pop, OpenBlock, CloseBlock, Name, Unname, Enter, Leave, At, Out, effect, pass, on_innermost, outer, without_last}
+use Rattle.sc_meaning.specs.World.{World, Frame, Born, Item, Work, Begin, End, GoesOut, ComesBack, Declares, Happens, Birth, Death, Put, Copy, TakeFree, TakeNew, Give, Stack, Read, Seed, Push, Pop, OpenBlock, CloseBlock, Name, Unname, Enter, Leave, At, Out, effect, pass, on_innermost, outer, without_last}
 use Rattle.sc_meaning.specs.Outcomes.{line_in}
-use Rattle.sc_like.specs.Alike.{lineless, formless, forms_after, shows_lines, item_if, item_shown, Shown, with_item, shown_of, Like}
+use Rattle.sc_like.specs.Alike.{blocks_in, lineless, formless, forms_after, shows_lines, item_if, item_shown, Shown, with_item, shown_of, Like}
 use Rattle.sc_like.specs.Unseen.{form_of, is_unseen, TellsForms}
 use Rattle.sc_like.proofs.Keeping.{shown_more}
 
@@ -81,8 +81,8 @@ hides fs Read e = absurd (cc)
 hides fs (Seed n) e = absurd (cc)
 hides fs (Push f) e = absurd (cc)
 hides fs Pop e = absurd (cc)
-hides fs (OpenBlock b) e = absurd (cc)
-hides fs CloseBlock e = absurd (cc)
+hides fs (OpenBlock b) e = (refl, refl)
+hides fs CloseBlock e = (refl, refl)
 hides fs (Name id o) e = absurd (cc)
 hides fs (Unname id) e = absurd (cc)
 
@@ -97,11 +97,23 @@ line_form form.Object fs e = refl
 
 no_line : (line : ℕ) (f : Frame) → f.form ≡ form.Object → lineless (record f { line = line }) ≡ lineless f
 no_line line f e =
-    ap (λ k. record f { line = line_in k line }) e ∙ sym (ap (λ k. record f { line = line_in k f.line }) e)
+    ap (λ k. record f { line = line_in k line; blocks = blocks_in k f.blocks }) e ∙ sym (ap (λ k. record f { line = line_in k f.line; blocks = blocks_in k f.blocks }) e)
 
 line_unseen : (line : ℕ) (fs : List Frame) → not (shows_lines (map form_of fs)) ≡ true → map lineless (on_innermost (λ f. record f { line = line }) fs) ≡ map lineless fs
 line_unseen line [] e = refl
 line_unseen line (f ∷ fs) e = ap (λ g. g ∷ map lineless fs) (no_line line f (line_form f.form (map form_of fs) e))
+
+no_blocks : (bs : List Born) (f : Frame) → f.form ≡ form.Object → lineless (record f { blocks = bs }) ≡ lineless f
+no_blocks bs f e =
+    ap (λ k. record f { line = line_in k f.line; blocks = blocks_in k bs }) e ∙ sym (ap (λ k. record f { line = line_in k f.line; blocks = blocks_in k f.blocks }) e)
+
+opened_unseen : (b : Born) (fs : List Frame) → not (shows_lines (map form_of fs)) ≡ true → map lineless (on_innermost (λ f. record f { blocks = f.blocks ++ b ∷ [] }) fs) ≡ map lineless fs
+opened_unseen b [] e = refl
+opened_unseen b (f ∷ fs) e = ap (λ g. g ∷ map lineless fs) (no_blocks (f.blocks ++ b ∷ []) f (line_form f.form (map form_of fs) e))
+
+closed_unseen : (fs : List Frame) → not (shows_lines (map form_of fs)) ≡ true → map lineless (on_innermost (λ f. record f { blocks = without_last f.blocks }) fs) ≡ map lineless fs
+closed_unseen [] e = refl
+closed_unseen (f ∷ fs) e = ap (λ g. g ∷ map lineless fs) (no_blocks (without_last f.blocks) f (line_form f.form (map form_of fs) e))
 
 keeps : (i : Item) (w : World) → is_unseen (map form_of w.frames) i ≡ true → formless (effect i w) ≡ formless w
 keeps (Work n) w e = refl
@@ -126,8 +138,8 @@ keeps Read w e = absurd (cc)
 keeps (Seed n) w e = absurd (cc)
 keeps (Push f) w e = absurd (cc)
 keeps Pop w e = absurd (cc)
-keeps (OpenBlock b) w e = absurd (cc)
-keeps CloseBlock w e = absurd (cc)
+keeps (OpenBlock b) w e = ap (λ fs. record (formless w) { frames = fs }) (opened_unseen b w.frames e)
+keeps CloseBlock w e = ap (λ fs. record (formless w) { frames = fs }) (closed_unseen w.frames e)
 keeps (Name id o) w e = absurd (cc)
 keeps (Unname id) w e = absurd (cc)
 

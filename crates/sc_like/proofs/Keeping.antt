@@ -4,7 +4,7 @@ use Rattle.sc_base.specs.declared.memory.Form.{Form}
 use Rattle.sc_base.specs.declared.memory.Form.TheVariants as form
 use Rattle.sc_meaning.specs.Outcomes.{line_in}
 use Rattle.sc_meaning.specs.World.{World, Frame, Item, Work, Begin, End, GoesOut, ComesBack, Declares, Happens, Birth, Death, Put, Copy, TakeFree, TakeNew, Give, Stack, Read, Seed, Push, Pop, OpenBlock, CloseBlock, Name, Unname, Enter, Leave, At, Out, Born, effect, pass, on_innermost, outer, without_last}
-use Rattle.sc_like.specs.Alike.{lineless, formless, Shown, with_item, shown_along, shown_of, Like}
+use Rattle.sc_like.specs.Alike.{blocks_in, lineless, formless, Shown, with_item, shown_along, shown_of, Like}
 
 -- ---- what is shown
 
@@ -18,8 +18,23 @@ pub line_once : (k : Form) (l : ℕ) → line_in k l ≡ line_in k (line_in k l)
 line_once form.Source l = refl
 line_once form.Object l = refl
 
+pub blocks_once : (k : Form) (bs : List Born) → blocks_in k bs ≡ blocks_in k (blocks_in k bs)
+blocks_once form.Source bs = refl
+blocks_once form.Object bs = refl
+
+blocks_opened : (k : Form) (bs : List Born) (b : Born) → blocks_in k (bs ++ b ∷ []) ≡ blocks_in k (blocks_in k bs ++ b ∷ [])
+blocks_opened form.Source bs b = refl
+blocks_opened form.Object bs b = refl
+
+blocks_closed : (k : Form) (bs : List Born) → blocks_in k (without_last bs) ≡ blocks_in k (without_last (blocks_in k bs))
+blocks_closed form.Source bs = refl
+blocks_closed form.Object bs = refl
+
+both : (f : Frame) (k l : ℕ) (bs cs : List Born) → k ≡ l → bs ≡ cs → record f { line = k; blocks = bs } ≡ record f { line = l; blocks = cs }
+both f k l bs cs p q = ap (λ n. record f { line = n; blocks = bs }) p ∙ ap (λ n. record f { line = l; blocks = n }) q
+
 once : (f : Frame) → lineless f ≡ lineless (lineless f)
-once f = ap (λ l. record f { line = l }) (line_once f.form f.line)
+once f = both f (line_in f.form f.line) (line_in f.form (line_in f.form f.line)) (blocks_in f.form f.blocks) (blocks_in f.form (blocks_in f.form f.blocks)) (line_once f.form f.line) (blocks_once f.form f.blocks)
 
 pub all_once : (fs : List Frame) → map lineless fs ≡ map lineless (map lineless fs)
 all_once [] = refl
@@ -27,7 +42,9 @@ all_once (f ∷ fs) = ap (λ g. g ∷ map lineless fs) (once f) ∙ ap (λ gs. l
 
 lined : (l : ℕ) (fs : List Frame) → map lineless (on_innermost (λ f. record f { line = l }) fs) ≡ map lineless (on_innermost (λ f. record f { line = l }) (map lineless fs))
 lined l [] = refl
-lined l (f ∷ fs) = ap (λ gs. lineless (record f { line = l }) ∷ gs) (all_once fs)
+lined l (f ∷ fs) =
+    ap (λ bs. record f { line = line_in f.form l; blocks = bs } ∷ map lineless fs) (blocks_once f.form f.blocks)
+    ∙ ap (λ gs. record f { line = line_in f.form l; blocks = blocks_in f.form (blocks_in f.form f.blocks) } ∷ gs) (all_once fs)
 
 pushed : (f : Frame) (fs : List Frame) → map lineless (f ∷ fs) ≡ map lineless (f ∷ map lineless fs)
 pushed f fs = ap (λ gs. lineless f ∷ gs) (all_once fs)
@@ -38,11 +55,15 @@ popped (f ∷ fs) = all_once fs
 
 opened : (b : Born) (fs : List Frame) → map lineless (on_innermost (λ f. record f { blocks = f.blocks ++ b ∷ [] }) fs) ≡ map lineless (on_innermost (λ f. record f { blocks = f.blocks ++ b ∷ [] }) (map lineless fs))
 opened b [] = refl
-opened b (f ∷ fs) = ap (λ g. g ∷ map lineless fs) (once (record f { blocks = f.blocks ++ b ∷ [] })) ∙ ap (λ gs. lineless (lineless (record f { blocks = f.blocks ++ b ∷ [] })) ∷ gs) (all_once fs)
+opened b (f ∷ fs) =
+    ap (λ g. g ∷ map lineless fs) (both f (line_in f.form f.line) (line_in f.form (line_in f.form f.line)) (blocks_in f.form (f.blocks ++ b ∷ [])) (blocks_in f.form (blocks_in f.form f.blocks ++ b ∷ [])) (line_once f.form f.line) (blocks_opened f.form f.blocks b))
+    ∙ ap (λ gs. lineless (record (lineless f) { blocks = blocks_in f.form f.blocks ++ b ∷ [] }) ∷ gs) (all_once fs)
 
 closed : (fs : List Frame) → map lineless (on_innermost (λ f. record f { blocks = without_last f.blocks }) fs) ≡ map lineless (on_innermost (λ f. record f { blocks = without_last f.blocks }) (map lineless fs))
 closed [] = refl
-closed (f ∷ fs) = ap (λ g. g ∷ map lineless fs) (once (record f { blocks = without_last f.blocks })) ∙ ap (λ gs. lineless (lineless (record f { blocks = without_last f.blocks })) ∷ gs) (all_once fs)
+closed (f ∷ fs) =
+    ap (λ g. g ∷ map lineless fs) (both f (line_in f.form f.line) (line_in f.form (line_in f.form f.line)) (blocks_in f.form (without_last f.blocks)) (blocks_in f.form (without_last (blocks_in f.form f.blocks))) (line_once f.form f.line) (blocks_closed f.form f.blocks))
+    ∙ ap (λ gs. lineless (record (lineless f) { blocks = without_last (blocks_in f.form f.blocks) }) ∷ gs) (all_once fs)
 
 -- ---- what an item does can be told from what is the same
 

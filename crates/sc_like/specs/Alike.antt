@@ -6,13 +6,18 @@ use Rattle.sc_base.specs.declared.memory.Form.{Form}
 use Rattle.sc_base.specs.declared.memory.Form.TheVariants as form
 use Rattle.sc_meaning.specs.Beside.{nothing_beside}
 use Rattle.sc_meaning.specs.Outcomes.{line_in}
-use Rattle.sc_meaning.specs.World.{World, Frame, Item, Event, At, Happens, Declares, Push, Pop}
+use Rattle.sc_meaning.specs.World.{World, Frame, Born, Item, Event, At, Happens, Declares, Push, Pop}
 
--- a call without its line, where it is one of compiled code: such calls reach no line that is shown
+-- the open blocks of a call, where it is interpreted: compiled code does not enter a block without objects
+abbrev pub blocks_in : Form → List Born → List Born
+blocks_in form.Source blocks = blocks
+blocks_in form.Object blocks = []
+
+-- a call without its line and its open blocks, where it is one of compiled code: such calls reach no line that is shown
 abbrev pub lineless : Frame → Frame
-lineless f = record f { line = line_in f.form f.line }
+lineless f = record f { line = line_in f.form f.line; blocks = blocks_in f.form f.blocks }
 
--- A world without what the forms of modules change: the lines of calls of compiled code; how many events passed, since the lines of such calls
+-- A world without what the forms of modules change: the lines and the open blocks of calls of compiled code; how many events passed, since the lines of such calls
 -- are events of the meaning that a run does not show; how many statements have begun, since compiled code has none; all that happened (what of it
 -- is shown is told below); and all that stands beside: what the machine was told, and the memory in which it keeps the objects, since compiled
 -- code also writes bytes there that are in no object. No definition of the meaning reads what stands beside.

@@ -1,7 +1,7 @@
 -- Instructions one after another.
 use Rattle.std.proofs.Common.{◌≡◌, ◌+◌, ◌-◌, ◌<◌, ◌≤◌, ℕ, zero, suc, Bool, true, false, List, [], ◌∷◌, Result, Ok, Err, Option, Some, None, refl, ap, sym, subst, ◌∙◌, arith}
 use Rattle.sc_base.specs.declared.memory.Word.{Word}
-use Rattle.sc_emu.specs.Beginning.{Begins}
+use Rattle.sc_emu.specs.Beginning.{Begins, IsTakeable}
 use Rattle.sc_emu.specs.Machine.{Outcome, rv_step, state_of}
 use Rattle.sc_emu.specs.Operations.{load_size, loaded, sum}
 use Rattle.sc_emu.specs.Registers.{Registers, with_word}
@@ -48,17 +48,17 @@ loads_some w at size bytes found x op rd r s same is some puts = ((x, ap (read_a
 
 -- ---- one instruction
 
-pub instruction_done : (i : Image) (r s : Registers) (w : World) (need : Need) (now : Step) (how : Went) → ((memory : Flat) → Begins (rv_step (word_at i) (state_of r memory)) r memory s need) → need ≡ Done now → how ≡ told now → Instruction i r w how s w
-instruction_done i r s w need now how begins is p =
-    record { need = need; middle = s; begins = begins; ends = subst (λ (n : Need). EndsSo n s w how s w) (sym is) (sym p, refl, refl) }
+pub instruction_done : (i : Image) (r s : Registers) (w : World) (need : Need) (now : Step) (how : Went) → IsTakeable need → ((memory : Flat) → Begins (rv_step (word_at i) (state_of r memory)) r memory s need) → need ≡ Done now → how ≡ told now → Instruction i r w how s w
+instruction_done i r s w need now how takeable begins is p =
+    record { need = need; middle = s; takeable = takeable; begins = begins; ends = subst (λ (n : Need). EndsSo n s w how s w) (sym is) (sym p, refl, refl) }
 
-pub instruction_loads : (i : Image) (r middle s : Registers) (w : World) (need : Need) (op : LoadOp) (rd at : ℕ) (how : Went) → ((memory : Flat) → Begins (rv_step (word_at i) (state_of r memory)) r memory middle need) → need ≡ Load op rd at → Loads how (read_at w at (load_size op)) (λ x. record { pc = sum middle.pc 4; words = with_word middle.words rd (loaded op x) }) middle s w w → Instruction i r w how s w
-instruction_loads i r middle s w need op rd at how begins is p =
-    record { need = need; middle = middle; begins = begins; ends = subst (λ (n : Need). EndsSo n middle w how s w) (sym is) p }
+pub instruction_loads : (i : Image) (r middle s : Registers) (w : World) (need : Need) (op : LoadOp) (rd at : ℕ) (how : Went) → IsTakeable need → ((memory : Flat) → Begins (rv_step (word_at i) (state_of r memory)) r memory middle need) → need ≡ Load op rd at → Loads how (read_at w at (load_size op)) (λ x. record { pc = sum middle.pc 4; words = with_word middle.words rd (loaded op x) }) middle s w w → Instruction i r w how s w
+instruction_loads i r middle s w need op rd at how takeable begins is p =
+    record { need = need; middle = middle; takeable = takeable; begins = begins; ends = subst (λ (n : Need). EndsSo n middle w how s w) (sym is) p }
 
-pub instruction_stores : (i : Image) (r middle s : Registers) (w v : World) (need : Need) (size at : ℕ) (word : Word) (how : Went) → ((memory : Flat) → Begins (rv_step (word_at i) (state_of r memory)) r memory middle need) → need ≡ Store size at word → Stores how at size word middle s w v → Instruction i r w how s v
-instruction_stores i r middle s w v need size at word how begins is p =
-    record { need = need; middle = middle; begins = begins; ends = subst (λ (n : Need). EndsSo n middle w how s v) (sym is) p }
+pub instruction_stores : (i : Image) (r middle s : Registers) (w v : World) (need : Need) (size at : ℕ) (word : Word) (how : Went) → IsTakeable need → ((memory : Flat) → Begins (rv_step (word_at i) (state_of r memory)) r memory middle need) → need ≡ Store size at word → Stores how at size word middle s w v → Instruction i r w how s v
+instruction_stores i r middle s w v need size at word how takeable begins is p =
+    record { need = need; middle = middle; takeable = takeable; begins = begins; ends = subst (λ (n : Need). EndsSo n middle w how s v) (sym is) p }
 
 -- ---- many
 

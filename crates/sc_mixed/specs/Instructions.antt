@@ -3,7 +3,7 @@
 -- has there. A store writes the word into the live object that has the byte there, or to memory beside all objects.
 use Rattle.std.specs.Prelude.{◌≡◌, ⊤, ℕ, ◌+◌, ◌<◌, IsSome, Option, Some, None}
 use Rattle.sc_base.specs.declared.memory.Word.{Word}
-use Rattle.sc_emu.specs.Beginning.{Begins}
+use Rattle.sc_emu.specs.Beginning.{Begins, IsTakeable}
 use Rattle.sc_emu.specs.Machine.{rv_step, state_of}
 use Rattle.sc_emu.specs.Operations.{load_size, loaded, sum}
 use Rattle.sc_emu.specs.Registers.{Registers, with_word}
@@ -51,10 +51,12 @@ EndsSo (Done step) r w went s v = (told step ≡ went) × (s ≡ r) × (v ≡ w)
 EndsSo (Load op rd at) r w went s v = Loads went (read_at w at (load_size op)) (λ x. record { pc = sum r.pc 4; words = with_word r.words rd (loaded op x) }) r s w v
 EndsSo (Store size at word) r w went s v = Stores went at size word r s w v
 
--- The instruction at the next address of an image is carried out: its step is the machine's, whatever memory holds.
+-- The instruction at the next address of an image is carried out: its step is the machine's, whatever memory holds. A store has one of the three sizes,
+-- so that no other store is like it.
 pub record Instruction (i : Image) (r : Registers) (w : World) (went : Went) (s : Registers) (v : World) : Type 0 where
   pub need : Need
   pub middle : Registers
+  pub takeable : IsTakeable need
   pub begins : (memory : Flat) → Begins (rv_step (word_at i) (state_of r memory)) r memory middle need
   pub ends : EndsSo need middle w went s v
 
