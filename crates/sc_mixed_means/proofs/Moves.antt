@@ -20,6 +20,7 @@ use Rattle.sc_interp_machine.specs.Runs.{Caller, State, Runs, Makes, Answers, En
 use Rattle.sc_interp_machine.proofs.RunFollows.{follows}
 use Rattle.sc_like.specs.Alike.{Like}
 use Rattle.sc_like.specs.Outcomes.{EndsAlike}
+use Rattle.sc_like.proofs.Hiding.{like_on}
 use Rattle.sc_like.specs.States.{StatesAlike}
 use Rattle.sc_interp_laws.specs.Worlds.{world_of}
 use Rattle.sc_interp_laws.proofs.RunSteps.{advance_leads}
@@ -49,9 +50,9 @@ use Rattle.sc_mixed.specs.declared.calls.Next.TheVariants.{Steps, Executes, Serv
 use Rattle.sc_world.specs.Standing.{state_of}
 use Rattle.sc_mixed_means.specs.Owed.{CallsMean, CodeMeans, CodeAfter, CodeMoved, CodeReturns, IsCode, IsLost, PlaceDue, PlaceOwes, StateDue, WaitOwes, code_on, code_out, code_back}
 use Rattle.sc_mixed_means.specs.Places.{CodeDue, CodeStands, Comes, KeepsBy, LowerAfter, Means, MovesKeepTheMeaning, StateGives, StepsDue, StepsMean}
-use Rattle.sc_mixed_means.specs.Stages.{Build, Fits, First, Gives, Live, Past, Stage, Then, from_here, since, texts_of}
+use Rattle.sc_mixed_means.specs.Stages.{Build, Look, Fits, First, Gives, Live, Past, Stage, Then, from_here, since, texts_of}
 use Rattle.sc_mixed_means.specs.Waiting.{IsFit, Keeps, KeepsWaiting}
-use Rattle.sc_mixed_means.proofs.Parts.{earlier, onward, is_onward, lower_weaker, lower_on, lower_kept, lower_over, lower_changed, lower_due}
+use Rattle.sc_mixed_means.proofs.Parts.{earlier, looks, onward, is_onward, lower_weaker, lower_on, lower_kept, lower_over, lower_changed, lower_due}
 use Rattle.sc_mixed_means.proofs.Versions.{as_alone, steps_alike, shown_alike, step_at, turned}
 
 named_first : (b c : Bool) → (b && c) ≡ true → b ≡ true
@@ -88,11 +89,11 @@ pub there : (p : Past) (v : World) (h : History) → since p ≤ v.count → Liv
 there p v h le l = (agree p h l.0 l.1).texts v.count le l.2 ∙ present (texts_of p) v.count
 
 -- one step less is left
-follow : (n deep : ℕ) (p : Past) (u : World) (s : State) (q : Gives p u) → suc n ≤ deep → ((h : History) (l : Live p u h) → left.Means h deep s (q h l)) → (k : ℕ) × (n ≤ k) × ((h : History) (l : Live p u h) → left.Means h k (runs.advance h s) (q h l))
-follow n zero p u s q le m = absurd (omega (arith, le))
-follow n (suc k) p u s q le m = (k, omega (arith, le), λ h l. follows h k s (q h l) (m h l))
+follow : (f : Look) (n deep : ℕ) (p : Past) (u : World) (s : State) (q : Gives p u) → f.deep (suc n) ≤ deep → ((h : History) (l : Live p u h) → left.Means h deep s (q h l)) → (k : ℕ) × (f.deep n ≤ k) × ((h : History) (l : Live p u h) → left.Means h k (runs.advance h s) (q h l))
+follow f n zero p u s q le m = absurd (omega (arith, le, f.grows n))
+follow f n (suc k) p u s q le m = (k, omega (arith, le, f.grows n), λ h l. follows h k s (q h l) (m h l))
 
-owed : (n deep : ℕ) (s : Stage) (next : Next) (c : Calls) (w v : World) (q : Gives s.past v) → suc n ≤ deep → CodeMeans deep s next c w v q → (k : ℕ) × (n ≤ k) × PlaceOwes (CodeMeans k) (CodeAfter k) k s next c w v q
+owed : (n deep : ℕ) (s : Stage) (next : Next) (c : Calls) (w v : World) (q : Gives s.past v) → suc n ≤ deep → CodeMeans deep s next c w v q → (k : ℕ) × (n ≤ k) × PlaceOwes (CodeMeans k) (CodeAfter k) (s.look.deep k) s next c w v q
 owed n zero s next c w v q le m = absurd (omega (arith, le))
 owed n (suc k) s next c w v q le m = (k, omega (arith, le), m.1)
 
@@ -114,8 +115,8 @@ module _ (s : Stage) where
     step_alone h c fits lt =
         sym (step_same (since s.past) c (alone (texts_of s.past)) h (turned (since s.past) c h (alone (texts_of s.past)) (agree s.past h c fits)) m.stands m.gives.late (subst (λ (x : State). (world_of x).count < c) (sym steady_step) lt)) ∙ steady_step
 
-    deeper : (k : ℕ) × (n ≤ k) × ((h : History) (l : Live s.past (world_of m.stands) h) → left.Means h k (runs.advance h m.stands) (m.gives.gives h l))
-    deeper = follow n m.gives.deep s.past (world_of m.stands) m.stands m.gives.gives m.gives.enough m.gives.means
+    deeper : (k : ℕ) × (s.look.deep n ≤ k) × ((h : History) (l : Live s.past (world_of m.stands) h) → left.Means h k (runs.advance h m.stands) (m.gives.gives h l))
+    deeper = follow s.look n m.gives.deep s.past (world_of m.stands) m.stands m.gives.gives m.gives.enough m.gives.means
 
     gives_on : (u : World) → KeepsWaiting ls w u → StateGives n s (steady.advance (alone (texts_of s.past)) (texts_of s.past) m.stands) ls u out
     gives_on u keep =
@@ -172,8 +173,8 @@ module _ (s : Stage) where
         due = λ event. due_on n state c.lower w now out m s.later refl u keep (subst IsEvent x.shown event);
       }))
 
-  stays : (n : ℕ) (g : Going) (c d : Calls) (after : Next) (w u : World) (now : Shown) (result : Result Moved Break) (out : History → Outcome Answer) → StepsMean (suc n) s (state_of g c.callers w) c.lower w now out → StepsFrom (texts_of s.past) (state_of g c.callers w) c result after d u → KeepsBy (Steps g) result c.lower w u → Comes n s w result after d u out
-  stays n g c d after w u now (Ok moved) out m x keep = inl (goes_on n (state_of g c.callers w) c d after w u now moved out m x keep)
+  stays : (n : ℕ) (g : Going) (c d : Calls) (after : Next) (w u : World) (now : Shown) (result : Result Moved Break) (out : History → Outcome Answer) → StepsMean (suc n) s (state_of g c.callers w) c.lower w now out → StepsFrom (texts_of s.past) (state_of g c.callers w) c result after d u → KeepsBy (Steps g) result c.lower w after u → Comes n s w result after d u out
+  stays n g c d after w u now (Ok moved) out m x keep = inl (goes_on n (state_of g c.callers w) c d after w u now moved out m x keep.0)
   stays n g c d after w u now (Err (Meant stop)) out m x keep =
       inl (world_of m.stands, alike_world g c.callers w m.stands m.alike, λ e y. ends_on n (state_of g c.callers w) c.lower w now out m e (x e y))
   stays n g c d after w u now (Err (Crashed pc cause)) out m x keep = absurd x
@@ -185,32 +186,32 @@ module _ (s : Stage) where
       ap (λ ts. unless (value_rule ts u f (FunctionAt key)) (call_breach (FunctionAt key) v) (call_value (call m h) (FunctionAt key) xs) v) e
       ∙ ap (λ r. unless r (call_breach (FunctionAt key) v) (call_value (call m h) (FunctionAt key) xs) v) none
 
-  called_out : CallsMean s → (n : ℕ) (f : CType) (key : Key) (xs : List Value) (caller : Caller) (c d : Calls) (after : Next) (w u v : World) (now : Shown) (out : History → Outcome Answer) → IsFit (texts_of s.past) s.places c.lower w → (IsEvent now → ⊥) → is_code (callee_of (texts_of s.past) key) ≡ true → value_rule (texts_of s.past) caller.env.text f (FunctionAt key) ≡ None → Like w v → StateGives (suc n) s (Makes f (FunctionAt key) xs caller c.callers v) c.lower w out → Calling s.image key xs (with_caller caller c) w after d u → KeepsWaiting c.lower w u → CodeStands n s after d u now out
+  called_out : CallsMean s → (n : ℕ) (f : CType) (key : Key) (xs : List Value) (caller : Caller) (c d : Calls) (after : Next) (w u v : World) (now : Shown) (out : History → Outcome Answer) → IsFit (texts_of s.past) s.image s.places c.lower w → (IsEvent now → ⊥) → is_code (callee_of (texts_of s.past) key) ≡ true → value_rule (texts_of s.past) caller.env.text f (FunctionAt key) ≡ None → Like w v → StateGives (suc n) s (Makes f (FunctionAt key) xs caller c.callers v) c.lower w out → Calling s.image key xs (with_caller caller c) w after d u → KeepsWaiting c.lower w u × (IsCode after → Like u w) → CodeStands n s after d u now out
   called_out right n f key xs caller c d after w u v now out fit hush named none like g x keep =
-      let r = right n key xs (with_caller caller c) d w u v after named fit like x in
+      let alike : Like u v = like_on u w v (keep.1 (subst IsCode (sym x.goes) tt)) like in
       let q : Gives s.past v = λ h l. call (g.means h l).0 h key xs v in
       record {
         stands = v;
-        alike = r.0;
+        alike = alike;
         late = g.late;
         deep = n;
         enough = omega arith;
         gives = q;
-        means = r.1 q (λ h l. ((g.means h l).0, omega (arith, g.enough, (g.means h l).1), refl));
+        means = right n key xs (with_caller caller c) d w u v after named fit like x alike q (λ h l. ((g.means h l).0, omega (arith, g.enough, (g.means h l).1, s.look.grows n), refl));
         after =
             subst (λ ls. LowerAfter n s u ls v q (from_here out s.past v)) (sym (ap (λ (y : Calls). y.lower) x.calls)) (
               g.gives,
               (
                 g.deep,
-                omega (arith, g.enough),
+                omega (arith, g.enough, s.look.grows n),
                 λ h l. subst (λ o. left.After h g.deep (caller ∷ c.callers) o (g.gives h l)) (made_call h (g.means h l).0 caller.env.text f key xs v (there s.past v h g.late l) none) (g.means h l).2,
               ),
-              lower_kept s n w u c.lower v g.gives (from_here out s.past v) keep (lower_weaker s n w c.lower v g.gives (from_here out s.past v) g.after),
+              lower_kept s n w u c.lower v g.gives (from_here out s.past v) keep.0 (lower_weaker s n w c.lower v g.gives (from_here out s.past v) g.after),
             );
         due = λ event. absurd (hush event);
       }
 
-  goes_out : CallsMean s → (n : ℕ) (f : CType) (key : Key) (xs : List Value) (caller : Caller) (c d : Calls) (after : Next) (w u : World) (now : Shown) (moved : Moved) (out : History → Outcome Answer) → IsFit (texts_of s.past) s.places c.lower w → moved ≡ quietly → goes_to_code (texts_of s.past) caller.env.text f (FunctionAt key) ≡ true → StepsMean (suc n) s (Makes f (FunctionAt key) xs caller c.callers w) c.lower w now out → Calling s.image key xs (with_caller caller c) w after d u → KeepsWaiting c.lower w u → Means n s after d u moved.shown out
+  goes_out : CallsMean s → (n : ℕ) (f : CType) (key : Key) (xs : List Value) (caller : Caller) (c d : Calls) (after : Next) (w u : World) (now : Shown) (moved : Moved) (out : History → Outcome Answer) → IsFit (texts_of s.past) s.image s.places c.lower w → moved ≡ quietly → goes_to_code (texts_of s.past) caller.env.text f (FunctionAt key) ≡ true → StepsMean (suc n) s (Makes f (FunctionAt key) xs caller c.callers w) c.lower w now out → Calling s.image key xs (with_caller caller c) w after d u → KeepsWaiting c.lower w u × (IsCode after → Like u w) → Means n s after d u moved.shown out
   goes_out right n f key xs caller c d after w u now moved out fit hush code m x keep =
       let named : is_code (callee_of (texts_of s.past) key) ≡ true = named_first (names_code (texts_of s.past) (FunctionAt key)) (not (is_some (value_rule (texts_of s.past) caller.env.text f (FunctionAt key)))) code in
       let none : value_rule (texts_of s.past) caller.env.text f (FunctionAt key) ≡ None = no_rule (value_rule (texts_of s.past) caller.env.text f (FunctionAt key)) (named_second (names_code (texts_of s.past) (FunctionAt key)) (not (is_some (value_rule (texts_of s.past) caller.env.text f (FunctionAt key)))) code) in
@@ -218,7 +219,7 @@ module _ (s : Stage) where
       (subst (λ y. CodeStands n s y d u moved.shown out) x.goes
       (called_out right n f key xs caller c d after w u m.alike.0 moved.shown out fit (shows_nothing moved hush) named none m.alike.1 (subst (λ y. StateGives (suc n) s y c.lower w out) m.alike.2 m.gives) x keep))
 
-  value_out : CallsMean s → (n : ℕ) (f : CType) (y : Value) (xs : List Value) (caller : Caller) (c d : Calls) (after : Next) (w u : World) (now : Shown) (moved : Moved) (out : History → Outcome Answer) → IsFit (texts_of s.past) s.places c.lower w → moved ≡ quietly → goes_to_code (texts_of s.past) caller.env.text f y ≡ true → StepsMean (suc n) s (Makes f y xs caller c.callers w) c.lower w now out → CallsValue s.image y xs (with_caller caller c) w after d u → KeepsWaiting c.lower w u → Means n s after d u moved.shown out
+  value_out : CallsMean s → (n : ℕ) (f : CType) (y : Value) (xs : List Value) (caller : Caller) (c d : Calls) (after : Next) (w u : World) (now : Shown) (moved : Moved) (out : History → Outcome Answer) → IsFit (texts_of s.past) s.image s.places c.lower w → moved ≡ quietly → goes_to_code (texts_of s.past) caller.env.text f y ≡ true → StepsMean (suc n) s (Makes f y xs caller c.callers w) c.lower w now out → CallsValue s.image y xs (with_caller caller c) w after d u → KeepsWaiting c.lower w u × (IsCode after → Like u w) → Means n s after d u moved.shown out
   value_out right n f (FunctionAt key) xs caller c d after w u now moved out fit hush code m x keep = goes_out right n f key xs caller c d after w u now moved out fit hush code m x keep
   value_out right n f (Number k) xs caller c d after w u now moved out fit hush code m x keep = absurd x
   value_out right n f (Pointer o k) xs caller c d after w u now moved out fit hush code m x keep = absurd x
@@ -227,7 +228,7 @@ module _ (s : Stage) where
   lacks : (n : ℕ) (old v : World) (broken : Break) (after : Next) (d : Calls) (w : World) (out : History → Outcome Answer) → Like old v → broken ≡ Meant NoRoom → Comes n s old (Err broken) after d w out
   lacks n old v broken after d w out l e = subst (λ b. Comes n s old (Err b) after d w out) (sym e) (inl (v, l, λ f x. absurd (cc)))
 
-  makes : CallsMean s → (b : Bool) (n : ℕ) (f : CType) (y : Value) (xs : List Value) (caller : Caller) (c d : Calls) (after : Next) (w u : World) (now : Shown) (result : Result Moved Break) (out : History → Outcome Answer) → IsFit (texts_of s.past) s.places c.lower w → goes_to_code (texts_of s.past) caller.env.text f y ≡ b → StepsMean (suc n) s (Makes f y xs caller c.callers w) c.lower w now out → GoesBy (way_if b) (texts_of s.past) s.image (going.Makes f y xs caller) c w result after d u → KeepsBy (Steps (going.Makes f y xs caller)) result c.lower w u → Comes n s w result after d u out
+  makes : CallsMean s → (b : Bool) (n : ℕ) (f : CType) (y : Value) (xs : List Value) (caller : Caller) (c d : Calls) (after : Next) (w u : World) (now : Shown) (result : Result Moved Break) (out : History → Outcome Answer) → IsFit (texts_of s.past) s.image s.places c.lower w → goes_to_code (texts_of s.past) caller.env.text f y ≡ b → StepsMean (suc n) s (Makes f y xs caller c.callers w) c.lower w now out → GoesBy (way_if b) (texts_of s.past) s.image (going.Makes f y xs caller) c w result after d u → KeepsBy (Steps (going.Makes f y xs caller)) result c.lower w after u → Comes n s w result after d u out
   makes right false n f y xs caller c d after w u now result out fit code m x keep = stays n (going.Makes f y xs caller) c d after w u now result out m x keep
   makes right true n f y xs caller c d after w u now (Ok moved) out fit code m x keep = inl (value_out right n f y xs caller c d after w u now moved out fit x.0 code m x.1 keep)
   makes right true n f y xs caller c d after w u now (Err broken) out fit code m x keep = lacks n w m.alike.0 broken after d u out m.alike.1 x
@@ -238,7 +239,7 @@ module _ (s : Stage) where
   back_to_bodies n a cs sp depth ls w v out g = record {
     late = g.late;
     deep = g.after.1.0;
-    enough = omega (arith, g.after.1.1);
+    enough = omega (arith, g.after.1.1, s.look.grows n);
     gives = g.after.0;
     means = λ h l. subst (λ o. left.After h g.after.1.0 cs o (g.after.0 h l)) (sym (g.means h l)) (g.after.1.2 h l);
     after = lower_weaker s n w ls v g.after.0 (from_here out s.past v) g.after.2;
@@ -248,13 +249,13 @@ module _ (s : Stage) where
   gives_weaker n x ls w out g = record {
     late = g.late;
     deep = g.deep;
-    enough = omega (arith, g.enough);
+    enough = omega (arith, g.enough, s.look.grows n);
     gives = g.gives;
     means = g.means;
     after = lower_weaker s n w ls (world_of x) g.gives (from_here out s.past (world_of x)) g.after;
   }
 
-  back_to_code : (n : ℕ) (a : Answer) (r : Registers) (given : Option Answer) (ls : List Lower) (c d : Calls) (after : Next) (w v : World) (now : Shown) (out : History → Outcome Answer) → IsFit (texts_of s.past) s.places (InCode r given ∷ ls) w → (IsEvent now → ⊥) → Like w v → StateGives (suc n) s (Answers a [] v) (InCode r given ∷ ls) w out → GivesBack w a (InCode r given ∷ ls) c after d → CodeStands n s after d w now out
+  back_to_code : (n : ℕ) (a : Answer) (r : Registers) (given : Option Answer) (ls : List Lower) (c d : Calls) (after : Next) (w v : World) (now : Shown) (out : History → Outcome Answer) → IsFit (texts_of s.past) s.image s.places (InCode r given ∷ ls) w → (IsEvent now → ⊥) → Like w v → StateGives (suc n) s (Answers a [] v) (InCode r given ∷ ls) w out → GivesBack w a (InCode r given ∷ ls) c after d → CodeStands n s after d w now out
   back_to_code n a r given ls c d after w v now out fit hush like g x =
       let p = awaited n g.after.1.0 s r given ls g.after.1.2 v g.gives g.after.0 g.after.1.1 g.after.1.4 in
       record {
@@ -269,7 +270,7 @@ module _ (s : Stage) where
         due = λ event. absurd (hush event);
       }
 
-  gives_back : (n : ℕ) (a : Answer) (ls : List Lower) (c d : Calls) (after : Next) (w v : World) (now : Shown) (out : History → Outcome Answer) → IsFit (texts_of s.past) s.places ls w → (IsEvent now → ⊥) → c.callers ≡ [] → c.lower ≡ ls → Like w v → StateGives (suc n) s (Answers a [] v) ls w out → GivesBack w a ls c after d → Means n s after d w now out
+  gives_back : (n : ℕ) (a : Answer) (ls : List Lower) (c d : Calls) (after : Next) (w v : World) (now : Shown) (out : History → Outcome Answer) → IsFit (texts_of s.past) s.image s.places ls w → (IsEvent now → ⊥) → c.callers ≡ [] → c.lower ≡ ls → Like w v → StateGives (suc n) s (Answers a [] v) ls w out → GivesBack w a ls c after d → Means n s after d w now out
   gives_back n a [] c d after w v now out fit hush none same like g x =
       subst (λ y. Means n s y d w now out) (sym x.0)
       (subst (λ (y : Calls). Means n s (Steps (going.Answers a)) y w now out) (sym x.1)
@@ -283,7 +284,7 @@ module _ (s : Stage) where
       subst (λ y. Means n s y d w now out) (sym x.0)
       (subst (λ y. CodeStands n s y d w now out) x.0 (back_to_code n a r given ls c d after w v now out fit hush like g x))
 
-  answers : (cs : List Caller) (n : ℕ) (a : Answer) (c d : Calls) (after : Next) (w u : World) (now : Shown) (result : Result Moved Break) (out : History → Outcome Answer) → IsFit (texts_of s.past) s.places c.lower w → c.callers ≡ cs → StepsMean (suc n) s (Answers a c.callers w) c.lower w now out → GoesBy (way_among cs) (texts_of s.past) s.image (going.Answers a) c w result after d u → KeepsBy (Steps (going.Answers a)) result c.lower w u → Comes n s w result after d u out
+  answers : (cs : List Caller) (n : ℕ) (a : Answer) (c d : Calls) (after : Next) (w u : World) (now : Shown) (result : Result Moved Break) (out : History → Outcome Answer) → IsFit (texts_of s.past) s.image s.places c.lower w → c.callers ≡ cs → StepsMean (suc n) s (Answers a c.callers w) c.lower w now out → GoesBy (way_among cs) (texts_of s.past) s.image (going.Answers a) c w result after d u → KeepsBy (Steps (going.Answers a)) result c.lower w after u → Comes n s w result after d u out
   answers (b ∷ cs) n a c d after w u now result out fit e m y keep = stays n (going.Answers a) c d after w u now result out m y keep
   answers [] n a c d after w u now (Ok moved) out fit e m y keep =
       let x : StepsMean (suc n) s (Answers a [] w) c.lower w now out = subst (λ cs. StepsMean (suc n) s (Answers a cs w) c.lower w now out) e m in
@@ -310,7 +311,7 @@ module _ (s : Stage) where
         gives = record {
           late = omega (arith, late, grew);
           deep = m.1.0;
-          enough = omega (arith, m.1.1);
+          enough = omega (arith, m.1.1, s.look.grows n);
           gives = r;
           means = λ h l.
               let k : Live s.past v h = earlier s.past v x.0 h grew l in
@@ -336,14 +337,14 @@ module _ (s : Stage) where
     after = lower_due s n b bs e w d.lower v q out (subst (λ ls. LowerAfter (suc n) s w ls v q (from_here out s.past v)) (sym same) m) stands.count;
   }
 
-  state_due : (n k : ℕ) (bs : List Build) → s.later ≡ bs → n ≤ k → (ls : List Lower) (w v : World) (stands : State) (q : Gives s.past v) (regs : Registers) (given : Option Answer) (out : History → Outcome Answer) → since s.past ≤ v.count → v.count < (world_of stands).count → LowerAfter (suc n) s w ls v q (from_here out s.past v) → StateDue (CodeAfter k) k bs s v q regs given ls w stands → StepsDue n bs s (InCode regs given ∷ ls) w stands out
+  state_due : (n k : ℕ) (bs : List Build) → s.later ≡ bs → n ≤ k → (ls : List Lower) (w v : World) (stands : State) (q : Gives s.past v) (regs : Registers) (given : Option Answer) (out : History → Outcome Answer) → since s.past ≤ v.count → v.count < (world_of stands).count → LowerAfter (suc n) s w ls v q (from_here out s.past v) → StateDue (CodeAfter k) (s.look.deep k) bs s v q regs given ls w stands → StepsDue n bs s (InCode regs given ∷ ls) w stands out
   state_due n k [] e le ls w v stands q regs given out late less m x = tt
   state_due n k (b ∷ bs) e le ls w v stands q regs given out late less m x = record {
     before = v;
     late = late;
     less = less;
-    deep = k;
-    enough = le;
+    deep = s.look.deep k;
+    enough = looks s.look n k le;
     gives = x.gives;
     means = x.means;
     over = λ h l f o. lower_over s (suc n) w ls v q (from_here out s.past v) h l f (x.through.ends h l f o) m;
@@ -365,7 +366,7 @@ module _ (s : Stage) where
     ends = λ h l k. lower_over s n w ls v q (from_here out s.past v) h l (Undefined x.breach x.world) (x.ends h l k) m;
   }
 
-  code_moved : (n k : ℕ) → n ≤ k → (c : Calls) (v : World) (q : Gives s.past v) (out : History → Outcome Answer) → since s.past ≤ v.count → (after : Next) (d : Calls) (w : World) (moved : Moved) → LowerAfter (suc n) s w c.lower v q (from_here out s.past v) → CodeMoved (CodeMeans k) (CodeAfter k) k s v q c moved.shown after d w → Means n s after d w moved.shown out
+  code_moved : (n k : ℕ) → n ≤ k → (c : Calls) (v : World) (q : Gives s.past v) (out : History → Outcome Answer) → since s.past ≤ v.count → (after : Next) (d : Calls) (w : World) (moved : Moved) → LowerAfter (suc n) s w c.lower v q (from_here out s.past v) → CodeMoved (CodeMeans k) (CodeAfter k) (s.look.deep k) s v q c moved.shown after d w → Means n s after d w moved.shown out
   code_moved n k le c v q out late after d w moved m (code_on x) =
       let grew : v.count ≤ x.stands.count = count_grows v x.stands x.leads in
       let r : Gives s.past x.stands = onward s.past v x.stands grew q in
@@ -393,8 +394,8 @@ module _ (s : Stage) where
         alike = x.alike;
         gives = record {
           late = omega (arith, late, grew);
-          deep = k;
-          enough = le;
+          deep = s.look.deep k;
+          enough = looks s.look n k le;
           gives = x.gives;
           means = x.means;
           after = (
@@ -408,7 +409,7 @@ module _ (s : Stage) where
   code_moved n k le c v q out late after d w moved m (code_back a e hush x) =
       subst (λ y. Means n s y d w moved.shown out) (sym e) (code_returns n c.lower a d w v q moved.shown out late hush m x)
 
-  code : (n : ℕ) (next after : Next) (c d : Calls) (w u : World) (now : Shown) (result : Result Moved Break) (out : History → Outcome Answer) → IsFit (texts_of s.past) s.places c.lower w → CodeStands (suc n) s next c w now out → Moves (texts_of s.past) s.image next c w result after d u → Comes n s w result after d u out
+  code : (n : ℕ) (next after : Next) (c d : Calls) (w u : World) (now : Shown) (result : Result Moved Break) (out : History → Outcome Answer) → IsFit (texts_of s.past) s.image s.places c.lower w → CodeStands (suc n) s next c w now out → Moves (texts_of s.past) s.image next c w result after d u → Comes n s w result after d u out
   code n next after c d w u now (Ok moved) out fit m x =
       let p = owed n m.deep s next c w m.stands m.gives m.enough m.means in
       elim (p.2.goes after d u moved fit m.alike x) [

@@ -1,5 +1,5 @@
 -- What waits below takes what comes of it: in a later world, behind other moves, and behind a change.
-use Rattle.std.proofs.Common.{◌≡◌, ℕ, zero, suc, ◌≤◌, List, [], ◌∷◌, ◌++◌, append_assoc, arith, refl, sym, ap, ◌∙◌, subst, Option}
+use Rattle.std.proofs.Common.{◌≡◌, ℕ, zero, suc, ◌+◌, ◌-◌, ◌≤◌, List, [], ◌∷◌, ◌++◌, append_assoc, arith, refl, sym, ap, ◌∙◌, subst, Option}
 use Rattle.sc_emu.specs.Registers.{Registers}
 use Rattle.sc_interp_laws.proofs.RunMeans.{means_leads}
 use Rattle.sc_interp_machine.specs.RunMeans as left
@@ -17,8 +17,20 @@ use Rattle.sc_mixed.specs.declared.calls.Lower.TheVariants.{InBodies, InCode}
 use Rattle.sc_mixed.specs.declared.calls.Next.{Next}
 use Rattle.sc_mixed_means.specs.Owed.{CodeMeans, CodeAfter, GoThrough, Lead, WaitChanges}
 use Rattle.sc_mixed_means.specs.Places.{LowerAfter, LowerDue}
-use Rattle.sc_mixed_means.specs.Stages.{Build, Past, Then, Stage, Live, Gives, ArePartsOf, IsPartOf, from_here, next_stage}
+use Rattle.sc_mixed_means.specs.Stages.{Build, Look, Past, Then, Stage, Live, Gives, ArePartsOf, IsPartOf, from_here, next_stage}
 use Rattle.sc_mixed_means.specs.Waiting.{Keeps, KeepsWaiting}
+
+-- ---- depths
+
+-- so it is over any number of moves
+pub look_on : (f : Look) (j n : ℕ) → f.deep n ≤ f.deep (j + n)
+look_on f zero n = let e : n ≡ 0 + n = omega arith in subst (λ m. f.deep n ≤ f.deep m) e (omega arith)
+look_on f (suc j) n =
+    let e : suc (j + n) ≡ suc j + n = omega arith in
+    subst (λ m. f.deep n ≤ f.deep m) e (let r = look_on f j n in let g = f.grows (j + n) in omega (arith, r, g))
+
+pub looks : (f : Look) (n k : ℕ) → n ≤ k → f.deep n ≤ f.deep k
+looks f n k le = let e : (k - n) + n ≡ k = omega (arith, le) in subst (λ m. f.deep n ≤ f.deep m) e (look_on f (k - n) n)
 
 -- ---- parts
 
@@ -73,7 +85,7 @@ waits_on (suc n) s r given ls old v a q u x y f p = (
 module _ (s : Stage) where
   pub lower_weaker : (n : ℕ) (w : World) (ls : List Lower) (v : World) (r out : Gives s.past v) → LowerAfter (suc n) s w ls v r out → LowerAfter n s w ls v r out
   lower_weaker n w [] v r out p = p
-  lower_weaker n w (InBodies cs sp depth ∷ ls) v r out p = (p.0, (p.1.0, omega (arith, p.1.1), p.1.2), lower_weaker n w ls v p.0 out p.2)
+  lower_weaker n w (InBodies cs sp depth ∷ ls) v r out p = (p.0, (p.1.0, omega (arith, p.1.1, s.look.grows n), p.1.2), lower_weaker n w ls v p.0 out p.2)
   lower_weaker n w (InCode regs given ∷ ls) v r out p = (p.0, (p.1.0, omega (arith, p.1.1), p.1.2, p.1.3, p.1.4), lower_weaker n w ls v p.0 out p.2)
 
   pub lower_on : (n : ℕ) (w : World) (ls : List Lower) (v : World) (r out : Gives s.past v) (u : World) (x y : Gives s.past u) → ArePartsOf s.past v r out s.past u x y → LowerAfter n s w ls v r out → LowerAfter n s w ls u x y
@@ -137,7 +149,7 @@ module _ (s : Stage) where
   lower_changed n b bs e w (InBodies cs sp depth ∷ ls) v r out p count u x y f =
       let q : Gives (Then s.past count b.texts) u = λ h l. p.0 h (f h l).0 in (
         q,
-        (p.1.0, omega (arith, p.1.1), λ h l. subst (λ o. left.After h p.1.0 cs o (q h l)) (sym (f h l).1) (p.1.2 h (f h l).0)),
+        (p.1.0, omega (arith, p.1.1, s.look.grows n), λ h l. subst (λ o. left.After h p.1.0 cs o (q h l)) (sym (f h l).1) (p.1.2 h (f h l).0)),
         lower_changed n b bs e w ls v p.0 out p.2 count u q y (λ h l. ((f h l).0, refl, (f h l).2)),
       )
   lower_changed n b bs e w (InCode regs given ∷ ls) v r out p count u x y f =

@@ -18,6 +18,7 @@ use Rattle.sc_mixed.specs.declared.calls.Next.TheVariants.{Steps}
 use Rattle.sc_mixed_means.specs.Places.{LowerAfter, Means, StepsMean}
 use Rattle.sc_mixed_means.specs.Runs.{RunsReturnAsMeant, entry_gives, history_of}
 use Rattle.sc_mixed_means.specs.Stages.{Live, Stage, Gives, from_here}
+use Rattle.sc_mixed_means.proofs.Parts.{looks}
 use Rattle.sc_mixed_means.proofs.Runs.{held, live, stage_at}
 
 -- the answer is there, in a world that is alike
@@ -37,8 +38,8 @@ module _ (h : History) (a : Answer) (w : World) (out : History → Outcome Answe
       stands_there n y.stands c.callers c.lower none empty y.alike y.gives.gives (λ there. (y.gives.deep, y.gives.means h there)) y.gives.after l
 
 pub runs_return : RunsReturnAsMeant
-runs_return b bs n key start born first right enters memory k p c cs a lt g answers none empty =
-    elim (held first b bs n key start born right enters memory k 0 p c cs (omega (arith, lt)) g) [
-      | inl y ↦ let r = returned_so (history_of y.0) a p.world (entry_gives n key born) (stage_at y.0 c cs) 0 p.next p.calls p.now answers none empty y.2 (live b bs c cs y.0 y.1) in inl (y.0, y.1, r.0, r.1, r.2)
+runs_return look b bs n key start born first right enters k p c cs a lt g memory answers none empty =
+    elim (held look first b bs n key start born right enters k 0 p c cs (let r = looks look (0 + k) k (omega arith) in omega (arith, lt, r)) g memory) [
+      | inl y ↦ let r = returned_so (history_of y.0) a p.world (entry_gives n key born) (stage_at look y.0 c cs) 0 p.next p.calls p.now answers none empty y.2 (live b bs c cs y.0 y.1) in inl (y.0, y.1, r.0, r.1, r.2)
       | inr l ↦ inr l
     ]

@@ -1,5 +1,5 @@
 -- Moves and changes one after another keep what a place means, and what is shown begins what the history of the run's texts gives.
-use Rattle.std.proofs.Common.{◌≡◌, ◌⊎◌, inl, inr, ℕ, suc, ◌+◌, ◌≤◌, List, [], ◌∷◌, ◌++◌, arith, refl, sym, ap, ◌∙◌, subst, append_assoc}
+use Rattle.std.proofs.Common.{◌≡◌, ◌⊎◌, inl, inr, ℕ, suc, ◌+◌, ◌≤◌, ◌<◌, List, [], ◌∷◌, ◌++◌, arith, refl, sym, ap, ◌∙◌, subst, append_assoc}
 use Rattle.std.proofs.lemmas.List.{append-nil}
 use Rattle.std.specs.Prelude.{map, Ok, Err}
 use Rattle.sc_base.specs.declared.key.Key.{Key}
@@ -28,13 +28,13 @@ use Rattle.sc_mixed.specs.declared.calls.Next.{Next}
 use Rattle.sc_mixed.specs.declared.calls.Next.TheVariants.{Steps, Executes, Serves}
 use Rattle.sc_mixed_means.specs.Owed.{CompiledTextsAreRight}
 use Rattle.sc_mixed_means.specs.Places.{CodeStands, Comes, IsLostFrom, KeepsBy, Means}
-use Rattle.sc_mixed_means.specs.Runs.{BreaksOff, ChangesEndAsMeant, Enters, Gone, IsPastOf, IsShownIn, MemoryIsKept, Place, RunsEndAsMeant, RunsShowTheirMeaning, WasPast, all_texts, entry_gives, gone_changed, gone_moved, gone_none, history_of, in_world, texts_in}
-use Rattle.sc_mixed_means.specs.Stages.{Build, First, Live, Past, Stage, Then, from_here, texts_of}
+use Rattle.sc_mixed_means.specs.Runs.{BreaksOff, ChangesEndAsMeant, Enters, Gone, FitsAt, IsPastAt, IsPastOf, IsShownIn, MemoryIsKept, Place, RunsEndAsMeant, RunsShowTheirMeaning, WasPast, all_texts, entry_gives, gone_changed, gone_moved, gone_none, history_of, in_world, texts_in}
+use Rattle.sc_mixed_means.specs.Stages.{Build, First, Look, Live, Past, Stage, Then, from_here, texts_of}
 use Rattle.sc_mixed_means.specs.Waiting.{IsFit, KeepsWaiting}
 use Rattle.sc_mixed_means.proofs.Change.{changes_end, changes_keep}
 use Rattle.sc_mixed_means.proofs.Histories.{history_fits}
 use Rattle.sc_mixed_means.proofs.Moves.{alike_world, moves_keep}
-use Rattle.sc_mixed_means.proofs.Parts.{code_leads, lower_leads}
+use Rattle.sc_mixed_means.proofs.Parts.{code_leads, looks, lower_leads}
 use Rattle.sc_mixed_means.proofs.Start.{entry_means}
 
 -- ---- what happens later is shown later
@@ -61,8 +61,8 @@ shows_from w v u a l =
 
 -- ---- the stage of a run with these texts
 
-abbrev pub stage_at : Past → Build → List Build → Stage
-stage_at p c cs = record { past = p; image = c.image; places = c.places; later = cs }
+abbrev pub stage_at : Look → Past → Build → List Build → Stage
+stage_at look p c cs = record { look = look; past = p; image = c.image; places = c.places; later = cs }
 
 -- the history of a run has no version that has not come
 pub live : (b : Build) (bs : List Build) (c : Build) (cs : List Build) (p : Past) → IsPastOf b bs c cs p → (v : World) → Live p v (history_of p)
@@ -80,23 +80,23 @@ place_shown m s (Steps g) c w now out h l x =
 place_shown m s Executes c w now out h l x = code_shown m s Executes c w now out h l x
 place_shown m s (Serves k) c w now out h l x = code_shown m s (Serves k) c w now out h l x
 
-module _ (first : Place) (b : Build) (bs : List Build) where
-  right_at : (k : ℕ) (p : Place) (c : Build) (cs : List Build) → Gone first b bs k p c cs → CompiledTextsAreRight (b ∷ bs) → CompiledTextsAreRight (c ∷ cs)
+module _ (look : Look) (first : Place) (b : Build) (bs : List Build) where
+  right_at : (k : ℕ) (p : Place) (c : Build) (cs : List Build) → Gone first b bs k p c cs → CompiledTextsAreRight look (b ∷ bs) → CompiledTextsAreRight look (c ∷ cs)
   right_at _ _ _ _ gone_none r = r
   right_at _ _ _ _ (gone_moved k p q c cs moved g x e) r = right_at k p c cs g r
   right_at _ _ _ _ (gone_changed k p c d ds placed x g event is goes) r = (right_at k p c (d ∷ ds) g r).1
 
-  module _ (n : ℕ) (key : Key) (start born : World) (right : CompiledTextsAreRight (b ∷ bs)) (enters : Enters b key start born first) (memory : MemoryIsKept first b bs n key born) where
+  module _ (n : ℕ) (key : Key) (start born : World) (right : CompiledTextsAreRight look (b ∷ bs)) (enters : Enters b key start born first) where
     abbrev pub Kept : ℕ → Place → Build → List Build → Type 0
-    Kept m p c cs = (past : Past) × IsPastOf b bs c cs past × Means m (stage_at past c cs) p.next p.calls p.world p.now (entry_gives n key born)
+    Kept m p c cs = (past : Past) × IsPastOf b bs c cs past × Means m (stage_at look past c cs) p.next p.calls p.world p.now (entry_gives n key born)
 
-    lost_here : (k : ℕ) (p : Place) (c : Build) (cs : List Build) (past : Past) → Gone first b bs k p c cs → IsPastOf b bs c cs past → IsLostFrom (stage_at past c cs) p.world (entry_gives n key born) → WasPast first b bs n key born
-    lost_here k p c cs past g so l = record {
-      moves = k;
-      place = p;
-      build = c;
-      later = cs;
-      gone = g;
+    past_here : (k : ℕ) (p : Place) (c : Build) (cs : List Build) (g : Gone first b bs k p c cs) → IsPastAt b bs n key born p c cs → WasPast first b bs n key born k p c cs g
+    past_here _ _ _ _ gone_none x = x
+    past_here _ _ _ _ (gone_moved k p q c cs moved g y e) x = inl x
+    past_here _ _ _ _ (gone_changed k p c d ds placed y g event is goes) x = inl x
+
+    lost_here : (k : ℕ) (p : Place) (c : Build) (cs : List Build) (past : Past) (g : Gone first b bs k p c cs) → IsPastOf b bs c cs past → IsLostFrom (stage_at look past c cs) p.world (entry_gives n key born) → WasPast first b bs n key born k p c cs g
+    lost_here k p c cs past g so l = past_here k p c cs g (record {
       past = past;
       follows = so;
       is = record {
@@ -106,60 +106,54 @@ module _ (first : Place) (b : Build) (bs : List Build) where
         compiled = l.2.compiled;
         shows = l.2.shows ∙ ap (λ (x : Shows). x.items) (sym l.1.shown);
       };
-    }
+    })
 
-    keeps_by : (k : ℕ) (p q : Place) (c : Build) (cs : List Build) (moved : Moved) → Gone first b bs k p c cs → Moves c.texts c.image p.next p.calls p.world (Ok moved) q.next q.calls q.world → (next : Next) → p.next ≡ next → KeepsBy next (Ok moved) p.calls.lower p.world q.world ⊎ WasPast first b bs n key born
-    keeps_by k p q c cs moved g x (Steps going) e = memory.moves k p q c cs going moved g e x
-    keeps_by k p q c cs moved g x Executes e = inl tt
-    keeps_by k p q c cs moved g x (Serves i) e = inl tt
+    fit_at : (p : Place) (c : Build) (past : Past) → texts_of past ≡ c.texts → FitsAt p c → IsFit (texts_of past) c.image c.places p.calls.lower p.world
+    fit_at p c past e fit = subst (λ ts. IsFit ts c.image c.places p.calls.lower p.world) (sym e) fit
 
-    fit_at : (k : ℕ) (p : Place) (c : Build) (cs : List Build) (past : Past) → Gone first b bs k p c cs → texts_of past ≡ c.texts → IsFit (texts_of past) c.places p.calls.lower p.world ⊎ WasPast first b bs n key born
-    fit_at k p c cs past g e = subst (λ ts. IsFit ts c.places p.calls.lower p.world ⊎ WasPast first b bs n key born) (sym e) (memory.fit k p c cs g)
-
-    comes_on : (k m : ℕ) (p q : Place) (c : Build) (cs : List Build) (moved : Moved) (past : Past) → Gone first b bs k p c cs → q.now ≡ moved.shown → IsPastOf b bs c cs past → Comes m (stage_at past c cs) p.world (Ok moved) q.next q.calls q.world (entry_gives n key born) → Kept m q c cs ⊎ WasPast first b bs n key born
+    comes_on : (k m : ℕ) (p q : Place) (c : Build) (cs : List Build) (moved : Moved) (past : Past) (g : Gone first b bs k p c cs) → q.now ≡ moved.shown → IsPastOf b bs c cs past → Comes m (stage_at look past c cs) p.world (Ok moved) q.next q.calls q.world (entry_gives n key born) → Kept m q c cs ⊎ WasPast first b bs n key born k p c cs g
     comes_on k m p q c cs moved past g e so x =
         elim x [
-          | inl z ↦ inl (past, so, subst (λ now. Means m (stage_at past c cs) q.next q.calls q.world now (entry_gives n key born)) (sym e) z)
+          | inl z ↦ inl (past, so, subst (λ now. Means m (stage_at look past c cs) q.next q.calls q.world now (entry_gives n key born)) (sym e) z)
           | inr z ↦ inr (lost_here k p c cs past g so z)
         ]
 
-    moves_on : (k m : ℕ) (p q : Place) (c : Build) (cs : List Build) (moved : Moved) → Gone first b bs k p c cs → Moves c.texts c.image p.next p.calls p.world (Ok moved) q.next q.calls q.world → q.now ≡ moved.shown → Kept (suc m) p c cs → Kept m q c cs ⊎ WasPast first b bs n key born
-    moves_on k m p q c cs moved g x e y =
-        elim (fit_at k p c cs y.0 g y.1.present) [
-          | inl fit ↦
-              elim (keeps_by k p q c cs moved g x p.next refl) [
-                | inl keep ↦
-                    comes_on k m p q c cs moved y.0 g e y.1
-                    (moves_keep m (stage_at y.0 c cs) p.next q.next p.calls q.calls p.world q.world p.now (Ok moved) (entry_gives n key born) ((right_at k p c cs g right).0 y.0 y.1.present) fit y.2 (subst (λ ts. Moves ts c.image p.next p.calls p.world (Ok moved) q.next q.calls q.world) (sym y.1.present) x) keep)
-                | inr l ↦ inr l
-              ]
-          | inr l ↦ inr l
-        ]
+    moves_on : (k m : ℕ) (p q : Place) (c : Build) (cs : List Build) (moved : Moved) (g : Gone first b bs k p c cs) → Moves c.texts c.image p.next p.calls p.world (Ok moved) q.next q.calls q.world → q.now ≡ moved.shown → FitsAt p c → KeepsBy p.next (Ok moved) p.calls.lower p.world q.next q.world → Kept (suc m) p c cs → Kept m q c cs ⊎ WasPast first b bs n key born k p c cs g
+    moves_on k m p q c cs moved g x e fit keep y =
+        comes_on k m p q c cs moved y.0 g e y.1
+        (moves_keep m (stage_at look y.0 c cs) p.next q.next p.calls q.calls p.world q.world p.now (Ok moved) (entry_gives n key born) ((right_at k p c cs g right).0 y.0 y.1.present) (fit_at p c y.0 y.1.present fit) y.2 (subst (λ ts. Moves ts c.image p.next p.calls p.world (Ok moved) q.next q.calls q.world) (sym y.1.present) x) keep)
 
     changes_on : (k m : ℕ) (p : Place) (c d : Build) (ds : List Build) (placed x : World) → Gone first b bs k p c (d ∷ ds) → IsEvent p.now → IsPlaced p.world placed → changed c.texts d.texts placed ≡ Done tt x → Kept m p c (d ∷ ds) → KeepsWaiting p.calls.lower p.world x → Kept m (in_world x p) d ds
     changes_on k m p c d ds placed x g event is goes y keep =
-        let z = changes_keep m (stage_at y.0 c (d ∷ ds)) d ds refl p.next p.calls p.world placed x p.now (entry_gives n key born) y.2 event is (subst (λ ts. changed ts d.texts placed ≡ Done tt x) (sym y.1.present) goes) keep in (
+        let z = changes_keep m (stage_at look y.0 c (d ∷ ds)) d ds refl p.next p.calls p.world placed x p.now (entry_gives n key born) y.2 event is (subst (λ ts. changed ts d.texts placed ≡ Done tt x) (sym y.1.present) goes) keep in (
           Then y.0 z.0 d.texts,
           record { order = (y.1.order, z.1); present = refl; all = append_assoc (all_texts y.0) (d.texts ∷ []) (map texts_in ds) ∙ y.1.all },
           z.2,
         )
 
-    pub held : (k m : ℕ) (p : Place) (c : Build) (cs : List Build) → suc (m + k) ≤ n → Gone first b bs k p c cs → Kept m p c cs ⊎ WasPast first b bs n key born
-    held _ m _ _ _ le gone_none =
+    pub held : (k m : ℕ) (p : Place) (c : Build) (cs : List Build) → suc (look.deep (m + k)) ≤ n → (g : Gone first b bs k p c cs) → MemoryIsKept first b bs n key born k p c cs g → Kept m p c cs ⊎ WasPast first b bs n key born k p c cs g
+    held _ m _ _ _ le gone_none memory =
         inl (
           First b.texts,
           record { order = tt; present = refl; all = refl },
-          entry_means b bs key n born (right.0 (First b.texts) refl) (is_code (callee_of b.texts key)) m first.calls first.world first.next first.now (omega (arith, le)) refl enters.fit enters.entry,
+          entry_means look b bs key n born (right.0 (First b.texts) refl) (is_code (callee_of b.texts key)) m first.calls first.world first.next first.now (let r = looks look m (m + 0) (omega arith) in omega (arith, le, r)) refl enters.fit enters.entry,
         )
-    held _ m _ _ _ le (gone_moved k p q c cs moved g x e) =
-        elim (held k (suc m) p c cs (omega (arith, le)) g) [ inl y ↦ moves_on k m p q c cs moved g x e y | inr l ↦ inr l ]
-    held _ m _ _ _ le (gone_changed k p c d ds placed x g event is goes) =
-        elim (held k m p c (d ∷ ds) (omega (arith, le)) g) [
-          | inl y ↦ elim (memory.changes k p c d ds placed x g event is goes) [ inl keep ↦ inl (changes_on k m p c d ds placed x g event is goes y keep) | inr l ↦ inr l ]
-          | inr l ↦ inr l
+    held _ m _ _ _ le (gone_moved k p q c cs moved g x e) memory =
+        elim (held k (suc m) p c cs (let r = looks look (suc m + k) (m + suc k) (omega arith) in omega (arith, le, r)) g memory.0) [
+          | inl y ↦
+              elim memory.1 [
+                | inl z ↦ elim (moves_on k m p q c cs moved g x e z.0 z.1 y) [ inl a ↦ inl a | inr l ↦ inr (inr l) ]
+                | inr l ↦ inr (inr l)
+              ]
+          | inr l ↦ inr (inr l)
+        ]
+    held _ m _ _ _ le (gone_changed k p c d ds placed x g event is goes) memory =
+        elim (held k m p c (d ∷ ds) (let r = looks look (m + k) (m + suc k) (omega arith) in omega (arith, le, r)) g memory.0) [
+          | inl y ↦ elim memory.1 [ inl keep ↦ inl (changes_on k m p c d ds placed x g event is goes y keep) | inr l ↦ inr (inr l) ]
+          | inr l ↦ inr (inr l)
         ]
 
-    broke : (k m : ℕ) (p : Place) (c : Build) (cs : List Build) (broken : Break) (after : Next) (d : Calls) (u : World) → Gone first b bs k p c cs → (past : Past) → IsPastOf b bs c cs past → Comes m (stage_at past c cs) p.world (Err broken) after d u (entry_gives n key born) → BreaksOff b bs n key born c cs broken u ⊎ WasPast first b bs n key born
+    broke : (k m : ℕ) (p : Place) (c : Build) (cs : List Build) (broken : Break) (after : Next) (d : Calls) (u : World) (g : Gone first b bs k p c cs) (past : Past) → IsPastOf b bs c cs past → Comes m (stage_at look past c cs) p.world (Err broken) after d u (entry_gives n key born) → BreaksOff b bs n key born c cs broken u ⊎ WasPast first b bs n key born k p c cs g
     broke k m p c cs (Meant stop) after d u g past so x =
         elim x [
           | inl z ↦ inl (past, so, λ e told. let f = z.2 e told in (f.0, f.1, f.2 (history_of past) (live b bs c cs past so z.0) (live b bs c cs past so (world_at f.0))))
@@ -167,23 +161,19 @@ module _ (first : Place) (b : Build) (bs : List Build) where
         ]
     broke k m p c cs (Crashed pc cause) after d u g past so x = inr (lost_here k p c cs past g so x)
 
-    keeps_broken : (broken : Break) (p : Place) (u : World) (next : Next) → KeepsBy next (Err broken) p.calls.lower p.world u
-    keeps_broken broken p u (Steps g) = tt
-    keeps_broken broken p u Executes = tt
-    keeps_broken broken p u (Serves k) = tt
+    keeps_broken : (broken : Break) (p : Place) (u : World) (next after : Next) → KeepsBy next (Err broken) p.calls.lower p.world after u
+    keeps_broken broken p u (Steps g) after = tt
+    keeps_broken broken p u Executes after = tt
+    keeps_broken broken p u (Serves k) after = tt
 
-    breaks : (k m : ℕ) (p : Place) (c : Build) (cs : List Build) (broken : Break) (after : Next) (d : Calls) (u : World) → Gone first b bs k p c cs → Moves c.texts c.image p.next p.calls p.world (Err broken) after d u → Kept (suc m) p c cs → BreaksOff b bs n key born c cs broken u ⊎ WasPast first b bs n key born
-    breaks k m p c cs broken after d u g x y =
-        elim (fit_at k p c cs y.0 g y.1.present) [
-          | inl fit ↦
-              broke k m p c cs broken after d u g y.0 y.1
-              (moves_keep m (stage_at y.0 c cs) p.next after p.calls d p.world u p.now (Err broken) (entry_gives n key born) ((right_at k p c cs g right).0 y.0 y.1.present) fit y.2 (subst (λ ts. Moves ts c.image p.next p.calls p.world (Err broken) after d u) (sym y.1.present) x) (keeps_broken broken p u p.next))
-          | inr l ↦ inr l
-        ]
+    breaks : (k m : ℕ) (p : Place) (c : Build) (cs : List Build) (broken : Break) (after : Next) (d : Calls) (u : World) (g : Gone first b bs k p c cs) → FitsAt p c → Moves c.texts c.image p.next p.calls p.world (Err broken) after d u → Kept (suc m) p c cs → BreaksOff b bs n key born c cs broken u ⊎ WasPast first b bs n key born k p c cs g
+    breaks k m p c cs broken after d u g fit x y =
+        broke k m p c cs broken after d u g y.0 y.1
+        (moves_keep m (stage_at look y.0 c cs) p.next after p.calls d p.world u p.now (Err broken) (entry_gives n key born) ((right_at k p c cs g right).0 y.0 y.1.present) (fit_at p c y.0 y.1.present fit) y.2 (subst (λ ts. Moves ts c.image p.next p.calls p.world (Err broken) after d u) (sym y.1.present) x) (keeps_broken broken p u p.next after))
 
     change_ends : (k m : ℕ) (p : Place) (c d : Build) (ds : List Build) (placed : World) (e : Ending) → Gone first b bs k p c (d ∷ ds) → IsEvent p.now → IsPlaced p.world placed → changed c.texts d.texts placed ≡ Over e → Kept m p c (d ∷ ds) → (past : Past) × IsPastOf b bs d ds past × (f : Ending) × EndsAlike Like e f × (entry_gives n key born (history_of past) ≡ Over f)
     change_ends k m p c d ds placed e g event is goes y =
-        let z = changes_end m (stage_at y.0 c (d ∷ ds)) d ds refl p.next p.calls p.world placed p.now (entry_gives n key born) y.2 e event is (subst (λ ts. changed ts d.texts placed ≡ Over e) (sym y.1.present) goes) in
+        let z = changes_end m (stage_at look y.0 c (d ∷ ds)) d ds refl p.next p.calls p.world placed p.now (entry_gives n key born) y.2 e event is (subst (λ ts. changed ts d.texts placed ≡ Over e) (sym y.1.present) goes) in
         let past : Past = Then y.0 z.0 d.texts in
         let fits = history_fits (Then y.0 z.0 d.texts) (y.1.order, z.1) z.0 in (
           past,
@@ -194,22 +184,22 @@ module _ (first : Place) (b : Build) (bs : List Build) where
         )
 
 pub runs_show : RunsShowTheirMeaning
-runs_show b bs n key start born first right enters memory k p c cs lt g =
-    elim (held first b bs n key start born right enters memory k 0 p c cs (omega (arith, lt)) g) [
-      | inl y ↦ inl (y.0, y.1, place_shown 0 (stage_at y.0 c cs) p.next p.calls p.world p.now (entry_gives n key born) (history_of y.0) (live b bs c cs y.0 y.1) y.2)
+runs_show look b bs n key start born first right enters k p c cs lt g memory =
+    elim (held look first b bs n key start born right enters k 0 p c cs (let r = looks look (0 + k) k (omega arith) in omega (arith, lt, r)) g memory) [
+      | inl y ↦ inl (y.0, y.1, place_shown 0 (stage_at look y.0 c cs) p.next p.calls p.world p.now (entry_gives n key born) (history_of y.0) (live b bs c cs y.0 y.1) y.2)
       | inr l ↦ inr l
     ]
 
 pub runs_end : RunsEndAsMeant
-runs_end b bs n key start born first right enters memory k p c cs broken after d u lt g x =
-    elim (held first b bs n key start born right enters memory k 1 p c cs (omega (arith, lt)) g) [
-      | inl y ↦ breaks first b bs n key start born right enters memory k 0 p c cs broken after d u g x y
+runs_end look b bs n key start born first right enters k p c cs broken after d u lt g memory fit x =
+    elim (held look first b bs n key start born right enters k 1 p c cs (let r = looks look (1 + k) (suc k) (omega arith) in omega (arith, lt, r)) g memory) [
+      | inl y ↦ breaks look first b bs n key start born right enters k 0 p c cs broken after d u g fit x y
       | inr l ↦ inr l
     ]
 
 pub changes_over : ChangesEndAsMeant
-changes_over b bs n key start born first right enters memory k p c d ds placed e lt g event is goes =
-    elim (held first b bs n key start born right enters memory k 0 p c (d ∷ ds) (omega (arith, lt)) g) [
-      | inl y ↦ inl (change_ends first b bs n key start born right enters memory k 0 p c d ds placed e g event is goes y)
+changes_over look b bs n key start born first right enters k p c d ds placed e lt g memory event is goes =
+    elim (held look first b bs n key start born right enters k 0 p c (d ∷ ds) (let r = looks look (0 + k) k (omega arith) in omega (arith, lt, r)) g memory) [
+      | inl y ↦ inl (change_ends look first b bs n key start born right enters k 0 p c d ds placed e g event is goes y)
       | inr l ↦ inr l
     ]

@@ -9,7 +9,7 @@ use Rattle.sc_mixed.specs.Bridge.{is_code}
 use Rattle.sc_services.specs.Frames.{is_object}
 use Rattle.sc_mixed_means.specs.Owed.{CallsMean, CompiledTextsAreRight}
 use Rattle.sc_mixed_means.specs.Sources.{AreSources, BuildsAreSources}
-use Rattle.sc_mixed_means.specs.Stages.{Build, Stage, texts_of}
+use Rattle.sc_mixed_means.specs.Stages.{Build, Look, Stage, texts_of}
 
 library_source : (q : Option LibFun) → is_code (or_library q) ≡ false
 library_source None = refl
@@ -32,9 +32,9 @@ not_both true p q = absurd (cc)
 not_both false p q = absurd (cc)
 
 sources_mean : (s : Stage) (texts : List Text) → texts_of s.past ≡ texts → AreSources texts → CallsMean s
-sources_mean s texts e sources n key xs c d w u v next code fit like x =
+sources_mean s texts e sources n key xs c d w u v next code fit like x alike q given =
     absurd (not_both (is_code (callee_of texts key)) (callee_source texts key sources) (ap (λ ts. is_code (callee_of ts key)) (sym e) ∙ code))
 
-pub nothing_owed : (bs : List Build) → BuildsAreSources bs → CompiledTextsAreRight bs
-nothing_owed [] p = tt
-nothing_owed (b ∷ bs) p = (λ past e. sources_mean (record { past = past; image = b.image; places = b.places; later = bs }) b.texts e p.0, nothing_owed bs p.1)
+pub nothing_owed : (look : Look) (bs : List Build) → BuildsAreSources bs → CompiledTextsAreRight look bs
+nothing_owed look [] p = tt
+nothing_owed look (b ∷ bs) p = (λ past e. sources_mean (record { look = look; past = past; image = b.image; places = b.places; later = bs }) b.texts e p.0, nothing_owed look bs p.1)

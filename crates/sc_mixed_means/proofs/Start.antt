@@ -32,7 +32,7 @@ use Rattle.sc_world.specs.Standing.{state_of}
 use Rattle.sc_mixed_means.specs.Owed.{CallsMean, CodeMeans}
 use Rattle.sc_mixed_means.specs.Places.{LowerAfter, Means, StepsDue}
 use Rattle.sc_mixed_means.specs.Runs.{entry_gives}
-use Rattle.sc_mixed_means.specs.Stages.{Build, First, Live, Stage, from_here}
+use Rattle.sc_mixed_means.specs.Stages.{Build, Look, First, Live, Stage, from_here}
 use Rattle.sc_mixed_means.specs.Waiting.{IsFit}
 use Rattle.sc_mixed_means.proofs.Moves.{agree}
 use Rattle.sc_mixed_means.proofs.Versions.{turned, changed_there}
@@ -42,10 +42,10 @@ alike_itself (going.Runs doing ss env a) cs w = (w, like_same w, refl)
 alike_itself (going.Makes f x xs c) cs w = (w, like_same w, refl)
 alike_itself (going.Answers a) cs w = (w, like_same w, refl)
 
-abbrev pub first_stage : Build → List Build → Stage
-first_stage b bs = record { past = First b.texts; image = b.image; places = b.places; later = bs }
+abbrev pub first_stage : Look → Build → List Build → Stage
+first_stage f b bs = record { look = f; past = First b.texts; image = b.image; places = b.places; later = bs }
 
-module _ (b : Build) (bs : List Build) (key : Key) (bound : ℕ) (born : World) where
+module _ (f : Look) (b : Build) (bs : List Build) (key : Key) (bound : ℕ) (born : World) where
   first : runs.callee_next (alone b.texts) key [] (callee_of (version_at (alone b.texts) (pass GoesOut born).count) key) [] (pass GoesOut born) ≡ entry_next b.texts key [] born
   first =
       ap (λ ts. runs.callee_next (alone b.texts) key [] (callee_of ts key) [] (pass GoesOut born)) (present b.texts (pass GoesOut born).count)
@@ -59,7 +59,7 @@ module _ (b : Build) (bs : List Build) (key : Key) (bound : ℕ) (born : World) 
       named_same 0 l.0 (alone b.texts) h (turned 0 l.0 h (alone b.texts) (agree (First b.texts) h l.0 l.1)) key [] [] v (omega arith) (subst (λ (x : State). (world_of x).count < l.0) (sym same) l.2) in
       subst (λ x. left.Means h n x (entry_gives bound key born h)) (sym as_alone ∙ same) (call_means h n bound key [] v le)
 
-  due_first : (n : ℕ) (g : Going) (w : World) → suc n ≤ bound → entry_next b.texts key [] born ≡ state_of g [] w → IsEvent (entry_shown (entry_next b.texts key [] born)) → (ds : List Build) → StepsDue n ds (first_stage b bs) [] w (state_of g [] w) (entry_gives bound key born)
+  due_first : (n : ℕ) (g : Going) (w : World) → suc (f.deep n) ≤ bound → entry_next b.texts key [] born ≡ state_of g [] w → IsEvent (entry_shown (entry_next b.texts key [] born)) → (ds : List Build) → StepsDue n ds (first_stage f b bs) [] w (state_of g [] w) (entry_gives bound key born)
   due_first n g w le e event [] = tt
   due_first n g w le e event (d ∷ ds) =
       let count : ℕ = (world_of (entry_next b.texts key [] born)).count in
@@ -69,53 +69,53 @@ module _ (b : Build) (bs : List Build) (key : Key) (bound : ℕ) (born : World) 
         before = born;
         late = omega arith;
         less = omega (arith, x.later, x.counts, at);
-        deep = n;
+        deep = f.deep n;
         enough = omega arith;
         gives = from_here (entry_gives bound key born) (First b.texts) born;
         means = λ h l fits comes.
             let here : version_at h born.count ≡ b.texts = (agree (First b.texts) h l.0 l.1).texts born.count (omega arith) l.2 ∙ present b.texts born.count in
-            subst (λ y. left.Means h n y (entry_gives bound key born h)) (changed_there b.texts d.texts h (world_of (state_of g [] w)).count born.count count (λ k. reached_in k key born 0) x at here comes ∙ ap (changed_state b.texts d.texts) (first ∙ e)) (call_means h n bound key [] (pass GoesOut born) le);
+            subst (λ y. left.Means h (f.deep n) y (entry_gives bound key born h)) (changed_there b.texts d.texts h (world_of (state_of g [] w)).count born.count count (λ k. reached_in k key born 0) x at here comes ∙ ap (changed_state b.texts d.texts) (first ∙ e)) (call_means h (f.deep n) bound key [] (pass GoesOut born) le);
         over = λ h l f same. same;
-        after = λ u y f. λ h l. (f h l).1;
+        after = λ u y j. λ h l. (j h l).1;
       }
 
-  in_source : (n : ℕ) (c : Calls) (w : World) (next : Next) (now : Shown) → suc n ≤ bound → CallsEntry b.texts key no_calls born next now c w → Means n (first_stage b bs) next c w now (entry_gives bound key born)
+  in_source : (n : ℕ) (c : Calls) (w : World) (next : Next) (now : Shown) → suc (f.deep n) ≤ bound → CallsEntry b.texts key no_calls born next now c w → Means n (first_stage f b bs) next c w now (entry_gives bound key born)
   in_source n c w next now le x =
-      subst (λ y. Means n (first_stage b bs) y c w now (entry_gives bound key born)) (sym x.goes)
-      (subst (λ (d : Calls). Means n (first_stage b bs) (Steps x.going) d w now (entry_gives bound key born)) (sym x.calls)
+      subst (λ y. Means n (first_stage f b bs) y c w now (entry_gives bound key born)) (sym x.goes)
+      (subst (λ (d : Calls). Means n (first_stage f b bs) (Steps x.going) d w now (entry_gives bound key born)) (sym x.calls)
       (record {
         stands = state_of x.going [] w;
         alike = alike_itself x.going [] w;
         gives = record {
           late = omega arith;
-          deep = n;
+          deep = f.deep n;
           enough = omega arith;
           gives = from_here (entry_gives bound key born) (First b.texts) (world_of (state_of x.going [] w));
-          means = λ h l. means_first n x.going w le x.state h l;
+          means = λ h l. means_first (f.deep n) x.going w le x.state h l;
           after = λ h l. refl;
         };
         due = λ event. due_first n x.going w le x.state (subst IsEvent x.shown event) bs;
       }))
 
-  in_code : CallsMean (first_stage b bs) → (n : ℕ) (c : Calls) (w : World) (next : Next) (now : Shown) → suc n ≤ bound → is_code (callee_of b.texts key) ≡ true → IsFit b.texts b.places [] (pass GoesOut born) → now ≡ Nothing → Calling b.image key [] no_calls (pass GoesOut born) next c w → Means n (first_stage b bs) next c w now (entry_gives bound key born)
+  in_code : CallsMean (first_stage f b bs) → (n : ℕ) (c : Calls) (w : World) (next : Next) (now : Shown) → suc (f.deep n) ≤ bound → is_code (callee_of b.texts key) ≡ true → IsFit b.texts b.image b.places [] (pass GoesOut born) → now ≡ Nothing → Calling b.image key [] no_calls (pass GoesOut born) next c w → Means n (first_stage f b bs) next c w now (entry_gives bound key born)
   in_code right n c w next now le code fit hush x =
       let v : World = pass GoesOut born in
-      let r = right n key [] no_calls c v w v next code fit (like_same v) x in
+      let alike : Like w v = subst (λ z. Like z v) (sym x.stores) (like_same v) in
       let q = from_here (entry_gives bound key born) (First b.texts) v in
-      subst (λ y. Means n (first_stage b bs) y c w now (entry_gives bound key born)) (sym x.goes)
+      subst (λ y. Means n (first_stage f b bs) y c w now (entry_gives bound key born)) (sym x.goes)
       (record {
         stands = v;
-        alike = r.0;
+        alike = alike;
         late = omega arith;
         deep = n;
         enough = omega arith;
         gives = q;
-        means = subst (λ y. CodeMeans n (first_stage b bs) y c w v q) x.goes (r.1 q (λ h l. (bound, le, refl)));
-        after = subst (λ ls. LowerAfter n (first_stage b bs) w ls v q q) (sym (ap (λ (d : Calls). d.lower) x.calls)) (q, (n, omega arith, λ h l. refl), λ h l. refl);
+        means = subst (λ y. CodeMeans n (first_stage f b bs) y c w v q) x.goes (right n key [] no_calls c v w v next code fit (like_same v) x alike q (λ h l. (bound, omega (arith, le), refl)));
+        after = subst (λ ls. LowerAfter n (first_stage f b bs) w ls v q q) (sym (ap (λ (d : Calls). d.lower) x.calls)) (q, (f.deep n, omega arith, λ h l. refl), λ h l. refl);
         due = λ event. absurd (subst IsEvent hush event);
       })
 
   -- the first place means the call of the entry, at every depth below the bound
-  pub entry_means : CallsMean (first_stage b bs) → (by : Bool) (n : ℕ) (c : Calls) (w : World) (next : Next) (now : Shown) → suc n ≤ bound → is_code (callee_of b.texts key) ≡ by → IsFit b.texts b.places [] (pass GoesOut born) → EntryGoes by b.texts b.image key no_calls born next now c w → Means n (first_stage b bs) next c w now (entry_gives bound key born)
+  pub entry_means : CallsMean (first_stage f b bs) → (by : Bool) (n : ℕ) (c : Calls) (w : World) (next : Next) (now : Shown) → suc (f.deep n) ≤ bound → is_code (callee_of b.texts key) ≡ by → IsFit b.texts b.image b.places [] (pass GoesOut born) → EntryGoes by b.texts b.image key no_calls born next now c w → Means n (first_stage f b bs) next c w now (entry_gives bound key born)
   entry_means right false n c w next now le e fit x = in_source n c w next now le x
   entry_means right true n c w next now le e fit x = in_code right n c w next now le e fit x.1 x.0

@@ -41,7 +41,7 @@ use Rattle.sc_mixed.specs.declared.calls.Next.{Next}
 use Rattle.sc_mixed.specs.declared.calls.Next.TheVariants.{Steps, Executes, Serves}
 use Rattle.sc_services.specs.Frames.{is_in_code}
 use Rattle.sc_world.specs.Standing.{state_of}
-use Rattle.sc_mixed_means.specs.Stages.{Build, Past, Then, Stage, Fits, Live, Gives, IsPartOf, ArePartsOf, ComesWith, next_stage, texts_of}
+use Rattle.sc_mixed_means.specs.Stages.{Build, Look, Past, Then, Stage, Fits, Live, Gives, IsPartOf, ArePartsOf, ComesWith, next_stage, texts_of}
 use Rattle.sc_mixed_means.specs.Waiting.{IsFit, Keeps, KeepsWaiting}
 
 -- ---- where no more is claimed
@@ -169,9 +169,9 @@ abbrev pub EndsSo : (p : Past) (v : World) → Gives p v → Stop → World → 
 EndsSo p v q stop w = (e : Ending) → ending_of stop w ≡ Some e → (f : Ending) × EndsAlike Like e f × ((h : History) (l : Live p v h) → Live p (world_at f) h → q h l ≡ Over f)
 
 pub record PlaceOwes (Means : PlacesMean) (After : CodeWaits) (n : ℕ) (s : Stage) (next : Next) (c : Calls) (w v : World) (q : Gives s.past v) : Type 0 where
-  pub goes : (after : Next) (d : Calls) (u : World) (moved : Moved) → IsFit (texts_of s.past) s.places c.lower w → Like w v → Moves (texts_of s.past) s.image next c w (Ok moved) after d u → (KeepsWaiting c.lower w u × CodeMoved Means After n s v q c moved.shown after d u) ⊎ IsLost s.past v q
-  pub ends : (after : Next) (d : Calls) (u : World) (stop : Stop) → IsFit (texts_of s.past) s.places c.lower w → Like w v → Moves (texts_of s.past) s.image next c w (Err (Meant stop)) after d u → EndsSo s.past v q stop u ⊎ IsLost s.past v q
-  pub crashes : (after : Next) (d : Calls) (u : World) (pc : ℕ) (cause : Crash) → IsFit (texts_of s.past) s.places c.lower w → Like w v → Moves (texts_of s.past) s.image next c w (Err (Crashed pc cause)) after d u → IsLost s.past v q
+  pub goes : (after : Next) (d : Calls) (u : World) (moved : Moved) → IsFit (texts_of s.past) s.image s.places c.lower w → Like w v → Moves (texts_of s.past) s.image next c w (Ok moved) after d u → (KeepsWaiting c.lower w u × CodeMoved Means After n s v q c moved.shown after d u) ⊎ IsLost s.past v q
+  pub ends : (after : Next) (d : Calls) (u : World) (stop : Stop) → IsFit (texts_of s.past) s.image s.places c.lower w → Like w v → Moves (texts_of s.past) s.image next c w (Err (Meant stop)) after d u → EndsSo s.past v q stop u ⊎ IsLost s.past v q
+  pub crashes : (after : Next) (d : Calls) (u : World) (pc : ℕ) (cause : Crash) → IsFit (texts_of s.past) s.image s.places c.lower w → Like w v → Moves (texts_of s.past) s.image next c w (Err (Crashed pc cause)) after d u → IsLost s.past v q
 
 -- ---- the answer comes
 
@@ -183,13 +183,13 @@ WaitChanges After (b ∷ bs) s r given ls old v a q =
 
 -- Where the call gives this answer, and what the code keeps in its frame is as it was, the code goes on behind the call.
 pub record WaitOwes (Means : PlacesMean) (After : CodeWaits) (s : Stage) (r : Registers) (given : Option Answer) (ls : List Lower) (old v : World) (a q : Gives s.past v) : Type 0 where
-  pub takes : (x : Answer) (c d : Calls) (next : Next) (w u : World) (part : Gives s.past u) → IsFit (texts_of s.past) s.places (InCode r given ∷ ls) w → Like w u → Keeps r old w → ((h : History) (l : Live s.past u h) → (k : Live s.past v h) × (a h k ≡ Done x u) × (part h l ≡ q h k)) → Resumes w x r given ls c next d → Means s next d w u part
+  pub takes : (x : Answer) (c d : Calls) (next : Next) (w u : World) (part : Gives s.past u) → IsFit (texts_of s.past) s.image s.places (InCode r given ∷ ls) w → Like w u → Keeps r old w → ((h : History) (l : Live s.past u h) → (k : Live s.past v h) × (a h k ≡ Done x u) × (part h l ≡ q h k)) → Resumes w x r given ls c next d → Means s next d w u part
   pub changes : WaitChanges After s.later s r given ls old v a q
 
 abbrev mutual
   pub CodeMeans : ℕ → (s : Stage) → Next → Calls → World → (v : World) → Gives s.past v → Type 0
   CodeMeans zero s next c w v q = Lead s.past v q
-  CodeMeans (suc n) s next c w v q = Lead s.past v q × PlaceOwes (CodeMeans n) (CodeAfter n) n s next c w v q
+  CodeMeans (suc n) s next c w v q = Lead s.past v q × PlaceOwes (CodeMeans n) (CodeAfter n) (s.look.deep n) s next c w v q
 
   pub CodeAfter : ℕ → (s : Stage) → Registers → Option Answer → List Lower → World → (v : World) → Gives s.past v → Gives s.past v → Type 0
   CodeAfter zero s r given ls old v a q = GoThrough s.past v a q
@@ -200,13 +200,13 @@ abbrev mutual
 -- A call of compiled code, with its arguments in their places, gives what the meaning's call does.
 abbrev pub CallsMean : Stage → Type 0
 CallsMean s =
-    (n : ℕ) (key : Key) (xs : List Value) (c d : Calls) (w u v : World) (next : Next) → is_code (callee_of (texts_of s.past) key) ≡ true → IsFit (texts_of s.past) s.places c.lower w → Like w v → Calling s.image key xs c w next d u →
-    Like u v × ((q : Gives s.past v) → ((h : History) (l : Live s.past v h) → (m : ℕ) × (suc n ≤ m) × (q h l ≡ call m h key xs v)) → CodeMeans n s next d u v q)
+    (n : ℕ) (key : Key) (xs : List Value) (c d : Calls) (w u v : World) (next : Next) → is_code (callee_of (texts_of s.past) key) ≡ true → IsFit (texts_of s.past) s.image s.places c.lower w → Like w v → Calling s.image key xs c w next d u → Like u v →
+    (q : Gives s.past v) → ((h : History) (l : Live s.past v h) → (m : ℕ) × (s.look.deep n ≤ m) × (q h l ≡ call m h key xs v)) → CodeMeans n s next d u v q
 
 -- So it is of all builds of a run, whatever came before: the one premise on compiled code. It is to be met by the theorem on the compiler, for builds whose
 -- images are the linked texts of what the compiler made of their modules, each linked over the one before: a text that is made of a formed function does,
 -- instruction by instruction, what the meaning of that function does. Where the machine leaves free what is written (a store over an object's end, a copy
 -- that is not inside two objects) such a text comes behind an undefined step alone.
-abbrev pub CompiledTextsAreRight : List Build → Type 0
-CompiledTextsAreRight [] = ⊤
-CompiledTextsAreRight (b ∷ bs) = ((p : Past) → texts_of p ≡ b.texts → CallsMean (record { past = p; image = b.image; places = b.places; later = bs })) × CompiledTextsAreRight bs
+abbrev pub CompiledTextsAreRight : Look → List Build → Type 0
+CompiledTextsAreRight look [] = ⊤
+CompiledTextsAreRight look (b ∷ bs) = ((p : Past) → texts_of p ≡ b.texts → CallsMean (record { look = look; past = p; image = b.image; places = b.places; later = bs })) × CompiledTextsAreRight look bs

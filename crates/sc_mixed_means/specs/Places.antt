@@ -24,14 +24,14 @@ use Rattle.sc_mixed.specs.declared.calls.Moved.{Moved}
 use Rattle.sc_mixed.specs.declared.calls.Next.{Next}
 use Rattle.sc_mixed.specs.declared.calls.Next.TheVariants.{Steps, Executes, Serves}
 use Rattle.sc_world.specs.Standing.{state_of}
-use Rattle.sc_mixed_means.specs.Owed.{CallsMean, CodeMeans, CodeAfter, EndsSo, IsLost, PlaceChanges}
+use Rattle.sc_mixed_means.specs.Owed.{CallsMean, IsCode, CodeMeans, CodeAfter, EndsSo, IsLost, PlaceChanges}
 use Rattle.sc_mixed_means.specs.Stages.{Build, ComesWith, Fits, Gives, IsPartOf, Live, Stage, Then, from_here, next_stage, since, texts_of}
 use Rattle.sc_mixed_means.specs.Waiting.{IsFit, Keeps, KeepsWaiting}
 
 -- Out is what comes of the answer r as what waits below takes it, from the innermost on, in a run that has this world. Each part goes at least n deep.
 abbrev pub LowerAfter : ℕ → (s : Stage) → World → List Lower → (v : World) → Gives s.past v → Gives s.past v → Type 0
 LowerAfter n s w [] v r out = (h : History) (l : Live s.past v h) → r h l ≡ out h l
-LowerAfter n s w (InBodies cs sp depth ∷ ls) v r out = (q : Gives s.past v) × ((m : ℕ) × (n ≤ m) × ((h : History) (l : Live s.past v h) → left.After h m cs (r h l) (q h l))) × LowerAfter n s w ls v q out
+LowerAfter n s w (InBodies cs sp depth ∷ ls) v r out = (q : Gives s.past v) × ((m : ℕ) × (s.look.deep n ≤ m) × ((h : History) (l : Live s.past v h) → left.After h m cs (r h l) (q h l))) × LowerAfter n s w ls v q out
 LowerAfter n s w (InCode regs given ∷ ls) v r out = (q : Gives s.past v) × ((m : ℕ) × (n ≤ m) × (old : World) × Keeps regs old w × CodeAfter m s regs given ls old v r q) × LowerAfter n s w ls v q out
 
 -- what waits takes what comes behind a change to the next build
@@ -45,7 +45,7 @@ pub record StepsChange (n : ℕ) (s : Stage) (b : Build) (bs : List Build) (lowe
   pub late : since s.past ≤ before.count
   pub less : before.count < (world_of stands).count
   pub deep : ℕ
-  pub enough : n ≤ deep
+  pub enough : s.look.deep n ≤ deep
   pub gives : Gives s.past before
   pub means : (h : History) (l : Live s.past before h) → Fits s.past h (world_of stands).count → ComesWith h (world_of stands).count (texts_of s.past) b.texts → left.Means h deep (changed_state (texts_of s.past) b.texts stands) (gives h l)
   pub over : (h : History) (l : Live s.past before h) (e : Ending) → gives h l ≡ Over e → out h ≡ Over e
@@ -59,7 +59,7 @@ StepsDue n (b ∷ bs) s lower w stands out = StepsChange n s b bs lower w stands
 pub record StateGives (n : ℕ) (s : Stage) (stands : State) (lower : List Lower) (w : World) (out : History → Outcome Answer) : Type 0 where
   pub late : since s.past ≤ (world_of stands).count
   pub deep : ℕ
-  pub enough : n ≤ deep
+  pub enough : s.look.deep n ≤ deep
   pub gives : Gives s.past (world_of stands)
   pub means : (h : History) (l : Live s.past (world_of stands) h) → left.Means h deep stands (gives h l)
   pub after : LowerAfter n s w lower (world_of stands) gives (from_here out s.past (world_of stands))
@@ -115,14 +115,15 @@ Comes n s old (Err (Meant stop)) after d w out = EndsIn s old stop w out ⊎ IsL
 Comes n s old (Err (Crashed pc cause)) after d w out = IsLostFrom s old out
 
 -- a move of interpreted calls, or from them or to them, keeps what waits; a move of compiled code owes that itself
-abbrev pub KeepsBy : Next → Result Moved Break → List Lower → World → World → Type 0
-KeepsBy (Steps g) (Ok moved) ls w u = KeepsWaiting ls w u
-KeepsBy (Steps g) (Err broken) ls w u = ⊤
-KeepsBy Executes result ls w u = ⊤
-KeepsBy (Serves k) result ls w u = ⊤
+-- and a call that goes to compiled code leaves objects as they were: the words of its arguments stand beside them
+abbrev pub KeepsBy : Next → Result Moved Break → List Lower → World → Next → World → Type 0
+KeepsBy (Steps g) (Ok moved) ls w after u = KeepsWaiting ls w u × (IsCode after → Like u w)
+KeepsBy (Steps g) (Err broken) ls w after u = ⊤
+KeepsBy Executes result ls w after u = ⊤
+KeepsBy (Serves k) result ls w after u = ⊤
 
 -- the step theorem: what a place of a run means before a move, it means after it
 abbrev pub MovesKeepTheMeaning : Type 0
 MovesKeepTheMeaning =
-    (n : ℕ) (s : Stage) (next after : Next) (c d : Calls) (w u : World) (now : Shown) (result : Result Moved Break) (out : History → Outcome Answer) → CallsMean s → IsFit (texts_of s.past) s.places c.lower w → Means (suc n) s next c w now out →
-    Moves (texts_of s.past) s.image next c w result after d u → KeepsBy next result c.lower w u → Comes n s w result after d u out
+    (n : ℕ) (s : Stage) (next after : Next) (c d : Calls) (w u : World) (now : Shown) (result : Result Moved Break) (out : History → Outcome Answer) → CallsMean s → IsFit (texts_of s.past) s.image s.places c.lower w → Means (suc n) s next c w now out →
+    Moves (texts_of s.past) s.image next c w result after d u → KeepsBy next result c.lower w after u → Comes n s w result after d u out

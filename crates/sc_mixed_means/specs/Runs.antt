@@ -28,8 +28,8 @@ use Rattle.sc_mixed.specs.declared.calls.Moved.{Moved}
 use Rattle.sc_mixed.specs.declared.calls.Next.{Next}
 use Rattle.sc_mixed.specs.declared.calls.Next.TheVariants.{Steps}
 use Rattle.sc_mixed_means.specs.Owed.{CompiledTextsAreRight, is_own_step}
-use Rattle.sc_mixed_means.specs.Places.{Means}
-use Rattle.sc_mixed_means.specs.Stages.{Build, ComesWith, Fits, First, Past, Stage, Then, next_stage, since, texts_of}
+use Rattle.sc_mixed_means.specs.Places.{KeepsBy, Means}
+use Rattle.sc_mixed_means.specs.Stages.{Build, Look, ComesWith, Fits, First, Past, Stage, Then, next_stage, since, texts_of}
 use Rattle.sc_mixed_means.specs.Waiting.{IsFit, KeepsWaiting}
 
 -- ---- behind a change
@@ -104,23 +104,30 @@ pub record IsPast (n : ℕ) (key : Key) (born : World) (w : World) (p : Past) : 
   pub compiled : is_own_step breach end ≡ true
   pub shows : (shown_of end.trail).items ≡ (shown_of w.trail).items
 
--- it came to that on its way
-pub record WasPast (first : Place) (b : Build) (bs : List Build) (n : ℕ) (key : Key) (born : World) : Type 0 where
-  pub moves : ℕ
-  pub place : Place
-  pub build : Build
-  pub later : List Build
-  pub gone : Gone first b bs moves place build later
+-- so it is at a place at which these builds are still to come
+pub record IsPastAt (b : Build) (bs : List Build) (n : ℕ) (key : Key) (born : World) (p : Place) (c : Build) (cs : List Build) : Type 0 where
   pub past : Past
-  pub follows : IsPastOf b bs build later past
-  pub is : IsPast n key born place.world past
+  pub follows : IsPastOf b bs c cs past
+  pub is : IsPast n key born p.world past
 
--- What the laws of memory are to give of a run: at each of its places the memory has the objects, and interpreted calls and changes keep what waits; unless
--- it was past an undefined step of compiled code.
-pub record MemoryIsKept (first : Place) (b : Build) (bs : List Build) (n : ℕ) (key : Key) (born : World) : Type 0 where
-  pub fit : (k : ℕ) (p : Place) (c : Build) (cs : List Build) → Gone first b bs k p c cs → IsFit c.texts c.places p.calls.lower p.world ⊎ WasPast first b bs n key born
-  pub moves : (k : ℕ) (p q : Place) (c : Build) (cs : List Build) (g : Going) (moved : Moved) → Gone first b bs k p c cs → p.next ≡ Steps g → Moves c.texts c.image p.next p.calls p.world (Ok moved) q.next q.calls q.world → KeepsWaiting p.calls.lower p.world q.world ⊎ WasPast first b bs n key born
-  pub changes : (k : ℕ) (p : Place) (c d : Build) (ds : List Build) (placed x : World) → Gone first b bs k p c (d ∷ ds) → IsEvent p.now → IsPlaced p.world placed → changed c.texts d.texts placed ≡ Done tt x → KeepsWaiting p.calls.lower p.world x ⊎ WasPast first b bs n key born
+-- it came to that on its way to a place, or there
+abbrev pub WasPast : (first : Place) (b : Build) (bs : List Build) → ℕ → Key → World → (k : ℕ) (p : Place) (c : Build) (cs : List Build) → Gone first b bs k p c cs → Type 0
+WasPast first b bs n key born _ _ _ _ gone_none = IsPastAt b bs n key born first b bs
+WasPast first b bs n key born _ _ _ _ (gone_moved k p q c cs moved g x e) = IsPastAt b bs n key born q c cs ⊎ WasPast first b bs n key born k p c cs g
+WasPast first b bs n key born _ _ _ _ (gone_changed k p c d ds placed x g event is goes) = IsPastAt b bs n key born (in_world x p) d ds ⊎ WasPast first b bs n key born k p c (d ∷ ds) g
+
+-- at a place the memory has the objects where compiled code has them
+abbrev pub FitsAt : Place → Build → Type 0
+FitsAt p c = IsFit c.texts c.image c.places p.calls.lower p.world
+
+-- What the laws of memory are to give of a run, on its own way and up to where it stands: at each place from which a move goes the memory has the objects,
+-- and interpreted calls and changes keep what waits; unless the run was past an undefined step of compiled code there.
+abbrev pub MemoryIsKept : (first : Place) (b : Build) (bs : List Build) → ℕ → Key → World → (k : ℕ) (p : Place) (c : Build) (cs : List Build) → Gone first b bs k p c cs → Type 0
+MemoryIsKept first b bs n key born _ _ _ _ gone_none = ⊤
+MemoryIsKept first b bs n key born _ _ _ _ (gone_moved k p q c cs moved g x e) =
+    MemoryIsKept first b bs n key born k p c cs g × ((FitsAt p c × KeepsBy p.next (Ok moved) p.calls.lower p.world q.next q.world) ⊎ WasPast first b bs n key born k p c cs g)
+MemoryIsKept first b bs n key born _ _ _ _ (gone_changed k p c d ds placed x g event is goes) =
+    MemoryIsKept first b bs n key born k p c (d ∷ ds) g × (KeepsWaiting p.calls.lower p.world x ⊎ WasPast first b bs n key born k p c (d ∷ ds) g)
 
 -- how a move that breaks off leaves a run: as the meaning ends, under the history of its texts, but that memory may run out; it never crashes
 abbrev pub BreaksOff : (b : Build) (bs : List Build) → ℕ → Key → World → Build → List Build → Break → World → Type 0
@@ -132,34 +139,34 @@ BreaksOff b bs n key born c cs (Crashed pc cause) u = ⊥
 pub record Enters (b : Build) (key : Key) (start born : World) (first : Place) : Type 0 where
   pub births : statics_born b.texts start ≡ Done tt born
   pub entry : EntryGoes (is_code (callee_of b.texts key)) b.texts b.image key no_calls born first.next first.now first.calls first.world
-  pub fit : IsFit b.texts b.places [] (pass GoesOut born)
+  pub fit : IsFit b.texts b.image b.places [] (pass GoesOut born)
 
 -- The theorem on runs of both forms. What a place shows, that so many moves and changes reach, begins what the meaning of the entry's call shows, at each
 -- greater bound, under a history with the run's texts in their order; unless the run is past an undefined step of compiled code.
 abbrev pub RunsShowTheirMeaning : Type 0
 RunsShowTheirMeaning =
-    (b : Build) (bs : List Build) (n : ℕ) (key : Key) (start born : World) (first : Place) → CompiledTextsAreRight (b ∷ bs) → Enters b key start born first → MemoryIsKept first b bs n key born →
-    (k : ℕ) (p : Place) (c : Build) (cs : List Build) → k < n → Gone first b bs k p c cs →
-    ((past : Past) × IsPastOf b bs c cs past × IsShownIn p.world (world_after (entry_gives n key born (history_of past)))) ⊎ WasPast first b bs n key born
+    (look : Look) (b : Build) (bs : List Build) (n : ℕ) (key : Key) (start born : World) (first : Place) → CompiledTextsAreRight look (b ∷ bs) → Enters b key start born first →
+    (k : ℕ) (p : Place) (c : Build) (cs : List Build) → look.deep k < n → (g : Gone first b bs k p c cs) → MemoryIsKept first b bs n key born k p c cs g →
+    ((past : Past) × IsPastOf b bs c cs past × IsShownIn p.world (world_after (entry_gives n key born (history_of past)))) ⊎ WasPast first b bs n key born k p c cs g
 
 -- Where it breaks off, it ends as the meaning does, or it was past such a step.
 abbrev pub RunsEndAsMeant : Type 0
 RunsEndAsMeant =
-    (b : Build) (bs : List Build) (n : ℕ) (key : Key) (start born : World) (first : Place) → CompiledTextsAreRight (b ∷ bs) → Enters b key start born first → MemoryIsKept first b bs n key born →
-    (k : ℕ) (p : Place) (c : Build) (cs : List Build) (broken : Break) (after : Next) (d : Calls) (u : World) → k + 1 < n → Gone first b bs k p c cs → Moves c.texts c.image p.next p.calls p.world (Err broken) after d u →
-    BreaksOff b bs n key born c cs broken u ⊎ WasPast first b bs n key born
+    (look : Look) (b : Build) (bs : List Build) (n : ℕ) (key : Key) (start born : World) (first : Place) → CompiledTextsAreRight look (b ∷ bs) → Enters b key start born first →
+    (k : ℕ) (p : Place) (c : Build) (cs : List Build) (broken : Break) (after : Next) (d : Calls) (u : World) → look.deep (suc k) < n → (g : Gone first b bs k p c cs) → MemoryIsKept first b bs n key born k p c cs g → FitsAt p c → Moves c.texts c.image p.next p.calls p.world (Err broken) after d u →
+    BreaksOff b bs n key born c cs broken u ⊎ WasPast first b bs n key born k p c cs g
 
 -- Where a change ends it, so does the meaning under the history that has this change as its last version.
 abbrev pub ChangesEndAsMeant : Type 0
 ChangesEndAsMeant =
-    (b : Build) (bs : List Build) (n : ℕ) (key : Key) (start born : World) (first : Place) → CompiledTextsAreRight (b ∷ bs) → Enters b key start born first → MemoryIsKept first b bs n key born →
-    (k : ℕ) (p : Place) (c d : Build) (ds : List Build) (placed : World) (e : Ending) → k < n → Gone first b bs k p c (d ∷ ds) → IsEvent p.now → IsPlaced p.world placed → changed c.texts d.texts placed ≡ Over e →
-    ((past : Past) × IsPastOf b bs d ds past × (f : Ending) × EndsAlike Like e f × (entry_gives n key born (history_of past) ≡ Over f)) ⊎ WasPast first b bs n key born
+    (look : Look) (b : Build) (bs : List Build) (n : ℕ) (key : Key) (start born : World) (first : Place) → CompiledTextsAreRight look (b ∷ bs) → Enters b key start born first →
+    (k : ℕ) (p : Place) (c d : Build) (ds : List Build) (placed : World) (e : Ending) → look.deep k < n → (g : Gone first b bs k p c (d ∷ ds)) → MemoryIsKept first b bs n key born k p c (d ∷ ds) g → IsEvent p.now → IsPlaced p.world placed → changed c.texts d.texts placed ≡ Over e →
+    ((past : Past) × IsPastOf b bs d ds past × (f : Ending) × EndsAlike Like e f × (entry_gives n key born (history_of past) ≡ Over f)) ⊎ WasPast first b bs n key born k p c (d ∷ ds) g
 
 -- Where the answer of the entry's call is there and nothing waits for it, the meaning's call gives it, in a world that is alike; or the run was past such a
 -- step.
 abbrev pub RunsReturnAsMeant : Type 0
 RunsReturnAsMeant =
-    (b : Build) (bs : List Build) (n : ℕ) (key : Key) (start born : World) (first : Place) → CompiledTextsAreRight (b ∷ bs) → Enters b key start born first → MemoryIsKept first b bs n key born →
-    (k : ℕ) (p : Place) (c : Build) (cs : List Build) (a : Answer) → k < n → Gone first b bs k p c cs → p.next ≡ Steps (going.Answers a) → p.calls.callers ≡ [] → p.calls.lower ≡ [] →
-    ((past : Past) × IsPastOf b bs c cs past × (u : World) × Like p.world u × (entry_gives n key born (history_of past) ≡ Done a u)) ⊎ WasPast first b bs n key born
+    (look : Look) (b : Build) (bs : List Build) (n : ℕ) (key : Key) (start born : World) (first : Place) → CompiledTextsAreRight look (b ∷ bs) → Enters b key start born first →
+    (k : ℕ) (p : Place) (c : Build) (cs : List Build) (a : Answer) → look.deep k < n → (g : Gone first b bs k p c cs) → MemoryIsKept first b bs n key born k p c cs g → p.next ≡ Steps (going.Answers a) → p.calls.callers ≡ [] → p.calls.lower ≡ [] →
+    ((past : Past) × IsPastOf b bs c cs past × (u : World) × Like p.world u × (entry_gives n key born (history_of past) ≡ Done a u)) ⊎ WasPast first b bs n key born k p c cs g

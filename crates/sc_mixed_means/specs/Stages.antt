@@ -1,6 +1,6 @@
 -- Yardstick: to be compared with what it restates (docs/TRUST.md).
 -- The texts of a run from its start on, as builds that come one after another, and the histories that a run can still turn out to have.
-use Rattle.std.specs.Prelude.{◌≡◌, ℕ, ◌+◌, ◌<◌, ◌≤◌, List}
+use Rattle.std.specs.Prelude.{◌≡◌, ℕ, suc, ◌+◌, ◌<◌, ◌≤◌, List}
 use Rattle.sc_isa_image.specs.declared.image.Image.{Image}
 use Rattle.sc_meaning.specs.Changes.{changed, happened}
 use Rattle.sc_meaning.specs.Expressions.{Answer}
@@ -29,8 +29,15 @@ abbrev pub since : Past → ℕ
 since (First texts) = 0
 since (Then p count texts) = count
 
+-- How deep the meaning looks where so many moves are made: with each move more at least one deeper. A text may need more for a move, by the depth
+-- of its trees, so this is a premise's choice.
+pub record Look : Type 0 where
+  pub deep : ℕ → ℕ
+  pub grows : (n : ℕ) → suc (deep n) ≤ deep (suc n)
+
 -- where a run is among its builds: what was, the image that is present and its places, and what is still to come
 pub record Stage : Type 0 where
+  pub look : Look
   pub past : Past
   pub image : Image
   pub places : List (StaticId × ℕ)
@@ -38,7 +45,7 @@ pub record Stage : Type 0 where
 
 -- the next build has come, behind so many events
 abbrev pub next_stage : Stage → ℕ → Build → List Build → Stage
-next_stage s count b bs = record { past = Then s.past count b.texts; image = b.image; places = b.places; later = bs }
+next_stage s count b bs = record { look = s.look; past = Then s.past count b.texts; image = b.image; places = b.places; later = bs }
 
 -- from one count of events on, and up to another, no version of the history comes, and these texts are present
 pub record IsStill (from until : ℕ) (texts : List Text) (h : History) : Type 0 where

@@ -1,12 +1,20 @@
 -- Yardstick: to be compared with what it restates (docs/TRUST.md).
 -- The memory of a run, as compiled code relies on it: it has the objects of the world, those of static storage duration where the code has them, and below
 -- the stack's top nothing; and what compiled code that waits keeps in its frame beside all objects stays as it is.
-use Rattle.std.specs.Prelude.{◌≡◌, ⊤, ℕ, ◌-◌, ◌<◌, ◌≤◌, List, [], ◌∷◌, ◌++◌, Contains, Option, Some, None}
+use Rattle.std.specs.Prelude.{◌≡◌, ⊤, ℕ, ◌-◌, ◌^◌, ◌+◌, ◌<◌, ◌≤◌, List, [], ◌∷◌, ◌++◌, length, slice_get, Contains, Option, Some, None}
+use Rattle.sc_base.specs.declared.memory.Cell.TheVariants as stored
+use Rattle.sc_isa_image.specs.Lookups.{value_of}
+use Rattle.sc_isa_image.specs.Stubs.{stub_address}
+use Rattle.sc_isa_image.specs.declared.image.Image.{Image}
+use Rattle.sc_mem.specs.Violations.{offset_from}
+use Rattle.sc_objects.specs.Blocks.{Blocks}
+use Rattle.sc_objects.specs.Blocks as blocks
+use Rattle.sc_meaning.specs.World as worlds
 use Rattle.sc_base.specs.declared.key.Key.{Key}
 use Rattle.sc_base.specs.declared.memory.Cell.{Cell as Stored}
 use Rattle.sc_emu.specs.Registers.{Registers, register}
 use Rattle.sc_mem.specs.Flat.{cell_at}
-use Rattle.sc_mem.specs.Safe.{Store}
+use Rattle.sc_mem.specs.Safe.{IsSafe, Store}
 use Rattle.sc_mem_store.specs.Apart.{AreBelow, AreOnce}
 use Rattle.sc_mem_store.specs.Holding.{Holds}
 use Rattle.sc_meaning.specs.Versions.{Text, births_of}
@@ -25,11 +33,32 @@ AreAbove [] w = ⊤
 AreAbove (InBodies cs sp depth ∷ ls) w = (stack_top w ≤ sp) × AreAbove ls w
 AreAbove (InCode r given ∷ ls) w = (stack_top w ≤ (register r 2).bits) × AreAbove ls w
 
+-- a cell that a machine can have: words and bytes have their sizes, and no pointer leads behind its object's end
+abbrev pub IsCell : List Obj → Stored → Type 0
+IsCell table stored.Unwritten = ⊤
+IsCell table (stored.Byte b) = b < 256
+IsCell table (stored.Frag whole tag k) = (whole < 2 ^ 32) × ((p : Obj) → object_of table tag ≡ Some p → offset_from whole (Some p) ≤ p.size)
+
+-- The memory is the run's: of its sizes, safe, with the heap's blocks that the world counts, and its cells are a machine's.
+pub record IsMemoryOf (w : World) (m : Store) : Type 0 where
+  pub safe : IsSafe m
+  pub stack : m.flat.stack ≡ w.stack
+  pub heap : m.flat.heap ≡ w.heap
+  pub made : m.blocks.used ≡ w.made
+  pub free : (k : ℕ) → length (blocks.free_of m.blocks k) ≡ worlds.free_of w.free k
+  pub cells : (at : ℕ) (c : Stored) → cell_at m.flat at ≡ Some c → IsCell m.flat.objects c
+
+-- the functions have the numbers of their stubs in the image
+abbrev pub AreStubsOf : Image → List Key → Type 0
+AreStubsOf i functions = (key : Key) (at : ℕ) → value_of i key ≡ Some at → (n : ℕ) × (slice_get functions n ≡ Some key) × (at ≡ stub_address n)
+
 -- The memory of a run has the objects of its world, each at its own place; those of static storage duration are born and stand where the code of these
 -- texts has them; the stack is free below the frames; and what waits does so above.
-pub record IsFit (texts : List Text) (places : List (StaticId × ℕ)) (lower : List Lower) (w : World) : Type 0 where
+pub record IsFit (texts : List Text) (image : Image) (places : List (StaticId × ℕ)) (lower : List Lower) (w : World) : Type 0 where
   pub memory : Store
   pub is : w.beside.memory ≡ Some memory
+  pub of : IsMemoryOf w memory
+  pub stubs : AreStubsOf image w.beside.functions
   pub holds : Holds w.objects memory.flat w.beside.functions
   pub apart : AreApart memory.flat.objects
   pub below : AreBelow memory.flat.objects

@@ -4,7 +4,7 @@ ghost use Rattle.sc_mixed_means.specs.Owed.{CompiledTextsAreRight};
 ghost use Rattle.sc_mixed_means.specs.Places.{MovesKeepTheMeaning};
 ghost use Rattle.sc_mixed_means.specs.Runs.{AreInOrder, ChangesEndAsMeant, RunsEndAsMeant, RunsReturnAsMeant, RunsShowTheirMeaning, history_of};
 ghost use Rattle.sc_mixed_means.specs.Sources.{BuildsAreSources};
-ghost use Rattle.sc_mixed_means.specs.Stages.{Build, Fits, Past};
+ghost use Rattle.sc_mixed_means.specs.Stages.{Build, Fits, Look, Past};
 
 /// What a place of a run of both forms means before a move, it means after it: a step of interpreted calls, a crossing from one form to the other and back,
 /// an instruction or a service. Of compiled code that asks what it owes, and nothing else.
@@ -32,5 +32,5 @@ pub fn every_run_has_a_history()
 /// Where no text is compiled, nothing is owed.
 #[tactic(auto, using(crate::proofs::Sources::nothing_owed))]
 pub fn interpreted_texts_owe_nothing()
-    ensures { (bs : List Build) → BuildsAreSources bs → CompiledTextsAreRight bs }
+    ensures { (look : Look) (bs : List Build) → BuildsAreSources bs → CompiledTextsAreRight look bs }
 {}
