@@ -1,5 +1,5 @@
 -- A change of the texts at a stop is one more version of the run's history.
-use Rattle.std.proofs.Common.{◌≡◌, ◌⊎◌, inl, inr, ℕ, ◌+◌, ◌<◌, ◌≤◌, List, [], ◌∷◌, ◌++◌, arith, refl, sym, ap, ◌∙◌, subst, Some}
+use Rattle.std.proofs.Common.{◌≡◌, ◌⊎◌, inl, inr, ℕ, ◌+◌, ◌<◌, ◌≤◌, List, [], ◌∷◌, ◌++◌, arith, refl, sym, ap, ◌∙◌, subst, Some, suc}
 use Rattle.sc_interp.specs.Ends.{end_of}
 use Rattle.sc_interp.specs.declared.stepped.Shown.{Shown}
 use Rattle.sc_interp.specs.declared.stepped.Shown.TheVariants.{Nothing}
@@ -19,12 +19,12 @@ use Rattle.sc_mixed.specs.declared.course.Course.TheVariants.{On, Over}
 use Rattle.sc_mixed.specs.declared.ended.MixedEnd.{MixedEnd}
 use Rattle.sc_mixed.specs.declared.ended.MixedEnd.TheVariants.{Meant}
 use Rattle.sc_mixed_means.specs.Runs.{Gone, Place, gone_changed, gone_moved, gone_none, in_world}
-use Rattle.sc_mixed_means.specs.Stages.{Build}
+use Rattle.sc_mixed_means.specs.Stages.{Build, Look}
 use Rattle.sc_mixed_means.proofs.Runs.{changes_over}
-use Rattle.sc_mixed_goes.specs.Shows.{ChangesShowTheMeaning, ClaimsIn, CompilerIsRight, Course, EndsSo, IsBegun, IsMeant, IsRun, IsUnclaimed, RunsOn, StandsAt, meant, with_build}
+use Rattle.sc_mixed_goes.specs.Shows.{ChangesShowTheMeaning, ClaimsIn, CompilerIsRight, Course, EndsSo, IsBegun, IsMeant, IsRun, IsUnclaimed, RunsOn, StandsAt, Way, meant, with_build}
 use Rattle.sc_mixed_goes.specs.Stretches.{standing_at}
 use Rattle.sc_mixed_goes.proofs.Meaning.{ends_by}
-use Rattle.sc_mixed_goes.proofs.Showing.{enters, gives_meant, unclaimed}
+use Rattle.sc_mixed_goes.proofs.Showing.{enters, gives_meant}
 
 -- a run of builds of which more are to come
 pub gone_more : (first : Place) (b : Build) (bs : List Build) (k : ℕ) (p : Place) (c : Build) (cs ds : List Build) → Gone first b bs k p c cs → Gone first b (bs ++ ds) k p c (cs ++ ds)
@@ -51,12 +51,16 @@ module _ (c : Course) (new : Build) (run : IsRun c) (event : IsEvent c.place.now
         λ end over. absurd (not_over m.course c.place.next Nothing end (ap (λ (y : Standing). y.course) at) over),
       )
 
-  ended_so : (n : ℕ) (w x u : World) (ended : Ended) (e : Ending) → c.moves < n → CompilerIsRight n (with_build new x c) → IsPlaced c.place.world w → changed c.present.texts new.texts w ≡ Ends e → end_of ended u ≡ Some e → EndsSo n (with_build new x c) (Meant ended) u ⊎ IsUnclaimed n (with_build new x c)
-  ended_so n w x u ended e lt right placed is told =
+  -- the way to the stop, behind which these texts come
+  abbrev before : (x : World) → Way (with_build new x c)
+  before x = record { moves = c.moves; place = c.place; present = c.present; later = new ∷ []; gone = gone_more c.first c.build c.later c.moves c.place c.present [] (new ∷ []) run.gone }
+
+  ended_so : (look : Look) (n : ℕ) (w x u : World) (ended : Ended) (e : Ending) → look.deep c.moves < n → CompilerIsRight look n (with_build new x c) (before x) → IsPlaced c.place.world w → changed c.present.texts new.texts w ≡ Ends e → end_of ended u ≡ Some e → EndsSo n (with_build new x c) (Meant ended) u ⊎ IsUnclaimed n (with_build new x c) (before x)
+  ended_so look n w x u ended e lt right placed is told =
       let d : Course = with_build new x c in
-      elim (changes_over d.build d.later n d.start.entry (first_world d.start) d.born d.first right.texts (enters n d (begun_with x) right) right.memory c.moves c.place c.present new [] w e lt (gone_more c.first c.build c.later c.moves c.place c.present [] (new ∷ []) run.gone) event placed is) [
-        | inl y ↦ inl (λ f said. let same : f ≡ e = cc in (y.0, y.1, subst (λ (z : Ending). EndsAlike Like z (meant n d y.0)) (sym same) (subst (EndsAlike Like e) (sym (gives_meant n d (begun_with x) right new [] y.0 y.1 ∙ ap ends_by y.4)) y.3)))
-        | inr l ↦ inr (unclaimed n d (begun_with x) right l)
+      elim (changes_over look d.build d.later n d.start.entry (first_world d.start) d.born d.first right.texts (enters n d (begun_with x) right.fit) c.moves c.place c.present new [] w e lt (gone_more c.first c.build c.later c.moves c.place c.present [] (new ∷ []) run.gone) right.memory event placed is) [
+        | inl y ↦ inl (λ f said. let same : f ≡ e = cc in (y.0, y.1, subst (λ (z : Ending). EndsAlike Like z (meant n d y.0)) (sym same) (subst (EndsAlike Like e) (sym (gives_meant n d (begun_with x) new [] y.0 y.1 ∙ ap ends_by y.4)) y.3)))
+        | inr l ↦ inr l
       ]
 
   ends_there : (w : World) (m : Standing) (ended : Ended) (e : Ending) → IsPlaced c.place.world w → changed c.present.texts new.texts w ≡ Ends e → m.course ≡ Over (Meant ended) → end_of ended m.world ≡ Some e → Stands m.world m
@@ -64,7 +68,7 @@ module _ (c : Course) (new : Build) (run : IsRun c) (event : IsEvent c.place.now
       let d : Course = with_build new m.world c in (
         subst (λ y. RunsOn y d) (sym over) tt,
         subst (λ y. StandsAt y d m) (sym over) tt,
-        λ end at n lt right. subst (λ y. ClaimsIn n d y m.world ⊎ IsUnclaimed n d) (sym over) (ended_so n w m.world m.world ended e (omega (arith, lt)) right placed is told),
+        λ end at. (before m.world, omega arith, λ look n lt right. subst (λ y. ClaimsIn n d y m.world ⊎ IsUnclaimed n d (before m.world)) (sym over) (ended_so look n w m.world m.world ended e (let r = look.grows c.moves in let s = look.grows (suc c.moves) in omega (arith, lt, r, s)) right placed is told)),
       )
 
   change_by : (w : World) (m : Standing) (r : Outcome (Unit {0})) → changed c.present.texts new.texts w ≡ r → IsPlaced c.place.world w → ChangesTo r (standing_at new.image c.place) m → (x : World) × Stands x m

@@ -1,5 +1,5 @@
 -- What a go of a run leaves is as the meaning has it.
-use Rattle.std.proofs.Common.{◌≡◌, ◌⊎◌, inl, inr, ℕ, ◌+◌, ◌<◌, ◌≤◌, List, [], ◌∷◌, arith, refl, sym, ap, ◌∙◌, subst, Some}
+use Rattle.std.proofs.Common.{◌≡◌, ◌⊎◌, inl, inr, ℕ, ◌+◌, ◌<◌, ◌≤◌, List, [], ◌∷◌, arith, refl, sym, ap, ◌∙◌, subst, Some, suc}
 use Rattle.std.proofs.lemmas.List.{append-nil}
 use Rattle.std.specs.Prelude.{Err}
 use Rattle.sc_interp.specs.Ends.{end_of}
@@ -20,7 +20,7 @@ use Rattle.sc_meaning.specs.Behaviour.{first_world, status_of}
 use Rattle.sc_meaning.specs.Expressions.{Answer}
 use Rattle.sc_meaning.specs.Outcomes as out
 use Rattle.sc_meaning.specs.Outcomes.{Done, world_after, world_at}
-use Rattle.sc_meaning.specs.World.{World, ComesBack, events, pass}
+use Rattle.sc_meaning.specs.World.{World, ComesBack, GoesOut, events, pass}
 use Rattle.sc_mixed.specs.Machine.{Moves}
 use Rattle.sc_mixed.specs.Standing.{Standing, ended_by, standing_over, status_among, status_at, status_in, stopped_so}
 use Rattle.sc_mixed.specs.declared.broken.Break.{Break}
@@ -30,12 +30,13 @@ use Rattle.sc_mixed.specs.declared.calls.Lower.{Lower}
 use Rattle.sc_mixed.specs.declared.calls.Next.{Next}
 use Rattle.sc_mixed.specs.declared.calls.Next.TheVariants.{Steps, Executes, Serves}
 use Rattle.sc_mixed.specs.declared.ended.MixedEnd.TheVariants.{Meant}
-use Rattle.sc_mixed_means.specs.Runs.{BreaksOff, Enters, Gone, IsPastOf, IsShownIn, Place, WasPast, entry_gives, history_of}
-use Rattle.sc_mixed_means.specs.Stages.{Build, Past}
+use Rattle.sc_mixed_means.specs.Runs.{BreaksOff, Enters, Gone, IsPastOf, IsShownIn, Place, entry_gives, history_of}
+use Rattle.sc_mixed_means.specs.Stages.{Build, Look, Past}
+use Rattle.sc_mixed_means.specs.Waiting.{IsFit}
 use Rattle.sc_mixed_means.proofs.Returns.{runs_return}
 use Rattle.sc_mixed_means.proofs.Runs.{runs_end, runs_show}
 use Rattle.sc_world.specs.declared.halt.Halt.{Halt}
-use Rattle.sc_mixed_goes.specs.Shows.{AtEvent, ClaimsIn, CompilerIsRight, Course, EndsSo, IsBegun, IsMeant, IsPastTo, IsRun, IsUnclaimed, Passes, RunsOn, ShowsFirst, StandsAt, WalksShowTheMeaning, meant}
+use Rattle.sc_mixed_goes.specs.Shows.{AtEvent, ClaimsIn, CompilerIsRight, Course, EndsSo, IsBegun, IsMeant, IsPastTo, IsRun, IsUnclaimed, Passes, RunsOn, ShowsFirst, StandsAt, WalksShowTheMeaning, Way, meant}
 use Rattle.sc_mixed_goes.specs.Stretches.{Went, breaks_off, comes_back, finds_no_room, halt_of, standing_at, stays_on}
 use Rattle.sc_mixed_goes.proofs.Meaning.{ends_by, ends_shown, ends_written, meant_by, shown_first, written_first}
 use Rattle.sc_mixed_goes.proofs.Stretches.{walks_stretch}
@@ -74,28 +75,12 @@ some_same x y e = cc
 
 -- ---- a run, of which the premises hold
 
-module _ (n : ℕ) (c : Course) (begun : IsBegun c) (right : CompilerIsRight n c) where
-  pub enters : Enters c.build c.start.entry (first_world c.start) c.born c.first
-  enters = record { births = begun.births; entry = begun.entry; fit = right.fit }
+module _ (n : ℕ) (c : Course) (begun : IsBegun c) where
+  pub enters : IsFit c.build.texts c.build.image c.build.places [] (pass GoesOut c.born) → Enters c.build c.start.entry (first_world c.start) c.born c.first
+  enters fit = record { births = begun.births; entry = begun.entry; fit = fit }
 
   pub gives_meant : (d : Build) (ds : List Build) (p : Past) → IsPastOf c.build c.later d ds p → meant n c p ≡ ends_by (entry_gives n c.start.entry c.born (history_of p))
   gives_meant d ds p so = meant_by n c.start c.born c.build c.later d ds p so begun.births
-
-  pub unclaimed : WasPast c.first c.build c.later n c.start.entry c.born → IsUnclaimed n c
-  unclaimed x = record {
-    moves = x.moves;
-    place = x.place;
-    present = x.build;
-    later = x.later;
-    gone = x.gone;
-    past = x.past;
-    texts = x.follows;
-    breach = x.is.breach;
-    end = x.is.end;
-    ends = gives_meant x.build x.later x.past x.follows ∙ ap ends_by x.is.ends;
-    compiled = x.is.compiled;
-    shows = ap events x.is.shows;
-  }
 
   begins : (w : World) (p : Past) → IsPastTo c p → IsShownIn w (world_after (entry_gives n c.start.entry c.born (history_of p))) → ShowsFirst n c w
   begins w p so shown =
@@ -108,13 +93,17 @@ module _ (n : ℕ) (c : Course) (begun : IsBegun c) (right : CompilerIsRight n c
         bytes = subst (λ bs. IsPrefix (output w.trail) bs) (sym (ap (λ e. output (world_at e).trail) is ∙ ends_written r)) (written_first w (world_after r) shown);
       }
 
-module _ (n : ℕ) (c : Course) (run : IsRun c) (right : CompilerIsRight n c) where
+-- the way to the run's place
+abbrev pub way_of : (c : Course) → IsRun c → Way c
+way_of c run = record { moves = c.moves; place = c.place; present = c.present; later = []; gone = run.gone }
+
+module _ (look : Look) (n : ℕ) (c : Course) (run : IsRun c) (right : CompilerIsRight look n c (way_of c run)) where
   -- at its place
-  shows_there : c.moves < n → ShowsFirst n c c.place.world ⊎ IsUnclaimed n c
+  shows_there : look.deep c.moves < n → ShowsFirst n c c.place.world ⊎ IsUnclaimed n c (way_of c run)
   shows_there lt =
-      elim (runs_show c.build c.later n c.start.entry (first_world c.start) c.born c.first right.texts (enters n c run.begun right) right.memory c.moves c.place c.present [] lt run.gone) [
-        | inl y ↦ inl (begins n c run.begun right c.place.world y.0 y.1 y.2)
-        | inr l ↦ inr (unclaimed n c run.begun right l)
+      elim (runs_show look c.build c.later n c.start.entry (first_world c.start) c.born c.first right.texts (enters n c run.begun right.fit) c.moves c.place c.present [] lt run.gone right.memory) [
+        | inl y ↦ inl (begins n c run.begun c.place.world y.0 y.1 y.2)
+        | inr l ↦ inr l
       ]
 
   -- where the entry's call came back
@@ -123,29 +112,29 @@ module _ (n : ℕ) (c : Course) (run : IsRun c) (right : CompilerIsRight n c) wh
     p,
     so,
     subst (λ x. EndsAlike Like x (meant n c p)) (some_same (out.Exit status (pass ComesBack w)) e told)
-        (pass ComesBack u, passes ComesBack w u like, gives_meant n c run.begun right c.present [] p so ∙ ap ends_by is ∙ ap (λ k. out.Exit k (pass ComesBack u)) (sym at)),
+        (pass ComesBack u, passes ComesBack w u like, gives_meant n c run.begun c.present [] p so ∙ ap ends_by is ∙ ap (λ k. out.Exit k (pass ComesBack u)) (sym at)),
   )
 
-  returns_there : (status : ℕ) → c.moves < n → status_at c.place.next c.place.calls ≡ Some status → EndsSo n c (Meant (Exit status)) (pass ComesBack c.place.world) ⊎ IsUnclaimed n c
+  returns_there : (status : ℕ) → look.deep c.moves < n → status_at c.place.next c.place.calls ≡ Some status → EndsSo n c (Meant (Exit status)) (pass ComesBack c.place.world) ⊎ IsUnclaimed n c (way_of c run)
   returns_there status lt at =
       let x = answers_at c.place.next c.place.calls status at in
-      elim (runs_return c.build c.later n c.start.entry (first_world c.start) c.born c.first right.texts (enters n c run.begun right) right.memory c.moves c.place c.present [] x.0 lt run.gone x.1 x.2 x.3) [
+      elim (runs_return look c.build c.later n c.start.entry (first_world c.start) c.born c.first right.texts (enters n c run.begun right.fit) c.moves c.place c.present [] x.0 lt run.gone right.memory x.1 x.2 x.3) [
         | inl y ↦ inl (back_alike x.0 c.place.world y.2 y.0 y.1 y.3 y.4 status x.4)
-        | inr l ↦ inr (unclaimed n c run.begun right l)
+        | inr l ↦ inr l
       ]
 
   -- where a move broke off
   broke_so : (b : Break) (u : World) → BreaksOff c.build c.later n c.start.entry c.born c.present [] b u → EndsSo n c (ended_by b) u
   broke_so (broken.Meant s) u (p, so, ends) = λ e told.
       let f = ends e (sym (same_end s u) ∙ told) in
-      (p, so, subst (EndsAlike Like e) (sym (gives_meant n c run.begun right c.present [] p so ∙ ap ends_by f.2)) f.1)
+      (p, so, subst (EndsAlike Like e) (sym (gives_meant n c run.begun c.present [] p so ∙ ap ends_by f.2)) f.1)
   broke_so (broken.Crashed pc cause) u x = absurd x
 
-  breaks_there : (b : Break) (after : Next) (d : Calls) (u : World) → c.moves + 1 < n → Moves c.present.texts c.present.image c.place.next c.place.calls c.place.world (Err b) after d u → EndsSo n c (ended_by b) u ⊎ IsUnclaimed n c
+  breaks_there : (b : Break) (after : Next) (d : Calls) (u : World) → look.deep (suc c.moves) < n → Moves c.present.texts c.present.image c.place.next c.place.calls c.place.world (Err b) after d u → EndsSo n c (ended_by b) u ⊎ IsUnclaimed n c (way_of c run)
   breaks_there b after d u lt m =
-      elim (runs_end c.build c.later n c.start.entry (first_world c.start) c.born c.first right.texts (enters n c run.begun right) right.memory c.moves c.place c.present [] b after d u lt run.gone m) [
+      elim (runs_end look c.build c.later n c.start.entry (first_world c.start) c.born c.first right.texts (enters n c run.begun right.fit) c.moves c.place c.present [] b after d u lt run.gone right.memory right.there m) [
         | inl y ↦ inl (broke_so b u y)
-        | inr l ↦ inr (unclaimed n c run.begun right l)
+        | inr l ↦ inr l
       ]
 
 -- ---- a go
@@ -156,8 +145,8 @@ moved_to c j q = record c { moves = j; place = q }
 run_to : (c : Course) (j : ℕ) (q : Place) → IsRun c → Gone c.first c.build c.later j q c.present [] → IsRun (moved_to c j q)
 run_to c j q run gone = record { begun = record { births = run.begun.births; entry = run.begun.entry }; gone = gone }
 
-claims_at : (n : ℕ) (c : Course) (m s : Standing) → m ≡ s → ClaimsIn n c s.course s.world ⊎ IsUnclaimed n c → ClaimsIn n c m.course m.world ⊎ IsUnclaimed n c
-claims_at n c m s e x = subst (λ (y : Standing). ClaimsIn n c y.course y.world ⊎ IsUnclaimed n c) (sym e) x
+claims_at : (n : ℕ) (c : Course) (z : Way c) (m s : Standing) → m ≡ s → ClaimsIn n c s.course s.world ⊎ IsUnclaimed n c z → ClaimsIn n c m.course m.world ⊎ IsUnclaimed n c z
+claims_at n c z m s e x = subst (λ (y : Standing). ClaimsIn n c y.course y.world ⊎ IsUnclaimed n c z) (sym e) x
 
 no_end : (n : ℕ) (c : Course) (w : World) → EndsSo n c (Meant NoRoom) w
 no_end n c w = λ e told. absurd cc
@@ -184,7 +173,7 @@ passes_so c h m run (stays_on j q le gone halts at) =
     let there : IsRun d = run_to c j q run gone in (
       d,
       no_change c j q m le (subst (λ (y : Standing). RunsOn y.course d) (sym at) there) (subst (λ (y : Standing). StandsAt y.course d y) (sym at) refl)
-          (λ n lt right. claims_at n d m (standing_at c.present.image q) at (shows_there n d there right (omega (arith, lt)))),
+          (way_of d there, omega arith, λ look n lt right. claims_at n d (way_of d there) m (standing_at c.present.image q) at (shows_there look n d there right (let r = look.grows j in omega (arith, lt, r)))),
       refl,
       subst (λ (y : Standing). AtEvent h y.course d) (sym at) halts,
     )
@@ -193,7 +182,7 @@ passes_so c h m run (comes_back j q status le gone is at) =
     let there : IsRun d = run_to c j q run gone in (
       d,
       no_change c j q m le (subst (λ (y : Standing). RunsOn y.course d) (sym at) tt) (subst (λ (y : Standing). StandsAt y.course d y) (sym at) tt)
-          (λ n lt right. claims_at n d m (standing_over c.present.image q.calls (pass ComesBack q.world) (Meant (Exit status))) at (returns_there n d there right status (omega (arith, lt)) is)),
+          (way_of d there, omega arith, λ look n lt right. claims_at n d (way_of d there) m (standing_over c.present.image q.calls (pass ComesBack q.world) (Meant (Exit status))) at (returns_there look n d there right status (let r = look.grows j in omega (arith, lt, r)) is)),
       refl,
       subst (λ (y : Standing). AtEvent h y.course d) (sym at) tt,
     )
@@ -202,14 +191,14 @@ passes_so c h m run (breaks_off j q b after e u le gone p at) =
     let there : IsRun d = run_to c j q run gone in (
       d,
       no_change c j q m le (subst (λ (y : Standing). RunsOn y.course d) (sym at) tt) (subst (λ (y : Standing). StandsAt y.course d y) (sym at) tt)
-          (λ n lt right. claims_at n d m (standing_over c.present.image e u (ended_by b)) at (breaks_there n d there right b after e u lt p)),
+          (way_of d there, omega arith, λ look n lt right. claims_at n d (way_of d there) m (standing_over c.present.image e u (ended_by b)) at (breaks_there look n d there right b after e u lt p)),
       refl,
       subst (λ (y : Standing). AtEvent h y.course d) (sym at) tt,
     )
 passes_so c h m run (finds_no_room lost) =
     let d : Course = moved_to c c.moves c.place in (
       d,
-      no_change c c.moves c.place m (omega arith) (subst (λ x. RunsOn x d) (sym lost) tt) (subst (λ x. StandsAt x d m) (sym lost) tt) (λ n lt right. inl (subst (λ x. ClaimsIn n d x m.world) (sym lost) (no_end n d m.world))),
+      no_change c c.moves c.place m (omega arith) (subst (λ x. RunsOn x d) (sym lost) tt) (subst (λ x. StandsAt x d m) (sym lost) tt) (way_of d (run_to c c.moves c.place run run.gone), omega arith, λ look n lt right. inl (subst (λ x. ClaimsIn n d x m.world) (sym lost) (no_end n d m.world))),
       refl,
       subst (λ x. AtEvent h x d) (sym lost) tt,
     )

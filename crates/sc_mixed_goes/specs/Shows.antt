@@ -16,7 +16,7 @@ use Rattle.sc_meaning.specs.Behaviour.{Start, ending, first_world}
 use Rattle.sc_meaning.specs.Beside.{Beside}
 use Rattle.sc_meaning.specs.Changes.{statics_born}
 use Rattle.sc_meaning.specs.Laws.{with_history}
-use Rattle.sc_meaning.specs.Outcomes.{Breach, Done, Ending, Undefined, world_at}
+use Rattle.sc_meaning.specs.Outcomes.{Done, Ending, world_at}
 use Rattle.sc_meaning.specs.Versions.{Text, callee_of}
 use Rattle.sc_meaning.specs.World.{World, GoesOut, pass}
 use Rattle.sc_mixed.specs.Bridge.{is_code}
@@ -28,9 +28,9 @@ use Rattle.sc_mixed.specs.declared.course.Course.{Course as Stand}
 use Rattle.sc_mixed.specs.declared.course.Course.TheVariants.{On, Over}
 use Rattle.sc_mixed.specs.declared.ended.MixedEnd.{MixedEnd}
 use Rattle.sc_mixed.specs.declared.ended.MixedEnd.TheVariants.{Meant, Crashed}
-use Rattle.sc_mixed_means.specs.Owed.{CompiledTextsAreRight, is_own_step}
-use Rattle.sc_mixed_means.specs.Runs.{Gone, IsPastOf, MemoryIsKept, Place, history_of, in_world, texts_in}
-use Rattle.sc_mixed_means.specs.Stages.{Build, Past}
+use Rattle.sc_mixed_means.specs.Owed.{CompiledTextsAreRight}
+use Rattle.sc_mixed_means.specs.Runs.{FitsAt, Gone, IsPastOf, MemoryIsKept, Place, WasPast, history_of, in_world, texts_in}
+use Rattle.sc_mixed_means.specs.Stages.{Build, Look, Past}
 use Rattle.sc_mixed_means.specs.Waiting.{IsFit}
 use Rattle.sc_program.specs.declared.storage.StaticId.{StaticId}
 use Rattle.sc_words.specs.declared.stop.StopAt.{StopAt}
@@ -59,12 +59,21 @@ pub record IsRun (c : Course) : Type 0 where
   pub begun : IsBegun c
   pub gone : Gone c.first c.build c.later c.moves c.place c.present []
 
--- The premises on a run, in the meaning's calls of at most this depth: a call of its compiled texts gives what the meaning's call gives; and its memory has
--- its objects where compiled code has them, behind the births and at each place, and keeps what waits.
-pub record CompilerIsRight (n : ℕ) (c : Course) : Type 0 where
-  pub texts : CompiledTextsAreRight (c.build ∷ c.later)
-  pub fit : IsFit c.build.texts c.build.places [] (pass GoesOut c.born)
-  pub memory : MemoryIsKept c.first c.build c.later n c.start.entry c.born
+-- The run's own way: so many moves and changes from its first place to one, with the texts that are present there and those that come behind it.
+pub record Way (c : Course) : Type 0 where
+  pub moves : ℕ
+  pub place : Place
+  pub present : Build
+  pub later : List Build
+  pub gone : Gone c.first c.build c.later moves place present later
+
+-- The premises on a run, in the meaning's calls of at most this depth: a call of its compiled texts gives what the meaning's call gives, which looks so deep;
+-- and on the run's way its memory has its objects where compiled code has them, behind the births and at each place, and keeps what waits.
+pub record CompilerIsRight (look : Look) (n : ℕ) (c : Course) (y : Way c) : Type 0 where
+  pub texts : CompiledTextsAreRight look (c.build ∷ c.later)
+  pub fit : IsFit c.build.texts c.build.image c.build.places [] (pass GoesOut c.born)
+  pub memory : MemoryIsKept c.first c.build c.later n c.start.entry c.born y.moves y.place y.present y.later y.gone
+  pub there : FitsAt y.place y.present
 
 -- what the meaning gives the run, at most so deep, where its texts came so
 abbrev pub meant : ℕ → Course → Past → Ending
@@ -86,29 +95,18 @@ abbrev pub EndsSo : ℕ → Course → MixedEnd → World → Type 0
 EndsSo n c (Meant ended) w = (e : Ending) → end_of ended w ≡ Some e → (p : Past) × IsPastTo c p × EndsAlike Like e (meant n c p)
 EndsSo n c (Crashed pc cause) w = ⊥
 
--- Somewhere on its way it had shown all that the meaning shows before an undefined step that compiled code itself takes, with which the meaning ends.
-pub record IsUnclaimed (n : ℕ) (c : Course) : Type 0 where
-  pub moves : ℕ
-  pub place : Place
-  pub present : Build
-  pub later : List Build
-  pub gone : Gone c.first c.build c.later moves place present later
-  pub past : Past
-  pub texts : IsPastOf c.build c.later present later past
-  pub breach : Breach
-  pub end : World
-  pub ends : meant n c past ≡ Undefined breach end
-  pub compiled : is_own_step breach end ≡ true
-  pub shows : events_shown end ≡ events_shown place.world
+-- Somewhere on this way it had shown all that the meaning shows before an undefined step that compiled code itself takes, with which the meaning ends.
+abbrev pub IsUnclaimed : ℕ → (c : Course) → Way c → Type 0
+IsUnclaimed n c y = WasPast c.first c.build c.later n c.start.entry c.born y.moves y.place y.present y.later y.gone
 
 -- what is claimed of a run that stands so
 abbrev pub ClaimsIn : ℕ → Course → Stand → World → Type 0
 ClaimsIn n c (On next now) w = ShowsFirst n c w
 ClaimsIn n c (Over end) w = EndsSo n c end w
 
--- where its texts are right, unless it was past such a step, at every bound that is greater than its moves
+-- where its texts are right, unless it was past such a step, at every bound that is deeper than its moves need
 abbrev pub IsMeant : Course → Standing → Type 0
-IsMeant c m = (n : ℕ) → c.moves + 1 < n → CompilerIsRight n c → ClaimsIn n c m.course m.world ⊎ IsUnclaimed n c
+IsMeant c m = (y : Way c) × (y.moves ≤ c.moves) × ((look : Look) (n : ℕ) → look.deep (suc c.moves) < n → CompilerIsRight look n c y → ClaimsIn n c m.course m.world ⊎ IsUnclaimed n c y)
 
 -- ---- a go
 
