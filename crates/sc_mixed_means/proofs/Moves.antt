@@ -48,7 +48,7 @@ use Rattle.sc_mixed.specs.declared.calls.Moved.{Moved}
 use Rattle.sc_mixed.specs.declared.calls.Next.{Next}
 use Rattle.sc_mixed.specs.declared.calls.Next.TheVariants.{Steps, Executes, Serves}
 use Rattle.sc_world.specs.Standing.{state_of}
-use Rattle.sc_mixed_means.specs.Owed.{CallsMean, CodeMeans, CodeAfter, CodeMoved, CodeReturns, IsCode, IsLost, PlaceDue, PlaceOwes, StateDue, WaitOwes, code_on, code_out, code_back}
+use Rattle.sc_mixed_means.specs.Owed.{CallGives, CallsMean, CodeMeans, CodeAfter, CodeMoved, CodeReturns, IsCode, IsLost, PlaceDue, PlaceOwes, StateDue, WaitOwes, code_on, code_out, code_back}
 use Rattle.sc_mixed_means.specs.Places.{CodeDue, CodeStands, Comes, KeepsBy, LowerAfter, Means, MovesKeepTheMeaning, StateGives, StepsDue, StepsMean}
 use Rattle.sc_mixed_means.specs.Stages.{Build, Look, Fits, First, Gives, Live, Past, Stage, Then, from_here, since, texts_of}
 use Rattle.sc_mixed_means.specs.Waiting.{IsFit, Keeps, KeepsWaiting}
@@ -197,7 +197,7 @@ module _ (s : Stage) where
         deep = n;
         enough = omega arith;
         gives = q;
-        means = right n key xs (with_caller caller c) d w u v after named fit like x alike q (λ h l. ((g.means h l).0, omega (arith, g.enough, (g.means h l).1, s.look.grows n), refl));
+        means = right n key xs (with_caller caller c) d w u v after named fit like x alike g.late q (λ h l. ((g.means h l).0, omega (arith, g.enough, (g.means h l).1, s.look.grows n), refl));
         after =
             subst (λ ls. LowerAfter n s u ls v q (from_here out s.past v)) (sym (ap (λ (y : Calls). y.lower) x.calls)) (
               g.gives,
@@ -387,6 +387,7 @@ module _ (s : Stage) where
   code_moved n k le c v q out late after d w moved m (code_out g e x) =
       let grew : v.count ≤ (world_of x.stands).count = count_grows v (world_of x.stands) x.leads in
       let r : Gives s.past (world_of x.stands) = onward s.past v (world_of x.stands) grew q in
+      let made : CallGives (CodeAfter k) (s.look.deep k) s x.regs x.given c.lower w x.stands r = x.waits r (is_onward s.past v (world_of x.stands) grew q) in
       subst (λ y. Means n s y d w moved.shown out) (sym e)
       (subst (λ ls. StepsMean n s (state_of g d.callers w) ls w moved.shown out) (sym x.below)
       (record {
@@ -396,11 +397,11 @@ module _ (s : Stage) where
           late = omega (arith, late, grew);
           deep = s.look.deep k;
           enough = looks s.look n k le;
-          gives = x.gives;
-          means = x.means;
+          gives = made.gives;
+          means = made.means;
           after = (
             r,
-            (k, le, w, keeps_itself x.regs w, x.takes r (is_onward s.past v (world_of x.stands) grew q)),
+            (k, le, w, keeps_itself x.regs w, made.takes),
             lower_on s n w c.lower v q (from_here out s.past v) (world_of x.stands) r (from_here out s.past (world_of x.stands)) (λ h l. (earlier s.past v (world_of x.stands) h grew l, refl, refl)) (lower_weaker s n w c.lower v q (from_here out s.past v) m),
           );
         };

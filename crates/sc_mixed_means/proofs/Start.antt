@@ -110,7 +110,7 @@ module _ (f : Look) (b : Build) (bs : List Build) (key : Key) (bound : ℕ) (bor
         deep = n;
         enough = omega arith;
         gives = q;
-        means = subst (λ y. CodeMeans n (first_stage f b bs) y c w v q) x.goes (right n key [] no_calls c v w v next code fit (like_same v) x alike q (λ h l. (bound, omega (arith, le), refl)));
+        means = subst (λ y. CodeMeans n (first_stage f b bs) y c w v q) x.goes (right n key [] no_calls c v w v next code fit (like_same v) x alike (omega arith) q (λ h l. (bound, omega (arith, le), refl)));
         after = subst (λ ls. LowerAfter n (first_stage f b bs) w ls v q q) (sym (ap (λ (d : Calls). d.lower) x.calls)) (q, (f.deep n, omega arith, λ h l. refl), λ h l. refl);
         due = λ event. absurd (subst IsEvent hush event);
       })

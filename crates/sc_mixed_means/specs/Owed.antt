@@ -41,7 +41,7 @@ use Rattle.sc_mixed.specs.declared.calls.Next.{Next}
 use Rattle.sc_mixed.specs.declared.calls.Next.TheVariants.{Steps, Executes, Serves}
 use Rattle.sc_services.specs.Frames.{is_in_code}
 use Rattle.sc_world.specs.Standing.{state_of}
-use Rattle.sc_mixed_means.specs.Stages.{Build, Look, Past, Then, Stage, Fits, Live, Gives, IsPartOf, ArePartsOf, ComesWith, next_stage, texts_of}
+use Rattle.sc_mixed_means.specs.Stages.{Build, Look, Past, Then, Stage, Fits, Live, Gives, IsPartOf, ArePartsOf, ComesWith, next_stage, since, texts_of}
 use Rattle.sc_mixed_means.specs.Waiting.{IsFit, Keeps, KeepsWaiting}
 
 -- ---- where no more is claimed
@@ -140,6 +140,13 @@ pub record CodeGoes (Means : PlacesMean) (s : Stage) (v : World) (q : Gives s.pa
   pub means : (part : Gives s.past stands) → IsPartOf s.past v q s.past stands part → Means s next d w stands part
   pub due : IsEvent now → (v.count < stands.count) × PlaceDue Means s.later s v q next d w stands
 
+-- what the call that it makes gives by each history, and what that which waits makes of it, where the outermost call gives this: how deep the meaning
+-- looks is known only by the evidence that a history can still be had
+pub record CallGives (After : CodeWaits) (n : ℕ) (s : Stage) (regs : Registers) (given : Option Answer) (below : List Lower) (w : World) (stands : State) (part : Gives s.past (world_of stands)) : Type 0 where
+  pub gives : Gives s.past (world_of stands)
+  pub means : (h : History) (l : Live s.past (world_of stands) h) → left.Means h n stands (gives h l)
+  pub takes : After s regs given below w (world_of stands) gives part
+
 -- it calls out, and waits
 pub record CodeCalls (After : CodeWaits) (n : ℕ) (s : Stage) (v : World) (q : Gives s.past v) (c : Calls) (now : Shown) (state : State) (d : Calls) (w : World) : Type 0 where
   pub regs : Registers
@@ -148,9 +155,7 @@ pub record CodeCalls (After : CodeWaits) (n : ℕ) (s : Stage) (v : World) (q : 
   pub stands : State
   pub leads : Leads v (world_of stands)
   pub alike : StatesAlike Like state stands
-  pub gives : Gives s.past (world_of stands)
-  pub means : (h : History) (l : Live s.past (world_of stands) h) → left.Means h n stands (gives h l)
-  pub takes : (part : Gives s.past (world_of stands)) → IsPartOf s.past v q s.past (world_of stands) part → After s regs given c.lower w (world_of stands) gives part
+  pub waits : (part : Gives s.past (world_of stands)) → IsPartOf s.past v q s.past (world_of stands) part → CallGives After n s regs given c.lower w stands part
   pub due : IsEvent now → (v.count < (world_of stands).count) × StateDue After n s.later s v q regs given c.lower w stands
 
 -- it has returned, with what its outermost call gives
@@ -197,10 +202,10 @@ abbrev mutual
 
 -- ---- what is owed in all
 
--- A call of compiled code, with its arguments in their places, gives what the meaning's call does.
+-- A call of compiled code, with its arguments in their places, gives what the meaning's call does, where the texts that are present have come.
 abbrev pub CallsMean : Stage → Type 0
 CallsMean s =
-    (n : ℕ) (key : Key) (xs : List Value) (c d : Calls) (w u v : World) (next : Next) → is_code (callee_of (texts_of s.past) key) ≡ true → IsFit (texts_of s.past) s.image s.places c.lower w → Like w v → Calling s.image key xs c w next d u → Like u v →
+    (n : ℕ) (key : Key) (xs : List Value) (c d : Calls) (w u v : World) (next : Next) → is_code (callee_of (texts_of s.past) key) ≡ true → IsFit (texts_of s.past) s.image s.places c.lower w → Like w v → Calling s.image key xs c w next d u → Like u v → since s.past ≤ v.count →
     (q : Gives s.past v) → ((h : History) (l : Live s.past v h) → (m : ℕ) × (s.look.deep n ≤ m) × (q h l ≡ call m h key xs v)) → CodeMeans n s next d u v q
 
 -- So it is of all builds of a run, whatever came before: the one premise on compiled code. It is to be met by the theorem on the compiler, for builds whose
