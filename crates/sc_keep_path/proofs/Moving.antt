@@ -1,24 +1,26 @@
--- One move of compiled code: where the machine goes one way, a place means what the place behind the move means. Where the next step of the
--- meaning is an undefined one, a place means it as it stands. Work that the meaning does is not seen.
+-- One move of compiled code: a place means what the places behind the move mean. Where the next step of the meaning is an undefined one, a place
+-- means it as it stands. What is not seen may pass before.
 use Rattle.std.proofs.Common.{◌≡◌, ◌⊎◌, inl, inr, ℕ, zero, suc, ◌+◌, ◌<◌, ◌≤◌, Bool, true, false, List, [], ◌∷◌, ◌++◌, append-nil, arith, refl, sym, ap, ◌∙◌, subst, Option, Some, None}
-use Rattle.std.specs.Prelude.{Result, Ok, Err}
+use Rattle.std.specs.Prelude.{Result, Ok, Err, map}
 use Rattle.sc_emu.specs.declared.outcome.Crash.{Crash}
 use Rattle.sc_emu.specs.Registers.{Registers}
 use Rattle.sc_meaning.specs.Expressions.{Answer}
 use Rattle.sc_meaning.specs.Laws.{Leads}
-use Rattle.sc_meaning.specs.Outcomes.{Outcome, Done, Over, Undefined, Breach, world_after}
+use Rattle.sc_meaning.specs.Outcomes.{Outcome, Done, Ending, Over, Undefined, Breach, world_after, world_at}
 use Rattle.sc_meaning.specs.Versions.{History}
 use Rattle.sc_meaning.specs.World.{Item, World, Work, pass}
 use Rattle.sc_meaning.proofs.Steps.{here, on, one_more}
 use Rattle.sc_like.specs.Alike.{Like, Shown, shown_of, with_item}
+use Rattle.sc_like.specs.Unseen.{TellsForms, form_of, is_unseen}
+use Rattle.sc_like.proofs.Hiding.{like_back, like_on, like_same, passes_unseen}
 use Rattle.sc_like.proofs.Keeping.{shown_more}
 use Rattle.sc_interp.specs.declared.going.Going.TheVariants as going
 use Rattle.sc_interp_access.specs.Gives.{ending_of}
 use Rattle.sc_interp_access.specs.declared.stop.Stop.{Stop}
 use Rattle.sc_interp.specs.declared.stepped.Shown.{Shown as Told}
-use Rattle.sc_interp_machine.specs.Runs.{State}
-use Rattle.sc_interp_laws.specs.Worlds.{world_of}
+use Rattle.sc_interp_machine.specs.Runs.{Caller}
 use Rattle.sc_interp_change_laws.specs.Showing.{IsEvent}
+use Rattle.sc_interp_change_laws.proofs.Between.{count_grows}
 use Rattle.sc_mixed.specs.Bridge.{with_registers}
 use Rattle.sc_mixed.specs.Instructions.{Instruction}
 use Rattle.sc_mixed.specs.Machine.{Moves, Follows, Fails}
@@ -28,13 +30,15 @@ use Rattle.sc_mixed.specs.declared.calls.Lower.{Lower}
 use Rattle.sc_mixed.specs.declared.calls.Lower.TheVariants.{InBodies, InCode}
 use Rattle.sc_mixed.specs.declared.calls.Moved.{Moved}
 use Rattle.sc_mixed.specs.declared.calls.Next.{Next}
-use Rattle.sc_mixed.specs.declared.calls.Next.TheVariants.{Executes}
+use Rattle.sc_mixed.specs.declared.calls.Next.TheVariants.{Executes, Steps}
 use Rattle.sc_mixed.specs.declared.execute.Went.{Went}
 use Rattle.sc_mixed.specs.declared.execute.Went.TheVariants as went
-use Rattle.sc_mixed_means.specs.Owed.{CodeAfter, CodeMeans, CodeMoved, CodeReturns, EndsSo, GoThrough, IsCode, IsLost, Lead, PlaceDue, PlaceOwes, StateDue, PlacesMean, CodeWaits, code_on, code_out, code_back, is_own_step}
-use Rattle.sc_mixed_means.specs.Stages.{Build, Gives, IsPartOf, Live, Past, Stage, texts_of}
+use Rattle.sc_mixed_means.specs.Owed.{CodeAfter, CodeGoes, CodeMeans, CodeMoved, CodeReturns, EndsSo, IsCode, IsLost, Lead, PlaceDue, PlaceOwes, code_back, code_on, is_own_step}
+use Rattle.sc_mixed_means.specs.Stages.{Build, Gives, IsPartOf, Live, Past, Stage, Then, next_stage, texts_of}
 use Rattle.sc_mixed_means.specs.Waiting.{IsFit, Keeps, KeepsWaiting}
-use Rattle.sc_keep_path.specs.Parts.{Does, Family, Leading, Means}
+use Rattle.sc_mixed_means.proofs.Parts.{earlier}
+use Rattle.sc_keep_path.specs.Moves.{GoesBack, GoesOn, GoesOver, NextComes, NextDue}
+use Rattle.sc_keep_path.specs.Parts.{AreSame, DoesAt, Family, Lags, Leading, Means, MeansAt, looking}
 
 -- ---- where the world stays, so does what waits
 
@@ -46,172 +50,297 @@ kept r w = record {
   functions = sym (append-nil w.beside.functions);
 }
 
-keeps_waiting : (ls : List Lower) (w : World) → KeepsWaiting ls w w
+pub keeps_waiting : (ls : List Lower) (w : World) → KeepsWaiting ls w w
 keeps_waiting [] w = tt
 keeps_waiting (InBodies cs sp depth ∷ ls) w = keeps_waiting ls w
 keeps_waiting (InCode r given ∷ ls) w = (kept r w, keeps_waiting ls w)
 
--- ---- a move that goes on
+-- ---- the meaning's world may lag behind
 
-followed_on : (how : Went) (r : Registers) (c d : Calls) (x : World) (after : Next) → how ≡ went.On → Follows how r c x after d → (after ≡ Executes) × (d ≡ with_registers r c)
-followed_on went.On r c d x after e f = f
-followed_on (went.Asks n) r c d x after e f = absurd (cc (e))
-followed_on went.Returned r c d x after e f = absurd (cc (e))
-followed_on (went.Stopped q) r c d x after e f = absurd f
-followed_on went.NoRoom r c d x after e f = absurd f
+pub no_lag : (v : World) → Lags v v
+no_lag v = record { leads = here v; alike = like_same v }
 
-no_failure : (how : Went) (r : Registers) (c d : Calls) (x : World) (pc : ℕ) (cause : Crash) → how ≡ went.On → Fails how r c x pc cause d → ⊥
-no_failure went.On r c d x pc cause e f = f
-no_failure (went.Asks n) r c d x pc cause e f = cc (e)
-no_failure went.Returned r c d x pc cause e f = cc (e)
-no_failure (went.Stopped q) r c d x pc cause e f = cc (e)
-no_failure went.NoRoom r c d x pc cause e f = cc (e)
+pub lags_on : (u v x : World) → Lags u v → Lags v x → Lags u x
+lags_on u v x a b = record { leads = on u v x a.leads b.leads; alike = like_on u v x a.alike b.alike }
 
--- what was shown, with other items
-abbrev shown_with : Shown → List Item → Shown
-shown_with s is = record { items = is; forms = s.forms }
+pub work_lags : (z : ℕ) (v : World) → Lags v (pass (Work z) v)
+work_lags z v = record { leads = one_more (Work z) v; alike = record { same = refl; shown = sym (shown_more v.trail (Work z) (record { items = []; forms = [] }) ∙ ap (shown_with (shown_of v.trail)) (append-nil (shown_of v.trail).items)) } }
+  where
+    shown_with : Shown → List Item → Shown
+    shown_with s is = record { items = is; forms = s.forms }
+
+pub unseen_lags : (i : Item) (v : World) → TellsForms v → is_unseen (map form_of v.frames) i ≡ true → Lags v (pass i v)
+unseen_lags i v tells un = record { leads = one_more i v; alike = passes_unseen i v v (like_same v) tells un }
+
+pub live_before : (p : Past) (v u : World) (h : History) → Leads v u → Live p u h → Live p v h
+live_before p v u h l live = earlier p v u h (count_grows v u l) live
+
+-- ---- a move
 
 module _ (s : Stage) where
-  -- the machine goes one way, and the world stays
+  leads_so : (u : World) (a : Family Answer) (n : ℕ) → Leading u a → (q : Gives s.past u) → ((h : History) (l : Live s.past u h) → (m : ℕ) × (n ≤ m) × (q h l ≡ a h m)) → Lead s.past u q
+  leads_so u a n leads q is = λ h l. subst (λ o. Leads u (world_after o)) (sym (is h l).2) (leads h (is h l).0)
+
+  -- a number that is not 0 is one more than another
+  one_less : (A : ℕ → Type 0) (n m : ℕ) → suc n ≤ m → A m → (j : ℕ) × (n ≤ j) × A (suc j)
+  one_less A n zero le a = absurd (omega (arith, le))
+  one_less A n (suc j) le a = (j, omega (arith, le), a)
+
+  module _ (n : ℕ) (v : World) (r : Family Answer) (u : World) (lag : Lags u v) (a : Family Answer) (same : AreSame s v a r)
+      (q : Gives s.past u) (is : (h : History) (l : Live s.past u h) → (m : ℕ) × (suc n ≤ m) × (q h l ≡ a h m)) where
+    -- what is given, where the history can still be had in the later world
+    given : (h : History) (l : Live s.past u h) → Live s.past v h → (j : ℕ) × (n ≤ j) × (q h l ≡ r h (suc j))
+    given h l now = let k = is h l in one_less (λ m. q h l ≡ r h m) n k.0 k.1 (k.2 ∙ same h now k.0)
+
+    part_on : (c : Calls) (w : World) (now : Told) (after : Next) (d : Calls) (x : World) (g : GoesOn n s v r c w now after d x) (part : Gives s.past g.stands)
+        → IsPartOf s.past u q s.past g.stands part → (h : History) (l : Live s.past g.stands h) → (m : ℕ) × (n ≤ m) × (part h l ≡ g.rest h m)
+    part_on c w now after d x g part p h l =
+        let k = p h l in
+        let j = given h k.0 (live_before s.past v g.stands h g.leads l) in
+        (j.0, j.1, k.1 ∙ j.2 ∙ g.same h l j.0)
+
+    due_on : (bs : List Build) (after : Next) (d : Calls) (x stands : World) → u.count ≤ v.count → v.count < stands.count → NextDue n bs s r after d x stands → PlaceDue (CodeMeans n) bs s u q after d x stands
+    due_on [] after d x stands le less p = tt
+    due_on (b ∷ bs) after d x stands le less p = record {
+      goes = λ y z ch part f.
+          let on_now = p.goes y z ch in
+          on_now.1 n (omega arith) z (no_lag z) (p.rest z) on_now.0 (λ h l m. refl) part
+          (λ h l.
+          let k = f h l in
+          let now : Live s.past v h = (stands.count, l.1.0, less) in
+          let j = given h k.0 now in
+          (j.0, j.1, k.1 ∙ j.2 ∙ p.same z ch.meaning h l.1.0 l.1.1 j.0));
+      ends = λ e over h l fits comes. let j = given h l (stands.count, fits, less) in j.2 ∙ p.ends e over h fits comes j.0;
+    }
+
+    moved_on : (c : Calls) (w : World) (now : Told) (after : Next) (d : Calls) (x : World) → GoesOn n s v r c w now after d x → CodeMoved (CodeMeans n) (CodeAfter n) (s.look.deep n) s u q c now after d x
+    moved_on c w now after d x g = code_on (record {
+      stands = g.stands;
+      leads = on u v g.stands lag.leads g.leads;
+      alike = g.alike;
+      code = g.code;
+      lower = g.lower;
+      means = λ part p. g.means n (omega arith) g.stands (no_lag g.stands) g.rest g.leading (λ h l m. refl) part (part_on c w now after d x g part p);
+      due = λ e. let le = count_grows u v lag.leads in let f = g.due e in (omega (arith, le, f.0), due_on s.later after d x g.stands le f.0 f.1);
+    })
+
+    returns_so : (ls : List Lower) (cs : List Caller) (sp depth : ℕ) (below : List Lower) → ls ≡ InBodies cs sp depth ∷ below → (answer : Answer) (d : Calls) (x stands : World) → d.callers ≡ cs → d.lower ≡ below → Leads v stands → Like x stands
+        → ((h : History) → Live s.past stands h → (m : ℕ) → r h (suc m) ≡ Done answer stands) → CodeReturns s.past u q ls answer d x
+    returns_so ls cs sp depth below e answer d x stands called lower leads alike is_done =
+        subst (λ l. CodeReturns s.past u q l answer d x) (sym e)
+        (stands, on u v stands lag.leads leads, alike, called, lower, λ h l now. let j = given h l (live_before s.past v stands h leads now) in j.2 ∙ is_done h now j.0)
+
+    moved_back : (c : Calls) (w : World) (now : Told) (after : Next) (d : Calls) (x : World) → GoesBack s v r c w now after d x → CodeMoved (CodeMeans n) (CodeAfter n) (s.look.deep n) s u q c now after d x
+    moved_back c w now after d x g =
+        code_back g.answer g.next g.quiet (returns_so c.lower g.callers g.sp g.depth g.below g.waited g.answer d x g.stands g.called g.lower g.leads g.alike g.same)
+
+    over_so : (stop : Stop) (x : World) → GoesOver s v r stop x → EndsSo s.past u q stop x
+    over_so stop x g = λ e told. let f = g e told in (f.0, f.1, λ h l now. let j = given h l (live_before s.past v (world_at f.0) h f.2 now) in j.2 ∙ f.3 h now j.0)
+
+  -- each way of a move is one that keeps the meaning
+  pub one_move : (n : ℕ) (next : Next) (c : Calls) (w v : World) (r : Family Answer) → Leading v r
+      → ((after : Next) (d : Calls) (x : World) (moved : Moved) → IsFit (texts_of s.past) s.image s.places c.lower w → Like w v → Moves (texts_of s.past) s.image next c w (Ok moved) after d x → GoesOn n s v r c w moved.shown after d x ⊎ GoesBack s v r c w moved.shown after d x)
+      → ((after : Next) (d : Calls) (x : World) (stop : Stop) → IsFit (texts_of s.past) s.image s.places c.lower w → Like w v → Moves (texts_of s.past) s.image next c w (Err (Meant stop)) after d x → GoesOver s v r stop x)
+      → ((after : Next) (d : Calls) (x : World) (pc : ℕ) (cause : Crash) → IsFit (texts_of s.past) s.image s.places c.lower w → Like w v → Moves (texts_of s.past) s.image next c w (Err (Crashed pc cause)) after d x → ⊥)
+      → MeansAt s (suc n) next c w v r
+  one_move n next c w v r leads goes ends crashes zero le = λ u lag a lead_a same q is. leads_so u a 0 lead_a q is
+  one_move n next c w v r leads goes ends crashes (suc k) le = λ u lag a lead_a same q is. (
+    leads_so u a (suc k) lead_a q is,
+    record {
+      goes = λ after d x moved fit like mv. inl (by_way k le u lag a same q is after d x moved (goes after d x moved fit (like_on w u v like lag.alike) mv));
+      ends = λ after d x stop fit like mv. inl (over_so k v r u lag a same q is stop x (ends after d x stop fit (like_on w u v like lag.alike) mv));
+      crashes = λ after d x pc cause fit like mv. absurd (crashes after d x pc cause fit (like_on w u v like lag.alike) mv);
+    },
+  )
+    where
+      -- fewer moves are left
+      fewer : (k : ℕ) → k ≤ n → (now : Told) (after : Next) (d : Calls) (x : World) → GoesOn n s v r c w now after d x → GoesOn k s v r c w now after d x
+      fewer k le now after d x g = record {
+        stands = g.stands;
+        leads = g.leads;
+        alike = g.alike;
+        code = g.code;
+        lower = g.lower;
+        waits = g.waits;
+        rest = g.rest;
+        leading = g.leading;
+        means = λ j lt. g.means j (omega (arith, lt, le));
+        same = g.same;
+        due = λ e. ((g.due e).0, fewer_due s.later (g.due e).1);
+      }
+        where
+          fewer_due : (bs : List Build) → NextDue n bs s r after d x g.stands → NextDue k bs s r after d x g.stands
+          fewer_due [] p = tt
+          fewer_due (b ∷ bs) p = record { rest = p.rest; goes = λ y z ch. ((p.goes y z ch).0, λ j lt. (p.goes y z ch).1 j (omega (arith, lt, le))); same = p.same; ends = p.ends }
+
+      by_way : (k : ℕ) → suc k ≤ suc n → (u : World) (lag : Lags u v) (a : Family Answer) (same : AreSame s v a r) (q : Gives s.past u) (is : (h : History) (l : Live s.past u h) → (m : ℕ) × (suc k ≤ m) × (q h l ≡ a h m)) (after : Next) (d : Calls) (x : World) (moved : Moved)
+          → GoesOn n s v r c w moved.shown after d x ⊎ GoesBack s v r c w moved.shown after d x → KeepsWaiting c.lower w x × CodeMoved (CodeMeans k) (CodeAfter k) (s.look.deep k) s u q c moved.shown after d x
+      by_way k le u lag a same q is after d x moved (inl g) = (g.waits, moved_on k v r u lag a same q is c w moved.shown after d x (fewer k (omega (arith, le)) moved.shown after d x g))
+      by_way k le u lag a same q is after d x moved (inr g) = (g.waits, moved_back k v r u lag a same q is c w moved.shown after d x g)
+
+  -- ---- a move that shows nothing and leaves the world
+
+  followed_on : (how : Went) (r : Registers) (c d : Calls) (x : World) (after : Next) → how ≡ went.On → Follows how r c x after d → (after ≡ Executes) × (d ≡ with_registers r c)
+  followed_on went.On r c d x after e f = f
+  followed_on (went.Asks n) r c d x after e f = absurd (cc (e))
+  followed_on went.Returned r c d x after e f = absurd (cc (e))
+  followed_on (went.Stopped q) r c d x after e f = absurd f
+  followed_on went.NoRoom r c d x after e f = absurd f
+
+  no_failure : (how : Went) (r : Registers) (c d : Calls) (x : World) (pc : ℕ) (cause : Crash) → how ≡ went.On → Fails how r c x pc cause d → ⊥
+  no_failure went.On r c d x pc cause e f = f
+  no_failure (went.Asks n) r c d x pc cause e f = cc (e)
+  no_failure went.Returned r c d x pc cause e f = cc (e)
+  no_failure (went.Stopped q) r c d x pc cause e f = cc (e)
+  no_failure went.NoRoom r c d x pc cause e f = cc (e)
+
+  -- the machine goes one way, to one world
+  abbrev pub GoesTo : Calls → World → Registers → World → Type 0
+  GoesTo c w next x = (how : Went) (regs : Registers) (y : World) → Instruction s.image c.regs w how regs y → (how ≡ went.On) × (regs ≡ next) × (y ≡ x)
+
   abbrev pub GoesOneWay : Calls → Registers → World → Type 0
-  GoesOneWay c next w = (how : Went) (regs : Registers) (x : World) → Instruction s.image c.regs w how regs x → (how ≡ went.On) × (regs ≡ next) × (x ≡ w)
+  GoesOneWay c next w = GoesTo c w next w
 
-  leads_so : (v : World) (r : Family Answer) (n : ℕ) → Leading v r → (q : Gives s.past v) → ((h : History) (l : Live s.past v h) → (m : ℕ) × (n ≤ m) × (q h l ≡ r h m)) → Lead s.past v q
-  leads_so v r n leads q is = λ h l. subst (λ o. Leads v (world_after o)) (sym (is h l).2) (leads h (is h l).0)
+  -- an instruction: the meaning goes on to a world that is alike the run's next one, and what waits is kept
+  pub instruction_means : (n : ℕ) (c : Calls) (next : Registers) (w x v stands : World) (r rest : Family Answer) → Leading v r → GoesTo c w next x → (IsFit (texts_of s.past) s.image s.places c.lower w → Like w v → Like x stands × KeepsWaiting c.lower w x) → Leads v stands → Leading stands rest
+      → ((h : History) → Live s.past stands h → (m : ℕ) → r h (suc m) ≡ rest h m) → Means s n (with_registers next c) x stands rest → Means s (suc n) c w v r
+  instruction_means n c next w x v stands r rest leads way keeps on_to leading same means =
+      one_move n Executes c w v r leads
+      (λ after d y moved fit like mv.
+      let o = way mv.1.0 mv.1.1 y mv.1.2 in
+      let f = followed_on mv.1.0 mv.1.1 c d y after o.0 mv.1.3 in
+      let d_is : d ≡ with_registers next c = f.1 ∙ ap (λ g. with_registers g c) o.1 in
+      let k = keeps fit like in
+      inl (record {
+        stands = stands;
+        leads = on_to;
+        alike = subst (λ z. Like z stands) (sym o.2) k.0;
+        code = subst IsCode (sym f.0) tt;
+        lower = ap (λ (e : Calls). e.lower) d_is;
+        waits = subst (λ z. KeepsWaiting c.lower w z) (sym o.2) k.1;
+        rest = rest;
+        leading = leading;
+        means = subst (λ z. MeansAt s n after d z stands rest) (sym o.2) (subst (λ e. MeansAt s n after e x stands rest) (sym d_is) (subst (λ a. MeansAt s n a (with_registers next c) x stands rest) (sym f.0) means));
+        same = same;
+        due = λ e. absurd (subst IsEvent (ap (λ (m : Moved). m.shown) mv.0) e);
+      }))
+      (λ after d y stop fit like mv. λ e told. absurd (cc (sym (ap (λ t. ending_of t y) mv) ∙ told)))
+      (λ after d y pc cause fit like mv. no_failure mv.0 mv.1 c d y pc cause (way mv.0 mv.1 y mv.2).0 mv.3)
 
-  module _ (n : ℕ) (c : Calls) (next : Registers) (w v : World) (r : Family Answer) (way : GoesOneWay c next w) (does : Does s n (with_registers next c) w v r)
-      (q : Gives s.past v) (is : (h : History) (l : Live s.past v h) → (m : ℕ) × (suc n ≤ m) × (q h l ≡ r h m)) where
-    as_part : (part : Gives s.past v) → IsPartOf s.past v q s.past v part → (h : History) (l : Live s.past v h) → (m : ℕ) × (n ≤ m) × (part h l ≡ r h m)
-    as_part part f h l = let k = f h l in let j = is h k.0 in (j.0, omega (arith, j.1), k.1 ∙ j.2)
+  -- fewer moves, and a meaning that looks deeper
+  pub fewer_moves : (n k : ℕ) (next : Next) (c : Calls) (w v : World) (r : Family Answer) → k ≤ n → MeansAt s n next c w v r → MeansAt s k next c w v r
+  fewer_moves n k next c w v r le p = λ j lt. p j (omega (arith, lt, le))
 
-    goes : (after : Next) (d : Calls) (x : World) (moved : Moved) → IsFit (texts_of s.past) s.places c.lower w → Like w v → Moves (texts_of s.past) s.image Executes c w (Ok moved) after d x
-        → (KeepsWaiting c.lower w x × CodeMoved (CodeMeans n) (CodeAfter n) n s v q c moved.shown after d x) ⊎ IsLost s.past v q
-    goes after d x moved fit like mv =
-        let o = way mv.1.0 mv.1.1 x mv.1.2 in
-        let f = followed_on mv.1.0 mv.1.1 c d x after o.0 mv.1.3 in
-        let d_is : d ≡ with_registers next c = f.1 ∙ ap (λ g. with_registers g c) o.1 in
-        inl (
-          subst (λ y. KeepsWaiting c.lower w y) (sym o.2) (keeps_waiting c.lower w),
-          code_on (record {
-            stands = v;
-            leads = here v;
-            alike = subst (λ y. Like y v) (sym o.2) like;
-            code = subst IsCode (sym f.0) tt;
-            lower = ap (λ (e : Calls). e.lower) d_is;
-            means = λ part p.
-                subst (λ y. CodeMeans n s after d y v part) (sym o.2)
-                (subst (λ e. CodeMeans n s after e w v part) (sym d_is)
-                (subst (λ a. CodeMeans n s a (with_registers next c) w v part) (sym f.0) (does part (as_part part p))));
-            due = λ e. absurd (subst IsEvent (ap (λ (m : Moved). m.shown) mv.0) e);
-          }),
-        )
+  -- the meaning may look one deeper
+  pub means_later : (n : ℕ) (next : Next) (c : Calls) (w v : World) (r : Family Answer) → Leading v r → MeansAt s n next c w v r → MeansAt s n next c w v (looking suc r)
+  means_later n next c w v r leads p = λ k le u lag a lead_a same q is.
+      p k le u lag (back a) (lead_back u lag a lead_a) (same_back a same) q (λ h l. let j = is h l in (suc j.0, omega (arith, j.1), j.2))
+    where
+      back : Family Answer → Family Answer
+      back a h zero = r h 0
+      back a h (suc m) = a h m
 
-    ends : (after : Next) (d : Calls) (x : World) (stop : Stop) → IsFit (texts_of s.past) s.places c.lower w → Like w v → Moves (texts_of s.past) s.image Executes c w (Err (Meant stop)) after d x → EndsSo s.past v q stop x ⊎ IsLost s.past v q
-    ends after d x stop fit like mv = inl (λ e told. absurd (cc (sym (ap (λ t. ending_of t x) mv) ∙ told)))
+      lead_back : (u : World) → Lags u v → (a : Family Answer) → Leading u a → Leading u (back a)
+      lead_back u lag a lead_a h zero = on u v (world_after (r h 0)) lag.leads (leads h 0)
+      lead_back u lag a lead_a h (suc m) = lead_a h m
 
-    crashes : (after : Next) (d : Calls) (x : World) (pc : ℕ) (cause : Crash) → IsFit (texts_of s.past) s.places c.lower w → Like w v → Moves (texts_of s.past) s.image Executes c w (Err (Crashed pc cause)) after d x → IsLost s.past v q
-    crashes after d x pc cause fit like mv = absurd (no_failure mv.0 mv.1 c d x pc cause (way mv.0 mv.1 x mv.2).0 mv.3)
+      same_back : (a : Family Answer) → AreSame s v a (looking suc r) → AreSame s v (back a) r
+      same_back a same h l zero = refl
+      same_back a same h l (suc m) = same h l m
 
-  quiet_move : (n : ℕ) (c : Calls) (next : Registers) (w v : World) (r : Family Answer) → Leading v r → GoesOneWay c next w → Does s n (with_registers next c) w v r → Does s (suc n) c w v r
-  quiet_move n c next w v r leads way does =
-      λ q is. (leads_so v r (suc n) leads q is, record { goes = goes n c next w v r way does q is; ends = ends n c next w v r way does q is; crashes = crashes n c next w v r way does q is })
+  pub credit_means : (n : ℕ) (c : Calls) (next : Registers) (w v : World) (r : Family Answer) → Leading v r → GoesOneWay c next w → Means s n (with_registers next c) w v (looking suc r) → Means s (suc n) c w v r
+  credit_means n c next w v r leads way means =
+      instruction_means n c next w w v v r (looking suc r) leads way (λ fit like. (like, keeps_waiting c.lower w)) (here v) (λ h m. leads h (suc m)) (λ h l m. refl) means
 
   pub quiet_means : (n : ℕ) (c : Calls) (next : Registers) (w v : World) (r : Family Answer) → Leading v r → GoesOneWay c next w → Means s n (with_registers next c) w v r → Means s n c w v r
-  quiet_means n c next w v r leads way means zero le = λ q is. leads_so v r 0 leads q is
-  quiet_means n c next w v r leads way means (suc k) le = quiet_move k c next w v r leads way (means k (omega (arith, le)))
+  quiet_means n c next w v r leads way means zero le = λ u lag a lead_a same q is. leads_so u a 0 lead_a q is
+  quiet_means n c next w v r leads way means (suc k) le =
+      credit_means k c next w v r leads way (means_later k Executes (with_registers next c) w v r leads (fewer_moves n k Executes (with_registers next c) w v r (omega (arith, le)) means)) (suc k) (omega arith)
+
+  -- ---- no move is left
+
+  pub no_moves : (next : Next) (c : Calls) (w v : World) (r : Family Answer) → MeansAt s 0 next c w v r
+  no_moves next c w v r zero le = λ u lag a lead_a same q is. leads_so u a 0 lead_a q is
+  no_moves next c w v r (suc k) le = absurd (omega (arith, le))
+
+  -- ---- an instruction that changes the world, or finds no memory for that
+
+  abbrev pub MayGo : Calls → World → Registers → World → Type 0
+  MayGo c w next x = (how : Went) (regs : Registers) (y : World) → Instruction s.image c.regs w how regs y → (how ≡ went.NoRoom) ⊎ ((how ≡ went.On) × (regs ≡ next) × (y ≡ x))
+
+  no_room_on : (how : Went) (r : Registers) (c d : Calls) (x : World) (after : Next) → how ≡ went.NoRoom → Follows how r c x after d → ⊥
+  no_room_on went.On r c d x after e f = cc (e)
+  no_room_on (went.Asks n) r c d x after e f = cc (e)
+  no_room_on went.Returned r c d x after e f = cc (e)
+  no_room_on (went.Stopped q) r c d x after e f = cc (e)
+  no_room_on went.NoRoom r c d x after e f = f
+
+  no_room_fails : (how : Went) (r : Registers) (c d : Calls) (x : World) (pc : ℕ) (cause : Crash) → how ≡ went.NoRoom → Fails how r c x pc cause d → ⊥
+  no_room_fails went.On r c d x pc cause e f = cc (e)
+  no_room_fails (went.Asks n) r c d x pc cause e f = cc (e)
+  no_room_fails went.Returned r c d x pc cause e f = cc (e)
+  no_room_fails (went.Stopped q) r c d x pc cause e f = cc (e)
+  no_room_fails went.NoRoom r c d x pc cause e f = f
+
+  module _ (c : Calls) (next : Registers) (w x v stands : World) (r rest : Family Answer) (way : MayGo c w next x) (leads : Leading v r) (leading : Leading stands rest) (on_to : Leads v stands) (alike : Like x stands) (waits : KeepsWaiting c.lower w x)
+      (same : (h : History) → Live s.past stands h → (m : ℕ) → r h m ≡ rest h m) where
+    changed_on : (n : ℕ) → Means s n (with_registers next c) x stands (looking suc rest) → (after : Next) (d : Calls) (y : World) (moved : Moved) → Moves (texts_of s.past) s.image Executes c w (Ok moved) after d y → GoesOn n s v r c w moved.shown after d y
+    changed_on n means after d y moved mv =
+        elim (way mv.1.0 mv.1.1 y mv.1.2) [
+          | inl none ↦ absurd (no_room_on mv.1.0 mv.1.1 c d y after none mv.1.3)
+          | inr o ↦
+              let f = followed_on mv.1.0 mv.1.1 c d y after o.0 mv.1.3 in
+              let d_is : d ≡ with_registers next c = f.1 ∙ ap (λ g. with_registers g c) o.1 in
+              record {
+                stands = stands;
+                leads = on_to;
+                alike = subst (λ z. Like z stands) (sym o.2) alike;
+                code = subst IsCode (sym f.0) tt;
+                lower = ap (λ (e : Calls). e.lower) d_is;
+                waits = subst (λ z. KeepsWaiting c.lower w z) (sym o.2) waits;
+                rest = looking suc rest;
+                leading = λ h m. leading h (suc m);
+                means = subst (λ z. MeansAt s n after d z stands (looking suc rest)) (sym o.2) (subst (λ e. MeansAt s n after e x stands (looking suc rest)) (sym d_is) (subst (λ a. MeansAt s n a (with_registers next c) x stands (looking suc rest)) (sym f.0) means));
+                same = λ h l m. same h l (suc m);
+                due = λ e. absurd (subst IsEvent (ap (λ (m : Moved). m.shown) mv.0) e);
+              }
+        ]
+
+    not_crashed : (d : Calls) (y : World) (pc : ℕ) (cause : Crash) (how : Went) (regs : Registers) → Instruction s.image c.regs w how regs y → Fails how regs c y pc cause d → ⊥
+    not_crashed d y pc cause how regs ins f = elim (way how regs y ins) [ inl none ↦ no_room_fails how regs c d y pc cause none f | inr o ↦ no_failure how regs c d y pc cause o.0 f ]
+
+    pub changing_means : (n : ℕ) → Means s n (with_registers next c) x stands rest → Means s n c w v r
+    changing_means zero means = no_moves Executes c w v r
+    changing_means (suc n) means =
+        one_move n Executes c w v r leads
+        (λ after d y moved fit like mv. inl (changed_on n (means_later n Executes (with_registers next c) x stands rest leading (fewer_moves (suc n) n Executes (with_registers next c) x stands rest (omega arith) means)) after d y moved mv))
+        (λ after d y stop fit like mv. λ e told. absurd (cc (sym (ap (λ t. ending_of t y) mv) ∙ told)))
+        (λ after d y pc cause fit like mv. not_crashed d y pc cause mv.0 mv.1 mv.2 mv.3)
 
   -- ---- an undefined step comes next
 
-  pub lost_means : (n : ℕ) (c : Calls) (w v : World) (r : Family Answer) (b : Breach) → is_own_step b v ≡ true → ((h : History) (m : ℕ) → r h m ≡ Over (Undefined b v)) → Means s n c w v r
-  lost_means n c w v r b own is zero le = λ q g h l. subst (λ o. Leads v (world_after o)) (sym ((g h l).2 ∙ is h (g h l).0)) (here v)
-  lost_means n c w v r b own is (suc k) le = λ q g.
-      let lost : IsLost s.past v q = record { breach = b; world = v; leads = here v; compiled = own; shows = refl; ends = λ h l live. (g h l).2 ∙ is h (g h l).0 } in (
-        λ h l. subst (λ o. Leads v (world_after o)) (sym ((g h l).2 ∙ is h (g h l).0)) (here v),
+  pub lost_means : (n : ℕ) (next : Next) (c : Calls) (w v : World) (r : Family Answer) (b : Breach) → is_own_step b v ≡ true → ((h : History) → Live s.past v h → (m : ℕ) → r h m ≡ Over (Undefined b v)) → MeansAt s n next c w v r
+  lost_means n next c w v r b own is zero le = λ u lag a lead_a same q g. leads_so u a 0 lead_a q g
+  lost_means n next c w v r b own is (suc k) le = λ u lag a lead_a same q g.
+      let lost : IsLost s.past u q = record { breach = b; world = v; leads = lag.leads; compiled = own; shows = ap (λ (x : Shown). x.items) (sym lag.alike.shown); ends = λ h l live. (g h l).2 ∙ same h live (g h l).0 ∙ is h live (g h l).0 } in (
+        leads_so u a (suc k) lead_a q g,
         record {
-          goes = λ after d u moved fit like mv. inr lost;
-          ends = λ after d u stop fit like mv. inr lost;
-          crashes = λ after d u pc cause fit like mv. lost;
+          goes = λ after d x moved fit like mv. inr lost;
+          ends = λ after d x stop fit like mv. inr lost;
+          crashes = λ after d x pc cause fit like mv. lost;
         },
       )
 
   -- ---- one family is as the other
 
-  pub means_same : (n : ℕ) (c : Calls) (w v : World) (a b : Family Answer) → ((h : History) (m : ℕ) → a h m ≡ b h m) → Means s n c w v b → Means s n c w v a
-  means_same n c w v a b e p = λ k le q is. p k le q (λ h l. let j = is h l in (j.0, j.1, j.2 ∙ e h j.0))
+  pub means_same : (n : ℕ) (next : Next) (c : Calls) (w v : World) (a b : Family Answer) → AreSame s v a b → MeansAt s n next c w v b → MeansAt s n next c w v a
+  means_same n next c w v a b e p = λ k le u lag f lead_f same q is. p k le u lag f lead_f (λ h l m. same h l m ∙ e h l m) q is
 
-  -- ---- work is not seen
+  -- ---- what is not seen passes first
 
-  module _ (z : ℕ) (v : World) where
-    abbrev u : World
-    u = pass (Work z) v
+  pub unseen_means : (n : ℕ) (next : Next) (c : Calls) (w v x : World) (r rest : Family Answer) → Lags v x → AreSame s x r rest → MeansAt s n next c w x rest → MeansAt s n next c w v r
+  unseen_means n next c w v x r rest lag same p = λ k le u lags f lead_f is_f q is.
+      p k le u (lags_on u v x lags lag) f lead_f (λ h l m. is_f h (live_before s.past v x h lag.leads l) m ∙ same h l m) q is
 
-    first : Leads v u
-    first = one_more (Work z) v
-
-    same_shown : shown_of u.trail ≡ shown_of v.trail
-    same_shown = shown_more v.trail (Work z) (record { items = []; forms = [] }) ∙ ap (shown_with (shown_of v.trail)) (append-nil (shown_of v.trail).items)
-
-    pub like_worked : (w : World) → Like w v → Like w u
-    like_worked w l = record { same = l.same; shown = l.shown ∙ sym same_shown }
-
-    lost_before : (q : Gives s.past v) → IsLost s.past u q → IsLost s.past v q
-    lost_before q l = record { breach = l.breach; world = l.world; leads = on v u l.world first l.leads; compiled = l.compiled; shows = l.shows ∙ ap (λ (x : Shown). x.items) same_shown; ends = l.ends }
-
-    place_due : (Places : PlacesMean) (bs : List Build) (q : Gives s.past v) (next : Next) (d : Calls) (w stands : World) → PlaceDue Places bs s u q next d w stands → PlaceDue Places bs s v q next d w stands
-    place_due Places [] q next d w stands p = tt
-    place_due Places (b ∷ bs) q next d w stands p = record { goes = p.goes; ends = p.ends }
-
-    returns_before : (q : Gives s.past v) (ls : List Lower) (a : Answer) (d : Calls) (w : World) → CodeReturns s.past u q ls a d w → CodeReturns s.past v q ls a d w
-    returns_before q [] a d w p = absurd p
-    returns_before q (InCode r given ∷ ls) a d w p = absurd p
-    returns_before q (InBodies cs sp depth ∷ ls) a d w p = (p.0, on v u p.0 first p.1, p.2, p.3, p.4, p.5)
-
-    state_due : (After : CodeWaits) (n : ℕ) (bs : List Build) (q : Gives s.past v) (regs : Registers) (given : Option Answer) (below : List Lower) (old : World) (stands : State) → StateDue After n bs s u q regs given below old stands → StateDue After n bs s v q regs given below old stands
-    state_due After n [] q regs given below old stands p = tt
-    state_due After n (b ∷ bs) q regs given below old stands p = record { gives = p.gives; means = p.means; through = record { leads = p.through.leads; ends = p.through.ends }; takes = p.takes }
-
-    moved_before : (Places : PlacesMean) (After : CodeWaits) (n : ℕ) (q : Gives s.past v) (c : Calls) (now : Told) (next : Next) (d : Calls) (w : World) → CodeMoved Places After n s u q c now next d w → CodeMoved Places After n s v q c now next d w
-    moved_before Places After n q c now next d w (code_on g) = code_on (record {
-      stands = g.stands;
-      leads = on v u g.stands first g.leads;
-      alike = g.alike;
-      code = g.code;
-      lower = g.lower;
-      means = g.means;
-      due = λ e. ((g.due e).0, place_due Places s.later q next d w g.stands (g.due e).1);
-    })
-    moved_before Places After n q c now next d w (code_out g e o) = code_out g e (record {
-      regs = o.regs;
-      given = o.given;
-      below = o.below;
-      stands = o.stands;
-      leads = on v u (world_of o.stands) first o.leads;
-      alike = o.alike;
-      gives = o.gives;
-      means = o.means;
-      takes = o.takes;
-      due = λ e. ((o.due e).0, state_due After n s.later q o.regs o.given c.lower w o.stands (o.due e).1);
-    })
-    moved_before Places After n q c now next d w (code_back a e quiet r) = code_back a e quiet (returns_before q c.lower a d w r)
-
-    unseen : (n : ℕ) (next : Next) (c : Calls) (w : World) (q : Gives s.past v) → CodeMeans n s next c w u q → CodeMeans n s next c w v q
-    unseen zero next c w q p = λ h l. on v u (world_after (q h l)) first (p h l)
-    unseen (suc n) next c w q p = (
-      λ h l. on v u (world_after (q h l)) first (p.0 h l),
-      record {
-        goes = λ after d x moved fit like mv. goes_before after d x moved (p.1.goes after d x moved fit (like_worked w like) mv);
-        ends = λ after d x stop fit like mv. ends_before stop x (p.1.ends after d x stop fit (like_worked w like) mv);
-        crashes = λ after d x pc cause fit like mv. lost_before q (p.1.crashes after d x pc cause fit (like_worked w like) mv);
-      },
-    )
-      where
-        goes_before : (after : Next) (d : Calls) (x : World) (moved : Moved) → (KeepsWaiting c.lower w x × CodeMoved (CodeMeans n) (CodeAfter n) n s u q c moved.shown after d x) ⊎ IsLost s.past u q → (KeepsWaiting c.lower w x × CodeMoved (CodeMeans n) (CodeAfter n) n s v q c moved.shown after d x) ⊎ IsLost s.past v q
-        goes_before after d x moved (inl g) = inl (g.0, moved_before (CodeMeans n) (CodeAfter n) n q c moved.shown after d x g.1)
-        goes_before after d x moved (inr l) = inr (lost_before q l)
-
-        ends_before : (stop : Stop) (x : World) → EndsSo s.past u q stop x ⊎ IsLost s.past u q → EndsSo s.past v q stop x ⊎ IsLost s.past v q
-        ends_before stop x (inl e) = inl e
-        ends_before stop x (inr l) = inr (lost_before q l)
-
-  pub worked_means : (n : ℕ) (c : Calls) (z : ℕ) (w v : World) (r : Family Answer) → Means s n c w (pass (Work z) v) r → Means s n c w v r
-  worked_means n c z w v r p = λ k le q is. unseen z v k Executes c w q (p k le q is)
+  pub worked_means : (n : ℕ) (next : Next) (c : Calls) (z : ℕ) (w v : World) (r : Family Answer) → MeansAt s n next c w (pass (Work z) v) r → MeansAt s n next c w v r
+  worked_means n next c z w v r p = unseen_means n next c w v (pass (Work z) v) r r (work_lags z v) (λ h l m. refl) p
