@@ -17,6 +17,7 @@ use Rattle.sc_mem.specs.Flat.{cell_at}
 use Rattle.sc_mem.specs.Safe.{IsSafe, Store}
 use Rattle.sc_mem_store.specs.Apart.{AreBelow, AreOnce}
 use Rattle.sc_mem_store.specs.Holding.{Holds}
+use Rattle.sc_mem_store.specs.Stray.{HasNoStray}
 use Rattle.sc_meaning.specs.Versions.{Text, births_of}
 use Rattle.sc_meaning.specs.World.{World, named_in}
 use Rattle.sc_objects.specs.Numbered.{AreApart, IsLive, object_of}
@@ -24,6 +25,8 @@ use Rattle.sc_objects.specs.declared.objects.Obj.{Obj}
 use Rattle.sc_program.specs.declared.storage.StaticId.{StaticId}
 use Rattle.sc_services.specs.Frames.{stack_top}
 use Rattle.sc_services.specs.Memory.{IsBareAt}
+use Rattle.sc_like.specs.Unseen.{TellsForms}
+use Rattle.sc_mixed.specs.Machine.{depth_of}
 use Rattle.sc_mixed.specs.declared.calls.Lower.{Lower}
 use Rattle.sc_mixed.specs.declared.calls.Lower.TheVariants.{InBodies, InCode}
 
@@ -39,7 +42,8 @@ IsCell table stored.Unwritten = ⊤
 IsCell table (stored.Byte b) = b < 256
 IsCell table (stored.Frag whole tag k) = (whole < 2 ^ 32) × ((p : Obj) → object_of table tag ≡ Some p → offset_from whole (Some p) ≤ p.size)
 
--- The memory is the run's: of its sizes, safe, with the heap's blocks that the world counts, and its cells are a machine's.
+-- The memory is the run's: of its sizes, safe, with the heap's blocks that the world counts, and its cells are a machine's. Objects, dead ones too,
+-- stand above address 0 and end below 2^32, and no byte is a piece of a pointer to what was not born.
 pub record IsMemoryOf (w : World) (m : Store) : Type 0 where
   pub safe : IsSafe m
   pub stack : m.flat.stack ≡ w.stack
@@ -47,18 +51,21 @@ pub record IsMemoryOf (w : World) (m : Store) : Type 0 where
   pub made : m.blocks.used ≡ w.made
   pub free : (k : ℕ) → length (blocks.free_of m.blocks k) ≡ worlds.free_of w.free k
   pub cells : (at : ℕ) (c : Stored) → cell_at m.flat at ≡ Some c → IsCell m.flat.objects c
+  pub seated : (id : ℕ) (p : Obj) → object_of m.flat.objects id ≡ Some p → (0 < p.base) × (p.base + p.size < 2 ^ 32)
+  pub known : HasNoStray w.objects
 
 -- the functions have the numbers of their stubs in the image
 abbrev pub AreStubsOf : Image → List Key → Type 0
 AreStubsOf i functions = (key : Key) (at : ℕ) → value_of i key ≡ Some at → (n : ℕ) × (slice_get functions n ≡ Some key) × (at ≡ stub_address n)
 
 -- The memory of a run has the objects of its world, each at its own place; those of static storage duration are born and stand where the code of these
--- texts has them; the stack is free below the frames; and what waits does so above.
+-- texts has them; the stack is free below the frames; what waits does so above, and inside calls that are active; and what happened tells their forms.
 pub record IsFit (texts : List Text) (image : Image) (places : List (StaticId × ℕ)) (lower : List Lower) (w : World) : Type 0 where
   pub memory : Store
   pub is : w.beside.memory ≡ Some memory
   pub of : IsMemoryOf w memory
   pub stubs : AreStubsOf image w.beside.functions
+  pub few : stub_address (length w.beside.functions) ≤ 2 ^ 32
   pub holds : Holds w.objects memory.flat w.beside.functions
   pub apart : AreApart memory.flat.objects
   pub below : AreBelow memory.flat.objects
@@ -66,6 +73,8 @@ pub record IsFit (texts : List Text) (image : Image) (places : List (StaticId ×
   pub born : (id : StaticId) → Contains (births_of texts) id → (o : ℕ) × (named_in w.names id ≡ Some o)
   pub stand : (id : StaticId) (o at : ℕ) → named_in w.names id ≡ Some o → named_in places id ≡ Some at → (p : Obj) × IsLive memory.flat.objects o p × (p.base ≡ at)
   pub above : AreAbove lower w
+  pub inner : depth_of lower ≤ length w.frames
+  pub forms : TellsForms w
   pub free : (at : ℕ) → 0x20000000 - w.stack ≤ at → at < stack_top w → IsBareAt w at
 
 -- what is stored at an address
