@@ -11,7 +11,7 @@ ghost use Rattle.sc_interp.specs.Steady as steady;
 ghost use Rattle.sc_interp.specs.Steps.{Steps};
 
 use crate::going::{Active, Caller, Going};
-use sc_base::{Duplicate, Items, Key, NoMemory, Shared, Stack};
+use sc_base::{Duplicate, Items, Key, NoMemory, Rule, Shared, Stack};
 use sc_core::{Auto, Fun};
 use sc_core_held::{Callee, Text, callee_of};
 use sc_interp_access::Stop;
@@ -207,6 +207,31 @@ pub fn key_next(
     match callee_of(texts, &key) {
         Callee::Missing => {
             let told = undefined_name(&key, world)?;
+            Err(Stop::Undefined(told))
+        }
+        Callee::InLibrary(f) => library_next(f, &key, vs, callers, world),
+        Callee::InText(t, f) => enters(key, t, f, vs, callers, world),
+    }
+}
+
+/// A call of a key from compiled code: where the key names nothing, it breaks off as a call from interpreted code does.
+///
+/// # Errors
+///
+/// `U17` where it names nothing, `StackFull`, `BirthLimit`, and what a function of the library ends with.
+pub fn key_called(
+    texts: &[Text],
+    key: Key,
+    vs: &[Value],
+    callers: &Stack<Caller>,
+    world: &mut World,
+) -> Result<Going, Stop>
+    ensures { (h : versions.History) → IsQuiet h → Steps (steady.called_next h key vs.now (versions.callee_of texts.now key) callers.now world.old) result callers.now world.new }
+{
+    match callee_of(texts, &key) {
+        Callee::Missing => {
+            let v = Value::function(Shared::new(world.alloc(), key)?);
+            let told = call_breach(&v, world, Rule::U17)?;
             Err(Stop::Undefined(told))
         }
         Callee::InLibrary(f) => library_next(f, &key, vs, callers, world),

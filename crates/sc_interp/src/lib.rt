@@ -9,7 +9,7 @@ mod running;
 mod step;
 mod stepped;
 
-pub use calls::key_next;
+pub use calls::key_called;
 pub use going::{Active, Caller, Going};
 pub use running::{Finished, Limits, call_entry, main_key, run, status_of};
 pub use step::step_run;

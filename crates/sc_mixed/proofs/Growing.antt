@@ -7,7 +7,7 @@ use Rattle.sc_emu.specs.declared.outcome.Crash.{Crash}
 use Rattle.sc_emu.specs.declared.beginning.Need.{Need}
 use Rattle.sc_emu.specs.declared.beginning.Need.TheVariants as need
 use Rattle.sc_interp.specs.Steady as steady
-use Rattle.sc_interp.specs.Steady.{advance, alone}
+use Rattle.sc_interp.specs.Steady.{advance, alone, called_next, callee_next}
 use Rattle.sc_interp.specs.declared.going.Going.{Going}
 use Rattle.sc_interp.specs.declared.going.Going.TheVariants as going
 use Rattle.sc_interp.proofs.Unchanged.{callee_step, present, quiet as is_quiet, same_step}
@@ -215,11 +215,19 @@ step_lead texts s =
     (subst (λ (v : World). Happen (world_of s) v) (same_world t)
     (subst (λ (w : World). Happen w (course.world_of t)) (same_world s) (advance_leads (alone texts) s)))
 
+callee_lead : (texts : List Text) (key : Key) (xs : List Value) (f : Callee) (cs : List Caller) (w : World) → Happen w (world_of (callee_next (alone texts) key xs f cs w))
+callee_lead texts key xs f cs w =
+    let s : State = machine.callee_next (alone texts) key xs f cs w in
+    subst (λ (t : State). Happen w (world_of t)) (callee_step (alone texts) texts (is_quiet texts) (present texts) key xs f cs w)
+    (subst (λ (v : World). Happen w v) (same_world s) (callee_go (alone texts) key xs f cs w))
+
+called_by_lead : (texts : List Text) (key : Key) (xs : List Value) (f : Callee) (cs : List Caller) (w : World) → Happen w (world_of (called_next (alone texts) key xs f cs w))
+called_by_lead texts key xs Missing cs w = same w w refl
+called_by_lead texts key xs (InLibrary g) cs w = callee_lead texts key xs (InLibrary g) cs w
+called_by_lead texts key xs (InText t g) cs w = callee_lead texts key xs (InText t g) cs w
+
 called_lead : (texts : List Text) (key : Key) (xs : List Value) (cs : List Caller) (w : World) → Happen w (world_of (called_state texts key xs cs w))
-called_lead texts key xs cs w =
-    let s : State = machine.callee_next (alone texts) key xs (callee_of texts key) cs w in
-    subst (λ (t : State). Happen w (world_of t)) (callee_step (alone texts) texts (is_quiet texts) (present texts) key xs (callee_of texts key) cs w)
-    (subst (λ (v : World). Happen w v) (same_world s) (callee_go (alone texts) key xs (callee_of texts key) cs w))
+called_lead texts key xs cs w = called_by_lead texts key xs (callee_of texts key) cs w
 
 goes_there : (w v : World) (g : Going) (cs : List Caller) (s : State) → s ≡ state_of g cs v → Happen w (world_of s) → Happen w v
 goes_there w v g cs s is l = subst (λ (u : World). Happen w u) (ap world_of is ∙ world_there g cs v) l

@@ -4,7 +4,7 @@ use Rattle.std.specs.Prelude.{IfOk}
 use Rattle.sc_base.specs.declared.key.Key.{Key}
 use Rattle.sc_emu.specs.Registers.{Registers, register}
 use Rattle.sc_interp.specs.Shows.{entry_shown}
-use Rattle.sc_interp.specs.Steady.{alone, callee_next}
+use Rattle.sc_interp.specs.Steady.{alone, called_next}
 use Rattle.sc_interp.specs.Steps.{Is, Steps as StepsTo}
 use Rattle.sc_interp.specs.declared.going.Going.{Going}
 use Rattle.sc_interp.specs.declared.stepped.Shown.{Shown}
@@ -39,14 +39,14 @@ use Rattle.sc_mixed.specs.declared.calls.Next.{Next}
 use Rattle.sc_mixed.specs.declared.calls.Next.TheVariants.{Steps}
 
 -- a call that was made goes on with the machine's state
-pub called_so : {E : Type 0} (texts : List Text) (key : Key) (xs : List Value) (cs : List Caller) (w v : World) (g : Going) (r : Result Going Stop) (made : Result Moved E) (moved : Moved) → ((h : History) → IsQuiet h → StepsTo (callee_next h key xs (callee_of texts key) cs w) r cs v) → r ≡ Ok g → made ≡ Ok moved → ((s : State) → s ≡ state_of g cs v → IfOk made (λ m. IsCallMoved s w m v)) → CallGoes (called_state texts key xs cs w) cs w moved (Steps g) v
+pub called_so : {E : Type 0} (texts : List Text) (key : Key) (xs : List Value) (cs : List Caller) (w v : World) (g : Going) (r : Result Going Stop) (made : Result Moved E) (moved : Moved) → ((h : History) → IsQuiet h → StepsTo (called_next h key xs (callee_of texts key) cs w) r cs v) → r ≡ Ok g → made ≡ Ok moved → ((s : State) → s ≡ state_of g cs v → IfOk made (λ m. IsCallMoved s w m v)) → CallGoes (called_state texts key xs cs w) cs w moved (Steps g) v
 called_so {E} texts key xs cs w v g r made moved steps is so costs =
     let s : State = called_state texts key xs cs w in
     let to : Is s g cs v = subst (λ (x : Result Going Stop). StepsTo s x cs v) is (steps (alone texts) (is_quiet texts)) in
     let at : s ≡ state_of g cs v = state_is s g cs v to in
     record { going = g; goes = refl; state = at; costs = subst (λ (x : Result Moved E). IfOk x (λ m. IsCallMoved s w m v)) so (costs s at) }
 
-pub called_ends : (texts : List Text) (key : Key) (xs : List Value) (cs : List Caller) (w v : World) (r : Result Going Stop) (stopped : Stop) → ((h : History) → IsQuiet h → StepsTo (callee_next h key xs (callee_of texts key) cs w) r cs v) → r ≡ Err stopped → (e : Ending) → ending_of stopped v ≡ Some e → called_state texts key xs cs w ≡ Ends e
+pub called_ends : (texts : List Text) (key : Key) (xs : List Value) (cs : List Caller) (w v : World) (r : Result Going Stop) (stopped : Stop) → ((h : History) → IsQuiet h → StepsTo (called_next h key xs (callee_of texts key) cs w) r cs v) → r ≡ Err stopped → (e : Ending) → ending_of stopped v ≡ Some e → called_state texts key xs cs w ≡ Ends e
 called_ends texts key xs cs w v r stopped steps is = subst (λ (x : Result Going Stop). StepsTo (called_state texts key xs cs w) x cs v) is (steps (alone texts) (is_quiet texts))
 
 pub called_out : (texts : List Text) (i : Image) (key : Key) (xs : List Value) (c d : Calls) (w v : World) (result : Result Moved Break) (next : Next) → AsksFor i texts c.regs w (asked.Call key xs) → CallsKeyOut (called_state texts key xs c.callers w) c w result next d v → ServesCall texts i c w result next d v

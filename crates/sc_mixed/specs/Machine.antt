@@ -6,7 +6,7 @@ use Rattle.sc_base.specs.declared.key.Key.{Key}
 use Rattle.sc_emu.specs.Registers.{Registers, register}
 use Rattle.sc_emu.specs.declared.outcome.Crash.{Crash}
 use Rattle.sc_interp.specs.Shows.{entry_shown, shown}
-use Rattle.sc_interp.specs.Steady.{advance, alone, callee_next}
+use Rattle.sc_interp.specs.Steady.{advance, alone, called_next}
 use Rattle.sc_interp.specs.declared.going.Going.{Going}
 use Rattle.sc_interp.specs.declared.going.Going.TheVariants as going
 use Rattle.sc_interp.specs.declared.stepped.Shown.{Shown}
@@ -153,9 +153,9 @@ Executed i c w (Err (Meant stopped)) next d v = stopped ≡ stop.NoRoom
 
 -- ---- the service of the `ecall` behind which the registers stand
 
--- what a call of a function makes of a world, where these callers wait
+-- what a call of a function makes of a world, where these callers wait; a missing one breaks off as where interpreted code calls it
 abbrev pub called_state : List Text → Key → List Value → List Caller → World → State
-called_state texts key xs cs w = callee_next (alone texts) key xs (callee_of texts key) cs w
+called_state texts key xs cs w = called_next (alone texts) key xs (callee_of texts key) cs w
 
 -- it shows that a function of a text was entered, and costs a turn and the bytes that it touches
 pub record IsCallMoved (s : State) (w : World) (moved : Moved) (v : World) : Type 0 where

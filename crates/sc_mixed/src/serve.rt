@@ -22,7 +22,7 @@ use crate::service::{Service, service_of};
 use sc_base::{Key, NoMemory, Note};
 use sc_core_held::Text;
 use sc_emu::{Crash, Regs};
-use sc_interp::{Going, Shown, entry, key_next};
+use sc_interp::{Going, Shown, entry, key_called};
 use sc_interp_access::Stop;
 use sc_interp_world::World;
 use sc_isa_image::Image;
@@ -108,7 +108,7 @@ fn call_key(
 {
     let work = world.work_done();
     let moved = world.moved();
-    match key_next(texts, key, vs, &calls.callers, world) {
+    match key_called(texts, key, vs, &calls.callers, world) {
         Ok(going) => match moved_by(&going, work, moved, world) {
             Ok(moved) => {
                 drop(mem::replace(next, Next::Steps(going)));
