@@ -13,7 +13,7 @@ use Rattle.sc_meaning.specs.Statements.{auto_kind, born_autos, all_dead}
 use Rattle.sc_meaning.specs.Calls.{parameters}
 use Rattle.sc_meaning.proofs.Objects.{born_new}
 use Rattle.sc_keep_calls.specs.Kept.{AreNamed, IsNamed, IsUnnamed, Holds, Kept, Ends, AreOthers, AreHeld, unlined, calls, none}
-use Rattle.sc_keep_calls.proofs.Steps.{here, on, one_more, and_dies, new_number, ends_then, ends_more, new_cases}
+use Rattle.sc_keep_calls.proofs.Steps.{more, here, on, one_more, and_dies, new_number, ends_then, ends_more, new_cases}
 use Rattle.sc_keep_calls.proofs.Leaves.{set_leads}
 
 -- what is born in a block is held
@@ -130,10 +130,11 @@ outer_opened b (f ∷ fs) = refl
 -- a block, from its births to its deaths
 pub block_kept : (b : Born) (ids : List ℕ) (x w u : World) → Kept calls x w → Kept calls (pass (OpenBlock b) w) u → AreOthers x ids → Kept calls x (pass End (pass CloseBlock (all_dead ids u)))
 block_kept b ids x w u k l n =
-    let d = deaths_keep none ids x u (record { frames = refl; used = l.used ∙ k.used; holds = λ i size h. l.holds i size (k.holds i size h); named = λ q. l.named (k.named q); proper = λ q. l.proper (k.proper q) }) n in
+    let d = deaths_keep none ids x u (record { frames = refl; used = l.used ∙ k.used; out = l.out ∙ more (OpenBlock b) w ∙ k.out; holds = λ i size h. l.holds i size (k.holds i size h); named = λ q. l.named (k.named q); proper = λ q. l.proper (k.proper q) }) n in
     record {
       frames = ap (λ fs. calls (on_innermost closed fs)) (dead_frames ids u) ∙ closed_calls b w.frames u.frames l.frames ∙ k.frames;
       used = d.used;
+      out = more End (pass CloseBlock (all_dead ids u)) ∙ more CloseBlock (all_dead ids u) ∙ d.out;
       holds = d.holds;
       named = d.named;
       proper = d.proper;

@@ -1,7 +1,7 @@
 -- Expressions are related, where their parts are.
 use Rattle.sc_meaning.specs.Versions.{version_at}
 use Rattle.sc_meaning.specs.Changes.{happened}
-use Rattle.std.proofs.Common.{◌≡◌, refl, ℕ, Bool, true, false, if◌then◌else◌, List, [], ◌∷◌, ◌++◌, Option, Some, None}
+use Rattle.std.proofs.Common.{◌≡◌, ◌+◌, ◌-◌, ◌∙◌, arith, refl, ℕ, Bool, true, false, if◌then◌else◌, List, [], ◌∷◌, ◌++◌, Option, Some, None}
 use Rattle.sc_base.specs.declared.integer.Int.{Int}
 use Rattle.sc_base.specs.declared.key.Key.{Key}
 use Rattle.sc_base.specs.declared.integer.Int.TheVariants.{Int as PlainInt}
@@ -23,8 +23,8 @@ use Rattle.sc_meaning.specs.Accesses.{as_type, converted_value, loaded, stored, 
 use Rattle.sc_meaning.specs.Versions.{Text, History}
 use Rattle.sc_meaning.specs.Expressions.{Env, Answer, Plain, Place, Part, Nothing, Eval, Call, finished, plain, at_place, used, valued, base_of, further_of, static_at, address, read, decayed, layer_read, conversion, is_void, cast, next_value, operator_of, stepped, unary, truth, assigned_structure, compounded, moved_by, value_rule, call_breach, call_value, called, args_then, one, two, expr_of}
 use Rattle.sc_meaning.specs.World.{Frame, Event}
-use Rattle.sc_keep_calls.specs.Kept.{Leaves}
-use Rattle.sc_keep_calls.proofs.Steps.{is_quiet_event, then_go, same_done, passes, passes_two, after_one, unless_goes, either_goes, if_goes, over}
+use Rattle.sc_keep_calls.specs.Kept.{Kept, Leaves, are_out}
+use Rattle.sc_keep_calls.proofs.Steps.{is_quiet_event, more, done, ends_leave, then_go, same_done, passes, passes_two, unless_goes, either_goes, if_goes, over}
 use Rattle.sc_keep_calls.proofs.Leaves.{loaded_goes, stored_goes, copied_goes, computed_goes, shifted_goes, member_goes, difference_goes, compared_goes, tested_goes}
 
 module _ (R : List Frame → List Frame) where
@@ -124,6 +124,20 @@ module _ (R : List Frame → List Frame) where
       then_go R w r _ (loaded_goes R t (base_of a) (further_of a) w) (λ old u.
       then_go R u _ _ (shifted_goes R true o old (int_of s) y size u) (λ new x. stored_goes R t (base_of a) (further_of a) new x))
 
+-- a call goes out, and comes back
+as_before : (a b c d : ℕ) → a ≡ b - 1 → b ≡ d → d ≡ c + 1 → a ≡ c
+as_before a b c d p q r = omega arith
+
+came_back : (R : List Frame → List Frame) (w u : World) → Kept R (pass GoesOut w) u → Kept R w (pass (Work 1) (pass ComesBack u))
+came_back R w u k = record {
+  frames = k.frames;
+  used = k.used;
+  out = more (Work 1) (pass ComesBack u) ∙ as_before (are_out (pass ComesBack u)) (are_out u) (are_out w) (are_out (pass GoesOut w)) (more ComesBack u) k.out (more GoesOut w);
+  holds = λ i size p. k.holds i size p;
+  named = λ p. k.named p;
+  proper = λ p. k.proper p;
+}
+
 module _ (R : List Frame → List Frame) (h : History) (H : (e : Event) → is_quiet_event e ≡ true → (w : World) → Leaves R w (happened h e w)) (ev : Eval) (ca : Call) (eg : (env : Env) (e : CoreExpr) (w : World) → Leaves R w (ev env e w)) (cg : (key : Key) (vs : List Value) (w : World) → Leaves R w (ca key vs w)) where
   pub valued_goes : (env : Env) (e : CoreExpr) (w : World) → Leaves R w (valued ev env e w)
   valued_goes env e w = then_go R w (ev env e w) used (eg env e w) (λ a u. used_goes R a u)
@@ -140,12 +154,12 @@ module _ (R : List Frame → List Frame) (h : History) (H : (e : Event) → is_q
   value_goes (Number n) vs w = same_done R Nothing w
   value_goes (Pointer o i) vs w = same_done R Nothing w
 
-  tested_call : (t : Text) (s : CType) (v : Value) (vs : List Value) (w : World) (texts : List Text) → Leaves R w (unless (value_rule texts t s v) (call_breach v w) (call_value ca v vs) (pass GoesOut w))
-  tested_call t s v vs w texts = after_one R GoesOut refl w _ (unless_goes R (value_rule texts t s v) (call_breach v w) (call_value ca v vs) (pass GoesOut w) (value_goes v vs (pass GoesOut w)))
+  tested_call : (t : Text) (s : CType) (v : Value) (vs : List Value) (w : World) (texts : List Text) → Leaves R (pass GoesOut w) (unless (value_rule texts t s v) (call_breach v w) (call_value ca v vs) (pass GoesOut w))
+  tested_call t s v vs w texts = unless_goes R (value_rule texts t s v) (call_breach v w) (call_value ca v vs) (pass GoesOut w) (value_goes v vs (pass GoesOut w))
 
   called_goes : (t : Text) (s : CType) (v : Value) (vs : List Value) (w : World) → Leaves R w (called h ca t s v vs w)
   called_goes t s v vs w =
-      then_go R w _ _ (tested_call t s v vs w (version_at h w.count)) (λ a u. passes_two R a ComesBack refl (Work 1) refl u)
+      ends_leave R w (λ a u. Kept R (pass GoesOut w) u) (unless (value_rule (version_at h w.count) t s v) (call_breach v w) (call_value ca v vs) (pass GoesOut w)) (λ a u. finished a (pass ComesBack u)) (tested_call t s v vs w (version_at h w.count)).keeps (λ a u k. done R a w (pass (Work 1) (pass ComesBack u)) (came_back R w u k))
 
   args_go : (env : Env) (es : List CoreExpr) (vs : List Value) (w : World) (f : List Value → World → Outcome Answer) → ((us : List Value) (u : World) → Leaves R u (f us u)) → Leaves R w (args_then ev env es vs w f)
   args_go env [] vs w f q = q vs w

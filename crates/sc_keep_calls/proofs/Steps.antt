@@ -15,7 +15,8 @@ use Rattle.sc_meaning.proofs.Objects.{born_new, leads_keep}
 use Rattle.sc_meaning.proofs.Steps.{one_more as one_leads}
 use Rattle.sc_meaning.specs.Laws.{KeepsObjects, Leads}
 use Rattle.sc_keep_calls.proofs.Proper.{written_proper, read_proper, born_proper, ended_proper}
-use Rattle.sc_keep_calls.specs.Kept.{are_proper, AllProper, IsProper, AreNamed, none, calls, IsUnnamed, IsHeld, Holds, Kept, Ends, Leaves}
+use Rattle.sc_meaning.specs.Marks.{out_after}
+use Rattle.sc_keep_calls.specs.Kept.{out_along, are_out, are_proper, AllProper, IsProper, AreNamed, none, calls, IsUnnamed, IsHeld, Holds, Kept, Ends, Leaves}
 
 -- an object that stays what it is, but for its bytes
 abbrev pub Stays : List Object → List Object → Type 0
@@ -83,7 +84,17 @@ abbrev pub is_quiet_event : Event → Bool
 is_quiet_event (At home line enter) = false
 is_quiet_event _ = true
 
+-- how many calls are out behind one thing more
+out_append : (is : List Item) (i : Item) (n : ℕ) → out_along (is ++ i ∷ []) n ≡ out_after i (out_along is n)
+out_append [] i n = refl
+out_append (j ∷ js) i n = out_append js i (out_after j n)
+
+pub more : (i : Item) (w : World) → are_out (pass i w) ≡ out_after i (are_out w)
+more i w = out_append w.trail i 0
+
 abbrev pub is_quiet : Item → Bool
+is_quiet GoesOut = false
+is_quiet ComesBack = false
 is_quiet (Happens e) = is_quiet_event e
 is_quiet (Put id at new) = are_proper new
 is_quiet (Death id) = false
@@ -98,39 +109,39 @@ is_quiet _ = true
 
 module _ (R : List Frame → List Frame) where
   pub here : (w : World) → Kept R w w
-  here w = record { frames = refl; used = refl; holds = λ id size s. s; named = λ n. n; proper = λ n. n }
+  here w = record { frames = refl; used = refl; out = refl; holds = λ id size s. s; named = λ n. n; proper = λ n. n }
 
   pub on : (w v u : World) → Kept R w v → Kept R v u → Kept R w u
-  on w v u p q = record { frames = q.frames ∙ p.frames; used = q.used ∙ p.used; holds = λ id size s. q.holds id size (p.holds id size s); named = λ n. q.named (p.named n); proper = λ n. q.proper (p.proper n) }
+  on w v u p q = record { frames = q.frames ∙ p.frames; used = q.used ∙ p.used; out = q.out ∙ p.out; holds = λ id size s. q.holds id size (p.holds id size s); named = λ n. q.named (p.named n); proper = λ n. q.proper (p.proper n) }
 
   -- the objects alone change, and stay what they are
-  stay : (w v : World) → v.frames ≡ w.frames → v.used ≡ w.used → v.names ≡ w.names → Stays w.objects v.objects → (IsProper w → IsProper v) → Kept R w v
-  stay w v f u n s pr = record { frames = ap R f; used = u; holds = λ id size h. subst (λ ns. IsHeld v.objects ns id size) (sym n) (held_stays w.objects v.objects w.names id size s h); named = λ k. subst (λ ns. AreNamed v.objects ns) (sym n) (named_stay w.objects v.objects w.names s k); proper = pr }
+  stay : (w v : World) → v.frames ≡ w.frames → v.used ≡ w.used → v.names ≡ w.names → Stays w.objects v.objects → (IsProper w → IsProper v) → are_out v ≡ are_out w → Kept R w v
+  stay w v f u n s pr o = record { frames = ap R f; used = u; out = o; holds = λ id size h. subst (λ ns. IsHeld v.objects ns id size) (sym n) (held_stays w.objects v.objects w.names id size s h); named = λ k. subst (λ ns. AreNamed v.objects ns) (sym n) (named_stay w.objects v.objects w.names s k); proper = pr }
 
-  calm : (w v : World) → v.frames ≡ w.frames → v.used ≡ w.used → v.names ≡ w.names → v.objects ≡ w.objects → Kept R w v
-  calm w v f u n o = record { frames = ap R f; used = u; holds = λ id size h. subst (λ ns. IsHeld v.objects ns id size) (sym n) (subst (λ os. IsHeld os w.names id size) (sym o) h); named = λ k. subst (λ ns. AreNamed v.objects ns) (sym n) (subst (λ os. AreNamed os w.names) (sym o) k); proper = λ k. subst AllProper (sym o) k }
+  calm : (w v : World) → v.frames ≡ w.frames → v.used ≡ w.used → v.names ≡ w.names → v.objects ≡ w.objects → are_out v ≡ are_out w → Kept R w v
+  calm w v f u n o p = record { frames = ap R f; used = u; out = p; holds = λ id size h. subst (λ ns. IsHeld v.objects ns id size) (sym n) (subst (λ os. IsHeld os w.names id size) (sym o) h); named = λ k. subst (λ ns. AreNamed v.objects ns) (sym n) (subst (λ os. AreNamed os w.names) (sym o) k); proper = λ k. subst AllProper (sym o) k }
 
   pub one_more : (i : Item) → is_quiet i ≡ true → (w : World) → Kept R w (pass i w)
-  one_more (Work n) e w = calm w (pass (Work n) w) refl refl refl refl
-  one_more Begin e w = calm w (pass Begin w) refl refl refl refl
-  one_more End e w = calm w (pass End w) refl refl refl refl
-  one_more GoesOut e w = calm w (pass GoesOut w) refl refl refl refl
-  one_more ComesBack e w = calm w (pass ComesBack w) refl refl refl refl
-  one_more (Declares id) e w = calm w (pass (Declares id) w) refl refl refl refl
-  one_more (Happens (Enter key home)) e w = calm w (pass (Happens (Enter key home)) w) refl refl refl refl
-  one_more (Happens Leave) e w = calm w (pass (Happens Leave) w) refl refl refl refl
+  one_more (Work n) e w = calm w (pass (Work n) w) refl refl refl refl (more (Work n) w)
+  one_more Begin e w = calm w (pass Begin w) refl refl refl refl (more Begin w)
+  one_more End e w = calm w (pass End w) refl refl refl refl (more End w)
+  one_more GoesOut e w = absurd (cc)
+  one_more ComesBack e w = absurd (cc)
+  one_more (Declares id) e w = calm w (pass (Declares id) w) refl refl refl refl (more (Declares id) w)
+  one_more (Happens (Enter key home)) e w = calm w (pass (Happens (Enter key home)) w) refl refl refl refl (more (Happens (Enter key home)) w)
+  one_more (Happens Leave) e w = calm w (pass (Happens Leave) w) refl refl refl refl (more (Happens Leave) w)
   one_more (Happens (At home line enter)) e w = absurd (cc)
-  one_more (Happens (Out byte)) e w = calm w (pass (Happens (Out byte)) w) refl refl refl refl
-  one_more (Birth size kind at) e w = stay w (pass (Birth size kind at) w) refl refl refl (birth_stays w.objects (fresh size kind)) (λ p. born_proper w.objects size kind p)
+  one_more (Happens (Out byte)) e w = calm w (pass (Happens (Out byte)) w) refl refl refl refl (more (Happens (Out byte)) w)
+  one_more (Birth size kind at) e w = stay w (pass (Birth size kind at) w) refl refl refl (birth_stays w.objects (fresh size kind)) (λ p. born_proper w.objects size kind p) (more (Birth size kind at) w)
   one_more (Death id) e w = absurd (cc)
-  one_more (Put id at new) e w = stay w (pass (Put id at new) w) refl refl refl (written_stays w.objects id at new (object_at w.objects id) refl) (λ p. written_proper w.objects id at new (object_at w.objects id) refl p e)
-  one_more (Copy to at from off n) e w = stay w (pass (Copy to at from off n) w) refl refl refl (written_stays w.objects to at (cells_at w.objects from off n) (object_at w.objects to) refl) (λ p. written_proper w.objects to at (cells_at w.objects from off n) (object_at w.objects to) refl p (read_proper w.objects from off n (object_at w.objects from) refl p))
-  one_more (TakeFree k) e w = calm w (pass (TakeFree k) w) refl refl refl refl
-  one_more (TakeNew size) e w = calm w (pass (TakeNew size) w) refl refl refl refl
-  one_more (Give k) e w = calm w (pass (Give k) w) refl refl refl refl
+  one_more (Put id at new) e w = stay w (pass (Put id at new) w) refl refl refl (written_stays w.objects id at new (object_at w.objects id) refl) (λ p. written_proper w.objects id at new (object_at w.objects id) refl p e) (more (Put id at new) w)
+  one_more (Copy to at from off n) e w = stay w (pass (Copy to at from off n) w) refl refl refl (written_stays w.objects to at (cells_at w.objects from off n) (object_at w.objects to) refl) (λ p. written_proper w.objects to at (cells_at w.objects from off n) (object_at w.objects to) refl p (read_proper w.objects from off n (object_at w.objects from) refl p)) (more (Copy to at from off n) w)
+  one_more (TakeFree k) e w = calm w (pass (TakeFree k) w) refl refl refl refl (more (TakeFree k) w)
+  one_more (TakeNew size) e w = calm w (pass (TakeNew size) w) refl refl refl refl (more (TakeNew size) w)
+  one_more (Give k) e w = calm w (pass (Give k) w) refl refl refl refl (more (Give k) w)
   one_more (Stack n) e w = absurd (cc)
-  one_more Read e w = calm w (pass Read w) refl refl refl refl
-  one_more (Seed n) e w = calm w (pass (Seed n) w) refl refl refl refl
+  one_more Read e w = calm w (pass Read w) refl refl refl refl (more Read w)
+  one_more (Seed n) e w = calm w (pass (Seed n) w) refl refl refl refl (more (Seed n) w)
   one_more (Push f) e w = absurd (cc)
   one_more Pop e w = absurd (cc)
   one_more (OpenBlock b) e w = absurd (cc)
@@ -146,6 +157,7 @@ module _ (R : List Frame → List Frame) where
   and_dies id w v p n = record {
     frames = p.frames;
     used = p.used;
+    out = more (Death id) v ∙ p.out;
     holds = λ i size h.
         let q = p.holds i size h in
         record { object = q.object; there = other_dies v.objects i id (object_at v.objects id) q.object (n i size h) q.there; live = q.live; bytes = q.bytes; heap = q.heap; unnamed = q.unnamed };
@@ -210,7 +222,7 @@ new_number size kind at w id n h e =
     absurd (cc)
 
 pub less : (R : List Frame → List Frame) (w v : World) → Kept R w v → Kept none w v
-less R w v k = record { frames = refl; used = k.used; holds = k.holds; named = k.named; proper = k.proper }
+less R w v k = record { frames = refl; used = k.used; out = k.out; holds = k.holds; named = k.named; proper = k.proper }
 
 -- what follows a part of whose result something is known
 pub ends_then : {A B : Type 0} (P : A → World → Type 0) (Q : B → World → Type 0) (r : Outcome A) (f : A → World → Outcome B) → Ends P r → ((a : A) (v : World) → P a v → Ends Q (f a v)) → Ends Q (and_then r f)
@@ -223,7 +235,7 @@ ends_leave R w P (Over e) f p q = over R w e
 
 -- all calls are kept, hence what is looked at of them
 pub weaker : (R : List Frame → List Frame) {A : Type 0} (w : World) (r : Outcome A) → Leaves (λ fs. fs) w r → Leaves R w r
-weaker R w (Done a v) k = done R a w v (record { frames = ap R k.keeps.frames; used = k.keeps.used; holds = k.keeps.holds; named = k.keeps.named; proper = k.keeps.proper })
+weaker R w (Done a v) k = done R a w v (record { frames = ap R k.keeps.frames; used = k.keeps.used; out = k.keeps.out; holds = k.keeps.holds; named = k.keeps.named; proper = k.keeps.proper })
 weaker R w (Over e) k = over R w e
 
 -- what is born has a number that no object had that was held
@@ -262,6 +274,7 @@ module _ (R : List Frame → List Frame) where
   names id o w v p n born = record {
     frames = p.frames;
     used = p.used;
+    out = more (Name id o) v ∙ p.out;
     holds = λ i size h.
         let q = p.holds i size h in
         record { object = q.object; there = q.there; live = q.live; bytes = q.bytes; heap = q.heap; unnamed = (n i size h, q.unnamed) };
@@ -273,6 +286,7 @@ module _ (R : List Frame → List Frame) where
   unnames id w v p = record {
     frames = p.frames;
     used = p.used;
+    out = more (Unname id) v ∙ p.out;
     holds = λ i size h.
         let q = p.holds i size h in
         record { object = q.object; there = q.there; live = q.live; bytes = q.bytes; heap = q.heap; unnamed = less_named v.names id i q.unnamed };
@@ -303,4 +317,4 @@ lined_calls line [] = refl
 lined_calls line (f ∷ fs) = refl
 
 pub line_kept : (home : List ℕ) (line enter : ℕ) (w : World) → Kept calls w (pass (Happens (At home line enter)) w)
-line_kept home line enter w = record { frames = lined_calls line w.frames; used = refl; holds = λ i size h. h; named = λ k. k; proper = λ k. k }
+line_kept home line enter w = record { frames = lined_calls line w.frames; used = refl; out = more (Happens (At home line enter)) w; holds = λ i size h. h; named = λ k. k; proper = λ k. k }

@@ -5,7 +5,8 @@ use Rattle.sc_program.specs.declared.storage.StaticId.{StaticId}
 use Rattle.sc_core.specs.declared.module.Auto.{Auto}
 use Rattle.sc_rules.specs.Tests.{is_heap}
 use Rattle.sc_meaning.specs.Values.{Number, FunctionAt, Pointer, Cell, Unwritten, Byte, Piece}
-use Rattle.sc_meaning.specs.World.{World, Object, Frame, object_at, on_innermost}
+use Rattle.sc_meaning.specs.Marks.{out_after}
+use Rattle.sc_meaning.specs.World.{World, Object, Frame, Item, object_at, on_innermost}
 use Rattle.sc_meaning.specs.Outcomes.{Outcome, Done, Over}
 
 -- a number is none of these; no name stands for an object
@@ -69,11 +70,20 @@ calls fs = on_innermost unlined fs
 abbrev pub none : List Frame → List Frame
 none fs = []
 
+-- how many calls have gone out and not come back, as some things happen; in a world
+abbrev pub out_along : List Item → ℕ → ℕ
+out_along [] out = out
+out_along (i ∷ is) out = out_along is (out_after i out)
+
+abbrev pub are_out : World → ℕ
+are_out w = out_along w.trail 0
+
 -- From one world to a later one: what is looked at of the calls is the same, the stack used too, and each object that was held is held, with
--- its size. What it holds may have changed.
+-- its size. What it holds may have changed. As many calls are out: what went out came back.
 pub record Kept (part : List Frame → List Frame) (w v : World) : Type 0 where
   pub frames : part v.frames ≡ part w.frames
   pub used : v.used ≡ w.used
+  pub out : are_out v ≡ are_out w
   pub holds : (id size : ℕ) → Holds w id size → Holds v id size
   pub named : IsNamed w → IsNamed v
   pub proper : IsProper w → IsProper v

@@ -15,7 +15,8 @@ ghost use Rattle.sc_keep_calls.specs.Kept.{Ends, IsNamed, IsProper, Kept, Leaves
 ghost use Rattle.sc_keep_calls.specs.Open.{IsOpen};
 
 /// A call, and an expression, leaves the active calls as they were; a statement, however it is left, all but the line of its own call: so
-/// the blocks that are open are the same. Each leaves the stack used as it was, and the objects of open blocks alive, with their sizes.
+/// the blocks that are open are the same. Each leaves the stack used as it was, as many calls out as there were, and the objects of open blocks
+/// alive, with their sizes.
 /// It holds at every bound and under any history.
 #[tactic(auto, using(crate::proofs::Whole::call_keeps, crate::proofs::Whole::eval_keeps, crate::proofs::Whole::exec_keeps, crate::proofs::Whole::turn_keeps, crate::proofs::Whole::resume_keeps))]
 pub fn calls_leave_frames()
