@@ -59,6 +59,30 @@ is_over state.Idle = true
 is_over state.Ended = true
 is_over _ = false
 
+-- ---- a run that ended is forgotten as another begins, and the text of an evaluation
+
+abbrev pub unended : State → State
+unended state.Ended = state.Idle
+unended s = s
+
+-- no change of the modules is kept where no run goes on
+abbrev pub past_going : Bool → List (List Present) → List (List Present)
+past_going over past = if over then [] else past
+
+abbrev pub come_going : Bool → ℕ → ℕ
+come_going over come = if over then 0 else come
+
+abbrev pub evaluating_going : Bool → Option Text → Option Text
+evaluating_going over t = if over then None else t
+
+abbrev pub forgotten : Plain → Plain
+forgotten session = record session {
+  past = past_going (is_over session.state) session.past;
+  come = come_going (is_over session.state) session.come;
+  state = unended session.state;
+  evaluating = evaluating_going (is_over session.state) session.evaluating;
+}
+
 -- ---- the versions of the texts in a run
 
 abbrev pub all_texts : List (List Present) → List (List Text)

@@ -17,6 +17,7 @@ use Rattle.sc_words.specs.declared.answer.Answer.{Answer}
 use Rattle.sc_words.specs.declared.answer.Answer.TheVariants as answer
 use Rattle.sc_words.specs.declared.denied.Denied.TheVariants as denied
 use Rattle.sc_world.specs.declared.post.Unsent.{Unsent}
+use Rattle.sc_session.specs.Changing.{forgotten}
 use Rattle.sc_session.specs.Going.{BeginFirst, BeginsSo, Gains}
 use Rattle.sc_session.specs.Mixing.{MixedBegins}
 use Rattle.sc_session.specs.Modules.{kept_named, texts}
@@ -42,9 +43,9 @@ pub record Asks (session : Plain) (name line : List ℕ) (t : Text) : Type 0 whe
   pub starts : Starts kept.tokens name line evaluation
   pub same : t ≡ text_of session.loaded name evaluation
 
--- the session in which this text evaluates an expression
+-- the session in which this text evaluates an expression: a run that ended is forgotten
 abbrev pub with_text : Text → Plain → Plain
-with_text t session = record session { evaluating = Some t }
+with_text t session = record (forgotten session) { evaluating = Some t }
 
 -- why there is none: the line is refused
 abbrev pub IsRefused : Plain → List ℕ → List ℕ → Fault → Type 0

@@ -33,7 +33,7 @@ use Rattle.sc_session.specs.declared.linking.ImageFault.{ImageFault}
 use Rattle.sc_session.specs.declared.linking.ImageFault.TheVariants as short
 use Rattle.sc_session.specs.declared.state.State.{State}
 use Rattle.sc_session.specs.declared.state.State.TheVariants as state
-use Rattle.sc_session.specs.Changing.{at_rest, is_over, stays, versions, with_modules}
+use Rattle.sc_session.specs.Changing.{at_rest, forgotten, stays, versions, with_modules}
 use Rattle.sc_session.specs.Modules.{texts, object_named, present_of}
 use Rattle.sc_session.specs.Plain.{Plain}
 use Rattle.sc_session.specs.declared.present.Present.{Present}
@@ -351,32 +351,9 @@ Carried old command.Cont front said new = WalksBy (is_mixed old.session.state) o
 Carried old command.StepOne front said new = (front ≡ []) × CarriesOne old.session said new.session × SameFiles old new
 Carried old c front said new = (front ≡ []) × Does old c said new
 
--- a run that ended is forgotten as another is asked for, and the text of an evaluation
-abbrev pub unended : State → State
-unended state.Ended = state.Idle
-unended s = s
-
--- no change of the modules is kept where no run goes on
-abbrev pub past_going : Bool → List (List Present) → List (List Present)
-past_going over past = if over then [] else past
-
-abbrev pub come_going : Bool → ℕ → ℕ
-come_going over come = if over then 0 else come
-
-abbrev pub evaluating_going : Bool → Option Text → Option Text
-evaluating_going over t = if over then None else t
-
-abbrev pub forgotten : Plain → Plain
-forgotten session = record session {
-  past = past_going (is_over session.state) session.past;
-  come = come_going (is_over session.state) session.come;
-  state = unended session.state;
-  evaluating = evaluating_going (is_over session.state) session.evaluating;
-}
-
+-- a run that ended is forgotten as `run` is asked for, whether it is refused or not
 abbrev pub asked : Command → Plain → Plain
 asked (command.Run file) session = forgotten session
-asked (command.Eval name line) session = forgotten session
 asked _ session = session
 
 -- a refused command leaves the session, and the files are not looked at

@@ -211,10 +211,11 @@ impl Session {
         }
     }
 
-    // A text evaluates an expression from here on.
+    // A text evaluates an expression from here on; a run that ended is forgotten.
     fn put_evaluation(&mut self, text: Text)
         ensures { self.new ≡ spec.with_text text self.old }
     {
+        self.forget();
         drop(mem::replace(&mut self.evaluating, Some(text)));
     }
 }

@@ -162,7 +162,7 @@ impl Session {
         drop(self);
     }
 
-    /// Carries out a command. A refused command leaves the session as it was, but that `run` and `eval` forget a run that ended. What the program
+    /// Carries out a command. A refused command leaves the session as it was, but that `run` forgets a run that ended. What the program
     /// writes goes out while it goes on, whenever much of it waits: the answer is what is left to be written behind it.
     ///
     /// # Errors
@@ -217,20 +217,21 @@ impl Session {
         }
     }
 
-    // A run that ended is forgotten as another is asked for.
+    // A run that ended is forgotten as `run` is asked for.
     fn ask(&mut self, go: &Go)
         ensures { self.new ≡ spec.asked (asking.go_command go.now) self.old }
     {
         match go {
             Go::Run(_) => self.forget(),
-            Go::Eval(..) => self.forget(),
+            Go::Eval(..) => {}
             Go::Walk(_) => {}
             Go::One => {}
         }
     }
 
-    fn forget(&mut self)
-        ensures { self.new ≡ spec.forgotten self.old }
+    // A run that ended is forgotten, with the text of an evaluation.
+    pub(crate) fn forget(&mut self)
+        ensures { self.new ≡ changing.forgotten self.old }
     {
         if is_over(&self.state) {
             self.rest();

@@ -57,7 +57,7 @@ use Rattle.sc_session.specs.declared.limits.Limits.{Limits}
 use Rattle.sc_session.specs.declared.state.State.{State}
 use Rattle.sc_session.specs.declared.state.State.TheVariants as state
 use Rattle.sc_session.specs.Plain.{Plain}
-use Rattle.sc_session.specs.Changing.{all_texts, at_rest, caught_up, come_with, gone_through, is_over, past_with, settled, state_with, stays, through, versions_by}
+use Rattle.sc_session.specs.Changing.{all_texts, at_rest, caught_up, come_going, come_with, evaluating_going, forgotten, gone_through, is_over, past_going, past_with, settled, state_with, stays, through, unended, versions_by}
 use Rattle.sc_session.specs.States.{if_absent, or_else, refusal_of, starting, stepping}
 use Rattle.sc_session.specs.Loading.{in_place, with_module, file_of, file_or}
 use Rattle.sc_session.specs.Modules.{texts, present_of}
@@ -72,7 +72,7 @@ use Rattle.sc_session.specs.Going as going
 use Rattle.sc_session.specs.Going.{in_state, IsCutOff, IsGivenUp, cut_off, RunsIn, Went}
 use Rattle.sc_session.specs.Probing.{Drops, without_probe}
 use Rattle.sc_session.specs.Single.{CarriesOne, SingleWent, single_state}
-use Rattle.sc_session.specs.Transcript.{Moment, moment, empty, Loads, Edits, Swaps, joined, replaced, unloaded, swapped, forgotten, come_going, evaluating_going, past_going, unended, asked, Unloads, RunFirst, Runs, MixedRuns, RunsBy, Carried, Decides, AnswersTo}
+use Rattle.sc_session.specs.Transcript.{Moment, moment, empty, Loads, Edits, Swaps, joined, replaced, unloaded, swapped, asked, Unloads, RunFirst, Runs, MixedRuns, RunsBy, Carried, Decides, AnswersTo}
 use Rattle.sc_session.specs.Valued.{going_stops, going_texts, is_valued, stops_by, with_evaluation}
 use Rattle.sc_session_laws.specs.Courses.{Begins, ChangesSo, ChangeTells, Course, EvalTells, EvaluatesSoBy, Stays, Stands, StandsIn, StandsSo, changed_by, changed_course, RunsSoBy, WalksSoBy, RunTells, WalkTells, Tells, IsTold}
 use Rattle.sc_session_laws.specs.Follows.{behind_changes, course_of, Follows, FollowsIn, FollowsOn, FollowsThere, Keeps, LeanText}
@@ -361,7 +361,6 @@ forgotten_keeps session run k =
 
 asked_keeps : (c : Command) (session : Plain) (run : Option Course) → Keeps session run → Keeps (asked c session) run
 asked_keeps (command.Run file) session run k = forgotten_keeps session run k
-asked_keeps (command.Eval name line) session run k = forgotten_keeps session run k
 asked_keeps _ session run k = k
 
 -- another begins where no change is kept, and no evaluation
@@ -385,6 +384,15 @@ all_come : (s : State) (past : List (List Present)) (come : ℕ) → starting (u
 all_come s past come free =
     let p = begins_alone s past come free in
     p.1 ∙ sym (ap length p.0)
+
+-- where another may begin, it may once the ended one is forgotten
+unended_free : (s : State) → starting s ≡ None → starting (unended s) ≡ None
+unended_free state.Idle free = free
+unended_free (state.Stopped r) free = free
+unended_free (state.Paused r) free = free
+unended_free (state.StoppedMixed w) free = free
+unended_free (state.PausedMixed w) free = free
+unended_free state.Ended free = refl
 
 -- ---- a go
 
@@ -692,15 +700,12 @@ module _ (old : Moment) (run : Option Course) (k : Keeps (forgotten old.session)
   EvalTellsBy b front (answer.Ran text) after = EvaluatesSoBy b old name line front text after
   EvalTellsBy b front _ after = Stays run after
 
-  module _ (t : Text) (asks : Asks (forgotten old.session) name line t) where
+  module _ (t : Text) (asks : Asks old.session name line t) where
     abbrev inside : Plain
-    inside = with_text t (forgotten old.session)
+    inside = with_text t old.session
 
     text_lean : LeanText (Some t)
     text_lean = subst (λ u. LeanText (Some u)) (sym asks.same) (eval_lean asks.kept.tokens name line old.session.loaded asks.evaluation asks.starts)
-
-    asked_there : Asks old.session name line t
-    asked_there = record { kept = asks.kept; found = asks.found; evaluation = asks.evaluation; starts = asks.starts; same = asks.same }
 
     kept_there : Keeps inside run
     kept_there =
@@ -710,7 +715,7 @@ module _ (old : Moment) (run : Option Course) (k : Keeps (forgotten old.session)
     source_tells front (answer.Ran text) new b =
         let p = starts inside (eval_key name) [] front text new (all_come old.session.state old.session.past old.session.come free) k.0 text_lean
         (no_internal (texts old.session.modules ++ t ∷ []) name eval_name) b in
-        (p.2.0, (t, asked_there, (p.0, p.1, p.2.1)), p.2.2)
+        (p.2.0, (t, asks, (p.0, p.1, p.2.1)), p.2.2)
     source_tells front answer.NoMemory new cut = cut_keeps (going.BeginFirst inside (eval_key name) []) inside new front run kept_there cut
     source_tells front _ new p = absurd p
 
@@ -728,13 +733,13 @@ module _ (old : Moment) (run : Option Course) (k : Keeps (forgotten old.session)
   eval_told front (answer.Ran text) after p = p
   eval_told front _ after p = p
 
-  eval_still : (front : List ℕ) (said : Answer) → Unevaluated (forgotten old.session) name line said → EvalTells old run name line front said run
+  eval_still : (front : List ℕ) (said : Answer) → Unevaluated old.session name line said → EvalTells old run name line front said run
   eval_still front (answer.Ran text) p = absurd p
   eval_still front _ p = same_run run
 
-  evals : (front : List ℕ) (said : Answer) (new : Plain) → Evaluates (forgotten old.session) name line front said new → (after : Option Course) × EvalTells old run name line front said after × Keeps new after
-  evals front said new (inl (none, is, p)) = (run, eval_still front said p, moved (forgotten old.session) new run is k)
-  evals front said new (inr (t, asks, p)) =
+  evals : Keeps old.session run → (front : List ℕ) (said : Answer) (new : Plain) → Evaluates old.session name line front said new → (after : Option Course) × EvalTells old run name line front said after × Keeps new after
+  evals here front said new (inl (none, is, p)) = (run, eval_still front said p, moved old.session new run is here)
+  evals here front said new (inr (t, asks, p)) =
       let e = evals_by t asks (are_sources (texts old.session.modules)) front said new p in
       (e.0, eval_told front said e.0 e.1, e.2)
 
@@ -764,7 +769,8 @@ carried old run k (command.Swap name f) front said new free a (none, p) = swaps 
 carried old run k (command.SwapFast name) front said new free a (none, p) = swaps old run k name form.Object choice.Fast said new p
 carried old run k (command.Edit name file) front said new free a (none, p) = edits old run k name (file_or name file) said new p
 carried old run k (command.Run file) front said new free a p = runs old run a (all_come old.session.state old.session.past old.session.come free) (begins_plain old.session.state old.session.evaluating free) file front said new p
-carried old run k (command.Eval name line) front said new free a p = evals old run a (no_first_reason (starting (unended old.session.state)) (if_absent name (texts old.session.modules)) free) name line front said new.session p.0
+carried old run k (command.Eval name line) front said new free a p =
+    evals old run (forgotten_keeps old.session run k) (unended_free old.session.state (no_first_reason (starting old.session.state) (if_absent name (texts old.session.modules)) free)) name line k front said new.session p.0
 carried old run k (command.Stop place) front said new free a (none, p) = (run, same_run run, sets old run k place said new.session p.0)
 carried old run k (command.Delete n) front said new free a (none, p) = (run, same_run run, moved (without_stop n old.session) new.session run p.1 k)
 carried old run k (command.Compile name) front said new free a (none, p) = (run, same_run run, moved old.session new.session run p.0 k)

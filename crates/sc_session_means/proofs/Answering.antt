@@ -38,7 +38,7 @@ use Rattle.sc_session.specs.declared.limits.Limits.{Limits}
 use Rattle.sc_session.specs.declared.present.Present.{Present}
 use Rattle.sc_session.specs.declared.state.State.{State}
 use Rattle.sc_session.specs.declared.state.State.TheVariants as state
-use Rattle.sc_session.specs.Changing.{at_rest, caught_up, come_with, is_over, past_with, state_with, stays, versions_by, versions_left}
+use Rattle.sc_session.specs.Changing.{at_rest, caught_up, come_going, come_with, evaluating_going, forgotten, is_over, past_going, past_with, state_with, stays, unended, versions_by, versions_left}
 use Rattle.sc_session.specs.Evaluating.{Evaluates}
 use Rattle.sc_session.specs.Going as going
 use Rattle.sc_session.specs.Going.{IsCutOff, IsGivenUp, in_state}
@@ -52,7 +52,7 @@ use Rattle.sc_session.specs.Single.{CarriesOne, SingleWent, single_state}
 use Rattle.sc_session.specs.States.{refusal_of, starting}
 use Rattle.sc_session.specs.Loading.{file_of, file_or}
 use Rattle.sc_session.specs.Stopping.{Sets, places, with_stop, without_stop}
-use Rattle.sc_session.specs.Transcript.{AnswersTo, Carried, Decides, Edits, Loads, MixedRuns, Moment, Runs, RunsBy, RunFirst, Swaps, Unloads, asked, come_going, empty, evaluating_going, forgotten, joined, moment, past_going, replaced, swapped, unended, unloaded}
+use Rattle.sc_session.specs.Transcript.{AnswersTo, Carried, Decides, Edits, Loads, MixedRuns, Moment, Runs, RunsBy, RunFirst, Swaps, Unloads, asked, empty, joined, moment, replaced, swapped, unloaded}
 use Rattle.sc_session.specs.Valued.{going_texts, is_valued, stops_by, with_evaluation}
 use Rattle.sc_session_means.specs.Follows.{FollowsIn, FollowsThere, Keeps, StandsNow, Waits}
 use Rattle.sc_session_means.specs.Sessions.{ArePlaced, ChangeTells, EvalTells, GoesFirst, GoesFrom, IsTold, Placing, RunTells, RunsSoBy, Stays, Tells, WalkTells, WalksSoBy, changed_run, kept_at, kept_by, left_by}
@@ -444,7 +444,6 @@ module _ (at : Placing) where
 
   asked_keeps : (c : Command) (session : Plain) (run : Option Course) → Keeps at session run → Keeps at (asked c session) run
   asked_keeps (command.Run file) session run k = unended_follows session.evaluating session.past session.come session.modules session.state run k
-  asked_keeps (command.Eval name line) session run k = unended_follows session.evaluating session.past session.come session.modules session.state run k
   asked_keeps _ session run k = k
 
   -- a run that begins by `run` is no evaluation
@@ -538,7 +537,7 @@ module _ (at : Placing) where
   carried old run k (command.SwapFast name) front said new free a (none, p) = swaps old run k name form.Object choice.Fast said new p
   carried old run k (command.Edit name file) front said new free a (none, p) = edits old run k name (file_or name file) said new p
   carried old run k (command.Run file) front said new free a p = runs old run a (begins_plain old.session.state old.session.evaluating free) file front said new p
-  carried old run k (command.Eval name line) front said new free a p = evals (asked (command.Eval name line) old.session) new.session run a name line front said p.0
+  carried old run k (command.Eval name line) front said new free a p = evals old.session new.session run k name line front said p.0
   carried old run k (command.Stop place) front said new free a (none, p) = (run, refl, sets old run k place said new.session p.0)
   carried old run k (command.Delete n) front said new free a (none, p) = (run, refl, moved (without_stop n old.session) new.session run p.1 k)
   carried old run k (command.Compile name) front said new free a (none, p) = (run, refl, moved old.session new.session run p.0 k)

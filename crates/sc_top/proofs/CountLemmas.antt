@@ -180,7 +180,7 @@ carried old (command.Stop place) front said new free (none, p) = stays _ _ (sets
 carried old (command.Delete n) front said new free (none, p) = stays _ _ (ap (λ (s : Plain). s.probes) p.1)
 carried old (command.Compile name) front said new free (none, p) = stays _ _ (same old.session new.session p.0)
 carried old (command.CompileFast name) front said new free (none, p) = stays _ _ (same old.session new.session p.0)
-carried old (command.Eval name line) front said new free p = stays _ _ (evaluates (asked (command.Eval name line) old.session) name line front said new.session p.0)
+carried old (command.Eval name line) front said new free p = stays _ _ (evaluates old.session name line front said new.session p.0)
 carried old command.Step front said new free p = stays _ _ (walks (is_mixed old.session.state) old.session walk.Step front said new.session p.0)
 carried old command.Next front said new free p = stays _ _ (walks (is_mixed old.session.state) old.session walk.Next front said new.session p.0)
 carried old command.Cont front said new free p = stays _ _ (walks (is_mixed old.session.state) old.session walk.Cont front said new.session p.0)
@@ -210,7 +210,6 @@ gone_unread (Some k) = refl
 
 asked_count : (c : Command) (session : Plain) → (asked c session).probes ≡ session.probes
 asked_count (command.Run file) session = refl
-asked_count (command.Eval name line) session = refl
 asked_count _ session = refl
 
 decided : (o : Option Denied) (old : Moment) (c : Command) (front : List ℕ) (said : Answer) (new : Moment) → refusal_of (asked c old.session) c ≡ o → Decides o (moment (asked c old.session) old.held old.faults) c front said new
