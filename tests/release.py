@@ -3,10 +3,10 @@
 
 usage: tests/release.py PROGRAM
 
-If it is of the sources of this tree and of this toolchain, it is compared with the built program, without symbols, and
-gives every stored transcript: those of tests/programs.py, tests/violations.py and tests/tour.py. If the two programs
-differ it is said where; the transcripts decide then. A release of other sources, which the script `saber`
-runs with a warning, is held to its sum alone.
+It has to be whole, and of the sources of this tree and of this toolchain: release/renew.sh makes it so, also where only
+laws have changed, so that `./saber` of a fresh checkout says nothing but answers. It is compared with the built program,
+without symbols, and gives every stored transcript: those of tests/programs.py, tests/violations.py and tests/tour.py. If
+the two programs differ it is said where; the transcripts decide then.
 The last line is 'N passed, M failed'.
 """
 import hashlib
@@ -30,21 +30,26 @@ def first_difference(one, other):
     return f"first at byte {at + 1}; {len(one)} and {len(other)} bytes"
 
 
-def compared(program, known):
-    """What the comparison with the built program says, and whether the release is of these sources."""
+def faults(known):
+    """What is wrong with the release: it is damaged, or of another toolchain or other sources."""
+    if hashlib.sha256((FOLDER / "saber").read_bytes()).hexdigest() != known.get("program"):
+        yield "release/saber is not the program that release/SOURCES names"
     toolchain = subprocess.run(["rt", "version"], capture_output=True, text=True).stdout.strip()
     if toolchain != known.get("toolchain"):
-        return f"release/saber is of another toolchain ({known.get('toolchain')}): only its sum is compared", False
-    words = [FOLDER / "sum.sh", toolchain]
-    if subprocess.run(words, capture_output=True, text=True).stdout.strip() != known.get("sources"):
-        return "release/saber is of other sources: only its sum is compared", False
+        yield f"release/saber is of another toolchain ({known.get('toolchain')}): release/renew.sh makes it anew"
+    elif subprocess.run([FOLDER / "sum.sh", toolchain], capture_output=True, text=True).stdout.strip() != known.get("sources"):
+        yield "release/saber is of other sources: release/renew.sh makes it anew"
+
+
+def compared(program):
+    """What the comparison with the built program says."""
     with tempfile.TemporaryDirectory() as room:
         stripped = pathlib.Path(room, "saber")
         subprocess.run([FOLDER / "strip.sh", program, stripped], check=True)
         built, released = stripped.read_bytes(), (FOLDER / "saber").read_bytes()
     if built == released:
-        return "release/saber is byte for byte the program that was built", True
-    return f"release/saber and the built program differ, {first_difference(released, built)}: transcripts decide", True
+        return "release/saber is byte for byte the program that was built"
+    return f"release/saber and the built program differ, {first_difference(released, built)}: transcripts decide"
 
 
 def main():
@@ -54,13 +59,12 @@ def main():
     if not known or not released.is_file():
         print("FAIL: release/saber or release/SOURCES is missing\n0 passed, 1 failed")
         return 1
-    whole = hashlib.sha256(released.read_bytes()).hexdigest() == known.get("program")
-    if not whole:
-        print("FAIL: release/saber is not the program that release/SOURCES names")
-    said, is_current = compared(pathlib.Path(sys.argv[1]).resolve(), known)
-    print(said)
-    passed, failed = int(whole), int(not whole)
-    for script in ("programs.py", "violations.py", "tour.py") if is_current else ():
+    wrong = list(faults(known))
+    for fault in wrong:
+        print(f"FAIL: {fault}")
+    print(compared(pathlib.Path(sys.argv[1]).resolve()))
+    passed, failed = int(not wrong), len(wrong)
+    for script in ("programs.py", "violations.py", "tour.py"):
         ran = subprocess.run([ROOT / "tests" / script, released], capture_output=True, text=True)
         print(ran.stdout, end="")
         sums = re.search(r"(\d+) passed, (\d+) failed\n\Z", ran.stdout)
