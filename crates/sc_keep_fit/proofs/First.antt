@@ -1,6 +1,6 @@
 -- The memory of a world as a run begins has nothing in it, so all that is asked of it holds; and where there is no stub no call crosses.
-use Rattle.std.proofs.Common.{◌≡◌, ℕ, zero, suc, ◌+◌, ◌-◌, ◌^◌, ◌<◌, ◌≤◌, true, List, [], ◌∷◌, replicate, None, Some, Option, refl, sym, ap, subst, ◌∙◌, arith}
-use Rattle.std.specs.Prelude.{Contains, IfSome, length, map, slice_get, slice_index, slice_index_or}
+use Rattle.std.proofs.Common.{◌≡◌, ℕ, zero, suc, ◌+◌, ◌-◌, ◌^◌, ◌≤◌, true, List, [], ◌∷◌, replicate, None, Some, Option, refl, sym, ap, subst, ◌∙◌, arith}
+use Rattle.std.specs.Prelude.{Contains, IfSome, length, map, slice_index, slice_index_or}
 use Rattle.sc_mem_store.proofs.Lists.{from-replicate}
 use Rattle.sc_base.specs.declared.key.Key.{Key}
 use Rattle.sc_base.specs.declared.memory.Cell.{Cell as Stored}
@@ -105,6 +105,7 @@ first_fit s texts image places births there heap stack once stubs few =
       above = tt;
       inner = omega arith;
       forms = refl;
+      aligned = refl;
       free = λ at low high. subst (λ m. bare_in m at) (sym there) (λ id p l. absurd (nothing_there id p l.0));
     }
 
@@ -117,18 +118,18 @@ same_cell table (Frag whole tag k) x = x
 
 pub fit_words : (texts : List Text) (image : Image) (places : List (StaticId × ℕ)) (lower : List Lower) (w : World) → IsFit texts image places lower w → HoldsWords w × AreStubs w.beside.functions (stub_of w.beside.functions)
 fit_words texts image places lower w f = (
-    record {
-      memory = f.memory;
-      there = f.is;
-      words = record {
-        held = record { holds = f.holds; blocks = f.memory.blocks; safe = f.of.safe };
-        cells = λ at c e. same_cell f.memory.flat.objects c (f.of.cells at c e);
-        seated = λ id p e. ((f.of.seated id p e).0, (f.of.seated id p e).1, (f.below id p e).1);
-        known = f.of.known;
-      };
-    },
-    stubs_are w.beside.functions f.once f.few,
-  )
+  record {
+    memory = f.memory;
+    there = f.is;
+    words = record {
+      held = record { holds = f.holds; blocks = f.memory.blocks; safe = f.of.safe };
+      cells = λ at c e. same_cell f.memory.flat.objects c (f.of.cells at c e);
+      seated = λ id p e. ((f.of.seated id p e).0, (f.of.seated id p e).1, (f.below id p e).1);
+      known = f.of.known;
+    };
+  },
+  stubs_are w.beside.functions f.once f.few,
+)
 
 -- ---- the forms of calls
 
@@ -149,4 +150,4 @@ no_stub image key stub none some = no (sym none ∙ some)
     no e = cc (e)
 
 pub no_stubs : (s : Stage) → ((key : Key) → is_code (callee_of (texts_of s.past) key) ≡ true → value_of s.image key ≡ None) → CallsMean s
-no_stubs s none n key xs c d w u v next code fit like x alike late q given = absurd (no_stub s.image key x.stub (none key code) x.stands)
+no_stubs s none n key xs c d w u v next code fit like x are alike late q given = absurd (no_stub s.image key x.stub (none key code) x.stands)

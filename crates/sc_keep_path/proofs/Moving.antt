@@ -1,20 +1,20 @@
 -- One move of compiled code: a place means what the places behind the move mean. Where the next step of the meaning is an undefined one, a place
 -- means it as it stands. What is not seen may pass before.
-use Rattle.std.proofs.Common.{◌≡◌, ◌⊎◌, inl, inr, ℕ, zero, suc, ◌+◌, ◌<◌, ◌≤◌, Bool, true, false, List, [], ◌∷◌, ◌++◌, append-nil, arith, refl, sym, ap, ◌∙◌, subst, Option, Some, None}
-use Rattle.std.specs.Prelude.{Result, Ok, Err, map}
+use Rattle.std.proofs.Common.{◌≡◌, ◌⊎◌, inl, inr, ℕ, zero, suc, ◌+◌, ◌-◌, ◌<◌, ◌≤◌, Bool, true, false, if◌then◌else◌, nat_lt, List, [], ◌∷◌, append-nil, arith, refl, sym, ap, ◌∙◌, subst}
+use Rattle.std.proofs.lemmas.Bool.Decides.{nat_tests}
+use Rattle.std.specs.Prelude.{Ok, Err, map}
 use Rattle.sc_emu.specs.declared.outcome.Crash.{Crash}
 use Rattle.sc_emu.specs.Registers.{Registers}
 use Rattle.sc_meaning.specs.Expressions.{Answer}
 use Rattle.sc_meaning.specs.Laws.{Leads}
-use Rattle.sc_meaning.specs.Outcomes.{Outcome, Done, Ending, Over, Undefined, Breach, world_after, world_at}
+use Rattle.sc_meaning.specs.Outcomes.{Done, Over, Undefined, Breach, world_after, world_at}
 use Rattle.sc_meaning.specs.Versions.{History}
 use Rattle.sc_meaning.specs.World.{Item, World, Work, pass}
 use Rattle.sc_meaning.proofs.Steps.{here, on, one_more}
-use Rattle.sc_like.specs.Alike.{Like, Shown, shown_of, with_item}
+use Rattle.sc_like.specs.Alike.{Like, Shown, shown_of}
 use Rattle.sc_like.specs.Unseen.{TellsForms, form_of, is_unseen}
-use Rattle.sc_like.proofs.Hiding.{like_back, like_on, like_same, passes_unseen}
+use Rattle.sc_like.proofs.Hiding.{like_on, like_same, passes_unseen}
 use Rattle.sc_like.proofs.Keeping.{shown_more}
-use Rattle.sc_interp.specs.declared.going.Going.TheVariants as going
 use Rattle.sc_interp_access.specs.Gives.{ending_of}
 use Rattle.sc_interp_access.specs.declared.stop.Stop.{Stop}
 use Rattle.sc_interp.specs.declared.stepped.Shown.{Shown as Told}
@@ -30,15 +30,15 @@ use Rattle.sc_mixed.specs.declared.calls.Lower.{Lower}
 use Rattle.sc_mixed.specs.declared.calls.Lower.TheVariants.{InBodies, InCode}
 use Rattle.sc_mixed.specs.declared.calls.Moved.{Moved}
 use Rattle.sc_mixed.specs.declared.calls.Next.{Next}
-use Rattle.sc_mixed.specs.declared.calls.Next.TheVariants.{Executes, Steps}
+use Rattle.sc_mixed.specs.declared.calls.Next.TheVariants.{Executes}
 use Rattle.sc_mixed.specs.declared.execute.Went.{Went}
 use Rattle.sc_mixed.specs.declared.execute.Went.TheVariants as went
-use Rattle.sc_mixed_means.specs.Owed.{CodeAfter, CodeGoes, CodeMeans, CodeMoved, CodeReturns, EndsSo, IsCode, IsLost, Lead, PlaceDue, PlaceOwes, code_back, code_on, is_own_step}
-use Rattle.sc_mixed_means.specs.Stages.{Build, Gives, IsPartOf, Live, Past, Stage, Then, next_stage, texts_of}
+use Rattle.sc_mixed_means.specs.Owed.{CodeAfter, CodeMeans, CodeMoved, CodeReturns, EndsSo, IsCode, IsLost, Lead, PlaceDue, code_back, code_on, is_own_step}
+use Rattle.sc_mixed_means.specs.Stages.{Build, Gives, IsPartOf, Live, Past, Stage, texts_of}
 use Rattle.sc_mixed_means.specs.Waiting.{IsFit, Keeps, KeepsWaiting}
 use Rattle.sc_mixed_means.proofs.Parts.{earlier}
-use Rattle.sc_keep_path.specs.Moves.{GoesBack, GoesOn, GoesOver, NextComes, NextDue}
-use Rattle.sc_keep_path.specs.Parts.{AreSame, DoesAt, Family, Lags, Leading, Means, MeansAt, looking}
+use Rattle.sc_keep_path.specs.Moves.{GoesBack, GoesOn, GoesOver, NextDue}
+use Rattle.sc_keep_path.specs.Parts.{AreSame, Family, Lags, Leading, Means, MeansAt, looking}
 
 -- ---- where the world stays, so does what waits
 
@@ -78,22 +78,24 @@ live_before p v u h l live = earlier p v u h (count_grows v u l) live
 -- ---- a move
 
 module _ (s : Stage) where
-  leads_so : (u : World) (a : Family Answer) (n : ℕ) → Leading u a → (q : Gives s.past u) → ((h : History) (l : Live s.past u h) → (m : ℕ) × (n ≤ m) × (q h l ≡ a h m)) → Lead s.past u q
+  leads_so : (u : World) (a : Family Answer) (n : ℕ) → Leading u a → (q : Gives s.past u) → ((h : History) (l : Live s.past u h) → (m : ℕ) × (s.look.deep n ≤ m) × (q h l ≡ a h m)) → Lead s.past u q
   leads_so u a n leads q is = λ h l. subst (λ o. Leads u (world_after o)) (sym (is h l).2) (leads h (is h l).0)
 
-  -- a number that is not 0 is one more than another
-  one_less : (A : ℕ → Type 0) (n m : ℕ) → suc n ≤ m → A m → (j : ℕ) × (n ≤ j) × A (suc j)
-  one_less A n zero le a = absurd (omega (arith, le))
-  one_less A n (suc j) le a = (j, omega (arith, le), a)
+  -- a move takes a step off
+  one_less : (A : ℕ → Type 0) (n m : ℕ) → s.look.deep (suc n) ≤ m → A m → (j : ℕ) × (s.look.deep n ≤ j) × A (s.look.step + j)
+  one_less A n m le a =
+      let g = s.look.grows n in
+      let e : m ≡ s.look.step + (m - s.look.step) = omega (arith, le, g) in
+      (m - s.look.step, omega (arith, le, g), subst A e a)
 
   module _ (n : ℕ) (v : World) (r : Family Answer) (u : World) (lag : Lags u v) (a : Family Answer) (same : AreSame s v a r)
-      (q : Gives s.past u) (is : (h : History) (l : Live s.past u h) → (m : ℕ) × (suc n ≤ m) × (q h l ≡ a h m)) where
+      (q : Gives s.past u) (is : (h : History) (l : Live s.past u h) → (m : ℕ) × (s.look.deep (suc n) ≤ m) × (q h l ≡ a h m)) where
     -- what is given, where the history can still be had in the later world
-    given : (h : History) (l : Live s.past u h) → Live s.past v h → (j : ℕ) × (n ≤ j) × (q h l ≡ r h (suc j))
+    given : (h : History) (l : Live s.past u h) → Live s.past v h → (j : ℕ) × (s.look.deep n ≤ j) × (q h l ≡ r h (s.look.step + j))
     given h l now = let k = is h l in one_less (λ m. q h l ≡ r h m) n k.0 k.1 (k.2 ∙ same h now k.0)
 
     part_on : (c : Calls) (w : World) (now : Told) (after : Next) (d : Calls) (x : World) (g : GoesOn n s v r c w now after d x) (part : Gives s.past g.stands)
-        → IsPartOf s.past u q s.past g.stands part → (h : History) (l : Live s.past g.stands h) → (m : ℕ) × (n ≤ m) × (part h l ≡ g.rest h m)
+        → IsPartOf s.past u q s.past g.stands part → (h : History) (l : Live s.past g.stands h) → (m : ℕ) × (s.look.deep n ≤ m) × (part h l ≡ g.rest h m)
     part_on c w now after d x g part p h l =
         let k = p h l in
         let j = given h k.0 (live_before s.past v g.stands h g.leads l) in
@@ -125,7 +127,7 @@ module _ (s : Stage) where
     })
 
     returns_so : (ls : List Lower) (cs : List Caller) (sp depth : ℕ) (below : List Lower) → ls ≡ InBodies cs sp depth ∷ below → (answer : Answer) (d : Calls) (x stands : World) → d.callers ≡ cs → d.lower ≡ below → Leads v stands → Like x stands
-        → ((h : History) → Live s.past stands h → (m : ℕ) → r h (suc m) ≡ Done answer stands) → CodeReturns s.past u q ls answer d x
+        → ((h : History) → Live s.past stands h → (m : ℕ) → r h (s.look.step + m) ≡ Done answer stands) → CodeReturns s.past u q ls answer d x
     returns_so ls cs sp depth below e answer d x stands called lower leads alike is_done =
         subst (λ l. CodeReturns s.past u q l answer d x) (sym e)
         (stands, on u v stands lag.leads leads, alike, called, lower, λ h l now. let j = given h l (live_before s.past v stands h leads now) in j.2 ∙ is_done h now j.0)
@@ -173,7 +175,7 @@ module _ (s : Stage) where
           fewer_due [] p = tt
           fewer_due (b ∷ bs) p = record { rest = p.rest; goes = λ y z ch. ((p.goes y z ch).0, λ j lt. (p.goes y z ch).1 j (omega (arith, lt, le))); same = p.same; ends = p.ends }
 
-      by_way : (k : ℕ) → suc k ≤ suc n → (u : World) (lag : Lags u v) (a : Family Answer) (same : AreSame s v a r) (q : Gives s.past u) (is : (h : History) (l : Live s.past u h) → (m : ℕ) × (suc k ≤ m) × (q h l ≡ a h m)) (after : Next) (d : Calls) (x : World) (moved : Moved)
+      by_way : (k : ℕ) → suc k ≤ suc n → (u : World) (lag : Lags u v) (a : Family Answer) (same : AreSame s v a r) (q : Gives s.past u) (is : (h : History) (l : Live s.past u h) → (m : ℕ) × (s.look.deep (suc k) ≤ m) × (q h l ≡ a h m)) (after : Next) (d : Calls) (x : World) (moved : Moved)
           → GoesOn n s v r c w moved.shown after d x ⊎ GoesBack s v r c w moved.shown after d x → KeepsWaiting c.lower w x × CodeMoved (CodeMeans k) (CodeAfter k) (s.look.deep k) s u q c moved.shown after d x
       by_way k le u lag a same q is after d x moved (inl g) = (g.waits, moved_on k v r u lag a same q is c w moved.shown after d x (fewer k (omega (arith, le)) moved.shown after d x g))
       by_way k le u lag a same q is after d x moved (inr g) = (g.waits, moved_back k v r u lag a same q is c w moved.shown after d x g)
@@ -203,7 +205,7 @@ module _ (s : Stage) where
 
   -- an instruction: the meaning goes on to a world that is alike the run's next one, and what waits is kept
   pub instruction_means : (n : ℕ) (c : Calls) (next : Registers) (w x v stands : World) (r rest : Family Answer) → Leading v r → GoesTo c w next x → (IsFit (texts_of s.past) s.image s.places c.lower w → Like w v → Like x stands × KeepsWaiting c.lower w x) → Leads v stands → Leading stands rest
-      → ((h : History) → Live s.past stands h → (m : ℕ) → r h (suc m) ≡ rest h m) → Means s n (with_registers next c) x stands rest → Means s (suc n) c w v r
+      → ((h : History) → Live s.past stands h → (m : ℕ) → r h (s.look.step + m) ≡ rest h m) → Means s n (with_registers next c) x stands rest → Means s (suc n) c w v r
   instruction_means n c next w x v stands r rest leads way keeps on_to leading same means =
       one_move n Executes c w v r leads
       (λ after d y moved fit like mv.
@@ -231,37 +233,64 @@ module _ (s : Stage) where
   pub fewer_moves : (n k : ℕ) (next : Next) (c : Calls) (w v : World) (r : Family Answer) → k ≤ n → MeansAt s n next c w v r → MeansAt s k next c w v r
   fewer_moves n k next c w v r le p = λ j lt. p j (omega (arith, lt, le))
 
-  -- the meaning may look one deeper
-  pub means_later : (n : ℕ) (next : Next) (c : Calls) (w v : World) (r : Family Answer) → Leading v r → MeansAt s n next c w v r → MeansAt s n next c w v (looking suc r)
-  means_later n next c w v r leads p = λ k le u lag a lead_a same q is.
-      p k le u lag (back a) (lead_back u lag a lead_a) (same_back a same) q (λ h l. let j = is h l in (suc j.0, omega (arith, j.1), j.2))
-    where
-      back : Family Answer → Family Answer
-      back a h zero = r h 0
-      back a h (suc m) = a h m
+  -- the meaning may look so much deeper
+  module _ (n step : ℕ) (next : Next) (c : Calls) (w v : World) (r : Family Answer) (leads : Leading v r) where
+    -- what another family gives, from so deep on, and this one before
+    abbrev either_way : Bool → Family Answer → Family Answer
+    either_way b a h m = if b then r h m else a h (m - step)
 
-      lead_back : (u : World) → Lags u v → (a : Family Answer) → Leading u a → Leading u (back a)
-      lead_back u lag a lead_a h zero = on u v (world_after (r h 0)) lag.leads (leads h 0)
-      lead_back u lag a lead_a h (suc m) = lead_a h m
+    abbrev back : Family Answer → Family Answer
+    back a h m = either_way (nat_lt m step) a h m
 
-      same_back : (a : Family Answer) → AreSame s v a (looking suc r) → AreSame s v (back a) r
-      same_back a same h l zero = refl
-      same_back a same h l (suc m) = same h l m
+    lead_either : (u : World) → Lags u v → (a : Family Answer) → Leading u a → (b : Bool) (h : History) (m : ℕ) → Leads u (world_after (either_way b a h m))
+    lead_either u lag a lead_a true h m = on u v (world_after (r h m)) lag.leads (leads h m)
+    lead_either u lag a lead_a false h m = lead_a h (m - step)
 
-  pub credit_means : (n : ℕ) (c : Calls) (next : Registers) (w v : World) (r : Family Answer) → Leading v r → GoesOneWay c next w → Means s n (with_registers next c) w v (looking suc r) → Means s (suc n) c w v r
+    not_less : (m : ℕ) → nat_lt (step + m) step ≡ false
+    not_less m = grind (arith, nat_tests)
+
+    some_more : (m : ℕ) → nat_lt m step ≡ false → step + (m - step) ≡ m
+    some_more m e = grind (arith, nat_tests, e)
+
+    same_either : (a : Family Answer) → AreSame s v a (looking step r) → (h : History) → Live s.past v h → (m : ℕ) (b : Bool) → nat_lt m step ≡ b → either_way b a h m ≡ r h m
+    same_either a same h l m true e = refl
+    same_either a same h l m false e = same h l (m - step) ∙ ap (r h) (some_more m e)
+
+    is_back : (a : Family Answer) (h : History) (m : ℕ) → a h m ≡ back a h (step + m)
+    is_back a h m = let e : step + m - step ≡ m = omega arith in sym (ap (λ b. either_way b a h (step + m)) (not_less m) ∙ ap (a h) e)
+
+    pub means_later : MeansAt s n next c w v r → MeansAt s n next c w v (looking step r)
+    means_later p = λ k le u lag a lead_a same q is.
+        p k le u lag (back a) (λ h m. lead_either u lag a lead_a (nat_lt m step) h m) (λ h l m. same_either a same h l m (nat_lt m step) refl) q
+        (λ h l. let j = is h l in let deep = j.1 in (step + j.0, omega (arith, deep), j.2 ∙ is_back a h j.0))
+
+  pub credit_means : (n : ℕ) (c : Calls) (next : Registers) (w v : World) (r : Family Answer) → Leading v r → GoesOneWay c next w → Means s n (with_registers next c) w v (looking s.look.step r) → Means s (suc n) c w v r
   credit_means n c next w v r leads way means =
-      instruction_means n c next w w v v r (looking suc r) leads way (λ fit like. (like, keeps_waiting c.lower w)) (here v) (λ h m. leads h (suc m)) (λ h l m. refl) means
+      instruction_means n c next w w v v r (looking s.look.step r) leads way (λ fit like. (like, keeps_waiting c.lower w)) (here v) (λ h m. leads h (s.look.step + m)) (λ h l m. refl) means
 
   pub quiet_means : (n : ℕ) (c : Calls) (next : Registers) (w v : World) (r : Family Answer) → Leading v r → GoesOneWay c next w → Means s n (with_registers next c) w v r → Means s n c w v r
   quiet_means n c next w v r leads way means zero le = λ u lag a lead_a same q is. leads_so u a 0 lead_a q is
   quiet_means n c next w v r leads way means (suc k) le =
-      credit_means k c next w v r leads way (means_later k Executes (with_registers next c) w v r leads (fewer_moves n k Executes (with_registers next c) w v r (omega (arith, le)) means)) (suc k) (omega arith)
+      credit_means k c next w v r leads way (means_later k s.look.step Executes (with_registers next c) w v r leads (fewer_moves n k Executes (with_registers next c) w v r (omega (arith, le)) means)) (suc k) (omega arith)
 
   -- ---- no move is left
 
   pub no_moves : (next : Next) (c : Calls) (w v : World) (r : Family Answer) → MeansAt s 0 next c w v r
   no_moves next c w v r zero le = λ u lag a lead_a same q is. leads_so u a 0 lead_a q is
   no_moves next c w v r (suc k) le = absurd (omega (arith, le))
+
+  -- ---- memory is fit at each move, so a place means what it means if it is
+
+  pub with_fit : (n : ℕ) (next : Next) (c : Calls) (w v : World) (r : Family Answer) → (IsFit (texts_of s.past) s.image s.places c.lower w → Like w v → MeansAt s n next c w v r) → MeansAt s n next c w v r
+  with_fit n next c w v r p zero le = λ u lag a lead_a same q is. leads_so u a 0 lead_a q is
+  with_fit n next c w v r p (suc k) le = λ u lag a lead_a same q is. (
+    leads_so u a (suc k) lead_a q is,
+    record {
+      goes = λ after d x moved fit like mv. (p fit (like_on w u v like lag.alike) (suc k) le u lag a lead_a same q is).1.goes after d x moved fit like mv;
+      ends = λ after d x stop fit like mv. (p fit (like_on w u v like lag.alike) (suc k) le u lag a lead_a same q is).1.ends after d x stop fit like mv;
+      crashes = λ after d x pc cause fit like mv. (p fit (like_on w u v like lag.alike) (suc k) le u lag a lead_a same q is).1.crashes after d x pc cause fit like mv;
+    },
+  )
 
   -- ---- an instruction that changes the world, or finds no memory for that
 
@@ -284,7 +313,7 @@ module _ (s : Stage) where
 
   module _ (c : Calls) (next : Registers) (w x v stands : World) (r rest : Family Answer) (way : MayGo c w next x) (leads : Leading v r) (leading : Leading stands rest) (on_to : Leads v stands) (alike : Like x stands) (waits : KeepsWaiting c.lower w x)
       (same : (h : History) → Live s.past stands h → (m : ℕ) → r h m ≡ rest h m) where
-    changed_on : (n : ℕ) → Means s n (with_registers next c) x stands (looking suc rest) → (after : Next) (d : Calls) (y : World) (moved : Moved) → Moves (texts_of s.past) s.image Executes c w (Ok moved) after d y → GoesOn n s v r c w moved.shown after d y
+    changed_on : (n : ℕ) → Means s n (with_registers next c) x stands (looking s.look.step rest) → (after : Next) (d : Calls) (y : World) (moved : Moved) → Moves (texts_of s.past) s.image Executes c w (Ok moved) after d y → GoesOn n s v r c w moved.shown after d y
     changed_on n means after d y moved mv =
         elim (way mv.1.0 mv.1.1 y mv.1.2) [
           | inl none ↦ absurd (no_room_on mv.1.0 mv.1.1 c d y after none mv.1.3)
@@ -298,10 +327,10 @@ module _ (s : Stage) where
                 code = subst IsCode (sym f.0) tt;
                 lower = ap (λ (e : Calls). e.lower) d_is;
                 waits = subst (λ z. KeepsWaiting c.lower w z) (sym o.2) waits;
-                rest = looking suc rest;
-                leading = λ h m. leading h (suc m);
-                means = subst (λ z. MeansAt s n after d z stands (looking suc rest)) (sym o.2) (subst (λ e. MeansAt s n after e x stands (looking suc rest)) (sym d_is) (subst (λ a. MeansAt s n a (with_registers next c) x stands (looking suc rest)) (sym f.0) means));
-                same = λ h l m. same h l (suc m);
+                rest = looking s.look.step rest;
+                leading = λ h m. leading h (s.look.step + m);
+                means = subst (λ z. MeansAt s n after d z stands (looking s.look.step rest)) (sym o.2) (subst (λ e. MeansAt s n after e x stands (looking s.look.step rest)) (sym d_is) (subst (λ a. MeansAt s n a (with_registers next c) x stands (looking s.look.step rest)) (sym f.0) means));
+                same = λ h l m. same h l (s.look.step + m);
                 due = λ e. absurd (subst IsEvent (ap (λ (m : Moved). m.shown) mv.0) e);
               }
         ]
@@ -313,7 +342,7 @@ module _ (s : Stage) where
     changing_means zero means = no_moves Executes c w v r
     changing_means (suc n) means =
         one_move n Executes c w v r leads
-        (λ after d y moved fit like mv. inl (changed_on n (means_later n Executes (with_registers next c) x stands rest leading (fewer_moves (suc n) n Executes (with_registers next c) x stands rest (omega arith) means)) after d y moved mv))
+        (λ after d y moved fit like mv. inl (changed_on n (means_later n s.look.step Executes (with_registers next c) x stands rest leading (fewer_moves (suc n) n Executes (with_registers next c) x stands rest (omega arith) means)) after d y moved mv))
         (λ after d y stop fit like mv. λ e told. absurd (cc (sym (ap (λ t. ending_of t y) mv) ∙ told)))
         (λ after d y pc cause fit like mv. not_crashed d y pc cause mv.0 mv.1 mv.2 mv.3)
 

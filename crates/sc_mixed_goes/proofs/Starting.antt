@@ -1,5 +1,5 @@
 -- A run that starts stands at the first place of a run as the theorem has it.
-use Rattle.std.proofs.Common.{◌≡◌, ℕ, List, [], ◌∷◌, sym, ap, ◌∙◌, subst}
+use Rattle.std.proofs.Common.{◌≡◌, ℕ, List, sym, ap, ◌∙◌, subst}
 use Rattle.std.specs.Prelude.{Result, Ok, Err}
 use Rattle.sc_base.specs.declared.key.Key.{Key}
 use Rattle.sc_interp.specs.declared.stepped.Shown.{Shown}

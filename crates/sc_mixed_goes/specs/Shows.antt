@@ -1,7 +1,7 @@
 -- Yardstick: to be compared with what it restates (docs/TRUST.md).
 -- A run of both forms as the meaning of C has it, and what it shows: the first of what the meaning gives its entry's call under the history of its texts,
 -- where its compiled texts are right. No more is said from an undefined step on that compiled code itself takes.
-use Rattle.std.specs.Prelude.{◌≡◌, ◌⊎◌, ⊤, ℕ, suc, ◌+◌, ◌<◌, ◌≤◌, true, List, [], ◌∷◌, ◌++◌, map, Option, Some}
+use Rattle.std.specs.Prelude.{◌≡◌, ◌⊎◌, ⊤, ℕ, suc, ◌+◌, ◌<◌, ◌≤◌, List, [], ◌∷◌, ◌++◌, map, Option, Some}
 use Rattle.sc_base.specs.declared.key.Key.{Key}
 use Rattle.sc_interp.specs.Ends.{end_of, start_of}
 use Rattle.sc_interp.specs.declared.stepped.Shown.{Shown}

@@ -6,7 +6,7 @@ use Rattle.std.specs.Option.{is_some}
 use Rattle.sc_base.specs.declared.key.Key.{Key}
 use Rattle.sc_base.specs.declared.report.Rule.{Rule}
 use Rattle.sc_types.specs.declared.ctype.CType.{CType}
-use Rattle.sc_emu.specs.Registers.{Registers}
+use Rattle.sc_emu.specs.Registers.{Registers, AreRegisters}
 use Rattle.sc_meaning.specs.Values.{Value, Number, FunctionAt, Pointer}
 use Rattle.sc_meaning.specs.World.{World}
 use Rattle.sc_meaning.specs.Outcomes.{Outcome, Done, Over, Ending, Undefined, unless, world_at}
@@ -52,7 +52,7 @@ use Rattle.sc_mixed_means.specs.Owed.{CallGives, CallsMean, CodeMeans, CodeAfter
 use Rattle.sc_mixed_means.specs.Places.{CodeDue, CodeStands, Comes, KeepsBy, LowerAfter, Means, MovesKeepTheMeaning, StateGives, StepsDue, StepsMean}
 use Rattle.sc_mixed_means.specs.Stages.{Build, Look, Fits, First, Gives, Live, Past, Stage, Then, from_here, since, texts_of}
 use Rattle.sc_mixed_means.specs.Waiting.{IsFit, Keeps, KeepsWaiting}
-use Rattle.sc_mixed_means.proofs.Parts.{earlier, looks, onward, is_onward, lower_weaker, lower_on, lower_kept, lower_over, lower_changed, lower_due}
+use Rattle.sc_mixed_means.proofs.Parts.{looks_deeper, earlier, is_onward, looks, lower_changed, lower_due, lower_kept, lower_on, lower_over, lower_weaker, onward}
 use Rattle.sc_mixed_means.proofs.Versions.{as_alone, steps_alike, shown_alike, step_at, turned}
 
 named_first : (b c : Bool) → (b && c) ≡ true → b ≡ true
@@ -90,8 +90,8 @@ there p v h le l = (agree p h l.0 l.1).texts v.count le l.2 ∙ present (texts_o
 
 -- one step less is left
 follow : (f : Look) (n deep : ℕ) (p : Past) (u : World) (s : State) (q : Gives p u) → f.deep (suc n) ≤ deep → ((h : History) (l : Live p u h) → left.Means h deep s (q h l)) → (k : ℕ) × (f.deep n ≤ k) × ((h : History) (l : Live p u h) → left.Means h k (runs.advance h s) (q h l))
-follow f n zero p u s q le m = absurd (omega (arith, le, f.grows n))
-follow f n (suc k) p u s q le m = (k, omega (arith, le, f.grows n), λ h l. follows h k s (q h l) (m h l))
+follow f n zero p u s q le m = absurd (omega (arith, le, looks_deeper f n))
+follow f n (suc k) p u s q le m = (k, omega (arith, le, looks_deeper f n), λ h l. follows h k s (q h l) (m h l))
 
 owed : (n deep : ℕ) (s : Stage) (next : Next) (c : Calls) (w v : World) (q : Gives s.past v) → suc n ≤ deep → CodeMeans deep s next c w v q → (k : ℕ) × (n ≤ k) × PlaceOwes (CodeMeans k) (CodeAfter k) (s.look.deep k) s next c w v q
 owed n zero s next c w v q le m = absurd (omega (arith, le))
@@ -173,7 +173,7 @@ module _ (s : Stage) where
         due = λ event. due_on n state c.lower w now out m s.later refl u keep (subst IsEvent x.shown event);
       }))
 
-  stays : (n : ℕ) (g : Going) (c d : Calls) (after : Next) (w u : World) (now : Shown) (result : Result Moved Break) (out : History → Outcome Answer) → StepsMean (suc n) s (state_of g c.callers w) c.lower w now out → StepsFrom (texts_of s.past) (state_of g c.callers w) c result after d u → KeepsBy (Steps g) result c.lower w after u → Comes n s w result after d u out
+  stays : (n : ℕ) (g : Going) (c d : Calls) (after : Next) (w u : World) (now : Shown) (result : Result Moved Break) (out : History → Outcome Answer) → StepsMean (suc n) s (state_of g c.callers w) c.lower w now out → StepsFrom (texts_of s.past) (state_of g c.callers w) c result after d u → KeepsBy (Steps g) result c.lower w after d u → Comes n s w result after d u out
   stays n g c d after w u now (Ok moved) out m x keep = inl (goes_on n (state_of g c.callers w) c d after w u now moved out m x keep.0)
   stays n g c d after w u now (Err (Meant stop)) out m x keep =
       inl (world_of m.stands, alike_world g c.callers w m.stands m.alike, λ e y. ends_on n (state_of g c.callers w) c.lower w now out m e (x e y))
@@ -186,9 +186,10 @@ module _ (s : Stage) where
       ap (λ ts. unless (value_rule ts u f (FunctionAt key)) (call_breach (FunctionAt key) v) (call_value (call m h) (FunctionAt key) xs) v) e
       ∙ ap (λ r. unless r (call_breach (FunctionAt key) v) (call_value (call m h) (FunctionAt key) xs) v) none
 
-  called_out : CallsMean s → (n : ℕ) (f : CType) (key : Key) (xs : List Value) (caller : Caller) (c d : Calls) (after : Next) (w u v : World) (now : Shown) (out : History → Outcome Answer) → IsFit (texts_of s.past) s.image s.places c.lower w → (IsEvent now → ⊥) → is_code (callee_of (texts_of s.past) key) ≡ true → value_rule (texts_of s.past) caller.env.text f (FunctionAt key) ≡ None → Like w v → StateGives (suc n) s (Makes f (FunctionAt key) xs caller c.callers v) c.lower w out → Calling s.image key xs (with_caller caller c) w after d u → KeepsWaiting c.lower w u × (IsCode after → Like u w) → CodeStands n s after d u now out
+  called_out : CallsMean s → (n : ℕ) (f : CType) (key : Key) (xs : List Value) (caller : Caller) (c d : Calls) (after : Next) (w u v : World) (now : Shown) (out : History → Outcome Answer) → IsFit (texts_of s.past) s.image s.places c.lower w → (IsEvent now → ⊥) → is_code (callee_of (texts_of s.past) key) ≡ true → value_rule (texts_of s.past) caller.env.text f (FunctionAt key) ≡ None → Like w v → StateGives (suc n) s (Makes f (FunctionAt key) xs caller c.callers v) c.lower w out → Calling s.image key xs (with_caller caller c) w after d u → KeepsWaiting c.lower w u × (IsCode after → Like u w × AreRegisters d.regs.words) → CodeStands n s after d u now out
   called_out right n f key xs caller c d after w u v now out fit hush named none like g x keep =
-      let alike : Like u v = like_on u w v (keep.1 (subst IsCode (sym x.goes) tt)) like in
+      let crossed : Like u w × AreRegisters d.regs.words = keep.1 (subst IsCode (sym x.goes) tt) in
+      let alike : Like u v = like_on u w v crossed.0 like in
       let q : Gives s.past v = λ h l. call (g.means h l).0 h key xs v in
       record {
         stands = v;
@@ -197,13 +198,13 @@ module _ (s : Stage) where
         deep = n;
         enough = omega arith;
         gives = q;
-        means = right n key xs (with_caller caller c) d w u v after named fit like x alike g.late q (λ h l. ((g.means h l).0, omega (arith, g.enough, (g.means h l).1, s.look.grows n), refl));
+        means = right n key xs (with_caller caller c) d w u v after named fit like x crossed.1 alike g.late q (λ h l. ((g.means h l).0, omega (arith, g.enough, (g.means h l).1, looks_deeper s.look n), refl));
         after =
             subst (λ ls. LowerAfter n s u ls v q (from_here out s.past v)) (sym (ap (λ (y : Calls). y.lower) x.calls)) (
               g.gives,
               (
                 g.deep,
-                omega (arith, g.enough, s.look.grows n),
+                omega (arith, g.enough, looks_deeper s.look n),
                 λ h l. subst (λ o. left.After h g.deep (caller ∷ c.callers) o (g.gives h l)) (made_call h (g.means h l).0 caller.env.text f key xs v (there s.past v h g.late l) none) (g.means h l).2,
               ),
               lower_kept s n w u c.lower v g.gives (from_here out s.past v) keep.0 (lower_weaker s n w c.lower v g.gives (from_here out s.past v) g.after),
@@ -211,7 +212,7 @@ module _ (s : Stage) where
         due = λ event. absurd (hush event);
       }
 
-  goes_out : CallsMean s → (n : ℕ) (f : CType) (key : Key) (xs : List Value) (caller : Caller) (c d : Calls) (after : Next) (w u : World) (now : Shown) (moved : Moved) (out : History → Outcome Answer) → IsFit (texts_of s.past) s.image s.places c.lower w → moved ≡ quietly → goes_to_code (texts_of s.past) caller.env.text f (FunctionAt key) ≡ true → StepsMean (suc n) s (Makes f (FunctionAt key) xs caller c.callers w) c.lower w now out → Calling s.image key xs (with_caller caller c) w after d u → KeepsWaiting c.lower w u × (IsCode after → Like u w) → Means n s after d u moved.shown out
+  goes_out : CallsMean s → (n : ℕ) (f : CType) (key : Key) (xs : List Value) (caller : Caller) (c d : Calls) (after : Next) (w u : World) (now : Shown) (moved : Moved) (out : History → Outcome Answer) → IsFit (texts_of s.past) s.image s.places c.lower w → moved ≡ quietly → goes_to_code (texts_of s.past) caller.env.text f (FunctionAt key) ≡ true → StepsMean (suc n) s (Makes f (FunctionAt key) xs caller c.callers w) c.lower w now out → Calling s.image key xs (with_caller caller c) w after d u → KeepsWaiting c.lower w u × (IsCode after → Like u w × AreRegisters d.regs.words) → Means n s after d u moved.shown out
   goes_out right n f key xs caller c d after w u now moved out fit hush code m x keep =
       let named : is_code (callee_of (texts_of s.past) key) ≡ true = named_first (names_code (texts_of s.past) (FunctionAt key)) (not (is_some (value_rule (texts_of s.past) caller.env.text f (FunctionAt key)))) code in
       let none : value_rule (texts_of s.past) caller.env.text f (FunctionAt key) ≡ None = no_rule (value_rule (texts_of s.past) caller.env.text f (FunctionAt key)) (named_second (names_code (texts_of s.past) (FunctionAt key)) (not (is_some (value_rule (texts_of s.past) caller.env.text f (FunctionAt key)))) code) in
@@ -219,7 +220,7 @@ module _ (s : Stage) where
       (subst (λ y. CodeStands n s y d u moved.shown out) x.goes
       (called_out right n f key xs caller c d after w u m.alike.0 moved.shown out fit (shows_nothing moved hush) named none m.alike.1 (subst (λ y. StateGives (suc n) s y c.lower w out) m.alike.2 m.gives) x keep))
 
-  value_out : CallsMean s → (n : ℕ) (f : CType) (y : Value) (xs : List Value) (caller : Caller) (c d : Calls) (after : Next) (w u : World) (now : Shown) (moved : Moved) (out : History → Outcome Answer) → IsFit (texts_of s.past) s.image s.places c.lower w → moved ≡ quietly → goes_to_code (texts_of s.past) caller.env.text f y ≡ true → StepsMean (suc n) s (Makes f y xs caller c.callers w) c.lower w now out → CallsValue s.image y xs (with_caller caller c) w after d u → KeepsWaiting c.lower w u × (IsCode after → Like u w) → Means n s after d u moved.shown out
+  value_out : CallsMean s → (n : ℕ) (f : CType) (y : Value) (xs : List Value) (caller : Caller) (c d : Calls) (after : Next) (w u : World) (now : Shown) (moved : Moved) (out : History → Outcome Answer) → IsFit (texts_of s.past) s.image s.places c.lower w → moved ≡ quietly → goes_to_code (texts_of s.past) caller.env.text f y ≡ true → StepsMean (suc n) s (Makes f y xs caller c.callers w) c.lower w now out → CallsValue s.image y xs (with_caller caller c) w after d u → KeepsWaiting c.lower w u × (IsCode after → Like u w × AreRegisters d.regs.words) → Means n s after d u moved.shown out
   value_out right n f (FunctionAt key) xs caller c d after w u now moved out fit hush code m x keep = goes_out right n f key xs caller c d after w u now moved out fit hush code m x keep
   value_out right n f (Number k) xs caller c d after w u now moved out fit hush code m x keep = absurd x
   value_out right n f (Pointer o k) xs caller c d after w u now moved out fit hush code m x keep = absurd x
@@ -228,7 +229,7 @@ module _ (s : Stage) where
   lacks : (n : ℕ) (old v : World) (broken : Break) (after : Next) (d : Calls) (w : World) (out : History → Outcome Answer) → Like old v → broken ≡ Meant NoRoom → Comes n s old (Err broken) after d w out
   lacks n old v broken after d w out l e = subst (λ b. Comes n s old (Err b) after d w out) (sym e) (inl (v, l, λ f x. absurd (cc)))
 
-  makes : CallsMean s → (b : Bool) (n : ℕ) (f : CType) (y : Value) (xs : List Value) (caller : Caller) (c d : Calls) (after : Next) (w u : World) (now : Shown) (result : Result Moved Break) (out : History → Outcome Answer) → IsFit (texts_of s.past) s.image s.places c.lower w → goes_to_code (texts_of s.past) caller.env.text f y ≡ b → StepsMean (suc n) s (Makes f y xs caller c.callers w) c.lower w now out → GoesBy (way_if b) (texts_of s.past) s.image (going.Makes f y xs caller) c w result after d u → KeepsBy (Steps (going.Makes f y xs caller)) result c.lower w after u → Comes n s w result after d u out
+  makes : CallsMean s → (b : Bool) (n : ℕ) (f : CType) (y : Value) (xs : List Value) (caller : Caller) (c d : Calls) (after : Next) (w u : World) (now : Shown) (result : Result Moved Break) (out : History → Outcome Answer) → IsFit (texts_of s.past) s.image s.places c.lower w → goes_to_code (texts_of s.past) caller.env.text f y ≡ b → StepsMean (suc n) s (Makes f y xs caller c.callers w) c.lower w now out → GoesBy (way_if b) (texts_of s.past) s.image (going.Makes f y xs caller) c w result after d u → KeepsBy (Steps (going.Makes f y xs caller)) result c.lower w after d u → Comes n s w result after d u out
   makes right false n f y xs caller c d after w u now result out fit code m x keep = stays n (going.Makes f y xs caller) c d after w u now result out m x keep
   makes right true n f y xs caller c d after w u now (Ok moved) out fit code m x keep = inl (value_out right n f y xs caller c d after w u now moved out fit x.0 code m x.1 keep)
   makes right true n f y xs caller c d after w u now (Err broken) out fit code m x keep = lacks n w m.alike.0 broken after d u out m.alike.1 x
@@ -239,7 +240,7 @@ module _ (s : Stage) where
   back_to_bodies n a cs sp depth ls w v out g = record {
     late = g.late;
     deep = g.after.1.0;
-    enough = omega (arith, g.after.1.1, s.look.grows n);
+    enough = omega (arith, g.after.1.1, looks_deeper s.look n);
     gives = g.after.0;
     means = λ h l. subst (λ o. left.After h g.after.1.0 cs o (g.after.0 h l)) (sym (g.means h l)) (g.after.1.2 h l);
     after = lower_weaker s n w ls v g.after.0 (from_here out s.past v) g.after.2;
@@ -249,7 +250,7 @@ module _ (s : Stage) where
   gives_weaker n x ls w out g = record {
     late = g.late;
     deep = g.deep;
-    enough = omega (arith, g.enough, s.look.grows n);
+    enough = omega (arith, g.enough, looks_deeper s.look n);
     gives = g.gives;
     means = g.means;
     after = lower_weaker s n w ls (world_of x) g.gives (from_here out s.past (world_of x)) g.after;
@@ -284,7 +285,7 @@ module _ (s : Stage) where
       subst (λ y. Means n s y d w now out) (sym x.0)
       (subst (λ y. CodeStands n s y d w now out) x.0 (back_to_code n a r given ls c d after w v now out fit hush like g x))
 
-  answers : (cs : List Caller) (n : ℕ) (a : Answer) (c d : Calls) (after : Next) (w u : World) (now : Shown) (result : Result Moved Break) (out : History → Outcome Answer) → IsFit (texts_of s.past) s.image s.places c.lower w → c.callers ≡ cs → StepsMean (suc n) s (Answers a c.callers w) c.lower w now out → GoesBy (way_among cs) (texts_of s.past) s.image (going.Answers a) c w result after d u → KeepsBy (Steps (going.Answers a)) result c.lower w after u → Comes n s w result after d u out
+  answers : (cs : List Caller) (n : ℕ) (a : Answer) (c d : Calls) (after : Next) (w u : World) (now : Shown) (result : Result Moved Break) (out : History → Outcome Answer) → IsFit (texts_of s.past) s.image s.places c.lower w → c.callers ≡ cs → StepsMean (suc n) s (Answers a c.callers w) c.lower w now out → GoesBy (way_among cs) (texts_of s.past) s.image (going.Answers a) c w result after d u → KeepsBy (Steps (going.Answers a)) result c.lower w after d u → Comes n s w result after d u out
   answers (b ∷ cs) n a c d after w u now result out fit e m y keep = stays n (going.Answers a) c d after w u now result out m y keep
   answers [] n a c d after w u now (Ok moved) out fit e m y keep =
       let x : StepsMean (suc n) s (Answers a [] w) c.lower w now out = subst (λ cs. StepsMean (suc n) s (Answers a cs w) c.lower w now out) e m in
@@ -311,7 +312,7 @@ module _ (s : Stage) where
         gives = record {
           late = omega (arith, late, grew);
           deep = m.1.0;
-          enough = omega (arith, m.1.1, s.look.grows n);
+          enough = omega (arith, m.1.1, looks_deeper s.look n);
           gives = r;
           means = λ h l.
               let k : Live s.past v h = earlier s.past v x.0 h grew l in

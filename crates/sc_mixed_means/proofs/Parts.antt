@@ -22,12 +22,16 @@ use Rattle.sc_mixed_means.specs.Waiting.{Keeps, KeepsWaiting}
 
 -- ---- depths
 
+-- a move more is one deeper at least
+pub looks_deeper : (f : Look) (n : ℕ) → suc (f.deep n) ≤ f.deep (suc n)
+looks_deeper f n = let one = f.some in let g = f.grows n in omega (arith, one, g)
+
 -- so it is over any number of moves
 pub look_on : (f : Look) (j n : ℕ) → f.deep n ≤ f.deep (j + n)
 look_on f zero n = let e : n ≡ 0 + n = omega arith in subst (λ m. f.deep n ≤ f.deep m) e (omega arith)
 look_on f (suc j) n =
     let e : suc (j + n) ≡ suc j + n = omega arith in
-    subst (λ m. f.deep n ≤ f.deep m) e (let r = look_on f j n in let g = f.grows (j + n) in omega (arith, r, g))
+    subst (λ m. f.deep n ≤ f.deep m) e (let r = look_on f j n in let g = looks_deeper f (j + n) in omega (arith, r, g))
 
 pub looks : (f : Look) (n k : ℕ) → n ≤ k → f.deep n ≤ f.deep k
 looks f n k le = let e : (k - n) + n ≡ k = omega (arith, le) in subst (λ m. f.deep n ≤ f.deep m) e (look_on f (k - n) n)
@@ -85,7 +89,7 @@ waits_on (suc n) s r given ls old v a q u x y f p = (
 module _ (s : Stage) where
   pub lower_weaker : (n : ℕ) (w : World) (ls : List Lower) (v : World) (r out : Gives s.past v) → LowerAfter (suc n) s w ls v r out → LowerAfter n s w ls v r out
   lower_weaker n w [] v r out p = p
-  lower_weaker n w (InBodies cs sp depth ∷ ls) v r out p = (p.0, (p.1.0, omega (arith, p.1.1, s.look.grows n), p.1.2), lower_weaker n w ls v p.0 out p.2)
+  lower_weaker n w (InBodies cs sp depth ∷ ls) v r out p = (p.0, (p.1.0, omega (arith, p.1.1, looks_deeper s.look n), p.1.2), lower_weaker n w ls v p.0 out p.2)
   lower_weaker n w (InCode regs given ∷ ls) v r out p = (p.0, (p.1.0, omega (arith, p.1.1), p.1.2, p.1.3, p.1.4), lower_weaker n w ls v p.0 out p.2)
 
   pub lower_on : (n : ℕ) (w : World) (ls : List Lower) (v : World) (r out : Gives s.past v) (u : World) (x y : Gives s.past u) → ArePartsOf s.past v r out s.past u x y → LowerAfter n s w ls v r out → LowerAfter n s w ls u x y
@@ -149,7 +153,7 @@ module _ (s : Stage) where
   lower_changed n b bs e w (InBodies cs sp depth ∷ ls) v r out p count u x y f =
       let q : Gives (Then s.past count b.texts) u = λ h l. p.0 h (f h l).0 in (
         q,
-        (p.1.0, omega (arith, p.1.1, s.look.grows n), λ h l. subst (λ o. left.After h p.1.0 cs o (q h l)) (sym (f h l).1) (p.1.2 h (f h l).0)),
+        (p.1.0, omega (arith, p.1.1, looks_deeper s.look n), λ h l. subst (λ o. left.After h p.1.0 cs o (q h l)) (sym (f h l).1) (p.1.2 h (f h l).0)),
         lower_changed n b bs e w ls v p.0 out p.2 count u q y (λ h l. ((f h l).0, refl, (f h l).2)),
       )
   lower_changed n b bs e w (InCode regs given ∷ ls) v r out p count u x y f =

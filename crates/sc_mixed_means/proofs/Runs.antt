@@ -1,5 +1,5 @@
 -- Moves and changes one after another keep what a place means, and what is shown begins what the history of the run's texts gives.
-use Rattle.std.proofs.Common.{◌≡◌, ◌⊎◌, inl, inr, ℕ, suc, ◌+◌, ◌≤◌, ◌<◌, List, [], ◌∷◌, ◌++◌, arith, refl, sym, ap, ◌∙◌, subst, append_assoc}
+use Rattle.std.proofs.Common.{◌≡◌, ◌⊎◌, inl, inr, ℕ, suc, ◌+◌, ◌≤◌, List, [], ◌∷◌, ◌++◌, arith, refl, sym, ap, ◌∙◌, subst, append_assoc}
 use Rattle.std.proofs.lemmas.List.{append-nil}
 use Rattle.std.specs.Prelude.{map, Ok, Err}
 use Rattle.sc_base.specs.declared.key.Key.{Key}
@@ -118,7 +118,7 @@ module _ (look : Look) (first : Place) (b : Build) (bs : List Build) where
           | inr z ↦ inr (lost_here k p c cs past g so z)
         ]
 
-    moves_on : (k m : ℕ) (p q : Place) (c : Build) (cs : List Build) (moved : Moved) (g : Gone first b bs k p c cs) → Moves c.texts c.image p.next p.calls p.world (Ok moved) q.next q.calls q.world → q.now ≡ moved.shown → FitsAt p c → KeepsBy p.next (Ok moved) p.calls.lower p.world q.next q.world → Kept (suc m) p c cs → Kept m q c cs ⊎ WasPast first b bs n key born k p c cs g
+    moves_on : (k m : ℕ) (p q : Place) (c : Build) (cs : List Build) (moved : Moved) (g : Gone first b bs k p c cs) → Moves c.texts c.image p.next p.calls p.world (Ok moved) q.next q.calls q.world → q.now ≡ moved.shown → FitsAt p c → KeepsBy p.next (Ok moved) p.calls.lower p.world q.next q.calls q.world → Kept (suc m) p c cs → Kept m q c cs ⊎ WasPast first b bs n key born k p c cs g
     moves_on k m p q c cs moved g x e fit keep y =
         comes_on k m p q c cs moved y.0 g e y.1
         (moves_keep m (stage_at look y.0 c cs) p.next q.next p.calls q.calls p.world q.world p.now (Ok moved) (entry_gives n key born) ((right_at k p c cs g right).0 y.0 y.1.present) (fit_at p c y.0 y.1.present fit) y.2 (subst (λ ts. Moves ts c.image p.next p.calls p.world (Ok moved) q.next q.calls q.world) (sym y.1.present) x) keep)
@@ -161,15 +161,15 @@ module _ (look : Look) (first : Place) (b : Build) (bs : List Build) where
         ]
     broke k m p c cs (Crashed pc cause) after d u g past so x = inr (lost_here k p c cs past g so x)
 
-    keeps_broken : (broken : Break) (p : Place) (u : World) (next after : Next) → KeepsBy next (Err broken) p.calls.lower p.world after u
-    keeps_broken broken p u (Steps g) after = tt
-    keeps_broken broken p u Executes after = tt
-    keeps_broken broken p u (Serves k) after = tt
+    keeps_broken : (broken : Break) (p : Place) (u : World) (next after : Next) (d : Calls) → KeepsBy next (Err broken) p.calls.lower p.world after d u
+    keeps_broken broken p u (Steps g) after d = tt
+    keeps_broken broken p u Executes after d = tt
+    keeps_broken broken p u (Serves k) after d = tt
 
     breaks : (k m : ℕ) (p : Place) (c : Build) (cs : List Build) (broken : Break) (after : Next) (d : Calls) (u : World) (g : Gone first b bs k p c cs) → FitsAt p c → Moves c.texts c.image p.next p.calls p.world (Err broken) after d u → Kept (suc m) p c cs → BreaksOff b bs n key born c cs broken u ⊎ WasPast first b bs n key born k p c cs g
     breaks k m p c cs broken after d u g fit x y =
         broke k m p c cs broken after d u g y.0 y.1
-        (moves_keep m (stage_at look y.0 c cs) p.next after p.calls d p.world u p.now (Err broken) (entry_gives n key born) ((right_at k p c cs g right).0 y.0 y.1.present) (fit_at p c y.0 y.1.present fit) y.2 (subst (λ ts. Moves ts c.image p.next p.calls p.world (Err broken) after d u) (sym y.1.present) x) (keeps_broken broken p u p.next after))
+        (moves_keep m (stage_at look y.0 c cs) p.next after p.calls d p.world u p.now (Err broken) (entry_gives n key born) ((right_at k p c cs g right).0 y.0 y.1.present) (fit_at p c y.0 y.1.present fit) y.2 (subst (λ ts. Moves ts c.image p.next p.calls p.world (Err broken) after d u) (sym y.1.present) x) (keeps_broken broken p u p.next after d))
 
     change_ends : (k m : ℕ) (p : Place) (c d : Build) (ds : List Build) (placed : World) (e : Ending) → Gone first b bs k p c (d ∷ ds) → IsEvent p.now → IsPlaced p.world placed → changed c.texts d.texts placed ≡ Over e → Kept m p c (d ∷ ds) → (past : Past) × IsPastOf b bs d ds past × (f : Ending) × EndsAlike Like e f × (entry_gives n key born (history_of past) ≡ Over f)
     change_ends k m p c d ds placed e g event is goes y =

@@ -32,7 +32,7 @@ not_both true p q = absurd (cc)
 not_both false p q = absurd (cc)
 
 sources_mean : (s : Stage) (texts : List Text) → texts_of s.past ≡ texts → AreSources texts → CallsMean s
-sources_mean s texts e sources n key xs c d w u v next code fit like x alike late q given =
+sources_mean s texts e sources n key xs c d w u v next code fit like x are alike late q given =
     absurd (not_both (is_code (callee_of texts key)) (callee_source texts key sources) (ap (λ ts. is_code (callee_of ts key)) (sym e) ∙ code))
 
 pub nothing_owed : (look : Look) (bs : List Build) → BuildsAreSources bs → CompiledTextsAreRight look bs

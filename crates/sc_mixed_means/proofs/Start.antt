@@ -1,6 +1,10 @@
 -- The start of a run: the call of the entry behind the births of the first build.
 use Rattle.std.proofs.Common.{◌≡◌, ℕ, suc, ◌<◌, ◌≤◌, Bool, true, false, List, [], ◌∷◌, arith, refl, sym, ap, ◌∙◌, subst}
+use Rattle.std.specs.Prelude.{replicate}
 use Rattle.sc_base.specs.declared.key.Key.{Key}
+use Rattle.sc_emu.specs.Machine.{return_address}
+use Rattle.sc_emu.specs.Operations.{plain}
+use Rattle.sc_emu.specs.Registers.{AreRegisters, with_word}
 use Rattle.sc_meaning.specs.Versions.{History, callee_of, version_at}
 use Rattle.sc_meaning.specs.World.{World, GoesOut, pass}
 use Rattle.sc_interp_machine.specs.RunMeans as left
@@ -22,7 +26,8 @@ use Rattle.sc_interp.specs.declared.stepped.Shown.TheVariants.{Nothing}
 use Rattle.sc_interp.specs.Steady.{alone}
 use Rattle.sc_interp.specs.Shows.{entry_shown}
 use Rattle.sc_interp.proofs.Unchanged.{quiet, present, callee_step}
-use Rattle.sc_mixed.specs.Bridge.{Calling, is_code}
+use Rattle.sc_services.specs.Frames.{stack_top}
+use Rattle.sc_mixed.specs.Bridge.{Calling, calling_code, is_code, with_registers}
 use Rattle.sc_mixed.specs.Starting.{CallsEntry, EntryGoes, no_calls}
 use Rattle.sc_mixed.specs.declared.calls.Calls.{Calls}
 use Rattle.sc_mixed.specs.declared.calls.Next.{Next}
@@ -97,6 +102,15 @@ module _ (f : Look) (b : Build) (bs : List Build) (key : Key) (bound : ℕ) (bor
         due = λ event. due_first n x.going w le x.state (subst IsEvent x.shown event) bs;
       }))
 
+  -- all registers are there as a run begins
+  first_registers : (sp : ℕ) → AreRegisters (with_word (with_word (replicate 32 (plain 0)) 2 (plain sp)) 1 (plain return_address))
+  first_registers sp = record { count = refl; zero = refl }
+
+  registers_there : (w v : World) (next : Next) (c : Calls) → Calling b.image key [] no_calls v next c w → AreRegisters c.regs.words
+  registers_there w v next c x =
+      subst (λ (d : Calls). AreRegisters d.regs.words) (sym x.calls)
+      (subst (λ r. AreRegisters (calling_code x.stub w (with_registers r no_calls)).regs.words) (sym x.puts) (first_registers (stack_top w)))
+
   in_code : CallsMean (first_stage f b bs) → (n : ℕ) (c : Calls) (w : World) (next : Next) (now : Shown) → suc (f.deep n) ≤ bound → is_code (callee_of b.texts key) ≡ true → IsFit b.texts b.image b.places [] (pass GoesOut born) → now ≡ Nothing → Calling b.image key [] no_calls (pass GoesOut born) next c w → Means n (first_stage f b bs) next c w now (entry_gives bound key born)
   in_code right n c w next now le code fit hush x =
       let v : World = pass GoesOut born in
@@ -110,7 +124,7 @@ module _ (f : Look) (b : Build) (bs : List Build) (key : Key) (bound : ℕ) (bor
         deep = n;
         enough = omega arith;
         gives = q;
-        means = subst (λ y. CodeMeans n (first_stage f b bs) y c w v q) x.goes (right n key [] no_calls c v w v next code fit (like_same v) x alike (omega arith) q (λ h l. (bound, omega (arith, le), refl)));
+        means = subst (λ y. CodeMeans n (first_stage f b bs) y c w v q) x.goes (right n key [] no_calls c v w v next code fit (like_same v) x (registers_there w v next c x) alike (omega arith) q (λ h l. (bound, omega (arith, le), refl)));
         after = subst (λ ls. LowerAfter n (first_stage f b bs) w ls v q q) (sym (ap (λ (d : Calls). d.lower) x.calls)) (q, (f.deep n, omega arith, λ h l. refl), λ h l. refl);
         due = λ event. absurd (subst IsEvent hush event);
       })

@@ -1,11 +1,11 @@
 -- Yardstick: to be compared with what it restates (docs/TRUST.md).
 -- What compiled code owes to the meaning, n moves deep: a place of it stands for a world of the meaning and for what its outermost call gives from there.
 -- Each move of it keeps that, or calls out, or returns, or the next step of the meaning that a run would show is an undefined one of compiled code.
-use Rattle.std.specs.Prelude.{◌≡◌, ◌⊎◌, ⊤, ℕ, zero, suc, ◌<◌, ◌≤◌, ◌&&◌, ◌||◌, not, nat_lt, Bool, true, false, List, [], ◌∷◌, length, Option, Some, Ok, Err}
+use Rattle.std.specs.Prelude.{◌≡◌, ◌⊎◌, ⊤, ℕ, zero, suc, ◌<◌, ◌≤◌, ◌&&◌, ◌||◌, not, Bool, true, false, List, [], ◌∷◌, Option, Some, Ok, Err}
 use Rattle.sc_base.specs.declared.key.Key.{Key}
 use Rattle.sc_base.specs.declared.report.Rule.{Rule}
 use Rattle.sc_base.specs.declared.report.Rule.TheVariants.{U12}
-use Rattle.sc_emu.specs.Registers.{Registers}
+use Rattle.sc_emu.specs.Registers.{AreRegisters, Registers}
 use Rattle.sc_emu.specs.declared.outcome.Crash.{Crash}
 use Rattle.sc_interp.specs.declared.going.Going.{Going}
 use Rattle.sc_interp.specs.declared.going.Going.TheVariants as going
@@ -24,11 +24,10 @@ use Rattle.sc_meaning.specs.Calls.{call}
 use Rattle.sc_meaning.specs.Changes.{changed}
 use Rattle.sc_meaning.specs.Expressions.{Answer}
 use Rattle.sc_meaning.specs.Laws.{Leads}
-use Rattle.sc_meaning.specs.Marks.{out_after}
 use Rattle.sc_meaning.specs.Outcomes.{Done, Over, Ending, Undefined, Breach, world_at, world_after}
 use Rattle.sc_meaning.specs.Values.{Value}
 use Rattle.sc_meaning.specs.Versions.{History, callee_of}
-use Rattle.sc_meaning.specs.World.{World, Item}
+use Rattle.sc_meaning.specs.World.{World, Item, GoesOut, ComesBack, Push, Pop}
 use Rattle.sc_mixed.specs.Bridge.{Calling, Resumes, is_code}
 use Rattle.sc_mixed.specs.Changing.{IsPlaced}
 use Rattle.sc_mixed.specs.Machine.{Moves}
@@ -46,14 +45,21 @@ use Rattle.sc_mixed_means.specs.Waiting.{IsFit, Keeps, KeepsWaiting}
 
 -- ---- where no more is claimed
 
--- how many calls have gone out and not come back, as some things happen
-abbrev pub out_along : List Item → ℕ → ℕ
-out_along [] out = out
-out_along (i ∷ is) out = out_along is (out_after i out)
+-- whether a call is between two texts, behind an item: it has gone out and entered none, or has left one and not come back
+abbrev pub is_out_after : Item → Bool → Bool
+is_out_after GoesOut out = true
+is_out_after (Push f) out = false
+is_out_after Pop out = true
+is_out_after ComesBack out = false
+is_out_after _ out = out
 
--- a call has gone out that entered no text: one of the library, or one that breaks a rule as it goes out
+abbrev pub is_out_along : List Item → Bool → Bool
+is_out_along [] out = out
+is_out_along (i ∷ is) out = is_out_along is (is_out_after i out)
+
+-- the last call to go out has entered no text: it is one of the library, or one that breaks a rule as it goes out
 abbrev pub is_calling_out : World → Bool
-is_calling_out w = nat_lt (length w.frames) (out_along w.trail 0)
+is_calling_out w = is_out_along w.trail false
 
 abbrev pub breaks_type : Rule → Bool
 breaks_type U12 = true
@@ -202,10 +208,11 @@ abbrev mutual
 
 -- ---- what is owed in all
 
--- A call of compiled code, with its arguments in their places, gives what the meaning's call does, where the texts that are present have come.
+-- A call of compiled code, with its arguments in their places and all registers there, gives what the meaning's call does, where the texts that are present
+-- have come.
 abbrev pub CallsMean : Stage → Type 0
 CallsMean s =
-    (n : ℕ) (key : Key) (xs : List Value) (c d : Calls) (w u v : World) (next : Next) → is_code (callee_of (texts_of s.past) key) ≡ true → IsFit (texts_of s.past) s.image s.places c.lower w → Like w v → Calling s.image key xs c w next d u → Like u v → since s.past ≤ v.count →
+    (n : ℕ) (key : Key) (xs : List Value) (c d : Calls) (w u v : World) (next : Next) → is_code (callee_of (texts_of s.past) key) ≡ true → IsFit (texts_of s.past) s.image s.places c.lower w → Like w v → Calling s.image key xs c w next d u → AreRegisters d.regs.words → Like u v → since s.past ≤ v.count →
     (q : Gives s.past v) → ((h : History) (l : Live s.past v h) → (m : ℕ) × (s.look.deep n ≤ m) × (q h l ≡ call m h key xs v)) → CodeMeans n s next d u v q
 
 -- So it is of all builds of a run, whatever came before: the one premise on compiled code. It is to be met by the theorem on the compiler, for builds whose

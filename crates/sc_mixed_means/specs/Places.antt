@@ -1,6 +1,7 @@
 -- Inside: plumbing, a representation, an invariant or a promise beside the claim (docs/TRUST.md).
 -- What a place of a run stands for, n moves deep: a world of the meaning, and what each history that the run can still have gives from there.
 use Rattle.std.specs.Prelude.{◌≡◌, ◌⊎◌, ⊤, ℕ, suc, ◌<◌, ◌≤◌, List, [], ◌∷◌, Result, Ok, Err}
+use Rattle.sc_emu.specs.Registers.{AreRegisters}
 use Rattle.sc_interp.specs.declared.stepped.Shown.{Shown}
 use Rattle.sc_interp_access.specs.declared.stop.Stop.{Stop}
 use Rattle.sc_interp_change_laws.specs.Following.{changed_state}
@@ -115,15 +116,15 @@ Comes n s old (Err (Meant stop)) after d w out = EndsIn s old stop w out ⊎ IsL
 Comes n s old (Err (Crashed pc cause)) after d w out = IsLostFrom s old out
 
 -- a move of interpreted calls, or from them or to them, keeps what waits; a move of compiled code owes that itself
--- and a call that goes to compiled code leaves objects as they were: the words of its arguments stand beside them
-abbrev pub KeepsBy : Next → Result Moved Break → List Lower → World → Next → World → Type 0
-KeepsBy (Steps g) (Ok moved) ls w after u = KeepsWaiting ls w u × (IsCode after → Like u w)
-KeepsBy (Steps g) (Err broken) ls w after u = ⊤
-KeepsBy Executes result ls w after u = ⊤
-KeepsBy (Serves k) result ls w after u = ⊤
+-- and a call that goes to compiled code leaves objects as they were: the words of its arguments stand beside them; and all registers are there
+abbrev pub KeepsBy : Next → Result Moved Break → List Lower → World → Next → Calls → World → Type 0
+KeepsBy (Steps g) (Ok moved) ls w after d u = KeepsWaiting ls w u × (IsCode after → Like u w × AreRegisters d.regs.words)
+KeepsBy (Steps g) (Err broken) ls w after d u = ⊤
+KeepsBy Executes result ls w after d u = ⊤
+KeepsBy (Serves k) result ls w after d u = ⊤
 
 -- the step theorem: what a place of a run means before a move, it means after it
 abbrev pub MovesKeepTheMeaning : Type 0
 MovesKeepTheMeaning =
     (n : ℕ) (s : Stage) (next after : Next) (c d : Calls) (w u : World) (now : Shown) (result : Result Moved Break) (out : History → Outcome Answer) → CallsMean s → IsFit (texts_of s.past) s.image s.places c.lower w → Means (suc n) s next c w now out →
-    Moves (texts_of s.past) s.image next c w result after d u → KeepsBy next result c.lower w after u → Comes n s w result after d u out
+    Moves (texts_of s.past) s.image next c w result after d u → KeepsBy next result c.lower w after d u → Comes n s w result after d u out

@@ -3,7 +3,6 @@
 -- the history of its texts.
 use Rattle.std.specs.Prelude.{◌≡◌, ◌⊎◌, ⊤, ℕ, suc, ◌+◌, ◌<◌, true, List, [], ◌∷◌, ◌++◌, map, Ok, Err, Some}
 use Rattle.sc_base.specs.declared.key.Key.{Key}
-use Rattle.sc_interp.specs.declared.going.Going.{Going}
 use Rattle.sc_interp.specs.declared.going.Going.TheVariants as going
 use Rattle.sc_interp.specs.declared.stepped.Shown.{Shown}
 use Rattle.sc_interp.specs.declared.stepped.Shown.TheVariants.{Nothing}
@@ -125,7 +124,7 @@ FitsAt p c = IsFit c.texts c.image c.places p.calls.lower p.world
 abbrev pub MemoryIsKept : (first : Place) (b : Build) (bs : List Build) → ℕ → Key → World → (k : ℕ) (p : Place) (c : Build) (cs : List Build) → Gone first b bs k p c cs → Type 0
 MemoryIsKept first b bs n key born _ _ _ _ gone_none = ⊤
 MemoryIsKept first b bs n key born _ _ _ _ (gone_moved k p q c cs moved g x e) =
-    MemoryIsKept first b bs n key born k p c cs g × ((FitsAt p c × KeepsBy p.next (Ok moved) p.calls.lower p.world q.next q.world) ⊎ WasPast first b bs n key born k p c cs g)
+    MemoryIsKept first b bs n key born k p c cs g × ((FitsAt p c × KeepsBy p.next (Ok moved) p.calls.lower p.world q.next q.calls q.world) ⊎ WasPast first b bs n key born k p c cs g)
 MemoryIsKept first b bs n key born _ _ _ _ (gone_changed k p c d ds placed x g event is goes) =
     MemoryIsKept first b bs n key born k p c (d ∷ ds) g × (KeepsWaiting p.calls.lower p.world x ⊎ WasPast first b bs n key born k p c (d ∷ ds) g)
 

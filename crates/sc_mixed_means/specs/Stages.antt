@@ -29,11 +29,13 @@ abbrev pub since : Past → ℕ
 since (First texts) = 0
 since (Then p count texts) = count
 
--- How deep the meaning looks where so many moves are made: with each move more at least one deeper. A text may need more for a move, by the depth
--- of its trees, so this is a premise's choice.
+-- How deep the meaning looks where so many moves are made: with each move more deeper by a step, of one at least. A text may need more for a move, by
+-- the depth of its trees, so this is a premise's choice.
 pub record Look : Type 0 where
   pub deep : ℕ → ℕ
-  pub grows : (n : ℕ) → suc (deep n) ≤ deep (suc n)
+  pub step : ℕ
+  pub some : 1 ≤ step
+  pub grows : (n : ℕ) → step + deep n ≤ deep (suc n)
 
 -- where a run is among its builds: what was, the image that is present and its places, and what is still to come
 pub record Stage : Type 0 where
