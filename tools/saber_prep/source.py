@@ -16,6 +16,8 @@ TOKEN = re.compile(
     re.S,
 )
 MARKER = re.compile(r'# (\d+) "((?:\\.|[^"\\])*)"((?: \d)*)\s*$')
+# what `load` takes of a file, by docs/PREPROCESSING.md
+MOST_BYTES = 1_048_576
 DIGRAPHS = {"<:": "[", ":>": "]", "<%": "{", "%>": "}", "%:": "#", "%:%:": "##"}
 FIXED = [
     "-D__STDC_VERSION__=199901L", "-D__STDC_HOSTED__=1", "-D__SABER__=1", "-D__CHAR_BIT__=8", "-D__CHAR_UNSIGNED__=1",
@@ -34,7 +36,7 @@ class Options:
     arguments: tuple[str, ...] = ()
     folders: tuple[str, ...] = ()
     defines: tuple[str, ...] = ()
-    without: frozenset[str] = frozenset()
+    integers: bool = False
 
 
 @dataclass(frozen=True)
@@ -49,8 +51,11 @@ class Origin:
 
 @dataclass(frozen=True)
 class Token:
+    """A token; `was` is what the user wrote where --integers made it another one."""
+
     text: str
     origin: Origin
+    was: str = ""
 
     def is_name(self) -> bool:
         return self.text[0].isalpha() or self.text[0] in "_$"
@@ -117,8 +122,30 @@ def read(path: pathlib.Path, options: Options) -> Source:
             pending.append((text, origin))
         line += 1
     tokens = [Token(DIGRAPHS.get(it, it), origin) for text, origin in pending for it in TOKEN.findall(text)]
-    source.tokens = with_empty_statements(tokens)
+    size = sum(len(it.text) for it in tokens if not it.origin.header)
+    if size > MOST_BYTES:
+        raise Failure(f"{path}:1: its own text has {size} bytes without blanks and comments, and load takes {MOST_BYTES}: cut the file into two", 3)
+    source.tokens = with_arguments_of_printf(with_empty_statements(tokens))
     return source
+
+
+def with_arguments_of_printf(tokens: list[Token]) -> list[Token]:
+    """Gives a declaration of `printf` its `...` where a source leaves that out, as the core of C may, and older ones do."""
+    out: list[Token] = []
+    depth = begun = 0
+    for place, token in enumerate(tokens):
+        texts = [it.text for it in tokens[max(place - 2, 0) : place]]
+        depth += (token.text == "{") - (token.text == "}")
+        if depth == 0 and texts == ["int", "printf"] and token.text == "(":
+            begun = len(out) + 1
+        if begun and token.text == ")":
+            listed = [it.text for it in out[begun:]]
+            if "..." not in listed and tokens[place + 1 : place + 2] and tokens[place + 1].text in (";", ","):
+                words = ["const", "char", "*"] if not listed else []
+                out += [Token(it, token.origin) for it in (*words, ",", "...")]
+            begun = 0
+        out.append(token)
+    return out
 
 
 def with_empty_statements(tokens: list[Token]) -> list[Token]:
