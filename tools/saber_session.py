@@ -43,6 +43,17 @@ class Early(Trouble):
         self.program_status, self.said, self.told = status, said, told
 
 
+class NotTaken(Trouble):
+    """A text of a module that `load` does not take: the module's name, and the file and the line of the refusal."""
+
+    def __init__(self, command, answer):
+        super().__init__(f"{command}: {answer}; saber-run prepares such a file, runs it and explains, and saber-prep writes it in the core", 2)
+        self.said = f"{command}: {answer}"
+        self.module = command.split()[1]
+        self.file, _, line = answer.split()[-1].rpartition(":")
+        self.line = int(line) if line.isdigit() else 0
+
+
 def refused(text):
     """Trouble with what the user gave: status 2."""
     return Trouble(text, 2)
@@ -76,9 +87,14 @@ def status_of(text):
 def add_words_of_a_run(parser):
     """Adds the words of a tool that runs modules once to its command line."""
     parser.add_argument("modules", nargs="*", metavar="MODULE|FILE.c", help="a module M of the file M.c, in the order of loading")
-    parser.add_argument("-i", "--input", metavar="FILE", help="the file that the program reads as its input")
     parser.add_argument("--object", action="append", default=[], metavar="M",
                         help="run module M as compiled code, without checks (may stand more than once)")
+    add_limits(parser)
+
+
+def add_limits(parser):
+    """Adds the words for a run's input, for its limits and for the program."""
+    parser.add_argument("-i", "--input", metavar="FILE", help="the file that the program reads as its input")
     parser.add_argument("--turns", type=int, default=MOST_TURNS, metavar="N", help=f"the most turns of the run ({MOST_TURNS})")
     parser.add_argument("--stack", metavar="N", help="bytes of the program's stack (1048576)")
     parser.add_argument("--heap", metavar="N", help="bytes of its heap (4194304)")
@@ -90,6 +106,11 @@ def words_of_a_run(parser):
     found = parser.parse_intermixed_args()
     if not found.modules and not found.object:
         parser.error("no module is named")
+    return within_limits(parser, found)
+
+
+def within_limits(parser, found):
+    """The words, if their limits can be."""
     if not 1 <= found.turns <= MOST_TURNS:
         parser.error(f"--turns takes a number from 1 to {MOST_TURNS}")
     return found
@@ -350,5 +371,7 @@ def load(session, module):
     """Loads one module in its form, or raises its refusal."""
     for command in (f"load {module.name}", *((f"compile {module.name}", f"swap {module.name} object") if module.is_object else ())):
         answer = session.ask(command)
+        if answer.text.startswith("refused C5 "):
+            raise NotTaken(command, answer.text)
         if answer.is_refused:
             raise refused(f"{command}: {answer.text}")
