@@ -199,10 +199,14 @@ FAULTS = {
     "no C": (["text.c"], 3, "text.c:1: unknown type name 'This'"),
     "a bracket": (["open.c"], 3, "open.c:1: expected '}'"),
     "bytes": (["bytes.c"], 3, "bytes.c:1: "),
+    "macros without end": (["bomb.c"], 3, "bomb.c:1: clang makes more of it than can be worked on"),
+    "a header of itself": (["itself.c"], 3, "itself.c:1: #include nested too deeply"),
 }
 FILES = {
     "header.c": b"int x;\n#include \"nowhere.h\"\n", "error.c": b"#error wrong machine\n", "text.c": b"This is no C.\n",
     "open.c": b"int main(void) { return 0;\n", "bytes.c": bytes(range(1, 256)),
+    "bomb.c": b"#define M0 int a; int a;\n" + b"".join(b"#define M%d M%d M%d\n" % (it, it - 1, it - 1) for it in range(1, 40)) + b"M39\n",
+    "itself.c": b"#include \"itself.c\"\n",
 }
 
 
