@@ -8,7 +8,7 @@ from saber_prep.project import Project, module_names
 from saber_prep.source import Options
 from saber_prep.telling import lines_of
 from saber_search import functions_of
-from saber_session import MODULE, Early, Module, Session, Trouble, View, module_of
+from saber_session import MODULE, Module, Session, Trouble, TwoHeaders, View, loaded, module_of
 
 
 class NotReady(Trouble):
@@ -27,11 +27,9 @@ def as_they_are(program, files):
         return set(), set()
     try:
         with View(plain) as view, Session(program, view.folder) as session:
-            taken = {it.name for it in plain if not session.ask(f"load {it.name}").text.startswith("refused C5 ")}
+            taken = {it.name for it in plain if not loaded(session, f"load {it.name}").text.startswith("refused C5 ")}
             return taken, {it for it in functions_of(session) if ":" not in it}
-    except Early:
-        raise
-    except Trouble:  # headers of one name in two folders, which the pre-pass keeps apart
+    except TwoHeaders:  # the pre-pass keeps them apart
         return set(), set()
 
 

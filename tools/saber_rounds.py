@@ -91,7 +91,7 @@ class Rounds:
         """The list of all steps, and which modules were not watched to the end."""
         if not (self._given.go_on or self._known) or not self.steps:
             return
-        print(f"-- {len(self.steps)} undefined step{'s' if len(self.steps) > 1 else ''}, in the order of their reports")
+        print(f"-- {len(self.steps)} undefined steps, in the order of their reports" if len(self.steps) > 1 else "-- 1 undefined step")
         for step in self.steps:
             rule = step.violation.rule
             print(f"  {'known: ' if self._is_known(step) else ''}{step.name} in {step.violation.key}: {RULES[rule]}")

@@ -45,6 +45,8 @@ FILES = {
     "part.c": "int part(void) { return 0; }\n",
     "huge.c": "char all[] = {" + "1," * 600_000 + "};\n",
     "deep.c": "int main(void) { return " + "(" * 3000 + "0" + ")" * 3000 + "; }\n",
+    # the types grow by a factor of eight from one line to the next
+    "types.c": "typedef int T0;\n" + "".join(f"typedef void (*T{it})({', '.join([f'T{it - 1}'] * 8)});\n" for it in range(1, 13)) + "extern T12 v;\n",
     "noise.c": "".join(chr(it % 94 + 33) for it in range(7, 9000, 13)),
 }
 ROOM = ["> violation U2 in main at use:9 object 7 offset 3 size 1", "-- at test/use.c:9", "    p[i] = (uint8_t)i;", "-- calls, the innermost one first",
@@ -104,6 +106,8 @@ REFUSED = [
     (["huge.c"], "saber-run: huge.c:1: its own text has 1200013 bytes without blanks and comments, and load takes 1048576: cut the file into two"),
     (["deep.c"], None),
     (["noise.c"], None),
+    # a program that takes too long for it is not waited for; one that does not finds no main
+    (["types.c"], None),
 ]
 
 
@@ -121,7 +125,7 @@ def refuses(program, room):
     for words, line in REFUSED:
         ran = common.tool_run("saber-run", program, room, words)
         last = ran.stderr.decode(errors="replace").strip().splitlines()[-1:]
-        right = last == [line] if line else last and last[0].startswith("saber-run: ")
+        right = last == [line] if line else last and last[0].startswith("saber-run: ") or b"> refused C13" in ran.stdout
         yield " ".join(words), ran.returncode == 2 and right, common.told_by(ran)
 
 
