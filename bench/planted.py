@@ -26,8 +26,8 @@ from faults import LIBRARIES  # noqa: E402
 
 COMPILED = {
     "memcheck": (["gcc", "-g", "-O0"], ["valgrind", "-q"]),
-    "ASan, UBSan": (["gcc", "-g", "-O1", "-fsanitize=address,undefined", "-fno-sanitize=shift"], []),
-    "MSan": (["clang", "-g", "-O1", "-fsanitize=memory"], []),
+    "ASan, UBSan": (["gcc", "-g", "-O0", "-fsanitize=address,undefined", "-fno-sanitize=shift"], []),
+    "MSan": (["clang", "-g", "-O0", "-fsanitize=memory"], []),
     "tcc -b": (["tcc", "-b", "-g"], []),
 }
 COLUMNS = ("saber-run", *COMPILED)
@@ -126,7 +126,7 @@ class Tree:
         return self.listed(folder)
 
     def listed(self, folder):
-        words = [TOOLS / "saber-run", "--program", self.program, "--go-on", *sorted(folder.glob("*.c"))]
+        words = [TOOLS / "saber-run", "--program", self.program, "--go-on", "--brief", *sorted(folder.glob("*.c"))]
         told = self.must(words, (0, 1, 3))
         steps = re.findall(r"^  U\d+ (\S+):(\d+) in ", told, re.M)
         return [(pathlib.Path(file).name, int(line)) for file, line in steps] or (["crash"] if "\n> crashed" in told else [])

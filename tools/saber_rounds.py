@@ -43,7 +43,7 @@ class Rounds:
         """Does all rounds, tells of each, and gives the exit status."""
         while True:
             self._echo.begin_again()
-            status = run_once(self._given, self._modules, self._echo, self._is_known_end, self._take)
+            status = run_once(self._given, self._modules, self._echo, self._is_passed, self._take)
             if self._text or not self._goes_on():
                 break
         if self._text.startswith("refused C13"):
@@ -53,10 +53,10 @@ class Rounds:
             return 1
         return status if self._text else 3
 
-    def _is_known_end(self, explanation):
-        """Whether a round ended in a step that is known."""
+    def _is_passed(self, explanation):
+        """Whether the end of a round is not explained: a step that is known, or each by --brief."""
         self._ended()
-        return explanation.violation is not None and self._is_known(step_of(explanation))
+        return self._given.brief or explanation.violation is not None and self._is_known(step_of(explanation))
 
     def _is_known(self, step):
         return any(it.is_of(step) for it in self._known)
@@ -67,7 +67,7 @@ class Rounds:
             self._text = explanation.text
             return
         step = step_of(explanation)
-        calls = () if self._is_known(step) else explanation.calls()
+        calls = () if self._given.brief or self._is_known(step) else explanation.calls()
         self.steps.append(dataclasses.replace(step, calls=tuple(map(teller.call, calls))))
 
     def _goes_on(self):

@@ -83,6 +83,7 @@ CASES = [
     (["--turns", "100000", "endless.c"], 3, ["begun", "> paused after 100000 turns"]),
     (["--go-on", "three.c", "one.c", "two.c"], 1, LIST),
     (["three.c", "one.c", "two.c"], 1, LIST[:2]),
+    (["--brief", "--go-on", "three.c", "one.c", "two.c"], 1, [LIST[0], LIST[1], LIST[3], LIST[4], "  U7 three.c:12 in main: a signed result is out of range"]),
     (["--known", "known", "three.c", "one.c", "two.c"], 0, ["  known: U5 one.c:7 in one: a pointer leaves its object", "-- the last run: exit 0"]),
     (["--known", "some", "--go-on", "three.c", "one.c", "two.c"], 1, ["-- this one is known",
         "  known: U6 two.c:1 in two: pointers into different objects are ordered or subtracted"]),
