@@ -8,7 +8,7 @@ from saber_prep.project import Project, module_names
 from saber_prep.source import Options
 from saber_prep.telling import lines_of
 from saber_search import functions_of
-from saber_session import MODULE, Module, Session, Trouble, TwoHeaders, View, loaded, module_of
+from saber_session import Module, Session, Trouble, TwoHeaders, View, loaded, module_of
 
 
 class NotReady(Trouble):
@@ -20,17 +20,16 @@ class NotReady(Trouble):
 
 
 def as_they_are(program, files):
-    """Those of the files that `load` takes as they are, and the functions that these define for others."""
-    stems = [it.stem for it in files]
-    plain = [module_of(it) for it in files if it.suffix == ".c" and MODULE.fullmatch(it.stem) and stems.count(it.stem) == 1]
+    """The modules of those files that `load` takes as they are, by their files, and the functions that these define for others."""
+    plain = {it: module_of(it) for it, name in zip(files, module_names(files)) if it.suffix == ".c" and it.stem == name}
     if not plain:
-        return set(), set()
+        return {}, set()
     try:
-        with View(plain) as view, Session(program, view.folder) as session:
-            taken = {it.name for it in plain if not loaded(session, f"load {it.name}").text.startswith("refused C5 ")}
+        with View(list(plain.values())) as view, Session(program, view.folder) as session:
+            taken = {file: it for file, it in plain.items() if not loaded(session, f"load {it.name}").text.startswith("refused C5 ")}
             return taken, {it for it in functions_of(session) if ":" not in it}
     except TwoHeaders:  # the pre-pass keeps them apart
-        return set(), set()
+        return {}, set()
 
 
 class Ready:
@@ -43,7 +42,7 @@ class Ready:
     def __init__(self, program, files, options=Options(), folder=None, is_all=False, is_quiet=False, is_verbose=False):
         self._room = tempfile.TemporaryDirectory(prefix="saber-")
         try:
-            taken, own = (set(), set()) if is_all else as_they_are(program, files)
+            taken, own = ({}, set()) if is_all else as_they_are(program, files)
             self._project = Project(options, pathlib.Path(folder or self._room.name), own)
             self.modules, failures = self._made(files, taken)
             for line in lines_of(self._project, is_quiet, is_verbose):
@@ -60,8 +59,8 @@ class Ready:
         """The modules, and what failed."""
         modules, failures = [], []
         for file, name in zip(files, module_names(files)):
-            if name in taken:
-                modules.append(module_of(file))
+            if file in taken:
+                modules.append(taken[file])
                 continue
             try:
                 self._project.write(file, name)

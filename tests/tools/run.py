@@ -23,6 +23,9 @@ FILES = {
     "plain.c": "int main(void)\n{\n    int x;\n    return x;\n}\n",
     "fine.c": "extern int other(int);\nint main(void)\n{\n    return other(2) - 4;\n}\n",
     "with-dash.c": "int other(int n) { int twice[n > 0 ? 2 : 2]; return 0; }\n",
+    # the names of their modules would be the same
+    "a-b.c": "extern void say(void);\nint main(void) { say(); return 0; }\n",
+    "a_b.c": "#include <stdio.h>\nvoid say(void) { puts(\"a_b\"); }\n",
     "other.c": "#include <stdbool.h>\nint other(int n) { bool is = n; int twice = n + n; return is ? twice : 0; }\n",
     "copy.c": "#include <stdio.h>\nint main(void)\n{\n    int c;\n    while ((c = getchar()) != EOF)\n        putchar(c);\n    return 0;\n}\n",
     "input": "some words\n",
@@ -73,6 +76,7 @@ CASES = [
     (["-I", "lib", "--compiled", "room,use", "lib/room.c", "test/use.c"], 0, ["begun", "ended", "> exit 0"]),
     (["plain.c"], 1, ["> violation U1 in main at plain:4 object 1 offset 0 size 4", "-- at plain.c:4"]),
     (["fine.c", "other.c"], 0, ["> exit 0"]),
+    (["a-b.c", "a_b.c"], 0, ["a_b", "> exit 0"]),
     (["copy.c", "--", "input"], 0, ["some words", "> exit 0"]),
     (["-i", "input", "copy.c"], 0, ["some words", "> exit 0"]),
     (["--arguments", "hello", "words.c"], 0, ["hello", "> exit 0"]),
