@@ -1,5 +1,6 @@
 """What the tools know of the texts of modules: lines, their original places, and the names on them."""
 import json
+import os
 import pathlib
 import re
 from dataclasses import dataclass
@@ -21,11 +22,8 @@ class Place:
 
     @property
     def file(self):
-        """The file as it is named from the current folder on, if it lies below it."""
-        try:
-            return str(self.path.relative_to(pathlib.Path.cwd()))
-        except ValueError:
-            return str(self.path)
+        """The file as it is named from the current folder on, if that is the shorter name."""
+        return min(os.path.relpath(self.path), str(self.path), key=len)
 
 
 class Sources:

@@ -104,7 +104,7 @@ CASES = [
 REFUSED = [
     (["absent"], "saber-why: there is no file absent.c"),
     (["-i", "absent", "nine"], "saber-why: there is no file absent"),
-    (["wrong"], "saber-why: load wrong: refused C5 X6 wrong.c:3"),
+    (["wrong"], "saber-why: wrong.c:3: use of undeclared identifier 'x' (load wrong: refused C5 X6 wrong.c:3)"),
     (["store"], ""),
     (["nine", "nine.c"], "saber-why: module nine is named twice"),
     (["9.c"], "saber-why: 9 is no module's name: a letter and up to 30 letters, digits or underscores"),
