@@ -23,10 +23,11 @@ class Lost(Exception):
 
 @dataclass(frozen=True)
 class Halt:
-    """Where a run halted, how many objects were born, and how many calls were active."""
+    """Where a run halted, how many objects were born, how many calls were active, and how many went to the library."""
     text: str
     births: int
     depth: int
+    library: int = 0
 
     @property
     def is_over(self):
@@ -78,7 +79,7 @@ def violation_of(text):
 def halt_of(answer, report):
     """A halt, by the answer that tells it and a counting probe's report."""
     counts = {kind: int(number) for kind, number in COUNTS.findall(report.text)}
-    return Halt(answer.text, counts["birth"], counts["enter"] - counts["leave"])
+    return Halt(answer.text, counts["birth"], counts["enter"] - counts["leave"], counts["lib"])
 
 
 @dataclass(frozen=True)

@@ -12,7 +12,7 @@ import shutil
 import signal
 import subprocess
 import tempfile
-from dataclasses import dataclass, field
+from dataclasses import dataclass, field, replace
 
 ROOT = pathlib.Path(__file__).resolve().parent.parent
 GOES = ("run", "step", "next", "cont", "stepi")
@@ -333,6 +333,10 @@ class Setup:
     @property
     def run(self):
         return f"run {View.INPUT}" if self.view.given else "run"
+
+    def over(self, view):
+        """The same over another view."""
+        return replace(self, view=view)
 
     def start(self, *options, turns=MOST_TURNS):
         """A session with every module loaded in its form."""
