@@ -51,8 +51,10 @@ def follow(setup, violation, names, functions):
 
     Nothing where it ends in another way.
     """
+    if not setup.view:
+        return None
     try:
-        with HeapCopy(setup.view.modules, setup.view.given, violation.module, violation.line) as view:
+        with HeapCopy(setup.view, violation.module, violation.line) as view:
             return Follower(violation, functions).followed(setup.over(view), names)
     except (Trouble, Lost):
         return None

@@ -127,10 +127,11 @@ def marked(text, line):
 
 
 class HeapCopy(View):
-    """A view in which the texts are the copy that is described above. The line, of a module, is that of a report, or 0."""
+    """A view in which the texts are the copy of those of another that is described above. The line, of a module, is that of a report, or 0."""
 
-    def __init__(self, modules, given, module="", line=0):
-        super().__init__([*modules, Module(NAME, self_path(modules))], given)
+    def __init__(self, view, module="", line=0):
+        modules = view.again()
+        super().__init__([*modules, Module(NAME, view.folder / f"{NAME}.c")], view.given)
         texts = {path.name: path.read_bytes().decode("latin-1") for path in self.folder.iterdir()
                  if path.suffix in (".c", ".h") and path.is_file()}
         own = {f"{it.name}.c" for it in modules}
@@ -143,11 +144,6 @@ class HeapCopy(View):
             self.replace(name, (first + renamed(text, left)).encode("latin-1"))
         self.replace(f"{NAME}.h", HEADER.encode())
         self.replace(f"{NAME}.c", MODULE.encode())
-
-
-def self_path(modules):
-    """A path for the module of the copy; the file itself is only in the view."""
-    return modules[0].path.with_name(f"{NAME}.c")
 
 
 def as_in_original(line):

@@ -128,13 +128,13 @@ class Explanation:
         return 0
 
     def arrive(self):
-        """A session that stands where the run ended."""
+        """A way to where the run ended."""
         way = self.search.way(self._legs)
         if self.is_aborted:
             way.set_stops(())
             for _ in way.go(self._steps_to_the_end, command="step"):
                 pass
-        return way.session
+        return way
 
     def when(self):
         """Of which moment the calls are, if it is not the line of a violation."""
@@ -148,7 +148,7 @@ class Explanation:
             shown = self._names_of_thirds if self.thirds()[1] else self._names
             values = (it for it in self._followed.scene.values if it.partition(" = ")[0] in shown)
             return Scene(self._followed.scene.calls, tuple(values))
-        with self.arrive() as session:
+        with self.arrive().session as session:
             calls = session.ask("where").lines
             found = CALL.match(calls[0]) if self.is_aborted else None
             names = names_in(self.sources.statement(found[2], int(found[3]))) if found else self._names
@@ -203,6 +203,8 @@ class Explanation:
 
     def _function(self, module, name):
         """What the text of a module tells of a function, if it can be read."""
+        if not self.setup.view:
+            return None
         try:
             return next((it for it in functions_in(self.setup.view.folder, module) if it.name == name), None)
         except Trouble:
