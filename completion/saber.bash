@@ -9,5 +9,5 @@ _saber() {
 }
 complete -F _saber saber
 # the tools beside it take modules, or their files
-complete -f -X '!*.c' -o plusdirs saber-why saber-lcov
+complete -f -X '!*.c' -o plusdirs saber-run saber-why saber-lcov saber-prep
 complete -F _saber saber-shell

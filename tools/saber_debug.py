@@ -8,9 +8,11 @@ import re
 from dataclasses import dataclass
 
 from saber_lines import Lines
-from saber_search import OVER, functions_of
+from saber_look import evaluated
+from saber_outer import place_of_outer
+from saber_replay import SLICE, has_changes, repeat, setup_of
+from saber_search import OVER, Lost, functions_of
 
-SLICE = 4_000_000
 # A place that was seen so often is no rare one.
 OFTEN = 3
 # a depth that no stack reaches
@@ -78,15 +80,24 @@ class Debuggee:
     """
 
     def __init__(self, setup, show):
-        self._setup, self._echo, self._lines = setup, Echo(show), Lines(setup.view.folder)
+        self._setup, self._echo, self.lines = setup, Echo(show), Lines(setup.view.folder)
         self.session = setup.start(turns=SLICE)
         self.functions = functions_of(self.session)
+        self._objects = {it.name for it in setup.view.modules if it.is_object}
         # the commands that led to the last halt, and the present go with its slices
         self._past, self._goal, self._slices = [], None, 0
-        self._numbers, self.is_over = {}, False
+        self._numbers, self.is_over, self.is_changed = {}, False, False
+        # the ways to outer calls, and sessions that stand there
+        self._ways, self._asides = {}, {}
 
     def close(self):
+        self._forget_asides()
         self.session.close()
+
+    def _forget_asides(self):
+        for it in self._asides.values():
+            it.close()
+        self._ways, self._asides = {}, {}
 
     @property
     def is_going(self):
@@ -108,6 +119,7 @@ class Debuggee:
 
     def begin(self, command):
         """Begins a go: `run`, `cont`, `step`, `next`, or `out`, which leaves the present call."""
+        self._forget_asides()
         if command == "out":
             frames = self.frames()
             self._go_by_stops(frames[1:], len(frames) - 1)
@@ -150,14 +162,11 @@ class Debuggee:
 
     def _go_by_stops(self, frames, depth, functions=()):
         """Begins a go that ends in one of these calls or functions, where no more than so many calls are active."""
-        wanted = dict.fromkeys([f"at {it.module}:{line}" for it in frames if not it.is_object for line in self._lines.around(self._module(it.module), it.line)])
+        wanted = dict.fromkeys([f"at {it.module}:{line}" for it in frames if not it.is_object for line in self.lines.around(it.module, it.line)])
         wanted |= dict.fromkeys(f"in {it}" for it in functions)
         helpers = tuple(it for it in wanted if it not in self._numbers)
         self.set_stops([*self._numbers, *helpers])
         self._goal, self._slices = Goal("cont", depth, helpers), 0
-
-    def _module(self, name):
-        return next(it for it in self._setup.view.modules if it.name == name)
 
     def _come_again(self):
         """A new session at the last halt."""
@@ -223,21 +232,77 @@ class Debuggee:
         """Stops at all functions and lines but for the user's own."""
         stops = [f"in {it}" for it in self.functions]
         for module in self._setup.view.modules:
-            if not module.is_object:
-                stops += [f"at {module.name}:{line}" for line in self._lines.of(module)]
+            if module.name not in self._objects:
+                stops += [f"at {module.name}:{line}" for line in self.lines.of(module.name)]
         return [it for it in stops if it not in own]
 
-    def look_from(self, session):
-        """Looks at the run from another session from now on: one that stands where the run ended."""
+    def change(self, words, text=None):
+        """Changes a module at a stop, by the words of `swap` or `edit`; `text` is the text that `edit` takes. Gives the answer."""
+        self._forget_asides()
+        command, name, form = words[0], words[1], (words[2:] or [""])[0]
+        if command == "edit":
+            file = f"saber_{len(self._past)}_{form}"[-63:]
+            self._setup.view.replace(file, text)
+            told = self._change_by(f"edit {name} {file}")
+            if not told.startswith("refused "):
+                self.lines.edited(name, file)
+                self._objects.discard(name)
+            return told.replace(file, form)
+        if form in ("object", "fast"):
+            told = self._change_by(f"compile {name}" + (" fast" if form == "fast" else ""))
+            if told.startswith("refused "):
+                return told
+        told = self._change_by(" ".join(words))
+        if not told.startswith("refused "):
+            (self._objects.discard if form == "source" else self._objects.add)(name)
+        return told
+
+    def _change_by(self, command):
+        """Gives a command that is done again in each replay, if it is not refused."""
+        answer = self.session.ask(command)
+        if not answer.is_refused:
+            self._past.append(command)
+            self.functions = functions_of(self.session)
+        return answer.text
+
+    def setup(self):
+        """A setup that repeats this run."""
+        return setup_of(self._setup, self._past)
+
+    def look_from(self, way):
+        """Looks at the run from another session from now on: one on a way that stands where the run ended."""
+        self._forget_asides()
         self.session.close()
-        self.session = session
+        self.is_changed = has_changes(self._past)
+        self.session, self._past = way.session, way.commands
 
     def frames(self):
         """The active calls, the innermost one first; none where the run shows none."""
-        answer = self.session.ask("where")
-        return [] if answer.is_refused else [it for it in map(frame_of, answer.lines) if it]
+        return [it for it in map(frame_of, self.calls()) if it]
 
-    def values(self, names):
-        """The values of those names that stand for objects in the innermost call."""
-        told = self.session.ask_all([f"print {it}" for it in names])
+    def calls(self):
+        answer = self.session.ask("where")
+        return () if answer.is_refused else answer.lines
+
+    def _way_to(self, at):
+        """The commands that lead to where a call last began its line."""
+        if self.is_changed:
+            raise Lost("the modules were changed while this run stood, so that only names of the innermost call can be shown")
+        if at not in self._ways:
+            self._ways[at] = place_of_outer(self._setup, tuple(self._past), self.calls(), at) if at else tuple(self._past)
+        return self._ways[at]
+
+    def _aside(self, at):
+        """A session that stands where a call last began its line."""
+        if at and at not in self._asides:
+            self._asides[at] = repeat(self._setup.start(turns=SLICE), self._way_to(at))
+        return self._asides[at] if at else self.session
+
+    def values(self, names, at=0):
+        """The values of those names that stand for objects in a call: 0 is the innermost one, and outer ones are as they began their lines."""
+        told = self._aside(at).ask_all([f"print {it}" for it in names])
         return dict(it.text.split(" = ", 1) for it in told if " = " in it.text)
+
+    def evaluate(self, expression, at=0):
+        """The value of an expression in a call."""
+        return evaluated(self._setup, self._way_to(at), self.calls()[at:], expression)

@@ -8,11 +8,12 @@ import os
 import pathlib
 import random
 import re
+import select
 import shutil
 import signal
 import subprocess
 import tempfile
-from dataclasses import dataclass, field
+from dataclasses import dataclass, field, replace
 
 ROOT = pathlib.Path(__file__).resolve().parent.parent
 GOES = ("run", "step", "next", "cont", "stepi")
@@ -22,6 +23,10 @@ MOST_TURNS = 1_000_000_000
 MOST_LINES = 990_000
 # A batch has to fit into the pipe, so that neither side waits for the other.
 MOST_IN_A_BATCH = 500
+# The seconds of processor time in which a text has to be translated; one of the greatest size takes a few.
+MOST_SECONDS = 5
+# the largest file that the program reads
+MOST_BYTES = 8_388_608
 PR_SET_PDEATHSIG = 1
 MODULE = re.compile(r"[A-Za-z][A-Za-z0-9_]{0,30}")
 FILE = re.compile(r"[A-Za-z0-9_][A-Za-z0-9_.-]{0,62}")
@@ -41,6 +46,21 @@ class Early(Trouble):
     def __init__(self, status, said, told):
         super().__init__(f"the session ended early with status {status}: {said or 'nothing was said'}", 3)
         self.program_status, self.said, self.told = status, said, told
+
+
+class NotTaken(Trouble):
+    """A text of a module that `load` does not take: the module's name, and the file and the line of the refusal."""
+
+    def __init__(self, command, answer):
+        super().__init__(f"{command}: {answer}; saber-run prepares such a file, runs it and explains, and saber-prep writes it in the core", 2)
+        self.said = f"{command}: {answer}"
+        self.module = command.split()[1]
+        self.file, _, line = answer.split()[-1].rpartition(":")
+        self.line = int(line) if line.isdigit() else 0
+
+
+class TwoHeaders(Trouble):
+    """Headers of one name in two folders of modules."""
 
 
 def refused(text):
@@ -76,9 +96,14 @@ def status_of(text):
 def add_words_of_a_run(parser):
     """Adds the words of a tool that runs modules once to its command line."""
     parser.add_argument("modules", nargs="*", metavar="MODULE|FILE.c", help="a module M of the file M.c, in the order of loading")
-    parser.add_argument("-i", "--input", metavar="FILE", help="the file that the program reads as its input")
     parser.add_argument("--object", action="append", default=[], metavar="M",
                         help="run module M as compiled code, without checks (may stand more than once)")
+    add_limits(parser)
+
+
+def add_limits(parser):
+    """Adds the words for a run's input, for its limits and for the program."""
+    parser.add_argument("-i", "--input", metavar="FILE", help="the file that the program reads as its input")
     parser.add_argument("--turns", type=int, default=MOST_TURNS, metavar="N", help=f"the most turns of the run ({MOST_TURNS})")
     parser.add_argument("--stack", metavar="N", help="bytes of the program's stack (1048576)")
     parser.add_argument("--heap", metavar="N", help="bytes of its heap (4194304)")
@@ -90,6 +115,11 @@ def words_of_a_run(parser):
     found = parser.parse_intermixed_args()
     if not found.modules and not found.object:
         parser.error("no module is named")
+    return within_limits(parser, found)
+
+
+def within_limits(parser, found):
+    """The words, if their limits can be."""
     if not 1 <= found.turns <= MOST_TURNS:
         parser.error(f"--turns takes a number from 1 to {MOST_TURNS}")
     return found
@@ -117,6 +147,15 @@ def find_program(named=None):
     return pathlib.Path(found)
 
 
+def processor_time(process):
+    """The seconds of processor time that a process has taken; 0 where that is not known."""
+    try:
+        fields = pathlib.Path(f"/proc/{process}/stat").read_text().rpartition(")")[2].split()
+        return (int(fields[11]) + int(fields[12])) / os.sysconf("SC_CLK_TCK")
+    except (OSError, ValueError, IndexError):
+        return 0
+
+
 def _end_with_parent():
     """Ends a program when its tool dies, also in the middle of a run."""
     ctypes.CDLL(None).prctl(PR_SET_PDEATHSIG, signal.SIGKILL)
@@ -139,7 +178,7 @@ class Session:
         self._ask_for_mark = f"\ndrop {number}\n".encode()
         self._mark = f"> refused C17 {number}\n".encode()
         self._held = b""
-        self.lines = 0
+        self.lines, self._is_bounded = 0, False
         try:
             # in a session of its own, Ctrl-C at the terminal reaches the tool alone
             self.child = subprocess.Popen([program, *options], cwd=folder, stdin=subprocess.PIPE, stdout=subprocess.PIPE,
@@ -195,6 +234,21 @@ class Session:
         except OSError:
             self._early()
 
+    def ask_bounded(self, command):
+        """The answer to a command that has to come soon: no hostile text makes a tool wait without end."""
+        self._is_bounded = True
+        try:
+            return self.ask(command)
+        finally:
+            self._is_bounded = False
+
+    def _wait(self):
+        """Waits for more bytes, for a bounded command so long as the program may work on it."""
+        before = processor_time(self.child.pid) if self._is_bounded else 0
+        while self._is_bounded and not select.select([self.child.stdout], [], [], 1)[0]:
+            if processor_time(self.child.pid) - before > MOST_SECONDS:
+                raise refused(f"no answer after {MOST_SECONDS} s of processor time")
+
     def _told(self, show):
         """The bytes up to the next mark, which is taken off, and how many of them were shown."""
         shown = begin = 0
@@ -202,6 +256,7 @@ class Session:
             begin = max(0, len(self._held) - len(self._mark))
             if show:
                 shown += self._show(show, shown)
+            self._wait()
             more = os.read(self.child.stdout.fileno(), 1 << 16)
             if not more:
                 self._early()
@@ -229,10 +284,11 @@ class Session:
 
 @dataclass(frozen=True)
 class Module:
-    """A module that is loaded: its name, its file, and whether its object runs."""
+    """A module that is loaded: its name, its file, and whether its object runs, perhaps the faster one."""
     name: str
     path: pathlib.Path
     is_object: bool = False
+    is_fast: bool = False
 
 
 def module_of(word, is_object=False, folder="."):
@@ -268,22 +324,23 @@ def levels_up(folder):
 
 
 class View:
-    """A folder of its own that shows the files of the modules' folders by links, so that nothing of the user's changes.
+    """A folder of its own that shows the files of the modules' folders, so that nothing of the user's changes.
 
-    Objects of modules that run as such are not shown: `compile` writes them here.
+    Texts stand in it as they are now, so that a run can be repeated after they were edited; other files by links. Objects of
+    modules that run as such are not shown: `compile` writes them here.
     """
     INPUT = "saber_input"
 
     def __init__(self, modules, given=None, folder="."):
         self._room = tempfile.TemporaryDirectory(prefix="saber-")
         self.folder = self._below(modules[0].path.parent)
-        self.modules, self.given = modules, None if given is None else pathlib.Path(folder, given).resolve()
+        self.modules, self.given, self._shown = modules, None if given is None else pathlib.Path(folder, given).resolve(), {}
         own = {f"{it.name}.c": it.path for it in modules}
-        hidden = {f"{it.name}.o" for it in modules}
+        hidden = {self.INPUT, *(f"{it.name}{ending}" for it in modules for ending in (".o", ".fast.o"))}
         for folder in dict.fromkeys(it.path.parent for it in modules):
             for path in folder.iterdir():
                 if path.name not in hidden and FILE.fullmatch(path.name):
-                    self._link(own.get(path.name, path))
+                    self._show(own.get(path.name, path))
         if self.given:
             if not self.given.is_file():
                 raise refused(f"there is no file {given}")
@@ -301,12 +358,19 @@ class View:
             at.mkdir()
         return at
 
-    def _link(self, path):
-        link = self.folder / path.name
-        if not link.is_symlink():
-            link.symlink_to(path.resolve())
-        elif path.suffix == ".h" and link.read_bytes() != path.read_bytes():
-            raise refused(f"{link.resolve()} and {path} are two headers of one name")
+    def _show(self, path):
+        shown, first = self.folder / path.name, self._shown.setdefault(path.name, path)
+        if shown.is_symlink() or shown.exists():
+            if path.suffix == ".h" and shown.read_bytes() != path.read_bytes():
+                raise TwoHeaders(f"{first} and {path} are two headers of one name", 2)
+        elif path.suffix in (".c", ".h") and path.is_file() and path.stat().st_size <= MOST_BYTES and os.access(path, os.R_OK):
+            shown.write_bytes(path.read_bytes())
+        else:
+            shown.symlink_to(path.resolve())
+
+    def again(self):
+        """The modules as this view has their texts, for another view."""
+        return [replace(it, path=self.folder / f"{it.name}.c") for it in self.modules]
 
     def replace(self, name, text):
         """Puts a text in the place of what the view shows under a name."""
@@ -334,9 +398,17 @@ class Setup:
     def run(self):
         return f"run {View.INPUT}" if self.view.given else "run"
 
+    def over(self, view):
+        """The same over another view."""
+        return replace(self, view=view)
+
+    def empty(self, *options, turns=MOST_TURNS):
+        """A session without modules."""
+        return Session(self.program, self.view.folder, (*self.options, "--turns", str(turns), *options))
+
     def start(self, *options, turns=MOST_TURNS):
         """A session with every module loaded in its form."""
-        session = Session(self.program, self.view.folder, (*self.options, "--turns", str(turns), *options))
+        session = self.empty(*options, turns=turns)
         try:
             for module in self.view.modules:
                 load(session, module)
@@ -346,9 +418,22 @@ class Setup:
         return session
 
 
+def loaded(session, command):
+    """The answer to a command that translates a text."""
+    try:
+        return session.ask_bounded(command)
+    except Early:
+        raise
+    except Trouble as trouble:
+        raise refused(f"{command}: {trouble}") from None
+
+
 def load(session, module):
     """Loads one module in its form, or raises its refusal."""
-    for command in (f"load {module.name}", *((f"compile {module.name}", f"swap {module.name} object") if module.is_object else ())):
-        answer = session.ask(command)
+    ending, form = (" fast", "fast") if module.is_fast else ("", "object")
+    for command in (f"load {module.name}", *((f"compile {module.name}{ending}", f"swap {module.name} {form}") if module.is_object else ())):
+        answer = loaded(session, command)
+        if answer.text.startswith("refused C5 "):
+            raise NotTaken(command, answer.text)
         if answer.is_refused:
             raise refused(f"{command}: {answer.text}")

@@ -1,5 +1,6 @@
 """What the tools know of the texts of modules: lines, their original places, and the names on them."""
 import json
+import os
 import pathlib
 import re
 from dataclasses import dataclass
@@ -21,11 +22,8 @@ class Place:
 
     @property
     def file(self):
-        """The file as it is named from the current folder on, if it lies below it."""
-        try:
-            return str(self.path.relative_to(pathlib.Path.cwd()))
-        except ValueError:
-            return str(self.path)
+        """The file as it is named from the current folder on, if that is the shorter name."""
+        return min(os.path.relpath(self.path), str(self.path), key=len)
 
 
 class Sources:
@@ -34,6 +32,12 @@ class Sources:
     def __init__(self, modules):
         self._paths = {it.name: it.path for it in modules}
         self._lines, self._maps = {}, {}
+
+    def edited(self, name, path):
+        """Takes another file as the text of a module, or the same one as it is now."""
+        self._paths[name] = path
+        self._lines.pop(name, None)
+        self._maps.pop(name, None)
 
     def lines(self, name):
         """The lines of a module's text; none where the module is not known."""
@@ -119,6 +123,17 @@ def names_in(lines):
         if is_name and (at == 0 or tokens[at - 1] not in (".", "->")) and tokens[at + 1:at + 2] != ["("]:
             found.append(token)
     return list(dict.fromkeys(found))
+
+
+def parts_of(value):
+    """The elements of an array or a structure, as `print` writes it; none for another value."""
+    parts, depth, begin = [], 0, 1
+    for at, sign in enumerate(value if value.startswith("{") else ""):
+        depth += (sign == "{") - (sign == "}")
+        if (sign == "," and depth == 1) or (sign == "}" and depth == 0):
+            parts.append(value[begin:at].strip())
+            begin = at + 1
+    return [it for it in parts if it]
 
 
 def block_around(lines, number):

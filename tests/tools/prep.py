@@ -19,7 +19,7 @@ import common
 FOLDER = common.HERE / "prep"
 WORDS = {"words": ["--arguments", "0x11 two"]}  # further words of saber-prep for a program
 GIVEN = {"words": ["0x11", "two"]}  # the same words for the compiled program
-RUN = ["bits", "c99", "gnu", "jumps", "members", "narrow", "oldstyle", "pointers", "structs", "variadic", "words"]
+RUN = ["bits", "c99", "constant", "gnu", "jumps", "members", "narrow", "oldstyle", "pointers", "structs", "tokens", "variadic", "words"]
 
 
 def given_to(name):
@@ -105,9 +105,9 @@ def leaves_out(program, folder):
 
 
 def tells_of_narrow(program, folder):
-    """Without --narrow 64 bits are named and not taken, with it each place is told."""
+    """Without --narrow 64 bits are named and not taken, with it they are told; --verbose tells each place."""
     file = FOLDER / "narrow.c"
-    without, narrow = common.prepared([file], folder), common.prepared([file], folder, ["--narrow"])
+    without, narrow = common.prepared([file], folder, ["--verbose"]), common.prepared([file], folder, ["--narrow", "--verbose"])
     lines = [5, 13, 15, 21, 22, 23]
     for line in lines:
         if f"narrow.c:{line}: NARROWED: " not in narrow.stderr or f"narrow.c:{line}: not taken: " not in without.stderr:
@@ -117,12 +117,62 @@ def tells_of_narrow(program, folder):
 
 def tells_what_changes(program, folder):
     """What may change what a program does is told with its place."""
-    ran = common.prepared([FOLDER / "c99.c", FOLDER / "gnu.c", FOLDER / "bits.c"], folder)
+    ran = common.prepared([FOLDER / "c99.c", FOLDER / "gnu.c", FOLDER / "bits.c"], folder, ["--verbose"])
     for text in ("c99.c:123: told: volatile", "c99.c:77: told: the inner object n", "gnu.c:16: told: the open array data",
                  "gnu.c:22: told: arithmetic on void *", "gnu.c:29: told: conversion from unsigned char * to char *", "bits.c:7: told: the bit-field low"):
         if text not in ran.stderr:
             return f"not told: {text}"
     return None
+
+
+# other files hold `other` and `user`; `scan` is reached by a table and by a static function
+WEIGHTS = """\
+left.c:22: LEFT OUT: the function other: double; floating constant 2.0. A run that calls it ends with U17; reached by main, other, user
+left.c:4: LEFT OUT: the function scan: double; floating constant 1.5. A run that calls it ends with U17; reached by by_call, by_table
+left.c:2: NARROWED: uint64_t is read with 32 bits: values above 32 bits are lost (the first of 2 places)
+"""
+
+
+def tells_by_weight(program, folder):
+    """What was left out stands first, with the exported functions that reach it, and places of one kind are one line."""
+    ran = common.prepared([FOLDER / "left.c", FOLDER / "left_user.c"], folder, ["--leave-out", "--narrow"])
+    came, answer = ran.stderr.replace(f"{FOLDER}/", ""), common.run_of(program, folder, ["left", "left_user"])
+    return None if (ran.returncode, came, answer) == (0, WEIGHTS, "> exit 3\n") else f"{came} {answer}"
+
+
+INTEGERS = """\
+AS INTEGER: the constant 1.5 becomes 1l: its value is another
+AS INTEGER: the constant .5f becomes 0l: its value is another
+AS INTEGER: the constant 1e30 becomes 2147483647l: its value is another
+AS INTEGER: double is read as long: what stands behind the point is lost, and what needs more than 32 bits; sizeof differs (the first of 4 places)
+"""
+
+
+def reads_integers(program, folder):
+    """With --integers floating types are `long`, which is told; a conversion of a format goes with them."""
+    ran = common.prepared([FOLDER / "integers.c"], folder, ["--integers"])
+    untold = [it for it in INTEGERS.splitlines() if it not in ran.stderr]
+    # 9 / 2 is 4, and 1 + 2 + 0600 + 2 is 389
+    answer, wanted = common.run_of(program, folder, ["integers"]), "    1|4|1000|0\n1 389\n> exit 0\n"
+    return f"{untold} {answer} {ran.stderr}" if untold or ran.returncode or answer != wanted else None
+
+
+def tells_limits(program, folder):
+    """A text above the limit of `load` is told, soon, and blanks stand only where tokens would grow together."""
+    (folder / "large.c").write_text(f"const unsigned char all[] = {{ {'1, ' * 600_000} }};\nint main(void) {{ return all[2]; }}\n")
+    ran = common.prepared([folder / "large.c"], folder / "out")
+    if ran.returncode != 3 or "large.c:1: its own text has 12000" not in ran.stderr or "load takes 1048576" not in ran.stderr:
+        return f"{ran.returncode} {ran.stderr}"
+    ran = common.prepared([FOLDER / "tokens.c"], folder / "out")
+    line = (folder / "out" / "tokens.c").read_text().splitlines()[8]
+    return None if line == "int a=3,b=2,*p= &b,c[3]={1,2,3};" else line
+
+
+def own_printf(program, folder):
+    """A source may declare printf by itself, without the dots, and a type a second time."""
+    ran = common.prepared([FOLDER / "printf.c"], folder)
+    answer = common.run_of(program, folder, ["printf"])
+    return None if (ran.returncode, answer) == (0, "3 x\n> exit 0\n") else f"{ran.stderr} {answer}"
 
 
 def names_of_modules(program, folder):
@@ -149,10 +199,14 @@ FAULTS = {
     "no C": (["text.c"], 3, "text.c:1: unknown type name 'This'"),
     "a bracket": (["open.c"], 3, "open.c:1: expected '}'"),
     "bytes": (["bytes.c"], 3, "bytes.c:1: "),
+    "macros without end": (["bomb.c"], 3, "bomb.c:1: clang makes more of it than can be worked on"),
+    "a header of itself": (["itself.c"], 3, "itself.c:1: #include nested too deeply"),
 }
 FILES = {
     "header.c": b"int x;\n#include \"nowhere.h\"\n", "error.c": b"#error wrong machine\n", "text.c": b"This is no C.\n",
     "open.c": b"int main(void) { return 0;\n", "bytes.c": bytes(range(1, 256)),
+    "bomb.c": b"#define M0 int a; int a;\n" + b"".join(b"#define M%d M%d M%d\n" % (it, it - 1, it - 1) for it in range(1, 40)) + b"M39\n",
+    "itself.c": b"#include \"itself.c\"\n",
 }
 
 
@@ -194,7 +248,7 @@ def own_functions(program, folder):
     return None if came == "wn\n> exit 0\n" else f"{came} {ran.stderr}"
 
 
-TESTS = [lines_of_own_code, lines_of_headers, names_what_stays, leaves_out, tells_of_narrow, tells_what_changes,
+TESTS = [lines_of_own_code, lines_of_headers, names_what_stays, leaves_out, tells_of_narrow, tells_what_changes, tells_by_weight, reads_integers, tells_limits, own_printf,
          names_of_modules, faults, keeps_the_source, own_functions]
 
 

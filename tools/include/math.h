@@ -25,5 +25,11 @@ double atan2(double, double);
 double ldexp(double, int);
 double frexp(double, int *);
 double modf(double, double *);
-#define HUGE_VAL (1e308 * 10)
+#define HUGE_VAL 1e999
+#define INFINITY 1e999f
+#define NAN (INFINITY - INFINITY)
+#define isnan(x) ((x) != (x))
+#define isinf(x) ((x) == INFINITY || (x) == -INFINITY)
+#define isfinite(x) (!isnan(x) && !isinf(x))
+#define signbit(x) ((x) < 0)
 #endif

@@ -1,6 +1,8 @@
 #ifndef SABER_STDIO_H
 #define SABER_STDIO_H
 #include <stddef.h>
+#include <saber_types.h>
+#include <saber_seek.h>
 #include <stdarg.h>
 typedef struct saber_file FILE;
 extern FILE *stdin;
@@ -12,9 +14,6 @@ extern FILE *stderr;
 #define EOF (-1)
 #define BUFSIZ 512
 #define FILENAME_MAX 64
-#define SEEK_SET 0
-#define SEEK_CUR 1
-#define SEEK_END 2
 int putchar(int);
 int puts(const char *);
 int printf(const char *, ...);
@@ -33,6 +32,7 @@ FILE *fopen(const char *, const char *);
 FILE *freopen(const char *, const char *, FILE *);
 FILE *fdopen(int, const char *);
 FILE *tmpfile(void);
+ssize_t getline(char **, size_t *, FILE *);
 int fclose(FILE *);
 int fflush(FILE *);
 int fputc(int, FILE *);

@@ -1,6 +1,7 @@
 #ifndef SABER_STDLIB_H
 #define SABER_STDLIB_H
 #include <stddef.h>
+#include <saber_types.h>
 #define RAND_MAX 32767
 #define EXIT_SUCCESS 0
 #define EXIT_FAILURE 1

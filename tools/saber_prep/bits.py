@@ -45,7 +45,7 @@ def widen(unit: Unit, node: Node) -> int:
     value = next((int(it.data["value"]) for it in width.walk() if "value" in it.data and str(it.data["value"]).isdigit()), 32)
     if node.name:
         unit.edits.delete(width.first - 1, width.last)
-        unit.note(Weight.TOLD, node.place, f"the bit-field {node.name}", f"it becomes a whole {node.type}, cut to {value} bits as before; sizeof may differ")
+        unit.note(Weight.TOLD, node.place, f"the bit-field {node.name}", f"it becomes a whole {node.type}, cut to {value} bits as before; sizeof may differ", "bit-field")
     else:
         end = width.last
         first = node.first

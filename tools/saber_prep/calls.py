@@ -20,7 +20,9 @@ FRAME = [
     "void saber_open ( void ) ;", "void saber_number ( unsigned long ) ;", "void saber_pointer ( const void * ) ;",
     "void saber_close ( void ) ;", "unsigned long saber_close_number ( unsigned long ) ;", "void * saber_close_pointer ( const void * ) ;",
 ]
-FORMAT = re.compile(r"%([-+ #0]*(?:\*|\d+)?(?:\.(?:\*|\d*))?)(hh|ll|[jztq])?([a-zA-Z%])")
+FORMAT = re.compile(r"%([-+ #0]*(?:\*|\d+)?)(\.(?:\*|\d*))?(hh|ll|[jztqL])?([a-zA-Z%])")
+# conversions that the core's printf does not have
+LACKING = re.compile(r"%[-+ #0]*(?:\*|\d+)?(?:\.(?:\*|\d*))?(?:hh|ll|[hljztqL])?([pnaAeEfFgG])")
 FORMATTED = {"printf": 0, "fprintf": 1, "sprintf": 1, "snprintf": 2, "vprintf": 0, "vfprintf": 1, "vsprintf": 1, "vsnprintf": 2}
 
 
@@ -123,18 +125,24 @@ def formats(unit: Unit, node: Node, place: int) -> None:
             continue
         for token in range(it.first, it.last + 1):
             text = unit.text(token)
-            better = FORMAT.sub(better_conversion, text)
+            better = FORMAT.sub(lambda it: better_conversion(it, unit.options.integers), text)
+            for found in LACKING.finditer(better.replace("%%", "")):
+                unit.note(Weight.TOLD, token, f"%{found[1]} in a format", "printf has no such conversion here, and a run that comes there ends")
             if better != text:
                 unit.edits.replace(token, token, Verbatim(better))
                 unit.note(Weight.PLAIN, token, "length in a format")
 
 
-def better_conversion(found: re.Match) -> str:
-    length = "l" if found[2] in ("ll", "q", "j") else ""
-    kind = "d" if found[3] == "i" else found[3]
-    if found[2] is None and kind == found[3]:
+def better_conversion(found: re.Match, integers: bool) -> str:
+    """A conversion that the core has; with `integers` one of a floating number is that of a long, without digits behind the point."""
+    before, digits, given, kind = found[1], found[2] or "", found[3], found[4]
+    if integers and kind in "aAeEfFgG":
+        return f"%{before}{digits if '*' in digits else ''}ld"
+    length = "l" if given in ("ll", "q", "j") else ""
+    better = "d" if kind == "i" else kind
+    if given is None and better == kind:
         return found[0]
-    return f"%{found[1]}{length}{kind}" if found[2] else f"%{found[1]}{kind}"
+    return f"%{before}{digits}{length}{better}"
 
 
 def undeclared(unit: Unit) -> None:
@@ -157,7 +165,7 @@ def undeclared(unit: Unit) -> None:
         result = unit.spelled(there.plain[: there.plain.index("(")]) if there else "int"
         listed = " , ".join(unit.spelled(it) for it in types) or "void"
         unit.edits.put_before(unit.in_item(node.first).first, f"{result} {name} ( {listed} ) ;")
-        unit.note(Weight.TOLD, node.first, f"call of {name} without a declaration", f"it is declared as {result} {name}({listed})")
+        unit.note(Weight.TOLD, node.first, f"call of {name} without a declaration", f"it is declared as {result} {name}({listed})", "call without a declaration")
 
 
 def main_with_arguments(unit: Unit) -> None:

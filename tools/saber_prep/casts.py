@@ -66,7 +66,7 @@ def cast_to(unit: Unit, node: Node) -> None:
         return
     if any(it.kind == "CompoundStmt" for it in node.above()) or node.parent is not None:
         unit.edits.wrap(node.first, node.last, f"( ( {unit.spelled(node.type)} ) (", ") )")
-        unit.note(Weight.TOLD, node.first, f"conversion from {node.inner[0].type} to {node.type}", "a cast is written")
+        unit.note(Weight.TOLD, node.first, f"conversion from {node.inner[0].type} to {node.type}", "a cast is written", "conversion of pointers")
 
 
 def outer_qualifiers(text: str) -> str:
@@ -124,7 +124,7 @@ def small_number(unit: Unit, node: Node, inner: Node) -> bool:
         return False
     unit.need("extern char saber_places [ 257 ] ;")
     unit.edits.replace(node.first, node.last, f"( ( {unit.spelled(node.type)} ) ( saber_places + {value % 257} ) )")
-    unit.note(Weight.TOLD, node.first, f"the number {value} as a pointer", "it is a place in saberlib, other than all objects and null")
+    unit.note(Weight.TOLD, node.first, f"the number {value} as a pointer", "it is a place in saberlib, other than all objects and null", "number as a pointer")
     return True
 
 

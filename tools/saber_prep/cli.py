@@ -1,20 +1,16 @@
-"""The words of the command line, and the files that are read and written."""
+"""The words of the command line, and what is told of the files that are written."""
 from __future__ import annotations
 
 import argparse
 import pathlib
-import re
 import sys
-from dataclasses import dataclass, field
+from dataclasses import dataclass
 
-from .layout import laid_out, map_of
-from .notes import Failure, Notes, Weight
-from .passes import unit_of
+from .notes import Failure, Notes
+from .project import Project, module_names
 from .source import Options
-from .support import names_defined, names_used, needed, without
-from .tree import read_file
+from .telling import lines_of
 
-LONGEST = 31
 TEXT = """Writes a form of each C file that `load` takes, with the line numbers of the original, to a folder."""
 STATUS = """exit status: 0 each file is written and nothing is left that is named `not taken`; 1 such constructs are left;
 2 wrong words, or a file that cannot be read or written; 3 a file that the preprocessor or the parser refuses"""
@@ -29,102 +25,62 @@ class Words:
     quiet: bool
 
 
+def add_options(parser: argparse.ArgumentParser) -> None:
+    """Adds the words that change what is made of a file."""
+    parser.add_argument("-I", dest="folders", action="append", default=[], metavar="DIR", help="a folder of headers")
+    parser.add_argument("-D", dest="defines", action="append", default=[], metavar="X[=Y]", help="a macro")
+    parser.add_argument("--narrow", action="store_true", help="read integers of 64 bits as 32, and say so")
+    parser.add_argument("--integers", action="store_true", help="read floating types and constants as integers, and say so")
+    parser.add_argument("--leave-out", action="store_true", help="leave out functions in which something is not taken; a run that calls one ends with U17")
+    parser.add_argument("--arguments", default="", metavar="WORDS", help="the words that main(argc, argv) gets behind the name")
+
+
+def options_of(found: argparse.Namespace) -> Options:
+    """Those words as they were given."""
+    return Options(found.narrow, found.leave_out, tuple(found.arguments.split()), tuple(found.folders), tuple(found.defines), integers=found.integers)
+
+
 def words_of(given: list[str]) -> Words:
     parser = argparse.ArgumentParser(prog="saber-prep", description=TEXT, epilog=STATUS)
     parser.add_argument("files", nargs="+", metavar="FILE.c", type=pathlib.Path, help="the files; each becomes a module")
-    parser.add_argument("-I", dest="folders", action="append", default=[], metavar="DIR", help="a folder of headers")
-    parser.add_argument("-D", dest="defines", action="append", default=[], metavar="X[=Y]", help="a macro")
     parser.add_argument("-o", dest="output", default="prepared", type=pathlib.Path, metavar="DIR", help="the folder that is written (default: prepared)")
-    parser.add_argument("--narrow", action="store_true", help="read integers of 64 bits as 32, and say so at each place")
-    parser.add_argument("--leave-out", action="store_true", help="leave out functions in which something is not taken; a run that calls one ends with U17")
-    parser.add_argument("--arguments", default="", metavar="WORDS", help="the words that main(argc, argv) gets behind the name")
-    parser.add_argument("--verbose", action="store_true", help="tell each plain rewriting with its place")
+    parser.add_argument("--verbose", action="store_true", help="tell each place, and each plain rewriting too")
     parser.add_argument("--quiet", action="store_true", help="tell only what is not taken")
+    add_options(parser)
     found = parser.parse_args(given)
-    options = Options(found.narrow, found.leave_out, tuple(found.arguments.split()), tuple(found.folders), tuple(found.defines))
-    return Words(options, found.output, found.files, found.verbose, found.quiet)
-
-
-def module_names(files: list[pathlib.Path]) -> list[str]:
-    """The name of each file's module: letters, digits and `_`, at most 31, each of them once."""
-    names: list[str] = []
-    for file in files:
-        name = re.sub(r"\W", "_", file.name.rsplit(".", 1)[0], flags=re.A)
-        name = name if name[:1].isalpha() else "m" + name
-        name = name[:LONGEST]
-        number = 2
-        while name in names:
-            tail = f"_{number}"
-            name = name[: LONGEST - len(tail)] + tail
-            number += 1
-        names.append(name)
-    return names
-
-
-@dataclass
-class Names:
-    """What all files of a call use and define."""
-
-    used: set[str] = field(default_factory=set)
-    own: set[str] = field(default_factory=set)
-
-
-def written(words: Words, file: pathlib.Path, name: str, names: Names) -> int:
-    """Makes one module; answers the exit status for it."""
-    read_file(file)
-    target = words.output / f"{name}.c"
-    if target.exists() and not (words.output / f"{name}.map.json").exists():
-        raise Failure(f"{target}: it is there, and was not written by saber-prep; give another folder by -o", 2)
-    unit = unit_of(file, words.options)
-    lines = laid_out(unit)
-    try:
-        words.output.mkdir(parents=True, exist_ok=True)
-        target.write_bytes(lines.text().encode("latin-1"))
-        (words.output / f"{name}.map.json").write_text(map_of(unit, name, lines, words.output))
-    except OSError as fault:
-        raise Failure(f"{target}: {fault.strerror}", 2) from None
-    names.used |= names_used(unit)
-    names.own |= names_defined(unit)
-    tell(words, file, name, unit.notes)
-    return 1 if unit.notes.of(Weight.PROBLEM) else 0
-
-
-def tell(words: Words, file: pathlib.Path, name: str, notes: Notes) -> None:
-    """The notes of a file, the weightiest first, on standard error; the module's name on standard output."""
-    for weight in (Weight.PROBLEM, Weight.LEFT_OUT, Weight.NARROW, Weight.TOLD):
-        if weight is Weight.PROBLEM or not words.quiet:
-            for note in notes.of(weight):
-                print(note.text(), file=sys.stderr)
-    if words.verbose:
-        for note in notes.of(Weight.PLAIN):
-            print(note.text(), file=sys.stderr)
-    if not words.quiet:
-        counts = ", ".join(f"{word} {count}" if count > 1 else word for word, count in notes.counted().items())
-        print(f"{file}: module {name}" + (f" ({counts})" if counts else ""))
+    return Words(options_of(found), found.output, found.files, found.verbose, found.quiet)
 
 
 def main(given: list[str] | None = None) -> int:
     words = words_of(sys.argv[1:] if given is None else given)
-    status = 0
-    names = Names()
+    project, status, modules = Project(words.options, words.output), 0, []
     for file, name in zip(words.files, module_names(words.files)):
         try:
-            status = max(status, written(words, file, name, names))
+            modules.append((file, name, project.write(file, name)))
         except Failure as fault:
             print(f"saber-prep: {fault}", file=sys.stderr)
             status = max(status, fault.status)
-    return max(status, support(words, names))
+    for line in lines_of(project, words.quiet, words.verbose):
+        print(line, file=sys.stderr)
+    if not words.quiet:
+        for module in modules:
+            print(made_of(*module))
+    return max(status, support(words, project), 1 if project.has_problems else 0)
 
 
-def support(words: Words, names: Names) -> int:
+def made_of(file: pathlib.Path, name: str, notes: Notes) -> str:
+    """The name of a file's module, and how often each plain rewriting was made."""
+    counts = ", ".join(f"{word} {count}" if count > 1 else word for word, count in notes.counted().items())
+    return f"{file}: module {name}" + (f" ({counts})" if counts else "")
+
+
+def support(words: Words, project: Project) -> int:
     """Writes the support modules that the files need; answers the exit status for them."""
-    for file in needed(names.used, names.own):
-        text, target = file.read_text(), words.output / file.name
-        front = text[: text.index("*/")]
-        if target.exists() and not target.read_text(errors="replace").startswith(front):
-            print(f"saber-prep: {target}: it is there, and was not written by saber-prep; give another folder by -o", file=sys.stderr)
-            return 2
-        target.write_text(without(text, names.own))
-        if not words.quiet:
-            print(f"{file.name}: module {file.stem}, which the others need")
+    try:
+        for file in project.support():
+            if not words.quiet:
+                print(f"{file.name}: module {file.stem}, which the others need")
+    except Failure as fault:
+        print(f"saber-prep: {fault}", file=sys.stderr)
+        return fault.status
     return 0

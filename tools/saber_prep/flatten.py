@@ -63,7 +63,7 @@ def rewrite(unit: Unit, function: Node, wanted: dict[int, Node]) -> None:
         elif node.kind not in ("LabelStmt", "CaseStmt", "DefaultStmt"):
             unit.note(Weight.PROBLEM, node.first, "jump into an expression", "write it otherwise")
     leaving(unit, function, names)
-    unit.note(Weight.TOLD, function.place, f"jumps into blocks of {function.name}", "its loops around the labels are written with goto")
+    unit.note(Weight.TOLD, function.place, f"jumps into blocks of {function.name}", "its loops around the labels are written with goto", "jumps into blocks")
 
 
 def leaving(unit: Unit, function: Node, names: dict[int, str]) -> None:

@@ -6,8 +6,10 @@ import re
 from .edits import Part, Span
 from .notes import Weight
 from .tree import Node
-from .unit import Unit
+from .types import named
+from .unit import UNNAMED, Unit
 
+QUALIFIED = re.compile(r"\bconst\b(?=[^*]*$)")
 PLAIN_LEAVES = {"IntegerLiteral", "CharacterLiteral", "StringLiteral", "ImplicitValueInitExpr", "UnaryExprOrTypeTraitExpr", "OffsetOfExpr", "FloatingLiteral"}
 THROUGH = {"ImplicitCastExpr", "CStyleCastExpr", "ParenExpr", "ConstantExpr", "ArraySubscriptExpr"}
 
@@ -98,23 +100,37 @@ def first_members_only(unit: Unit, node: Node) -> bool:
     return True
 
 
-def assignments(unit: Unit, path: str, node: Node, zeros: bool) -> list[Part]:
-    """The statements that do what a list does to the object `path`; with `zeros` also for what it leaves out."""
+def assignments(unit: Unit, path: str, node: Node, zeros: bool, constant: bool = False) -> list[Part]:
+    """The statements that do what a list does to the object `path`; with `zeros` also for what it leaves out.
+
+    A `constant` object is a member that may not be assigned by its name, or a part of one.
+    """
     parts: list[Part] = []
-    for below, item in zip(paths(unit, path, node), node.inner):
+    for (below, fixed), item in zip(paths(unit, path, node), node.inner):
+        fixed = fixed or constant
         if is_left_out(item):
-            parts += zeroed(unit, below, item.type, item.plain) if zeros else []
+            parts += zeroed(unit, below, item, fixed) if zeros else []
         elif item.kind == "InitListExpr":
-            parts += assignments(unit, below, item, zeros)
+            parts += assignments(unit, below, item, zeros, fixed)
         elif item.kind == "StringLiteral" and item.plain.endswith("]"):
-            parts += text_copied(unit, below, item)
+            parts += text_copied(unit, f"( ( char * ) {below} )" if fixed else below, item, below)
         else:
-            parts += [below, "=", Span(item.first, item.last), ";"]
+            parts += [assigned(unit, below, item, fixed), "=", Span(item.first, item.last), ";"]
     return parts
 
 
-def text_copied(unit: Unit, path: str, node: Node) -> list[Part]:
-    """The statements that copy a string into an array of characters, with zeros behind it."""
+def assigned(unit: Unit, path: str, item: Node, constant: bool) -> str:
+    """How a place is written in front of `=`: a constant one by its address."""
+    if not constant:
+        return path
+    if UNNAMED.search(item.type):
+        unit.note(Weight.PROBLEM, item.first, "a constant member without a name for its type", "give the type a name")
+    return f"* ( {named(unit.spelled(QUALIFIED.sub('', item.type)), '*')} ) & {path}"
+
+
+def text_copied(unit: Unit, to: str, node: Node, path: str = "") -> list[Part]:
+    """The statements that copy a string into an array of characters `path`, which is written `to`, with zeros behind it."""
+    path = path or to
     unit.need("void * memcpy ( void * , const void * , unsigned int ) ;")
     unit.need("void * memset ( void * , int , unsigned int ) ;")
     span = Span(node.first, node.last)
@@ -122,29 +138,38 @@ def text_copied(unit: Unit, path: str, node: Node) -> list[Part]:
     length = len(re.findall(r"\\x[0-9a-fA-F]+|\\[0-7]{1,3}|\\.|.", text)) + 1
     room = re.search(r"\[(\d+)\]", node.plain)
     if room is not None and length > int(room[1]):
-        return [f"memcpy ( {path} ,", span, f", sizeof ( {path} ) ) ;"]
-    return [f"memset ( {path} , 0 , sizeof ( {path} ) ) ; memcpy ( {path} ,", span, f", {length} ) ;"]
+        return [f"memcpy ( {to} ,", span, f", sizeof ( {path} ) ) ;"]
+    return [f"memset ( {to} , 0 , sizeof ( {path} ) ) ; memcpy ( {to} ,", span, f", {length} ) ;"]
 
 
-def paths(unit: Unit, path: str, node: Node) -> list[str]:
-    """How the places of a list are reached from the object."""
+def paths(unit: Unit, path: str, node: Node) -> list[tuple[str, bool]]:
+    """How the places of a list are reached from the object, and whether each is a constant member."""
     if node.plain.endswith("]") or node.type.endswith("]"):
-        return [f"{path} [ {number} ]" for number in range(len(node.inner))]
+        return [(f"{path} [ {number} ]", False) for number in range(len(node.inner))]
     if "field" in node.data:
         member = unit.declared.get(node.data["field"].get("id", ""))
-        return [f"{path} . {unit.member_name(member) if member is not None else node.data['field'].get('name')}"]
+        name = unit.member_name(member) if member is not None else node.data["field"].get("name")
+        return [(f"{path} . {name}", member is not None and is_constant_member(member))]
     record = unit.record_of(node.type) or unit.record_of(node.plain)
     if record is None:
-        return [path]
-    return [f"{path} . {unit.member_name(it)}" for it in unit.fields(record)]
+        return [(path, False)]
+    return [(f"{path} . {unit.member_name(it)}", is_constant_member(it)) for it in unit.fields(record)]
 
 
-def zeroed(unit: Unit, path: str, type_text: str, plain: str) -> list[Part]:
+def is_constant_member(member: Node) -> bool:
+    """Whether a member may not be assigned: the word stands for it, and not for what it points to."""
+    text = member.plain.split("[")[0]
+    if "(*" in text:
+        return "(*const" in text.replace(" ", "")
+    return "const" in (text.rsplit("*", 1)[1] if "*" in text else text).split()
+
+
+def zeroed(unit: Unit, path: str, item: Node, constant: bool) -> list[Part]:
     """Statements that make an object zero."""
-    if unit.record_of(type_text) is None and unit.record_of(plain) is None and not plain.endswith("]"):
-        return [f"{path} = 0 ;"]
+    if unit.record_of(item.type) is None and unit.record_of(item.plain) is None and not item.plain.endswith("]"):
+        return [f"{assigned(unit, path, item, constant)} = 0 ;"]
     unit.need("void * memset ( void * , int , unsigned int ) ;")
-    return [f"memset ( & {path} , 0 , sizeof ( {path} ) ) ;"]
+    return [f"memset ( {'( void * )' if constant else ''} & {path} , 0 , sizeof ( {path} ) ) ;"]
 
 
 def initialiser(node: Node) -> Node | None:

@@ -11,6 +11,7 @@ def keep_used(unit: Unit) -> None:
     A header may declare what the core does not have; it only matters where it is used.
     """
     needed: set[str] = set()
+    again = repeated(unit)
     for item in unit.items:
         item.kept = rooted(item)
         if item.kept:
@@ -20,12 +21,24 @@ def keep_used(unit: Unit) -> None:
     while more:
         more = False
         for item in unit.items:
-            if not item.kept and provided[id(item)] & needed:
+            if not item.kept and item not in again and provided[id(item)] & needed:
                 item.kept = more = True
                 needed |= names_in(unit, item)
     dropped = sum(not it.kept for it in unit.items)
     if dropped:
         unit.note(Weight.PLAIN, 0, f"{dropped} unused declarations dropped")
+
+
+def repeated(unit: Unit) -> list[Item]:
+    """Typedefs that were there before: C of 2011 takes them again, and the core does not."""
+    seen: set[str] = set()
+    found = []
+    for item in unit.items:
+        names = {it.name for it in item.nodes if it.kind == "TypedefDecl"}
+        if names and names <= seen and all(it.kind == "TypedefDecl" for it in item.nodes):
+            found.append(item)
+        seen |= names
+    return found
 
 
 def rooted(item: Item) -> bool:

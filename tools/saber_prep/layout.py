@@ -4,10 +4,23 @@ from __future__ import annotations
 import json
 import os
 import pathlib
+import re
+import string
+import zlib
 from dataclasses import dataclass, field
 
 from .edits import Piece
 from .unit import Item, Unit
+
+
+# what `load` takes, by docs/PREPROCESSING.md
+LONGEST_NAME = 63
+MOST_TOKENS = 1_000_000
+NAME = re.compile(r"[A-Za-z_]\w*")
+LETTERS = string.ascii_letters + "_"
+QUOTES = "\"'"
+# tokens that no other one grows into
+ALONE = frozenset("()[]{};,?")
 
 
 @dataclass
@@ -18,16 +31,55 @@ class Lines:
     places: dict[int, tuple[str, int]] = field(default_factory=dict)
 
     def put(self, line: int, text: str) -> None:
+        """Puts a token, or several with blanks between them, behind what a line has."""
         while len(self.texts) <= line:
             self.texts.append([])
-        self.texts[line].append(text)
+        self.texts[line] += [shortened(it) for it in ([text] if text[:1] in QUOTES else text.split())]
 
     @property
     def last(self) -> int:
         return len(self.texts) - 1
 
     def text(self) -> str:
-        return "".join(" ".join(it) + "\n" for it in self.texts[1:])
+        return "".join(joined(it) + "\n" for it in self.texts[1:])
+
+    @property
+    def tokens(self) -> int:
+        return sum(map(len, self.texts))
+
+
+def shortened(token: str) -> str:
+    """A name as `load` takes it: one above its limit keeps its front, and gets a number that is made of all of it."""
+    if len(token) <= LONGEST_NAME or not NAME.fullmatch(token):
+        return token
+    return f"{token[:LONGEST_NAME - 9]}_{zlib.crc32(token.encode()):08x}"
+
+
+def joined(tokens: list[str]) -> str:
+    """Tokens as one text, with blanks only where two of them would else be read as others."""
+    parts, before = [], ""
+    for token in tokens:
+        if before and needs_blank(before, token):
+            parts.append(" ")
+        parts.append(token)
+        before = token
+    return "".join(parts)
+
+
+def needs_blank(left: str, right: str) -> bool:
+    """Whether two tokens would be read otherwise without a blank between them."""
+    if left in ALONE or right in ALONE:
+        return False
+    if is_word(left):
+        return is_word(right) or right[0] in QUOTES or left[0] not in LETTERS and right[0] in "+-."
+    if is_word(right):
+        return left == "." and right[0].isdigit()
+    return left[0] not in QUOTES or right[0] in QUOTES
+
+
+def is_word(token: str) -> bool:
+    """Whether a token is a name, a word of the language or a number."""
+    return token[0].isalnum() or token[0] in "_$" or token[0] == "." and token[1:2].isdigit()
 
 
 def laid_out(unit: Unit) -> Lines:

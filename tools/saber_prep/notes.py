@@ -6,10 +6,11 @@ from dataclasses import dataclass, field
 
 
 class Weight(enum.Enum):
-    """How much a note matters, and the word that stands before it."""
+    """How much a note matters, and the word that stands before it. The weightiest stands last."""
 
     PLAIN = "note"
     TOLD = "told"
+    INTEGER = "AS INTEGER"
     NARROW = "NARROWED"
     LEFT_OUT = "LEFT OUT"
     PROBLEM = "not taken"
@@ -25,28 +26,37 @@ class Failure(Exception):
 
 @dataclass(frozen=True)
 class Note:
-    """One note: the place in the user's own text, the construct, and what to do."""
+    """One note: the place in the user's own text, the construct, and what to do.
+
+    Notes of one `kind` are told by one line with their number; `owner` is the key of the function that it stands in.
+    """
 
     weight: Weight
     file: str
     line: int
     construct: str
     advice: str = ""
+    kind: str = ""
+    owner: str = ""
 
     def text(self) -> str:
         tail = f": {self.advice}" if self.advice else ""
         return f"{self.file}:{self.line}: {self.weight.value}: {self.construct}{tail}"
+
+    @property
+    def group(self) -> tuple:
+        """What it has in common with the notes that are told with it."""
+        return self.weight, self.kind or self.construct
 
 
 @dataclass
 class Notes:
     """The notes of one file, each of them once."""
 
-    notes: list[Note] = field(default_factory=list)
+    notes: dict[Note, None] = field(default_factory=dict)
 
     def add(self, note: Note) -> None:
-        if note not in self.notes:
-            self.notes.append(note)
+        self.notes.setdefault(note)
 
     def of(self, weight: Weight) -> list[Note]:
         return [it for it in self.notes if it.weight is weight]

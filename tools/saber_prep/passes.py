@@ -3,7 +3,7 @@ from __future__ import annotations
 
 import pathlib
 
-from . import bits, calls, casts, flatten, initialisers, keep, members, oldstyle, problems, statements, structs, types, words
+from . import bits, calls, casts, flatten, initialisers, integers, keep, members, oldstyle, problems, statements, structs, types, words
 from .notes import Notes, Weight
 from .source import Options, read
 from .tree import deep, parsed
@@ -13,6 +13,8 @@ from .unit import Unit
 def unit_of(path: pathlib.Path, options: Options) -> Unit:
     """Reads a file and does all passes on it."""
     source = read(path, options)
+    if options.integers:
+        source.tokens = integers.as_integers(source.tokens)
     notes = Notes()
     if not source.tokens:
         return Unit(source, options, [], None, notes)
@@ -32,6 +34,7 @@ def all_passes(unit: Unit) -> None:
     types.wide_integers(unit)
     types.wide_shifts(unit)
     types.floating(unit)
+    integers.integers(unit)
     types.type_of(unit)
     types.open_arrays(unit)
     types.aliases(unit)

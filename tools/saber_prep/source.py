@@ -3,7 +3,10 @@ from __future__ import annotations
 
 import pathlib
 import re
+import resource
+import signal
 import subprocess
+import tempfile
 from dataclasses import dataclass, field
 
 from .notes import Failure
@@ -16,6 +19,11 @@ TOKEN = re.compile(
     re.S,
 )
 MARKER = re.compile(r'# (\d+) "((?:\\.|[^"\\])*)"((?: \d)*)\s*$')
+# what `load` takes of a file, by docs/PREPROCESSING.md
+MOST_BYTES = 1_048_576
+# what clang may make of a file before it is parsed, and how long it may work on one
+MOST_PREPROCESSED = 32 << 20
+MOST_SECONDS = 60
 DIGRAPHS = {"<:": "[", ":>": "]", "<%": "{", "%>": "}", "%:": "#", "%:%:": "##"}
 FIXED = [
     "-D__STDC_VERSION__=199901L", "-D__STDC_HOSTED__=1", "-D__SABER__=1", "-D__CHAR_BIT__=8", "-D__CHAR_UNSIGNED__=1",
@@ -34,7 +42,7 @@ class Options:
     arguments: tuple[str, ...] = ()
     folders: tuple[str, ...] = ()
     defines: tuple[str, ...] = ()
-    without: frozenset[str] = frozenset()
+    integers: bool = False
 
 
 @dataclass(frozen=True)
@@ -49,8 +57,11 @@ class Origin:
 
 @dataclass(frozen=True)
 class Token:
+    """A token; `was` is what the user wrote where --integers made it another one."""
+
     text: str
     origin: Origin
+    was: str = ""
 
     def is_name(self) -> bool:
         return self.text[0].isalpha() or self.text[0] in "_$"
@@ -74,18 +85,29 @@ def preprocessed(path: pathlib.Path, options: Options) -> str:
         words += ["-I", folder]
     words += ["-I", str(path.parent), "-isystem", str(INCLUDE)]
     words += [f"-D{it}" for it in options.defines]
-    ran = run(words + [str(path)], None)
+    ran = run(words + [str(path)], b"", path, MOST_PREPROCESSED)
     if ran.returncode != 0:
         raise Failure(first_error(ran.stderr.decode("latin-1"), path), 3)
     return ran.stdout.decode("latin-1")
 
 
-def run(words: list[str], given: bytes | None) -> subprocess.CompletedProcess:
-    """Runs clang; without it there is nothing to do."""
-    try:
-        return subprocess.run(words, input=given, capture_output=True, check=False)
-    except FileNotFoundError:
-        raise Failure("clang is not there: install it (Debian: apt install clang)", 2) from None
+def run(words: list[str], given: bytes, path: pathlib.Path, most: int) -> subprocess.CompletedProcess:
+    """Runs clang on a text, or on the file itself, for so many bytes and for no more than a while; without clang there is nothing to do."""
+
+    def limited() -> None:
+        resource.setrlimit(resource.RLIMIT_CPU, (MOST_SECONDS, MOST_SECONDS))
+        resource.setrlimit(resource.RLIMIT_FSIZE, (most, most))
+
+    with tempfile.TemporaryFile() as out:
+        try:
+            ran = subprocess.run(words, input=given, stdout=out, stderr=subprocess.PIPE, check=False, preexec_fn=limited)
+        except FileNotFoundError:
+            raise Failure("clang is not there: install it (Debian: apt install clang)", 2) from None
+        out.seek(0)
+        ran.stdout = out.read()
+    if len(ran.stdout) >= most or ran.returncode in (-signal.SIGXCPU, -signal.SIGXFSZ, -signal.SIGKILL):
+        raise Failure(f"{path}:1: clang makes more of it than can be worked on ({most >> 20} MiB, {MOST_SECONDS} s): cut the file into two", 3)
+    return ran
 
 
 def first_error(text: str, path: pathlib.Path) -> str:
@@ -117,8 +139,30 @@ def read(path: pathlib.Path, options: Options) -> Source:
             pending.append((text, origin))
         line += 1
     tokens = [Token(DIGRAPHS.get(it, it), origin) for text, origin in pending for it in TOKEN.findall(text)]
-    source.tokens = with_empty_statements(tokens)
+    size = sum(len(it.text) for it in tokens if not it.origin.header)
+    if size > MOST_BYTES:
+        raise Failure(f"{path}:1: its own text has {size} bytes without blanks and comments, and load takes {MOST_BYTES}: cut the file into two", 3)
+    source.tokens = with_arguments_of_printf(with_empty_statements(tokens))
     return source
+
+
+def with_arguments_of_printf(tokens: list[Token]) -> list[Token]:
+    """Gives a declaration of `printf` its `...` where a source leaves that out, as the core of C may, and older ones do."""
+    out: list[Token] = []
+    depth = begun = 0
+    for place, token in enumerate(tokens):
+        texts = [it.text for it in tokens[max(place - 2, 0) : place]]
+        depth += (token.text == "{") - (token.text == "}")
+        if depth == 0 and texts == ["int", "printf"] and token.text == "(":
+            begun = len(out) + 1
+        if begun and token.text == ")":
+            listed = [it.text for it in out[begun:]]
+            if "..." not in listed and tokens[place + 1 : place + 2] and tokens[place + 1].text in (";", ","):
+                words = ["const", "char", "*"] if not listed else []
+                out += [Token(it, token.origin) for it in (*words, ",", "...")]
+            begun = 0
+        out.append(token)
+    return out
 
 
 def with_empty_statements(tokens: list[Token]) -> list[Token]:

@@ -141,7 +141,7 @@ def name_at_front(unit: Unit, outer: Node, node: Node, variable: Node, whole: No
     for it in outer.walk():
         if it.kind == "DeclRefExpr" and it.target == variable.id:
             unit.edits.replace(it.first, it.last, name)
-    unit.note(Weight.TOLD, variable.place, f"the inner object {variable.name}", f"it is called {name}")
+    unit.note(Weight.TOLD, variable.place, f"the inner object {variable.name}", f"it is called {name}", "inner object")
     return name
 
 

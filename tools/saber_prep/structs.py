@@ -3,6 +3,7 @@ from __future__ import annotations
 
 from .calls import callee
 from .edits import Part, Span
+from .initialisers import is_constant_member
 from .notes import Weight
 from .oldstyle import parameters_at
 from .tree import Node
@@ -40,7 +41,7 @@ def declaration(unit: Unit, node: Node) -> None:
             return
         result(unit, node, opening)
         if body is not None:
-            returns(unit, body)
+            returns(unit, body, has_constant_member(unit, unit.record_of(node.type[: node.type.index("(")].strip())))
         unit.note(Weight.PLAIN, node.place, "structure as a result")
     for parameter in taken(unit, node):
         pointer(unit, parameter, body)
@@ -62,12 +63,35 @@ def result(unit: Unit, node: Node, opening: int) -> None:
         unit.edits.put_behind(opening, front, ",")
 
 
-def returns(unit: Unit, body: Node) -> None:
+def returns(unit: Unit, body: Node, constant: bool) -> None:
+    """Fills what the caller's pointer points to; bytes are copied where a `constant` member forbids an assignment."""
     for node in body.walk():
         if node.kind == "ReturnStmt" and node.inner:
             value = node.inner[0]
-            unit.edits.replace(node.first, node.last, f"{{ * {RESULT} =", Span(value.first, value.last), "; return ; }")
+            span = Span(value.first, value.last)
+            step: list[Part] = [f"* {RESULT} =", span, ";"]
+            if constant:
+                unit.need("void * memcpy ( void * , const void * , unsigned int ) ;")
+                step = [f"memcpy ( {RESULT} , & (", span, f") , sizeof ( * {RESULT} ) ) ;"]
+                if not has_address(value):
+                    unit.note(Weight.PROBLEM, node.first, "a computed structure with a constant member as a result", "keep it in an object first")
+            unit.edits.replace(node.first, node.last, "{", *step, "return ; }")
             unit.edits.delete(node.last + 1)
+
+
+def has_constant_member(unit: Unit, record: Node | None) -> bool:
+    """Whether a structure, or a structure inside of it, has a member that may not be assigned."""
+    if record is None:
+        return False
+    return any(is_constant_member(it) or has_constant_member(unit, unit.record_of(it.type.split("[")[0]) or unit.record_of(it.plain.split("[")[0]))
+               for it in unit.fields(record))
+
+
+def has_address(value: Node) -> bool:
+    """Whether an expression stands for an object."""
+    while value.kind in ("ImplicitCastExpr", "ParenExpr") and value.inner:
+        value = value.inner[0]
+    return value.data.get("valueCategory") == "lvalue"
 
 
 def pointer(unit: Unit, parameter: Node, body: Node | None) -> None:
@@ -109,11 +133,8 @@ def call(unit: Unit, node: Node) -> None:
 
 def address(unit: Unit, function: Node, argument: Node) -> None:
     """The address of an argument, of a copy where it has none."""
-    inner = argument
-    while inner.kind in ("ImplicitCastExpr", "ParenExpr") and inner.inner:
-        inner = inner.inner[0]
     span = Span(argument.first, argument.last)
-    if inner.data.get("valueCategory") == "lvalue" and inner.kind != "CompoundLiteralExpr":
+    if has_address(argument):
         unit.edits.replace(argument.first, argument.last, "& (", span, ")")
         return
     name = unit.name("copy")

@@ -20,6 +20,10 @@ PARSE = [
 ]
 
 
+# the most bytes of clang's tree that are read
+MOST_TREE = 400 << 20
+
+
 @dataclass(eq=False)
 class Node:
     """A node of the tree. `first` and `last` are numbers of tokens, -1 where clang gives none."""
@@ -110,7 +114,7 @@ def flat(source: Source) -> Flat:
 def parsed(source: Source) -> tuple[list[Node], Flat]:
     """The declarations of a file. A text that clang refuses is a failure."""
     text = flat(source)
-    ran = run(PARSE, text.text.encode("latin-1"))
+    ran = run(PARSE, text.text.encode("latin-1"), source.path, MOST_TREE)
     if ran.returncode != 0:
         raise Failure(error_of(ran.stderr.decode("latin-1"), source, text), 3)
     nodes = deep(lambda: roots(ran.stdout.decode("utf-8", "replace"), text))

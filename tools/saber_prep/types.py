@@ -4,6 +4,7 @@ from __future__ import annotations
 import re
 
 from .edits import Part, Span
+from .integers import is_floating_constant
 from .notes import Weight
 from .oldstyle import SPECIFIERS
 from .tree import Node
@@ -14,6 +15,7 @@ FUNCTION_TYPE = re.compile(r"[^()]*\((?!\*)")
 WIDE_TYPES = ("long long", "unsigned long long")
 NARROW_ADVICE = "values above 32 bits are lost"
 WIDE_ADVICE = "--narrow reads it as 32 bits; or leave it out"
+FLOATING_ADVICE = "--integers reads it as an integer; or leave it out"
 MOST = 4294967295
 
 
@@ -33,9 +35,9 @@ def wide_integers(unit: Unit) -> None:
 
 def wide(unit: Unit, place: int, name: str) -> None:
     if unit.options.narrow:
-        unit.note(Weight.NARROW, place, f"{name} is read with 32 bits", NARROW_ADVICE)
+        unit.note(Weight.NARROW, place, f"{name} is read with 32 bits", NARROW_ADVICE, "integers of 64 bits")
     else:
-        unit.note(Weight.PROBLEM, place, f"{name}, an integer of 64 bits", WIDE_ADVICE)
+        unit.note(Weight.PROBLEM, place, f"{name}, an integer of 64 bits", WIDE_ADVICE, "integers of 64 bits")
 
 
 def constant(unit: Unit, place: int, text: str) -> None:
@@ -52,13 +54,13 @@ def constant(unit: Unit, place: int, text: str) -> None:
     if "ll" not in suffix and value <= MOST:
         return
     if not unit.options.narrow:
-        unit.note(Weight.PROBLEM, place, f"{text}, a constant of 64 bits", WIDE_ADVICE)
+        unit.note(Weight.PROBLEM, place, f"{text}, a constant of 64 bits", WIDE_ADVICE, "constants of 64 bits")
         return
     kept = value & MOST
     tail = ("u" if "u" in suffix else "") + "l"
     unit.edits.replace(place, place, (hex(kept) if digits[:2].lower() == "0x" else str(kept)) + tail)
     lost = f"it becomes {kept}" if kept != value else NARROW_ADVICE
-    unit.note(Weight.NARROW, place, f"{text} is read with 32 bits", lost)
+    unit.note(Weight.NARROW, place, f"{text} is read with 32 bits", lost, "constants of 64 bits" if kept == value else "")
 
 
 def wide_shifts(unit: Unit) -> None:
@@ -86,7 +88,7 @@ def shift(unit: Unit, node: Node, operator: str) -> None:
     elif is_pure(right) and (not assigns or is_pure(left)):
         near: list[Part] = ["(", value, ")", operator, "(", count, ")"] if not assigns else [value, operator, "(", count, ")"]
         unit.edits.replace(node.first, node.last, "( (", count, ") > 31 ?", *far, ": (", *near, ") )")
-    unit.note(Weight.NARROW, node.first, f"a shift {operator} of 64 bits", "the upper 32 bits are read as 0, or as the sign")
+    unit.note(Weight.NARROW, node.first, f"a shift {operator} of 64 bits", "the upper 32 bits are read as 0, or as the sign", "shifts of 64 bits")
 
 
 def strip(node: Node) -> Node:
@@ -104,9 +106,9 @@ def floating(unit: Unit) -> None:
     """Names floating types and constants, which nothing here can stand for."""
     for place, token in enumerate(unit.tokens):
         if token.text in ("float", "double"):
-            unit.note(Weight.PROBLEM, place, token.text, "leave the function out (--leave-out), or calculate with integers")
-        elif re.match(r"(?:\d+\.|\.\d|\d+[eE])", token.text) and not token.text.lower().startswith("0x"):
-            unit.note(Weight.PROBLEM, place, f"floating constant {token.text}", "leave the function out (--leave-out), or calculate with integers")
+            unit.note(Weight.PROBLEM, place, token.text, FLOATING_ADVICE, "floating types")
+        elif is_floating_constant(token.text):
+            unit.note(Weight.PROBLEM, place, f"floating constant {token.text}", FLOATING_ADVICE, "floating constants")
 
 
 def booleans(unit: Unit) -> None:
@@ -231,4 +233,4 @@ def open_arrays(unit: Unit) -> None:
             place = node.place + 1
             if unit.text(place) == "[" and unit.text(place + 1) in ("]", "0"):
                 unit.edits.replace(place, unit.closing(place), "[ 1 ]")
-                unit.note(Weight.TOLD, node.place, f"the open array {node.name}", "it has one element, so sizeof of the structure may be larger")
+                unit.note(Weight.TOLD, node.place, f"the open array {node.name}", "it has one element, so sizeof of the structure may be larger", "open array")

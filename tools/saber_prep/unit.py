@@ -2,7 +2,8 @@
 from __future__ import annotations
 
 import re
-from dataclasses import dataclass, field
+from dataclasses import dataclass, field, replace
+from functools import cached_property
 
 from .edits import Edits, Part
 from .notes import Note, Notes, Weight
@@ -76,10 +77,10 @@ class Unit:
     def origin(self, place: int) -> Origin:
         return self.tokens[max(0, min(place, len(self.tokens) - 1))].origin
 
-    def note(self, weight: Weight, place: int, construct: str, advice: str = "") -> None:
+    def note(self, weight: Weight, place: int, construct: str, advice: str = "", kind: str = "") -> None:
         """Tells of a place; what becomes of it is known when it is known which declarations stay."""
         origin = self.origin(place)
-        self.told.append((place, Note(weight, origin.file, origin.line, construct, advice)))
+        self.told.append((place, Note(weight, origin.file, origin.line, construct, advice, kind)))
 
     def settle_notes(self) -> None:
         """Keeps the notes of what is written out, but for those inside of the tool's own headers."""
@@ -87,9 +88,10 @@ class Unit:
         for place, note in self.told:
             if note.file.startswith(str(INCLUDE)):
                 continue
-            left_out = note.weight is Weight.LEFT_OUT and not self.origin(place).header
-            if place == 0 or left_out or any(it.first <= place <= it.last for it in kept):
-                self.notes.add(note)
+            left_out = note.weight is Weight.LEFT_OUT
+            own = left_out and not self.origin(place).header
+            if place == 0 or own or any(it.first <= place <= it.last for it in kept):
+                self.notes.add(replace(note, owner=self.owner_of(place)) if left_out else note)
 
     def spelled(self, type_text: str) -> str:
         """A type as the output has it, with blanks between its tokens."""
@@ -125,6 +127,22 @@ class Unit:
     def inner_first(self) -> list[Node]:
         """All nodes, those below before those above: of edits over the same tokens the later one is the outer one."""
         return [it for root in self.nodes for it in reversed(list(root.walk()))]
+
+    @cached_property
+    def statics(self) -> set[str]:
+        """The names of file scope that are the file's own."""
+        return {it.name for it in self.nodes if it.data.get("storageClass") == "static" or it.kind == "FunctionDecl" and it.data.get("inline")}
+
+    def key_of(self, name: str) -> str:
+        """A name of file scope: the same in all files for what is external, and the file's own for what is static."""
+        return f"{self.source.path}:{name}" if name in self.statics else name
+
+    def owner_of(self, place: int) -> str:
+        """The key of the function or object in whose definition a token stands."""
+        item = self.in_item(place)
+        nodes = item.nodes if item is not None else []
+        node = next((it for it in nodes if it.kind in ("FunctionDecl", "VarDecl") and it.first <= place <= it.last), None)
+        return self.key_of(node.name) if node is not None else ""
 
     def functions(self) -> list[Node]:
         return [it for it in self.nodes if it.kind == "FunctionDecl" and it.body() is not None]

@@ -2,14 +2,7 @@
 #define SABER_SYS_TYPES_H
 #include <stddef.h>
 #include <stdint.h>
-typedef int ssize_t;
-typedef long off_t;
-typedef long time_t;
-typedef int pid_t;
-typedef int id_t;
-typedef unsigned int uid_t;
-typedef unsigned int gid_t;
-typedef unsigned int mode_t;
+#include <saber_types.h>
 typedef unsigned char u_char;
 typedef unsigned short u_short;
 typedef unsigned int u_int;
