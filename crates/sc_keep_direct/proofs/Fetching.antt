@@ -162,7 +162,7 @@ layer_leads (CType-F.Function f) ty x u = decayed_leads x u
 pub any_conversion_leads : (from to : CType) (x : Answer) (u : World) → Leads u (world_after (conversion from to x u))
 any_conversion_leads from to x u = leads_then u (layer_read (out-CType from) from x u) (λ a w. Done (as_answer to a) w) (layer_leads (out-CType from) from x u) (λ a w. here w)
 
-converts_of : (from to : CType) (z : Value) → Converts from to → IsOf from z → IsOf to z
+pub converts_of : (from to : CType) (z : Value) → Converts from to → IsOf from z → IsOf to z
 converts_of from to z (inl p) of = inl p
 converts_of from to z (inr n) (inl q) = absurd (cc (n, q))
 converts_of from to z (inr n) (inr p) = inr p
