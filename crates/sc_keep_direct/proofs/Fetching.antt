@@ -307,6 +307,24 @@ module _ (r : ℕ) (free : IsFree r) where
 pub number_evaluates : (home : Home) (deep l : ℕ) (t : CType) (n : ℕ) (e : CoreExpr) → out-CoreExpr e ≡ CoreExpr-F.Number l t n → EvaluatesTo home (suc deep) e n
 number_evaluates home deep l t n e is = λ bound dp v h m. family_opens home.rate deep bound dp home.env e (CoreExpr-F.Number l t n) is v h m
 
+-- a number that is converted as it stands
+pub layer_plain : (lv : CType-F CType Signature) (from : CType) (z : Value) (u : World) → scalar_level lv ≡ true → layer_read lv from (Plain z) u ≡ Done (Plain z) u
+layer_plain (CType-F.Int i c) from z u e = refl
+layer_plain (CType-F.Pointer p c) from z u e = refl
+layer_plain (CType-F.Void c) from z u e = absurd (cc (e))
+layer_plain (CType-F.Array t n) from z u e = absurd (cc (e))
+layer_plain (CType-F.Struct s c) from z u e = absurd (cc (e))
+layer_plain (CType-F.Function f) from z u e = absurd (cc (e))
+
+pub converted_evaluates : (home : Home) (deep l k : ℕ) (t ta : CType) (n : ℕ) (e a : CoreExpr) → out-CoreExpr e ≡ CoreExpr-F.Convert l t a → out-CoreExpr a ≡ CoreExpr-F.Number k ta n → is_scalar (type_of a) ≡ true → as_type t (Number n) ≡ Number n → EvaluatesTo home (suc (suc deep)) e n
+converted_evaluates home deep l k t ta n e a is is_a scalar same = λ bound dp v h m.
+    let from : CType = type_of a in
+    let u : World = tick (tick v) in
+    family_opens home.rate (suc deep) bound dp home.env e (CoreExpr-F.Convert l t a) is v h m
+    ∙ ap (λ o. and_then o (conversion from t)) (family_opens home.rate deep (λ j. bound j - 1) (less home.rate (suc deep) bound dp) home.env a (CoreExpr-F.Number k ta n) is_a v h m)
+    ∙ ap (λ o. and_then o (λ x w. Done (as_answer t x) w)) (layer_plain (out-CType from) from (Number n) u scalar)
+    ∙ ap (λ z. Done (Plain z) u) same
+
 pub number_leaf : (home : Home) (most deep n : ℕ) (e : CoreExpr) (r : ℕ) → constant e ≡ Some n → n < 2 ^ 32 → IsFree r → EvaluatesTo home deep e n → GivesLeaf home most deep e r
 number_leaf home most deep n e r some small free means = λ bound dp s c w v pl st.
     let f : Code = fetch home.style home.autos r e in
