@@ -44,11 +44,11 @@ range_here cells part i le =
     let rest : List Stored = drop (i + length part) cells in
     ap (λ zs. take (length part) (drop i zs)) (append_assoc (take i cells) part rest) ∙ ap (take (length part)) (drop_front i cells (part ++ rest) le) ∙ take_front part rest
 
-table_same : (m : Flat) (q : Option ℕ) (part : List Stored) → (written_at m q part).objects ≡ m.objects
+pub table_same : (m : Flat) (q : Option ℕ) (part : List Stored) → (written_at m q part).objects ≡ m.objects
 table_same m None part = refl
 table_same m (Some i) part = refl
 
-stack_same : (m : Flat) (q : Option ℕ) (part : List Stored) → (written_at m q part).stack ≡ m.stack
+pub stack_same : (m : Flat) (q : Option ℕ) (part : List Stored) → (written_at m q part).stack ≡ m.stack
 stack_same m None part = refl
 stack_same m (Some i) part = refl
 
@@ -59,16 +59,16 @@ is_there : (q : Option ℕ) (i : ℕ) → q ≡ Some i → IsSome q
 is_there q i e = subst (λ p. IsSome p) (sym e) refl
 
 module _ (slots : ℕ → List Slot) (cost : ℕ) (bs : List Born) (f : Key → ℕ) (w : World) (stubs : AreStubs w.beside.functions f) (mem : HasFrame slots cost bs w) (t : ℕ) (even : t % 4 ≡ 0) (room : t + 4 ≤ cost) where
-  abbrev m : Flat
+  abbrev pub m : Flat
   m = mem.holds.memory.flat
 
-  abbrev at : ℕ
+  abbrev pub at : ℕ
   at = foot w + t
 
-  abbrev place_there : ℕ
+  abbrev pub place_there : ℕ
   place_there = 1048576 + m.heap + (at - (536870912 - m.stack))
 
-  place_is : place m at 4 ≡ Some place_there
+  pub place_is : place m at 4 ≡ Some place_there
   place_is =
       let heap = mem.holds.words.held.safe.heap in
       let stack = mem.holds.words.held.safe.stack in
@@ -76,13 +76,13 @@ module _ (slots : ℕ → List Slot) (cost : ℕ) (bs : List Born) (f : Key → 
       let high = mem.high in
       near_stack m.heap m.stack at 4 heap stack (omega (arith, low)) (omega (arith, low, high, stack, room))
 
-  aligned : aligned_place m at 4 ≡ Some place_there
+  pub aligned : aligned_place m at 4 ≡ Some place_there
   aligned =
       let a = mem.aligned in
       let fours : at % 4 ≡ 0 = omega (arith, a, even) in
       ap (λ b. if b then place m at 4 else None) (test_holds at fours) ∙ place_is
 
-  bare : IsBelow slots t → IsBare m.objects at
+  pub bare : IsBelow slots t → IsBare m.objects at
   bare under id p live = elim (mem.only id p live) [
     | inl x ↦ inr (omega (arith, x))
     | inr y ↦ elim y [

@@ -100,7 +100,7 @@ last_false false false false false true f h = absurd (cc)
 last_false false false false false false true h = absurd (cc)
 last_false false false false false false false h = refl
 
-unmixed : (w : World) (p : Value) (further n : ℕ) (b : Bool) → load_rule w.objects p further n b ≡ None → is_mixed b (cells_read w.objects p further n) ≡ false
+pub unmixed : (w : World) (p : Value) (further n : ℕ) (b : Bool) → load_rule w.objects p further n b ≡ None → is_mixed b (cells_read w.objects p further n) ≡ false
 unmixed w p further n b h =
     let cells : List Cell = cells_read w.objects p further n in
     last_false (is_null p) (is_dead w.objects p) (is_outside w.objects p further n) (is_misaligned p further n) (reads_unwritten cells) (is_mixed b cells) h
@@ -115,7 +115,7 @@ no_pieces (Byte x ∷ b ∷ c ∷ d ∷ []) h = refl
 no_pieces (Piece p k ∷ b ∷ c ∷ d ∷ []) h = absurd (cc)
 no_pieces (a ∷ b ∷ c ∷ d ∷ e ∷ rest) h = refl
 
-mixed_number : (b : Bool) (cs : List Cell) → b ≡ false → is_mixed b cs ≡ false → IsNumber (value_of_cells cs)
+pub mixed_number : (b : Bool) (cs : List Cell) → b ≡ false → is_mixed b cs ≡ false → IsNumber (value_of_cells cs)
 mixed_number true cs e h = absurd (cc)
 mixed_number false cs e h = subst (λ p. IsNumber (or_number p (number_of_cells cs))) (sym (no_pieces cs h)) tt
 

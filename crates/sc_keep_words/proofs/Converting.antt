@@ -129,12 +129,12 @@ type_reconverts f t from to x v of canonical h = by (same_int (int_of from) (int
     by false e = type_converts f t to x v of h
 
 -- what a conversion gives is one of its type
-number_canonical : (i : Int) (v : Value) → IsNumberOf i (converted_value i v)
+pub number_canonical : (i : Int) (v : Value) → IsNumberOf i (converted_value i v)
 number_canonical i (Number n) = converted_twice i n
 number_canonical i (FunctionAt k) = tt
 number_canonical i (Pointer o at) = tt
 
-word_canonical : (f : Key → ℕ) (t : List Obj) (x : Word) (v : Value) → Means f t x v → IsNumberOf int.UInt v
+pub word_canonical : (f : Key → ℕ) (t : List Obj) (x : Word) (v : Value) → Means f t x v → IsNumberOf int.UInt v
 word_canonical f t x (Number n) h = unsigned_word n (subst (λ b. b < 4294967296) h.stands.0 h.wide)
 word_canonical f t x (FunctionAt k) h = tt
 word_canonical f t x (Pointer o at) h = tt

@@ -25,16 +25,16 @@ bits_wide (negsuc n) = omega arith
 pub converted_wide : (i : Int) (n : ℕ) → converted n i < 4294967296
 converted_wide i n = bits_wide (number_of i n)
 
-byte : (n : ℕ) → n < 256 → n % 256 % 4294967296 ≡ n
+pub byte : (n : ℕ) → n < 256 → n % 256 % 4294967296 ≡ n
 byte n lt = omega (arith, lt)
 
-half : (n : ℕ) → n < 65536 → n % 65536 % 4294967296 ≡ n
+pub half : (n : ℕ) → n < 65536 → n % 65536 % 4294967296 ≡ n
 half n lt = omega (arith, lt)
 
-signed_byte : (n : ℕ) → bits_in (number_of_low 8 true n) ≡ (loaded Lb (plain n)).bits
+pub signed_byte : (n : ℕ) → bits_in (number_of_low 8 true n) ≡ (loaded Lb (plain n)).bits
 signed_byte n = grind (arith, ints, nat_tests)
 
-signed_half : (n : ℕ) → bits_in (number_of_low 16 true n) ≡ (loaded Lh (plain n)).bits
+pub signed_half : (n : ℕ) → bits_in (number_of_low 16 true n) ≡ (loaded Lh (plain n)).bits
 signed_half n = grind (arith, ints, nat_tests)
 
 -- a number of 32 bits is one of a type of 32 bits as it stands

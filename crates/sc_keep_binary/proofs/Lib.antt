@@ -1,0 +1,6 @@
+pub mod Operands
+pub mod Pairs
+pub mod Words
+pub mod Operating
+pub mod Comparing
+pub mod Converting
