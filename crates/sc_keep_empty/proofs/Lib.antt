@@ -1,0 +1,6 @@
+pub mod Entering
+pub mod Leaving
+pub mod Storing
+pub mod Meaning
+pub mod Texts
+pub mod Whole
