@@ -4,3 +4,4 @@ pub mod Storing
 pub mod Meaning
 pub mod Texts
 pub mod Whole
+pub mod Small

@@ -3,4 +3,4 @@
 
 mod laws;
 
-pub use laws::functions_without_statements_are_right;
+pub use laws::{functions_without_statements_are_right, one_function_is_right};
