@@ -18,8 +18,8 @@ use Rattle.sc_core.specs.Types.{type_of}
 use Rattle.sc_emu.specs.Operations.{store_size, sum}
 use Rattle.sc_emu.specs.Registers.{register}
 use Rattle.sc_meaning.specs.Accesses.{set_at, stored}
-use Rattle.sc_meaning.specs.Calls.{eval}
-use Rattle.sc_meaning.specs.Expressions.{Answer, Place, Plain, base_of, further_of, plain, valued}
+use Rattle.sc_meaning.specs.Calls.{call, eval}
+use Rattle.sc_meaning.specs.Expressions.{Answer, Place, Plain, base_of, begun, expr_of, further_of, plain, used, valued}
 use Rattle.sc_meaning.specs.Laws.{Leads}
 use Rattle.sc_meaning.specs.Outcomes.{Done, Outcome, Over, access_breach, and_then, unless, world_after}
 use Rattle.sc_meaning.specs.Values.{Pointer, Value, layer_size, scalar_size}
@@ -242,3 +242,23 @@ module _ (home : Home) (most deep l : ℕ) (t : CType) (e a b : CoreExpr) (at : 
 pub assign_direct : (home : Home) (most deep l : ℕ) (t : CType) (e a b : CoreExpr) (at : Spot) → out-CoreExpr e ≡ CoreExpr-F.Assign l t a b → is_direct home.autos a ≡ true → HasNoCopy home a → at.depth ≤ 5 → is_scalar (type_of a) ≡ true
     → GivesPlace home most deep a → GivesValue home most deep b at → HasValuesOf home.env b (type_of a) → KeepsPlace home a b → GivesPlain home most (suc deep) e at
 assign_direct home most deep l t e a b at is direct alone few scalar good_a good_b typed kept = λ bound dp s c w v pl st. set_meets home most deep l t e a b at is direct alone few scalar good_a good_b typed kept bound dp s c w v pl st
+
+-- ---- behind a number names stand for what they did
+
+same_true : (n : ℕ) → (n == n) ≡ true
+same_true n = grind (arith, nat_tests)
+
+same_name : (r s : Option ℕ) (key : Key) (u : World) → named_in u.names (id.Named key) ≡ s → s ≡ r → stays_named_by r key u ≡ true
+same_name None s key u e f = refl
+same_name (Some o) s key u e f = ap (λ q. is_object q o || is_dead u.objects (Pointer o 0)) (e ∙ f) ∙ ap (λ b. b || is_dead u.objects (Pointer o 0)) (same_true o)
+
+same_place : (o : Option ℕ) (k : Option Key) (q : World) → stays_by o k q (tick (tick q)) ≡ true
+same_place (Some n) k q = refl
+same_place None None q = refl
+same_place None (Some key) q = same_name (named_in q.names (id.Named key)) (named_in q.names (id.Named key)) key (tick (tick q)) refl refl
+
+pub number_keeps : (home : Home) (a b : CoreExpr) (l : ℕ) (t : CType) (n : ℕ) → out-CoreExpr b ≡ CoreExpr-F.Number l t n → KeepsPlace home a b
+unfolding eval
+number_keeps home a b l t n is zero h q = tt
+number_keeps home a b l t n is (suc k) h q =
+    subst (λ y. IsKept home a q (and_then (expr_of h (eval k h) (call k h) home.env y (begun y q)) used)) (sym is) (same_place (in_frame home.autos a) (named a) q)
