@@ -64,14 +64,15 @@ class Tree:
     def with_fault(self, fault):
         """The files, with a copy of the one that has the fault in its place."""
         at = self.library.files.index(fault.file)
-        text = self.files[at].read_text(encoding="latin-1")
-        for old, new in fault.edits:
-            if old not in text:
-                sys.exit(f"{fault.name}: {self.files[at]} does not have {old!r}")
-            text = text.replace(old, new, 1)
         copy = self.room / fault.name / self.files[at].name
-        copy.parent.mkdir(exist_ok=True)
-        copy.write_text(text, encoding="latin-1")
+        if not copy.exists():
+            text = self.files[at].read_text(encoding="latin-1")
+            for old, new in fault.edits:
+                if old not in text:
+                    sys.exit(f"{fault.name}: {self.files[at]} does not have {old!r}")
+                text = text.replace(old, new, 1)
+            copy.parent.mkdir(exist_ok=True)
+            copy.write_text(text, encoding="latin-1")
         return [*self.files[:at], copy, *self.files[at + 1:]]
 
     def wanted(self, fault):
@@ -172,6 +173,8 @@ def rows_of(library, sources, program, chosen, workers):
         without = {tool: workers.submit(tree.reported, tool, None) for tool in COLUMNS if faults}
         for tool, it in without.items():
             print(f"{library.name} without a fault, {tool}: {it.result()}", file=sys.stderr, flush=True)
+        for fault in faults:
+            tree.with_fault(fault)
         found = {(fault, tool): workers.submit(tree.reported, tool, fault) for fault in faults for tool in COLUMNS}
         for fault in faults:
             verdicts = [verdict(found[fault, tool].result(), tree.wanted(fault), without[tool].result()) for tool in COLUMNS]
