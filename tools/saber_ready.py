@@ -12,6 +12,10 @@ from saber_session import Module, Session, Trouble, TwoHeaders, View, loaded, mo
 from saber_source import Sources
 
 
+# letters of a line that are shown
+MOST_SHOWN = 100
+
+
 class NotReady(Trouble):
     """A file that the pre-pass cannot write so that `load` takes it; `has_words` tells whether words of a command line may help."""
 
@@ -23,7 +27,8 @@ class NotReady(Trouble):
 def placed(reason, modules):
     """The refusal of a prepared text, with the place that it has in the user's file."""
     place = Sources(modules).place(reason.module, reason.line)
-    return refused(f"{reason}, which is {place.file}:{place.line}: {place.text}")
+    text = place.text if len(place.text) <= MOST_SHOWN else place.text[:MOST_SHOWN] + " .."
+    return refused(f"{reason}, which is {place.file}:{place.line}: {text}")
 
 
 def as_they_are(program, files):
