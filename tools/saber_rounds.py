@@ -36,22 +36,30 @@ class Rounds:
 
     def __init__(self, given, modules, known, ended):
         self._given, self._modules, self._known, self._ended = given, modules, known, ended
-        self._echo, self.steps, self._reported, self._text = Echo(show_bytes), [], [], ""
+        self._echo, self.steps, self._reported = Echo(show_bytes), [], []
+        self._text, self._is_over = "", False
         self._compiled = [it.name for it in modules if it.is_object]
 
     def run(self):
-        """Does all rounds, tells of each, and gives the exit status."""
-        while True:
-            self._echo.begin_again()
-            status = run_once(self._given, self._modules, self._echo, self._is_passed, self._take)
-            if self._text or not self._goes_on():
-                break
-        if self._text.startswith("refused C13"):
-            print("-- no file defines main: give that of a driver too")
-        self._tell()
+        """Does all rounds, tells of each, and gives the exit status; what was found is told also where a round fails."""
+        try:
+            status = self._rounds()
+        finally:
+            self._tell()
         if any(not self._is_known(it) for it in self.steps):
             return 1
         return status if self._text else 3
+
+    def _rounds(self):
+        """Runs the program until it ends, or until it is not to go on; the status of the last run."""
+        while True:
+            self._echo.begin_again()
+            status = run_once(self._given, self._modules, self._echo, self._is_passed, self._take)
+            if self._text.startswith("refused C13"):
+                print("-- no file defines main: give that of a driver too")
+            if self._text or not self._goes_on():
+                self._is_over = True
+                return status
 
     def _is_passed(self, explanation):
         """Whether the end of a round is not explained: a step that is known, or each by --brief."""
@@ -102,4 +110,5 @@ class Rounds:
         before = [it for it in self._compiled if it not in self._reported]
         if before:
             print(f"-- not watched at all: {', '.join(before)}")
-        print(f"-- the last run: {self._text or 'it ended in the last step of the list'}")
+        end = self._text or ("it ended in the last step of the list" if self._is_over else "it was not brought to its end")
+        print(f"-- the last run: {end}", flush=True)

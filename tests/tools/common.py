@@ -47,7 +47,7 @@ def one_check(name, test):
 def tool_run(tool, program, room, words, **more):
     """Runs a tool that goes by the program; what it told, in bytes."""
     environment = {**os.environ, "SABER_PROGRAM": str(program), **more}
-    return subprocess.run([TOOLS / tool, *words], cwd=room, env=environment, capture_output=True, timeout=120)
+    return subprocess.run([TOOLS / tool, *words], cwd=room, env=environment, capture_output=True, timeout=600)
 
 
 def told_by(ran):

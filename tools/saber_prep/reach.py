@@ -5,12 +5,14 @@ from .tree import Node
 from .unit import Unit
 
 
-def names_meant(node: Node) -> set[str]:
-    """The functions and objects that a definition names."""
+def names_meant(unit: Unit, node: Node) -> set[str]:
+    """The functions and objects of file scope that a definition names."""
     found = set()
     for it in node.walk():
         meant = it.data.get("referencedDecl", {}) if it.kind == "DeclRefExpr" else {}
-        if meant.get("kind") in ("FunctionDecl", "VarDecl"):
+        target = unit.declared.get(it.target)
+        is_local = target is not None and target.parent is not None
+        if meant.get("kind") in ("FunctionDecl", "VarDecl") and not is_local:
             found.add(meant.get("name", ""))
     return found
 
@@ -23,7 +25,7 @@ def learned(unit: Unit, users: dict[str, set[str]], exported: set[str]) -> None:
                 key = unit.key_of(node.name)
                 if node.kind == "FunctionDecl" and key == node.name:
                     exported.add(key)
-                for name in names_meant(node):
+                for name in names_meant(unit, node):
                     users.setdefault(unit.key_of(name), set()).add(key)
 
 
