@@ -61,7 +61,9 @@ def is_reached(statement):
     """Whether a line is reached before a statement itself."""
     if statement.kind == "for":
         return bool(statement.parts[0] or statement.parts[1])
-    return statement.kind != "{" and (not is_declaration(statement.tokens) or any(initialisers(statement.tokens)))
+    if statement.kind != "simple" or not is_declaration(statement.tokens):
+        return statement.kind != "{"
+    return any(initialisers(statement.tokens))
 
 
 def lines_reached(statement):
@@ -82,19 +84,31 @@ def next_at(lines, line):
 
 
 def edits(statement, line, probe):
-    """The ways to put a probe in front of a statement, each as pairs of a place in the text and what is written there."""
-    first, last = statement.tokens[0], statement.tokens[-1]
+    """The ways to put a probe in front of a statement, each as pairs of a place in the text and what is written there.
+
+    No line may be reached more often by it, since a replay counts the halts at lines.
+    """
+    first = statement.tokens[0]
     if statement.kind in HEADS or statement.kind == "do":
         count = 2 if statement.kind == "for" else 1
         return [[(part[0].at, f"{probe}, ") for part in statement.parts[:count] if part]]
+    if statement.kind == ";":
+        return [[(first.at, probe)]]
+    if statement.kind == "return" and len(statement.tokens) > 2:
+        return before_value(statement.tokens[1:-1], probe)
     if statement.kind != "simple":
-        return [[(first.at, f"{{ {probe}; "), (last.end, " }")]]
+        raise Lost(f"nothing is evaluated at a {statement.kind}, so that names alone can be shown")
     if not is_declaration(statement.tokens):
         return [[(first.at, f"{probe}, ")]]
     given = dict(reversed(list(initialisers(statement.tokens))))
     value = given.get(line) or next(iter(given.values()))
     if value[0].text.startswith(("{", '"')):
         raise Lost("the line gives an array or a structure its first values")
+    return before_value(value, probe)
+
+
+def before_value(value, probe):
+    """The ways to put a probe in front of a value that is converted to another type."""
     text = " ".join(it.text for it in value)
     # a null pointer constant is none behind a test
     nulls = [[(value[0].at, f"{probe} ? (void *) 0 : (void *) ")]] if text in NULLS else []

@@ -173,6 +173,14 @@ class Session:
             answers += [split_answer(command, self._told(None)[0]) for command in batch]
         return answers
 
+    def seconds(self):
+        """The processor time that the program took so far."""
+        try:
+            told = pathlib.Path(f"/proc/{self.child.pid}/stat").read_text().rpartition(") ")[2].split()
+        except OSError:
+            return 0.0
+        return (int(told[11]) + int(told[12])) / os.sysconf("SC_CLK_TCK")
+
     def close(self):
         """Ends the program, whatever it does."""
         self.child.kill()
