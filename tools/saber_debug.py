@@ -298,3 +298,16 @@ class Debuggee:
         """The active calls, the innermost one first; none where the run shows none."""
         answer = self.session.ask("where")
         return [] if answer.is_refused else [it for it in map(frame_of, answer.lines) if it]
+
+
+def stands_again(debuggee, past, command, seconds):
+    """Brings a debuggee to about where a run was that took so much processor time for a go, behind the commands before it.
+
+    Gives the text with which the go came to a halt before, or nothing.
+    """
+    debuggee.take(past)
+    begun, text = debuggee.session.seconds(), None
+    debuggee.begin(command)
+    while text is None and debuggee.session.seconds() - begun < seconds:
+        text = debuggee.slice()
+    return debuggee.pause() if text is None else text

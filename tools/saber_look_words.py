@@ -2,7 +2,7 @@
 import re
 import sys
 
-from saber_debug import Debuggee, frame_of
+from saber_debug import Debuggee, frame_of, stands_again
 from saber_outer import Looker
 from saber_report import Explanation
 from saber_search import OVER, Lost
@@ -96,12 +96,7 @@ class Looks:
     def _repeat(self, run, command, output, seconds):
         debuggee = Debuggee(run.base, self._show, run.output + output)
         self._own = debuggee
-        debuggee.take(run.commands)
-        begun, text = debuggee.session.seconds(), None
-        debuggee.begin(command)
-        while text is None and debuggee.session.seconds() - begun < seconds:
-            text = debuggee.slice()
-        text = debuggee.pause() if text is None else text
+        text = stands_again(debuggee, run.commands, command, seconds)
         self._looker = debuggee.looker
         if debuggee.is_over:
             say(f"-- it came to an end: {text}")

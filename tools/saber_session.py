@@ -281,8 +281,8 @@ def levels_up(folder):
 class View:
     """A folder of its own that shows the files of the modules' folders, so that nothing of the user's changes.
 
-    Texts stand in it as they are now, so that a run can be repeated after they were edited; other files by links. Objects of
-    modules that run as such are not shown: `compile` writes them here.
+    The texts of the modules and the headers stand in it as they are now, so that a run can be repeated after they were edited;
+    other files by links. Objects of modules that run as such are not shown: `compile` writes them here.
     """
     INPUT = "saber_input"
 
@@ -295,7 +295,7 @@ class View:
         for folder in dict.fromkeys(it.path.parent for it in modules):
             for path in folder.iterdir():
                 if path.name not in hidden and FILE.fullmatch(path.name):
-                    self._show(own.get(path.name, path))
+                    self._show(own.get(path.name, path), path.name in own or path.suffix == ".h")
         if self.given:
             if not self.given.is_file():
                 raise refused(f"there is no file {given}")
@@ -313,12 +313,12 @@ class View:
             at.mkdir()
         return at
 
-    def _show(self, path):
+    def _show(self, path, is_text):
         shown, first = self.folder / path.name, self._shown.setdefault(path.name, path)
         if shown.is_symlink() or shown.exists():
             if path.suffix == ".h" and shown.read_bytes() != path.read_bytes():
                 raise refused(f"{first} and {path} are two headers of one name")
-        elif path.suffix in (".c", ".h") and path.is_file() and path.stat().st_size <= MOST_BYTES and os.access(path, os.R_OK):
+        elif is_text and path.is_file() and path.stat().st_size <= MOST_BYTES and os.access(path, os.R_OK):
             shown.write_bytes(path.read_bytes())
         else:
             shown.symlink_to(path.resolve())
