@@ -203,6 +203,8 @@ def long_steps(program, room):
         client.event("stopped")
         yield f"over, to line {line}", client.frames() == [("main", "slow.c", line)]
     yield "what it did", client.ask("evaluate", expression="sum")["body"]["result"] == "7"
+    told = client.ask("evaluate", expression="(work(2000000000), sum)")
+    yield "an expression without an end", not told["success"] and told["message"].startswith("it was not evaluated: paused after "), told
     client.ask("continue")
     yield "its exit status", client.event("exited") == {"exitCode": 5} and client.event("terminated") == {}
 
