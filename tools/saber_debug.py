@@ -8,9 +8,10 @@ import re
 from dataclasses import dataclass
 
 from saber_lines import Lines
+from saber_outer import Looker
+from saber_replay import SLICE, has_changes, setup_of
 from saber_search import OVER, functions_of
 
-SLICE = 4_000_000
 # A place that was seen so often is no rare one.
 OFTEN = 3
 # a depth that no stack reaches
@@ -41,8 +42,8 @@ class Echo:
     A stop puts a line feed behind bytes that end within a line, so that one more or less is no difference.
     """
 
-    def __init__(self, show):
-        self._show, self._shown, self._at = show, bytearray(), 0
+    def __init__(self, show, shown=b""):
+        self._show, self._shown, self._at = show, bytearray(shown), 0
 
     def begin_again(self):
         self._at = 0
@@ -72,21 +73,49 @@ class Goal:
 
 
 class Debuggee:
-    """The program that is debugged. `show` gets the bytes that it writes, each once.
+    """The program that is debugged. `show` gets the bytes that it writes, each once, but for those that were shown before.
 
     It is stopped, or between two slices of a go, or over.
     """
 
-    def __init__(self, setup, show):
-        self._setup, self._echo, self._lines = setup, Echo(show), Lines(setup.view.folder)
+    def __init__(self, setup, show, shown=b""):
+        self._setup, self._echo, self.lines = setup, Echo(show, shown), Lines(setup.view.folder)
         self.session = setup.start(turns=SLICE)
         self.functions = functions_of(self.session)
+        self._objects = {it.name for it in setup.view.modules if it.is_object}
         # the commands that led to the last halt, and the present go with its slices
         self._past, self._goal, self._slices = [], None, 0
-        self._numbers, self.is_over = {}, False
+        self._numbers, self.is_over, self.is_changed = {}, False, False
+        self._looker = None
 
     def close(self):
+        self._look_no_more()
         self.session.close()
+
+    def _look_no_more(self):
+        if self._looker:
+            self._looker.close()
+        self._looker = None
+
+    @property
+    def looker(self):
+        """What looks at the run where it stands."""
+        if not self._looker or self._looker.session is not self.session:
+            self._look_no_more()
+            self._looker = Looker(self._setup, self.session, self._past, self.is_changed)
+        return self._looker
+
+    def take(self, past):
+        """Does what led to a place of a run, with stops that stay."""
+        for command in past:
+            text = self._ask_whole(command).text
+            self._past.append(command)
+            found = re.match(r"stop (\d+) (.*)", text)
+            if found:
+                self._numbers[found[2]] = found[1]
+            elif command.startswith("delete "):
+                self._numbers = {stop: it for stop, it in self._numbers.items() if it != command.split()[1]}
+            self.is_over = self.is_over or text.startswith(OVER)
 
     @property
     def is_going(self):
@@ -108,6 +137,7 @@ class Debuggee:
 
     def begin(self, command):
         """Begins a go: `run`, `cont`, `step`, `next`, or `out`, which leaves the present call."""
+        self._look_no_more()
         if command == "out":
             frames = self.frames()
             self._go_by_stops(frames[1:], len(frames) - 1)
@@ -150,14 +180,11 @@ class Debuggee:
 
     def _go_by_stops(self, frames, depth, functions=()):
         """Begins a go that ends in one of these calls or functions, where no more than so many calls are active."""
-        wanted = dict.fromkeys([f"at {it.module}:{line}" for it in frames if not it.is_object for line in self._lines.around(self._module(it.module), it.line)])
+        wanted = dict.fromkeys([f"at {it.module}:{line}" for it in frames if not it.is_object for line in self.lines.around(it.module, it.line)])
         wanted |= dict.fromkeys(f"in {it}" for it in functions)
         helpers = tuple(it for it in wanted if it not in self._numbers)
         self.set_stops([*self._numbers, *helpers])
         self._goal, self._slices = Goal("cont", depth, helpers), 0
-
-    def _module(self, name):
-        return next(it for it in self._setup.view.modules if it.name == name)
 
     def _come_again(self):
         """A new session at the last halt."""
@@ -223,21 +250,64 @@ class Debuggee:
         """Stops at all functions and lines but for the user's own."""
         stops = [f"in {it}" for it in self.functions]
         for module in self._setup.view.modules:
-            if not module.is_object:
-                stops += [f"at {module.name}:{line}" for line in self._lines.of(module)]
+            if module.name not in self._objects:
+                stops += [f"at {module.name}:{line}" for line in self.lines.of(module.name)]
         return [it for it in stops if it not in own]
 
-    def look_from(self, session):
-        """Looks at the run from another session from now on: one that stands where the run ended."""
+    def change(self, words, text=None):
+        """Changes a module at a stop, by the words of `swap` or `edit`; `text` is the text that `edit` takes. Gives the answer."""
+        self._look_no_more()
+        command, name, form = words[0], words[1], (words[2:] or [""])[0]
+        if command == "edit":
+            file = f"saber_{len(self._past)}_{form}"[-63:]
+            self._setup.view.replace(file, text)
+            told = self._change_by(f"edit {name} {file}")
+            if not told.startswith("refused "):
+                self.lines.edited(name, file)
+                self._objects.discard(name)
+            return told.replace(file, form)
+        if form in ("object", "fast"):
+            told = self._change_by(f"compile {name}" + (" fast" if form == "fast" else ""))
+            if told.startswith("refused "):
+                return told
+        told = self._change_by(" ".join(words))
+        if not told.startswith("refused "):
+            (self._objects.discard if form == "source" else self._objects.add)(name)
+        return told
+
+    def _change_by(self, command):
+        """Gives a command that is done again in each replay, if it is not refused."""
+        answer = self.session.ask(command)
+        if not answer.is_refused:
+            self._past.append(command)
+            self.functions = functions_of(self.session)
+        return answer.text
+
+    def setup(self):
+        """A setup that repeats this run."""
+        return setup_of(self._setup, self._past)
+
+    def look_from(self, way):
+        """Looks at the run from another session from now on: one on a way that stands where the run ended."""
+        self._look_no_more()
         self.session.close()
-        self.session = session
+        self.is_changed = has_changes(self._past)
+        self.session, self._past = way.session, way.commands
 
     def frames(self):
         """The active calls, the innermost one first; none where the run shows none."""
         answer = self.session.ask("where")
         return [] if answer.is_refused else [it for it in map(frame_of, answer.lines) if it]
 
-    def values(self, names):
-        """The values of those names that stand for objects in the innermost call."""
-        told = self.session.ask_all([f"print {it}" for it in names])
-        return dict(it.text.split(" = ", 1) for it in told if " = " in it.text)
+
+def stands_again(debuggee, past, command, seconds):
+    """Brings a debuggee to about where a run was that took so much processor time for a go, behind the commands before it.
+
+    Gives the text with which the go came to a halt before, or nothing.
+    """
+    debuggee.take(past)
+    begun, text = debuggee.session.seconds(), None
+    debuggee.begin(command)
+    while text is None and debuggee.session.seconds() - begun < seconds:
+        text = debuggee.slice()
+    return debuggee.pause() if text is None else text

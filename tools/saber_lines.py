@@ -45,17 +45,18 @@ class Function:
     objects: tuple
 
 
-def functions_in(folder, name):
-    """The functions that the module's text defines, in their order."""
+def functions_in(folder, name, file=""):
+    """The functions that the module's text defines, in their order. The text is in a file of the folder, `NAME.c` if none is named."""
     try:
         from pycparser import c_parser
     except ImportError:
         raise refused("pycparser is not installed (Debian: python3-pycparser)") from None
-    text = preprocessed(folder, name)
+    file = file or f"{name}.c"
+    text = preprocessed(folder, file)
     try:
-        unit = c_parser.CParser().parse(text, f"{name}.c")
+        unit = c_parser.CParser().parse(text, file)
     except Exception as error:  # its class has moved between versions
-        raise refused(f"pycparser cannot read {name}.c: {error}") from error
+        raise refused(f"pycparser cannot read {file}: {error}") from error
     return [Statements(text).function(it) for it in unit.ext if type(it).__name__ == "FuncDef"]
 
 
@@ -63,39 +64,47 @@ class Lines:
     """The lines of modules on which statements begin; all lines where a text cannot be parsed here."""
 
     def __init__(self, folder):
-        self._folder, self._known = folder, {}
+        self._folder, self._known, self._files = folder, {}, {}
 
-    def of(self, module):
+    def edited(self, name, file):
+        """Takes another file of the folder as the text of a module."""
+        self._known.pop(name, None)
+        self._files[name] = file
+
+    def of(self, name):
         """The lines of a module, in their order."""
-        if module.name not in self._known:
+        if name not in self._known:
             try:
-                found = sorted(set().union(*(it.lines for it in functions_in(self._folder, module.name))))
+                found = sorted(set().union(*(it.lines for it in functions_in(self._folder, name, self._files.get(name)))))
             except Trouble:
-                found = range(1, len(lines_of(module.path)) + 1)
-            self._known[module.name] = found
-        return self._known[module.name]
+                found = range(1, len(self._text(name)) + 1)
+            self._known[name] = found
+        return self._known[name]
 
-    def around(self, module, line):
+    def around(self, name, line):
         """Those of the definition that a line belongs to."""
-        block = block_around(lines_of(module.path), line)
-        return [it for it in self.of(module) if it in block]
+        block = block_around(self._text(name), line)
+        return [it for it in self.of(name) if it in block]
+
+    def _text(self, name):
+        return lines_of(self._folder / self._files.get(name, f"{name}.c"))
 
 
-def preprocessed(folder, name):
-    """The preprocessed text of a module, with every text of a header on the line of its #include."""
+def preprocessed(folder, file):
+    """The preprocessed text of a file, with every text of a header on the line of its #include."""
     with tempfile.TemporaryDirectory() as room:
         for header, text in HEADERS.items():
             Path(room, header).write_text(("#ifndef SABER_SIZES\n#define SABER_SIZES\n" + SIZES + "#endif\n" if header in WITH_SIZES else "") + text)
         words = ["gcc", "-E", "-std=c89", "-undef", "-nostdinc", "-w", "-I", room, "-D__offsetof=__builtin_offsetof",
-                 "-Doffsetof=__builtin_offsetof", f"{name}.c"]
+                 "-Doffsetof=__builtin_offsetof", file]
         try:
             made = subprocess.run(words, cwd=folder, capture_output=True)
         except OSError as error:
             raise refused(f"gcc, which preprocesses the text, cannot be run: {error.strerror}") from error
     if made.returncode:
         said = made.stderr.decode(errors="replace").splitlines()
-        raise refused(f"gcc cannot preprocess {name}.c: {said[0] if said else made.returncode}")
-    return own_lines(made.stdout.decode("latin-1"), f"{name}.c")
+        raise refused(f"gcc cannot preprocess {file}: {said[0] if said else made.returncode}")
+    return own_lines(made.stdout.decode("latin-1"), file)
 
 
 def own_lines(text, file):

@@ -8,6 +8,7 @@ from saber_lines import functions_in
 from saber_search import START, Leg, Lost, Search, Step, halt_of, violation_of
 from saber_session import FAULTS, Trouble
 from saber_source import names_in
+from saber_statements import loops_around
 
 RULES = {
     "U1": "a byte that is read was never written",
@@ -31,7 +32,9 @@ RULES = {
 }
 STATIC = "an object of static storage duration or a string literal"
 # an interpreted call as `where` shows it: its function's name, and the module
-CALL = re.compile(r"(?:\w+:)?(\w+) at (\w+):")
+CALL = re.compile(r"(?:\w+:)?(\w+) at (\w+):(\d+)")
+# how a failed assertion and `abort` end a run
+ABORTED = "exit 134"
 MOST_STEPS = 60_000
 # lines of `where` that a search by steps reads
 MOST_CALLS = 2_000_000
@@ -56,7 +59,12 @@ class Explanation:
     @property
     def can_be_told(self):
         """Whether there is more to tell of this end of a run than its text."""
-        return self.text.startswith(FAULTS)
+        return self.text.startswith(FAULTS) or self.is_aborted
+
+    @property
+    def is_aborted(self):
+        """Whether the run ended as by `abort`: also by an assertion that failed."""
+        return self.text == ABORTED
 
     @cached_property
     def search(self):
@@ -68,13 +76,30 @@ class Explanation:
         seen = self.violation
         if not seen or not (seen.line or seen.numbers):
             return None
-        return follow(self.setup, seen, self._names, self.search.functions)
+        return follow(self.setup, seen, list(dict.fromkeys([*self._names, *self._names_of_thirds])), self.search.functions)
 
     @cached_property
     def _names(self):
         """The names on the line of a violation."""
         seen = self.violation
         return names_in(self.sources.statement(seen.module, seen.line)) if seen and seen.line else []
+
+    @cached_property
+    def _loops(self):
+        """The `for` statements around the line of a violation that have a third part."""
+        seen = self.violation
+        return loops_around(self.sources.lines(seen.module), seen.line) if seen and seen.line else []
+
+    @property
+    def _names_of_thirds(self):
+        return names_in(it.text for loop in self._loops for it in loop.parts[2])
+
+    def thirds(self):
+        """The `for` statements in whose third part a violation may have come, and whether one of them is the place."""
+        if not self._loops or not self._followed or self._followed.third is None:
+            return self._loops, False
+        found = [it for it in self._loops if it.line == self._followed.third]
+        return found, bool(found)
 
     @cached_property
     def _legs(self):
@@ -85,34 +110,60 @@ class Explanation:
             return (Leg((line,), self._followed.passes),)
         stops = (*(f"in {it}" for it in self.search.functions), *([line] if line else []))
         track = self.search.approach(stops, lambda halt: False)
+        if track.halts[-1].text != self.text:
+            raise Lost("the run does not end so again")
         wanted = line or (f"entered {seen.key}" if seen else None)
         return track.legs_to(last_before_the_end(track.halts, wanted))
 
+    @cached_property
+    def _steps_to_the_end(self):
+        """How many lines are reached behind the last entry of a function, where the program ended itself; 0 where they are too many."""
+        way, count = self.search.way(self._legs), 0
+        with way.session:
+            way.set_stops(())
+            for answer, _ in way.go(MOST_STEPS, command="step"):
+                if answer.text == self.text:
+                    return count
+                count += 1
+        return 0
+
     def arrive(self):
-        """A session that stands where the run ended."""
-        return self.search.way(self._legs).session
+        """A way to where the run ended."""
+        way = self.search.way(self._legs)
+        if self.is_aborted:
+            way.set_stops(())
+            for _ in way.go(self._steps_to_the_end, command="step"):
+                pass
+        return way
+
+    def when(self):
+        """Of which moment the calls are, if it is not the line of a violation."""
+        if self.is_aborted and self._steps_to_the_end:
+            return ", at the last line that was reached"
+        return "" if self.violation and self.violation.line else ", as the last function was entered"
 
     def scene(self):
         """The calls and the values where the run ended."""
         if self._followed and self._followed.scene:
-            return self._followed.scene
-        with self.arrive() as session:
+            shown = self._names_of_thirds if self.thirds()[1] else self._names
+            values = (it for it in self._followed.scene.values if it.partition(" = ")[0] in shown)
+            return Scene(self._followed.scene.calls, tuple(values))
+        with self.arrive().session as session:
             calls = session.ask("where").lines
-            told = session.ask_all([f"print {it}" for it in self._names])
+            found = CALL.match(calls[0]) if self.is_aborted else None
+            names = names_in(self.sources.statement(found[2], int(found[3]))) if found else self._names
+            told = session.ask_all([f"print {it}" for it in names])
         return Scene(calls, tuple(it.text for it in told if " = " in it.text))
 
     def block(self, number):
-        """The heap block of this number, if the object is one, and whether it is known to be none."""
-        if not self._followed:
-            return None, False
-        block = self._followed.blocks.get(number)
-        return block, not block
+        """The heap block of this number, if it is known to be one."""
+        return self._followed.blocks.get(number) if self._followed else None
 
-    def birth(self, number, is_no_block, is_dead):
+    def birth(self, number, is_dead):
         """Where an object that is no heap block was born, and for a dead one when its call was left."""
         entries = self._followed and self._followed.entries.get(number)
         found = entries and self._birth_by_entry(number, *entries)
-        return found if found and not is_dead else self._birth_by_steps(number, is_no_block, is_dead)
+        return found if found and not is_dead else self._birth_by_steps(number, is_dead)
 
     def _birth_by_entry(self, number, before, after):
         """The birth of an object that was born as the run began or as a function was entered, by entries around it; else nothing."""
@@ -131,7 +182,7 @@ class Explanation:
                 return Birth(kind, step.calls, "", names[at])
         return None
 
-    def _birth_by_steps(self, number, is_no_block, is_dead):
+    def _birth_by_steps(self, number, is_dead):
         """The same by a search of its own, from the last entry before the birth on."""
         stops = tuple(f"in {it}" for it in self.search.functions)
         track = self.search.approach(stops, lambda halt: halt.births >= number)
@@ -142,7 +193,9 @@ class Explanation:
         legs = track.legs_to(len(track.halts) - 2)
         before, after, count = self._steps(legs, stops, number, track.halts[-2])
         inner = after.calls
-        left = self._left(legs, stops, count + 1, inner) if is_dead else ""
+        # a call of the library in between may have been one that gives a block
+        is_no_block = before.halt.library == after.halt.library
+        left = self._left(legs, stops, count + 1, inner) if is_dead and is_no_block else ""
         is_deeper = len(inner) > len(before.calls)
         kind = kind_of(before.halt.text, after.halt.text, is_deeper, (*before.calls[:1], *inner[:1]), is_no_block)
         name = self._name(kind, number, before.halt, after.halt, inner[0])
@@ -150,6 +203,8 @@ class Explanation:
 
     def _function(self, module, name):
         """What the text of a module tells of a function, if it can be read."""
+        if not self.setup.view:
+            return None
         try:
             return next((it for it in functions_in(self.setup.view.folder, module) if it.name == name), None)
         except Trouble:
@@ -219,9 +274,9 @@ def kind_of(before, after, is_deeper, calls, is_no_block):
     if any(" object block " in it for it in calls):
         return heap + "a parameter or an object of a block"
     if after.startswith("entered "):
-        return f"a parameter of {after[8:]}"
+        return heap + f"a parameter of {after[8:]}"
     if before.startswith("entered "):
         return f"an object of {function}'s outermost block"
     if is_deeper:
-        return f"a parameter of {function} or an object of its outermost block"
+        return heap + f"a parameter of {function} or an object of its outermost block"
     return heap + "an object of a block"

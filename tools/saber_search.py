@@ -23,10 +23,11 @@ class Lost(Exception):
 
 @dataclass(frozen=True)
 class Halt:
-    """Where a run halted, how many objects were born, and how many calls were active."""
+    """Where a run halted, how many objects were born, how many calls were active, and how many went to the library."""
     text: str
     births: int
     depth: int
+    library: int = 0
 
     @property
     def is_over(self):
@@ -78,7 +79,7 @@ def violation_of(text):
 def halt_of(answer, report):
     """A halt, by the answer that tells it and a counting probe's report."""
     counts = {kind: int(number) for kind, number in COUNTS.findall(report.text)}
-    return Halt(answer.text, counts["birth"], counts["enter"] - counts["leave"])
+    return Halt(answer.text, counts["birth"], counts["enter"] - counts["leave"], counts["lib"])
 
 
 @dataclass(frozen=True)
@@ -94,16 +95,17 @@ def functions_of(session):
 
 
 class Way:
-    """A session on its way: the stops that it has, and its next command to go on."""
+    """A session on its way: the stops that it has, and its next command to go on. `commands` are those that led to where it is."""
 
     def __init__(self, setup, is_counting):
-        self._setup, self._numbers = setup, []
+        self._setup, self._numbers, self.commands = setup, [], []
         options, turns = (("--count",), SLICE) if is_counting else ((), 10 ** 9)
-        self.session, self._began = setup.start(*options, turns=turns), False
+        self.session, self._began, self._halted = setup.start(*options, turns=turns), False, False
 
     def set_stops(self, stops):
         """Takes the former stops away and sets these."""
         commands = [f"delete {it}" for it in self._numbers] + [f"stop {it}" for it in stops]
+        self.commands += commands
         told = self.session.ask_all(commands)[len(self._numbers):]
         self._numbers = [found[1] for it in told if (found := re.match(r"stop (\d+) ", it.text))]
 
@@ -119,7 +121,8 @@ class Way:
             for at in range(0, len(told), len(group)):
                 if told[at].text.startswith("paused"):
                     continue
-                count -= 1
+                self.commands.append(command if self._halted else self._setup.run)
+                count, self._halted = count - 1, True
                 yield told[at], told[at + 1:at + len(group)]
                 if told[at].text.startswith(OVER):
                     return
@@ -141,7 +144,7 @@ class Search:
             self.functions = functions_of(session)
 
     def way(self, legs, is_counting=False):
-        """A session that went these legs."""
+        """A way that went these legs."""
         way = Way(self.setup, is_counting)
         way.follow(legs)
         return way

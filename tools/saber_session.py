@@ -13,7 +13,7 @@ import shutil
 import signal
 import subprocess
 import tempfile
-from dataclasses import dataclass, field
+from dataclasses import dataclass, field, replace
 
 ROOT = pathlib.Path(__file__).resolve().parent.parent
 GOES = ("run", "step", "next", "cont", "stepi")
@@ -25,6 +25,8 @@ MOST_LINES = 990_000
 MOST_IN_A_BATCH = 500
 # The seconds of processor time in which a text has to be translated; one of the greatest size takes a few.
 MOST_SECONDS = 5
+# the largest file that the program reads
+MOST_BYTES = 8_388_608
 PR_SET_PDEATHSIG = 1
 MODULE = re.compile(r"[A-Za-z][A-Za-z0-9_]{0,30}")
 FILE = re.compile(r"[A-Za-z0-9_][A-Za-z0-9_.-]{0,62}")
@@ -208,6 +210,10 @@ class Session:
             answers += [split_answer(command, self._told(None)[0]) for command in batch]
         return answers
 
+    def seconds(self):
+        """The processor time that the program took so far."""
+        return processor_time(self.child.pid)
+
     def close(self):
         """Ends the program, whatever it does."""
         self.child.kill()
@@ -242,9 +248,9 @@ class Session:
 
     def _wait(self):
         """Waits for more bytes, for a bounded command so long as the program may work on it."""
-        before = processor_time(self.child.pid) if self._is_bounded else 0
+        before = self.seconds() if self._is_bounded else 0
         while self._is_bounded and not select.select([self.child.stdout], [], [], 1)[0]:
-            if processor_time(self.child.pid) - before > MOST_SECONDS:
+            if self.seconds() - before > MOST_SECONDS:
                 raise refused(f"no answer after {MOST_SECONDS} s of processor time")
 
     def _told(self, show):
@@ -282,10 +288,11 @@ class Session:
 
 @dataclass(frozen=True)
 class Module:
-    """A module that is loaded: its name, its file, and whether its object runs."""
+    """A module that is loaded: its name, its file, and whether its object runs, perhaps the faster one."""
     name: str
     path: pathlib.Path
     is_object: bool = False
+    is_fast: bool = False
 
 
 def module_of(word, is_object=False, folder="."):
@@ -321,22 +328,23 @@ def levels_up(folder):
 
 
 class View:
-    """A folder of its own that shows the files of the modules' folders by links, so that nothing of the user's changes.
+    """A folder of its own that shows the files of the modules' folders, so that nothing of the user's changes.
 
-    Objects of modules that run as such are not shown: `compile` writes them here.
+    The texts of the modules and the headers stand in it as they are now, so that a run can be repeated after they were edited;
+    other files by links. Objects of modules that run as such are not shown: `compile` writes them here.
     """
     INPUT = "saber_input"
 
     def __init__(self, modules, given=None, folder="."):
         self._room = tempfile.TemporaryDirectory(prefix="saber-")
         self.folder = self._below(modules[0].path.parent)
-        self.modules, self.given = modules, None if given is None else pathlib.Path(folder, given).resolve()
+        self.modules, self.given, self._shown = modules, None if given is None else pathlib.Path(folder, given).resolve(), {}
         own = {f"{it.name}.c": it.path for it in modules}
-        hidden = {f"{it.name}.o" for it in modules}
+        hidden = {self.INPUT, *(f"{it.name}{ending}" for it in modules for ending in (".o", ".fast.o"))}
         for folder in dict.fromkeys(it.path.parent for it in modules):
             for path in folder.iterdir():
                 if path.name not in hidden and FILE.fullmatch(path.name):
-                    self._link(own.get(path.name, path))
+                    self._show(own.get(path.name, path), path.name in own or path.suffix == ".h")
         if self.given:
             if not self.given.is_file():
                 raise refused(f"there is no file {given}")
@@ -354,12 +362,19 @@ class View:
             at.mkdir()
         return at
 
-    def _link(self, path):
-        link = self.folder / path.name
-        if not link.is_symlink():
-            link.symlink_to(path.resolve())
-        elif path.suffix == ".h" and link.read_bytes() != path.read_bytes():
-            raise TwoHeaders(f"{link.resolve()} and {path} are two headers of one name", 2)
+    def _show(self, path, is_text):
+        shown, first = self.folder / path.name, self._shown.setdefault(path.name, path)
+        if shown.is_symlink() or shown.exists():
+            if path.suffix == ".h" and shown.read_bytes() != path.read_bytes():
+                raise TwoHeaders(f"{first} and {path} are two headers of one name", 2)
+        elif is_text and path.is_file() and path.stat().st_size <= MOST_BYTES and os.access(path, os.R_OK):
+            shown.write_bytes(path.read_bytes())
+        else:
+            shown.symlink_to(path.resolve())
+
+    def again(self):
+        """The modules as this view has their texts, for another view."""
+        return [replace(it, path=self.folder / f"{it.name}.c") for it in self.modules]
 
     def replace(self, name, text):
         """Puts a text in the place of what the view shows under a name."""
@@ -387,9 +402,17 @@ class Setup:
     def run(self):
         return f"run {View.INPUT}" if self.view.given else "run"
 
+    def over(self, view):
+        """The same over another view."""
+        return replace(self, view=view)
+
+    def empty(self, *options, turns=MOST_TURNS):
+        """A session without modules."""
+        return Session(self.program, self.view.folder, (*self.options, "--turns", str(turns), *options))
+
     def start(self, *options, turns=MOST_TURNS):
         """A session with every module loaded in its form."""
-        session = Session(self.program, self.view.folder, (*self.options, "--turns", str(turns), *options))
+        session = self.empty(*options, turns=turns)
         try:
             for module in self.view.modules:
                 load(session, module)
@@ -411,7 +434,8 @@ def loaded(session, command):
 
 def load(session, module):
     """Loads one module in its form, or raises its refusal."""
-    for command in (f"load {module.name}", *((f"compile {module.name}", f"swap {module.name} object") if module.is_object else ())):
+    ending, form = (" fast", "fast") if module.is_fast else ("", "object")
+    for command in (f"load {module.name}", *((f"compile {module.name}{ending}", f"swap {module.name} {form}") if module.is_object else ())):
         answer = loaded(session, command)
         if answer.text.startswith("refused C5 "):
             raise NotTaken(command, answer.text)

@@ -33,6 +33,12 @@ class Sources:
         self._paths = {it.name: it.path for it in modules}
         self._lines, self._maps = {}, {}
 
+    def edited(self, name, path):
+        """Takes another file as the text of a module, or the same one as it is now."""
+        self._paths[name] = path
+        self._lines.pop(name, None)
+        self._maps.pop(name, None)
+
     def lines(self, name):
         """The lines of a module's text; none where the module is not known."""
         if name not in self._lines:
@@ -117,6 +123,17 @@ def names_in(lines):
         if is_name and (at == 0 or tokens[at - 1] not in (".", "->")) and tokens[at + 1:at + 2] != ["("]:
             found.append(token)
     return list(dict.fromkeys(found))
+
+
+def parts_of(value):
+    """The elements of an array or a structure, as `print` writes it; none for another value."""
+    parts, depth, begin = [], 0, 1
+    for at, sign in enumerate(value if value.startswith("{") else ""):
+        depth += (sign == "{") - (sign == "}")
+        if (sign == "," and depth == 1) or (sign == "}" and depth == 0):
+            parts.append(value[begin:at].strip())
+            begin = at + 1
+    return [it for it in parts if it]
 
 
 def block_around(lines, number):

@@ -34,23 +34,34 @@ class Teller:
         for line in shown:
             self.say(indent + self.call(line))
 
-    def report(self, violation):
-        """What the rule means, and the source line."""
+    def report(self, violation, thirds, is_third):
+        """What the rule means, and the source line.
+
+        `thirds` are the `for` statements in whose third part the run ended, or may have ended.
+        """
         self.say(f"-- {violation.rule}: {RULES[violation.rule]}")
         if not violation.line:
             self.say(f"-- the line is in compiled code of {violation.module}; leave it in source form to see it")
             return
         place = self.sources.place(violation.module, violation.line)
-        self.say(f"-- at {place.file}:{place.line}")
-        for at in range(len(self.sources.statement(violation.module, violation.line))):
-            line = self.sources.place(violation.module, violation.line + at)
-            self.say(f"    {line.text}")
+        if not is_third:
+            self.say(f"-- at {place.file}:{place.line}")
+            self._lines(violation.module, violation.line, len(self.sources.statement(violation.module, violation.line)))
+        for loop in thirds:
+            head = self.sources.place(violation.module, loop.line)
+            self.say(f"-- {'' if is_third else 'or '}at {head.file}:{head.line}, in the third part of the `for`, behind line {place.line}")
+            self._lines(violation.module, loop.line, loop.parts[2][-1].line - loop.line + 1)
 
-    def scene(self, scene, is_at_end):
-        self.say("-- calls, the innermost one first" + ("" if is_at_end else ", as the last function was entered"))
+    def _lines(self, module, first, count):
+        for at in range(count):
+            self.say(f"    {self.sources.place(module, first + at).text}")
+
+    def scene(self, scene, when, line=0):
+        """The calls and values; `when` tells of which moment they are, and `line` the line before which the values are so."""
+        self.say("-- calls, the innermost one first" + when)
         self.calls(scene.calls)
         if scene.values:
-            self.say("-- values, before this line is carried out")
+            self.say(f"-- values, before {f'line {line}' if line else 'this line'} is carried out")
             for it in scene.values:
                 self.say("    " + (it if len(it) <= MOST_VALUE else it[:MOST_VALUE] + " .."))
 
@@ -70,15 +81,21 @@ class Teller:
         if is_dead and birth.left:
             self.say("-- and it died as its block was left, at the latest behind this line")
             self.calls([birth.left])
+        elif is_dead:
+            self.say("-- and where it died was not seen")
 
 
 def explain(explanation, teller):
     """Tells all that can be found; what cannot is said too."""
     violation = explanation.violation
+    thirds, is_third = explanation.thirds()
     if violation:
-        teller.report(violation)
+        teller.report(violation, thirds, is_third)
+    elif explanation.is_aborted:
+        teller.say("-- a failed assertion and abort end so")
     try:
-        teller.scene(explanation.scene(), bool(violation and violation.line))
+        place = teller.sources.place(violation.module, violation.line) if is_third else None
+        teller.scene(explanation.scene(), explanation.when(), place.line if place else 0)
     except Lost as reason:
         teller.say(f"-- the calls were not found: {reason}")
     for number in violation.numbers if violation else ():
@@ -89,10 +106,10 @@ def explain_object(explanation, teller, number):
     """Tells the life of an object that the report names."""
     is_dead = explanation.violation.rule == "U3" or f"dead object {number}" in explanation.text
     try:
-        block, is_no_block = explanation.block(number)
+        block = explanation.block(number)
         if block:
             teller.block(number, block, is_dead)
         else:
-            teller.birth(number, explanation.birth(number, is_no_block, is_dead), is_dead)
+            teller.birth(number, explanation.birth(number, is_dead), is_dead)
     except Lost as reason:
         teller.say(f"-- the birth of object {number} was not found: {reason}")

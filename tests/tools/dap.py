@@ -29,6 +29,16 @@ FILES = {
     "slow.c": "static int sum;\nstatic void work(int n)\n{\n    int i;\n    for (i = 0; i < n; i++)\n        sum = i & 7;\n}\n"
               "int main(void)\n{\n    sum = 1;\n    work(250000);\n    sum = 2;\n    return 5;\n}\n",
     "wrong.c": "int main(void)\n{\n    return x;\n}\n",
+    "loop.c": "extern int reply(int n);\nint main(void)\n{\n    int i, sum = 0;\n    for (i = 0; i < 4; i++)\n        sum += reply(i);\n    return sum;\n}\n",
+    "reply.c": "int reply(int n)\n{\n    return n;\n}\n",
+    "mended.c": "int reply(int n)\n{\n    n = n + 10;\n    return n;\n}\n",
+    "worse.c": "int reply(int n)\n{\n    int two = 2;\n    return n / (two - n);\n}\n",
+    # 7 is no even number
+    "even.c": "#include <assert.h>\nstatic int half(int n)\n{\n    assert(n % 2 == 0);\n    return n / 2;\n}\nint main(void)\n{\n    return half(half(14));\n}\n",
+    "list.c": "#include <stdlib.h>\nstruct node { int v[3]; struct node *next; };\nstatic struct node *head;\nstatic int sum(struct node *p)\n{\n"
+              "    int s = 0;\n    for (; p; p = p->next) {\n        unsigned k = p->v[1];\n        s += k;\n    }\n    return s;\n}\n"
+              "int main(void)\n{\n    int i;\n    for (i = 1; i < 4; i++) {\n        struct node *n = calloc(1, sizeof *n);\n        n->v[1] = i * i;\n"
+              "        n->next = head;\n        head = n;\n    }\n    return sum(head) - 14;\n}\n",
 }
 
 
@@ -123,7 +133,9 @@ def breakpoints(program, room):
     yield "values", client.values() == {"p": "{1, {2, 3}}"} | {"i": "?"}
     yield "parts", client.values(1000) == {"[0]": "1", "[1]": "{2, 3}"}
     yield "a name", client.ask("evaluate", expression="p", context="hover")["body"]["result"] == "{1, {2, 3}}"
-    yield "no name", not client.ask("evaluate", expression="p.a", context="hover")["success"]
+    yield "a member", client.ask("evaluate", expression="p.b[1] - 4", context="hover")["body"]["result"] == "-1"
+    told = client.ask("evaluate", expression="q", context="hover")
+    yield "no name", not told["success"] and told["message"] == "q is no expression here (refused C5 X6 user.c:11)"
     client.ask("next")
     yield "next goes over a call", client.event("stopped")["reason"] == "step" and client.frames() == [("main", "user.c", 12)]
     client.ask("continue")
@@ -132,7 +144,10 @@ def breakpoints(program, room):
     yield "calls", client.frames() == [("push", "stack.c", 5), ("main", "user.c", 14)]
     yield "the function's names", client.values() == {"n": "0", "room": "object 8 + 0", "used": "0"}
     yield "the module's other names", client.values(2) == {"limit": "2"}
-    yield "names of the innermost call alone", client.ask("scopes", frameId=2)["body"]["scopes"] == []
+    told = client.ask("scopes", frameId=2)["body"]["scopes"]
+    yield "the scopes of an outer call", [(it["name"], it["variablesReference"]) for it in told] == \
+        [("Function, as line 14 was begun", 3), ("Module, as line 14 was begun", 4)]
+    yield "the names of an outer call", client.values(3) == {"p": "{1, {2, 3}}", "i": "0"}
     client.ask("stepOut")
     client.event("stopped")
     yield "out", client.frames() == [("main", "user.c", 12)]
@@ -147,6 +162,11 @@ def breakpoints(program, room):
         stopped["text"] == "violation U2 in push at stack:7 object 8 offset 8 size 4"
     yield "where it is", client.frames() == [("push", "stack.c", 7), ("main", "user.c", 14)]
     yield "its values", client.values() == {"n": "2", "room": "object 8 + 0", "used": "2"}
+    for text, at, value in (("room[used - 1] + 5", 1, "6"), ("room", 1, "object 8 + 0"), ("p.b[1]", 2, "3"), ("i", 2, "2"), ("i * 2 == 4", 2, "1")):
+        told = client.ask("evaluate", expression=text, frameId=at, context="hover")
+        yield f"the value of {text}", told["success"] and told["body"]["result"] == value, told
+    told = client.ask("evaluate", expression="room[used]", frameId=1, context="hover")
+    yield "no value", told.get("message") == "it has no value: violation U2 in push at stack:7 object 8 offset 8 size 4", told
     told = client.ask("exceptionInfo", threadId=1)["body"]
     yield "why", told["exceptionId"] == "U2" and "object 8 is a heap block of 8 bytes" in told["details"]["stackTrace"]
     client.ask("continue")
@@ -183,8 +203,135 @@ def long_steps(program, room):
         client.event("stopped")
         yield f"over, to line {line}", client.frames() == [("main", "slow.c", line)]
     yield "what it did", client.ask("evaluate", expression="sum")["body"]["result"] == "7"
+    told = client.ask("evaluate", expression="(work(2000000000), sum)")
+    yield "an expression without an end", not told["success"] and told["message"].startswith("it was not evaluated: paused after "), told
     client.ask("continue")
     yield "its exit status", client.event("exited") == {"exitCode": 5} and client.event("terminated") == {}
+
+
+def expressions(program, room):
+    """What is evaluated at each kind of statement. The list has the squares of 3, 2 and 1 in the middle of its nodes."""
+    client = Client(program, room)
+    client.launched(modules=["list"], cwd=str(room))
+    client.ask("setBreakpoints", source={"path": str(room / "list.c")}, breakpoints=[{"line": it} for it in (6, 7, 8, 9, 11)])
+    client.ask("configurationDone")
+    for line, wanted in (
+        (6, {"p->v[1]": "9", "p->next->v[1]": "4", "p == head": "1"}),
+        (7, {"p->next->next->next": "null", "s": "0", "s - 1": "-1", "sizeof(struct node)": "16"}),
+        # k is not written yet
+        (8, {"p->v[1] + s": "9", "k": "?"}),
+        # head and i are objects 1 and 2, and n and a block follow three times
+        (9, {"k - 10": "4294967295", "-1": "-1", "(char) 200": "200", "head->v": "object 8 + 0", "*head": "{{0, 9, 0}, object 6 + 0}", "*p->next": "{{0, 4, 0}, object 4 + 0}",
+             "sum": "function list:sum", "sum(head->next->next)": "1"}),
+    ):
+        yield f"a stop at line {line}", client.event("stopped")["text"] == f"at list:{line}"
+        for text, value in wanted.items():
+            told = client.ask("evaluate", expression=text, frameId=1, context="watch")
+            yield f"{text} at line {line}", told["success"] and told["body"]["result"] == value, told
+        if line == 7:
+            names = {it["name"]: it["variablesReference"] for it in client.ask("variables", variablesReference=1)["body"]["variables"]}
+            yield "a pointer is opened", client.values(names["p"]) == {"*p": "{{0, 9, 0}, object 6 + 0}"}, names
+        client.ask("continue")
+    client.event("stopped")
+    client.ask("setBreakpoints", source={"path": str(room / "list.c")}, breakpoints=[{"line": 11}])
+    for wrong in ("p +", "1; sum(p)", "p) (", "}", "q->v", '"a', "1 /* */"):
+        told = client.ask("evaluate", expression=wrong, frameId=1, context="watch")
+        yield f"{wrong} is refused", not told["success"] and "no expression" in told["message"], told
+    client.ask("continue")
+    yield "on to line 11", client.event("stopped")["text"] == "at list:11"
+    told = client.ask("evaluate", expression="s", frameId=1, context="watch")
+    yield "the run is where it was", told["body"]["result"] == "14"
+    told = client.ask("evaluate", expression="eval list sizeof(struct node) * 2", frameId=1, context="repl")
+    yield "eval at the prompt", told["body"]["result"] == "value 32", told
+
+
+def conditions(program, room):
+    """A breakpoint with a condition is refused, and not taken without it."""
+    client = Client(program, room)
+    client.launched(modules=["loop", "reply"], cwd=str(room))
+    told = client.ask("setBreakpoints", source={"path": str(room / "loop.c")}, breakpoints=[
+        {"line": 6, "condition": "i == 2"}, {"line": 7}, {"line": 6, "hitCondition": "3"}, {"line": 6, "logMessage": "i"}])["body"]
+    yield "lines", [it["verified"] for it in told["breakpoints"]] == [False, True, False, False] and \
+        told["breakpoints"][0]["message"] == "a breakpoint with a condition is not taken"
+    told = client.ask("setFunctionBreakpoints", breakpoints=[{"name": "reply", "condition": "n == 2"}])["body"]
+    yield "functions", [it["verified"] for it in told["breakpoints"]] == [False]
+    client.ask("configurationDone")
+    yield "only the other one stops", client.event("stopped")["text"] == "at loop:7"
+
+
+def restarts(program, room):
+    """A run begins again from the files as they are, with its breakpoints."""
+    client = Client(program, room)
+    client.launched(modules=["loop", "reply"], cwd=str(room))
+    client.ask("setFunctionBreakpoints", breakpoints=[{"name": "reply"}])
+    client.ask("setBreakpoints", source={"path": str(room / "loop.c")}, breakpoints=[{"line": 7}])
+    client.ask("configurationDone")
+    client.event("stopped")
+    text = (room / "loop.c").read_text()
+    (room / "loop.c").write_text(text.replace("{\n    int i", "{\n\n    int i").replace("i < 4", "i < 1"))
+    yield "restart", client.ask("restart")["success"]
+    # the call moved down to line 7
+    yield "the line again", client.event("stopped")["text"] == "at loop:7" and client.values() == {"i": "0", "sum": "0"}
+    client.ask("continue")
+    yield "the function again", client.event("stopped")["text"] == "entered reply" and client.values() == {"n": "0"}
+    client.ask("setBreakpoints", source={"path": str(room / "loop.c")}, breakpoints=[])
+    client.ask("continue")
+    yield "the end", client.event("exited") == {"exitCode": 0}
+    client = Client(program, room)
+    client.launched(modules=["loop", "reply"], cwd=str(room), stopOnEntry=True)
+    client.ask("configurationDone")
+    client.event("stopped")
+    (room / "loop.c").write_text("int main(void)\n{\n    return x;\n}\n")
+    told = client.ask("restart")
+    yield "a text that is refused", not told["success"] and told["message"] == "load loop: refused C5 X6 loop.c:3" and client.event("terminated") == {}
+    (room / "loop.c").write_text(text)
+
+
+def changes(program, room):
+    """Modules are changed at a stop: the active call finishes its text, and later ones take the new one."""
+    for file, words, frames in (("mended.c", "edit reply mended.c", [("reply", "mended.c", 1)]), (None, "swap reply object", [("reply (compiled)", "reply.c", 1)])):
+        client = Client(program, room)
+        client.launched(modules=["loop", "reply"], cwd=str(room))
+        client.ask("setFunctionBreakpoints", breakpoints=[{"name": "reply"}])
+        client.ask("configurationDone")
+        client.event("stopped")
+        client.ask("continue")
+        client.event("stopped")
+        told = client.ask("evaluate", expression=words, context="repl")
+        yield words, told["success"] and told["body"]["result"] == ("edited reply" if file else "reply object"), told
+        client.ask("continue")
+        yield f"a call behind {words}", client.event("stopped")["text"] == "entered reply" and client.frames()[:1] == frames
+        client.ask("setFunctionBreakpoints", breakpoints=[])
+        client.ask("continue")
+        # 0 + 1 + 12 + 13, or 0 + 1 + 2 + 3
+        yield f"the end behind {words}", client.event("exited") == {"exitCode": 26 if file else 6}
+    client = Client(program, room)
+    client.launched(modules=["loop", "reply"], cwd=str(room))
+    client.ask("setFunctionBreakpoints", breakpoints=[{"name": "reply"}])
+    client.ask("configurationDone")
+    client.event("stopped")
+    for words in ("edit reply wrong.c", "edit absent", "swap reply slow", "edit reply absent.c"):
+        told = client.ask("evaluate", expression=words, context="repl")
+        yield words, told["body"]["result"] == "refused C5 X6 wrong.c:3" if "wrong" in words else not told["success"], told
+    client.ask("evaluate", expression="edit reply worse.c", context="repl")
+    client.ask("setFunctionBreakpoints", breakpoints=[])
+    client.ask("continue")
+    yield "an undefined step behind an edit", client.event("stopped")["text"] == "violation U8 in reply at reply:4 left 2 right 0"
+    yield "its calls", client.frames() == [("reply", "worse.c", 4), ("main", "loop.c", 6)] and client.values() == {"n": "2", "two": "2"}
+    told = client.ask("evaluate", expression="n - two", frameId=1, context="watch")
+    yield "no replay of two texts", not told["success"] and "were changed" in told["message"], told
+
+
+def aborted(program, room):
+    """A failed assertion stops as an exception, with its calls."""
+    client = Client(program, room)
+    client.launched(modules=["even"], cwd=str(room))
+    client.ask("configurationDone")
+    stopped = client.event("stopped")
+    yield "a failed assertion", stopped["reason"] == "exception" and stopped["description"] == "an assertion failed, or abort was called"
+    yield "its calls", client.frames() == [("even:half", "even.c", 4), ("main", "even.c", 9)] and client.values() == {"n": "7"}
+    client.ask("continue")
+    yield "the end", client.event("terminated") == {}
 
 
 def denied(program, room):
@@ -234,4 +381,4 @@ def holds(told, wanted):
 
 if __name__ == "__main__":
     os.environ["PYTHONDONTWRITEBYTECODE"] = "1"
-    sys.exit(common.checked(__doc__, [breakpoints, pauses, long_steps, denied, replayed], FILES))
+    sys.exit(common.checked(__doc__, [breakpoints, expressions, conditions, restarts, changes, aborted, pauses, long_steps, denied, replayed], FILES))

@@ -32,6 +32,10 @@ FILES = {
     "real.c": "/* a line */\nint main(void)\n{\n    return 0;\n}\n",
     "long.c": "int main(void)\n{\n    int i;\n    for (i = 0; i < 400000; i++)\n        ;\n    return 0;\n}\n",
     "wrong.c": "int main(void) { return x; }\n",
+    # a module of the tools' own, which is left out, and one of the user's that has its name alone
+    "texts.c": "extern char *strstr(const char *text, const char *wanted);\nint main(void)\n{\n    return *strstr(\"abc\", \"c\") - 'c';\n}\n",
+    "lib/saberlib.c": (common.TOOLS / "saberlib.c").read_text(),
+    "own/saberlib.c": "char *strstr(const char *text, const char *wanted)\n{\n    return wanted == text ? 0 : (char *) text + 2;\n}\n",
     "mapped.map.json": json.dumps({"ranges": [{"first": 1, "last": 1, "file": "real.c", "line": 2}]}),
     "input": "abc",
 }
@@ -49,6 +53,8 @@ CASES = [
     (["mapped"], 0, {"real.c": ([(2, "main", 1)], [(2, 1)])}),
     # more than one slice of turns
     (["long"], 0, {"long.c": ([(1, "main", 1)], [(4, 400002), (5, 400000), (6, 1)])}),
+    (["texts", "lib/saberlib"], 0, {"texts.c": ([(2, "main", 1)], [(4, 1)])}),
+    (["texts", "own/saberlib"], 0, {"own/saberlib.c": ([(1, "strstr", 1)], [(3, 1)]), "texts.c": ([(2, "main", 1)], [(4, 1)])}),
     (["--turns", "1000", "echo", "--input", "input"], 0, {"echo.c": ([(2, "main", 1)], [(4, 4), (5, 3), (6, 1)])}),
 ]
 REFUSED = [

@@ -6,8 +6,12 @@ usage: tests/tools/why.py PROGRAM
 The expected lines are worked out by hand from each C program and docs/COMMANDS.md. The last line is 'N passed, M failed'.
 """
 import json
+import os
 import re
+import signal
+import subprocess
 import sys
+import time
 
 import common
 
@@ -27,6 +31,9 @@ FILES = {
     "feign.c": "#include <stdio.h>\nint main(void)\n{\n    puts(\"> violation U1 in main at feign:4 object 1 offset 0 size 4\");\n"
                "    printf(\"> exit 0\");\n    return 0;\n}\n",
     "nine.c": "int main(void)\n{\n    return 9;\n}\n",
+    # a hung program
+    "hang.c": "#include <stdio.h>\nstatic int turns;\nstatic void spin(int n)\n{\n    while (n)\n        turns = 1;\n}\n"
+              "int main(void)\n{\n    puts(\"before\");\n    spin(3);\n    return 0;\n}\n",
     "loop.c": "int main(void)\n{\n    for (;;)\n        ;\n}\n",
     "wrong.c": "int main(void)\n{\n    return x;\n}\n",
     "store.c": "void store(int *p)\n{\n    p[1] = 2;\n}\n",
@@ -43,6 +50,33 @@ FILES = {
              "    for (i = 0; i < 400; i++)\n        all[i] = 1;\n    for (i = 0; i <= 400; i++)\n        add(all, i);\n    return sum;\n}\n",
     "fresh.c": "static int sum(const int *p)\n{\n    int at, sum;\n    for (at = 0; at < 2; at++)\n        sum += p[at];\n    return sum;\n}\n"
                "int main(void)\n{\n    int two[2];\n    two[0] = two[1] = 1;\n    return sum(two) - 2;\n}\n",
+    # the heap's functions are called through pointers: objects 1 and 2 are the pointers, 3 main's p, 4 make's p, 5 the block
+    "ptr.c": "#include <stdlib.h>\nstatic void *(*get)(size_t) = malloc;\nstatic void (*put)(void *) = free;\nstatic int *make(void)\n{\n"
+             "    int *p = (*get)(8);\n    p[0] = 1;\n    return p;\n}\nint main(void)\n{\n    int *p = make();\n    (*put)(p);\n    return p[0];\n}\n",
+    # h is 1, p and q are 2 and 3, and the blocks 4 and 5
+    "hooks.c": "#include <stdlib.h>\nstruct hooks {\n    void *(*get)(size_t, size_t);\n    void *(*more)(void *, size_t);\n    void (*free)(void *);\n};\n"
+               "static const struct hooks h = { calloc, realloc, free };\nint main(void)\n{\n    char *p, *q;\n    p = h.get(2, 3);\n    q = h.more(p, 12);\n"
+               "    h.free(q);\n    h.free(q);\n    return p[0];\n}\n",
+    # a name that the preprocessor makes is not seen; p and q are 1 and 2
+    "paste.c": "#include <stdlib.h>\n#define KIND(a) a ## alloc\nint main(void)\n{\n    char *p, *q;\n    p = KIND(m)(4);\n    q = p;\n    free(p);\n"
+               "    return q[0];\n}\n",
+    # a macro of the user's own stands for malloc, and gives what no heap gave
+    "macro.c": "#define malloc(n) own(n)\nstatic char room[4];\nstatic char *own(int n)\n{\n    return n > 4 ? 0 : room;\n}\n"
+               "int main(void)\n{\n    char *p;\n    p = malloc(3);\n    return p[4];\n}\n",
+    "third.c": "#include <stdlib.h>\nstruct n { struct n *next; };\nint main(void)\n{\n    struct n *a = malloc(sizeof *a), *p;\n    a->next = 0;\n"
+               "    for (p = a; p; p = p->next)\n    {\n        int i = 0;\n        i++;\n        free(p);\n    }\n    return 0;\n}\n",
+    # behind the inner loop's last test the outer loop's third part follows
+    "nest.c": "int main(void)\n{\n    int a[3], i, j, *p = a;\n    for (i = 0; i < 3;\n         p += 4, i++)\n        for (j = 0; j < 2; j++)\n"
+              "            a[i] = j;\n    return 0;\n}\n",
+    "body.c": "int main(void)\n{\n    int a[3], i;\n    for (i = 0; i < 9; i++)\n        a[i] = i;\n    return 0;\n}\n",
+    # the third part is carried out more often than is waited for
+    "over.c": "int main(void)\n{\n    int i, sum;\n    for (i = 2147453647; i > 0; i++)\n        sum = i;\n    return sum;\n}\n",
+    "assert.c": "#include <assert.h>\nstatic int half(int n)\n{\n    assert(n % 2 == 0);\n    return n / 2;\n}\nint main(void)\n{\n    int i;\n"
+                "    for (i = 4; i > 0; i--)\n        half(half(i * 2));\n    return 0;\n}\n",
+    # sixty loops around one statement, and a line of twenty thousand statements
+    "nested.c": "int main(void)\n{\n    int a[1], i, s = 0;\n" + "    for (i = 0; i < 1; i++)\n" * 60 + "        a[1] = 1;\n    return s;\n}\n",
+    "wide.c": "int main(void)\n{\n    int a[1], i = 0, s = 0;\n    for (i = 0; i < 2; i++) {\n        " + "s += 1; " * 20000 + "\n        a[i] = s;\n    }\n    return s;\n}\n",
+    "inside.c": "#include <stdlib.h>\nint main(void)\n{\n    char *p = malloc(4);\n    free(p + 1);\n    return 0;\n}\n",
     "mapped.c": "int main(void) { int x; return x; }\n",
     "real.c": "\n\nint main(void) {\n    int x;\n    return x;\n}\n",
     "mapped.map.json": json.dumps({"ranges": [{"first": 1, "last": 1, "file": "real.c", "line": 5}]}),
@@ -99,6 +133,34 @@ CASES = [
     (["--object", "copy", "copy"], 1, ["> violation U2 in main at copy:0 object 2 offset 3 size 1",
                                        "-- the line is in compiled code of copy; leave it in source form to see it",
                                        "-- object 2 is a heap block of 3 bytes, which malloc gave here"]),
+    (["ptr"], 1, ["> violation U3 in main at ptr:14 left dead object 5 + 0 right 0", "    p = dead object 5 + 0",
+                  "-- object 5 is a heap block of 8 bytes, which malloc gave here", "    ptr:make at ptr:6 ptr.c:6: int *p = (*get)(8);",
+                  "    main at ptr:12 ptr.c:12: int *p = make();", "-- and it died here", "    main at ptr:13 ptr.c:13: (*put)(p);"]),
+    (["hooks"], 1, ["> violation U14 in main at hooks:14 value dead object 5 + 0", "-- at hooks.c:14", "    q = dead object 5 + 0",
+                    "-- object 5 is a heap block of 12 bytes, which realloc gave here", "    main at hooks:12 hooks.c:12: q = h.more(p, 12);",
+                    "-- and it died here", "    main at hooks:13 hooks.c:13: h.free(q);"]),
+    (["paste"], 1, ["> violation U3 in main at paste:9 left dead object 3 + 0 right 0",
+                    "-- object 3 is a heap block or an object of a block, born here", "    main at paste:6 paste.c:6: p = KIND(m)(4);",
+                    "-- and where it died was not seen"]),
+    (["macro"], 1, ["> violation U2 in main at macro:11 object 1 offset 4 size 1", "-- object 1 is an object of static storage duration or a string literal"]),
+    (["inside"], 1, ["> violation U14 in main at inside:5 value object 2 + 1", "-- object 2 is a heap block of 4 bytes, which malloc gave here",
+                     "    main at inside:4 inside.c:4: char *p = malloc(4);"]),
+    (["nested"], 1, ["> violation U2 in main at nested:64 object 1 offset 4 size 4", "-- at nested.c:64", "    a[1] = 1;",
+                     "-- object 1 is a, an object of main's outermost block, born here"]),
+    (["wide"], 1, ["> violation U2 in main at wide:6 object 1 offset 4 size 4", "-- at wide.c:6", "    a[i] = s;", "    i = 1", "    s = 40000"]),
+    # a is 1, p 2 and the node 3
+    (["third"], 1, ["> violation U3 in main at third:11 object 3 offset 0 size 4", "-- at third.c:7, in the third part of the `for`, behind line 11",
+                    "    for (p = a; p; p = p->next)", "-- values, before line 11 is carried out", "    p = object 3 + 0", "-- and it died here",
+                    "    main at third:11 third.c:11: free(p);"]),
+    (["nest"], 1, ["> violation U5 in main at nest:6 left object 1 + 0 right 4", "-- at nest.c:4, in the third part of the `for`, behind line 6",
+                   "    for (i = 0; i < 3;", "    p += 4, i++)", "    p = object 1 + 0"]),
+    (["body"], 1, ["> violation U2 in main at body:5 object 1 offset 12 size 4", "-- at body.c:5", "    i = 3"]),
+    (["over"], 1, ["> violation U7 in main at over:5 left 2147483647 right 1", "-- at over.c:5", "    sum = i;",
+                   "-- or at over.c:4, in the third part of the `for`, behind line 5", "    for (i = 2147453647; i > 0; i++)"]),
+    # half(8), half(4), half(6), and then half(3)
+    (["assert"], 3, ["> exit 134", "-- a failed assertion and abort end so", "-- calls, the innermost one first, at the last line that was reached",
+                     "    assert:half at assert:4 assert.c:4: assert(n % 2 == 0);", "    main at assert:11 assert.c:11: half(half(i * 2));", "    n = 3"]),
+    (["--object", "assert", "assert"], 3, ["> exit 134", "-- calls, the innermost one first, as the last function was entered"]),
     (["mapped"], 1, ["> violation U1 in main at mapped:1 object 1 offset 0 size 4", "-- at real.c:5", "    return x;"]),
 ]
 REFUSED = [
@@ -109,6 +171,14 @@ REFUSED = [
     (["nine", "nine.c"], "saber-why: module nine is named twice"),
     (["9.c"], "saber-why: 9 is no module's name: a letter and up to 30 letters, digits or underscores"),
     (["--program", "absent", "nine"], "saber-why: there is no program absent"),
+]
+
+
+# words, and a part of a line that the output may not have
+NOT_TOLD = [
+    (["paste"], "died as its block was left"),
+    (["inside"], "died"),
+    (["body"], "third part"),
 ]
 
 
@@ -133,10 +203,25 @@ def tells(program, room):
     for words, status, wanted in CASES:
         ran = common.tool_run("saber-why", program, room, words)
         yield " ".join(words), ran.returncode == status and holds(ran.stdout, wanted), common.told_by(ran)
+    for words, part in NOT_TOLD:
+        ran = common.tool_run("saber-why", program, room, words)
+        yield f"not told of {words[0]}: {part}", ran.returncode == 1 and part not in ran.stdout.decode(), common.told_by(ran)
     for words, line in REFUSED:
         ran = common.tool_run("saber-why", program, room, words)
         yield " ".join(words), ran.returncode == 2 and ran.stderr.decode().strip() == line, common.told_by(ran)
     yield "files of the user", content(room) == before
+
+
+def interrupted(program, room):
+    """Ctrl-C of a program that hangs: what it printed, and where it stood."""
+    environment = {**os.environ, "SABER_PROGRAM": str(program)}
+    child = subprocess.Popen([common.TOOLS / "saber-why", "hang"], cwd=room, env=environment, stdout=subprocess.PIPE, stderr=subprocess.PIPE)
+    time.sleep(3)
+    child.send_signal(signal.SIGINT)
+    output, said = child.communicate(timeout=120)
+    wanted = ["-- ended by Ctrl-C; the run is repeated up to where it stood",
+              "before", "-- calls, the innermost one first, where it stood or came by last", "    main at hang:11 hang.c:11: spin(3);"]
+    yield "Ctrl-C", child.returncode == 3 and holds(output, wanted) and b"    hang:spin at hang:" in output, output.decode() + said.decode()
 
 
 def replays(program, room):
@@ -165,4 +250,4 @@ def ends_early(program, room):
 
 
 if __name__ == "__main__":
-    sys.exit(common.checked(__doc__, [tells, replays, ends_early], FILES))
+    sys.exit(common.checked(__doc__, [tells, interrupted, replays, ends_early], FILES))
