@@ -5,13 +5,14 @@ usage: bench/planted.py PROGRAM FOLDER.. [FAULT..]
 
 A folder holds the sources of one of the libraries that bench/planted/faults.py names, as `apt-get source` gives them; its name begins with the library's.
 Nothing is fetched, and the folders are only read. Wanted are gcc, clang, valgrind and tcc; what is not there has an empty column.
-R: at a line where a step is undefined. e: at another line. x: a crash or an abort without a place. -: nothing. What a tool reports of the library
+R: at a line where a step is undefined. e: at another line. x: a crash or an abort without a place, or no end. -: nothing. What a tool reports of the library
 without any fault does not count. FAULT names faults that are tried alone.
 """
 import concurrent.futures
 import os
 import pathlib
 import re
+import resource
 import shutil
 import subprocess
 import sys
@@ -33,15 +34,13 @@ COMPILED = {
 COLUMNS = ("saber-run", *COMPILED)
 REPORT = "ERROR: |runtime error|WARNING: MemorySanitizer|RUNTIME ERROR|BCHECK|^==\\d+== "
 PLACE = re.compile(r"([\w-]+\.[ch]):(\d+)")
-LIMIT = 600
+# the most seconds of processor time of a command
+LIMIT = 60
 
 
 def run(words, **more):
-    """What a command tells, and its status; one that does not end in time has status 124."""
-    try:
-        ran = subprocess.run([str(it) for it in words], capture_output=True, timeout=LIMIT, **more)
-    except subprocess.TimeoutExpired:
-        return "", 124
+    """What a command tells, and its status, which is below 0 for one that takes too long."""
+    ran = subprocess.run([str(it) for it in words], capture_output=True, preexec_fn=lambda: resource.setrlimit(resource.RLIMIT_CPU, (LIMIT, LIMIT)), **more)
     return (ran.stdout + b"\n" + ran.stderr).decode(errors="replace"), ran.returncode
 
 
@@ -112,7 +111,7 @@ class Tree:
         told, status = run([*runner, program], env={**os.environ, "ASAN_OPTIONS": "detect_leaks=0"}, cwd=kept)
         begun = re.search(REPORT, told, re.M)
         place = self.first_place(told[told.rfind("\n", 0, begun.start()) + 1:]) if begun else None
-        return [place] if place else ["crash"] if begun or status < 0 or status in (124, 134) else []
+        return [place] if place else ["crash"] if begun or status < 0 or status == 134 else []
 
     def interpreted(self, fault):
         """The places of all undefined steps that saber-run lists."""

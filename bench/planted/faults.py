@@ -84,7 +84,7 @@ JANSSON = Library("jansson", "use_json.c", tuple(f"src/{it}.c" for it in "dump e
           ("strbuff->value[strbuff->length] = '\\0';\n\n    return 0;",)),
     Fault("jan5", "freed before its last use", "src/hashtable.c", (("    json_decref(pair->value);\n\n    jsonp_free(pair);", "    json_decref(pair->value);\n"),
                                                                   ("    list_remove(&pair->list);\n", "    jsonp_free(pair);\n    list_remove(&pair->list);\n")),
-          ("list->prev->next = list->next;",)),
+          ("list_remove(&pair->list);\n    list_remove(&pair->ordered_list);", "list->prev->next = list->next;")),
     Fault("jan6", "a size in items for one in bytes", "src/value.c", (("new_table = jsonp_malloc(new_size * sizeof(json_t *));", "new_table = jsonp_malloc(new_size);"),),
           ("memcpy(&dest[dpos], &src[spos], count * sizeof(json_t *));",)),
 ), ("src",), ("HAVE_CONFIG_H=1",), {
@@ -100,7 +100,7 @@ YAML = Library("libyaml", "use_yaml.c", tuple(f"src/{it}.c" for it in "api dumpe
     Fault("yam4", "freed before its last use", "src/dumper.c", (("    yaml_free(emitter->anchors);\n\n    emitter->anchors = NULL;", "    emitter->anchors = NULL;"),
                                                                ("    for (index = 0; emitter->document->nodes.start + index", "    yaml_free(emitter->anchors);\n    for (index = 0; emitter->document->nodes.start + index")),
           ("if (!emitter->anchors[index].serialized) {",)),
-    Fault("yam5", "a buffer of a wrong constant", "src/api.c", (("parser->buffer, INPUT_BUFFER_SIZE)", "parser->buffer, INPUT_BUFFER_SIZE/128)"),), ("*(parser->buffer.last++) = value;",)),
+    Fault("yam5", "a buffer of a wrong constant", "src/api.c", (("parser->buffer, INPUT_BUFFER_SIZE)", "parser->buffer, INPUT_BUFFER_SIZE/256)"),), ("*(parser->buffer.last++) = value;",)),
     Fault("yam6", "two owners of one string", "src/loader.c", (("                event->data.scalar.anchor)) return 0;", "                event->data.scalar.anchor)) return 0;\n    yaml_free(event->data.scalar.anchor);"),),
           ("if (strcmp((char *)alias_data->anchor, (char *)anchor) == 0) {\n            yaml_free(anchor);\n            return yaml_parser_load_node_add",)),
 ), ("include", "src"), ("YAML_VERSION_MAJOR=0", "YAML_VERSION_MINOR=2", "YAML_VERSION_PATCH=5", 'YAML_VERSION_STRING="0.2.5"'))
