@@ -8,7 +8,12 @@ from saber_prep.project import Project, module_names
 from saber_prep.source import Options
 from saber_prep.telling import lines_of
 from saber_search import functions_of
-from saber_session import Module, Session, Trouble, TwoHeaders, View, loaded, module_of
+from saber_session import Module, Session, Trouble, TwoHeaders, View, loaded, module_of, refused
+from saber_source import Sources
+
+
+# letters of a line that are shown
+MOST_SHOWN = 100
 
 
 class NotReady(Trouble):
@@ -17,6 +22,13 @@ class NotReady(Trouble):
     def __init__(self, text, has_words):
         super().__init__(text, 2)
         self.has_words = has_words
+
+
+def placed(reason, modules):
+    """The refusal of a prepared text, with the place that it has in the user's file."""
+    place = Sources(modules).place(reason.module, reason.line)
+    text = place.text if len(place.text) <= MOST_SHOWN else place.text[:MOST_SHOWN] + " .."
+    return refused(f"{reason}, which is {place.file}:{place.line}: {text}")
 
 
 def as_they_are(program, files):

@@ -33,7 +33,8 @@ FILE = re.compile(r"[A-Za-z0-9_][A-Za-z0-9_.-]{0,62}")
 
 
 class Trouble(Exception):
-    """What ends a tool: one line that says what and where, and the tool's exit status."""
+    """What ends a tool: one line that says what and where, and the tool's exit status; `hint` names what may help."""
+    hint = ""
 
     def __init__(self, text, status):
         super().__init__(text)
@@ -50,10 +51,10 @@ class Early(Trouble):
 
 class NotTaken(Trouble):
     """A text of a module that `load` does not take: the module's name, and the file and the line of the refusal."""
+    hint = "; saber-run prepares such a file, runs it and explains, and saber-prep writes it in the core"
 
     def __init__(self, command, answer):
-        super().__init__(f"{command}: {answer}; saber-run prepares such a file, runs it and explains, and saber-prep writes it in the core", 2)
-        self.said = f"{command}: {answer}"
+        super().__init__(f"{command}: {answer}", 2)
         self.module = command.split()[1]
         self.file, _, line = answer.split()[-1].rpartition(":")
         self.line = int(line) if line.isdigit() else 0

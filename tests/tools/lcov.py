@@ -59,7 +59,7 @@ CASES = [
 ]
 REFUSED = [
     (["absent"], "saber-lcov: there is no file absent.c"),
-    (["wrong"], "saber-lcov: load wrong: refused C5 X6 wrong.c:1"),
+    (["wrong"], "saber-lcov: load wrong: refused C5 X6 wrong.c:1; saber-run prepares such a file, runs it and explains, and saber-prep writes it in the core"),
     (["fast"], "saber-lcov: run: refused C13"),
     (["-o", "nowhere/file", "mapped"], "saber-lcov: nowhere/file cannot be written: No such file or directory"),
 ]
