@@ -8,10 +8,9 @@ import re
 from dataclasses import dataclass
 
 from saber_lines import Lines
-from saber_look import evaluated
-from saber_outer import place_of_outer
-from saber_replay import SLICE, has_changes, repeat, setup_of
-from saber_search import OVER, Lost, functions_of
+from saber_outer import Looker
+from saber_replay import SLICE, has_changes, setup_of
+from saber_search import OVER, functions_of
 
 # A place that was seen so often is no rare one.
 OFTEN = 3
@@ -43,8 +42,8 @@ class Echo:
     A stop puts a line feed behind bytes that end within a line, so that one more or less is no difference.
     """
 
-    def __init__(self, show):
-        self._show, self._shown, self._at = show, bytearray(), 0
+    def __init__(self, show, shown=b""):
+        self._show, self._shown, self._at = show, bytearray(shown), 0
 
     def begin_again(self):
         self._at = 0
@@ -74,30 +73,49 @@ class Goal:
 
 
 class Debuggee:
-    """The program that is debugged. `show` gets the bytes that it writes, each once.
+    """The program that is debugged. `show` gets the bytes that it writes, each once, but for those that were shown before.
 
     It is stopped, or between two slices of a go, or over.
     """
 
-    def __init__(self, setup, show):
-        self._setup, self._echo, self.lines = setup, Echo(show), Lines(setup.view.folder)
+    def __init__(self, setup, show, shown=b""):
+        self._setup, self._echo, self.lines = setup, Echo(show, shown), Lines(setup.view.folder)
         self.session = setup.start(turns=SLICE)
         self.functions = functions_of(self.session)
         self._objects = {it.name for it in setup.view.modules if it.is_object}
         # the commands that led to the last halt, and the present go with its slices
         self._past, self._goal, self._slices = [], None, 0
         self._numbers, self.is_over, self.is_changed = {}, False, False
-        # the ways to outer calls, and sessions that stand there
-        self._ways, self._asides = {}, {}
+        self._looker = None
 
     def close(self):
-        self._forget_asides()
+        self._look_no_more()
         self.session.close()
 
-    def _forget_asides(self):
-        for it in self._asides.values():
-            it.close()
-        self._ways, self._asides = {}, {}
+    def _look_no_more(self):
+        if self._looker:
+            self._looker.close()
+        self._looker = None
+
+    @property
+    def looker(self):
+        """What looks at the run where it stands."""
+        if not self._looker or self._looker.session is not self.session:
+            self._look_no_more()
+            self._looker = Looker(self._setup, self.session, self._past, self.is_changed)
+        return self._looker
+
+    def take(self, past):
+        """Does what led to a place of a run, with stops that stay."""
+        for command in past:
+            text = self._ask_whole(command).text
+            self._past.append(command)
+            found = re.match(r"stop (\d+) (.*)", text)
+            if found:
+                self._numbers[found[2]] = found[1]
+            elif command.startswith("delete "):
+                self._numbers = {stop: it for stop, it in self._numbers.items() if it != command.split()[1]}
+            self.is_over = self.is_over or text.startswith(OVER)
 
     @property
     def is_going(self):
@@ -119,7 +137,7 @@ class Debuggee:
 
     def begin(self, command):
         """Begins a go: `run`, `cont`, `step`, `next`, or `out`, which leaves the present call."""
-        self._forget_asides()
+        self._look_no_more()
         if command == "out":
             frames = self.frames()
             self._go_by_stops(frames[1:], len(frames) - 1)
@@ -238,7 +256,7 @@ class Debuggee:
 
     def change(self, words, text=None):
         """Changes a module at a stop, by the words of `swap` or `edit`; `text` is the text that `edit` takes. Gives the answer."""
-        self._forget_asides()
+        self._look_no_more()
         command, name, form = words[0], words[1], (words[2:] or [""])[0]
         if command == "edit":
             file = f"saber_{len(self._past)}_{form}"[-63:]
@@ -271,38 +289,25 @@ class Debuggee:
 
     def look_from(self, way):
         """Looks at the run from another session from now on: one on a way that stands where the run ended."""
-        self._forget_asides()
+        self._look_no_more()
         self.session.close()
         self.is_changed = has_changes(self._past)
         self.session, self._past = way.session, way.commands
 
     def frames(self):
         """The active calls, the innermost one first; none where the run shows none."""
-        return [it for it in map(frame_of, self.calls()) if it]
-
-    def calls(self):
         answer = self.session.ask("where")
-        return () if answer.is_refused else answer.lines
+        return [] if answer.is_refused else [it for it in map(frame_of, answer.lines) if it]
 
-    def _way_to(self, at):
-        """The commands that lead to where a call last began its line."""
-        if self.is_changed:
-            raise Lost("the modules were changed while this run stood, so that only names of the innermost call can be shown")
-        if at not in self._ways:
-            self._ways[at] = place_of_outer(self._setup, tuple(self._past), self.calls(), at) if at else tuple(self._past)
-        return self._ways[at]
 
-    def _aside(self, at):
-        """A session that stands where a call last began its line."""
-        if at and at not in self._asides:
-            self._asides[at] = repeat(self._setup.start(turns=SLICE), self._way_to(at))
-        return self._asides[at] if at else self.session
+def stands_again(debuggee, past, command, seconds):
+    """Brings a debuggee to about where a run was that took so much processor time for a go, behind the commands before it.
 
-    def values(self, names, at=0):
-        """The values of those names that stand for objects in a call: 0 is the innermost one, and outer ones are as they began their lines."""
-        told = self._aside(at).ask_all([f"print {it}" for it in names])
-        return dict(it.text.split(" = ", 1) for it in told if " = " in it.text)
-
-    def evaluate(self, expression, at=0):
-        """The value of an expression in a call."""
-        return evaluated(self._setup, self._way_to(at), self.calls()[at:], expression)
+    Gives the text with which the go came to a halt before, or nothing.
+    """
+    debuggee.take(past)
+    begun, text = debuggee.session.seconds(), None
+    debuggee.begin(command)
+    while text is None and debuggee.session.seconds() - begun < seconds:
+        text = debuggee.slice()
+    return debuggee.pause() if text is None else text

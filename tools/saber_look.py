@@ -23,13 +23,16 @@ KINDS = (
     ("saber_look.same = ({0}), saber_look.number = saber_look.same, saber_look.is_unsigned = (1 ? -1 : ({0})) > 0", "number"),
     ("saber_look.pointer = ({0})", "pointer"),
     ("saber_look.function = (void (*)(void)) ({0})", "function"),
-    ("saber_look.pointer = &({0})", "structure"),
-    ("(void) ({0})", "nothing"),
 )
+# a structure is copied to an object of its type, which `print` shows
+STRUCTURE = "saber_value = ({0}), saber_look.pointer = &saber_value"
+LAST_KINDS = (("saber_look.pointer = &({0})", "place"), ("(void) ({0})", "nothing"))
+# so many types are tried
+MOST_TYPES = 64
 NULLS = ("0", "NULL")
 TYPE_WORDS = frozenset("auto char const enum extern int long register short signed static struct typedef union unsigned void".split())
 # the turns that an expression may take
-TURNS = 50_000_000
+TURNS = 4_000_000
 
 
 def is_declaration(tokens):
@@ -61,7 +64,9 @@ def is_reached(statement):
     """Whether a line is reached before a statement itself."""
     if statement.kind == "for":
         return bool(statement.parts[0] or statement.parts[1])
-    return statement.kind != "{" and (not is_declaration(statement.tokens) or any(initialisers(statement.tokens)))
+    if statement.kind != "simple" or not is_declaration(statement.tokens):
+        return statement.kind != "{"
+    return any(initialisers(statement.tokens))
 
 
 def lines_reached(statement):
@@ -76,25 +81,36 @@ def next_at(lines, line):
     body = body_around(lines, line)
     found = [it for it in body.all() if it.kind != "{" and is_reached(it)] if body else []
     own = next((it for it in found if line in lines_reached(it)), None)
-    if own or not body or line > body.tokens[0].line:
+    if own or not body or line > body.first.line:
         return own
     return found[0] if found else None
 
 
 def edits(statement, line, probe):
-    """The ways to put a probe in front of a statement, each as pairs of a place in the text and what is written there."""
-    first, last = statement.tokens[0], statement.tokens[-1]
+    """The ways to put a probe in front of a statement, each as pairs of a place in the text and what is written there.
+
+    No line may be reached more often by it, since a replay counts the halts at lines.
+    """
     if statement.kind in HEADS or statement.kind == "do":
         count = 2 if statement.kind == "for" else 1
         return [[(part[0].at, f"{probe}, ") for part in statement.parts[:count] if part]]
+    if statement.kind == ";":
+        return [[(statement.first.at, probe)]]
+    if statement.kind == "return" and statement.end - statement.begin > 2:
+        return before_value(statement.tokens[1:-1], probe)
     if statement.kind != "simple":
-        return [[(first.at, f"{{ {probe}; "), (last.end, " }")]]
+        raise Lost(f"nothing is evaluated at a {statement.kind}, so that names alone can be shown")
     if not is_declaration(statement.tokens):
-        return [[(first.at, f"{probe}, ")]]
+        return [[(statement.first.at, f"{probe}, ")]]
     given = dict(reversed(list(initialisers(statement.tokens))))
     value = given.get(line) or next(iter(given.values()))
     if value[0].text.startswith(("{", '"')):
         raise Lost("the line gives an array or a structure its first values")
+    return before_value(value, probe)
+
+
+def before_value(value, probe):
+    """The ways to put a probe in front of a value that is converted to another type."""
     text = " ".join(it.text for it in value)
     # a null pointer constant is none behind a test
     nulls = [[(value[0].at, f"{probe} ? (void *) 0 : (void *) ")]] if text in NULLS else []
@@ -135,10 +151,20 @@ class Look(View):
             raise Lost("no statement was found that is next here")
         block = block_around(self._lines, self._line)
         begin = next(it.at for it in tokens_of(self._lines) if it.line in block)
-        for store, member in KINDS:
-            probe = f"(saber_on && !saber_look.is_busy ? (saber_look.is_busy = 1, {store.format(self._expression)}, saber_here()) : 0)"
+        # what a structure is copied to stands in the module, and the function at which it is shown too
+        copies = ((STRUCTURE, f"{it}", f"static {it} saber_value; static int saber_shown(void) {{ return saber_here(); }} ") for it in self._types())
+        for store, member, more in (*((*it, "") for it in KINDS), *copies, *((*it, "") for it in LAST_KINDS)):
+            here = "saber_shown" if more else "saber_here"
+            probe = f"(saber_on && !saber_look.is_busy ? (saber_look.is_busy = 1, {store.format(self._expression)}, {here}()) : 0)"
             for changes in edits(statement, self._line, probe):
-                yield written("\n".join(self._lines), [*changes, (begin, DECLARED)]), member
+                yield written("\n".join(self._lines), [*changes, (begin, DECLARED + more)]), "structure" if more else member
+
+    def _types(self):
+        """The names of structures and unions in the text and in the headers beside it."""
+        texts = ["\n".join(self._lines), *("\n".join(lines_of(it)) for it in sorted(self.folder.glob("*.h")))]
+        tags = (f"{it[1]} {it[2]}" for text in texts for it in re.finditer(r"\b(struct|union)\s+([A-Za-z_]\w*)\s*\{", text))
+        names = (it[1] for text in texts for it in re.finditer(r"\}\s*([A-Za-z_]\w*)\s*;", text))
+        return list(dict.fromkeys((*tags, *names)))[:MOST_TYPES]
 
     def choose(self, setup):
         """Takes the first text that is not refused; gives the member that keeps the value."""
@@ -169,23 +195,27 @@ def evaluated(setup, commands, calls, expression):
             repeat(session, commands)
             if session.ask("where").lines != tuple(calls):
                 raise Lost("the run did not come to this place again")
-            return value_of(session, member)
+            return value_of(session, member, found[2])
 
 
-def value_of(session, member):
+def value_of(session, member, module):
     """Lets the expression be evaluated, and gives its value or why it has none."""
     last = int(members_of(session)[0].split()[1])
+    stop = f"{module}:saber_shown" if member == "structure" else "saber_here"
     without_stops(session)
     session.ask(f"edit {NAME} {NAME}_on.c")
-    session.ask("stop in saber_here")
+    session.ask(f"stop in {stop}")
     text = session.ask("cont").text
     if violation_of(text):
-        raise Lost(f"it has no value: {in_run(text, last)}")
-    if text != "entered saber_here":
+        raise Lost(f"it has no value: {in_run(text, last) if member != 'structure' else text.partition(' object ')[0]}")
+    if text != f"entered {stop}":
         raise Lost(f"it was not evaluated: {text}")
     _, _, same, number, is_unsigned, pointer, function = members_of(session)
+    if member == "structure":
+        shown = session.ask("print saber_value").text.partition(" = ")[2]
+        return in_run(shown, last, int(pointer.split()[1]))
     shown = {"number": same if is_unsigned == "1" else number, "pointer": pointer, "function": function,
-             "structure": f"a structure at {pointer}", "nothing": "no value"}[member]
+             "place": f"a structure at {pointer}", "nothing": "no value"}[member]
     return in_run(shown, last)
 
 
@@ -197,6 +227,9 @@ def members_of(session):
     return parts_of(answer.text.partition(" = ")[2])
 
 
-def in_run(text, last):
-    """A text with the numbers of objects that the user's run has; `last` is that of the added ones' last."""
-    return re.sub(r"\bobject (\d+)", lambda it: f"object {int(it[1]) - (ADDED_OBJECTS if int(it[1]) > last else 0)}", text)
+def in_run(text, last, value=0):
+    """A text with the numbers of objects that the user's run has; `last` is that of the added ones' last, and `value` that of a copy."""
+    def original(found):
+        number = int(found[1])
+        return f"object {number - (ADDED_OBJECTS if number > last else 0) - bool(0 < value < number)}"
+    return re.sub(r"\bobject (\d+)", original, text)

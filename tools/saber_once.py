@@ -3,6 +3,8 @@ import os
 import sys
 import time
 
+from saber_debug import Debuggee, stands_again
+from saber_follow import Scene
 from saber_report import Explanation
 from saber_search import Lost
 from saber_session import Setup, Trouble, View, find_program, sizes_of, status_of
@@ -13,6 +15,31 @@ from saber_tell import Teller, explain
 def show_bytes(told):
     sys.stdout.buffer.write(told)
     sys.stdout.buffer.flush()
+
+
+def ran(setup, sources, turns, show):
+    """How the run ended. If Ctrl-C ends it, it is told where it stood, and that ends the work."""
+    shown = bytearray()
+
+    def keep(told):
+        shown.extend(told)
+        show(told)
+    with setup.start(turns=turns) as session:
+        try:
+            return session.ask(setup.run, keep).text
+        except KeyboardInterrupt:
+            seconds = session.seconds()
+    print("\n-- ended by Ctrl-C; the run is repeated up to where it stood", flush=True)
+    debuggee = Debuggee(setup, show_bytes, bytes(shown))
+    try:
+        text, teller = stands_again(debuggee, (), "run", seconds), Teller(sources, sys.stdout)
+        if debuggee.is_over:
+            teller.say(f"-- it came to an end: {text}")
+        else:
+            teller.scene(Scene(debuggee.looker.calls()), ", where it stood or came by last")
+    finally:
+        debuggee.close()
+    raise Trouble("the run was ended by Ctrl-C", 3)
 
 
 class Kept(Explanation):
@@ -43,10 +70,10 @@ def run_once(given, modules, show=show_bytes, is_known=None, take=None):
     """
     with View(modules, given.input) as view:
         setup = Setup(find_program(given.program), view, sizes_of(vars(given)))
-        with setup.start(turns=given.turns) as session:
-            text = session.ask(setup.run, show).text
+        sources = Sources(modules)
+        text = ran(setup, sources, given.turns, show)
         print("> " + text, flush=True)
-        sources, began = Sources(modules), time.monotonic()
+        began = time.monotonic()
         explanation, teller = Kept(setup, sources, text), Teller(sources, sys.stdout)
         is_passed = bool(is_known and is_known(explanation))
         if explanation.can_be_told and not is_passed:

@@ -1,12 +1,14 @@
-"""Finds where an outer call of a run was, when it last began a line: there its names can be shown.
+"""Looks at a run that stands: its calls, and names and expressions in each of them.
 
-`print` knows the names of the innermost call alone. So a replay stops at the line of the outer call, and the last halt
-there with the same calls around it, before the place at which the run stands, is the wanted one.
+`print` knows the names of the innermost call alone. For an outer one a replay stops at the line of that call, and the last
+halt there with the same calls around it, before the place at which the run stands, is the wanted one.
 """
 import re
 
+from saber_look import evaluated
 from saber_replay import SLICE, has_changes, repeat
-from saber_search import COUNTS, OVER, Lost, Way
+from saber_search import COUNTS, OVER, Lost
+from saber_search import SLICE as SLICE_OF_NOTES
 
 # So many passes of the line are gone through, and so many calls are read there.
 MOST_PASSES = 20_000
@@ -32,15 +34,64 @@ def place_of_outer(setup, commands, calls, at):
 
 def commands_to(setup, stop, end, calls):
     """The commands to the last halt at a stop with these calls, up to a number of lines."""
-    way, last, count, read = Way(setup, True), 0, 0, 0
-    with way.session:
-        way.set_stops((stop,))
-        for answer, (report, where) in way.go(MOST_PASSES, ("report 1", "where")):
-            read += len(where.lines)
-            if answer.text.startswith(OVER) or lines_begun(report) > end or read > MOST_CALLS:
+    last, count, read, command = 0, 0, 0, setup.run
+    with setup.start("--count", turns=SLICE_OF_NOTES) as session:
+        session.ask(f"stop {stop}")
+        while count < MOST_PASSES and read < MOST_CALLS:
+            answer, command = session.ask(command), "cont"
+            if answer.text.startswith(OVER) or lines_begun(session.ask("report 1")) > end:
                 break
-            count += 1
-            last = count if where.lines == calls else last
-    if not last or count == MOST_PASSES or read > MOST_CALLS:
-        raise Lost("its line was begun too often to find the last time" if count else "its line was not found again")
+            if not answer.text.startswith("paused"):
+                where = session.ask("where").lines
+                count, read = count + 1, read + len(where)
+                last = count if where == calls else last
+        else:
+            raise Lost("its line was begun too often to find the last time")
+    if not last:
+        raise Lost("its line was not found again")
     return (f"stop {stop}", setup.run, *["cont"] * (last - 1))
+
+
+class Looker:
+    """A session that stands at a place of a run, and what leads there: a setup and commands.
+
+    Of a run whose modules were changed only names of the innermost call are known.
+    """
+
+    def __init__(self, setup, session, commands, is_changed=False):
+        self._setup, self.session, self._commands, self._is_changed = setup, session, tuple(commands), is_changed
+        self._ways, self._asides = {}, {}
+
+    def close(self):
+        """Ends the sessions that stand in outer calls; the given one stays."""
+        for it in self._asides.values():
+            it.close()
+        self._asides = {}
+
+    def calls(self):
+        """The active calls as `where` shows them, the innermost one first; none where the run shows none."""
+        answer = self.session.ask("where")
+        return () if answer.is_refused else answer.lines
+
+    def values(self, names, at=0):
+        """The values of those names that stand for objects in a call: 0 is the innermost one; outer ones are as they last began a line."""
+        told = self._aside(at).ask_all([f"print {it}" for it in names])
+        return dict(it.text.split(" = ", 1) for it in told if " = " in it.text)
+
+    def evaluate(self, expression, at=0):
+        """The value of an expression in a call."""
+        return evaluated(self._setup, self._way_to(at), self.calls()[at:], expression)
+
+    def _way_to(self, at):
+        """The commands that lead to where a call last began its line."""
+        if self._is_changed:
+            raise Lost("the modules were changed while this run stood, so that only names of the innermost call can be shown")
+        if at and at not in self._ways:
+            self._ways[at] = place_of_outer(self._setup, self._commands, self.calls(), at)
+        return self._ways[at] if at else self._commands
+
+    def _aside(self, at):
+        """A session that stands where a call last began its line."""
+        if at and at not in self._asides:
+            self._asides[at] = repeat(self._setup.start(turns=SLICE), self._way_to(at))
+        return self._asides[at] if at else self.session

@@ -211,6 +211,10 @@ class Session:
             answers += [split_answer(command, self._told(None)[0]) for command in batch]
         return answers
 
+    def seconds(self):
+        """The processor time that the program took so far."""
+        return processor_time(self.child.pid)
+
     def close(self):
         """Ends the program, whatever it does."""
         self.child.kill()
@@ -245,9 +249,9 @@ class Session:
 
     def _wait(self):
         """Waits for more bytes, for a bounded command so long as the program may work on it."""
-        before = processor_time(self.child.pid) if self._is_bounded else 0
+        before = self.seconds() if self._is_bounded else 0
         while self._is_bounded and not select.select([self.child.stdout], [], [], 1)[0]:
-            if processor_time(self.child.pid) - before > MOST_SECONDS:
+            if self.seconds() - before > MOST_SECONDS:
                 raise refused(f"no answer after {MOST_SECONDS} s of processor time")
 
     def _told(self, show):
@@ -327,8 +331,8 @@ def levels_up(folder):
 class View:
     """A folder of its own that shows the files of the modules' folders, so that nothing of the user's changes.
 
-    Texts stand in it as they are now, so that a run can be repeated after they were edited; other files by links. Objects of
-    modules that run as such are not shown: `compile` writes them here.
+    The texts of the modules and the headers stand in it as they are now, so that a run can be repeated after they were edited;
+    other files by links. Objects of modules that run as such are not shown: `compile` writes them here.
     """
     INPUT = "saber_input"
 
@@ -341,7 +345,7 @@ class View:
         for folder in dict.fromkeys(it.path.parent for it in modules):
             for path in folder.iterdir():
                 if path.name not in hidden and FILE.fullmatch(path.name):
-                    self._show(own.get(path.name, path))
+                    self._show(own.get(path.name, path), path.name in own or path.suffix == ".h")
         if self.given:
             if not self.given.is_file():
                 raise refused(f"there is no file {given}")
@@ -359,12 +363,12 @@ class View:
             at.mkdir()
         return at
 
-    def _show(self, path):
+    def _show(self, path, is_text):
         shown, first = self.folder / path.name, self._shown.setdefault(path.name, path)
         if shown.is_symlink() or shown.exists():
             if path.suffix == ".h" and shown.read_bytes() != path.read_bytes():
                 raise TwoHeaders(f"{first} and {path} are two headers of one name", 2)
-        elif path.suffix in (".c", ".h") and path.is_file() and path.stat().st_size <= MOST_BYTES and os.access(path, os.R_OK):
+        elif is_text and path.is_file() and path.stat().st_size <= MOST_BYTES and os.access(path, os.R_OK):
             shown.write_bytes(path.read_bytes())
         else:
             shown.symlink_to(path.resolve())

@@ -27,18 +27,32 @@ class Token:
 class Statement:
     """A statement with those in it. `kind` is its first word, `{`, or `simple` for an expression or a declaration.
 
-    `parts` are the pieces in the parentheses of its head, each as its tokens; `line` is where it is reached, and `tokens`
-    are all of it.
+    `parts` are the pieces in the parentheses of its head, each as its tokens; `line` is where it is reached. Its tokens are
+    those from `begin` up to `end` of the text.
     """
     kind: str
     line: int
-    tokens: tuple
+    text: list
+    begin: int
+    end: int
     parts: tuple = ()
     inner: tuple = ()
 
+    @property
+    def tokens(self):
+        return self.text[self.begin:self.end]
+
+    @property
+    def first(self):
+        return self.text[self.begin]
+
+    @property
+    def last(self):
+        return self.text[self.end - 1]
+
     def around(self, line):
         """The statements from this one inwards that have tokens on a line, the outermost one first."""
-        if not self.tokens[0].line <= line <= self.tokens[-1].line:
+        if not self.first.line <= line <= self.last.line:
             return []
         found = next((it for inner in self.inner if (it := inner.around(line))), [])
         return [self, *found]
@@ -122,8 +136,7 @@ class Reader:
         return self._made(kind, begin)
 
     def _made(self, kind, begin, parts=(), inner=(), line=0):
-        tokens = tuple(self._tokens[begin:self._at])
-        return Statement(kind, line or tokens[0].line, tokens, tuple(parts), tuple(inner))
+        return Statement(kind, line or self._tokens[begin].line, self._tokens, begin, self._at, tuple(parts), tuple(inner))
 
     def _labels(self):
         while True:

@@ -203,6 +203,8 @@ def long_steps(program, room):
         client.event("stopped")
         yield f"over, to line {line}", client.frames() == [("main", "slow.c", line)]
     yield "what it did", client.ask("evaluate", expression="sum")["body"]["result"] == "7"
+    told = client.ask("evaluate", expression="(work(2000000000), sum)")
+    yield "an expression without an end", not told["success"] and told["message"].startswith("it was not evaluated: paused after "), told
     client.ask("continue")
     yield "its exit status", client.event("exited") == {"exitCode": 5} and client.event("terminated") == {}
 
@@ -219,13 +221,16 @@ def expressions(program, room):
         # k is not written yet
         (8, {"p->v[1] + s": "9", "k": "?"}),
         # head and i are objects 1 and 2, and n and a block follow three times
-        (9, {"k - 10": "4294967295", "-1": "-1", "(char) 200": "200", "head->v": "object 8 + 0", "*head": "a structure at object 8 + 0",
+        (9, {"k - 10": "4294967295", "-1": "-1", "(char) 200": "200", "head->v": "object 8 + 0", "*head": "{{0, 9, 0}, object 6 + 0}", "*p->next": "{{0, 4, 0}, object 4 + 0}",
              "sum": "function list:sum", "sum(head->next->next)": "1"}),
     ):
         yield f"a stop at line {line}", client.event("stopped")["text"] == f"at list:{line}"
         for text, value in wanted.items():
             told = client.ask("evaluate", expression=text, frameId=1, context="watch")
             yield f"{text} at line {line}", told["success"] and told["body"]["result"] == value, told
+        if line == 7:
+            names = {it["name"]: it["variablesReference"] for it in client.ask("variables", variablesReference=1)["body"]["variables"]}
+            yield "a pointer is opened", client.values(names["p"]) == {"*p": "{{0, 9, 0}, object 6 + 0}"}, names
         client.ask("continue")
     client.event("stopped")
     client.ask("setBreakpoints", source={"path": str(room / "list.c")}, breakpoints=[{"line": 11}])

@@ -22,6 +22,11 @@ FILES = {
               "    for (;;)\n        ;\n}\nint main(void)\n{\n    spin();\n    return 0;\n}\n",
     "mended.c": "int main(void)\n{\n    return 4;\n}\n",
     "other.c": "int unused;\n",
+    "fault.c": "struct pair { int a; int b[2]; };\nstatic int at(struct pair *p, int n)\n{\n    return p->b[n];\n}\nint main(void)\n{\n"
+               "    struct pair one = { 1, { 2, 3 } };\n    int i, sum = 0;\n    for (i = 0; i < 3; i++)\n        sum += at(&one, i);\n    return sum;\n}\n",
+    "say.c": "#include <stdio.h>\nstatic int turns;\nstatic void spin(int n)\n{\n    while (n)\n        turns = 1;\n}\n"
+             "int main(void)\n{\n    puts(\"before\");\n    spin(3);\n    return 0;\n}\n",
+    "even.c": "#include <assert.h>\nint main(void)\n{\n    int seven = 7;\n    assert(seven == 8);\n    return 0;\n}\n",
 }
 
 
@@ -74,8 +79,8 @@ def session(program, room):
     yield "a prompt", terminal.shown().endswith(PROMPT)
     for line, answer in (("load loop", "loaded loop"), ("load other", "loaded other"), ("compile other", "compiled other"),
                          ("swap other object", "other object"), ("stop in main", "stop 1 in main"),
-                         ("stop in nowhere", "stop 2 in nowhere"), ("stop at loop:12", "stop 3 at loop:12"),
-                         ("delete 2", "deleted 2"), ("load loop", "refused C4"), ("# nothing", None)):
+                         ("stop in nowhere", "stop 2 in nowhere\n-- no module defines nowhere yet"), ("stop at loop:12", "stop 3 at loop:12"),
+                         ("delete 2", "deleted 2"), ("load loop", "refused C4\n-- C4: the module is loaded already; edit gives it a new text"), ("# nothing", None)):
         yield line, terminal.say(line) == (f"> {answer}\n" if answer else "")
     listed = terminal.say("list")
     yield "list", listed.endswith("> stop 1 in main\n> stop 3 at loop:12\n> idle\n")
@@ -83,9 +88,11 @@ def session(program, room):
     terminal.keys("cont\n")
     yield "no prompt while a run goes on", PROMPT not in terminal.shown(seconds=1)
     terminal.keys("\x03")
-    yield "Ctrl-C in a run", "-- the run was ended; modules, forms and stops are kept" in terminal.shown()
+    told = terminal.shown()
+    yield "Ctrl-C in a run", "-- the run was ended; modules, forms and stops are kept" in told, told
+    yield "where it stood", "#0* loop:spin at loop:" in told and "#1  main at loop:12 " in told, told
     yield "the session is as it was", terminal.say("list") == listed
-    yield "the next stop's number", terminal.say("stop in last") == "> stop 4 in last\n"
+    yield "the next stop's number", terminal.say("stop in last") == "> stop 4 in last\n-- no module defines last yet\n"
     terminal.keys("lis")
     terminal.shown(until="lis")
     terminal.keys("\x03")
@@ -116,7 +123,7 @@ def edited_between(program, room):
     told = terminal.shown()
     yield "what is not as it was is said", "-- not as it was: load again: refused C5 X6 again.c:1\n" in told
     yield "the prompt is back", terminal.say("list") == "> idle\n"
-    yield "numbers of stops are not used again", terminal.say("stop in f") == "> stop 2 in f\n"
+    yield "numbers of stops are not used again", terminal.say("stop in f") == "> stop 2 in f\n-- no module defines f yet\n"
     file.unlink()
     terminal.keys("\x04")
     yield "the end of input", terminal.status() == 0
@@ -126,19 +133,84 @@ def completion(program, room):
     """Each word is completed by its place; a bell and a second Tab show nothing else."""
     terminal = Terminal([SHELL, "--program", program], room)
     terminal.shown()
-    for keys, line, answer in (("lo\tlo\t", "load loop", "> loaded loop\n"), ("ed\tl\tm\t", "edit loop mended.c", "> edited loop\n"),
+    for keys, line, answer in (("lo\tlo\t", "load loop", "> loaded loop\n"), ("sto\ti\tsp\t", "stop in loop:spin", "> stop 1 in loop:spin\n"),
+                               ("ed\tl\tm\t", "edit loop mended.c", "> edited loop\n"),
                                ("comp\tl\t", "compile loop", "> compiled loop\n"), ("sw\tl\to\t", "swap loop object", "> loop object\n"),
-                               ("sto\ti\tma\t", "stop in main", "> stop 1 in main\n"), ("sto\ta\tl\t3", "stop at loop:3", "> stop 2 at loop:3\n"),
+                               ("sto\ti\tma\t", "stop in main", "> stop 2 in main\n"), ("sto\ta\tl\t5", "stop at loop:5", "> stop 3 at loop:5\n-- loop runs compiled, so a stop at its lines never comes\n"),
+                               ("inf\t\t", "info locals", "-- no run stands here\n"),
                                ("xr\tma\t", "xref main", "> def loop:1\n> 1 places\n"),
                                ("wha\tma\t", "whatis main", "> loop function (void) giving int\n"),
                                ("del\t2\t", "delete 2", "> deleted 2\n"), ("unl\tl\t", "unload loop", "> unloaded loop\n")):
         terminal.keys(keys)
-        time.sleep(0.3)
+        time.sleep(0.6)
         terminal.keys("\n")
         told = terminal.shown().replace("\x07", "")
-        yield f"completion of {line}", told.startswith(line) and told.endswith(answer + PROMPT)
+        # where a module is put in front of what was typed, the line is written again
+        yield f"completion of {line}", (told.startswith(line) or "spin" in line) and told.endswith(answer + PROMPT), told
     terminal.keys("\x04")
     yield "the end of the input", terminal.status() == 0
+
+
+def words(program, room):
+    """The prompt's own words, where a run stands and where it ended."""
+    terminal = Terminal([SHELL, "--program", program], room)
+    terminal.shown()
+    told = terminal.say("help")
+    yield "help", all(it in told for it in ("load M", "stop in F", "print NAME", "whatis NAME", "p NAME", "info locals", "finish")), told
+    for line, answer in (
+        ("bt", "-- no run stands here"), ("load fault.c", "> refused C2\n-- C2: load takes the name of a module: load fault"),
+        ("lode fault", "> refused C1\n-- C1: there is no such command; help lists them"), ("run", "> refused C13\n-- C13: no module defines main"),
+        ("load fault", "> loaded fault"), ("stop in at", "> stop 1 in at\n-- no module defines at yet; there is fault:at"),
+        ("stop at fault:3", "> stop 2 at fault:3\n-- nothing stands on line 3 of fault, so that this stop never comes; the next such line is 4"),
+        ("stop at fault:99", "> stop 3 at fault:99\n-- nothing stands on line 99 of fault, so that this stop never comes"),
+        ("stop in fault:at", "> stop 4 in fault:at"), ("run", "> entered fault:at"),
+        ("bt", "#0* fault:at at fault:2             fault.c:2: static int at(struct pair *p, int n)\n"
+               "#1  main at fault:11                 fault.c:11: sum += at(&one, i);"),
+        ("p n", "n = 0"), ("p n * 10 - 1", "n * 10 - 1 = -1"), ("p p->b[1]", "p->b[1] = 3"),
+        ("p m", "-- m is no expression here (refused C5 X6 fault.c:4)"),
+        ("up", "#1* main at fault:11                 fault.c:11: sum += at(&one, i);"), ("p one.b[1]", "one.b[1] = 3   (as line 11 was begun)"),
+        ("info locals", "one = {1, {2, 3}}\ni = 0\nsum = 0   (as line 11 was begun)"),
+        ("down", "#0* fault:at at fault:2             fault.c:2: static int at(struct pair *p, int n)"),
+        # the next line behind the call is the loop's test, with sum 2 and i 1
+        ("finish", "> at fault:10"), ("p sum + i", "sum + i = 3"), ("finish", "-- this is the outermost call"), ("delete 4", "> deleted 4"),
+        # one, i and sum are objects 1 to 3
+        ("cont", "> violation U2 in fault:at at fault:4 object 1 offset 12 size 4"),
+        ("where", "-- the run is repeated up to where it ended\n> fault:at at fault:4\n> main at fault:11"), ("print n", "> n = 2"),
+        ("print sum", "> refused C16 sum"), ("p p->b[n - 1]", "p->b[n - 1] = 3"),
+        ("p p->b[n]", "-- it has no value: violation U2 in fault:at at fault:4 object 1 offset 12 size 4"),
+        ("up", "#1* main at fault:11                 fault.c:11: sum += at(&one, i);"), ("p sum", "sum = 5   (as line 11 was begun)"),
+        ("cont", "> refused C12\n-- C12: not in a run that ended or was paused"), ("p i", "i = 2   (as line 11 was begun)"),
+    ):
+        came = terminal.say(line)
+        yield line, came.replace(" fault.c", "fault.c").replace(" ", "") == (answer + "\n").replace(" ", ""), came
+    told = terminal.say("why")
+    yield "why", "-- object 1 is one, an object of main's outermost block, born here" in told, told
+    yield "another run", terminal.say("reset") == "> reset\n" and terminal.say("bt") == "-- no run stands here\n"
+    terminal.keys("\x04")
+    yield "the end", terminal.status() == 0
+
+
+def hung(program, room):
+    """Ctrl-C of a program that hangs shows what it printed and where it stands; a change while it stood before is no matter."""
+    terminal = Terminal([SHELL, "--program", program, "--turns", "1000000000"], room)
+    terminal.shown()
+    terminal.say("load say")
+    terminal.keys("run\n")
+    time.sleep(1)
+    terminal.keys("\x03")
+    told = terminal.shown()
+    yield "what it printed", "\nbefore\n" in told, told
+    yield "where it stands", "#0* say:spin at say:" in told and "#1  main at say:11 " in told, told
+    yield "a value there", terminal.say("p n") == "n = 3\n" and terminal.say("p n + turns") == "n + turns = 4\n"
+    yield "the session is kept", terminal.say("list").endswith("> idle\n")
+    terminal.say("edit say even.c")
+    yield "a failed assertion", terminal.say("run").endswith("> exit 134\n") and terminal.say("p seven").endswith("\nseven = 7\n")
+    deep = "(" * 1500 + "seven" + ")" * 1500
+    told = terminal.say(f"p {deep}")
+    yield "a deep expression", "is no expression here" in told, told
+    yield "an edited file's name", "say at" not in (told := terminal.say("bt")) and "main at say:5" in told and "even.c:5: assert" in told, told
+    terminal.keys("\x04")
+    yield "the end", terminal.status() == 0
 
 
 def ends(program, room):
@@ -159,4 +231,4 @@ def ends(program, room):
 
 
 if __name__ == "__main__":
-    sys.exit(common.checked(__doc__, [session, edited_between, completion, ends], FILES))
+    sys.exit(common.checked(__doc__, [session, edited_between, completion, words, hung, ends], FILES))

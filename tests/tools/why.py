@@ -6,8 +6,12 @@ usage: tests/tools/why.py PROGRAM
 The expected lines are worked out by hand from each C program and docs/COMMANDS.md. The last line is 'N passed, M failed'.
 """
 import json
+import os
 import re
+import signal
+import subprocess
 import sys
+import time
 
 import common
 
@@ -27,6 +31,9 @@ FILES = {
     "feign.c": "#include <stdio.h>\nint main(void)\n{\n    puts(\"> violation U1 in main at feign:4 object 1 offset 0 size 4\");\n"
                "    printf(\"> exit 0\");\n    return 0;\n}\n",
     "nine.c": "int main(void)\n{\n    return 9;\n}\n",
+    # a hung program
+    "hang.c": "#include <stdio.h>\nstatic int turns;\nstatic void spin(int n)\n{\n    while (n)\n        turns = 1;\n}\n"
+              "int main(void)\n{\n    puts(\"before\");\n    spin(3);\n    return 0;\n}\n",
     "loop.c": "int main(void)\n{\n    for (;;)\n        ;\n}\n",
     "wrong.c": "int main(void)\n{\n    return x;\n}\n",
     "store.c": "void store(int *p)\n{\n    p[1] = 2;\n}\n",
@@ -66,6 +73,9 @@ FILES = {
     "over.c": "int main(void)\n{\n    int i, sum;\n    for (i = 2147453647; i > 0; i++)\n        sum = i;\n    return sum;\n}\n",
     "assert.c": "#include <assert.h>\nstatic int half(int n)\n{\n    assert(n % 2 == 0);\n    return n / 2;\n}\nint main(void)\n{\n    int i;\n"
                 "    for (i = 4; i > 0; i--)\n        half(half(i * 2));\n    return 0;\n}\n",
+    # sixty loops around one statement, and a line of twenty thousand statements
+    "nested.c": "int main(void)\n{\n    int a[1], i, s = 0;\n" + "    for (i = 0; i < 1; i++)\n" * 60 + "        a[1] = 1;\n    return s;\n}\n",
+    "wide.c": "int main(void)\n{\n    int a[1], i = 0, s = 0;\n    for (i = 0; i < 2; i++) {\n        " + "s += 1; " * 20000 + "\n        a[i] = s;\n    }\n    return s;\n}\n",
     "inside.c": "#include <stdlib.h>\nint main(void)\n{\n    char *p = malloc(4);\n    free(p + 1);\n    return 0;\n}\n",
     "mapped.c": "int main(void) { int x; return x; }\n",
     "real.c": "\n\nint main(void) {\n    int x;\n    return x;\n}\n",
@@ -135,6 +145,9 @@ CASES = [
     (["macro"], 1, ["> violation U2 in main at macro:11 object 1 offset 4 size 1", "-- object 1 is an object of static storage duration or a string literal"]),
     (["inside"], 1, ["> violation U14 in main at inside:5 value object 2 + 1", "-- object 2 is a heap block of 4 bytes, which malloc gave here",
                      "    main at inside:4 inside.c:4: char *p = malloc(4);"]),
+    (["nested"], 1, ["> violation U2 in main at nested:64 object 1 offset 4 size 4", "-- at nested.c:64", "    a[1] = 1;",
+                     "-- object 1 is a, an object of main's outermost block, born here"]),
+    (["wide"], 1, ["> violation U2 in main at wide:6 object 1 offset 4 size 4", "-- at wide.c:6", "    a[i] = s;", "    i = 1", "    s = 40000"]),
     # a is 1, p 2 and the node 3
     (["third"], 1, ["> violation U3 in main at third:11 object 3 offset 0 size 4", "-- at third.c:7, in the third part of the `for`, behind line 11",
                     "    for (p = a; p; p = p->next)", "-- values, before line 11 is carried out", "    p = object 3 + 0", "-- and it died here",
@@ -199,6 +212,18 @@ def tells(program, room):
     yield "files of the user", content(room) == before
 
 
+def interrupted(program, room):
+    """Ctrl-C of a program that hangs: what it printed, and where it stood."""
+    environment = {**os.environ, "SABER_PROGRAM": str(program)}
+    child = subprocess.Popen([common.TOOLS / "saber-why", "hang"], cwd=room, env=environment, stdout=subprocess.PIPE, stderr=subprocess.PIPE)
+    time.sleep(3)
+    child.send_signal(signal.SIGINT)
+    output, said = child.communicate(timeout=120)
+    wanted = ["-- ended by Ctrl-C; the run is repeated up to where it stood",
+              "before", "-- calls, the innermost one first, where it stood or came by last", "    main at hang:11 hang.c:11: spin(3);"]
+    yield "Ctrl-C", child.returncode == 3 and holds(output, wanted) and b"    hang:spin at hang:" in output, output.decode() + said.decode()
+
+
 def replays(program, room):
     """How often the program is started: for the run, for a list of functions, and for one replay that tells all.
 
@@ -225,4 +250,4 @@ def ends_early(program, room):
 
 
 if __name__ == "__main__":
-    sys.exit(common.checked(__doc__, [tells, replays, ends_early], FILES))
+    sys.exit(common.checked(__doc__, [tells, interrupted, replays, ends_early], FILES))
