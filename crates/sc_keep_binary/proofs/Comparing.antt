@@ -1,5 +1,5 @@
 -- A condition that compares two integers: the operands, and one branch.
-use Rattle.std.proofs.Common.{◌≡◌, ◌⊎◌, inl, inr, ℕ, zero, suc, ◌+◌, ◌-◌, ◌*◌, ◌%◌, ◌^◌, ◌<◌, ◌≤◌, ◌==◌, ◌||◌, not, Bool, true, false, if◌then◌else◌, nat_lt, pos, List, [], ◌∷◌, ◌++◌, length, Option, Some, None, refl, sym, ap, ap₂, subst, ◌∙◌, arith, append_assoc, length-append}
+use Rattle.std.proofs.Common.{◌≡◌, ◌⊎◌, inl, inr, ℕ, zero, suc, ◌+◌, ◌-◌, ◌*◌, ◌%◌, ◌^◌, ◌<◌, ◌≤◌, ◌==◌, ◌||◌, not, Bool, true, false, if◌then◌else◌, nat_lt, ℤ, pos, List, [], ◌∷◌, ◌++◌, length, Option, Some, None, refl, sym, ap, ap₂, subst, ◌∙◌, arith, append_assoc, length-append}
 use Rattle.sc_base.specs.declared.integer.Int.{Int}
 use Rattle.sc_base.specs.declared.key.Key.{Key}
 use Rattle.sc_base.specs.declared.memory.Word.{Word}
@@ -44,7 +44,7 @@ use Rattle.sc_gen_operand.specs.Places.{constant, is_leaf, stands}
 use Rattle.sc_gen_operand.specs.Plans.{Skips, first, first_register, into, is_plain, late, late_register, left_code, pair_of, right_code, two, unless as unless_standing, waiting_plan}
 use Rattle.sc_gen_operand.specs.Templates.{branched, pair_compared, value_compared}
 use Rattle.sc_gen_expr.specs.Expressions.{part_of, word_layer}
-use Rattle.sc_keep_operators.specs.Operators.{IsOperator, Operands, takes, told}
+use Rattle.sc_keep_operators.specs.Operators.{Operands, takes, told}
 use Rattle.sc_keep_operators.proofs.Constants.{branches}
 use Rattle.sc_keep_path.specs.Instructions.{InstrAt, goes_to}
 use Rattle.sc_keep_path.specs.Placing.{WordAt}
@@ -65,29 +65,6 @@ use Rattle.sc_keep_binary.proofs.Operands.{apart_given, first_given, first_is, l
 use Rattle.sc_keep_binary.proofs.Operating.{computed_leads, same_word, two_is}
 use Rattle.sc_keep_binary.proofs.Pairs.{pair_beside, pair_waits}
 
-comparison_operator : (o : Op) → is_comparison o ≡ true → IsOperator o
-comparison_operator op.Lt e = tt
-comparison_operator op.Gt e = tt
-comparison_operator op.Le e = tt
-comparison_operator op.Ge e = tt
-comparison_operator op.Eq e = tt
-comparison_operator op.Ne e = tt
-comparison_operator op.Add e = tt
-comparison_operator op.Sub e = tt
-comparison_operator op.Mul e = tt
-comparison_operator op.Div e = tt
-comparison_operator op.Rem e = tt
-comparison_operator op.Shl e = tt
-comparison_operator op.Shr e = tt
-comparison_operator op.And e = tt
-comparison_operator op.Or e = tt
-comparison_operator op.Xor e = tt
-comparison_operator op.Neg e = absurd (cc (e))
-comparison_operator op.Not e = absurd (cc (e))
-comparison_operator op.Truth e = absurd (cc (e))
-comparison_operator op.Inc e = absurd (cc (e))
-comparison_operator op.Dec e = absurd (cc (e))
-
 -- the truth that is told is the one by which a word is left out
 left_out : (sense : Bool) (n : ℕ) → told sense n ≡ is_skipped sense (not (n == 0))
 left_out true n = refl
@@ -98,20 +75,20 @@ left_out false n = double (n == 0)
     double false = refl
 
 -- a branch as an instruction
-record IsBranch (x : Symbolic) : Type 0 where
-  by : BranchOp
-  p : ℕ
-  q : ℕ
-  is : x ≡ Plain (Branch by p q (pos 8))
+pub record IsBranch (z : ℤ) (x : Symbolic) : Type 0 where
+  pub by : BranchOp
+  pub p : ℕ
+  pub q : ℕ
+  pub is : x ≡ Plain (Branch by p q z)
 
-branch_is : (swapped : Bool) (b : BranchOp) (x y : ℕ) → IsBranch (Plain (if swapped then Branch b y x (pos 8) else Branch b x y (pos 8)))
-branch_is true b x y = record { by = b; p = y; q = x; is = refl }
-branch_is false b x y = record { by = b; p = x; q = y; is = refl }
+branch_is : (swapped : Bool) (b : BranchOp) (x y : ℕ) (z : ℤ) → IsBranch z (Plain (if swapped then Branch b y x z else Branch b x y z))
+branch_is true b x y z = record { by = b; p = y; q = x; is = refl }
+branch_is false b x y z = record { by = b; p = x; q = y; is = refl }
 
-any_branch : (o : Op) (u sense : Bool) (x y : ℕ) → IsBranch (branch o u sense x y (pos 8))
-any_branch o u sense x y = branch_is (is_swapped (if sense then o else negated o)) (branch_op (if sense then o else negated o) u) x y
+pub any_branch : (o : Op) (u sense : Bool) (x y : ℕ) (z : ℤ) → IsBranch z (branch o u sense x y z)
+any_branch o u sense x y z = branch_is (is_swapped (if sense then o else negated o)) (branch_op (if sense then o else negated o) u) x y z
 
-joins : (o : Outcome (Value × Value)) (f : Value → Value → World → Outcome Answer) (g : Value → World → Outcome Bool) → and_then (and_then (and_then o (λ p u. f p.0 p.1 u)) used) g ≡ and_then o (λ p u. and_then (and_then (f p.0 p.1 u) used) g)
+pub joins : (o : Outcome (Value × Value)) (f : Value → Value → World → Outcome Answer) (g : Value → World → Outcome Bool) → and_then (and_then (and_then o (λ p u. f p.0 p.1 u)) used) g ≡ and_then o (λ p u. and_then (and_then (f p.0 p.1 u) used) g)
 joins (Done p u) f g = refl
 joins (Over e) f g = refl
 
@@ -122,18 +99,18 @@ module _ (home : Home) (most deep l : ℕ) (t : CType) (o : Op) (e a b : CoreExp
   abbrev j : Int
   j = int_of (type_of b)
 
-  unsigned_is : is_plain a ≡ is_unsigned k
+  pub unsigned_is : is_plain a ≡ is_unsigned k
   unsigned_is = ap is_unsigned (machine_is (out-CType (type_of a)))
 
-  abbrev test : Value → Value → World → Outcome Bool
+  abbrev pub test : Value → Value → World → Outcome Bool
   test x z u = and_then (and_then (and_then (computed o k x j z u) meaning.plain) used) (tested (type_of e))
 
-  test_leads : (x z : Value) (u : World) → Leads u (world_after (test x z u))
+  pub test_leads : (x z : Value) (u : World) → Leads u (world_after (test x z u))
   test_leads x z u =
       leads_then u (and_then (and_then (computed o k x j z u) meaning.plain) used) (tested (type_of e))
       (leads_then u (and_then (computed o k x j z u) meaning.plain) used (computed_leads o k x j z u) used_leads) (tested_leads (type_of e))
 
-  true_number : (n : ℕ) (u : World) → tested (type_of e) (Number n) u ≡ Done (not (n == 0)) u
+  pub true_number : (n : ℕ) (u : World) → tested (type_of e) (Number n) u ≡ Done (not (n == 0)) u
   true_number n u = by_test (is_pointer_type (type_of e)) whole_type
     where
       by_test : (p : Bool) → p ≡ false → unless (Rattle.sc_meaning.specs.Violations.truth_rule u.objects p (Number n)) (operand_breach op.Truth (promoted (int_of (type_of e))) (Number n) Rattle.sc_base.specs.declared.integer.Int.TheVariants.Int Rattle.sc_meaning.specs.Values.null u) (λ w. Done (not (n == 0)) w) u ≡ Done (not (n == 0)) u
@@ -152,7 +129,7 @@ module _ (home : Home) (most deep l : ℕ) (t : CType) (o : Op) (e a b : CoreExp
       -- the branch
       skips : (n m : ℕ) → register d.regs rx ≡ plain n → register d.regs ry ≡ plain m → n < 2 ^ 32 → m < 2 ^ 32 → Meets most q E d y u (λ h i. Done (not (value_of o k n m == 0)) (tick u))
       skips n m is_n is_m wide broad =
-          let br = any_branch o (is_plain a) sense rx ry in
+          let br = any_branch o (is_plain a) sense rx ry (pos 8) in
           let holds : Bool = not (value_of o k n m == 0) in
           let word : WordAt q.image st.value d.regs.pc last = first_at home q d y u st d.regs.pc last [] pl in
           let instr : InstrAt q.image d.regs.pc (Branch br.by br.p br.q (pos 8)) = subst (λ x. WordAt q.image st.value d.regs.pc x) br.is word in

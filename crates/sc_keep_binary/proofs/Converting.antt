@@ -16,7 +16,7 @@ use Rattle.sc_emu.specs.Operations.{plain as untagged}
 use Rattle.sc_emu.specs.Registers.{AreRegisters, Registers, register}
 use Rattle.sc_meaning.specs.Accesses.{as_type}
 use Rattle.sc_meaning.specs.Calls.{eval}
-use Rattle.sc_meaning.specs.Expressions.{Answer, Nothing, Part, Place, Plain, as_answer, cast, conversion, finished, is_void, layer_read, one, plain, read, used, valued}
+use Rattle.sc_meaning.specs.Expressions.{Answer, Nothing, Part, Place, Plain, as_answer, cast, conversion, finished, is_void, plain, used, valued}
 use Rattle.sc_meaning.specs.Laws.{Leads}
 use Rattle.sc_meaning.specs.Outcomes.{Done, Outcome, Over, and_then, world_after}
 use Rattle.sc_meaning.specs.Values.{FunctionAt, Number, Pointer, Value, int_of}
@@ -49,7 +49,7 @@ use Rattle.sc_keep_leaves.proofs.Straight.{straight_goes}
 use Rattle.sc_keep_assign.specs.Footed.{AreOf, HasValuesOf, may_be}
 use Rattle.sc_keep_assign.proofs.Testing.{Passes, is_of, passed_end}
 use Rattle.sc_keep_direct.specs.Direct.{IsFree}
-use Rattle.sc_keep_direct.proofs.Fetching.{any_conversion_leads}
+use Rattle.sc_keep_direct.proofs.Fetching.{any_conversion_leads, layer_plain}
 use Rattle.sc_keep_direct.proofs.Loading.{machine_is, narrowed_does, narrowed_keeps, narrowed_straight, reconvert_does, reconvert_keeps, reconvert_straight}
 use Rattle.sc_keep_binary.specs.Canonical.{AreConverted, ConvertsTo, converts, is_in_range}
 
@@ -174,14 +174,6 @@ plus_given home most deep l t e a at is few good = λ bound dp s c w v pl st.
     (λ q x u d y p. makes home most deep e a at few cv (λ z. z) code tt (λ f j ne. refl) c w q x u d y both p p.word))
 
 -- ---- a conversion of what is read from no place
-
-layer_plain : (lv : CType-F CType Signature) (from : CType) (v : Value) (u : World) → scalar_level lv ≡ true → layer_read lv from (Plain v) u ≡ Done (Plain v) u
-layer_plain (CType-F.Int i c) from v u e = refl
-layer_plain (CType-F.Pointer p c) from v u e = refl
-layer_plain (CType-F.Void c) from v u e = absurd (cc (e))
-layer_plain (CType-F.Array t n) from v u e = absurd (cc (e))
-layer_plain (CType-F.Struct s c) from v u e = absurd (cc (e))
-layer_plain (CType-F.Function f) from v u e = absurd (cc (e))
 
 abbrev test : CType → CType → Answer → Bool
 test from t (Plain z) = converts from t z

@@ -4,3 +4,6 @@ pub mod Words
 pub mod Operating
 pub mod Comparing
 pub mod Converting
+pub mod Feet
+pub mod Reading
+pub mod Turning

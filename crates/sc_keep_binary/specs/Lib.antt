@@ -1,3 +1,4 @@
 -- Inside: plumbing, a representation, an invariant or a promise beside the claim (docs/TRUST.md).
 pub mod Operands
 pub mod Canonical
+pub mod Places

@@ -1,29 +1,31 @@
-// Operands, and operators between two of them. Each function here does nothing: its contract is the law.
-ghost use Rattle.std.specs.Prelude.{None, Some, [], false, nat_lt, suc, true, ℕ, ◌+◌, ◌++◌, ◌<◌, ◌==◌, ◌^◌, ◌≡◌, ◌≤◌};
+// Operands, operators between two of them, conditions that compare, conversions, and far places. Each function here does nothing: its contract is the law.
+ghost use Rattle.std.specs.Prelude.{None, Some, [], false, nat_lt, suc, true, ℕ, ◌+◌, ◌++◌, ◌<◌, ◌==◌, ◌^◌, ◌≡◌, ◌≤◌, length, neg_ℤ, pos, ◌*◌, ◌-◌, ◌∷◌};
 ghost use Rattle.sc_base.specs.declared.operator.Op.{Op};
-ghost use Rattle.sc_core.specs.declared.expression.CoreExpr.TheOpen.{CoreExpr-F};
-ghost use Rattle.sc_core.specs.declared.expression.CoreExpr.{CoreExpr, out-CoreExpr};
-ghost use Rattle.sc_gen_code.specs.Code.{Code};
 ghost use Rattle.sc_core.specs.Types.{type_of};
+ghost use Rattle.sc_core.specs.declared.expression.CoreExpr.{CoreExpr, out-CoreExpr};
+ghost use Rattle.sc_core.specs.declared.expression.CoreExpr.TheOpen.{CoreExpr-F};
 ghost use Rattle.sc_core.specs.declared.expression.UnaryOperator.TheVariants.{Plus};
-ghost use Rattle.sc_gen_code.specs.Operators.{immediate, is_comparison, is_scalar};
+ghost use Rattle.sc_gen_code.specs.Code.{Code};
+ghost use Rattle.sc_gen_code.specs.Operators.{immediate, is_comparison, is_scalar, branch};
 ghost use Rattle.sc_gen_code.specs.Styles.{deeper};
 ghost use Rattle.sc_gen_code.specs.declared.style.Spot.{Spot};
 ghost use Rattle.sc_gen_code.specs.declared.symbolic.Symbolic.{Symbolic};
 ghost use Rattle.sc_gen_expr.specs.Expressions.{part_of};
-ghost use Rattle.sc_gen_operand.specs.Places.{constant, is_leaf, is_read};
-ghost use Rattle.sc_gen_operand.specs.Plans.{first, first_register, into, is_plain, late, late_register, waiting_plan, with_number};
+ghost use Rattle.sc_gen_operand.specs.Places.{constant, is_leaf, is_read, away, is_direct};
+ghost use Rattle.sc_gen_operand.specs.Plans.{first, first_register, into, is_plain, late, late_register, waiting_plan, with_number, foot};
 ghost use Rattle.sc_gen_operand.specs.declared.plans.Plan.TheVariants.{Register};
 ghost use Rattle.sc_gen_operand.specs.declared.plans.Want.TheVariants.{Word};
-ghost use Rattle.sc_keep_binary.specs.Operands.{GivesBeside, GivesIn, GivesPair, IsApart};
-ghost use Rattle.sc_keep_direct.specs.Direct.{EvaluatesTo, GivesLeaf, IsFree};
-ghost use Rattle.sc_keep_assign.specs.Footed.{HasValuesOf};
+ghost use Rattle.sc_keep_assign.specs.Footed.{HasValuesOf, GivesFoot};
 ghost use Rattle.sc_keep_binary.specs.Canonical.{ConvertsTo};
-ghost use Rattle.sc_keep_expr.specs.Good.{GivesPlain, GivesValue, TellsTruth, code_of};
-ghost use Rattle.sc_meaning.specs.Expressions.{is_void};
-ghost use Rattle.sc_meaning.specs.Values.{is_pointer_type};
+ghost use Rattle.sc_keep_binary.specs.Operands.{GivesBeside, GivesIn, GivesPair, IsApart};
+ghost use Rattle.sc_keep_binary.specs.Places.{AnswersNoMembers, AnswersPlaces};
+ghost use Rattle.sc_keep_body.specs.Good.{TurnsBack, back_code, spot};
+ghost use Rattle.sc_keep_direct.specs.Direct.{EvaluatesTo, GivesLeaf, IsFree, Converts};
+ghost use Rattle.sc_keep_expr.specs.Good.{GivesPlain, GivesValue, TellsTruth, code_of, GivesAnswer};
 ghost use Rattle.sc_keep_expr.specs.Standing.{Home};
 ghost use Rattle.sc_keep_operators.specs.Operators.{IsOperator};
+ghost use Rattle.sc_meaning.specs.Expressions.{is_void};
+ghost use Rattle.sc_meaning.specs.Values.{is_pointer_type};
 ghost use Rattle.sc_types.specs.declared.ctype.CType.{CType};
 
 /// Operands end in their registers: a first one in a0, or in x0 where it is the number 0; a right one that is fetched behind it in a1, or in x0; one
@@ -62,4 +64,24 @@ pub fn conversions_give_values()
     ensures casts { (home : Home) (most deep l : ℕ) (t : CType) (e a : CoreExpr) (at : Spot) → out-CoreExpr e ≡ CoreExpr-F.Cast l t a → is_void t ≡ false → at.depth ≤ 5 → GivesValue home most deep a at → HasValuesOf home.env a t → GivesPlain home most (suc deep) e at }
     ensures plus { (home : Home) (most deep l : ℕ) (t : CType) (e a : CoreExpr) (at : Spot) → out-CoreExpr e ≡ CoreExpr-F.Unary l t Plus a → at.depth ≤ 5 → GivesValue home most deep a at → GivesPlain home most (suc deep) e at }
     ensures converts { (home : Home) (most deep l : ℕ) (t : CType) (e a : CoreExpr) (at : Spot) → out-CoreExpr e ≡ CoreExpr-F.Convert l t a → is_read a ≡ false → is_scalar (type_of a) ≡ true → at.depth ≤ 5 → GivesPlain home most deep a at → ConvertsTo home.env a (type_of a) t → GivesPlain home most (suc deep) e at }
+{}
+
+/// The code of `*a` leaves the foot of the pointer, if that of `a` does; and where an expression has no foot of its own, its word is the foot.
+#[tactic(auto, using(crate::proofs::Feet::foot_is_word, crate::proofs::Feet::indirection_foot))]
+pub fn feet_are_given()
+    ensures word { (home : Home) (most deep : ℕ) (e : CoreExpr) (at : Spot) → away e ≡ 0 → part_of home.style home.autos e foot e at ≡ code_of home e at → GivesAnswer home most deep e at → GivesFoot home most deep (part_of home.style home.autos e foot e at) e 10 at }
+    ensures indirection { (home : Home) (most deep l : ℕ) (t : CType) (e a : CoreExpr) (at : Spot) → out-CoreExpr e ≡ CoreExpr-F.Indirection l t a → away e ≡ away a → AnswersNoMembers home.env a → GivesFoot home most deep (part_of home.style home.autos a foot a at) a 10 at → GivesFoot home most (suc deep) (part_of home.style home.autos e foot e at) e 10 at }
+{}
+
+/// What stands at a place with code of its own is read by one load from its foot, and converted to the type that is asked for, or the meaning's next
+/// step is an undefined one.
+#[tactic(auto, using(crate::proofs::Reading::far_read))]
+pub fn far_places_are_read()
+    ensures { (home : Home) (most deep l : ℕ) (t : CType) (e a : CoreExpr) (at : Spot) → out-CoreExpr e ≡ CoreExpr-F.Convert l t a → is_read a ≡ true → is_direct home.autos a ≡ false → at.depth ≤ 5 → Converts (type_of a) t → GivesFoot home most deep (part_of home.style home.autos a foot a at) a 10 at → AnswersPlaces home.env a → GivesPlain home most (suc deep) e at }
+{}
+
+/// A comparison of two integers at a loop's end, whose branch leads back, does so just where it holds, and going back is a move.
+#[tactic(auto, using(crate::proofs::Turning::compare_turns))]
+pub fn comparisons_turn_back()
+    ensures { (home : Home) (most deep l : ℕ) (t : CType) (o : Op) (e a b : CoreExpr) → out-CoreExpr e ≡ CoreExpr-F.Binary l t o a b → is_comparison o ≡ true → is_pointer_type (type_of e) ≡ false → (top from rx ry : ℕ) (cp : Code) → back_code home e top from ≡ cp ++ (branch o (is_plain a) true rx ry (neg_ℤ (pos (4 * (from + length cp - top)))) ∷ []) → top ≤ from + length cp → GivesPair home most deep cp a b rx ry (spot home) → TurnsBack home most (suc deep) e top from }
 {}
