@@ -108,6 +108,6 @@ indirection_foot home most deep l t e a at is far whole good = λ bound dp s c w
     (same_part most s G c w (tick v) _ (λ h m. and_then (eval (bound m - 1) h home.env a (tick v)) (λ x u. and_then (used x u) at_place)) (λ h m. regroup (eval (bound m - 1) h home.env a (tick v)))
     (in_turn most s (λ q x u d y. F q x u d y × (is_no_member x ≡ true)) G c w (tick v) (λ h m. eval (bound m - 1) h home.env a (tick v)) (λ x u h m. and_then (used x u) at_place)
     (passed_end most s F c w (tick v) (λ h m. eval (bound m - 1) h home.env a (tick v)) is_no_member (λ h m. no_members (eval (bound m - 1) h home.env a (tick v)) (whole (bound m - 1) h (tick v))) (λ q x u d y p. p.stands.own)
-    (good (λ m. bound m - 1) (less home.rate deep bound dp) s c w (tick v) (placed_same home c.regs.pc c.regs.pc (foot_of home e at) (foot_of home a at) refl code pl) (stands_worked home s c w v 1 st)))
+    (good (λ m. bound m - 1) (less deep bound dp) s c w (tick v) (placed_same home c.regs.pc c.regs.pc (foot_of home e at) (foot_of home a at) refl code pl) (stands_worked home s c w v 1 st)))
     (λ x u h m. leads_then u (used x u) at_place (used_leads x u) (λ z o. one_more (Work 1) o))
     (λ q x u d y p. by_answer home most at (away e) (away a) end last c w far ends q x u d y p.0 p.1)))

@@ -90,7 +90,7 @@ module _ (home : Home) (most deep l : ℕ) (t : CType) (e a : CoreExpr) (at : Sp
   scalar : is_scalar from ≡ true
   scalar = (and_parts (is_place a) (is_scalar from) read_it).1
 
-  module _ (bound : ℕ → ℕ) (dp : IsDeeper home.rate (suc deep) bound) (s : Stage) (c : Calls) (w v : World) (pl : IsPlaced home c.regs.pc (code_of home e at)) (st : Stands home s c w v) where
+  module _ (bound : ℕ → ℕ) (dp : IsDeeper (suc deep) bound) (s : Stage) (c : Calls) (w v : World) (pl : IsPlaced home c.regs.pc (code_of home e at)) (st : Stands home s c w v) where
     abbrev end : ℕ
     end = c.regs.pc + 4 * length (code_of home e at)
 
@@ -162,10 +162,10 @@ module _ (home : Home) (most deep l : ℕ) (t : CType) (e a : CoreExpr) (at : Sp
 
     pub far_meets : Meets most s E c w v (λ h m. eval (bound m) h home.env e v)
     far_meets =
-        same_part most s E c w v (λ h m. eval (bound m) h home.env e v) (λ h m. and_then (eval (bound m - 1) h home.env a v) (conversion from t)) (λ h m. family_opens home.rate deep bound dp home.env e (CoreExpr-F.Convert l t a) is v h m)
+        same_part most s E c w v (λ h m. eval (bound m) h home.env e v) (λ h m. and_then (eval (bound m - 1) h home.env a v) (conversion from t)) (λ h m. family_opens deep bound dp home.env e (CoreExpr-F.Convert l t a) is v h m)
         (in_turn most s (λ q x u d y. F q x u d y × (is_at_place x ≡ true)) E c w v (λ h m. eval (bound m - 1) h home.env a v) (λ x u h m. conversion from t x u)
         (passed_end most s F c w v (λ h m. eval (bound m - 1) h home.env a v) is_at_place (λ h m. always_placed (eval (bound m - 1) h home.env a v) (placed (bound m - 1) h v)) (λ q x u d y p. p.stands.own)
-        (good (λ m. bound m - 1) (less home.rate deep bound dp) s c w v (placed_front home c.regs.pc cf (ld ∷ cv) both) st))
+        (good (λ m. bound m - 1) (less deep bound dp) s c w v (placed_front home c.regs.pc cf (ld ∷ cv) both) st))
         (λ x u h m. any_conversion_leads from t x u)
         (λ q x u d y p. reads q x u d y p.0 (at_place_is x p.1)))
 

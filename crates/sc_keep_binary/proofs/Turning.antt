@@ -66,7 +66,7 @@ regroup (Over e) f g = refl
 
 module _ (home : Home) (most deep l : ℕ) (t : CType) (o : Op) (e a b : CoreExpr) (is : out-CoreExpr e ≡ CoreExpr-F.Binary l t o a b) (compares : is_comparison o ≡ true) (whole_type : is_pointer_type (type_of e) ≡ false) (top from rx ry : ℕ) (cp : Code)
     (code : back_code home e top from ≡ cp ++ (branch o (is_plain a) true rx ry (neg_ℤ (pos (4 * (from + length cp - top)))) ∷ [])) (low : top ≤ from + length cp) (good : GivesPair home most deep cp a b rx ry (spot home))
-    (bound : ℕ → ℕ) (dp : IsDeeper home.rate (suc deep) bound) (s : Stage) (c : Calls) (w v : World) (there : c.regs.pc ≡ home.base + 4 * from) (pl : IsPlaced home c.regs.pc (back_code home e top from)) (st : Stands home s c w v)
+    (bound : ℕ → ℕ) (dp : IsDeeper (suc deep) bound) (s : Stage) (c : Calls) (w v : World) (there : c.regs.pc ≡ home.base + 4 * from) (pl : IsPlaced home c.regs.pc (back_code home e top from)) (st : Stands home s c w v)
     (rest : Bool → World → Family Answer) (leads : (holds : Bool) (u : World) → Leading u (rest holds u)) (n : ℕ) (le : suc n ≤ most)
     (again : (q : Stage) (u : World) (d : Calls) (y : World) → Turned home top c w q u d y → Means q n d y u (looking suc (rest true u)))
     (on : (q : Stage) (u : World) (d : Calls) (y : World) → Turned home (from + length (back_code home e top from)) c w q u d y → Means q (suc n) d y u (rest false u)) where
@@ -183,11 +183,11 @@ module _ (home : Home) (most deep l : ℕ) (t : CType) (o : Op) (e a b : CoreExp
       means_same s (suc n) Executes c w v (followed (λ h m. condition (eval (bound m) h) home.env e v) rest) (followed (λ h m. both_values (bound m - 1) h home.env a b (tick v)) (λ p u. behind p.0 p.1 u))
       (λ h live m.
       ap (λ r. and_then (and_then (and_then r used) (tested (type_of e))) (λ holds i. rest holds i h m))
-      (family_opens home.rate deep bound dp home.env e (CoreExpr-F.Binary l t o a b) is v h m ∙ two_is (bound m - 1) h home.env a b (tick v) (λ x z u. and_then (computed o (int_of (type_of a)) x (int_of (type_of b)) z u) meaning.plain))
+      (family_opens deep bound dp home.env e (CoreExpr-F.Binary l t o a b) is v h m ∙ two_is (bound m - 1) h home.env a b (tick v) (λ x z u. and_then (computed o (int_of (type_of a)) x (int_of (type_of b)) z u) meaning.plain))
       ∙ ap (λ r. and_then r (λ holds i. rest holds i h m)) (joins (both_values (bound m - 1) h home.env a b (tick v)) (λ x z u. and_then (computed o (int_of (type_of a)) x (int_of (type_of b)) z u) meaning.plain) (tested (type_of e)))
       ∙ regroup (both_values (bound m - 1) h home.env a b (tick v)) (λ p u. test p.0 p.1 u) (λ holds i. rest holds i h m))
       (worked_means s (suc n) Executes c 1 w v (followed (λ h m. both_values (bound m - 1) h home.env a b (tick v)) (λ p u. behind p.0 p.1 u))
-      (good (λ m. bound m - 1) (less home.rate deep bound dp) s c w (tick v) (placed_front home c.regs.pc cp (last ∷ []) both) (stands_worked home s c w v 1 st) (λ p u. behind p.0 p.1 u)
+      (good (λ m. bound m - 1) (less deep bound dp) s c w (tick v) (placed_front home c.regs.pc cp (last ∷ []) both) (stands_worked home s c w v 1 st) (λ p u. behind p.0 p.1 u)
       (λ p u h m. leads_then u (test p.0 p.1 u) (λ holds i. rest holds i h m) (comparing.test_leads home most deep l t o e a b (spot home) is compares whole_type p.0 p.1 u) (λ holds i. leads holds i h m)) (suc n) le
       (λ q p u d y i. at_pair q p u d y i)))
 
