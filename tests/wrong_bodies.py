@@ -6,10 +6,11 @@ usage: tests/wrong_bodies.py CRATE..      tries the edits of these crates (those
        tests/wrong_bodies.py --stands     says which edits cannot be applied, without any proof
        tests/wrong_bodies.py --table      prints each edit with its last trial
 
-An edit is a file wrong_bodies/CRATE/NAME.edit, or crates/CRATE/must-fail/NAME.edit where the gate tries it too:
-lines 'file: src/x.rt', then pairs 'old: TEXT' (standing once in that file) and 'new: TEXT', each TEXT on one line.
+All edits of a crate stand in wrong_bodies/CRATE.edits, each under a line '== WHAT IT TURNS': lines 'file: src/x.rt', then
+pairs 'old: TEXT' (standing once in that file) and 'new: TEXT', each TEXT on one line. One that the gate tries too is a file
+crates/CRATE/must-fail/what_it_turns.edit, and has '(in the gate)' in place of these lines.
 The trial works in a copy of the tree. It says for each edit: refused; proved, which is a finding; or cannot be applied.
-It notes day and result in wrong_bodies/TRIED, with a sum of the text. It ends with 1 if an edit was not refused.
+It notes in a line 'tried: ' the day, the result and a sum of the crate's text. It ends with 1 if an edit was not refused.
 """
 import datetime
 import hashlib
@@ -22,7 +23,6 @@ import tempfile
 
 ROOT = pathlib.Path(__file__).resolve().parent.parent
 FOLDER = ROOT / "wrong_bodies"
-TRIED = FOLDER / "TRIED"
 TOLD = re.compile(r"must-fail (\S+)/(\S+\.edit): (.*)")
 HEAD = """# Wrong bodies
 
@@ -54,33 +54,60 @@ def below(crates):
     return found
 
 
+class Edit:
+    """What it turns, the lines that change files, the last trial, and whether the gate tries it."""
+
+    def __init__(self, title):
+        self.title, self.lines, self.tried, self.in_gate = title, [], [], False
+
+    @property
+    def name(self):
+        return self.title.replace(" ", "_") + ".edit"
+
+    def pairs(self):
+        """The changes: (file, old text, new text)."""
+        found, path, old = [], "", ""
+        for line in self.lines:
+            if line.startswith("file: "):
+                path = line[6:].strip()
+            elif line.startswith("old: "):
+                old = line[5:]
+            elif line.startswith("new:"):
+                found.append((path, old, line[5:]))
+        return found
+
+    def text(self):
+        """As it stands in a file of edits."""
+        tried = [f"tried: {' '.join(self.tried)}"] if self.tried else []
+        return "\n".join(["", f"== {self.title}", *tried, *(["(in the gate)"] if self.in_gate else self.lines)]) + "\n"
+
+
 def edits():
-    """Each edit as (crate, name): its file."""
-    files = [*FOLDER.glob("*/*.edit"), *ROOT.glob("crates/*/must-fail/*.edit")]
-    return {(crate_of(it), it.name): it for it in sorted(files, key=lambda it: (crate_of(it), it.name))}
+    """Each edit, by (crate, name)."""
+    found = {}
+    for file in sorted(FOLDER.glob("*.edits")):
+        edit = None
+        for line in file.read_text().split("\n"):
+            if line.startswith("== "):
+                edit = Edit(line[3:])
+                found[file.stem, edit.name] = edit
+            elif line.startswith("tried: "):
+                edit.tried = line[7:].split()
+            elif line == "(in the gate)":
+                edit.in_gate = True
+            elif edit and line:
+                edit.lines.append(line)
+    for file in sorted(ROOT.glob("crates/*/must-fail/*.edit")):
+        key = file.parent.parent.name, file.name
+        edit = found.setdefault(key, Edit(file.stem.replace("_", " ")))
+        edit.lines, edit.in_gate = file.read_text().rstrip("\n").split("\n"), True
+    return dict(sorted(found.items()))
 
 
-def crate_of(file):
-    return file.parent.name if file.parent.parent == FOLDER else file.parent.parent.name
-
-
-def pairs(file):
-    """The changes of an edit: (file, old text, new text)."""
-    found, path, old = [], "", ""
-    for line in file.read_text().split("\n"):
-        if line.startswith("file: "):
-            path = line[6:].strip()
-        elif line.startswith("old: "):
-            old = line[5:]
-        elif line.startswith("new:"):
-            found.append((path, old, line[5:]))
-    return found
-
-
-def unapplied(crate, file):
+def unapplied(crate, edit):
     """Why an edit cannot be applied to the present text, or nothing."""
     texts = {}
-    for path, old, new in pairs(file):
+    for path, old, new in edit.pairs():
         source = ROOT / "crates" / crate / path
         if not source.is_file():
             return f"there is no file {path}"
@@ -101,21 +128,15 @@ def sum_of(crate):
     return total.hexdigest()[:12]
 
 
-def tried():
-    """What TRIED holds: by (crate, name) the day, the result and the sum."""
-    lines = TRIED.read_text().splitlines() if TRIED.exists() else []
-    return {tuple(it.split()[:2]): it.split()[2:] for it in lines if it and not it.startswith("#")}
-
-
 def note(results):
-    kept, today = tried(), datetime.date.today().isoformat()
-    for (crate, name), result in results.items():
+    """Writes what trials came to into the files of these crates."""
+    present, today = edits(), datetime.date.today().isoformat()
+    for key, result in results.items():
         if result in ("refused", "proved"):
-            kept[crate, name] = [today, result, sum_of(crate)]
-    present = edits()
-    lines = [" ".join([*key, *kept[key]]) for key in sorted(kept) if key in present]
-    head = "# crate, edit, day of the last trial, result, sum of the crate's text then (- if it is not known)"
-    TRIED.write_text("\n".join([head, *lines]) + "\n")
+            present[key].tried = [today, result, sum_of(key[0])]
+    for crate in sorted({it for it, _ in results}):
+        head = f'# Edits of {crate} that the prover has to refuse (docs/TESTING.md, "Wrong bodies").\n'
+        (FOLDER / f"{crate}.edits").write_text(head + "".join(it.text() for (of, _), it in present.items() if of == crate))
 
 
 def result_of(said):
@@ -133,10 +154,10 @@ def copy_to(room, crates):
         if built.is_dir():
             (room / "crates" / name / "out").mkdir(exist_ok=True)
             subprocess.run(["cp", "-a", "--reflink=auto", built, room / "crates" / name / "out" / "rlib"], check=True)
-    for (crate, name), file in edits().items():
+    for (crate, name), edit in edits().items():
         if crate in crates:
             (room / "crates" / crate / "must-fail").mkdir(exist_ok=True)
-            shutil.copy(file, room / "crates" / crate / "must-fail" / name)
+            (room / "crates" / crate / "must-fail" / name).write_text("\n".join(edit.lines) + "\n")
 
 
 def try_crates(crates):
@@ -165,16 +186,16 @@ def try_crates(crates):
 
 
 def stands():
-    bad = {key: why for key, file in edits().items() if (why := unapplied(key[0], file))}
+    bad = {key: why for key, edit in edits().items() if (why := unapplied(key[0], edit))}
     for (crate, name), why in bad.items():
         print(f"{crate}/{name}: cannot be applied: {why}")
     print(f"{len(edits()) - len(bad)} edits apply, {len(bad)} do not")
     return not bad
 
 
-def function_of(crate, file):
+def function_of(crate, edit):
     """Where an edit changes the text: the function above its first change, or the file."""
-    path, old, _ = pairs(file)[0]
+    path, old, _ = edit.pairs()[0]
     source = ROOT / "crates" / crate / path
     text = source.read_text() if source.is_file() else ""
     before = text[: text.find(old) + len(old)] if old in text else ""
@@ -182,28 +203,27 @@ def function_of(crate, file):
     return f"{path}, `{found[-1]}`" if found else path
 
 
-def last_trial(key, known):
-    if key not in known:
+def last_trial(key, edit):
+    if not edit.tried:
         return "never"
-    day, result, total = known[key]
+    day, result, total = edit.tried
     over = "present text" if total == sum_of(key[0]) else "earlier text"
     return f"{day}, {over}" if result == "refused" else f"{day}, {over}: PROVED"
 
 
 def table():
-    known, text, crate = tried(), HEAD, ""
+    text, crate = HEAD, ""
     present = edits()
-    gate = sum(it.parent.name == "must-fail" for it in present.values())
-    trials = [last_trial(key, known) for key in present]
+    gate = sum(it.in_gate for it in present.values())
+    trials = [last_trial(key, edit) for key, edit in present.items()]
     text += f"There are {len(present)} edits, {gate} of them in the gate; {sum('present' in it for it in trials)} were tried over the "
     text += f"present text, {trials.count('never')} never.\n"
-    for key, file in present.items():
+    for key, edit in present.items():
         if key[0] != crate:
             crate = key[0]
             text += f"\n## {crate}\n\n| What it turns | Where | Gate | Last trial |\n|---|---|---|---|\n"
-        where = "gate" if file.parent.name == "must-fail" else "-"
-        words = key[1][:-5].replace("_", " ")
-        text += f"| {words} | {function_of(crate, file)} | {where} | {last_trial(key, known)} |\n"
+        where = "gate" if edit.in_gate else "-"
+        text += f"| {edit.title} | {function_of(crate, edit)} | {where} | {last_trial(key, edit)} |\n"
     print(text, end="")
     return True
 
