@@ -23,7 +23,7 @@ use Rattle.sc_words.specs.declared.stop.StopAt.{StopAt}
 use Rattle.sc_words.specs.declared.stop.Walk.TheVariants.{Cont}
 use Rattle.sc_world.specs.Wants.{Want}
 use Rattle.sc_world.specs.declared.halt.Halt.{Halt}
-use Rattle.sc_mixed_goes.specs.Shows.{AtEvent, ClaimsIn, Course, EndsSo, IsMeant, IsRun, IsUnclaimed, Passes, RunsOn, StandsAt, with_build}
+use Rattle.sc_mixed_goes.specs.Shows.{AtEvent, ClaimsIn, Course, EndsSo, IsMeant, IsRun, IsUnclaimed, Passes, RunsOn, StandsAt, with_build, Way}
 use Rattle.sc_mixed_goes.specs.Stretches.{Walks, goes_by, halt_of, showing_at, standing_at, steps_by}
 use Rattle.sc_mixed_goes.proofs.Changing.{changes_show}
 use Rattle.sc_mixed_goes.proofs.Showing.{walks_show}
@@ -80,11 +80,13 @@ over_same texts stops m h n end over goes =
 lost_claims : (k : ℕ) (c : Course) (w : World) → EndsSo k c (Meant NoRoom) w
 lost_claims k c w = λ e told. absurd cc
 
+over_claims : (c : Course) (m n : Standing) (end : MixedEnd) → m.course ≡ Over end → (y : Way c) (k : ℕ) → ClaimsIn k c m.course m.world ⊎ IsUnclaimed k c y → Same m end n ⊎ IsLost n → ClaimsIn k c n.course n.world ⊎ IsUnclaimed k c y
+over_claims c m n end over y k meant (inl (course, world)) =
+    subst (λ (x : World). ClaimsIn k c n.course x ⊎ IsUnclaimed k c y) (sym world) (subst (λ (x : Stand). ClaimsIn k c x m.world ⊎ IsUnclaimed k c y) (over ∙ sym course) meant)
+over_claims c m n end over y k meant (inr lost) = inl (subst (λ (x : Stand). ClaimsIn k c x n.world) (sym lost) (lost_claims k c n.world))
+
 over_meant : (c : Course) (m n : Standing) (end : MixedEnd) → m.course ≡ Over end → IsMeant c m → Same m end n ⊎ IsLost n → IsMeant c n
-over_meant c m n end over meant (inl (course, world)) k lt right =
-    subst (λ (x : World). ClaimsIn k c n.course x ⊎ IsUnclaimed k c) (sym world)
-    (subst (λ (x : Stand). ClaimsIn k c x m.world ⊎ IsUnclaimed k c) (over ∙ sym course) (meant k lt right))
-over_meant c m n end over meant (inr lost) k lt right = inl (subst (λ (x : Stand). ClaimsIn k c x n.world) (sym lost) (lost_claims k c n.world))
+over_meant c m n end over (y, le, meant) so = (y, le, λ look k lt right. over_claims c m n end over y k (meant look k lt right) so)
 
 over_course : (m n : Standing) (end : MixedEnd) → Same m end n ⊎ IsLost n → (e : MixedEnd) × (n.course ≡ Over e)
 over_course m n end (inl (course, world)) = (end, course)
