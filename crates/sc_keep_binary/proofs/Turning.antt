@@ -68,7 +68,7 @@ module _ (home : Home) (most deep l : ℕ) (t : CType) (o : Op) (e a b : CoreExp
     (code : back_code home e top from ≡ cp ++ (branch o (is_plain a) true rx ry (neg_ℤ (pos (4 * (from + length cp - top)))) ∷ [])) (low : top ≤ from + length cp) (good : GivesPair home most deep cp a b rx ry (spot home))
     (bound : ℕ → ℕ) (dp : IsDeeper (suc deep) bound) (s : Stage) (c : Calls) (w v : World) (there : c.regs.pc ≡ home.base + 4 * from) (pl : IsPlaced home c.regs.pc (back_code home e top from)) (st : Stands home s c w v)
     (rest : Bool → World → Family Answer) (leads : (holds : Bool) (u : World) → Leading u (rest holds u)) (n : ℕ) (le : suc n ≤ most)
-    (again : (q : Stage) (u : World) (d : Calls) (y : World) → Turned home top c w q u d y → Means q n d y u (looking suc (rest true u)))
+    (again : (q : Stage) (u : World) (d : Calls) (y : World) → Turned home top c w q u d y → Means q n d y u (looking q.look.step (rest true u)))
     (on : (q : Stage) (u : World) (d : Calls) (y : World) → Turned home (from + length (back_code home e top from)) c w q u d y → Means q (suc n) d y u (rest false u)) where
   abbrev k : Int
   k = int_of (type_of a)
@@ -136,7 +136,7 @@ module _ (home : Home) (most deep l : ℕ) (t : CType) (o : Op) (e a b : CoreExp
       by_branch : (holds : Bool) → truth ≡ holds → Means q (suc n) d y u (λ h m. rest holds (tick u) h m)
       by_branch true f =
           credit_means q n d (goes_to to d.regs) y u (λ h m. rest true (tick u) h m) (leads_on true) (goes true f)
-          (worked_means q n Executes (with_registers (goes_to to d.regs) d) 1 y u (looking suc (rest true (tick u)))
+          (worked_means q n Executes (with_registers (goes_to to d.regs) d) 1 y u (looking q.look.step (rest true (tick u)))
           (again q (tick u) (with_registers (goes_to to d.regs) d) y (record {
             there = to_is;
             stands = stands_worked home q (with_registers (goes_to to d.regs) d) y u 1 (stands_at home q d y u to p.stands);
