@@ -185,6 +185,7 @@ module _ (home : Home) (most : ℕ) (s : Stage) (c : Calls) (w v : World) (st : 
 
   pub stands_behind : Stands home s (with_registers next c) behind v
   stands_behind = record {
+    look = st.look;
     regs = st.regs;
     frame = framed.word_waits (slots home) home.cost home.env.blocks (stub w) w st.stubs st.frame t even room y x under means_now;
     sp = st.sp;
