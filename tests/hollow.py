@@ -25,6 +25,8 @@ pub unreachable-requires : goal.unreachable-requires
 unreachable-requires = ?
 """
 OWNER = re.compile(r"^(?:pub )?(impl|trait)\b(?:<.*?>(?= ))? ?(?:(\w+)(?:<.*>)? for )?&?(\w+)")
+OF_TRAIT = re.compile(r"\b\w+<(\w+)> for ")
+TYPE = re.compile(r"^(?:pub(?:\([a-z]+\))? )?(?:struct|enum) (\w+)", re.M)
 
 
 def stands_on():
@@ -66,7 +68,7 @@ def hollowed(text):
         of = OWNER.match(line)
         if of and line.rstrip().endswith("{"):
             # a conversion is a line, and its folder would be named by its types
-            owner, stays = of[3] + (of[2] or ""), of[2] == "From"
+            owner, stays = of[3] + (of[2] or "") + "".join(OF_TRAIT.findall(line)), of[2] == "From"
         if line == "}":
             owner, stays = None, False
         fun = FUN.match(line)
@@ -127,19 +129,26 @@ def stated(text):
     return "\n".join(out)
 
 
+def module_of(target, file):
+    module = file.relative_to(target / "src").with_suffix("").parts
+    return () if module in (("lib",), ("main",)) else module
+
+
 def hollow(crate, target):
     """Copies a crate below as a hollow one."""
     source = ROOT / "crates" / crate
     for part in ("src", "specs"):
         if (source / part).is_dir():
             shutil.copytree(source / part, target / part)
-    for file in sorted((target / "src").rglob("*.rt")):
+    files = sorted((target / "src").rglob("*.rt"))
+    homes = {name: module_of(target, file) for file in files for name in TYPE.findall(file.read_text())}
+    for file in files:
         text, made = hollowed(file.read_text())
         file.write_text(text)
-        module = file.relative_to(target / "src").with_suffix("").parts
-        module = () if module in (("lib",), ("main",)) else module
+        module, here = module_of(target, file), TYPE.findall(text)
         for owner, name in made:
-            path = [*module, *([owner] if owner else []), name]
+            # a type's own functions are named by the module of the type, wherever they stand
+            path = [*(module if owner in here else homes.get(owner, module)), *([owner] if owner else []), name]
             folder = target.joinpath("proofs", *path)
             folder.mkdir(parents=True, exist_ok=True)
             (folder / "Answers.antt").write_text(ANSWER.format(".".join([crate, "proofs", *path])))

@@ -85,6 +85,8 @@ fn frame_of(key: &Key, t: &Text, world: &World) -> Result<Frame, NoMemory>
         enter,
         line: 0,
         blocks: Items::new(alloc),
+        cost: 0,
+        start: 0,
     })
 }
 

@@ -14,7 +14,7 @@ use crate::going::{Caller, Going};
 use sc_base::{Duplicate, Items, Key, Name, NoMemory, Shared, Stack};
 use sc_core_held::Text;
 use sc_interp_access::{Ended, Stop, bits};
-use sc_interp_parts::statics_born;
+use sc_interp_parts::{layout_of, statics_born};
 use sc_interp_world::World;
 use sc_meaning_values::{Answer, Held};
 use std::alloc::Global;
@@ -129,7 +129,8 @@ pub fn run(
 ) -> Result<Finished, NoMemory>
     ensures { IfOk result (λ r. EndsSo limits.steps (start_of texts.now key.now limits.stack limits.heap input) r.ended r.world) }
 {
-    let mut world = World::nowhere(alloc, limits.stack, limits.heap, input)?;
+    let layout = layout_of(alloc, texts)?;
+    let mut world = World::aside(alloc, limits.stack, limits.heap, input, layout, false)?;
     let ended = end_told(started(texts, key, limits.steps, &mut world));
     Ok(Finished { ended, world })
 }

@@ -7,7 +7,9 @@ ghost use Rattle.sc_interp_access.specs.Gives.{Gives};
 
 use crate::breaches::{access_breach, sum};
 use crate::stop::Stop;
-use crate::violations::{cells_read, load_rule, pointer_of, reach_rule, store_rule, write_rule};
+use crate::violations::{
+    cells_read, load_rule, pointer_of, reach_rule, store_rule, whole, write_rule,
+};
 use sc_base::{Duplicate, Int, Items, NoMemory};
 use sc_interp_world::{Cell, Content, World};
 use sc_meaning_values::{Shape, Value};
@@ -121,14 +123,24 @@ pub fn loaded(t: &CType, p: &Value, further: u32, world: &World) -> Result<Value
     ensures { Gives (spec.loaded t.now p.now further world.now) result world.now }
 {
     let n = scalar_size(t);
-    if let Some(rule) = load_rule(world.objects(), p, further, n, is_pointer_type(t)) {
+    match whole(world.objects(), p, further, n, is_pointer_type(t))? {
+        Some(found) => Ok(as_type(t, found)),
+        None => loaded_slowly(t, p, further, world),
+    }
+}
+
+// The same byte by byte.
+#[inline(never)]
+fn loaded_slowly(t: &CType, p: &Value, further: u32, world: &World) -> Result<Value, Stop>
+    ensures { Gives (spec.loaded t.now p.now further world.now) result world.now }
+{
+    let n = scalar_size(t);
+    if let Some(rule) = load_rule(world.objects(), p, further, n, is_pointer_type(t))? {
         let told = access_breach(p, further, n, world, rule)?;
         return Err(Stop::Undefined(told));
     }
-    let Some(cells) = cells_read(world.objects(), p, further, n) else {
-        return Err(Stop::NoRoom)
-    };
-    let found = value_of_cells(world.alloc(), cells)?;
+    let cells = cells_read(world.objects(), p, further, n)?;
+    let found = value_of_cells(world.alloc(), cells.as_slice())?;
     Ok(as_type(t, found))
 }
 

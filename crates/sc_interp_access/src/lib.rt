@@ -20,5 +20,5 @@ pub use operators::{
 pub use stop::{Breach, Stop};
 pub use violations::{
     bits, cells_read, difference_rule, distance, free_rule, is_null, is_number, is_pointer,
-    load_rule, object_of, offset_of, reach_rule, store_rule, write_rule,
+    load_rule, object_of, offset_of, reach_rule, store_rule, whole, write_rule,
 };

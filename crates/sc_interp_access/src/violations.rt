@@ -1,12 +1,13 @@
 // The tests of undefined steps, each by its rule, over objects by number (ANSI 3.2.2.1, 3.3, 4.10.3).
-ghost use Rattle.std.specs.Prelude.{◌≡◌, ◌+◌, ◌<◌, ◌-ℤ◌, pos, true, false, MatchOption, None, Some, IfOk, IfSome};
+ghost use Rattle.std.specs.Prelude.{◌≡◌, ◌&&◌, ◌==◌, ◌+◌, ◌<◌, ◌-ℤ◌, pos, true, false, MatchOption, None, Some, IfOk, IfSome};
 ghost use Rattle.sc_meaning.specs.Values as value;
 ghost use Rattle.sc_meaning.specs.Violations as spec;
+ghost use Rattle.sc_meaning.specs.World.{Object};
 ghost use Rattle.sc_rules.specs.Tests as tests;
 ghost use Rattle.std.specs.List.{list_all};
 
 use sc_base::{Kind, NoMemory, Rule};
-use sc_interp_world::{Cell, Content, Object, cells_at, object_at};
+use sc_interp_world::{Cell, Content, Facts, Few, Store};
 use sc_meaning_values::{Shape, Value};
 
 /// The offset of a pointer, 0 for what is none.
@@ -21,13 +22,14 @@ pub fn offset_of(p: &Value) -> u32
 }
 
 /// The object into which a pointer points.
-pub fn object_of<'a>(objects: &'a [Object], p: &Value) -> Option<&'a Object>
-    ensures { MatchOption result (spec.object_of objects.now p.now ≡ None) (λ o. spec.object_of objects.now p.now ≡ Some o.now) }
+#[inline(always)]
+pub fn object_of(objects: &Store, p: &Value) -> Option<Facts>
+    ensures { MatchOption result (spec.object_of objects.now.objects p.now ≡ None) (λ f. (o : Object) × (spec.object_of objects.now.objects p.now ≡ Some o) × (f.size ≡ o.size) × (f.kind ≡ o.kind) × (f.live ≡ o.live)) }
 {
     match &p.shape {
         Shape::Number(_) => None,
         Shape::FunctionAt(_) => None,
-        Shape::Pointer(o, _) => object_at(objects, *o),
+        Shape::Pointer(o, _) => objects.find(*o),
     }
 }
 
@@ -43,8 +45,9 @@ pub fn is_null(p: &Value) -> bool
 }
 
 /// U3: the object is dead.
-pub fn is_dead(objects: &[Object], p: &Value) -> bool
-    ensures { result ≡ spec.is_dead objects.now p.now }
+#[tactic(auto, using(crate::proofs::Facts::dead_so))]
+pub fn is_dead(objects: &Store, p: &Value) -> bool
+    ensures { result ≡ spec.is_dead objects.now.objects p.now }
 {
     match object_of(objects, p) {
         None => false,
@@ -53,8 +56,9 @@ pub fn is_dead(objects: &[Object], p: &Value) -> bool
 }
 
 /// U2: the bytes are not inside the object, or the pointer has none.
-pub fn is_outside(objects: &[Object], p: &Value, further: u32, n: u32) -> bool
-    ensures { result ≡ spec.is_outside objects.now p.now further n }
+#[tactic(auto, using(crate::proofs::Facts::outside_so))]
+pub fn is_outside(objects: &Store, p: &Value, further: u32, n: u32) -> bool
+    ensures { result ≡ spec.is_outside objects.now.objects p.now further n }
 {
     let end = u64::from(offset_of(p)) + u64::from(further) + u64::from(n);
     match object_of(objects, p) {
@@ -85,8 +89,9 @@ fn is_constant_kind(kind: Kind) -> bool
 }
 
 /// U11: a write to a constant object or a literal.
-pub fn is_constant(objects: &[Object], p: &Value) -> bool
-    ensures { result ≡ spec.is_constant objects.now p.now }
+#[tactic(auto, using(crate::proofs::Facts::constant_so))]
+pub fn is_constant(objects: &Store, p: &Value) -> bool
+    ensures { result ≡ spec.is_constant objects.now.objects p.now }
 {
     match object_of(objects, p) {
         None => false,
@@ -200,48 +205,70 @@ pub fn pointer_of(cells: &[Cell]) -> Option<&Value>
     }
 }
 
-/// The bytes that an access reads, where its object is not dead.
-pub fn cells_read<'a>(objects: &'a [Object], p: &Value, further: u32, n: u32) -> Option<&'a [Cell]>
-    ensures { MatchOption result (spec.is_dead objects.now p.now ≡ true) (λ cells. cells.now ≡ spec.cells_read objects.now p.now further n) }
+/// The bytes that an access reads, at most four.
+pub fn cells_read(objects: &Store, p: &Value, further: u32, n: u32) -> Result<Few, NoMemory>
+    ensures { IfOk result (λ cells. cells ≡ spec.cells_read objects.now.objects p.now further n) }
 {
     match &p.shape {
-        Shape::Number(_) => Some(&[]),
-        Shape::FunctionAt(_) => Some(&[]),
-        Shape::Pointer(o, i) => cells_at(objects, *o, u64::from(*i) + u64::from(further), n),
+        Shape::Number(_) => Ok(Few::none()),
+        Shape::FunctionAt(_) => Ok(Few::none()),
+        Shape::Pointer(o, i) => objects.few(*o, u64::from(*i) + u64::from(further), n),
     }
 }
 
-/// The rule that a load of `n` bytes breaks, `further` bytes from where a pointer points.
-pub fn load_rule(objects: &[Object], p: &Value, further: u32, n: u32, pointer: bool) -> Option<Rule>
-    ensures { result ≡ spec.load_rule objects.now p.now further n pointer }
+/// The rule that a load of `n` bytes breaks, at most four, `further` bytes from where a pointer points.
+pub fn load_rule(
+    objects: &Store,
+    p: &Value,
+    further: u32,
+    n: u32,
+    pointer: bool,
+) -> Result<Option<Rule>, NoMemory>
+    ensures { IfOk result (λ rule. rule ≡ spec.load_rule objects.now.objects p.now further n pointer) }
 {
     if is_null(p) {
-        return Some(Rule::U4);
+        return Ok(Some(Rule::U4));
     }
     if is_dead(objects, p) {
-        return Some(Rule::U3);
+        return Ok(Some(Rule::U3));
     }
     if is_outside(objects, p, further, n) {
-        return Some(Rule::U2);
+        return Ok(Some(Rule::U2));
     }
     if is_misaligned(p, further, n) {
-        return Some(Rule::U10);
+        return Ok(Some(Rule::U10));
     }
-    let Some(cells) = cells_read(objects, p, further, n) else {
-        return Some(Rule::U3)
-    };
-    if reads_unwritten(cells) {
-        return Some(Rule::U1);
+    let cells = cells_read(objects, p, further, n)?;
+    if reads_unwritten(cells.as_slice()) {
+        return Ok(Some(Rule::U1));
     }
-    if is_mixed(pointer, cells) {
-        return Some(Rule::U15);
+    if is_mixed(pointer, cells.as_slice()) {
+        return Ok(Some(Rule::U15));
     }
-    None
+    Ok(None)
+}
+
+/// The value of a scalar, where a load of it breaks no rule and its bytes are whole; perhaps `None` where they are.
+#[inline(always)]
+pub fn whole(
+    objects: &Store,
+    p: &Value,
+    further: u32,
+    n: u32,
+    pointer: bool,
+) -> Result<Option<Value>, NoMemory>
+    ensures { IfOk result (λ got. IfSome got (λ v. (spec.load_rule objects.now.objects p.now further n pointer ≡ None) × (v ≡ value.value_of_cells (spec.cells_read objects.now.objects p.now further n)))) }
+{
+    match &p.shape {
+        Shape::Number(_) => Ok(None),
+        Shape::FunctionAt(_) => Ok(None),
+        Shape::Pointer(o, i) => objects.fetch(*o, *i, further, n, pointer),
+    }
 }
 
 /// The rule that a store of `n` bytes breaks.
-pub fn store_rule(objects: &[Object], p: &Value, further: u32, n: u32) -> Option<Rule>
-    ensures { result ≡ spec.store_rule objects.now p.now further n }
+pub fn store_rule(objects: &Store, p: &Value, further: u32, n: u32) -> Option<Rule>
+    ensures { result ≡ spec.store_rule objects.now.objects p.now further n }
 {
     if is_null(p) {
         return Some(Rule::U4);
@@ -262,8 +289,8 @@ pub fn store_rule(objects: &[Object], p: &Value, further: u32, n: u32) -> Option
 }
 
 /// The rule of the range of a copy that is read.
-pub fn reach_rule(objects: &[Object], p: &Value, further: u32, n: u32) -> Option<Rule>
-    ensures { result ≡ spec.reach_rule objects.now p.now further n }
+pub fn reach_rule(objects: &Store, p: &Value, further: u32, n: u32) -> Option<Rule>
+    ensures { result ≡ spec.reach_rule objects.now.objects p.now further n }
 {
     if is_null(p) {
         return Some(Rule::U4);
@@ -278,8 +305,8 @@ pub fn reach_rule(objects: &[Object], p: &Value, further: u32, n: u32) -> Option
 }
 
 /// The rule of the range of a copy that is written.
-pub fn write_rule(objects: &[Object], p: &Value, further: u32, n: u32) -> Option<Rule>
-    ensures { result ≡ spec.write_rule objects.now p.now further n }
+pub fn write_rule(objects: &Store, p: &Value, further: u32, n: u32) -> Option<Rule>
+    ensures { result ≡ spec.write_rule objects.now.objects p.now further n }
 {
     if is_null(p) {
         return Some(Rule::U4);
@@ -354,9 +381,9 @@ fn is_beyond(size: u32, place: i64) -> bool
 }
 
 /// U5: p + n is below its object or past its end, or n is not 0 and p is null.
-pub fn leaves_object(objects: &[Object], p: &Value, n: i64, at: i64, size: u32) -> bool
+pub fn leaves_object(objects: &Store, p: &Value, n: i64, at: i64, size: u32) -> bool
     requires { at ≡ spec.target p.now n size }
-    ensures { result ≡ spec.leaves_object objects.now p.now n size }
+    ensures { result ≡ spec.leaves_object objects.now.objects p.now n size }
 {
     if is_null(p) {
         return n < 0 || 0 < n;
@@ -368,16 +395,9 @@ pub fn leaves_object(objects: &[Object], p: &Value, n: i64, at: i64, size: u32) 
 }
 
 /// The rule that p + n breaks, where the integer has the value x.
-pub fn shift_rule(
-    objects: &[Object],
-    p: &Value,
-    x: &Value,
-    n: i64,
-    at: i64,
-    size: u32,
-) -> Option<Rule>
+pub fn shift_rule(objects: &Store, p: &Value, x: &Value, n: i64, at: i64, size: u32) -> Option<Rule>
     requires { at ≡ spec.target p.now n size }
-    ensures { result ≡ spec.shift_rule objects.now p.now x.now n size }
+    ensures { result ≡ spec.shift_rule objects.now.objects p.now x.now n size }
 {
     if is_number(p) || is_pointer(x) {
         return Some(Rule::U15);
@@ -419,9 +439,9 @@ pub fn is_uneven(p: &Value, q: &Value, size: u32) -> bool
 }
 
 /// The rule that a difference of two pointers breaks.
-pub fn difference_rule(objects: &[Object], p: &Value, q: &Value, size: u32) -> Option<Rule>
+pub fn difference_rule(objects: &Store, p: &Value, q: &Value, size: u32) -> Option<Rule>
     requires { 0 < size }
-    ensures { result ≡ spec.difference_rule objects.now p.now q.now size }
+    ensures { result ≡ spec.difference_rule objects.now.objects p.now q.now size }
 {
     if is_number(p) || is_number(q) {
         return Some(Rule::U15);
@@ -439,8 +459,8 @@ pub fn difference_rule(objects: &[Object], p: &Value, q: &Value, size: u32) -> O
 }
 
 /// The rule that `==` or `!=` of two pointers breaks.
-pub fn equality_rule(objects: &[Object], p: &Value, q: &Value) -> Option<Rule>
-    ensures { result ≡ spec.equality_rule objects.now p.now q.now }
+pub fn equality_rule(objects: &Store, p: &Value, q: &Value) -> Option<Rule>
+    ensures { result ≡ spec.equality_rule objects.now.objects p.now q.now }
 {
     if is_number(p) || is_number(q) {
         return Some(Rule::U15);
@@ -452,8 +472,8 @@ pub fn equality_rule(objects: &[Object], p: &Value, q: &Value) -> Option<Rule>
 }
 
 /// The rule that `<`, `>`, `<=` or `>=` of two pointers breaks.
-pub fn order_rule(objects: &[Object], p: &Value, q: &Value) -> Option<Rule>
-    ensures { result ≡ spec.order_rule objects.now p.now q.now }
+pub fn order_rule(objects: &Store, p: &Value, q: &Value) -> Option<Rule>
+    ensures { result ≡ spec.order_rule objects.now.objects p.now q.now }
 {
     if is_number(p) || is_number(q) {
         return Some(Rule::U15);
@@ -468,8 +488,8 @@ pub fn order_rule(objects: &[Object], p: &Value, q: &Value) -> Option<Rule>
 }
 
 /// The rule that the truth test of a value of pointer type, or of integer type, breaks.
-pub fn truth_rule(objects: &[Object], pointer: bool, v: &Value) -> Option<Rule>
-    ensures { result ≡ spec.truth_rule objects.now pointer v.now }
+pub fn truth_rule(objects: &Store, pointer: bool, v: &Value) -> Option<Rule>
+    ensures { result ≡ spec.truth_rule objects.now.objects pointer v.now }
 {
     if pointer {
         if is_number(v) {
@@ -492,9 +512,16 @@ fn is_heap(kind: Kind) -> bool
     }
 }
 
+// Whether a place is the begin of a live allocated object.
+fn is_block(object: Facts, place: u32) -> bool
+    ensures { result ≡ (object.live && tests.is_heap object.kind && (place == 0)) }
+{
+    object.live && is_heap(object.kind) && place == 0
+}
+
 /// The rule that the freeing of a pointer breaks: it is not null, and not the start of a live allocated object.
-pub fn free_rule(objects: &[Object], p: &Value) -> Option<Rule>
-    ensures { result ≡ spec.free_rule objects.now p.now }
+pub fn free_rule(objects: &Store, p: &Value) -> Option<Rule>
+    ensures { result ≡ spec.free_rule objects.now.objects p.now }
 {
     if is_null(p) {
         return None;
@@ -502,7 +529,7 @@ pub fn free_rule(objects: &[Object], p: &Value) -> Option<Rule>
     match object_of(objects, p) {
         None => Some(Rule::U14),
         Some(o) => {
-            if o.live && is_heap(o.kind) && offset_of(p) == 0 {
+            if is_block(o, offset_of(p)) {
                 None
             } else {
                 Some(Rule::U14)

@@ -30,7 +30,7 @@ pub fn born(size: u32, kind: Kind, spot: &Spot, world: &mut World) -> Result<u32
         return Err(Stop::BirthLimit);
     }
     world.birth(size, kind, spot)?;
-    Ok(n as u32 + 1)
+    Ok(n + 1)
 }
 
 fn auto_kind(constant: bool) -> Kind

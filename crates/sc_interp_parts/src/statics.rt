@@ -14,7 +14,7 @@ use sc_base::{Bytes, Duplicate, Items, Key, Kind, NoMemory, Shared};
 use sc_core::Init;
 use sc_core_held::{Callee, Definition, Text, callee_of, object_in};
 use sc_interp_access::{Stop, pieces, sum};
-use sc_interp_world::{Cell, Object, World, object_at, unwritten};
+use sc_interp_world::{Cell, Store, World, unwritten};
 use sc_meaning::Spot;
 use sc_meaning_values::Value;
 use sc_program::StaticId;
@@ -120,10 +120,10 @@ fn born_all(texts: &[Text], ids: &[StaticId], world: &mut World) -> Result<(), S
 }
 
 // The address of a place in an object, its end included.
-fn address_in(objects: &[Object], o: u32, at: u32) -> Option<Value>
-    ensures { result ≡ spec.address_in (worlds.object_at objects.now o) o at }
+fn address_in(objects: &Store, o: u32, at: u32) -> Option<Value>
+    ensures { result ≡ spec.address_in (worlds.object_at objects.now.objects o) o at }
 {
-    match object_at(objects, o) {
+    match objects.find(o) {
         None => None,
         Some(object) => {
             if at <= object.size {

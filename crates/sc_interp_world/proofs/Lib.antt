@@ -1,8 +1,7 @@
-pub mod Overwriting
 pub mod Outputs
 pub mod Naming
-pub mod Storing
 pub mod Moving
-pub mod Filling
+pub mod Keeping
+pub mod Putting
 pub mod RecordLemmas
 pub mod ToldLemmas

@@ -1,5 +1,6 @@
 -- Inside: plumbing, a representation, an invariant or a promise beside the claim (docs/TRUST.md).
 -- What happens in the program, as the meaning has it.
+use Rattle.std.specs.Prelude.{[], ◌∷◌}
 use Rattle.sc_interp_world.specs.declared.event.Change.{Change}
 use Rattle.sc_interp_world.specs.declared.event.Change.TheVariants as change
 use Rattle.sc_meaning.specs.Values.{cells_of}
@@ -16,6 +17,7 @@ item_of (change.Happens e) = Happens e
 item_of (change.Birth size kind spot) = Birth size kind spot.value
 item_of (change.Death id) = Death id
 item_of (change.Put id at new) = Put id at new.value
+item_of (change.Byte id at c) = Put id at (c.value ∷ [])
 item_of (change.Store id at n v) = Put id at (cells_of n v.value)
 item_of (change.Copy to at from off n) = Copy to at from off n
 item_of (change.TakeFree k) = TakeFree k

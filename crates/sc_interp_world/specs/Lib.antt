@@ -4,6 +4,6 @@ pub mod Happenings
 pub mod Outputs
 pub mod Naming
 pub mod Keeping
-pub mod Blanks
+pub mod Putting
 pub mod Recording
 pub mod Told

@@ -1,15 +1,19 @@
 // What stands at the addresses of a world's memory.
-ghost use Rattle.std.specs.Prelude.{◌≡◌, IfOk, IfSome, IsSome, MatchOption, None};
+ghost use Rattle.std.specs.Prelude.{◌≡◌, ◌++◌, ◌∷◌, [], length, IfOk, IfSome, IsSome, MatchOption, None};
+ghost use Rattle.sc_interp_world.specs.Putting.{PutsAt};
 ghost use Rattle.sc_meaning.specs.Beside.{kept_in, with_memory, word_of};
+ghost use Rattle.sc_meaning.specs.World as spec;
 ghost use Rattle.sc_mem.specs.Flat.{aligned_place, raw_read};
 ghost use Rattle.sc_mem.specs.Words.{IsSize};
 ghost use Rattle.sc_mem_store.specs.Holding.{value_at};
-ghost use Rattle.sc_mem_store.specs.Living.{IsBare, IsByteOf, IsLiveAt, IsLiving, IsTagAt};
+ghost use Rattle.sc_mem_store.specs.Living.{HasCells, IsBare, IsByteOf, IsLiveAt, IsLiving, IsTagAt};
 
+use crate::event::{Change, Item};
 use crate::world::World;
-use sc_base::{NoMemory, Word};
+use sc_base::{Cell as Stored, Items, NoMemory, Word};
 use sc_meaning_values::Value;
-use sc_mem_store::Place;
+use sc_mem_store::{Landed, Place};
+use std::snapshot::Snapshot;
 
 impl World {
     /// The address of a live object's first byte: `None` where no live object has this number. It stays until the object
@@ -78,5 +82,52 @@ impl World {
         let kept = self.objects.keep(at, size, w)?;
         self.account.tell_kept(at, size, w, kept.is_some())?;
         Ok(kept)
+    }
+
+    /// The `n` cells of memory from an address on, whatever they are of.
+    pub fn raw_cells(&self, from: u32, n: u32) -> Result<Items<Stored>, NoMemory>
+        ensures { IfOk result (λ cells. IfSome self.now.beside.memory (λ m. (length cells ≡ n) × HasCells m.flat from cells)) }
+    {
+        self.objects.raw_cells(from, n)
+    }
+
+    // The trail keeps that a byte was put into an object.
+    fn note_byte(&mut self, landed: &Landed) -> Result<(), NoMemory>
+        ensures { IfOk result (λ _. self.new ≡ record self.old { trail = self.old.trail ++ spec.Put landed.now.id landed.now.offset (landed.now.byte ∷ []) ∷ [] }) }
+    {
+        let item = Item {
+            change: Change::Byte(landed.id, landed.offset, Snapshot::of(&landed.byte)),
+        };
+        let kept = self.account.push(&item);
+        drop(item);
+        kept
+    }
+
+    /// One cell of memory is put at an address, as compiled code does that copies bytes or stores a word over the end of an object: into
+    /// the live object that has the byte there, or beside all objects. No note tells it: who calls this tells the whole (`tell_stored`).
+    ///
+    /// # Errors
+    ///
+    /// `NoMemory` also outside the static area, the heap and the stack, and for a piece with the tag of an object that was not born.
+    #[tactic(auto, using(crate::proofs::Putting::puts_beside))]
+    pub fn put_raw(&mut self, at: u32, cell: Stored) -> Result<(), NoMemory>
+        ensures { IfOk result (λ _. PutsAt at cell self.old self.new) }
+    {
+        match self.objects.put_raw(at, cell)? {
+            None => Ok(()),
+            Some(landed) => {
+                let noted = self.note_byte(&landed);
+                drop(landed);
+                noted?;
+                Ok(())
+            }
+        }
+    }
+
+    /// Tells that a word was stored as so many bytes from an address on, where changes of memory are told.
+    pub fn tell_stored(&mut self, at: u32, size: u8, w: Word) -> Result<(), NoMemory>
+        ensures { self.new ≡ self.old }
+    {
+        self.account.tell_kept(at, size, w, true)
     }
 }

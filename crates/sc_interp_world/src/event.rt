@@ -107,6 +107,7 @@ pub enum Change {
     Birth(u32, Kind, Snapshot<Spot>),
     Death(u32),
     Put(u32, u32, Snapshot<Items<Cell>>),
+    Byte(u32, u32, Snapshot<Cell>),
     Store(u32, u32, u32, Snapshot<Value>),
     Copy(u32, u32, u32, u32, u32),
     TakeFree(u32),

@@ -5,7 +5,7 @@ use crate::names::Names;
 use std::alloc::Global;
 use std::mem;
 
-/// Addresses by names: those that contracts see, and those that they do not, of a run of interpreted modules to which somebody listens.
+/// Addresses by names: those that contracts see, and those that they do not, of a run of interpreted modules.
 #[derive(Drop)]
 pub struct Places {
     pub seen: Names,
@@ -13,16 +13,6 @@ pub struct Places {
 }
 
 impl Places {
-    /// None are known.
-    pub fn none(alloc: Global) -> Places
-        ensures { result.seen ≡ [] }
-    {
-        Places {
-            seen: Names::new(alloc),
-            unseen: Names::new(alloc),
-        }
-    }
-
     /// These are seen.
     pub fn seen(alloc: Global, places: Names) -> Places
         ensures { result.seen ≡ places }

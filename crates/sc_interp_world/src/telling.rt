@@ -137,9 +137,7 @@ impl Recorder {
     pub fn birth(&mut self, objects: &Held, size: u32, kind: Kind) -> Result<(), NoMemory>
         ensures { IfOk result (λ _. spec.Adds self.old self.new) }
     {
-        let Ok(id) = u32::try_from(objects.as_slice().len()) else {
-            return Err(NoMemory);
-        };
+        let id = objects.objects().len();
         let Some(base) = objects.base(id) else {
             return Ok(());
         };

@@ -12,12 +12,12 @@ use crate::account::Account;
 use crate::event::{Change, Event, Item, Showing};
 use crate::held::Held;
 use crate::names::Names;
-use crate::object::{Born, Frame, Object};
+use crate::object::{Born, Frame};
 use crate::places::Places;
 use sc_base::{Bytes, Duplicate, Items, Key, Kind, Name, NoMemory, Shared, Stack};
 use sc_meaning::Spot;
 use sc_meaning_values::Value;
-use sc_mem_store::Cell;
+use sc_mem_store::{Cell, Store};
 use sc_program::StaticId;
 use std::alloc::Global;
 use std::marker::Model;
@@ -156,26 +156,6 @@ fn no_block(alloc: Global) -> Result<Items<u64>, NoMemory>
 }
 
 impl World {
-    /// A world in which nothing is there yet, and nothing will have an address: that of a run without compiled code.
-    pub fn nowhere(
-        alloc: Global,
-        stack: u64,
-        heap: u64,
-        input: Items<u8>,
-    ) -> Result<World, NoMemory>
-        ensures { IfOk result (λ w. w ≡ record { stack = stack; heap = heap; objects = []; used = 0; free = replicate 29 0; made = 0; input = input; seed = 1; frames = []; names = []; enters = 0; count = 0; begun = 0; trail = []; beside = nothing_beside }) }
-    {
-        World::with(
-            alloc,
-            stack,
-            heap,
-            input,
-            Held::nowhere(alloc),
-            Places::none(alloc),
-            Account::unheard(alloc),
-        )
-    }
-
     /// A world in which nothing is there yet, and objects will stand at addresses. Where it is heard all that happens is recorded,
     /// behind the note `Start`.
     ///
@@ -199,23 +179,24 @@ impl World {
         World::with(alloc, stack, heap, input, objects, seen, account)
     }
 
-    /// That of a run without compiled code to which somebody listens: all that happens is recorded, behind the note `Start`. Objects
-    /// will stand at addresses, which are not seen.
+    /// That of a run without compiled code. Objects will stand at addresses, which are not seen. Where it is heard all that happens is
+    /// recorded, behind the note `Start`.
     ///
     /// # Errors
     ///
-    /// `NoMemory` also where the stack's or the heap's bytes are no number of 32 bits.
-    pub fn heard(
+    /// `NoMemory` also where it is heard and the stack's or the heap's bytes are no number of 32 bits.
+    pub fn aside(
         alloc: Global,
         stack: u64,
         heap: u64,
         input: Items<u8>,
         layout: Layout,
+        heard: bool,
     ) -> Result<World, NoMemory>
         ensures { IfOk result (λ w. w ≡ record { stack = stack; heap = heap; objects = []; used = 0; free = replicate 29 0; made = 0; input = input; seed = 1; frames = []; names = []; enters = 0; count = 0; begun = 0; trail = []; beside = nothing_beside }) }
     {
         let Layout { functions, places } = layout;
-        let account = Account::heard(alloc, stack, heap, functions.as_slice())?;
+        let account = Account::of(alloc, stack, heap, functions.as_slice(), heard)?;
         let objects = Held::aside(alloc, stack, heap, functions)?;
         let unseen = Places::unseen(alloc, places);
         World::with(alloc, stack, heap, input, objects, unseen, account)
@@ -257,22 +238,6 @@ impl World {
         })
     }
 
-    /// The world of a run without memory gets one, which is not seen: each live object stands at the address that is given by its place in
-    /// the list, one of the heap in a block of its own. Nothing else changes.
-    ///
-    /// # Errors
-    ///
-    /// `NoMemory` also where there is a memory already, and where an object cannot stand at its address. Nothing is changed then.
-    pub fn remember(&mut self, layout: Layout, bases: &[u32]) -> Result<(), NoMemory>
-        ensures { self.new ≡ self.old }
-    {
-        let Layout { functions, places } = layout;
-        self.objects
-            .remember(bases, self.stack, self.heap, functions)?;
-        self.places.unseen = places;
-        Ok(())
-    }
-
     /// The addresses of objects are seen from here on, as compiled code comes into a run. Nothing else changes.
     pub fn reveal(&mut self)
         ensures { self.new ≡ record self.old { beside = self.new.beside } }
@@ -290,14 +255,7 @@ impl World {
         self.objects.has_memory()
     }
 
-    /// Whether objects stand at addresses, seen or not.
-    pub fn has_memory(&self) -> bool
-        ensures { IfSome self.now.beside.memory (λ _. result ≡ true) }
-    {
-        self.objects.has_memory() || self.objects.has_unseen()
-    }
-
-    /// How many functions have numbers, where the world has a memory.
+    /// How many functions have numbers.
     pub fn functions(&self) -> usize {
         self.objects.functions()
     }
@@ -355,10 +313,11 @@ impl World {
     }
 
     /// The objects, of which the first has number 1.
-    pub fn objects(&self) -> &[Object]
-        ensures { result.now ≡ self.now.objects }
+    #[inline(always)]
+    pub fn objects(&self) -> &Store
+        ensures { result.now.objects ≡ self.now.objects }
     {
-        self.objects.as_slice()
+        self.objects.objects()
     }
 
     /// The bytes of the stack that are used.
@@ -556,17 +515,15 @@ impl World {
         self.account.happens(event)
     }
 
-    // Where an object outside the heap will stand; without a memory anywhere.
+    // Where an object outside the heap will stand.
     fn base_for(&self, spot: &Spot) -> Result<u32, NoMemory>
         ensures { IfOk result (λ base. IfSome self.now.beside.memory (λ _. spec.address self.now.beside.places self.now.used spot.now ≡ Some base)) }
     {
         if self.objects.has_memory() {
-            return address_of(&self.places.seen, self.used, spot);
+            address_of(&self.places.seen, self.used, spot)
+        } else {
+            address_of(&self.places.unseen, self.used, spot)
         }
-        if self.objects.has_unseen() {
-            return address_of(&self.places.unseen, self.used, spot);
-        }
-        Ok(0)
     }
 
     // Memory and the objects get one more.

@@ -1,3 +1,4 @@
 pub mod Prefixes
+pub mod Sizes
 pub mod Mores
 pub mod Arguments

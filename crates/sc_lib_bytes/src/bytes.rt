@@ -28,19 +28,18 @@ fn byte(n: u32) -> Result<u8, NoMemory>
 pub fn byte_read(p: &Value, i: u32, world: &mut World) -> Result<u8, Stop>
     ensures { Gives (spec.byte_read p.now i world.old) result world.new }
 {
-    if let Some(rule) = load_rule(world.objects(), p, i, 1, false) {
+    if let Some(rule) = load_rule(world.objects(), p, i, 1, false)? {
         let told = access_breach(p, i, 1, world, rule)?;
         return Err(Stop::Undefined(told));
     }
-    let Some(cells) = cells_read(world.objects(), p, i, 1) else {
-        return Err(Stop::NoRoom)
-    };
-    let found = byte(number_of_cells(cells)?)?;
+    let cells = cells_read(world.objects(), p, i, 1)?;
+    let found = byte(number_of_cells(cells.as_slice())?)?;
     world.tick()?;
     Ok(found)
 }
 
 /// How many bytes the object of a pointer has, 0 where it has none.
+#[tactic(auto, using(crate::proofs::Sizes::size_so, crate::proofs::Sizes::none_so))]
 pub fn block_size_at(world: &World, p: &Value) -> u32
     ensures { result ≡ spec.block_size_at world.now p.now }
 {

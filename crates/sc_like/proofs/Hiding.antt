@@ -97,7 +97,7 @@ line_form form.Object fs e = refl
 
 no_line : (line : ℕ) (f : Frame) → f.form ≡ form.Object → lineless (record f { line = line }) ≡ lineless f
 no_line line f e =
-    ap (λ k. record f { line = line_in k line; blocks = blocks_in k f.blocks }) e ∙ sym (ap (λ k. record f { line = line_in k f.line; blocks = blocks_in k f.blocks }) e)
+    ap (λ k. record f { line = line_in k line; blocks = blocks_in k f.blocks; cost = 0; start = 0 }) e ∙ sym (ap (λ k. record f { line = line_in k f.line; blocks = blocks_in k f.blocks; cost = 0; start = 0 }) e)
 
 line_unseen : (line : ℕ) (fs : List Frame) → not (shows_lines (map form_of fs)) ≡ true → map lineless (on_innermost (λ f. record f { line = line }) fs) ≡ map lineless fs
 line_unseen line [] e = refl
@@ -105,7 +105,7 @@ line_unseen line (f ∷ fs) e = ap (λ g. g ∷ map lineless fs) (no_line line f
 
 no_blocks : (bs : List Born) (f : Frame) → f.form ≡ form.Object → lineless (record f { blocks = bs }) ≡ lineless f
 no_blocks bs f e =
-    ap (λ k. record f { line = line_in k f.line; blocks = blocks_in k bs }) e ∙ sym (ap (λ k. record f { line = line_in k f.line; blocks = blocks_in k f.blocks }) e)
+    ap (λ k. record f { line = line_in k f.line; blocks = blocks_in k bs; cost = 0; start = 0 }) e ∙ sym (ap (λ k. record f { line = line_in k f.line; blocks = blocks_in k f.blocks; cost = 0; start = 0 }) e)
 
 opened_unseen : (b : Born) (fs : List Frame) → not (shows_lines (map form_of fs)) ≡ true → map lineless (on_innermost (λ f. record f { blocks = f.blocks ++ b ∷ [] }) fs) ≡ map lineless fs
 opened_unseen b [] e = refl

@@ -30,8 +30,8 @@ blocks_closed : (k : Form) (bs : List Born) → blocks_in k (without_last bs) �
 blocks_closed form.Source bs = refl
 blocks_closed form.Object bs = refl
 
-both : (f : Frame) (k l : ℕ) (bs cs : List Born) → k ≡ l → bs ≡ cs → record f { line = k; blocks = bs } ≡ record f { line = l; blocks = cs }
-both f k l bs cs p q = ap (λ n. record f { line = n; blocks = bs }) p ∙ ap (λ n. record f { line = l; blocks = n }) q
+both : (f : Frame) (k l : ℕ) (bs cs : List Born) → k ≡ l → bs ≡ cs → record f { line = k; blocks = bs; cost = 0; start = 0 } ≡ record f { line = l; blocks = cs; cost = 0; start = 0 }
+both f k l bs cs p q = ap (λ n. record f { line = n; blocks = bs; cost = 0; start = 0 }) p ∙ ap (λ n. record f { line = l; blocks = n; cost = 0; start = 0 }) q
 
 once : (f : Frame) → lineless f ≡ lineless (lineless f)
 once f = both f (line_in f.form f.line) (line_in f.form (line_in f.form f.line)) (blocks_in f.form f.blocks) (blocks_in f.form (blocks_in f.form f.blocks)) (line_once f.form f.line) (blocks_once f.form f.blocks)
@@ -43,8 +43,8 @@ all_once (f ∷ fs) = ap (λ g. g ∷ map lineless fs) (once f) ∙ ap (λ gs. l
 lined : (l : ℕ) (fs : List Frame) → map lineless (on_innermost (λ f. record f { line = l }) fs) ≡ map lineless (on_innermost (λ f. record f { line = l }) (map lineless fs))
 lined l [] = refl
 lined l (f ∷ fs) =
-    ap (λ bs. record f { line = line_in f.form l; blocks = bs } ∷ map lineless fs) (blocks_once f.form f.blocks)
-    ∙ ap (λ gs. record f { line = line_in f.form l; blocks = blocks_in f.form (blocks_in f.form f.blocks) } ∷ gs) (all_once fs)
+    ap (λ bs. record f { line = line_in f.form l; blocks = bs; cost = 0; start = 0 } ∷ map lineless fs) (blocks_once f.form f.blocks)
+    ∙ ap (λ gs. record f { line = line_in f.form l; blocks = blocks_in f.form (blocks_in f.form f.blocks); cost = 0; start = 0 } ∷ gs) (all_once fs)
 
 pushed : (f : Frame) (fs : List Frame) → map lineless (f ∷ fs) ≡ map lineless (f ∷ map lineless fs)
 pushed f fs = ap (λ gs. lineless f ∷ gs) (all_once fs)

@@ -13,11 +13,12 @@ abbrev pub blocks_in : Form → List Born → List Born
 blocks_in form.Source blocks = blocks
 blocks_in form.Object blocks = []
 
--- a call without its line and its open blocks, where it is one of compiled code: such calls reach no line that is shown
+-- a call without its line and its open blocks, where it is one of compiled code: such calls reach no line that is shown; and without what only its code needs
 abbrev pub lineless : Frame → Frame
-lineless f = record f { line = line_in f.form f.line; blocks = blocks_in f.form f.blocks }
+lineless f = record f { line = line_in f.form f.line; blocks = blocks_in f.form f.blocks; cost = 0; start = 0 }
 
--- A world without what the forms of modules change: the lines and the open blocks of calls of compiled code; how many events passed, since the lines of such calls
+-- A world without what the forms of modules change: the lines and the open blocks of calls of compiled code, what their frames take of the stack, and where
+-- their texts begin; how many events passed, since the lines of such calls
 -- are events of the meaning that a run does not show; how many statements have begun, since compiled code has none; all that happened (what of it
 -- is shown is told below); and all that stands beside: what the machine was told, and the memory in which it keeps the objects, since compiled
 -- code also writes bytes there that are in no object. No definition of the meaning reads what stands beside.

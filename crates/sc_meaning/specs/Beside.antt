@@ -104,6 +104,10 @@ put_in functions id at new m = record { flat = written_in functions at new m.fla
 abbrev pub kept_in : ℕ → ℕ → Word → Store → Store
 kept_in at size w m = record { flat = put m.flat at size w; blocks = m.blocks }
 
+-- it puts one cell at an address
+abbrev pub cell_kept_in : ℕ → Stored → Store → Store
+cell_kept_in at x m = record { flat = written_at m.flat (place m.flat at 1) (x ∷ []); blocks = m.blocks }
+
 -- where there is a memory
 abbrev pub with_memory : (Store → Store) → Beside → Beside
 with_memory f b = record b { memory = option_map f b.memory }

@@ -26,7 +26,7 @@ parameters (a ∷ rest) (v ∷ vs) ids w =
     and_then (born a.slot.size (auto_kind a.slot.constant) (Slot a.slot.offset) w) (λ id w. parameters rest vs (ids ++ id ∷ []) (set_at (Pointer id 0) 0 a.slot.size v w))
 
 abbrev pub frame_of : Key → Text → World → Frame
-frame_of key t w = record { key = key; text = t.number; home = t.core.name; form = t.form; enter = w.enters + 1; line = 0; blocks = [] }
+frame_of key t w = record { key = key; text = t.number; home = t.core.name; form = t.form; enter = w.enters + 1; line = 0; blocks = []; cost = 0; start = 0 }
 
 abbrev pub answer_of : Way → Answer
 answer_of Normal = Nothing

@@ -25,7 +25,9 @@ pub record Born : Type 0 where
   pub ids : List ℕ
 
 -- An active call: its function; the number of the text that it runs, the text's module, and the form; how many calls
--- were entered up to it, itself counted; the line of its last At event, or 0; and its entered blocks, outermost first.
+-- were entered up to it, itself counted; the line of its last At event, or 0; and its entered blocks, outermost first. Of a call of compiled
+-- code also the bytes of the stack that it took, and the address at which its text begins; of another 0 each. No definition of the meaning
+-- reads these two.
 pub record Frame : Type 0 where
   pub key : Key
   pub text : ℕ
@@ -34,6 +36,8 @@ pub record Frame : Type 0 where
   pub enter : ℕ
   pub line : ℕ
   pub blocks : List Born
+  pub cost : ℕ
+  pub start : ℕ
 
 -- what a run shows: a function of a module is entered; one is left; a line of a module is reached, in the call with
 -- this count; a byte is written

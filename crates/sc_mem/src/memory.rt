@@ -1,7 +1,7 @@
 // One memory: its cells by address, its objects by number, and its heap.
 ghost use Rattle.std.specs.Prelude.{◌≡◌, ◌⊎◌, ◌↔◌, ℕ, ◌+◌, ◌-◌, ◌<◌, ◌≤◌, length, OnErr, Err, [], replicate, IfOk, MatchOption, MatchResult, IfSome, IsSome, Some, None, pos};
 ghost use Rattle.sc_base.specs.declared.note.Note.TheVariants.{Start, Put, Birth, Death, Copy};
-ghost use Rattle.sc_mem.specs.Words.{IsSize};
+ghost use Rattle.sc_mem.specs.Words.{IsSize, IsWritten};
 ghost use Rattle.sc_objects.specs.declared.objects.Obj.{Obj};
 ghost use Rattle.sc_objects.specs.Numbered.{IsLive};
 ghost use Rattle.sc_objects.specs.Blocks.{Blocks};
@@ -13,7 +13,7 @@ use crate::areas::{HEAP, STACK_END, STATIC_BYTES, near_place, place};
 use crate::arithmetic::{moved, offset};
 use crate::comparison::{difference, equality, freeing, order, ordering, overlap, truth};
 use crate::fault::StoreFault;
-use crate::words::{load_word, store_word};
+use crate::words::{load_word, store_word, written_word};
 use sc_base::{Cell, Kind, NoMemory, Rule, Word};
 use sc_cells::Cells;
 use sc_objects::{BirthFault, Heap, Obj, Objects};
@@ -46,7 +46,7 @@ impl Model for Memory {
 
 impl Memory {
     ghost use Rattle.sc_objects.specs.Numbered.{IsObjectAt, object_of};
-    ghost use Rattle.sc_mem.specs.Flat.{Flat, aligned_place, apply, fresh, place as place_of, raw_read};
+    ghost use Rattle.sc_mem.specs.Flat.{Flat, aligned_place, apply, cells_at, fresh, place as place_of, raw_read};
     ghost use Rattle.sc_mem.specs.Safe.{IsSafe};
 
     /// A memory with stack and heap of these sizes in bytes, in which nothing lives and no cell is written, as after the
@@ -85,6 +85,23 @@ impl Memory {
         match near_place(self.heap_bytes, self.stack, at, u32::from(size)) {
             None => None,
             Some(i) => Some(load_word(cells, i, size)),
+        }
+    }
+
+    /// The word in the `n` bytes at an address, where all of them are bytes of a number, or the four pieces of one pointer. It may
+    /// answer `None` where they are.
+    #[inline(always)]
+    #[tactic(auto, using(crate::proofs::Written::placed_written))]
+    pub fn written(&self, at: u32, n: u32) -> Option<Word>
+        ensures { IfSome result (λ w. IsSome (place_of self.now.flat at n) × IsWritten (cells_at self.now.flat at n) w) }
+    {
+        let cells = &self.cells;
+        match near_place(self.heap_bytes, self.stack, at, n) {
+            None => None,
+            Some(i) => match written_word(cells, i, n) {
+                Some(word) => Some(word),
+                None => None,
+            },
         }
     }
 

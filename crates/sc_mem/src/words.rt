@@ -1,7 +1,7 @@
 // Words as cells, and cells as words.
 ghost use Rattle.std.specs.Prelude.{◌≡◌, ◌+◌, ◌^◌, ◌<◌, ◌≤◌, ◌∷◌, [], length, map, slice_index, IfSome, MatchResult};
 ghost use Rattle.sc_base.specs.declared.memory.Cell.TheVariants.{Byte};
-ghost use Rattle.sc_mem.specs.Words.{IsSize, byte_of, bytes_of, cells_of, tag_of, word_of};
+ghost use Rattle.sc_mem.specs.Words.{IsSize, IsWritten, byte_of, bytes_of, cells_of, tag_of, word_of};
 ghost use Rattle.sc_mem.specs.Words.{is_piece as piece};
 ghost use Rattle.sc_cells.specs.Range.{range_of, with_range};
 
@@ -122,6 +122,84 @@ fn four_cells(cells: &Cells, i: u32) -> Option<Word>
         Some(word) => Some(word),
         None => None,
     }
+}
+
+// A byte of a number as a word.
+#[inline(always)]
+fn plain_word(a: Cell) -> Option<Word>
+    ensures { IfSome result (λ w. IsWritten (a ∷ []) w) }
+{
+    match a {
+        Cell::Byte(a) => Some(Word {
+            bits: u32::from(a),
+            tag: 0,
+        }),
+        Cell::Unwritten => None,
+        Cell::Frag { .. } => None,
+    }
+}
+
+// Two bytes of a number as a word.
+fn plain_half(a: Cell, b: Cell) -> Option<Word>
+    ensures { IfSome result (λ w. IsWritten (a ∷ b ∷ []) w) }
+{
+    match (a, b) {
+        (Cell::Byte(a), Cell::Byte(b)) => Some(Word {
+            bits: u32::from(a) + 256 * u32::from(b),
+            tag: 0,
+        }),
+        _ => None,
+    }
+}
+
+#[inline(always)]
+fn written_one(cells: &Cells, i: u32) -> Option<Word>
+    requires { i + 1 ≤ length cells.now }
+    ensures { IfSome result (λ w. IsWritten (range_of cells.now i 1) w) }
+{
+    let a = cells.read(i);
+    plain_word(a)
+}
+
+fn written_two(cells: &Cells, i: u32) -> Option<Word>
+    requires inside { i + 2 ≤ length cells.now }
+    requires fits { i < 2 ^ 31 }
+    ensures { IfSome result (λ w. IsWritten (range_of cells.now i 2) w) }
+{
+    let a = cells.read(i);
+    let b = cells.read(i + 1);
+    plain_half(a, b)
+}
+
+#[inline(always)]
+fn written_four(cells: &Cells, i: u32) -> Option<Word>
+    requires { i + 4 ≤ length cells.now }
+    ensures { IfSome result (λ w. IsWritten (range_of cells.now i 4) w) }
+{
+    match cells.word(i) {
+        Some(word) => Some(word),
+        None => None,
+    }
+}
+
+/// The word in the `n` cells from a place on, where all of them are bytes of a number, or the four pieces of one pointer. It may answer
+/// `None` where they are.
+#[inline(always)]
+pub fn written_word(cells: &Cells, i: u32, n: u32) -> Option<Word>
+    requires inside { i + n ≤ length cells.now }
+    requires fits { i < 2 ^ 31 }
+    ensures { IfSome result (λ w. IsWritten (range_of cells.now i n) w) }
+{
+    if n == 4 {
+        return written_four(cells, i);
+    }
+    if n == 1 {
+        return written_one(cells, i);
+    }
+    if n == 2 {
+        return written_two(cells, i);
+    }
+    None
 }
 
 // The same cell by cell.

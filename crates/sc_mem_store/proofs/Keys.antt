@@ -1,5 +1,5 @@
 -- Keys that pass the test for equality are one.
-use Rattle.std.proofs.Common.{◌≡◌, ◌&&◌, Bool, true, false, List, ℕ, refl, ap, Option, Some, None}
+use Rattle.std.proofs.Common.{◌≡◌, ◌&&◌, Bool, true, false, List, ℕ, refl, ap, ◌∙◌, Option, Some, None}
 use Rattle.std.specs.Option.{option_eq}
 use Rattle.std.specs.Str.{bytes_eq}
 use Rattle.std.proofs.lemmas.Slice.Eq.{bytes_eq-Decides}
@@ -33,3 +33,11 @@ module_tests (Some x) (Some y) = refl
 
 pub key_tests : (a b : Key) → (option_eq bytes_eq a.«module» b.«module» && bytes_eq a.name b.name) ≡ same_key_of a b
 key_tests a b = ap (λ t. t && bytes_eq a.name b.name) (module_tests a.«module» b.«module»)
+
+-- a key is itself
+module_self : (m : Option (List ℕ)) → same_module_of m m ≡ true
+module_self None = refl
+module_self (Some x) = (bytes_eq-Decides x x).1 refl
+
+pub key_self : (k : Key) → same_key_of k k ≡ true
+key_self k = ap (λ t. t && bytes_eq k.name k.name) (module_self k.«module») ∙ (bytes_eq-Decides k.name k.name).1 refl

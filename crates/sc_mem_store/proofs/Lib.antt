@@ -12,4 +12,7 @@ pub mod Apart
 pub mod Living
 pub mod Memories
 pub mod Numbering
-pub mod Burying
+pub mod Strays
+pub mod Fetching
+pub mod Rows
+pub mod Wholes

@@ -14,13 +14,14 @@ use Rattle.sc_objects.specs.Numbered.{object_of, IsLive, IsObjectAt}
 use Rattle.sc_mem.specs.Flat.{Flat, place, aligned_place, cell_at, written_at, put}
 use Rattle.sc_mem.specs.Safe.{Store, IsSafe}
 use Rattle.sc_mem.specs.Words.{IsSize, bytes_of, pieces_of, cells_of}
-use Rattle.sc_meaning.specs.World.{Object, object_at}
-use Rattle.sc_mem_store.specs.Holding.{AreHeld, Holds, IsTag, IsTagged}
+use Rattle.sc_meaning.specs.Values.{Cell}
+use Rattle.sc_meaning.specs.World.{Object, object_at, written}
+use Rattle.sc_mem_store.specs.Holding.{AreHeld, Holds, IsTag, IsTagged, meant}
 use Rattle.sc_mem_store.specs.Living.{IsBare, IsByteOf, IsLiving, IsLiveAt}
 use Rattle.sc_mem_store.specs.declared.machine.Place.{Place}
 use Rattle.sc_mem_store.proofs.Cells.{written-other, written-here}
 use Rattle.sc_mem_store.proofs.Meant.{Keeps}
-use Rattle.sc_mem_store.proofs.Holding.{held-at, are-kept, objects-stay}
+use Rattle.sc_mem_store.proofs.Holding.{held-at, are-kept, holds_put, objects-stay}
 
 -- no live object is at the address, not even behind its last byte
 pub bare_none : (t : List Obj) (a : ℕ) → IsObjectAt t a None → IsBare t a
@@ -189,3 +190,20 @@ pub holds_stored : {A E : Type 0} (os : List Object) (s now : Store) (fs : List 
 holds_stored os s now fs at n w (Ok None) safe h size bare tag r = subst (λ (x : Store). Holds os x.flat fs) (sym r.1) h
 holds_stored os s now fs at n w (Ok (Some done)) safe h size bare tag r = holds_kept os s now.flat fs at n w safe h size bare tag r.0 r.1
 holds_stored os s now fs at n w (Err fault) safe h size bare tag r = subst (λ (x : Store). Holds os x.flat fs) (sym r.1) h
+
+-- one cell is put where it belongs to no live object
+one-tagged : (t : List Obj) (x : Stored) (k : ℕ) (y : Stored) → IsTagged t x → slice_get (x ∷ []) k ≡ Some y → IsTagged t y
+one-tagged t x zero y tag e = let is : x ≡ y = cc in subst (IsTagged t) is tag
+one-tagged t x (suc k) y tag e = absurd (cc)
+
+pub holds_cell_beside : (os : List Object) (s : Store) (m' : Flat) (fs : List Key) (a : ℕ) (x : Stored) → IsSafe s → Holds os s.flat fs → IsBare s.flat.objects a → IsSome (place s.flat a 1) → m' ≡ written_at s.flat (place s.flat a 1) (x ∷ []) → IsTagged s.flat.objects x → Holds os m' fs
+holds_cell_beside os s m' fs a x safe h bare area is tag =
+    holds-beside os s m' fs a (x ∷ []) safe h area (λ id p l. elim (bare id p l) [ inl low ↦ inl (omega (arith, low)) | inr far ↦ inr far ]) (λ k y e. one-tagged s.flat.objects x k y tag e) is
+
+-- or into one, as the byte that it stands for
+pub holds_cell_inside : (os : List Object) (s : Store) (m' : Flat) (fs : List Key) (id offset a : ℕ) (x : Stored) (c : Cell) → IsSafe s → Holds os s.flat fs → IsByteOf s.flat.objects id offset a → IsSome (place s.flat a 1) → m' ≡ written_at s.flat (place s.flat a 1) (x ∷ []) → c ≡ meant fs s.flat.objects x → IsTagged s.flat.objects x → Holds (written os id offset (c ∷ []) (object_at os id)) m' fs
+holds_cell_inside os s m' fs id offset a x c safe h (p, live, few, at) area is means tag =
+    holds_put os s m' fs id p offset x c safe h live few
+    (subst (λ b. IsSome (place s.flat b 1)) (sym at) area)
+    (is ∙ ap (λ b. written_at s.flat (place s.flat b 1) (x ∷ [])) (sym at))
+    (sym means) tag

@@ -28,7 +28,7 @@ use Rattle.sc_meaning.specs.World.{Object, object_at, written}
 use Rattle.sc_meaning.specs.Values.{Cell, Value, cells_of}
 use Rattle.sc_base.specs.declared.memory.Word.{Word}
 use Rattle.sc_meaning.specs.Classes.{class_from}
-use Rattle.sc_meaning.specs.Beside.{kept_in, born_in, died_in, put_in, written_in, stored_of, object, block_or, block_for, last_free, released, released_as, given_back, given_class}
+use Rattle.sc_meaning.specs.Beside.{kept_in, cell_kept_in, born_in, died_in, put_in, written_in, stored_of, object, block_or, block_for, last_free, released, released_as, given_back, given_class}
 
 pub store_is : (s t : Store) → s.flat ≡ t.flat → s.blocks ≡ t.blocks → s ≡ t
 store_is s t e f = λ i. record { flat = e i; blocks = f i }
@@ -104,7 +104,7 @@ died_heap old mid new id k o live heap e f class g h =
     store_is new (died_in id old) (h ∙ e) (g ∙ (ap (λ (b : Blocks). given b at k) f ∙ sym same))
 
 -- puts, byte by byte
-place-sub : (heap stack base n i at k : ℕ) → heap ≤ 67108864 → stack ≤ 16777216 → place_in heap stack base n ≡ Some i → at + k ≤ n → 0 < k → place_in heap stack (base + at) k ≡ Some (i + at)
+pub place-sub : (heap stack base n i at k : ℕ) → heap ≤ 67108864 → stack ≤ 16777216 → place_in heap stack base n ≡ Some i → at + k ≤ n → 0 < k → place_in heap stack (base + at) k ≡ Some (i + at)
 place-sub heap stack base n i at k h s e l p = grind (arith, nat_tests)
 
 map-push : {A B : Type 0} (f : A → B) (xs : List A) (x : A) → map f (xs ++ x ∷ []) ≡ map f xs ++ f x ∷ []
@@ -223,3 +223,7 @@ store_nothing_in fs s id at v = ap (λ xs. put_in fs id at xs s) (none_of v) ∙
 -- a word beside objects
 pub kept_stored : (old new : Store) (at size : ℕ) (w : Word) → new.flat ≡ put old.flat at size w → new.blocks ≡ old.blocks → new ≡ kept_in at size w old
 kept_stored old new at size w e f = store_is new (kept_in at size w old) e f
+
+-- one cell is put
+pub cell_kept : (old new : Store) (a : ℕ) (x : Stored) → new.flat ≡ written_at old.flat (place old.flat a 1) (x ∷ []) → new.blocks ≡ old.blocks → new ≡ cell_kept_in a x old
+cell_kept old new a x e f = store_is new (cell_kept_in a x old) e f

@@ -5,13 +5,15 @@ use Rattle.std.proofs.lemmas.List.{length-take, length-drop, ext_get_or}
 use Rattle.std.specs.Prelude.{IfOk}
 use Rattle.sc_base.specs.declared.NoMemory.{NoMemory}
 use Rattle.sc_base.specs.declared.key.Key.{Key}
+use Rattle.sc_base.specs.declared.memory.Cell.{Cell as Stored}
 use Rattle.sc_objects.specs.declared.objects.Obj.{Obj}
 use Rattle.sc_objects.specs.Numbered.{object_of}
 use Rattle.sc_objects.proofs.Lists.{slice_get-push}
-use Rattle.sc_mem.specs.Flat.{Flat}
+use Rattle.sc_mem.specs.Flat.{Flat, cell_at}
 use Rattle.sc_meaning.specs.Values.{Cell, Unwritten}
 use Rattle.sc_meaning.specs.World.{Object, cells_at, cells_in}
 use Rattle.sc_mem_store.specs.Holding.{Holds, HasBytes, Spans, byte_at}
+use Rattle.sc_mem_store.specs.Living.{HasCells}
 use Rattle.sc_mem_store.proofs.Lists.{get-front, get-range}
 use Rattle.sc_mem_store.proofs.Holding.{held-at, held_nowhere}
 
@@ -85,4 +87,17 @@ bytes_more m fs base i cells c size h here j d e =
       | inr new ↦
           let place : base + j ≡ base + i = omega arith in
           ap (byte_at m fs) place ∙ (here ∙ ap Some (sym new.1))
+    ]
+
+-- cells that are read one after another
+pub cells_none : (m : Flat) (base : ℕ) → HasCells m base []
+cells_none m base i x e = absurd (cc)
+
+pub cells_more : (m : Flat) (base i : ℕ) (cells : List Stored) (x : Stored) → length cells ≡ i → HasCells m base cells → cell_at m (base + i) ≡ Some x → HasCells m base (cells ++ x ∷ [])
+cells_more m base i cells x size h here j d e =
+    elim (slice_get-push cells x j d e) [
+      | inl old ↦ h j d old.0
+      | inr new ↦
+          let place : base + j ≡ base + i = omega arith in
+          ap (cell_at m) place ∙ (here ∙ ap Some (sym new.1))
     ]

@@ -2,7 +2,9 @@
 pub mod Apart
 pub mod Cells
 pub mod Changes
+pub mod Fetches
 pub mod Holding
 pub mod Kept
 pub mod Living
+pub mod Puts
 pub mod Stray

@@ -1,10 +1,12 @@
 -- Inside: plumbing, a representation, an invariant or a promise beside the claim (docs/TRUST.md).
 -- Which bytes of memory belong to live objects.
-use Rattle.std.specs.Prelude.{◌≡◌, ◌⊎◌, ℕ, ◌+◌, ◌<◌, ◌≤◌, true, List, length, Option, Some, None}
+use Rattle.std.specs.Prelude.{◌≡◌, ◌⊎◌, ℕ, ◌+◌, ◌<◌, ◌≤◌, true, List, length, slice_get, Option, Some, None}
 use Rattle.sc_base.specs.declared.key.Key.{Key}
+use Rattle.sc_base.specs.declared.memory.Cell.{Cell as Stored}
 use Rattle.sc_objects.specs.declared.objects.Obj.{Obj}
 use Rattle.sc_objects.specs.Numbered.{IsLive, IsObjectAt}
 use Rattle.sc_meaning.specs.World.{Object, object_at}
+use Rattle.sc_mem.specs.Flat.{Flat, cell_at}
 use Rattle.sc_mem_store.specs.Holding.{function_of}
 
 -- an object lives, and all its bytes are there
@@ -31,3 +33,7 @@ IsTagBy None table address tag = IsObjectAt table address tag
 
 abbrev pub IsTagAt : List Key → List Obj → ℕ → Option ℕ → Type 0
 IsTagAt functions table address tag = IsTagBy (function_of functions address) table address tag
+
+-- these cells stand from an address on
+abbrev pub HasCells : Flat → ℕ → List Stored → Type 0
+HasCells m at cells = (i : ℕ) (x : Stored) → slice_get cells i ≡ Some x → cell_at m (at + i) ≡ Some x

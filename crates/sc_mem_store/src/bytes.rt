@@ -3,6 +3,7 @@ ghost use Rattle.std.specs.Prelude.{◌≡◌, Some, length, IfOk};
 ghost use Rattle.sc_meaning.specs.Beside.{stored_of};
 ghost use Rattle.sc_meaning.specs.Values as spec;
 ghost use Rattle.sc_mem_store.specs.Holding.{byte_at, meant, HasBytes, IsTagged};
+ghost use Rattle.sc_mem_store.specs.Living.{HasCells};
 
 use crate::cell::{Cell, Content};
 use crate::pointers::{value_of, word_of};
@@ -11,8 +12,8 @@ use sc_meaning_values::Value;
 use sc_mem::Memory;
 use std::alloc::Global;
 
-// The byte that a cell of memory stands for.
-fn byte_of(functions: &[Shared<Key>], memory: &Memory, cell: Stored) -> Result<Cell, NoMemory>
+/// The byte that a cell of memory stands for.
+pub fn byte_of(functions: &[Shared<Key>], memory: &Memory, cell: Stored) -> Result<Cell, NoMemory>
     ensures { IfOk result (λ c. c ≡ meant functions.now memory.now.flat.objects cell) }
 {
     match cell {
@@ -53,6 +54,29 @@ pub fn bytes_at(
     for i in 0..n {
         let byte = byte_at(functions, memory, base + i)?;
         cells.push(byte)?;
+    }
+    Ok(cells)
+}
+
+/// The `n` cells from an address on.
+#[tactic(auto, using(crate::proofs::Reading::cells_none, crate::proofs::Reading::cells_more))]
+pub fn cells_from(
+    alloc: Global,
+    memory: &Memory,
+    base: u32,
+    n: u32,
+) -> Result<Items<Stored>, NoMemory>
+    ensures { IfOk result (λ cells. (length cells ≡ n) × HasCells memory.now.flat base cells) }
+{
+    let mut cells = Items::new(alloc);
+    if base.checked_add(n).is_none() {
+        return Err(NoMemory);
+    }
+    for i in 0..n {
+        let Some(cell) = memory.cell(base + i) else {
+            return Err(NoMemory);
+        };
+        cells.push(cell)?;
     }
     Ok(cells)
 }

@@ -2,10 +2,11 @@
 ghost use Rattle.std.specs.Prelude.{◌≡◌, List, []};
 ghost use Rattle.std.specs.Borrow.{ftrue};
 ghost use Rattle.sc_meaning.specs.World as spec;
-ghost use Rattle.sc_mem_store.specs.Changes.{changed, remembered};
+ghost use Rattle.sc_mem_store.specs.Changes.{changed};
 
 use crate::cell::Cell;
-use sc_base::{Items, Kind};
+use sc_base::Kind;
+use sc_meaning_values::Value;
 use std::marker::Model;
 use std::snapshot::Snapshot;
 
@@ -15,9 +16,11 @@ pub enum Change {
     Birth(u32, Kind),
     Death(u32),
     Put(u32, u32, Snapshot<Cell>),
+    Store(u32, u32, u8, Snapshot<Value>),
 }
 
-/// One change: an object of a size and kind is born; one dies; a byte is put into one at an offset.
+/// One change: an object of a size and kind is born; one dies; a byte is put into one at an offset, or so many
+/// bytes of a value.
 #[derive(Drop)]
 pub struct Item {
     pub change: Change,
@@ -30,21 +33,6 @@ impl Model for Item {
     ghost Value = { spec.Item };
 
     ghost view = { λ i. item_of i.change };
-}
-
-/// The bytes that a dead object had.
-#[derive(Drop)]
-pub struct Last {
-    pub cells: Snapshot<Snapshot<Items<Cell>>>,
-}
-
-impl Model for Last {
-    ghost use Rattle.std.specs.Prelude.{List};
-    ghost use Rattle.sc_meaning.specs.Values as spec;
-
-    ghost Value = { List spec.Cell };
-
-    ghost view = { λ l. l.cells.value.value };
 }
 
 /// All objects that were born, the dead ones with the bytes that they had. It takes no room, and its functions do nothing
@@ -69,13 +57,6 @@ impl History {
     /// The objects after a change.
     pub fn with(_before: &History, _item: &Item) -> History
         ensures { result.objects ≡ changed _before.now.objects _item.now }
-    {
-        History {}
-    }
-
-    /// The same objects, the last of which has these bytes.
-    pub fn remembering(_before: &History, _last: &Last) -> History
-        ensures { result.objects ≡ remembered _before.now.objects _last.now }
     {
         History {}
     }

@@ -17,6 +17,4 @@ pub use cell::{Cell, Content};
 pub use few::Few;
 pub use laws::{held_objects_agree, words_have_values_of_their_own};
 pub use machine::Place;
-pub use store::{Facts, Store};
-pub use stray::are_stray;
-pub use values::value_byte;
+pub use store::{Facts, Landed, Store};

@@ -1,29 +1,33 @@
 // The objects of a run.
-ghost use Rattle.std.specs.Prelude.{◌≡◌, ◌+◌, ◌<◌, ◌∷◌, ◌++◌, [], length, OnErr, IfOk, IfSome, IsSome, MatchOption, MatchResult, None, Some};
+ghost use Rattle.std.specs.Prelude.{◌≡◌, ◌+◌, ◌<◌, ◌≤◌, ◌∷◌, ◌++◌, [], false, length, OnErr, IfOk, IfSome, IsSome, MatchOption, MatchResult, None, Some};
 ghost use Rattle.sc_objects.specs.declared.objects.Obj.{Obj};
 ghost use Rattle.sc_objects.specs.Numbered.{IsLive};
-ghost use Rattle.sc_mem.specs.Flat.{aligned_place, place, raw_read, with_death, written_at};
+ghost use Rattle.sc_mem.specs.Flat.{aligned_place, place, put, raw_read, with_death, written_at};
 ghost use Rattle.sc_meaning.specs.Beside as words;
 ghost use Rattle.sc_meaning.specs.Beside.{born_in, died_in, empty_memory, kept_in, put_in};
-ghost use Rattle.sc_mem_store.specs.Holding.{value_at};
+ghost use Rattle.sc_mem_store.specs.Holding.{IsTagged, value_at};
 ghost use Rattle.sc_mem.specs.Safe.{IsSafe};
 ghost use Rattle.sc_mem.specs.Words.{IsSize};
-ghost use Rattle.sc_mem_store.specs.Changes.{buried, changed, item_of, remembered};
+ghost use Rattle.sc_mem_store.specs.Changes.{changed, item_of};
+ghost use Rattle.sc_mem_store.specs.Fetches.{IsFetched, IsRoom, IsWhole};
 ghost use Rattle.sc_mem_store.specs.Living.{IsTagAt};
-ghost use Rattle.sc_mem_store.specs.Stray.{HasNoStray};
-ghost use Rattle.sc_meaning.specs.Values.{cells_of};
+ghost use Rattle.sc_mem_store.specs.Puts.{IsPutBeside, IsPutInto};
+ghost use Rattle.sc_mem_store.specs.Stray.{HasNoStray, HasNone, HasNoneThere};
+ghost use Rattle.sc_meaning.specs.Values.{Pointer, cells_of, value_of_cells};
+ghost use Rattle.sc_meaning.specs.Violations.{cells_read, load_rule};
 ghost use Rattle.sc_meaning.specs.World.{Object, cells_at, ended, fresh, object_at, written};
 
-use crate::bytes::{bytes_at, cell_of};
+use crate::bytes::{byte_of, bytes_at, cell_of, cells_from};
 use crate::cell::Cell;
 use crate::few::{Few, few_at};
-use crate::history::{Change, History, Item, Last};
+use crate::history::{Change, History, Item};
 use crate::machine::{Place, is_tag, place_at};
 use crate::pointers::{tag_at, value_of, word_of};
 use crate::span::span_of;
+use crate::stray::are_stray_from;
 use crate::values::value_byte;
 use sc_base::{Cell as Stored, Items, Key, Kind, NoMemory, Shared, Word};
-use sc_meaning_values::Value;
+use sc_meaning_values::{Shape, Value};
 use sc_mem::Memory;
 use sc_objects::Obj;
 use std::alloc::Global;
@@ -36,6 +40,14 @@ pub struct Facts {
     pub size: u32,
     pub kind: Kind,
     pub live: bool,
+}
+
+/// A byte of a live object that was put into it.
+#[derive(Drop)]
+pub struct Landed {
+    pub id: u32,
+    pub offset: u32,
+    pub byte: Cell,
 }
 
 /// All objects that were born, in one memory: seen as the list of them, the dead ones with the bytes that they had. The
@@ -136,6 +148,28 @@ impl Store {
         )
     }
 
+    /// A scalar of `n` bytes, `further` bytes from an offset on, where a load of it breaks no rule. `None` where it does, and perhaps where
+    /// it does not.
+    #[inline(always)]
+    pub fn fetch(
+        &self,
+        id: u32,
+        at: u32,
+        further: u32,
+        n: u32,
+        pointer: bool,
+    ) -> Result<Option<Value>, NoMemory>
+        ensures { IfOk result (λ got. IfSome got (λ v. (load_rule self.now.objects (Pointer id at) further n pointer ≡ None) × (v ≡ value_of_cells (cells_read self.now.objects (Pointer id at) further n)))) }
+    {
+        match word_there(&self.memory, id, at, further, n, pointer) {
+            None => Ok(None),
+            Some(w) => {
+                let v = value_of(self.functions.as_slice(), &self.memory, w.tag, w.bits)?;
+                Ok(Some(v))
+            }
+        }
+    }
+
     /// An object outside the heap is born at an address, its bytes unwritten.
     #[tactic(auto, using(crate::proofs::Holding::holds_born, crate::proofs::Memories::born_at))]
     pub fn birth(&mut self, size: u32, kind: Kind, base: u32) -> Result<(), NoMemory>
@@ -213,8 +247,35 @@ impl Store {
     }
 
     /// A value is stored as `n` bytes of a live object from an offset on, at most four.
-    #[tactic(auto, using(crate::proofs::Writing::store_nothing, crate::proofs::Memories::store_nothing_in, crate::proofs::Memories::kept_is))]
+    #[inline(always)]
     pub fn store(&mut self, id: u32, at: u32, n: u32, v: &Value) -> Result<(), NoMemory>
+        ensures { IfOk result (λ _. self.new ≡ record { objects = written self.old.objects id at (cells_of n v.now) (object_at self.old.objects id); memory = put_in self.old.functions id at (cells_of n v.now) self.old.memory; functions = self.old.functions }) }
+    {
+        match size_of(n, v) {
+            Some(size) => self.store_whole(id, at, size, v),
+            None => self.store_bytes(id, at, n, v),
+        }
+    }
+
+    // The same for what is a whole word, or a part of a number.
+    #[inline(always)]
+    fn store_whole(&mut self, id: u32, at: u32, size: u8, v: &Value) -> Result<(), NoMemory>
+        requires { IsWhole size v.now }
+        ensures { IfOk result (λ _. self.new ≡ record { objects = written self.old.objects id at (cells_of size v.now) (object_at self.old.objects id); memory = put_in self.old.functions id at (cells_of size v.now) self.old.memory; functions = self.old.functions }) }
+    {
+        let Some(address) = room_at(&self.memory, id, at, size) else {
+            return Err(NoMemory);
+        };
+        let word = word_of(self.functions.as_slice(), &self.memory, v)?;
+        put_word(&mut self.memory, id, at, address, size, word)?;
+        self.history = after(&self.history, Change::Store(id, at, size, Snapshot::of(v)));
+        Ok(())
+    }
+
+    // The same byte by byte.
+    #[tactic(auto, using(crate::proofs::Writing::store_nothing, crate::proofs::Memories::store_nothing_in, crate::proofs::Memories::kept_is))]
+    #[inline(never)]
+    fn store_bytes(&mut self, id: u32, at: u32, n: u32, v: &Value) -> Result<(), NoMemory>
         ensures { IfOk result (λ _. self.new ≡ record { objects = written self.old.objects id at (cells_of n v.now) (object_at self.old.objects id); memory = put_in self.old.functions id at (cells_of n v.now) self.old.memory; functions = self.old.functions }) }
     {
         if n > 4 {
@@ -243,50 +304,30 @@ impl Store {
 }
 
 impl Store {
-    // An object is born at the first of two addresses at which it can stand, or in a block of its own.
-    fn birth_somewhere(
-        &mut self,
-        size: u32,
-        kind: Kind,
-        base: u32,
-        other: u32,
-    ) -> Result<(), NoMemory>
-        ensures { IfOk result (λ _. (self.new.objects ≡ self.old.objects ++ fresh size kind ∷ []) × (self.new.functions ≡ self.old.functions)) }
-    {
-        match kind {
-            Kind::Heap => self.allocate(size),
-            Kind::Static | Kind::Const | Kind::Literal | Kind::Auto => {
-                match self.birth(size, kind, base) {
-                    Ok(()) => Ok(()),
-                    Err(_) => self.birth(size, kind, other),
-                }
-            }
-        }
-    }
-
-    /// The next number is that of an object that is dead, with the bytes that it had. Where it stood is not known: two
-    /// addresses are tried at which it may have stood.
-    #[tactic(auto, using(crate::proofs::Burying::holds_remembered, crate::proofs::Burying::is_buried))]
-    pub fn bury(
-        &mut self,
-        size: u32,
-        kind: Kind,
-        base: u32,
-        other: u32,
-        last: &Snapshot<Items<Cell>>,
-    ) -> Result<(), NoMemory>
-        ensures { IfOk result (λ _. (self.new.objects ≡ self.old.objects ++ buried size kind last.now.value ∷ []) × (self.new.functions ≡ self.old.functions)) }
-    {
-        self.birth_somewhere(size, kind, base, other)?;
-        let id = self.len();
-        self.death(id)?;
-        self.history = remembering(&self.history, last);
-        Ok(())
-    }
-
     /// How many functions have numbers.
     pub fn functions(&self) -> usize {
         self.functions.len()
+    }
+
+    // Whether an object that lives holds a pointer with the functions' tag that leads to no function.
+    fn is_stray_in(&self, id: u32) -> Result<bool, NoMemory>
+        ensures { IfOk result (λ has. has ≡ false → HasNone self.now.objects id) }
+    {
+        is_stray_there(self.functions.as_slice(), &self.memory, id)
+    }
+
+    /// Whether one that lives does.
+    #[tactic(auto, using(crate::proofs::Strays::none_yet, crate::proofs::Strays::one_more, crate::proofs::Strays::none_at_all))]
+    pub fn has_stray(&self) -> Result<bool, NoMemory>
+        ensures { IfOk result (λ has. has ≡ false → HasNoStray self.now.objects) }
+    {
+        let count = self.len();
+        'looking: for before in 0..count {
+            if self.is_stray_in(before + 1)? {
+                return Ok(true);
+            }
+        }
+        Ok(false)
     }
 
     // One more function gets the next number.
@@ -394,6 +435,150 @@ impl Store {
     }
 }
 
+// Cells as they stand, whatever they are of.
+impl Store {
+    ghost use Rattle.sc_mem_store.specs.Living.{HasCells, IsBare, IsByteOf};
+
+    /// The `n` cells from an address on.
+    pub fn raw_cells(&self, from: u32, n: u32) -> Result<Items<Stored>, NoMemory>
+        ensures { IfOk result (λ cells. (length cells ≡ n) × HasCells self.now.memory.flat from cells) }
+    {
+        cells_from(self.alloc, &self.memory, from, n)
+    }
+
+    // The byte of a live object that stands at an address, or that none does.
+    fn place(&self, at: u32) -> Option<Place>
+        ensures { MatchOption result (IsBare self.now.memory.flat.objects at) (λ p. IsByteOf self.now.memory.flat.objects p.id p.offset at) }
+    {
+        place_at(&self.memory, at)
+    }
+
+    // A cell is put where it belongs to no live object.
+    fn put_beside(&mut self, at: u32, cell: Stored) -> Result<(), NoMemory>
+        requires { IsBare self.old.memory.flat.objects at }
+        ensures { IfOk result (λ _. IsPutBeside at cell self.old self.new) }
+    {
+        let Some(stored) = tagged(&self.memory, cell) else {
+            return Err(NoMemory);
+        };
+        put_cell(&mut self.memory, at, stored)?;
+        Ok(())
+    }
+
+    // A cell is put into a live object, as the byte that it stands for.
+    fn put_inside(&mut self, place: Place, at: u32, cell: Stored) -> Result<Cell, NoMemory>
+        requires { IsByteOf self.old.memory.flat.objects place.id place.offset at }
+        ensures { IfOk result (λ c. IsPutInto place.id place.offset c at cell self.old self.new) }
+    {
+        let Some(stored) = tagged(&self.memory, cell) else {
+            return Err(NoMemory);
+        };
+        let byte = byte_of(self.functions.as_slice(), &self.memory, stored)?;
+        put_cell(&mut self.memory, at, stored)?;
+        self.history = after(
+            &self.history,
+            Change::Put(place.id, place.offset, Snapshot::of(&byte)),
+        );
+        Ok(byte)
+    }
+
+    /// One cell is put at an address: into the live object that has the byte there, or, where none has it, beside all objects.
+    ///
+    /// # Errors
+    ///
+    /// `NoMemory` also outside the areas, and for a piece with the tag of an object that was not born.
+    pub fn put_raw(&mut self, at: u32, cell: Stored) -> Result<Option<Landed>, NoMemory>
+        ensures { IfOk result (λ put. MatchOption put (IsPutBeside at cell self.old self.new) (λ l. IsPutInto l.id l.offset l.byte at cell self.old self.new)) }
+    {
+        match self.place(at) {
+            None => {
+                self.put_beside(at, cell)?;
+                Ok(None)
+            }
+            Some(place) => {
+                let byte = self.put_inside(place, at, cell)?;
+                Ok(Some(Landed {
+                    id: place.id,
+                    offset: place.offset,
+                    byte,
+                }))
+            }
+        }
+    }
+}
+
+// A cell that is no piece, or one with a tag that there is.
+fn tagged(memory: &Memory, cell: Stored) -> Option<Stored>
+    ensures { IfSome result (λ x. (x ≡ cell) × IsTagged memory.now.flat.objects x) }
+{
+    match cell {
+        Stored::Unwritten => Some(cell),
+        Stored::Byte(_) => Some(cell),
+        Stored::Frag { tag, .. } => {
+            if is_tag(memory, tag) {
+                Some(cell)
+            } else {
+                None
+            }
+        }
+    }
+}
+
+// The word of a scalar in a live object, where a load of it breaks no rule.
+#[inline(always)]
+#[tactic(auto, using(crate::proofs::Fetching::fetched_pointer, crate::proofs::Fetching::fetched_number, crate::proofs::Fetching::fetched_null))]
+fn word_there(
+    memory: &Memory,
+    id: u32,
+    at: u32,
+    further: u32,
+    n: u32,
+    pointer: bool,
+) -> Option<Word>
+    ensures word { IfSome result (λ w. IsFetched memory.now.flat id at further n pointer w) }
+    ensures safe { IfSome result (λ w. IsSafe memory.now) }
+{
+    let Some(object) = memory.find(id) else {
+        return None;
+    };
+    let Some(offset) = at.checked_add(further) else {
+        return None;
+    };
+    let Some(end) = offset.checked_add(n) else {
+        return None;
+    };
+    if !object.live || object.size < end || n == 0 || offset % n != 0 {
+        return None;
+    }
+    let Some(address) = object.base.checked_add(offset) else {
+        return None;
+    };
+    let Some(w) = memory.written(address, n) else {
+        return None;
+    };
+    if w.tag != 0 {
+        return if pointer { Some(w) } else { None };
+    }
+    if !pointer {
+        return Some(w);
+    }
+    if w.bits == 0 && n == 4 { Some(w) } else { None }
+}
+
+// Whether an object that lives holds a pointer with the functions' tag that leads to no function.
+#[tactic(auto, using(crate::proofs::Strays::lives_not, crate::proofs::Strays::dies, crate::proofs::Strays::lives))]
+fn is_stray_there(functions: &[Shared<Key>], memory: &Memory, id: u32) -> Result<bool, NoMemory>
+    ensures { IfOk result (λ has. has ≡ false → HasNoneThere memory.now.flat functions.now id) }
+{
+    let Some(object) = memory.find(id) else {
+        return Ok(false);
+    };
+    if !object.live {
+        return Ok(false);
+    }
+    are_stray_from(functions, memory, object.base, object.size)
+}
+
 // The objects after a change.
 fn after(history: &History, change: Change) -> History
     ensures { result.objects ≡ changed history.now.objects (item_of change) }
@@ -404,16 +589,68 @@ fn after(history: &History, change: Change) -> History
     changed
 }
 
-// The same objects, the last of which has these bytes.
-fn remembering(history: &History, last: &Snapshot<Items<Cell>>) -> History
-    ensures { result.objects ≡ remembered history.now.objects last.now.value }
+// How many bytes a store of that many bytes of a value has, where they are a number's or four of a pointer.
+#[inline(always)]
+fn size_of(n: u32, v: &Value) -> Option<u8>
+    ensures { IfSome result (λ size. (size ≡ n) × IsWhole size v.now) }
 {
-    let last = Last {
-        cells: Snapshot::of(last),
+    match &v.shape {
+        Shape::Number(_) => size_of_number(n),
+        Shape::FunctionAt(_) => { if n == 4 { Some(4) } else { None } }
+        Shape::Pointer(_, _) => { if n == 4 { Some(4) } else { None } }
+    }
+}
+
+// How many bytes of a number are stored at once.
+#[inline(always)]
+#[tactic(auto, using(crate::proofs::Wholes::sizes))]
+fn size_of_number(n: u32) -> Option<u8>
+    ensures { IfSome result (λ size. (size ≡ n) × IsSize size) }
+{
+    match n {
+        1 => Some(1),
+        2 => Some(2),
+        4 => Some(4),
+        _ => None,
+    }
+}
+
+// The address of so many bytes of a live object from an offset on.
+#[inline(always)]
+#[tactic(auto, using(crate::proofs::Wholes::room_so))]
+fn room_at(memory: &Memory, id: u32, at: u32, size: u8) -> Option<u32>
+    ensures { IfSome result (λ a. IsRoom memory.now.flat id at size a) }
+{
+    let Some(object) = memory.find(id) else {
+        return None;
     };
-    let told = History::remembering(history, &last);
-    drop(last);
-    told
+    let Some(end) = at.checked_add(u32::from(size)) else {
+        return None;
+    };
+    if !object.live || object.size < end {
+        return None;
+    }
+    object.base.checked_add(at)
+}
+
+// A word is put there.
+#[inline(always)]
+#[tactic(auto, using(crate::proofs::Wholes::room_is))]
+fn put_word(
+    memory: &mut Memory,
+    id: u32,
+    at: u32,
+    address: u32,
+    size: u8,
+    w: Word,
+) -> Result<(), NoMemory>
+    requires size { IsSize size }
+    requires room { IsRoom memory.old.flat id at size address }
+    ensures safe { IsSafe memory.old }
+    ensures put { MatchResult result (λ _. (memory.new.flat ≡ put memory.old.flat address size w) × (memory.new.blocks ≡ memory.old.blocks)) (λ _. memory.new ≡ memory.old) }
+{
+    let _ = memory.find(id);
+    memory.init(address, size, w)
 }
 
 // Another cell is put at an address.

@@ -10,7 +10,7 @@ use Rattle.sc_mem.specs.Words.{cells_of}
 use Rattle.sc_objects.specs.Blocks.{Blocks}
 use Rattle.sc_objects.specs.declared.objects.Obj.{Obj}
 use Rattle.sc_objects.specs.Numbered.{object_of}
-use Rattle.sc_meaning.specs.Beside.{born_in, died_in, kept_in, put_in, written_in}
+use Rattle.sc_meaning.specs.Beside.{born_in, cell_kept_in, died_in, kept_in, put_in, written_in}
 use Rattle.sc_meaning.specs.Values.{Cell}
 use Rattle.sc_meaning.specs.Laws.{Leads as Happen}
 use Rattle.sc_meaning.specs.World.{World, Item, Event, Enter, Leave, At, Out, Work, Begin, End, GoesOut, ComesBack, Declares, Happens, Birth, Death, Put, Copy, TakeFree, TakeNew, Give, Stack, Read, Seed, Push, Pop, OpenBlock, CloseBlock, Name, Unname, address, cells_at, pass, passed}
@@ -80,6 +80,10 @@ pub kept_room : (at size : ℕ) (word : Word) (memory : Option Store) → option
 kept_room at size word None = refl
 kept_room at size word (Some m) = ap (λ (r : ℕ × ℕ). Some r) (cells_room m.flat m.blocks (place m.flat at size) (cells_of size word))
 
+pub cell_room : (at : ℕ) (x : Stored) (memory : Option Store) → option_map room_of (option_map (cell_kept_in at x) memory) ≡ option_map room_of memory
+cell_room at x None = refl
+cell_room at x (Some m) = ap (λ (r : ℕ × ℕ). Some r) (cells_room m.flat m.blocks (place m.flat at 1) (x ∷ []))
+
 pass_room : (i : Item) (w : World) → rooms (pass i w) ≡ rooms w
 pass_room (Birth size kind at) w = born_room size kind (address w.beside.places w.used at) w.beside.memory
 pass_room (Death id) w = died_room id w.beside.memory
@@ -116,6 +120,10 @@ happened w v p = record { items = p.0; happens = ap bare p.1; room = ap rooms p.
 
 pub aside : (w v : World) → bare v ≡ bare w → rooms v ≡ rooms w → Adds w v
 aside w v is same = record { items = []; happens = is; room = same }
+
+-- one thing happens, and something beside
+pub beside_one : (i : Item) (w v : World) → bare v ≡ bare (pass i w) → rooms v ≡ rooms w → Adds w v
+beside_one i w v is same = record { items = i ∷ []; happens = is; room = same }
 
 pub on_adds : (w v u : World) → Adds w v → Adds v u → Adds w u
 on_adds w v u p q = record {

@@ -26,7 +26,6 @@ use Rattle.sc_isa_image.specs.declared.text.TextAt.{TextAt}
 use Rattle.sc_emu.specs.Operations.{difference}
 use Rattle.sc_meaning.specs.Accesses.{set_at}
 use Rattle.sc_meaning.specs.Changes.{born}
-use Rattle.sc_meaning.specs.Calls.{frame_of}
 use Rattle.sc_meaning.specs.Laws.{Leads as Happen}
 use Rattle.sc_meaning.specs.Outcomes.{Outcome, Done, Over, Ending, StackFull, and_then, went, world_after, world_at}
 use Rattle.sc_meaning.specs.Statements.{all_dead, auto_kind}
@@ -40,14 +39,14 @@ use Rattle.sc_meaning.proofs.StatementsGo.{deaths_lead}
 use Rattle.sc_meaning.proofs.Steps.{here, on, one_more, and_more}
 use Rattle.sc_object.specs.declared.object.FrameTable.{FrameTable}
 use Rattle.sc_program.specs.declared.frame.Slot.{Slot}
-use Rattle.sc_services.specs.Blocks.{block_entered, block_left, call_entered, call_entered_if_room, closed_one, closed_upto, ends_with, entered, left_by, opened, slot_born, slot_set, slots_born, slots_of, slots_set, top_blocks, with_call}
+use Rattle.sc_services.specs.Blocks.{block_entered, block_left, call_entered, call_entered_if_room, closed_one, closed_upto, ends_with, entered, frame_at, left_by, opened, slot_born, slot_set, slots_born, slots_of, slots_set, top_blocks, top_cost, with_call}
 use Rattle.sc_services.specs.Copying.{Copies, CopiesBytes, InObjects, ByBytes}
 use Rattle.sc_services.specs.Entering.{Enters, EntersAt, EntersBlock, EntersCall, EntersFirst, EntersIn, EntersText, is_first, may_enter}
 use Rattle.sc_services.specs.Frames.{is_on_stack}
-use Rattle.sc_services.specs.Leaving.{Leaves, cost_here}
-use Rattle.sc_services.specs.Writing.{AreWritten, BesideAll, InObject, Writes, Written, written}
+use Rattle.sc_services.specs.Leaving.{Leaves}
+use Rattle.sc_services.specs.Writing.{AreWritten, BesideAll, CellBeside, CellInObject, InObject, Writes, Written, written}
 use Rattle.sc_services.proofs.Passing.{all_write}
-use Rattle.sc_services.proofs.Writing.{stores_write}
+use Rattle.sc_services.proofs.Writing.{puts_write, stores_write}
 use Rattle.sc_services.specs.declared.copying.Copied.TheVariants as copied
 use Rattle.sc_services.specs.declared.entering.Entered.{Entered}
 use Rattle.sc_services.specs.declared.entering.Entered.TheVariants as entering
@@ -58,7 +57,7 @@ use Rattle.sc_world.specs.Wants.{Want}
 use Rattle.sc_world.specs.declared.halt.Halt.{Halt}
 use Rattle.sc_world.proofs.Courses.{world_there}
 use Rattle.sc_mixed.specs.Adding.{Adds}
-use Rattle.sc_mixed.proofs.Adding.{adds_or, aside, happened, kept_room, on_adds}
+use Rattle.sc_mixed.proofs.Adding.{adds_or, aside, beside_one, cell_room, happened, kept_room, on_adds}
 use Rattle.sc_mixed.specs.Bridge.{Calling, Returns, with_registers}
 use Rattle.sc_mixed.specs.Goes.{Goes, Leads, Reaches, leads_lost, leads_on, leads_over, lost_at, reaches_further, reaches_here, rested, rested_by, rested_in, rests, rests_at}
 use Rattle.sc_mixed.specs.Instructions.{EndsSo, Instruction, Loads, Stores}
@@ -100,6 +99,8 @@ over_at {A = A} w r e is l = subst (λ (x : Outcome A). Happen w (world_after x)
 one_written : (p : Written) (w : World) → Adds w (written p w)
 one_written (InObject id offset cells) w = happened w (pass (Put id offset cells) w) (one_more (Put id offset cells) w)
 one_written (BesideAll at size word) w = aside w (written (BesideAll at size word) w) refl (kept_room at size word w.beside.memory)
+one_written (CellInObject id offset byte at cell) w = beside_one (Put id offset (byte ∷ [])) w (written (CellInObject id offset byte at cell) w) refl (cell_room at cell w.beside.memory)
+one_written (CellBeside at cell) w = aside w (written (CellBeside at cell) w) refl (cell_room at cell w.beside.memory)
 
 are_written : (ps : List Written) (w v : World) → AreWritten ps w v → Adds w v
 are_written [] w v is = stays w v is
@@ -110,7 +111,7 @@ writes_lead w v p = are_written p.bytes w v p.are
 
 copies_lead : (target source n : ℕ) (w v : World) → Copies target source n w v → Adds w v
 copies_lead target source n w v (InObjects to at from off p q is) = happened w v (Copy to at from off n ∷ [], is)
-copies_lead target source n w v (ByBytes p) = writes_lead w v p
+copies_lead target source n w v (ByBytes cells are p) = writes_lead w v (puts_write cells target w v p)
 
 slots_born_lead : (slots : List Slot) (ids : List ℕ) (w : World) → Happen w (world_after (slots_born slots ids w))
 slots_born_lead [] ids w = here w
@@ -131,19 +132,20 @@ block_lead : (block : ℕ) (t : FrameTable) (w : World) → Happen w (world_afte
 block_lead block t w =
     then_leads w (slots_born (slots_of t block) [] w) _ (slots_born_lead (slots_of t block) [] w) (λ ids u. one_more (OpenBlock (record { block = block; ids = ids })) u)
 
-call_lead : (key : Key) (t : Text) (table : FrameTable) (xs : List Value) (w : World) → Happen w (world_after (call_entered key t table xs w))
-call_lead key t table xs w =
-    let v : World = with_call key t table.cost w in
-    then_leads w (slots_set (slots_of table 0) xs [] v) _
-    (on w v (world_after (slots_set (slots_of table 0) xs [] v)) (and_more (Push (frame_of key t w)) w (pass (Stack (w.used + table.cost)) w) (one_more (Stack (w.used + table.cost)) w)) (slots_set_lead (slots_of table 0) xs [] v))
-    (λ ids u. and_more (Happens (Enter key t.core.name)) u (opened 0 ids u) (one_more (OpenBlock (record { block = 0; ids = ids })) u))
+call_lead : (at : TextAt) (t : Text) (xs : List Value) (w : World) → Happen w (world_after (call_entered at t xs w))
+call_lead at t xs w =
+    let v : World = with_call at t w in
+    let slots : List Slot = slots_of at.frame 0 in
+    then_leads w (slots_set slots xs [] v) _
+    (on w v (world_after (slots_set slots xs [] v)) (and_more (Push (frame_at at t w)) w (pass (Stack (w.used + at.frame.cost)) w) (one_more (Stack (w.used + at.frame.cost)) w)) (slots_set_lead slots xs [] v))
+    (λ ids u. and_more (Happens (Enter at.fun t.core.name)) u (opened 0 ids u) (one_more (OpenBlock (record { block = 0; ids = ids })) u))
 
 if_room : (b : Bool) (w : World) (e : Ending) (r : Outcome (Unit {0})) → world_at e ≡ w → Happen w (world_after r) → Happen w (world_after (if b then Over e else r))
 if_room true w e r is l = same w (world_at e) is
 if_room false w e r is l = l
 
-call_if_room_lead : (key : Key) (t : Text) (table : FrameTable) (xs : List Value) (w : World) → Happen w (world_after (call_entered_if_room key t table xs w))
-call_if_room_lead key t table xs w = if_room (nat_lt w.stack (w.used + table.cost)) w (StackFull key w) (call_entered key t table xs w) refl (call_lead key t table xs w)
+call_if_room_lead : (at : TextAt) (t : Text) (xs : List Value) (w : World) → Happen w (world_after (call_entered_if_room at t xs w))
+call_if_room_lead at t xs w = if_room (nat_lt w.stack (w.used + at.frame.cost)) w (StackFull at.fun w) (call_entered at t xs w) refl (call_lead at t xs w)
 
 if_closed : (b : Bool) (w v u : World) → Happen w v → Happen w u → Happen w (if b then v else u)
 if_closed true w v u p q = p
@@ -163,16 +165,16 @@ left_lead block cost w =
     let v : World = block_left block w in
     and_more (Happens Leave) w (pass (Stack (v.used - cost)) (pass Pop v)) (and_more (Stack (v.used - cost)) w (pass Pop v) (and_more Pop w v (closed_upto_lead block (reverse (top_blocks w.frames)) w)))
 
-leaves_lead : (block cost : ℕ) (w v : World) (left : Left) → Leaves block cost w left v → Happen w v
-leaves_lead block cost w v leaving.Refused p = same w v p.1
-leaves_lead block cost w v leaving.Block p = subst (λ (u : World). Happen w u) (sym p.2) (closed_upto_lead block (reverse (top_blocks w.frames)) w)
-leaves_lead block cost w v leaving.Call p = subst (λ (u : World). Happen w u) (sym p.2) (left_lead block cost w)
+leaves_lead : (block : ℕ) (w v : World) (left : Left) → Leaves block w left v → Happen w v
+leaves_lead block w v leaving.Refused p = same w v p.1
+leaves_lead block w v leaving.Block p = subst (λ (u : World). Happen w u) (sym p.2) (closed_upto_lead block (reverse (top_blocks w.frames)) w)
+leaves_lead block w v leaving.Call p = subst (λ (u : World). Happen w u) (sym p.2) (left_lead block (top_cost w.frames) w)
 
 module _ (texts : List Text) (i : Image) (r : Registers) (w v : World) where
   enters_call_lead : (at : TextAt) (t : Text) (what : Entered) → EntersCall at t r w (Ok what) v → Happen w v
   enters_call_lead at t entering.Refused p = same w v p.1
   enters_call_lead at t entering.Block p = absurd p
-  enters_call_lead at t entering.Call p = done_at w v (call_entered_if_room at.fun t at.frame p.0 w) tt p.2 (call_if_room_lead at.fun t at.frame p.0 w)
+  enters_call_lead at t entering.Call p = done_at w v (call_entered_if_room at t p.0 w) tt p.2 (call_if_room_lead at t p.0 w)
 
   enters_first_lead : (b : Bool) (at : TextAt) (t : Text) (what : Entered) → EntersFirst b at t r w (Ok what) v → Happen w v
   enters_first_lead true at t what p = enters_call_lead at t what p
@@ -286,10 +288,10 @@ served_lead : (kind : Service) (texts : List Text) (i : Image) (c : Calls) (w : 
 served_lead serving.Call texts i c w moved next d v p =
     happened w v (goes_there w v p.going c.callers (called_state texts p.key p.arguments c.callers w) p.state (called_lead texts p.key p.arguments c.callers w))
 served_lead serving.Enter texts i c w moved next d v p = happened w v (enters_lead texts i c.regs w v p.0.0 p.0.1)
-served_lead serving.Leave texts i c w moved next d v p = happened w v (leaves_lead (register c.regs 6).bits (cost_here i c.regs) w v p.0.2.1.0 p.0.2.1.1)
+served_lead serving.Leave texts i c w moved next d v p = happened w v (leaves_lead (register c.regs 6).bits w v p.0.2.1.0 p.0.2.1.1)
 served_lead serving.Tag texts i c w moved next d v p = stays w v p.1
 served_lead serving.Copy texts i c w moved next d v p = copies_lead (register c.regs 10).bits (register c.regs 11).bits p.0.0 w v p.0.1.2
-served_lead serving.Fall texts i c w moved next d v p = happened w v (leaves_lead 0 (cost_here i c.regs) w v p.0.1.0 p.0.1.1)
+served_lead serving.Fall texts i c w moved next d v p = happened w v (leaves_lead 0 w v p.0.1.0 p.0.1.1)
 served_lead serving.Unknown texts i c w moved next d v p = absurd p.0
 
 pub moves_lead : (texts : List Text) (i : Image) (next after : Next) (c d : Calls) (w v : World) (moved : Moved) → Moves texts i next c w (Ok moved) after d v → Adds w v
@@ -316,7 +318,7 @@ broken_so w v stopped (inr p) = inr p
 
 module _ (texts : List Text) (i : Image) (r : Registers) (w v : World) (stopped : Stop) (e : Ending) (is : ending_of stopped v ≡ Some e) where
   call_stops : (at : TextAt) (t : Text) → EntersCall at t r w (Err stopped) v → Happen w (world_at e)
-  call_stops at t p = let q = p e is in over_at w (call_entered_if_room at.fun t at.frame q.0 w) e q.2 (call_if_room_lead at.fun t at.frame q.0 w)
+  call_stops at t p = let q = p e is in over_at w (call_entered_if_room at t q.0 w) e q.2 (call_if_room_lead at t q.0 w)
 
   first_stops : (b : Bool) (at : TextAt) (t : Text) → EntersFirst b at t r w (Err stopped) v → Happen w (world_at e)
   first_stops true at t p = call_stops at t p
@@ -366,12 +368,12 @@ served_ends serving.Enter texts i c w (Meant stopped) next d v p =
     broken_so w v stopped (stops_lead w v stopped (λ e is. enters_stops texts i c.regs w v stopped e is (p.0 e is)))
 served_ends serving.Enter texts i c w (Crashed pc cause) next d v p = inr (enters_lead texts i c.regs w v entering.Refused p.0.0)
 served_ends serving.Leave texts i c w (Meant stopped) next d v p = inl (ap (λ (s : Stop). Meant s) p.0)
-served_ends serving.Leave texts i c w (Crashed pc cause) next d v p = inr (leaves_lead (register c.regs 6).bits (cost_here i c.regs) w v leaving.Refused p.0.2.0)
+served_ends serving.Leave texts i c w (Crashed pc cause) next d v p = inr (leaves_lead (register c.regs 6).bits w v leaving.Refused p.0.2.0)
 served_ends serving.Tag texts i c w broken next d v p = inr (same w v p.1)
 served_ends serving.Copy texts i c w (Meant stopped) next d v p = inl (ap (λ (s : Stop). Meant s) p.0)
 served_ends serving.Copy texts i c w (Crashed pc cause) next d v p = inr (same w v p.0.0.1)
 served_ends serving.Fall texts i c w (Meant stopped) next d v p = inl (ap (λ (s : Stop). Meant s) p.0)
-served_ends serving.Fall texts i c w (Crashed pc cause) next d v p = inr (leaves_lead 0 (cost_here i c.regs) w v leaving.Refused p.0.0)
+served_ends serving.Fall texts i c w (Crashed pc cause) next d v p = inr (leaves_lead 0 w v leaving.Refused p.0.0)
 served_ends serving.Unknown texts i c w broken next d v p = inr (same w v p.1)
 
 pub moves_end : (texts : List Text) (i : Image) (next after : Next) (c d : Calls) (w v : World) (broken : Break) → Moves texts i next c w (Err broken) after d v → (broken ≡ Meant stop.NoRoom) ⊎ Adds w v

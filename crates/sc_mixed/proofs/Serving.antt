@@ -1,5 +1,5 @@
 -- Services, from what they say of the world to what they say of the run.
-use Rattle.std.proofs.Common.{◌≡◌, ◌+◌, ◌-◌, ℕ, Bool, List, Result, Ok, Err, Option, Some, None, refl, ap, sym, subst, ◌∙◌}
+use Rattle.std.proofs.Common.{◌≡◌, ◌+◌, ◌-◌, ℕ, Bool, List, Result, Ok, Err, Option, Some, None, refl, ap, sym, subst, ◌∙◌, arith}
 use Rattle.std.specs.Prelude.{IfOk}
 use Rattle.sc_base.specs.declared.key.Key.{Key}
 use Rattle.sc_emu.specs.Registers.{Registers, register}
@@ -8,6 +8,7 @@ use Rattle.sc_interp.specs.Steady.{alone, called_next}
 use Rattle.sc_interp.specs.Steps.{Is, Steps as StepsTo}
 use Rattle.sc_interp.specs.declared.going.Going.{Going}
 use Rattle.sc_interp.specs.declared.stepped.Shown.{Shown}
+use Rattle.sc_interp.specs.declared.stepped.Shown.TheVariants as shows
 use Rattle.sc_interp.proofs.Unchanged.{quiet as is_quiet}
 use Rattle.sc_interp_access.specs.Gives.{ending_of}
 use Rattle.sc_interp_access.specs.declared.stop.Stop.{Stop}
@@ -21,15 +22,18 @@ use Rattle.sc_meaning.specs.Values.{Value}
 use Rattle.sc_meaning.specs.Versions.{History, Text, callee_of}
 use Rattle.sc_meaning.specs.World.{World}
 use Rattle.sc_services.specs.Calling.{AsksFor}
+use Rattle.sc_services.specs.Copying.{CopiesBytes}
 use Rattle.sc_services.specs.Entering.{EntersAt}
-use Rattle.sc_services.specs.Leaving.{Leaves, cost_here}
+use Rattle.sc_services.specs.Leaving.{Leaves}
 use Rattle.sc_services.specs.declared.calling.Asked.TheVariants as asked
+use Rattle.sc_services.specs.declared.copying.Copied.{Copied}
+use Rattle.sc_services.specs.declared.copying.Copied.TheVariants as copied
 use Rattle.sc_services.specs.declared.entering.Entered.{Entered}
 use Rattle.sc_services.specs.declared.leaving.Left.{Left}
 use Rattle.sc_world.specs.Standing.{state_of}
 use Rattle.sc_world.specs.Costs.{is_back, touched}
 use Rattle.sc_world.proofs.Courses.{is_state, state_is}
-use Rattle.sc_mixed.specs.Machine.{CallsOut, IsCallMoved, LeavesWith, ServesCall, ServesEnter, called_state}
+use Rattle.sc_mixed.specs.Machine.{CallsOut, IsCallMoved, LeavesWith, ServesCall, ServesCopy, ServesEnter, called_state}
 use Rattle.sc_mixed.specs.Parts.{CallGoes, CallsKey, CallsKeyOut, EnteredSo, LeftSo}
 use Rattle.sc_mixed.specs.declared.broken.Break.{Break}
 use Rattle.sc_mixed.specs.declared.broken.Break.TheVariants.{Meant, Crashed}
@@ -67,10 +71,16 @@ entered_so texts i c w v how (Ok moved) p q = (how, p, q)
 entered_so texts i c w v how (Err (Meant stopped)) p q = λ e is. absurd (no_room stopped v e q is)
 entered_so texts i c w v how (Err (Crashed pc cause)) p q = (subst (λ (x : Entered). EntersAt texts i c.regs w (Ok x) v) q.0 p, q.1)
 
-pub left_so : (block : ℕ) (a : Answer) (i : Image) (c d : Calls) (w v : World) (how : Left) (result : Result Moved Break) → Leaves block (cost_here i c.regs) w how v → LeftSo how a c v result d → LeavesWith block a i c w result d v
-left_so block a i c d w v how (Ok moved) p q = (q.0, (how, p, q.1, q.2))
-left_so block a i c d w v how (Err (Meant stopped)) p q = absurd q
-left_so block a i c d w v how (Err (Crashed pc cause)) p q = (subst (λ (x : Left). Leaves block (cost_here i c.regs) w x v) q.0 p, q.1)
+pub left_so : (block : ℕ) (a : Answer) (c d : Calls) (w v : World) (how : Left) (result : Result Moved Break) → Leaves block w how v → LeftSo how a c v result d → LeavesWith block a c w result d v
+left_so block a c d w v how (Ok moved) p q = (q.0, (how, p, q.1, q.2))
+left_so block a c d w v how (Err (Meant stopped)) p q = absurd q
+left_so block a c d w v how (Err (Crashed pc cause)) p q = (subst (λ (x : Left). Leaves block w x v) q.0 p, q.1)
+
+-- so many bytes were copied
+pub copied_so : (c : Calls) (w v : World) (how : Copied) (n many : ℕ) → CopiesBytes c.regs w how v → how ≡ copied.Bytes n → many ≡ n → ServesCopy c w (Ok (record { shown = shows.Nothing; turns = many + 1 })) v
+copied_so c w v how n many h is size =
+    let turns : 1 + n ≡ many + 1 = omega (arith, size) in
+    subst (λ (k : ℕ). ServesCopy c w (Ok (record { shown = shows.Nothing; turns = k })) v) turns (n, subst (λ (x : Copied). CopiesBytes c.regs w x v) is h, refl)
 
 -- what a call shows that goes on so, and its turns
 pub call_moved : (g : Going) (cs : List Caller) (w v : World) (s : State) (shown : Shown) (turns bytes : ℕ) (b : Bool) → s ≡ state_of g cs v → ((s : State) (cs : List Caller) (w : World) → Is s g cs w → shown ≡ entry_shown s) → turns ≡ 1 + bytes → bytes ≡ touched b w 0 v → ((cs : List Caller) (u : World) → b ≡ is_back (state_of g cs u)) → IsCallMoved s w (record { shown = shown; turns = turns }) v

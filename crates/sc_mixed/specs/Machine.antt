@@ -25,7 +25,7 @@ use Rattle.sc_services.specs.Arguments.{IsValueOf}
 use Rattle.sc_services.specs.Calling.{AsksFor}
 use Rattle.sc_services.specs.Copying.{CopiesBytes}
 use Rattle.sc_services.specs.Entering.{EntersAt}
-use Rattle.sc_services.specs.Leaving.{Leaves, cost_here}
+use Rattle.sc_services.specs.Leaving.{Leaves}
 use Rattle.sc_services.specs.Tagging.{Tags}
 use Rattle.sc_services.specs.declared.calling.Asked.TheVariants as asked
 use Rattle.sc_services.specs.declared.copying.Copied.TheVariants as copied
@@ -218,18 +218,18 @@ IsLeft left.Block = ⊤
 IsLeft left.Refused = ⊥
 
 -- a block is left, and with the first one the call, which gives this
-abbrev pub LeavesWith : ℕ → Answer → Image → Calls → World → Result Moved Break → Calls → World → Type 0
-LeavesWith block a i c w (Ok moved) d v = (moved ≡ quiet) × ((how : Left) × Leaves block (cost_here i c.regs) w how v × IsLeft how × (d ≡ left_calls how a c v))
-LeavesWith block a i c w (Err (Meant stopped)) d v = stopped ≡ stop.NoRoom
-LeavesWith block a i c w (Err (Crashed pc cause)) d v = Leaves block (cost_here i c.regs) w left.Refused v × IsHere c.regs pc cause
+abbrev pub LeavesWith : ℕ → Answer → Calls → World → Result Moved Break → Calls → World → Type 0
+LeavesWith block a c w (Ok moved) d v = (moved ≡ quiet) × ((how : Left) × Leaves block w how v × IsLeft how × (d ≡ left_calls how a c v))
+LeavesWith block a c w (Err (Meant stopped)) d v = stopped ≡ stop.NoRoom
+LeavesWith block a c w (Err (Crashed pc cause)) d v = Leaves block w left.Refused v × IsHere c.regs pc cause
 
 -- the value that a0 stands for; or nothing
-abbrev pub ServesLeave : Image → Calls → World → Result Moved Break → Calls → World → Type 0
-ServesLeave i c w (Err (Meant stopped)) d v = stopped ≡ stop.NoRoom
-ServesLeave i c w result d v = (x : Value) × IsValueOf w (register c.regs 10) x × LeavesWith (register c.regs 6).bits (Plain x) i c w result d v
+abbrev pub ServesLeave : Calls → World → Result Moved Break → Calls → World → Type 0
+ServesLeave c w (Err (Meant stopped)) d v = stopped ≡ stop.NoRoom
+ServesLeave c w result d v = (x : Value) × IsValueOf w (register c.regs 10) x × LeavesWith (register c.regs 6).bits (Plain x) c w result d v
 
-abbrev pub ServesFall : Image → Calls → World → Result Moved Break → Calls → World → Type 0
-ServesFall i c w result d v = LeavesWith 0 Nothing i c w result d v
+abbrev pub ServesFall : Calls → World → Result Moved Break → Calls → World → Type 0
+ServesFall c w result d v = LeavesWith 0 Nothing c w result d v
 
 abbrev pub ServesTag : Calls → World → Result Moved Break → Calls → Type 0
 ServesTag c w (Ok moved) d = (moved ≡ quiet) × ((r : Registers) × Tags c.regs w served.Done r × (d ≡ with_registers r c))
@@ -261,10 +261,10 @@ StaysIfOn (Err broken) c d = ⊤
 abbrev pub ServedBy : Service → List Text → Image → Calls → World → Result Moved Break → Next → Calls → World → Type 0
 ServedBy Call texts i c w result next d v = ServesCall texts i c w result next d v
 ServedBy Enter texts i c w result next d v = ServesEnter texts i c w result v × StaysIfOn result c d × NextIfOn result next
-ServedBy Leave texts i c w result next d v = ServesLeave i c w result d v × NextIfOn result next
+ServedBy Leave texts i c w result next d v = ServesLeave c w result d v × NextIfOn result next
 ServedBy Tag texts i c w result next d v = ServesTag c w result d × (v ≡ w) × NextIfOn result next
 ServedBy Copy texts i c w result next d v = ServesCopy c w result v × StaysIfOn result c d × NextIfOn result next
-ServedBy Fall texts i c w result next d v = ServesFall i c w result d v × NextIfOn result next
+ServedBy Fall texts i c w result next d v = ServesFall c w result d v × NextIfOn result next
 ServedBy Unknown texts i c w result next d v = ServesNone c result × (v ≡ w)
 
 -- ---- one move

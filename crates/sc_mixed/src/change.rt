@@ -1,11 +1,10 @@
 // A run of both forms goes over to other texts and another image; and a run of interpreted modules alone becomes one of both forms.
-ghost use Rattle.std.specs.Prelude.{◌≡◌, ◌++◌, false, IfErr, IfOk, OnErr};
+ghost use Rattle.std.specs.Prelude.{◌≡◌, ◌++◌, false, IfOk, OnErr};
 ghost use Rattle.sc_meaning.specs.Changes.{changed};
 ghost use Rattle.sc_mixed.specs.Changing as spec;
 ghost use Rattle.sc_mixed.specs.Standing.{IsLost, ended_by, standing_over};
 ghost use Rattle.sc_mixed.specs.declared.broken.Break.TheVariants as broken;
 
-use crate::bases::bases_of;
 use crate::broken::{Break, end_of};
 use crate::calls::{Calls, Next};
 use crate::course::Course;
@@ -18,7 +17,7 @@ use sc_interp::Caller;
 use sc_interp_access::{Ended, Stop};
 use sc_interp_changes::{change, is_kept};
 use sc_interp_parts::births_of;
-use sc_interp_world::{Layout, World};
+use sc_interp_world::World;
 use sc_isa_image::Image;
 use sc_link::Placed;
 use sc_program::StaticId;
@@ -162,8 +161,8 @@ impl MixedRun {
     }
 }
 
-/// What is born from here on in a run of interpreted modules stands where it is placed, and the functions have these numbers, where the
-/// objects of the run have addresses. Nothing else changes.
+/// What is born from here on in a run of interpreted modules stands where it is placed, and the functions have these numbers. Nothing else
+/// changes.
 ///
 /// # Errors
 ///
@@ -171,47 +170,11 @@ impl MixedRun {
 pub fn place_run(run: &mut Run, placed: &[Placed], functions: &[Key]) -> Result<(), NoMemory>
     ensures { run.new ≡ run.old }
 {
-    if !run.has_memory() {
-        return Ok(());
-    }
     let alloc = run.world().alloc();
     let ids = placed_ids(alloc, placed)?;
     let places = names_of(alloc, ids.as_slice())?;
     let more = shared_behind(alloc, run.world().functions(), functions)?;
     run.place(more.as_slice(), places)
-}
-
-// The world of a run gets a memory.
-fn remembered(
-    alloc: Global,
-    run: &mut Run,
-    held: &[Text],
-    placed: &[Placed],
-    functions: &[Key],
-) -> Result<(), NoMemory>
-    ensures { run.new ≡ run.old }
-{
-    let ids = placed_ids(alloc, placed)?;
-    let bases = bases_of(alloc, held, ids.as_slice(), run.world())?;
-    let places = names_of(alloc, ids.as_slice())?;
-    let functions = shared_behind(alloc, 0, functions)?;
-    run.remember(Layout { functions, places }, bases.as_slice())
-}
-
-// The same where it has none.
-fn given_memory(
-    alloc: Global,
-    run: &mut Run,
-    held: &[Text],
-    placed: &[Placed],
-    functions: &[Key],
-) -> Result<(), NoMemory>
-    ensures { run.new ≡ run.old }
-{
-    if run.has_memory() {
-        return Ok(());
-    }
-    remembered(alloc, run, held, placed, functions)
 }
 
 // How a run goes on that has become one of both forms.
@@ -268,29 +231,10 @@ fn taken(alloc: Global, run: Run, image: Image) -> MixedRun
     }
 }
 
-/// A run of interpreted modules alone becomes one of both forms, in this image. Its objects get addresses, where they have none: those of
-/// static storage duration where they are placed, the automatic ones in the slots of their frames, and those of the heap in blocks. `held`
-/// are the texts that active calls run; `placed` and `functions` those of the version whose objects live. A run to which somebody listens has
-/// its addresses, and its record goes on.
-///
-/// # Errors
-///
-/// The run as it was, where no memory was left.
-pub fn take_over(
-    alloc: Global,
-    run: Run,
-    held: &[Text],
-    image: Image,
-    placed: &[Placed],
-    functions: &[Key],
-) -> Result<MixedRun, Run>
-    ensures ok { IfOk result (spec.IsTakenFrom run image) }
-    ensures err { IfErr result (λ back. back ≡ run) }
+/// A run of interpreted modules alone becomes one of both forms, in this image. Its objects stay at their addresses, which are seen from here
+/// on, and its record goes on.
+pub fn take_over(alloc: Global, run: Run, image: Image) -> MixedRun
+    ensures { spec.IsTakenFrom run image result }
 {
-    let mut run = run;
-    if given_memory(alloc, &mut run, held, placed, functions).is_err() {
-        drop(image);
-        return Err(run);
-    }
-    Ok(taken(alloc, run, image))
+    taken(alloc, run, image)
 }

@@ -98,6 +98,18 @@ pub fn names_of(alloc: Global, ids: &[(StaticId, u32)]) -> Result<Names, NoMemor
     Ok(places)
 }
 
+/// Where the functions and what these entries place stand.
+pub fn layout_placed(
+    alloc: Global,
+    placed: &[Placed],
+    functions: &[Key],
+) -> Result<Layout, NoMemory> {
+    let ids = placed_ids(alloc, placed)?;
+    let places = names_of(alloc, ids.as_slice())?;
+    let functions = shared_behind(alloc, 0, functions)?;
+    Ok(Layout { functions, places })
+}
+
 /// The functions behind the first ones of a list.
 pub fn shared_behind(
     alloc: Global,

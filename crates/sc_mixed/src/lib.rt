@@ -2,7 +2,6 @@
 //! instructions over the same world, and the bridge leads from each to the other.
 #![tactic(auto)]
 
-mod bases;
 mod begin;
 mod bridge;
 mod broken;
@@ -25,5 +24,5 @@ mod turn;
 pub use change::{kept_keys, place_run, take_over};
 pub use ended::MixedEnd;
 pub use laws::{interpreted_programs_go_as_before, moves_add_to_what_happened};
-pub use layout::layout_of;
+pub use layout::{layout_of, layout_placed};
 pub use run::MixedRun;

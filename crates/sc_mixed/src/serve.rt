@@ -247,15 +247,10 @@ fn left(how: Left, a: Answer, calls: &mut Calls, world: &World) -> Result<Moved,
 }
 
 #[tactic(auto, using(crate::proofs::Serving::left_so))]
-fn leave_with(
-    a: Answer,
-    image: &Image,
-    calls: &mut Calls,
-    world: &mut World,
-) -> Result<Moved, Break>
-    ensures { spec.LeavesWith (register calls.old.regs 6).bits a image.now calls.old world.old result calls.new world.new }
+fn leave_with(a: Answer, calls: &mut Calls, world: &mut World) -> Result<Moved, Break>
+    ensures { spec.LeavesWith (register calls.old.regs 6).bits a calls.old world.old result calls.new world.new }
 {
-    match leave(&calls.regs, image, world) {
+    match leave(&calls.regs, world) {
         Ok(how) => left(how, a, calls, world),
         Err(_) => {
             drop(a);
@@ -264,20 +259,20 @@ fn leave_with(
     }
 }
 
-fn serve_leave(image: &Image, calls: &mut Calls, world: &mut World) -> Result<Moved, Break>
-    ensures { spec.ServesLeave image.now calls.old world.old result calls.new world.new }
+fn serve_leave(calls: &mut Calls, world: &mut World) -> Result<Moved, Break>
+    ensures { spec.ServesLeave calls.old world.old result calls.new world.new }
 {
     match value_of(calls.regs.get(RESULT), world) {
-        Ok(v) => leave_with(Answer::plain(v), image, calls, world),
+        Ok(v) => leave_with(Answer::plain(v), calls, world),
         Err(_) => Err(Break::Meant(Stop::NoRoom)),
     }
 }
 
 #[tactic(auto, using(crate::proofs::Serving::left_so))]
-fn serve_fall(image: &Image, calls: &mut Calls, world: &mut World) -> Result<Moved, Break>
-    ensures { spec.ServesFall image.now calls.old world.old result calls.new world.new }
+fn serve_fall(calls: &mut Calls, world: &mut World) -> Result<Moved, Break>
+    ensures { spec.ServesFall calls.old world.old result calls.new world.new }
 {
-    match fall(&calls.regs, image, world) {
+    match fall(world) {
         Ok(how) => left(how, Answer::nothing(), calls, world),
         Err(_) => Err(Break::Meant(Stop::NoRoom)),
     }
@@ -360,10 +355,10 @@ pub fn serve(
     match service_of(n) {
         Service::Call => serve_call(texts, image, next, calls, world),
         Service::Enter => then_executes(serve_enter(texts, image, calls, world), next),
-        Service::Leave => then_executes(serve_leave(image, calls, world), next),
+        Service::Leave => then_executes(serve_leave(calls, world), next),
         Service::Tag => then_executes(serve_tag(calls, world), next),
         Service::Copy => then_executes(serve_copy(calls, world), next),
-        Service::Fall => then_executes(serve_fall(image, calls, world), next),
+        Service::Fall => then_executes(serve_fall(calls, world), next),
         Service::Unknown => Err(refused(&calls.regs)),
     }
 }

@@ -3,6 +3,7 @@ use Rattle.std.proofs.Common.{◌≡◌, ◌+◌, ◌-◌, ◌*◌, ◌<◌, ◌
 use Rattle.std.specs.Prelude.{IsSome, MatchOption, is_some, nat_lt}
 use Rattle.std.proofs.lemmas.Bool.{cond-false, cond-true, le-ltb, lt-ltb}
 use Rattle.sc_base.specs.declared.key.Key.{Key}
+use Rattle.sc_base.specs.declared.memory.Kind.{Kind}
 use Rattle.sc_base.specs.declared.memory.Word.{Word}
 use Rattle.sc_emu.specs.Registers.{Registers, register}
 use Rattle.sc_mem.specs.Flat.{raw_read}
@@ -43,8 +44,8 @@ found_there (Some x) w at there is same = ap (λ (n : ℕ). read_at w n 4) (sym 
 pub size_none : (os here : List Object) (id : ℕ) → here ≡ os → object_at here id ≡ None → 0 ≡ size_in (object_at os id)
 size_none os here id same is = ap size_in (sym is ∙ ap (λ (xs : List Object). object_at xs id) same)
 
-pub size_some : (os here : List Object) (id : ℕ) (o : Object) → here ≡ os → object_at here id ≡ Some o → o.size ≡ size_in (object_at os id)
-size_some os here id o same is = ap size_in (sym is ∙ ap (λ (xs : List Object). object_at xs id) same)
+pub size_some : (os here : List Object) (id size : ℕ) (kind : Kind) (live : Bool) → here ≡ os → (o : Object) × (object_at here id ≡ Some o) × (size ≡ o.size) × (kind ≡ o.kind) × (live ≡ o.live) → size ≡ size_in (object_at os id)
+size_some os here id size kind live same (o, is, s, k, l) = s ∙ ap size_in (sym is ∙ ap (λ (xs : List Object). object_at xs id) same)
 
 -- a word is there
 pub is_there : (found there : Option Word) (x : Word) → found ≡ there → found ≡ Some x → IsSome there

@@ -9,12 +9,12 @@ use Rattle.sc_mem.specs.Safe.{Store}
 use Rattle.sc_mem.specs.Words.{cells_of}
 use Rattle.sc_objects.specs.declared.objects.Obj.{Obj}
 use Rattle.sc_objects.specs.Numbered.{object_of}
-use Rattle.sc_meaning.specs.Beside.{kept_in, put_in, word_of, written_in}
+use Rattle.sc_meaning.specs.Beside.{cell_kept_in, kept_in, put_in, word_of, written_in}
 use Rattle.sc_meaning.specs.Values.{Cell, Value}
 use Rattle.sc_meaning.specs.World.{World}
 use Rattle.sc_services.specs.Arguments.{IsWordOf, PutsOne}
 use Rattle.sc_services.specs.Memory.{table_of}
-use Rattle.sc_services.specs.Writing.{Written, InObject, BesideAll, AreWritten, Writes, written}
+use Rattle.sc_services.specs.Writing.{Written, InObject, BesideAll, CellInObject, CellBeside, AreWritten, Writes, written}
 
 abbrev tables : World → Option (List Obj)
 tables w = option_map table_of w.beside.memory
@@ -35,9 +35,15 @@ kept_alone : (at size : ℕ) (word : Word) (memory : Option Store) → option_ma
 kept_alone at size word None = refl
 kept_alone at size word (Some m) = ap (λ (t : List Obj). Some t) (cells_alone m.flat (place m.flat at size) (cells_of size word))
 
+cell_alone : (at : ℕ) (x : Stored) (memory : Option Store) → option_map table_of (option_map (cell_kept_in at x) memory) ≡ option_map table_of memory
+cell_alone at x None = refl
+cell_alone at x (Some m) = ap (λ (t : List Obj). Some t) (cells_alone m.flat (place m.flat at 1) (x ∷ []))
+
 one_alone : (p : Written) (w : World) → ((written p w).beside.functions ≡ w.beside.functions) × (tables (written p w) ≡ tables w)
 one_alone (InObject id offset cells) w = (refl, put_alone w.beside.functions id offset cells w.beside.memory)
 one_alone (BesideAll at size word) w = (refl, kept_alone at size word w.beside.memory)
+one_alone (CellInObject id offset byte at cell) w = (refl, cell_alone at cell w.beside.memory)
+one_alone (CellBeside at cell) w = (refl, cell_alone at cell w.beside.memory)
 
 all_alone : (ps : List Written) (w v : World) → AreWritten ps w v → (v.beside.functions ≡ w.beside.functions) × (tables v ≡ tables w)
 all_alone [] w v is = (ap (λ (u : World). u.beside.functions) is, ap tables is)

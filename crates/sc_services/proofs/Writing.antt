@@ -1,16 +1,21 @@
 -- What is written one after another.
-use Rattle.std.proofs.Common.{◌≡◌, ℕ, ◌==◌, Bool, true, false, IfOk, Result, Ok, Err, List, [], ◌∷◌, ◌++◌, subst, sym, ap, refl, ◌∙◌, Option, Some, None, option_map}
+use Rattle.std.proofs.Common.{◌≡◌, ℕ, zero, suc, ◌+◌, ◌≤◌, ◌<◌, ◌==◌, Bool, true, false, IfOk, Result, Ok, Err, List, [], ◌∷◌, ◌++◌, length, map, take, slice_index_or, subst, sym, ap, refl, ◌∙◌, Option, Some, None, option_map, arith}
+use Rattle.std.proofs.lemmas.List.{length-take, take_more, take_all}
 use Rattle.std.specs.Prelude.{IfSome, IsSome, MatchOption}
+use Rattle.sc_base.specs.declared.memory.Cell.{Cell as Stored}
 use Rattle.sc_base.specs.declared.memory.Word.{Word}
 use Rattle.sc_mem.specs.Flat.{aligned_place, raw_read}
+use Rattle.sc_mem.specs.Words as words
 use Rattle.sc_mem.specs.Safe.{Store}
 use Rattle.sc_mem_store.specs.Living.{IsBare}
 use Rattle.sc_meaning.specs.Beside.{kept_in, with_memory}
 use Rattle.sc_meaning.specs.Values.{Cell, Value, cells_of}
 use Rattle.sc_meaning.specs.World.{World, Put, pass}
+use Rattle.sc_interp_world.specs.Putting.{PutsAt, IntoObject, BesideThem, PutsAll}
+use Rattle.sc_interp_world.proofs.Putting.{puts_more}
 use Rattle.sc_services.specs.Memory.{IsBareAt, StandsAt, has_bytes, read_at, read_in}
 use Rattle.sc_mem_store.specs.Living.{IsLiveAt}
-use Rattle.sc_services.specs.Writing.{Written, InObject, BesideAll, Writes, AreWritten, CanBeWritten, IsStoredBy, KeepsIfBeside, StoresAt, BesideObjects, InsideObject, OverItsEnd, StoresIfThere, written}
+use Rattle.sc_services.specs.Writing.{Written, InObject, BesideAll, CellInObject, CellBeside, Writes, AreWritten, CanBeWritten, IsStoredBy, KeepsIfBeside, StoresAt, BesideObjects, InsideObject, OverItsEnd, StoresIfThere, written}
 
 pub kept : (old new : World) → new ≡ old → Writes old new
 kept old new e = record { bytes = []; are = e }
@@ -25,9 +30,26 @@ joined (p ∷ ps) qs a b c (can, more) h = (can, joined ps qs (written p a) b c 
 pub one_more : (a b c : World) → Writes a b → Writes b c → Writes a c
 one_more a b c h k = record { bytes = h.bytes ++ k.bytes; are = joined h.bytes k.bytes a b c h.are k.are }
 
-pub put_ok : {A E : Type 0} (result : Result A E) (id at offset : ℕ) (cells : List Cell) (old new : World) → IsLiveAt old.objects id offset → IfOk result (λ _. new ≡ pass (Put id at cells) old) → IfOk result (λ _. Writes old new)
-put_ok (Ok a) id at offset cells old new h e = one_put id at offset cells old new h e
-put_ok (Err e) id at offset cells old new h k = k
+-- ---- single cells
+
+put_writes : (at : ℕ) (x : Stored) (old new : World) → PutsAt at x old new → Writes old new
+put_writes at x old new (IntoObject id offset c (o, there, lives, whole, inside) place is) = record { bytes = CellInObject id offset c at x ∷ []; are = ((o, there, lives), is) }
+put_writes at x old new (BesideThem bare is) = record { bytes = CellBeside at x ∷ []; are = (bare, is) }
+
+pub puts_write : (xs : List Stored) (at : ℕ) (old new : World) → PutsAll at xs old new → Writes old new
+puts_write [] at old new is = kept old new is
+puts_write (x ∷ xs) at old new (mid, one, rest) = one_more old mid new (put_writes at x old mid one) (puts_write xs (at + 1) mid new rest)
+
+pub puts_none : (to n : ℕ) (xs : List Stored) (w : World) → n ≡ 0 → PutsAll to (take n xs) w w
+puts_none to n xs w is = subst (λ (k : ℕ). PutsAll to (take k xs) w w) (sym is) refl
+
+pub puts_turn : (to at n : ℕ) (xs : List Stored) (x : Stored) (first now new : World) → PutsAll to (take n xs) first now → at ≡ to + n → n < length xs → PutsAt at (slice_index_or xs n x) now new → PutsAll to (take (n + 1) xs) first new
+puts_turn to at n xs x first now new before is within one =
+    let size : length (take n xs) ≡ n = simp length-take (omega arith) in
+    subst (λ (ys : List Stored). PutsAll to ys first new) (sym (take_more xs n x within)) (puts_more (take n xs) to at (slice_index_or xs n x) first now new (omega (arith, is, size)) before one)
+
+pub puts_done : (to n : ℕ) (xs : List Stored) (first now : World) → PutsAll to (take n xs) first now → length xs ≤ n → PutsAll to xs first now
+puts_done to n xs first now h l = subst (λ (ys : List Stored). PutsAll to ys first now) (take_all n xs l) h
 
 -- ---- beside all objects
 
@@ -60,9 +82,10 @@ pub stored_inside : {A E : Type 0} (result : Result A E) (at n many id offset : 
 stored_inside (Ok a) at n many id offset word v old new h k same is = InsideObject id offset v h.0 h.1 k (is ∙ ap (λ (m : ℕ). pass (Put id offset (cells_of m v)) old) same)
 stored_inside (Err e) at n many id offset word v old new h k same is = is
 
-pub stored_over : {A E : Type 0} (result : Result A E) (at n id offset : ℕ) (word : Word) (old new : World) → StandsAt old id offset at × (has_bytes old.objects id offset n ≡ false) → IfOk result (λ _. Writes old new) → IfOk result (λ _. StoresAt at n word old new)
-stored_over (Ok a) at n id offset word old new h is = OverItsEnd id offset h.0 h.1 is
-stored_over (Err e) at n id offset word old new h is = is
+pub stored_over : {A E : Type 0} (result : Result A E) (at n id offset : ℕ) (word : Word) (cells : List Stored) (old mid new : World) → StandsAt old id offset at × (has_bytes old.objects id offset n ≡ false) → cells ≡ words.cells_of n word → PutsAll at cells old mid → new ≡ mid → IfOk result (λ _. StoresAt at n word old new)
+stored_over (Ok a) at n id offset word cells old mid new h same puts is =
+    OverItsEnd id offset h.0 h.1 (subst (λ (w : World). PutsAll at (words.cells_of n word) old w) (sym is) (subst (λ (xs : List Stored). PutsAll at xs old mid) same puts))
+stored_over (Err e) at n id offset word cells old mid new h same puts is = tt
 
 pub stored_beside : (at n : ℕ) (word : Word) (old new : World) → CanBeWritten (BesideAll at n word) old × (new ≡ written (BesideAll at n word) old) → IsSome (read_at old at n) × StoresAt at n word old new
 stored_beside at n word old new h = (h.0.0, BesideObjects h.0 h.1)
@@ -75,7 +98,7 @@ stored_behind result at n word old mid new is h = subst (λ (w : World). IfOk re
 pub stores_write : (at n : ℕ) (word : Word) (old new : World) → StoresAt at n word old new → Writes old new
 stores_write at n word old new (BesideObjects can is) = one_beside at n word old new can is
 stores_write at n word old new (InsideObject id offset v h k s is) = one_put id offset offset (cells_of n v) old new h is
-stores_write at n word old new (OverItsEnd id offset k few h) = h
+stores_write at n word old new (OverItsEnd id offset k few h) = puts_write (words.cells_of n word) at old new h
 
 pub stored_so : (what : Option (Unit {0})) (u : Unit {0}) (at n : ℕ) (word : Word) (old new : World) → what ≡ Some u → StoresIfThere what at n word old new → Writes old new
 stored_so what u at n word old new is h =

@@ -2,6 +2,7 @@
 -- Calls and blocks of compiled code: their objects are born in the slots of the frame's table, and die.
 use Rattle.std.specs.Prelude.{ℕ, ◌+◌, ◌-◌, ◌==◌, ◌||◌, nat_lt, Bool, reverse, if◌then◌else◌, List, [], ◌∷◌, ◌++◌, slice_get, Option, Some, None}
 use Rattle.sc_base.specs.declared.key.Key.{Key}
+use Rattle.sc_isa_image.specs.declared.text.TextAt.{TextAt}
 use Rattle.sc_object.specs.declared.object.BlockTable.{BlockTable}
 use Rattle.sc_object.specs.declared.object.FrameTable.{FrameTable}
 use Rattle.sc_program.specs.declared.frame.Slot.{Slot}
@@ -47,17 +48,20 @@ opened block ids w = pass (OpenBlock (record { block = block; ids = ids })) w
 abbrev pub block_entered : ℕ → FrameTable → Step
 block_entered block t w = and_then (slots_born (slots_of t block) [] w) (λ ids v. went (opened block ids v))
 
--- the frame of a call takes its room on the stack
-abbrev pub with_call : Key → Text → ℕ → World → World
-with_call key t cost w = pass (Push (frame_of key t w)) (pass (Stack (w.used + cost)) w)
+-- The frame of a call of compiled code takes its room on the stack. It keeps how much that is, and where the text begins that it runs.
+abbrev pub frame_at : TextAt → Text → World → Frame
+frame_at at t w = record (frame_of at.fun t w) { cost = at.frame.cost; start = at.start }
+
+abbrev pub with_call : TextAt → Text → World → World
+with_call at t w = pass (Push (frame_at at t w)) (pass (Stack (w.used + at.frame.cost)) w)
 
 abbrev pub entered : Key → Text → List ℕ → World → World
 entered key t ids w = pass (Happens (Enter key t.core.name)) (opened 0 ids w)
 
 -- a call is entered, for which the stack has room
-abbrev pub call_entered : Key → Text → FrameTable → List Value → Step
-call_entered key t table xs w =
-    and_then (slots_set (slots_of table 0) xs [] (with_call key t table.cost w)) (λ ids v. went (entered key t ids v))
+abbrev pub call_entered : TextAt → Text → List Value → Step
+call_entered at t xs w =
+    and_then (slots_set (slots_of at.frame 0) xs [] (with_call at t w)) (λ ids v. went (entered at.fun t ids v))
 
 -- the objects of an open block die, and it is left, but for the block of the parameters
 abbrev pub closed_one : Born → World → World
@@ -80,11 +84,16 @@ top_blocks (f ∷ fs) = f.blocks
 abbrev pub block_left : ℕ → World → World
 block_left block w = closed_upto block (reverse (top_blocks w.frames)) w
 
+-- what the frame of the innermost call took
+abbrev pub top_cost : List Frame → ℕ
+top_cost [] = 0
+top_cost (f ∷ fs) = f.cost
+
 -- the innermost call is left, whose frame costs so much
 abbrev pub left_by : ℕ → World → World
 left_by cost w = pass (Happens Leave) (pass (Stack (w.used - cost)) (pass Pop w))
 
 -- a call is entered where the stack has room for it
-abbrev pub call_entered_if_room : Key → Text → FrameTable → List Value → Step
-call_entered_if_room key t table xs w =
-    if nat_lt w.stack (w.used + table.cost) then Over (StackFull key w) else call_entered key t table xs w
+abbrev pub call_entered_if_room : TextAt → Text → List Value → Step
+call_entered_if_room at t xs w =
+    if nat_lt w.stack (w.used + at.frame.cost) then Over (StackFull at.fun w) else call_entered at t xs w

@@ -14,13 +14,13 @@ use Rattle.sc_interp_access.specs.declared.stop.Stop.{Stop}
 use Rattle.sc_interp_access.specs.Gives.{Stops, ending_of}
 use Rattle.sc_services.specs.Arguments.{AreArguments, are_inside}
 use Rattle.sc_services.specs.Blocks.{block_entered, call_entered_if_room, slots_of}
-use Rattle.sc_services.specs.Frames.{is_call_of, is_on_stack, is_open_here}
+use Rattle.sc_services.specs.Frames.{is_call_at, is_on_stack, is_open_here}
 use Rattle.sc_services.specs.declared.entering.Entered.{Entered}
 use Rattle.sc_services.specs.declared.entering.Entered.TheVariants.{Block, Call, Refused}
 
 -- a block of a text may be entered: it is in the table, the innermost call is of this text, and the block is not open
 abbrev pub may_enter : ℕ → TextAt → List Frame → Bool
-may_enter block at fs = nat_lt block (length at.frame.blocks) && is_call_of at.fun fs && not (is_open_here block fs)
+may_enter block at fs = nat_lt block (length at.frame.blocks) && is_call_at at.start fs && not (is_open_here block fs)
 
 -- the service comes to this outcome where its test holds; else it is refused, and nothing is done
 abbrev pub Enters : Bool → Outcome (Unit {0}) → Entered → World → Result Entered Stop → World → Type 0
@@ -43,16 +43,16 @@ parameter_slots at = length (slots_of at.frame 0)
 abbrev pub EntersWith : TextAt → Text → List Value → World → Result Entered Stop → World → Type 0
 EntersWith at t xs w (Ok Refused) v = ⊥
 EntersWith at t xs w (Ok Block) v = ⊥
-EntersWith at t xs w (Ok Call) v = call_entered_if_room at.fun t at.frame xs w ≡ Done tt v
-EntersWith at t xs w (Err stop) v = Stops (call_entered_if_room at.fun t at.frame xs w) stop v
+EntersWith at t xs w (Ok Call) v = call_entered_if_room at t xs w ≡ Done tt v
+EntersWith at t xs w (Err stop) v = Stops (call_entered_if_room at t xs w) stop v
 
 -- A call is entered with the arguments that are there, or the run ends in it. It is refused, and nothing is done, exactly where those past
 -- the eighth are not inside the stack.
 abbrev pub EntersCall : TextAt → Text → Registers → World → Result Entered Stop → World → Type 0
 EntersCall at t r w (Ok Refused) v = (are_inside (parameter_slots at) w ≡ false) × (v ≡ w)
 EntersCall at t r w (Ok Block) v = ⊥
-EntersCall at t r w (Ok Call) v = (xs : List Value) × AreArguments (parameter_slots at) r w xs × (call_entered_if_room at.fun t at.frame xs w ≡ Done tt v)
-EntersCall at t r w (Err stop) v = (e : Ending) → ending_of stop v ≡ Some e → (xs : List Value) × AreArguments (parameter_slots at) r w xs × (call_entered_if_room at.fun t at.frame xs w ≡ Over e)
+EntersCall at t r w (Ok Call) v = (xs : List Value) × AreArguments (parameter_slots at) r w xs × (call_entered_if_room at t xs w ≡ Done tt v)
+EntersCall at t r w (Err stop) v = (e : Ending) → ending_of stop v ≡ Some e → (xs : List Value) × AreArguments (parameter_slots at) r w xs × (call_entered_if_room at t xs w ≡ Over e)
 
 -- it is refused where the function is not there, or the `ecall` does not begin the call of it
 abbrev pub EntersFirst : Bool → TextAt → Text → Registers → World → Result Entered Stop → World → Type 0

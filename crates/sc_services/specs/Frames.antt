@@ -1,10 +1,8 @@
 -- Yardstick: to be compared with what it restates (docs/TRUST.md).
 -- The innermost call of a world as the services test it.
 use Rattle.std.specs.Prelude.{ℕ, ◌-◌, ◌==◌, ◌&&◌, ◌||◌, Bool, true, false, List, [], ◌∷◌}
-use Rattle.sc_base.specs.declared.key.Key.{Key}
 use Rattle.sc_base.specs.declared.memory.Form.{Form}
 use Rattle.sc_base.specs.declared.memory.Form.TheVariants as form
-use Rattle.sc_meaning.specs.Values.{same_key}
 use Rattle.sc_meaning.specs.World.{World, Frame, Born}
 use Rattle.sc_emu.specs.Registers.{Registers, register}
 
@@ -25,10 +23,10 @@ abbrev pub is_in_code : List Frame → Bool
 is_in_code [] = false
 is_in_code (f ∷ fs) = is_object f.form
 
--- the same, and of this function
-abbrev pub is_call_of : Key → List Frame → Bool
-is_call_of key [] = false
-is_call_of key (f ∷ fs) = is_object f.form && same_key f.key key
+-- the same, and of the text that begins at this address
+abbrev pub is_call_at : ℕ → List Frame → Bool
+is_call_at start [] = false
+is_call_at start (f ∷ fs) = is_object f.form && (f.start == start)
 
 -- a block is one of those that were entered
 abbrev pub is_open : ℕ → List Born → Bool

@@ -1,14 +1,12 @@
 // Service 5: bytes are copied.
 ghost use Rattle.std.specs.Prelude.{◌≡◌, IfOk, IfSome};
 ghost use Rattle.sc_services.specs.Copying as spec;
-ghost use Rattle.sc_services.specs.Writing.{Writes};
 
 use crate::arguments::FIRST;
-use crate::bytes::{cell_at, whole_pointer};
-use crate::store::{has_bytes, keep, put_cell};
-use sc_base::{Duplicate, Items, NoMemory};
+use crate::store::{has_bytes, put_cells};
+use sc_base::NoMemory;
 use sc_emu::Regs;
-use sc_interp_world::{Cell, Place, World};
+use sc_interp_world::{Place, World};
 
 /// Where the static area begins, and its bytes.
 const STATIC: u64 = 0x0800_0000;
@@ -40,69 +38,12 @@ fn is_range(at: u32, n: u32, world: &World) -> bool
     in_static || in_heap || in_stack
 }
 
-// The bytes from an address on, which are inside an area.
-fn cells_from(from: u32, n: u32, world: &World) -> Result<Items<Cell>, NoMemory> {
-    let mut cells = Items::new(world.alloc());
-    for k in 0..n {
-        let Some(at) = from.checked_add(k) else {
-            return Err(NoMemory);
-        };
-        cells.push(cell_at(at, world)?)?;
-    }
-    Ok(cells)
-}
-
-// Bytes are put one by one from an address on.
-#[tactic(auto, using(crate::proofs::Writing::kept, crate::proofs::Writing::one_more))]
-fn put_cells(to: u32, cells: &[Cell], world: &mut World) -> Result<(), NoMemory>
-    ensures { IfOk result (λ _. Writes world.old world.new) }
-{
-    let mut at = to;
-    for cell in cells {
-        put_cell(at, cell.copy(world.alloc())?, world)?;
-        at = at.wrapping_add(1);
-    }
-    Ok(())
-}
-
-// A whole pointer that stands beside all objects gets its tag.
-#[tactic(auto, using(crate::proofs::Writing::kept))]
-fn put_pointer(at: u32, cells: &[Cell], world: &mut World) -> Result<(), NoMemory>
-    ensures { IfOk result (λ _. Writes world.old world.new) }
-{
-    if at % 4 != 0 || world.live_at(at).is_some() {
-        return Ok(());
-    }
-    match whole_pointer(cells) {
-        None => Ok(()),
-        Some(v) => {
-            let word = world.word(v)?;
-            keep(at, 4, word, world)
-        }
-    }
-}
-
-// The same of all of them.
-#[tactic(auto, using(crate::proofs::Writing::kept, crate::proofs::Writing::one_more))]
-fn put_pointers(to: u32, cells: &[Cell], world: &mut World) -> Result<(), NoMemory>
-    ensures { IfOk result (λ _. Writes world.old world.new) }
-{
-    let mut at = to;
-    for k in 0..cells.len() {
-        put_pointer(at, &cells[k..], world)?;
-        at = at.wrapping_add(1);
-    }
-    Ok(())
-}
-
 // Bytes that are not all of one object go to an address.
-#[tactic(auto, using(crate::proofs::Writing::kept, crate::proofs::Writing::one_more))]
 fn copy_bytes(to: u32, from: u32, n: u32, world: &mut World) -> Result<(), NoMemory>
-    ensures { IfOk result (λ _. Writes world.old world.new) }
+    ensures { IfOk result (λ _. spec.Copies to from n world.old world.new) }
 {
-    let cells = cells_from(from, n, world)?;
-    put_cells(to, cells.as_slice(), world)?;
-    put_pointers(to, cells.as_slice(), world)
+    let cells = world.raw_cells(from, n)?;
+    put_cells(to, cells.as_slice(), world)
 }
 
 // The byte of a live object at an address, from which on so many bytes are the object's.
@@ -118,7 +59,6 @@ fn place_of(at: u32, n: u32, world: &World) -> Option<Place>
 }
 
 // Bytes inside the areas go to an address.
-#[tactic(auto, using(crate::proofs::Ways::by_bytes))]
 fn copy_inside(to: u32, from: u32, n: u32, world: &mut World) -> Result<(), NoMemory>
     ensures { IfOk result (λ _. spec.Copies to from n world.old world.new) }
 {

@@ -1,7 +1,6 @@
 // Service 2: a call of compiled code is entered, or a block of it.
 ghost use Rattle.std.specs.Prelude.{◌≡◌, ◌+◌, IfOk};
 ghost use Rattle.sc_interp_access.specs.Gives.{Gives};
-ghost use Rattle.sc_meaning.specs.Calls.{frame_of as frame_of_call};
 ghost use Rattle.sc_meaning.specs.World as worlds;
 ghost use Rattle.sc_services.specs.Blocks as spec;
 ghost use Rattle.sc_services.specs.Entering as entering;
@@ -11,7 +10,7 @@ ghost use Rattle.sc_services.specs.declared.entering.Entered.TheVariants.{Block}
 
 use crate::arguments::arguments;
 use crate::blocks::{enter_block, set_slots, slots_of};
-use crate::frames::{is_call_of, is_on_stack, is_open};
+use crate::frames::{is_call_at, is_on_stack, is_open};
 use sc_base::{Duplicate, Items, Key, NoMemory, Shared};
 use sc_core_held::{Callee, Text, callee_of};
 use sc_emu::Regs;
@@ -19,7 +18,6 @@ use sc_interp_access::Stop;
 use sc_interp_world::{Born, Event, Frame, World};
 use sc_isa_image::{Image, TextAt};
 use sc_meaning_values::Value;
-use sc_object::FrameTable;
 
 /// What service 2 comes to: a call is entered, or another block; or its test failed, and nothing was done.
 #[derive(Clone, Copy, Debug, PartialEq, Eq)]
@@ -32,12 +30,12 @@ pub enum Entered {
 /// The register that holds the number of a block.
 const BLOCK: u8 = 6;
 
-// The frame of a call.
-fn frame_of(key: &Key, t: &Text, world: &World) -> Result<Frame, NoMemory>
-    ensures { IfOk result (λ f. f ≡ frame_of_call key.now t.now world.now) }
+// The frame of a call of this text.
+fn frame_at(at: &TextAt, t: &Text, world: &World) -> Result<Frame, NoMemory>
+    ensures { IfOk result (λ f. f ≡ spec.frame_at at.now t.now world.now) }
 {
     let alloc = world.alloc();
-    let key = key.copy(alloc)?;
+    let key = at.fun.copy(alloc)?;
     let home = t.core.get().name.copy(alloc)?;
     let Some(enter) = world.enters().checked_add(1) else {
         return Err(NoMemory)
@@ -50,6 +48,8 @@ fn frame_of(key: &Key, t: &Text, world: &World) -> Result<Frame, NoMemory>
         enter,
         line: 0,
         blocks: Items::new(alloc),
+        cost: at.frame.cost,
+        start: at.start,
     })
 }
 
@@ -64,37 +64,30 @@ fn enter_event(key: &Key, t: &Text, world: &World) -> Result<Event, NoMemory>
 }
 
 // The frame of a call is pushed, and takes its room on the stack.
-fn push_frame(key: &Key, t: &Text, used: u64, world: &mut World) -> Result<(), NoMemory>
-    ensures { IfOk result (λ _. world.new ≡ worlds.pass (worlds.Push (frame_of_call key.now t.now world.old)) (worlds.pass (worlds.Stack used) world.old)) }
+fn push_frame(at: &TextAt, t: &Text, used: u64, world: &mut World) -> Result<(), NoMemory>
+    ensures { IfOk result (λ _. world.new ≡ worlds.pass (worlds.Push (spec.frame_at at.now t.now world.old)) (worlds.pass (worlds.Stack used) world.old)) }
 {
-    let frame = frame_of(key, t, world)?;
+    let frame = frame_at(at, t, world)?;
     world.use_stack(used)?;
     world.push(frame)
 }
 
 // A call is entered for which the stack has room.
-fn enter_call(
-    key: &Key,
-    t: &Text,
-    table: &FrameTable,
-    used: u64,
-    vs: &[Value],
-    world: &mut World,
-) -> Result<(), Stop>
-    requires { used ≡ world.old.used + table.now.cost }
-    ensures { Gives (spec.call_entered key.now t.now table.now vs.now world.old) result world.new }
+fn enter_call(at: &TextAt, t: &Text, used: u64, vs: &[Value], world: &mut World) -> Result<(), Stop>
+    requires { used ≡ world.old.used + at.now.frame.cost }
+    ensures { Gives (spec.call_entered at.now t.now vs.now world.old) result world.new }
 {
-    push_frame(key, t, used, world)?;
-    let ids = set_slots(slots_of(table, 0), vs, world)?;
+    push_frame(at, t, used, world)?;
+    let ids = set_slots(slots_of(&at.frame, 0), vs, world)?;
     world.open_block(Born { block: 0, ids })?;
-    let event = enter_event(key, t, world)?;
+    let event = enter_event(&at.fun, t, world)?;
     world.happens(event)?;
     Ok(())
 }
 
 // The call that a text begins with is entered, where the stack has room for it.
 fn enter_if_room(at: &TextAt, t: &Text, vs: &[Value], world: &mut World) -> Result<(), Stop>
-    ensures { Gives (spec.call_entered_if_room at.now.fun t.now at.now.frame vs.now world.old) result world.new }
+    ensures { Gives (spec.call_entered_if_room at.now t.now vs.now world.old) result world.new }
 {
     let Some(used) = world.used().checked_add(u64::from(at.frame.cost)) else {
         return Err(Stop::NoRoom)
@@ -103,7 +96,7 @@ fn enter_if_room(at: &TextAt, t: &Text, vs: &[Value], world: &mut World) -> Resu
         let key = at.fun.copy(world.alloc())?;
         return Err(Stop::StackFull(Shared::new(world.alloc(), key)?));
     }
-    enter_call(&at.fun, t, &at.frame, used, vs, world)
+    enter_call(at, t, used, vs, world)
 }
 
 // Whether the stub of a function leads to an address.
@@ -187,7 +180,7 @@ fn may_enter(block: u32, at: &TextAt, world: &World) -> bool
     ensures { result ≡ entering.may_enter block at.now world.now.frames }
 {
     let is_there = (block as usize) < at.frame.blocks.len();
-    is_there && is_call_of(&at.fun, world) && !is_open(block, world)
+    is_there && is_call_at(at.start, world) && !is_open(block, world)
 }
 
 // Another block of the innermost call.

@@ -2,10 +2,9 @@
 ghost use Rattle.std.specs.Prelude.{◌≡◌, ◌-◌};
 ghost use Rattle.sc_services.specs.Frames as spec;
 
-use sc_base::{Form, Key};
+use sc_base::Form;
 use sc_emu::Regs;
 use sc_interp_world::{Born, Frame, World};
-use sc_meaning_values::same_key;
 
 /// Where the stack ends.
 const STACK_END: u32 = 0x2000_0000;
@@ -47,13 +46,13 @@ pub fn is_in_code(world: &World) -> bool
     }
 }
 
-/// Whether the innermost call is of compiled code, and of this function.
-pub fn is_call_of(key: &Key, world: &World) -> bool
-    ensures { result ≡ spec.is_call_of key.now world.now.frames }
+/// Whether the innermost call is of compiled code, and of the text that begins at this address.
+pub fn is_call_at(start: u32, world: &World) -> bool
+    ensures { result ≡ spec.is_call_at start world.now.frames }
 {
     match world.innermost() {
         None => false,
-        Some(frame) => is_object(frame.form) && same_key(&frame.key, key),
+        Some(frame) => is_object(frame.form) && frame.start == start,
     }
 }
 

@@ -1,7 +1,6 @@
 // Services 3 and 6: blocks of a compiled call are left, and the call itself.
 ghost use Rattle.std.specs.Prelude.{◌≡◌, IfOk};
 ghost use Rattle.sc_emu.specs.Registers.{register};
-ghost use Rattle.sc_isa_image.specs.Lookups.{text_at};
 ghost use Rattle.sc_services.specs.Blocks as spec;
 ghost use Rattle.sc_services.specs.Leaving as leaving;
 
@@ -10,7 +9,6 @@ use sc_base::{Duplicate, Items, NoMemory};
 use sc_emu::Regs;
 use sc_interp_parts::all_dead;
 use sc_interp_world::{Born, Event, World};
-use sc_isa_image::Image;
 
 /// The register that holds the number of a block.
 const BLOCK: u8 = 6;
@@ -67,13 +65,13 @@ fn close_up_to(block: u32, world: &mut World) -> Result<(), NoMemory>
     Ok(())
 }
 
-// What the frame of a call costs that runs the text in which the `ecall` stands.
-fn cost_here(regs: &Regs, image: &Image) -> u32
-    ensures { result ≡ leaving.cost_here image.now regs.now }
+// What the frame of the innermost call took of the stack.
+fn top_cost(world: &World) -> u32
+    ensures { result ≡ spec.top_cost world.now.frames }
 {
-    match image.text_at(regs.pc().wrapping_sub(4)) {
+    match world.innermost() {
         None => 0,
-        Some(at) => at.frame.cost,
+        Some(frame) => frame.cost,
     }
 }
 
@@ -88,13 +86,13 @@ fn leave_call(cost: u32, world: &mut World) -> Result<(), NoMemory>
 }
 
 // A block is left, and with that of the parameters the call.
-fn leave_to(block: u32, regs: &Regs, image: &Image, world: &mut World) -> Result<Left, NoMemory>
-    ensures { IfOk result (λ left. leaving.Leaves block (leaving.cost_here image.now regs.now) world.old left world.new) }
+fn leave_to(block: u32, world: &mut World) -> Result<Left, NoMemory>
+    ensures { IfOk result (λ left. leaving.Leaves block world.old left world.new) }
 {
     if !is_in_code(world) || !is_open(block, world) {
         return Ok(Left::Refused);
     }
-    let cost = cost_here(regs, image);
+    let cost = top_cost(world);
     close_up_to(block, world)?;
     if block != 0 {
         return Ok(Left::Block);
@@ -104,17 +102,17 @@ fn leave_to(block: u32, regs: &Regs, image: &Image, world: &mut World) -> Result
 }
 
 /// Service 3, for the block in t1: the objects of this block and of those inside it die, the last born first. With block 0 the
-/// call is left, and the stack given back that the text's frame costs in which the `ecall` stands. It is refused where the innermost
-/// call is not of compiled code, or the block not open in it. The registers stand behind the `ecall`.
-pub fn leave(regs: &Regs, image: &Image, world: &mut World) -> Result<Left, NoMemory>
-    ensures { IfOk result (λ left. leaving.Leaves (register regs.now 6).bits (leaving.cost_here image.now regs.now) world.old left world.new) }
+/// call is left, and the stack given back that its frame took. It is refused where the innermost call is not of compiled code, or the
+/// block not open in it.
+pub fn leave(regs: &Regs, world: &mut World) -> Result<Left, NoMemory>
+    ensures { IfOk result (λ left. leaving.Leaves (register regs.now 6).bits world.old left world.new) }
 {
-    leave_to(regs.get(BLOCK).bits, regs, image, world)
+    leave_to(regs.get(BLOCK).bits, world)
 }
 
 /// Service 6: as service 3 for block 0, of a call that gives no value.
-pub fn fall(regs: &Regs, image: &Image, world: &mut World) -> Result<Left, NoMemory>
-    ensures { IfOk result (λ left. leaving.Leaves 0 (leaving.cost_here image.now regs.now) world.old left world.new) }
+pub fn fall(world: &mut World) -> Result<Left, NoMemory>
+    ensures { IfOk result (λ left. leaving.Leaves 0 world.old left world.new) }
 {
-    leave_to(0, regs, image, world)
+    leave_to(0, world)
 }

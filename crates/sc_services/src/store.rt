@@ -1,15 +1,16 @@
 // Stores of compiled code, which test no rule.
 ghost use Rattle.std.specs.Prelude.{◌≡◌, ◌==◌, false, IfOk};
 ghost use Rattle.sc_mem.specs.Words.{IsSize};
+ghost use Rattle.sc_interp_world.specs.Putting.{PutsAll};
 ghost use Rattle.sc_mem_store.specs.Living.{IsLiveAt};
 ghost use Rattle.sc_meaning.specs.World.{object_at as object_in};
 ghost use Rattle.sc_services.specs.Memory as spec;
 ghost use Rattle.sc_services.specs.Memory.{StandsAt, size_in};
-ghost use Rattle.sc_services.specs.Writing.{IsStoredBy, KeepsIfBeside, StoresAt, StoresIfThere, Writes};
+ghost use Rattle.sc_services.specs.Writing.{IsStoredBy, KeepsIfBeside, StoresAt, StoresIfThere};
 
-use crate::bytes::{cell_of, load, number_of};
-use sc_base::{Items, NoMemory, Word};
-use sc_interp_world::{Cell, Place, World, object_at};
+use crate::bytes::{cells_of, load};
+use sc_base::{Cell as Stored, NoMemory, Word};
+use sc_interp_world::{Place, World};
 use sc_meaning_values::Value;
 
 // How many bytes an object has.
@@ -17,7 +18,7 @@ use sc_meaning_values::Value;
 fn size_of(id: u32, world: &World) -> u32
     ensures { result ≡ size_in (object_in world.now.objects id) }
 {
-    match object_at(world.objects(), id) {
+    match world.objects().find(id) {
         None => 0,
         Some(object) => object.size,
     }
@@ -58,24 +59,21 @@ fn store_inside(
     world.store(place.id, place.offset, many, &v)
 }
 
-/// One byte is put at an address inside the areas, into the live object there or beside all objects. Beside them a piece of a
-/// pointer is the number that it has as a byte.
-#[tactic(auto, using(crate::proofs::Writing::kept))]
-pub fn put_cell(at: u32, cell: Cell, world: &mut World) -> Result<(), NoMemory>
-    ensures { IfOk result (λ _. Writes world.old world.new) }
+/// Cells of memory are put one after another, from an address on: each into the live object that has the byte there, or beside all
+/// objects.
+#[tactic(auto, using(crate::proofs::Writing::puts_none, crate::proofs::Writing::puts_turn, crate::proofs::Writing::puts_done))]
+pub fn put_cells(to: u32, cells: &[Stored], world: &mut World) -> Result<(), NoMemory>
+    ensures { IfOk result (λ _. PutsAll to cells.now world.old world.new) }
 {
-    match world.live_at(at) {
-        Some(place) => {
-            let mut cells = Items::new(world.alloc());
-            cells.push(cell)?;
-            world.put(place.id, place.offset, cells)
-        }
-        None => {
-            let bits = u32::from(number_of(&cell, world)?);
-            drop(cell);
-            keep(at, 1, Word { bits, tag: 0 }, world)
-        }
+    let mut at = to;
+    for cell in cells {
+        world.put_raw(at, *cell)?;
+        let Some(next) = at.checked_add(1) else {
+            return Err(NoMemory);
+        };
+        at = next;
     }
+    Ok(())
 }
 
 // A word is written beside all objects, where it can be; else nothing is.
@@ -87,33 +85,6 @@ fn keep_some(at: u32, size: u8, word: Word, world: &mut World) -> Result<Option<
     world.keep(at, size, word)
 }
 
-/// Bytes beside all objects are written. An address outside the areas has none.
-#[tactic(auto, using(crate::proofs::Writing::one_beside))]
-pub fn keep(at: u32, size: u8, word: Word, world: &mut World) -> Result<(), NoMemory>
-    requires { IsSize size }
-    ensures { IfOk result (λ _. Writes world.old world.new) }
-{
-    match keep_some(at, size, word, world)? {
-        Some(()) => Ok(()),
-        None => Err(NoMemory),
-    }
-}
-
-// A word is stored byte by byte, where only its first bytes are an object's.
-#[tactic(auto, using(crate::proofs::Writing::kept, crate::proofs::Writing::one_more))]
-fn store_bytes(at: u32, size: u8, word: Word, world: &mut World) -> Result<(), NoMemory>
-    ensures { IfOk result (λ _. Writes world.old world.new) }
-{
-    for k in 0..u32::from(size) {
-        let Some(next) = at.checked_add(k) else {
-            return Err(NoMemory);
-        };
-        let cell = cell_of(word, size, k, world)?;
-        put_cell(next, cell, world)?;
-    }
-    Ok(())
-}
-
 // A word is stored over the end of the object that has the byte at an address.
 #[tactic(auto, using(crate::proofs::Writing::stored_over))]
 fn store_over_end(
@@ -123,14 +94,18 @@ fn store_over_end(
     word: Word,
     world: &mut World,
 ) -> Result<(), NoMemory>
-    requires { StandsAt world.old place.id place.offset at × (spec.has_bytes world.old.objects place.id place.offset size ≡ false) }
+    requires size { IsSize size }
+    requires place { StandsAt world.old place.id place.offset at × (spec.has_bytes world.old.objects place.id place.offset size ≡ false) }
     ensures { IfOk result (λ _. StoresAt at size word world.old world.new) }
 {
-    store_bytes(at, size, word, world)
+    let cells = cells_of(world.alloc(), size, word)?;
+    put_cells(at, cells.as_slice(), world)?;
+    world.tell_stored(at, size, word)
 }
 
 // A word is stored where its first byte is a live object's.
 fn store_over(at: u32, size: u8, word: Word, world: &mut World) -> Result<(), NoMemory>
+    requires { IsSize size }
     ensures { IfOk result (λ _. StoresAt at size word world.old world.new) }
 {
     let Some(place) = world.live_at(at) else {

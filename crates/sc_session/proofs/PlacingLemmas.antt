@@ -37,10 +37,6 @@ lacking_by Lacks More more (short.Space area.Text) p = more place.Text p
 lacking_by Lacks More more (short.Space area.Static) p = more place.Static p
 lacking_by Lacks More more short.NoMemory p = tt
 
--- want of memory says nothing
-pub lacking_none : (Lacks : Place → Type 0) (f : ImageFault) → f ≡ short.NoMemory → IsLacking Lacks f
-lacking_none Lacks f is = subst (IsLacking Lacks) (sym is) tt
-
 -- ---- the last version
 
 last_more : (x y : List Placed) (all : List (List Placed)) → last (x ∷ y ∷ all) ≡ last (y ∷ all)

@@ -16,7 +16,7 @@ use Rattle.sc_session.specs.Mixing.{Becomes, BecomesBy, BecomesOver, IsUnlinked,
 use Rattle.sc_session.specs.Modules.{texts}
 use Rattle.sc_session.specs.Placing.{IsImageOver, IsLacking, IsLast, each_placed, placed_over, plan_of}
 use Rattle.sc_session.specs.Plain.{Plain}
-use Rattle.sc_session.proofs.PlacingLemmas.{lacking_none, linked_last}
+use Rattle.sc_session.proofs.PlacingLemmas.{linked_last}
 
 module _ (Is : Image → Type 0) where
   relinks_by : (b : Bool) (s t : State) → needs_image b s ≡ true → Relinks Is false s t → Relinks Is b s t
@@ -69,10 +69,8 @@ pub relinked : (session new : Plain) (r : Result (Unit {0}) ImageFault) → need
 relinked session new (Ok t) needs p = becomes_over session new needs p
 relinked session new (Err f) needs p = (unlinked session f needs p.0, p.1)
 
-pub gone_over_so : (session new : Plain) (r : Result (Unit {0}) ImageFault) (i : Image) → IsImageOver session.past session.modules session.numbers i
-    → MatchResult r (λ _. BecomesOver (λ j. j ≡ i) false session new) (λ f. (f ≡ short.NoMemory) × (new ≡ session)) → Found session r new
-gone_over_so session new (Ok t) i is (s, relinks, e) = (s, relinks_so (IsImageOver session.past session.modules session.numbers) i is false session.state s relinks, e)
-gone_over_so session new (Err f) i is p = (lacking_none (IsOver (placed_over session.past session.modules) (functions_by session.numbers)) f p.0, p.1)
+pub gone_over_so : (session new : Plain) (i : Image) → IsImageOver session.past session.modules session.numbers i → BecomesOver (λ j. j ≡ i) false session new → BecomesBy false session new
+gone_over_so session new i is (s, relinks, e) = (s, relinks_so (IsImageOver session.past session.modules session.numbers) i is false session.state s relinks, e)
 
 -- the tests of the code are those of the session
 pub needs_by : (v session : Plain) (listed : List Present) (all : Bool) (b c : Bool) → v ≡ session → listed ≡ v.modules → all ≡ are_sources (texts listed) → b ≡ needs_image all v.state → b ≡ c
@@ -83,9 +81,6 @@ needs_by v session listed all b c is same are said it =
 -- a session in whose place of the state another was put
 pub over_so : (Is : Image → Type 0) (old v : Plain) (s t : State) → v ≡ old → Relinks Is false v.state s → t ≡ s → BecomesOver Is false old (record v { state = t })
 over_so Is old v s t is relinks put = (s, subst (λ p. Relinks Is false p.state s) is relinks, ap (λ x. record v { state = x }) put ∙ ap (in_state s) is)
-
-pub given_back : (old v : Plain) (s t : State) → v ≡ old → s ≡ v.state → t ≡ s → record v { state = t } ≡ old
-given_back old v s t is back put = ap (λ x. record v { state = x }) (put ∙ back) ∙ is
 
 -- ---- the plan
 

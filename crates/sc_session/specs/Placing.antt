@@ -26,7 +26,6 @@ use Rattle.sc_session.specs.declared.placing.Way.{Way}
 use Rattle.sc_session.specs.declared.placing.Way.TheVariants as way
 use Rattle.sc_session.specs.declared.present.Present.{Present}
 use Rattle.sc_session.specs.declared.relinking.Plan.{Plan}
-use Rattle.sc_session.specs.Changing.{texts_held}
 use Rattle.sc_session.specs.Linking.{linking_of}
 use Rattle.sc_session.specs.Modules.{texts}
 use Rattle.sc_session.specs.Plain.{Plain}
@@ -169,7 +168,6 @@ each_placed (first ∷ past) modules = each_over first (past ++ modules ∷ []) 
 abbrev pub plan_of : Plain → Plan
 plan_of session = record {
   functions = functions_by session.numbers;
-  held = texts_held session.past session.modules;
   placed = each_placed session.past session.modules;
 }
 

@@ -367,7 +367,7 @@ fn one_placed(
 }
 
 // Where the modules of each version of a run are placed: those before its changes, and the present ones.
-fn placed_versions(
+pub fn placed_versions(
     alloc: Global,
     past: &[Items<Present>],
     modules: &[Present],

@@ -10,34 +10,28 @@ use crate::placing::placed_within;
 use crate::present::texts_of;
 use crate::session::Session;
 use crate::state::{State, put_state};
-use crate::versions::texts_held;
 use sc_base::{Items, Key, NoMemory};
-use sc_core_held::Text;
 use sc_image::Placements;
 use sc_isa_image::Image;
-use sc_link::Placed;
 use sc_mixed::take_over;
 use sc_session_forms::{are_sources, functions_by};
 use std::alloc::Global;
 use std::mem;
 
-/// What an image is for: the functions by their numbers, the texts of which calls may be active, and where the modules of each version
-/// are placed.
+/// What an image is for: the functions by their numbers, and where the modules of each version are placed.
 #[derive(Drop)]
 pub struct Plan {
     pub functions: Items<Key>,
-    pub held: Items<Text>,
     pub placed: Items<Placements>,
 }
 
 impl Plan {
     /// Nothing is placed.
     pub fn nowhere(alloc: Global) -> Plan
-        ensures { result ≡ record { functions = []; held = []; placed = [] } }
+        ensures { result ≡ record { functions = []; placed = [] } }
     {
         Plan {
             functions: Items::new(alloc),
-            held: Items::new(alloc),
             placed: Items::new(alloc),
         }
     }
@@ -57,54 +51,33 @@ fn needs_image(state: &State, sources: bool) -> bool
     }
 }
 
-// A state whose run goes over to this image. Where no memory is left the state is given back.
-fn gone_over(
-    alloc: Global,
-    state: State,
-    image: Image,
-    held: &[Text],
-    placed: &[Placed],
-    functions: &[Key],
-) -> Result<State, State>
-    ensures ok { IfOk result (spec.Relinks (λ i. i ≡ image) false state) }
-    ensures err { IfErr result (λ back. back ≡ state) }
+// A state whose run goes over to this image.
+fn gone_over(alloc: Global, state: State, image: Image) -> State
+    ensures { spec.Relinks (λ i. i ≡ image) false state result }
 {
     match state {
         State::StoppedMixed(run) => {
             let mut run = run;
             run.relink(image);
-            Ok(State::StoppedMixed(run))
+            State::StoppedMixed(run)
         }
-        State::Stopped(run) => match take_over(alloc, run, held, image, placed, functions) {
-            Ok(run) => Ok(State::StoppedMixed(run)),
-            Err(run) => Err(State::Stopped(run)),
-        },
+        State::Stopped(run) => State::StoppedMixed(take_over(alloc, run, image)),
         State::Idle => {
             drop(image);
-            Ok(State::Idle)
+            State::Idle
         }
         State::Paused(run) => {
             drop(image);
-            Ok(State::Paused(run))
+            State::Paused(run)
         }
         State::PausedMixed(run) => {
             drop(image);
-            Ok(State::PausedMixed(run))
+            State::PausedMixed(run)
         }
         State::Ended => {
             drop(image);
-            Ok(State::Ended)
+            State::Ended
         }
-    }
-}
-
-// The entries of the version with a number.
-fn placed_at(placed: &[Placements], i: usize) -> Option<&[Placed]>
-    ensures { MatchOption result (slice_get placed.now i ≡ None) (λ es. slice_get placed.now i ≡ Some es.now) }
-{
-    match placed.get(i) {
-        Some(p) => Some(p.as_slice()),
-        None => None,
     }
 }
 
@@ -144,15 +117,8 @@ impl Session {
         let Ok(functions) = functions_by(alloc, &self.numbers) else {
             return Err(ImageFault::NoMemory);
         };
-        let Ok(held) = texts_held(alloc, past, modules) else {
-            return Err(ImageFault::NoMemory);
-        };
         match placed_within(alloc, past, modules, functions.as_slice()) {
-            Ok(placed) => Ok(Plan {
-                functions,
-                held,
-                placed,
-            }),
+            Ok(placed) => Ok(Plan { functions, placed }),
             Err(fault) => Err(fault),
         }
     }
@@ -179,30 +145,19 @@ impl Session {
             Err(fault) => return Err(fault),
         };
         match last_image(alloc, plan.placed.as_slice(), plan.functions.as_slice()) {
-            Ok(image) => self.go_over(alloc, image, &plan),
+            Ok(image) => {
+                self.go_over(alloc, image);
+                Ok(())
+            }
             Err(_) => Err(ImageFault::NoMemory),
         }
     }
 
-    fn go_over(&mut self, alloc: Global, image: Image, plan: &Plan) -> Result<(), ImageFault>
-        ensures { MatchResult result (λ _. spec.BecomesOver (λ i. i ≡ image) false self.old self.new) (λ f. (f ≡ ImageFault.NoMemory) × (self.new ≡ self.old)) }
+    fn go_over(&mut self, alloc: Global, image: Image)
+        ensures { spec.BecomesOver (λ i. i ≡ image) false self.old self.new }
     {
-        let Some(placed) = placed_at(plan.placed.as_slice(), self.come) else {
-            drop(image);
-            return Err(ImageFault::NoMemory);
-        };
-        let held = plan.held.as_slice();
-        let functions = plan.functions.as_slice();
         let state = mem::replace(&mut self.state, State::Idle);
-        match gone_over(alloc, state, image, held, placed, functions) {
-            Ok(state) => {
-                put_state(&mut self.state, state);
-                Ok(())
-            }
-            Err(state) => {
-                put_state(&mut self.state, state);
-                Err(ImageFault::NoMemory)
-            }
-        }
+        let over = gone_over(alloc, state, image);
+        put_state(&mut self.state, over);
     }
 }

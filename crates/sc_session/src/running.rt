@@ -12,11 +12,12 @@ ghost use Rattle.sc_session.specs.Transcript as spec;
 ghost use Rattle.sc_session.specs.Transcript.{moment};
 ghost use Rattle.sc_world.specs.declared.post.Unsent.TheVariants as unsent;
 
-use crate::going::{Lost, gone, has_main, run_in, run_out_of};
+use crate::going::{Lost, gone, has_main, run_out_of};
 use crate::hearing::mixed_heard_in;
 use crate::input::{Input, input_of};
 use crate::linking::{ImageFault, linked};
 use crate::mixing::{is_fresh, is_mixed, mixed_go_through, mixed_out_of, mixed_state};
+use crate::placing::placed_versions;
 use crate::present::texts_of;
 use crate::relinking::{Plan, placed_from};
 use crate::session::Session;
@@ -27,9 +28,9 @@ use sc_core_held::Text;
 use sc_interp::main_key;
 use sc_interp_world::Layout;
 use sc_isa_image::Image;
-use sc_mixed::{MixedRun, layout_of};
+use sc_mixed::{MixedRun, layout_placed};
 use sc_outside::{Files, Sink};
-use sc_session_forms::{are_sources, mixed_gone};
+use sc_session_forms::{are_sources, functions_by, mixed_gone};
 use sc_words::{Answer, Denied, StopAt, Walk};
 use sc_world::{Run, Unsent};
 use std::alloc::Global;
@@ -80,7 +81,7 @@ impl Session {
         let Ok(versions) = self.versions(alloc) else {
             return None;
         };
-        let Ok(plan) = self.plan(alloc) else {
+        let Ok(plan) = self.plan_heard(alloc, versions.as_slice().len()) else {
             return None;
         };
         let mut run = mixed_out_of(mem::replace(&mut self.state, State::Ended));
@@ -180,7 +181,7 @@ impl Session {
         let Ok(versions) = self.versions(alloc) else {
             return None;
         };
-        let Ok(plan) = self.plan_heard(alloc) else {
+        let Ok(plan) = self.plan_heard(alloc, versions.as_slice().len()) else {
             return None;
         };
         let mut run = run_out_of(mem::replace(&mut self.state, State::Ended));
@@ -360,22 +361,27 @@ impl Session {
         }
     }
 
-    // Where the program stands in memory, where some probe listens: it is told of addresses.
-    fn layout_heard(&self, alloc: Global, texts: &Items<Text>) -> Result<Option<Layout>, NoMemory> {
-        if !self.listened {
-            return Ok(None);
-        }
-        match linked(alloc, self.modules.as_slice(), &self.numbers) {
-            Ok(image) => Ok(Some(layout_of(alloc, texts.as_slice(), &image)?)),
-            Err(e) => Err(e),
+    // Where the program stands in memory: where its image would have it.
+    fn layout_heard(&self, alloc: Global) -> Result<Layout, NoMemory> {
+        let functions = functions_by(alloc, &self.numbers)?;
+        // The modules were found to have room as they were loaded: a fault is memory.
+        let Ok(versions) = placed_versions(
+            alloc,
+            &[],
+            self.modules.as_slice(),
+            functions.as_slice(),
+        ) else {
+            return Err(NoMemory);
+        };
+        match versions.as_slice().last() {
+            None => Err(NoMemory),
+            Some(placed) => layout_placed(alloc, placed.as_slice(), functions.as_slice()),
         }
     }
 
-    // Where the modules of the versions are placed for a run whose objects have addresses; for another nothing.
-    fn plan_heard(&self, alloc: Global) -> Result<Plan, ImageFault>
-        requires { going.IsGoing self.now.state }
-    {
-        if run_in(&self.state).has_memory() {
+    // Where the modules of so many versions are placed, where the run has not come to the last of them; else nothing is asked of it.
+    fn plan_heard(&self, alloc: Global, versions: usize) -> Result<Plan, ImageFault> {
+        if self.come.saturating_add(1) < versions {
             self.plan(alloc)
         } else {
             Ok(Plan::nowhere(alloc))
@@ -422,11 +428,20 @@ impl Session {
         };
         let stack = u64::from(self.limits.stack);
         let heap = u64::from(self.limits.heap);
-        let Ok(layout) = self.layout_heard(alloc, &texts) else {
+        let Ok(layout) = self.layout_heard(alloc) else {
             return Ok(Answer::NoMemory);
         };
         let valued = self.is_valued();
-        let Ok(run) = Run::start(alloc, texts.as_slice(), key, stack, heap, input, layout) else {
+        let Ok(run) = Run::start(
+            alloc,
+            texts.as_slice(),
+            key,
+            stack,
+            heap,
+            input,
+            layout,
+            self.listened,
+        ) else {
             return Ok(Answer::NoMemory);
         };
         put_state(&mut self.state, State::Ended);

@@ -73,8 +73,7 @@ pub fn versions_from(versions: &[Items<Text>], come: usize) -> &[Items<Text>]
     rest
 }
 
-// What the next version bears stands where its modules are placed, where they are: the objects of a run to which nobody listens have no
-// addresses. The placements of the versions behind it are given back.
+// What the next version bears stands where its modules are placed. The placements of the versions behind it are given back.
 fn place_next<'a>(
     run: &mut Run,
     placed: &'a [Placements],
@@ -110,8 +109,7 @@ fn through(
     Ok(())
 }
 
-/// A run of the first of some versions goes through the others, one after the other. Where its objects have addresses, `placed` says where
-/// the modules of the others are placed.
+/// A run of the first of some versions goes through the others, one after the other: `placed` says where their modules are placed.
 ///
 /// # Errors
 ///

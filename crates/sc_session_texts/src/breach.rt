@@ -7,7 +7,7 @@ use crate::place::{Shown, access_text, value_text};
 use crate::word::{key_text, put, put_decimal, put_key, rule_text};
 use sc_base::{Int, Key, NoMemory, Op, Rule};
 use sc_interp_access::Breach;
-use sc_interp_world::{Object, World};
+use sc_interp_world::{Store, World};
 use sc_meaning_values::Value;
 use std::alloc::Global;
 
@@ -51,8 +51,8 @@ fn operand(rule: Rule, op: Op, i: Int) -> Shown
     }
 }
 
-fn operands_text(alloc: Global, b: &Breach, objects: &[Object]) -> Result<Vec<u8>, NoMemory>
-    ensures { IfOk result (λ text. text.items ≡ spec.operands_text b.now objects.now) }
+fn operands_text(alloc: Global, b: &Breach, objects: &Store) -> Result<Vec<u8>, NoMemory>
+    ensures { IfOk result (λ text. text.items ≡ spec.operands_text b.now objects.now.objects) }
 {
     let left = value_text(alloc, objects, operand(b.rule, b.op, b.int), &b.left)?;
     let right = value_text(alloc, objects, operand(b.rule, b.op, b.right_int), &b.right)?;
@@ -64,8 +64,8 @@ fn operands_text(alloc: Global, b: &Breach, objects: &[Object]) -> Result<Vec<u8
     Ok(text)
 }
 
-fn access_or_operands(alloc: Global, b: &Breach, objects: &[Object]) -> Result<Vec<u8>, NoMemory>
-    ensures { IfOk result (λ text. text.items ≡ spec.access_or_operands b.now objects.now) }
+fn access_or_operands(alloc: Global, b: &Breach, objects: &Store) -> Result<Vec<u8>, NoMemory>
+    ensures { IfOk result (λ text. text.items ≡ spec.access_or_operands b.now objects.now.objects) }
 {
     if b.size == 0 {
         return operands_text(alloc, b, objects);
@@ -88,8 +88,8 @@ fn name_text(alloc: Global, name: &Option<Key>) -> Result<Vec<u8>, NoMemory>
     }
 }
 
-fn value_tail(alloc: Global, v: &Value, objects: &[Object]) -> Result<Vec<u8>, NoMemory>
-    ensures { IfOk result (λ text. text.items ≡ codes " value " ++ value_text objects.now Shown.Address v.now) }
+fn value_tail(alloc: Global, v: &Value, objects: &Store) -> Result<Vec<u8>, NoMemory>
+    ensures { IfOk result (λ text. text.items ≡ codes " value " ++ value_text objects.now.objects Shown.Address v.now) }
 {
     let value = value_text(alloc, objects, Shown::Address, v)?;
     let mut text = Vec::new(alloc);
@@ -121,8 +121,8 @@ fn name_tail(alloc: Global, b: &Breach) -> Result<Vec<u8>, NoMemory>
 }
 
 // What is said of an undefined step behind its place.
-fn tail_text(alloc: Global, b: &Breach, objects: &[Object]) -> Result<Vec<u8>, NoMemory>
-    ensures { IfOk result (λ text. text.items ≡ spec.tail_text b.now.rule b.now objects.now) }
+fn tail_text(alloc: Global, b: &Breach, objects: &Store) -> Result<Vec<u8>, NoMemory>
+    ensures { IfOk result (λ text. text.items ≡ spec.tail_text b.now.rule b.now objects.now.objects) }
 {
     match b.rule {
         Rule::U12 => value_tail(alloc, &b.left, objects),

@@ -8,7 +8,7 @@ ghost use Rattle.sc_session_texts.specs.Words.{key_text};
 use crate::word::{put, put_decimal, put_key, put_signed};
 use sc_base::{Int, Key, NoMemory};
 use sc_interp_access::number_of;
-use sc_interp_world::{Object, object_at};
+use sc_interp_world::Store;
 use sc_meaning_values::{Shape, Value};
 use std::alloc::Global;
 
@@ -66,10 +66,10 @@ fn address_text(alloc: Global, n: u32) -> Result<Vec<u8>, NoMemory>
 }
 
 // Nothing for an object that lives.
-fn life_text(objects: &[Object], id: u32) -> &'static [u8]
-    ensures { result.now ≡ spec.life_text (at objects.now id) }
+fn life_text(objects: &Store, id: u32) -> &'static [u8]
+    ensures { result.now ≡ spec.life_text (at objects.now.objects id) }
 {
-    match object_at(objects, id) {
+    match objects.find(id) {
         Some(o) => { if o.live { b"" } else { b"dead " } }
         None => b"dead ",
     }
@@ -84,8 +84,8 @@ fn function_text(alloc: Global, key: &Key) -> Result<Vec<u8>, NoMemory>
     Ok(text)
 }
 
-fn pointer_text(alloc: Global, objects: &[Object], o: u32, i: u32) -> Result<Vec<u8>, NoMemory>
-    ensures { IfOk result (λ text. text.items ≡ spec.pointer_text objects.now o i) }
+fn pointer_text(alloc: Global, objects: &Store, o: u32, i: u32) -> Result<Vec<u8>, NoMemory>
+    ensures { IfOk result (λ text. text.items ≡ spec.pointer_text objects.now.objects o i) }
 {
     let mut text = Vec::new(alloc);
     put(&mut text, life_text(objects, o))?;
@@ -99,11 +99,11 @@ fn pointer_text(alloc: Global, objects: &[Object], o: u32, i: u32) -> Result<Vec
 /// A value.
 pub fn value_text(
     alloc: Global,
-    objects: &[Object],
+    objects: &Store,
     how: Shown,
     v: &Value,
 ) -> Result<Vec<u8>, NoMemory>
-    ensures { IfOk result (λ text. text.items ≡ spec.value_text objects.now how v.now) }
+    ensures { IfOk result (λ text. text.items ≡ spec.value_text objects.now.objects how v.now) }
 {
     match &v.shape {
         Shape::Number(n) => number_text(alloc, how, *n),

@@ -489,7 +489,7 @@ impl Fold {
     }
 
     fn is_same(&self, world: &World, id: u32, b: Born) -> bool {
-        match world.objects().get(id.wrapping_sub(1) as usize) {
+        match world.objects().find(id) {
             None => false,
             Some(o) => {
                 let base = if b.live { Some(b.base) } else { None };
@@ -512,7 +512,7 @@ impl Fold {
                 }
             }
         }
-        if world.objects().len() == self.born.len() {
+        if world.objects().len() as usize == self.born.len() {
             None
         } else {
             Some(Odd::Object(id.wrapping_add(1)))

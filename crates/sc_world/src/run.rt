@@ -73,31 +73,30 @@ impl Model for Run {
     ghost view = { λ r. spec.standing r.course r.callers r.world r.count };
 }
 
-// A world in which nothing is there yet. Where it is heard its objects will stand at addresses, and the entry has a number.
+// A world in which nothing is there yet. Its objects will stand at addresses. Where it is heard the entry has a number.
 fn world_of(
     alloc: Global,
     key: &Key,
     stack: u64,
     heap: u64,
     input: Items<u8>,
-    heard: Option<Layout>,
+    layout: Layout,
+    heard: bool,
 ) -> Result<World, NoMemory>
     ensures { IfOk result (λ w. w ≡ record { stack = stack; heap = heap; objects = []; used = 0; free = replicate 29 0; made = 0; input = input; seed = 1; frames = []; names = []; enters = 0; count = 0; begun = 0; trail = []; beside = nothing_beside }) }
 {
-    match heard {
-        None => World::nowhere(alloc, stack, heap, input),
-        Some(layout) => {
-            let mut world = World::heard(alloc, stack, heap, input, layout)?;
-            world.name_entry(key)?;
-            Ok(world)
-        }
+    let mut world = World::aside(alloc, stack, heap, input, layout, heard)?;
+    if !heard {
+        return Ok(world);
     }
+    world.name_entry(key)?;
+    Ok(world)
 }
 
 impl Run {
     /// A run of these texts from its start on: the static objects are born, and the call of the entry, the function with this key, goes
-    /// out. Its input and the bytes that stack and heap may have are given. Where somebody listens to it, it is `heard` with the addresses at which
-    /// static objects stand, and all that happens is recorded. A run that is over at once says so at its first go.
+    /// out. Its input and the bytes that stack and heap may have are given, and the addresses at which static objects stand. Where somebody
+    /// listens to it, it is `heard`, and all that happens is recorded. A run that is over at once says so at its first go.
     ///
     /// # Errors
     ///
@@ -109,12 +108,13 @@ impl Run {
         stack: u64,
         heap: u64,
         input: Items<u8>,
-        heard: Option<Layout>,
+        layout: Layout,
+        heard: bool,
     ) -> Result<Run, NoMemory>
         ensures starts { IfOk result (λ r. r ≡ Some (started texts.now key.now stack heap input)) }
         ensures meant { IfOk result (λ r. IsRunOf (start_of texts.now key.now stack heap input) texts.now r) }
     {
-        let mut world = world_of(alloc, key, stack, heap, input, heard)?;
+        let mut world = world_of(alloc, key, stack, heap, input, layout, heard)?;
         let callers = Stack::new(alloc);
         let first = begun(texts, key, &callers, &mut world);
         let course = course_of(first)?;
@@ -200,25 +200,8 @@ impl Run {
         Ok(())
     }
 
-    /// The objects of the run get addresses: each live one stands at the address that is given by its place in the list, one of the
-    /// heap in a block of its own. Nothing else changes.
-    ///
-    /// # Errors
-    ///
-    /// `NoMemory` also where they have addresses already, and where an object cannot stand at its address. Nothing is changed then.
-    pub fn remember(&mut self, layout: Layout, bases: &[u32]) -> Result<(), NoMemory>
-        ensures { self.new ≡ self.old }
-    {
-        self.world.remember(layout, bases)
-    }
-
-    /// Whether the objects of the run have addresses.
-    pub fn has_memory(&self) -> bool {
-        self.world.has_memory()
-    }
-
-    /// More functions get the next numbers, and static objects that are born from here on stand at these places, where the objects of
-    /// the run have addresses. Nothing else changes.
+    /// More functions get the next numbers, and static objects that are born from here on stand at these places. Nothing else
+    /// changes.
     ///
     /// # Errors
     ///
@@ -226,10 +209,6 @@ impl Run {
     pub fn place(&mut self, more_functions: &[Shared<Key>], places: Names) -> Result<(), NoMemory>
         ensures { self.new ≡ self.old }
     {
-        if !self.has_memory() {
-            drop(places);
-            return Ok(());
-        }
         // No compiled code has come into this run.
         if self.world.shows_memory() {
             drop(places);

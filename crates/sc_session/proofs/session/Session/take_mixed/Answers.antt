@@ -6,8 +6,8 @@ use Rattle.sc_session.proofs.session.Session.take_mixed.Goals as goal
 pub returns-in_default : goal.returns-in_default
 returns-in_default c = inl refl
 
-pub returns-in_default-plan : goal.returns-in_default-plan
-returns-in_default-plan c = inl refl
+pub returns-in_default-plan_heard : goal.returns-in_default-plan_heard
+returns-in_default-plan_heard c = inl refl
 
 pub returns-in-Ok-mixed_go_through : goal.returns-in-Ok-mixed_go_through
 returns-in-Ok-mixed_go_through c =

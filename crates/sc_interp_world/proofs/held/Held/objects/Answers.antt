@@ -1,0 +1,7 @@
+use Rattle.sc_interp_world.proofs.Keeping.{objects_are}
+use Rattle.sc_interp_world.proofs.held.Held.objects.Goals as goal
+
+pub returns : goal.returns
+returns c =
+    let s = c.self.inside in
+    objects_are s.shown s.store c.args.self.now c.self.view_is

@@ -1,0 +1,5 @@
+void see(int *p) {
+  int i;
+  i = *p;
+  i = i + 1;
+}
