@@ -1,0 +1,24 @@
+//! The compiler's theorem for functions: services, loops, statements, lists of them and blocks, a function's text before its body and behind it,
+//! and the induction on trees; that the premises on a run can be had; and a function without a statement as a whole.
+#![tactic(auto)]
+
+mod empty;
+mod fit;
+mod functions;
+mod induction;
+mod lists;
+mod services;
+mod statements;
+mod turns;
+
+pub use empty::{functions_without_statements_are_right, one_function_is_right};
+pub use fit::{first_worlds_are_fit, fit_memories_hold_words, without_stubs_nothing_is_owed};
+pub use functions::{
+    entries_and_exits_are_asked_for, epilogues_return, frames_are_taken, stubs_lead_to_texts,
+    what_went_out_came_back,
+};
+pub use induction::trees_by_their_depth;
+pub use lists::{blocks_without_objects_are_not_seen, lists_and_blocks_do_what_is_meant};
+pub use services::services_are_asked_for;
+pub use statements::statements_do_what_is_meant;
+pub use turns::{comparisons_turn_back, loops_turn_as_is_meant, tests_turn_back};

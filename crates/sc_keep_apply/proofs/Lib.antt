@@ -1,6 +1,0 @@
-pub mod Putting
-pub mod Pushing
-pub mod Getting
-pub mod Memory
-pub mod Fetching
-pub mod Calling

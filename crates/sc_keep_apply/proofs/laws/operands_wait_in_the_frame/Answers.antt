@@ -1,8 +1,0 @@
-use Rattle.sc_keep_apply.proofs.Memory.{binary_remembers, pair_remembers}
-use Rattle.sc_keep_apply.proofs.laws.operands_wait_in_the_frame.Goals as goal
-
-pub returns-clause-pair : goal.returns-clause-pair
-returns-clause-pair c = pair_remembers
-
-pub returns-clause-operator : goal.returns-clause-operator
-returns-clause-operator c = binary_remembers

@@ -1,9 +1,0 @@
-pub mod Operands
-pub mod Pairs
-pub mod Words
-pub mod Operating
-pub mod Comparing
-pub mod Converting
-pub mod Feet
-pub mod Reading
-pub mod Turning

@@ -1,4 +1,0 @@
-pub mod Places
-pub mod Reaching
-pub mod Loading
-pub mod Fetching

@@ -1,4 +1,0 @@
-pub mod Near
-pub mod Framing
-pub mod Blocks
-pub mod Waiting

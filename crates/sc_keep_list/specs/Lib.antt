@@ -1,2 +1,0 @@
--- Inside: plumbing, a representation, an invariant or a promise beside the claim (docs/TRUST.md).
-pub mod Lists

@@ -1,8 +1,0 @@
-use Rattle.sc_keep_slots.proofs.laws.formed_slots_fit_their_frame.Goals as goal
-use Rattle.sc_keep_slots.proofs.Fitting.{slots_fit, words_below}
-
-pub returns-clause-fit : goal.returns-clause-fit
-returns-clause-fit c = slots_fit
-
-pub returns-clause-below : goal.returns-clause-below
-returns-clause-below c = words_below

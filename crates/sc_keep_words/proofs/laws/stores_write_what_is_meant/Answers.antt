@@ -1,9 +1,0 @@
-use Rattle.sc_keep_words.proofs.laws.stores_write_what_is_meant.Goals as goal
-use Rattle.sc_keep_words.proofs.Storing.{store_word}
-use Rattle.sc_keep_words.proofs.Copying.{copy_words}
-
-pub returns-clause-stores : goal.returns-clause-stores
-returns-clause-stores c = store_word
-
-pub returns-clause-copies : goal.returns-clause-copies
-returns-clause-copies c = copy_words
