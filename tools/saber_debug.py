@@ -10,7 +10,7 @@ from dataclasses import dataclass
 from saber_lines import Lines
 from saber_outer import Looker
 from saber_replay import SLICE, has_changes, setup_of
-from saber_search import OVER, functions_of
+from saber_search import OVER, at_line, functions_of
 
 # A place that was seen so often is no rare one.
 OFTEN = 3
@@ -86,7 +86,7 @@ class Debuggee:
         # the commands that led to the last halt, and the present go with its slices
         self._past, self._goal, self._slices = [], None, 0
         self._numbers, self.is_over, self.is_changed = {}, False, False
-        self._looker = None
+        self._looker, self._third = None, 0
 
     def close(self):
         self._look_no_more()
@@ -102,7 +102,7 @@ class Debuggee:
         """What looks at the run where it stands."""
         if not self._looker or self._looker.session is not self.session:
             self._look_no_more()
-            self._looker = Looker(self._setup, self.session, self._past, self.is_changed)
+            self._looker = Looker(self._setup, self.session, self._past, self.is_changed, self._third)
         return self._looker
 
     def take(self, past):
@@ -287,9 +287,10 @@ class Debuggee:
         """A setup that repeats this run."""
         return setup_of(self._setup, self._past)
 
-    def look_from(self, way):
-        """Looks at the run from another session from now on: one on a way that stands where the run ended."""
+    def look_from(self, way, third):
+        """Looks at the run from another session from now on: one on a way that stands where the run ended, perhaps in the third part of a `for`."""
         self._look_no_more()
+        self._third = third
         self.session.close()
         self.is_changed = has_changes(self._past)
         self.session, self._past = way.session, way.commands
@@ -297,7 +298,10 @@ class Debuggee:
     def frames(self):
         """The active calls, the innermost one first; none where the run shows none."""
         answer = self.session.ask("where")
-        return [] if answer.is_refused else [it for it in map(frame_of, answer.lines) if it]
+        calls = [] if answer.is_refused else list(answer.lines)
+        if self._third and calls:
+            calls[0] = at_line(calls[0], self._third)
+        return [it for it in map(frame_of, calls) if it]
 
 
 def stands_again(debuggee, past, command, seconds):

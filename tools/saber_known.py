@@ -22,7 +22,7 @@ class Known:
         file, _, line = self.place.rpartition(":") if re.search(r":\d+$", self.place) else (self.place, "", "")
         parts = tuple(it for it in file.split("/") if it not in ("", "."))
         is_file = bool(parts) and step.place is not None and step.place.path.parts[-len(parts):] == parts
-        return is_file and line in ("", str(step.place.line))
+        return is_file and line in ("", str(step.place.line), str(step.reported.line))
 
 
 def known_of(name):

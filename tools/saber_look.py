@@ -1,23 +1,24 @@
 """Evaluates an expression where a run stands, in a replay on a copy of one module's text.
 
 No command evaluates an expression in the midst of a run. In the copy the statement that is next at that place has a test of
-a constant in front, on the same line, and behind it the expression. The replay goes to the place by the same commands; there
-the constant is edited, and the run goes on up to a function behind the expression. The user's own run stays where it is.
+a constant in front, and behind it the expression. The replay goes to the place by the same commands; there the constant is
+edited, and the run goes on up to a function behind the expression. A function before it shows that nothing else is next. The
+user's own run stays where it is.
 """
 import re
 
-from saber_replay import has_changes, repeat, without_stops
+from saber_moved import Moved
+from saber_replay import go_again, has_changes, without_stops
 from saber_search import Lost, violation_of
 from saber_session import Module, View
-from saber_source import TOKEN, block_around, lines_of, parts_of
-from saber_statements import HEADS, body_around, tokens_of
+from saber_source import TOKEN, block_around, lines_of, names_in, parts_of
+from saber_spots import spots_at
+from saber_statements import HEADS, tokens_of
 
 NAME = "saber_look"
-# two objects of static storage duration, behind all others
-ADDED_OBJECTS = 2
-SHAPE = "struct saber_look { void *self; int is_busy; unsigned long same; long number; int is_unsigned; const void *pointer; void (*function)(void); }"
-MODULE = "const int saber_on = %d;\n" + SHAPE + " saber_look = {&saber_look};\nint saber_here(void) { return 0; }\n"
-DECLARED = f"extern const int saber_on; extern {SHAPE} saber_look; extern int saber_here(void); "
+SHAPE = "struct saber_look { void *self; int is_busy; unsigned long same; long number; int is_unsigned; const void *pointer; void (*function)(void); const int *on; }"
+MODULE = "const int saber_on = %d;\n" + SHAPE + " saber_look = {&saber_look};\nint saber_here(void) { return 0; }\nint saber_next(void) { return 0; }\n"
+DECLARED = f"extern const int saber_on; extern {SHAPE} saber_look; extern int saber_here(void), saber_next(void); "
 # how a value of each kind is kept, and which members of the object tell it
 KINDS = (
     ("saber_look.same = ({0}), saber_look.number = saber_look.same, saber_look.is_unsigned = (1 ? -1 : ({0})) > 0", "number"),
@@ -30,91 +31,38 @@ LAST_KINDS = (("saber_look.pointer = &({0})", "place"), ("(void) ({0})", "nothin
 # so many types are tried
 MOST_TYPES = 64
 NULLS = ("0", "NULL")
-TYPE_WORDS = frozenset("auto char const enum extern int long register short signed static struct typedef union unsigned void".split())
 # the turns that an expression may take
 TURNS = 4_000_000
 
 
-def is_declaration(tokens):
-    """Whether a simple statement is a declaration, as it seems from its first tokens."""
-    words = [it.text for it in tokens[:4]]
-    if words[0] in TYPE_WORDS:
-        return True
-    names = [bool(re.fullmatch(r"[A-Za-z_]\w*", it)) for it in words]
-    stars = len(words) > 2 and words[1] == "*" and (words[2] == "*" or (names[2] and words[3:] and words[3] in ("=", ",", ";", "[", ")")))
-    return names[0] and len(words) > 1 and (names[1] or stars)
+class Elsewhere(Lost):
+    """A spot is not what is next, or takes no probe for this expression."""
 
 
-def initialisers(tokens):
-    """Pairs of a declarator's line and the tokens of its initialiser, in a declaration."""
-    depth, line, begin = 0, tokens[0].line, None
-    for at, token in enumerate(tokens):
-        if begin is None and not depth and re.fullmatch(r"[A-Za-z_]\w*", token.text):
-            line = token.line
-        depth += (token.text in "([{") - (token.text in ")]}")
-        if not depth and token.text == "=" and begin is None:
-            begin = at + 1
-        elif not depth and token.text in (",", ";"):
-            if begin is not None:
-                yield line, tokens[begin:at]
-            begin = None
+def edits(text, spot, module, probe):
+    """The ways to put a probe in front of a spot, each as pairs of a place in the text and what is written there, and what is moved by it.
 
-
-def is_reached(statement):
-    """Whether a line is reached before a statement itself."""
-    if statement.kind == "for":
-        return bool(statement.parts[0] or statement.parts[1])
-    if statement.kind != "simple" or not is_declaration(statement.tokens):
-        return statement.kind != "{"
-    return any(initialisers(statement.tokens))
-
-
-def lines_reached(statement):
-    """The lines that are reached before a statement itself."""
-    if statement.kind == "simple" and is_declaration(statement.tokens):
-        return [line for line, _ in initialisers(statement.tokens)]
-    return [statement.line]
-
-
-def next_at(lines, line):
-    """The statement that is next where a call stands on a line: the first one of the line, or of the function behind its entry."""
-    body = body_around(lines, line)
-    found = [it for it in body.all() if it.kind != "{" and is_reached(it)] if body else []
-    own = next((it for it in found if line in lines_reached(it)), None)
-    if own or not body or line > body.first.line:
-        return own
-    return found[0] if found else None
-
-
-def edits(statement, line, probe):
-    """The ways to put a probe in front of a statement, each as pairs of a place in the text and what is written there.
-
-    No line may be reached more often by it, since a replay counts the halts at lines.
+    No line may be reached more often by it, since a replay counts the halts at lines; what is moved is counted anew.
     """
+    statement = spot.statement
+    if spot.declarator:
+        return [(it, Moved()) for it in before_value(text, spot.declarator.value, probe)]
     if statement.kind in HEADS or statement.kind == "do":
         count = 2 if statement.kind == "for" else 1
-        return [[(part[0].at, f"{probe}, ") for part in statement.parts[:count] if part]]
+        return [([(part[0].at, f"{probe}, ") for part in statement.parts[:count] if part], Moved())]
     if statement.kind == ";":
-        return [[(statement.first.at, probe)]]
-    if statement.kind == "return" and statement.end - statement.begin > 2:
-        return before_value(statement.tokens[1:-1], probe)
-    if statement.kind != "simple":
-        raise Lost(f"nothing is evaluated at a {statement.kind}, so that names alone can be shown")
-    if not is_declaration(statement.tokens):
-        return [[(statement.first.at, f"{probe}, ")]]
-    given = dict(reversed(list(initialisers(statement.tokens))))
-    value = given.get(line) or next(iter(given.values()))
-    if value[0].text.startswith(("{", '"')):
-        raise Lost("the line gives an array or a structure its first values")
-    return before_value(value, probe)
+        return [([(statement.first.at, probe)], Moved())]
+    if statement.kind == "simple":
+        return [([(statement.first.at, f"{probe}, ")], Moved())]
+    return [(Moved.changes(statement, probe), Moved(module, statement.line))]
 
 
-def before_value(value, probe):
+def before_value(text, value, probe):
     """The ways to put a probe in front of a value that is converted to another type."""
-    text = " ".join(it.text for it in value)
+    same = text[value[0].at:value[-1].end].replace("\\\n", "").replace("\n", " ")
     # a null pointer constant is none behind a test
-    nulls = [[(value[0].at, f"{probe} ? (void *) 0 : (void *) ")]] if text in NULLS else []
-    return [[(value[0].at, f"{probe} ? ({text}) : ("), (value[-1].end, ")")], *nulls]
+    nulls = [[(value[0].at, f"{probe} ? (void *) 0 : (void *) ")]] if same in NULLS else []
+    return [[(value[0].at, f"{probe} ? ({same}) : ("), (value[-1].end, ")")], *nulls]
 
 
 def written(text, changes):
@@ -135,29 +83,26 @@ def is_whole(expression):
 
 
 class Look(View):
-    """A view whose texts are those of another, with a probe for an expression before the statement that is next on a line."""
+    """A view whose texts are those of another, in one of which a probe for an expression stands before a spot."""
 
-    def __init__(self, view, module, line, expression):
+    def __init__(self, view, module, line):
         super().__init__([*view.again(), Module(NAME, view.folder / f"{NAME}.c")], view.given)
-        self._file, self._line, self._expression = f"{module}.c", line, expression
-        self._lines = lines_of(view.folder / self._file)
+        self.module, self._lines = module, lines_of(view.folder / f"{module}.c")
+        block = block_around(self._lines, line)
+        self.spots, self._first = spots_at(self._lines, line), next((it.at for it in tokens_of(self._lines) if it.line in block), 0)
         self.replace(f"{NAME}.c", (MODULE % 0).encode())
         self.replace(f"{NAME}_on.c", (MODULE % 1).encode())
 
-    def texts(self):
-        """Texts of the module that may be taken, and the member in which each keeps the value."""
-        statement = next_at(self._lines, self._line)
-        if not statement:
-            raise Lost("no statement was found that is next here")
-        block = block_around(self._lines, self._line)
-        begin = next(it.at for it in tokens_of(self._lines) if it.line in block)
+    def texts(self, spot, expression):
+        """Texts of the module that may be taken, the member in which each keeps the value, and what is moved in it."""
+        text = "\n".join(self._lines)
         # what a structure is copied to stands in the module, and the function at which it is shown too
         copies = ((STRUCTURE, f"{it}", f"static {it} saber_value; static int saber_shown(void) {{ return saber_here(); }} ") for it in self._types())
         for store, member, more in (*((*it, "") for it in KINDS), *copies, *((*it, "") for it in LAST_KINDS)):
             here = "saber_shown" if more else "saber_here"
-            probe = f"(saber_on && !saber_look.is_busy ? (saber_look.is_busy = 1, {store.format(self._expression)}, {here}()) : 0)"
-            for changes in edits(statement, self._line, probe):
-                yield written("\n".join(self._lines), [*changes, (begin, DECLARED + more)]), "structure" if more else member
+            probe = f"(saber_on && !saber_look.is_busy ? (saber_look.is_busy = 1, saber_look.on = &saber_on, saber_next(), {store.format(expression)}, {here}()) : 0)"
+            for changes, moved in edits(text, spot, self.module, probe):
+                yield written(text, [*changes, (self._first, DECLARED + more)]), "structure" if more else member, moved
 
     def _types(self):
         """The names of structures and unions in the text and in the headers beside it."""
@@ -166,17 +111,20 @@ class Look(View):
         names = (it[1] for text in texts for it in re.finditer(r"\}\s*([A-Za-z_]\w*)\s*;", text))
         return list(dict.fromkeys((*tags, *names)))[:MOST_TYPES]
 
-    def choose(self, setup):
-        """Takes the first text that is not refused; gives the member that keeps the value."""
+    def choose(self, setup, spot, expression):
+        """Takes the first text that is not refused; gives the member that keeps the value, and what is moved."""
+        hidden = [it for it in names_in([expression]) if it in spot.names]
+        if hidden:
+            raise Elsewhere(f"{hidden[0]} gets its first values on this line: step on to see them, or use its name alone")
         why = ""
-        for text, member in self.texts():
-            self.replace(self._file, text.encode(errors="surrogateescape"))
+        for text, member, moved in self.texts(spot, expression):
+            self.replace(f"{self.module}.c", text.encode(errors="surrogateescape"))
             with setup.empty() as session:
-                answer = session.ask(f"load {self._file[:-2]}")
+                answer = session.ask(f"load {self.module}")
             if not answer.is_refused:
-                return member
-            why = why or answer.text
-        raise Lost(f"{self._expression} is no expression here ({why})")
+                return member, moved
+            why = why or moved.original(answer.text)
+        raise Elsewhere(f"{expression} is no expression here ({why})")
 
 
 def evaluated(setup, commands, calls, expression):
@@ -188,35 +136,54 @@ def evaluated(setup, commands, calls, expression):
         raise Lost(f"{expression} is no expression")
     if not setup.view or has_changes(commands):
         raise Lost("the modules were changed while this run stood, so that names alone can be shown")
-    with Look(setup.view, found[2], int(found[3]), expression) as view:
+    with Look(setup.view, found[2], int(found[3])) as view:
         own = setup.over(view)
-        member = view.choose(own)
-        with own.start(turns=TURNS) as session:
-            repeat(session, commands)
-            if session.ask("where").lines != tuple(calls):
-                raise Lost("the run did not come to this place again")
-            return value_of(session, member, found[2])
+        for spot in view.spots:
+            if len(view.spots) == 1 or is_next(view, own, spot, commands, calls):
+                return evaluated_before(view, own, spot, commands, calls, expression)
+    raise Lost("what is next here is not seen in the text: a macro has written it, or nothing stands behind values in braces")
 
 
-def value_of(session, member, module):
+def is_next(view, setup, spot, commands, calls):
+    """Whether a spot is what is next."""
+    try:
+        return bool(evaluated_before(view, setup, spot, commands, calls, "0"))
+    except Elsewhere:
+        return False
+
+
+def evaluated_before(view, setup, spot, commands, calls, expression):
+    """The value, if this spot is what is next."""
+    member, moved = view.choose(setup, spot, expression)
+    with setup.start(turns=TURNS) as session:
+        halt = go_again(session, moved.commands(commands), moved.passed)
+        where = tuple(map(moved.original, session.ask("where").lines))
+        if where != tuple(calls) or halt.startswith("entered ") != spot.is_entry:
+            raise Elsewhere("the run did not come to this place again")
+        return value_of(session, member, view.module, moved, spot.passes)
+
+
+def value_of(session, member, module, moved, passes):
     """Lets the expression be evaluated, and gives its value or why it has none."""
-    last = int(members_of(session)[0].split()[1])
     stop = f"{module}:saber_shown" if member == "structure" else "saber_here"
     without_stops(session)
-    session.ask(f"edit {NAME} {NAME}_on.c")
-    session.ask(f"stop in {stop}")
-    text = session.ask("cont").text
+    session.ask_all([f"edit {NAME} {NAME}_on.c", "stop in saber_next", f"stop in {stop}"])
+    walked = [session.ask("step").text for _ in range(passes + 1)]
+    if [it == "entered saber_next" for it in walked] != [False] * passes + [True]:
+        raise Elsewhere("what is next here is not seen in the text: a macro has written it")
+    added = added_objects(members_of(session))
+    text = moved.original(session.ask("cont").text)
     if violation_of(text):
-        raise Lost(f"it has no value: {in_run(text, last) if member != 'structure' else text.partition(' object ')[0]}")
+        raise Lost(f"it has no value: {in_run(text, added) if member != 'structure' else text.partition(' object ')[0]}")
     if text != f"entered {stop}":
         raise Lost(f"it was not evaluated: {text}")
-    _, _, same, number, is_unsigned, pointer, function = members_of(session)
+    _, _, same, number, is_unsigned, pointer, function, _ = members_of(session)
     if member == "structure":
         shown = session.ask("print saber_value").text.partition(" = ")[2]
-        return in_run(shown, last, int(pointer.split()[1]))
+        return in_run(shown, (*added, int(pointer.split()[1])))
     shown = {"number": same if is_unsigned == "1" else number, "pointer": pointer, "function": function,
              "place": f"a structure at {pointer}", "nothing": "no value"}[member]
-    return in_run(shown, last)
+    return in_run(shown, added)
 
 
 def members_of(session):
@@ -227,9 +194,15 @@ def members_of(session):
     return parts_of(answer.text.partition(" = ")[2])
 
 
-def in_run(text, last, value=0):
-    """A text with the numbers of objects that the user's run has; `last` is that of the added ones' last, and `value` that of a copy."""
+def added_objects(members):
+    """The numbers of the objects that the copy adds: the two of its module, behind all others as the run begins, and the constant's next one."""
+    last, on = int(members[0].split()[1]), int(members[-1].split()[1])
+    return last - 1, last, on
+
+
+def in_run(text, added):
+    """A text with the numbers of objects that the user's run has, which lacks the added ones."""
     def original(found):
         number = int(found[1])
-        return f"object {number - (ADDED_OBJECTS if number > last else 0) - bool(0 < value < number)}"
+        return f"object {number - sum(it < number for it in added)}"
     return re.sub(r"\bobject (\d+)", original, text)

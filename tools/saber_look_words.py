@@ -68,7 +68,7 @@ class Looks:
             say("-- the run is repeated up to where it ended")
             way = self._explanation().arrive()
             self._own = way.session
-            self._looker = Looker(shell.run.base, way.session, way.commands, shell.run.is_changed)
+            self._looker = Looker(shell.run.base, way.session, way.commands, shell.run.is_changed, self._explanation().third)
         elif not self._looker and shell.run and not self.ending:
             self._looker = Looker(shell.run.base, shell.session, shell.run.commands, shell.run.is_changed)
         if not self._looker or not self._looker.calls():
@@ -144,15 +144,15 @@ class Looks:
 
     def _when(self, looker):
         """Of which moment the values of an outer call are."""
-        frame = frame_of(looker.calls()[self._at])
-        return f"   (as line {frame.line} was begun)" if self._at else ""
+        line = looker.begun(self._at)
+        return f"   (as line {line} was begun)" if line else ""
 
     def _do_bt(self, _, __):
         self._calls(self._look())
 
     def _calls(self, looker):
         teller = Teller(self._sources(), sys.stdout)
-        for at, line in enumerate(looker.calls()):
+        for at, line in enumerate(looker.shown()):
             teller.say(f"#{at}{'*' if at == self._at else ' '} {teller.call(line)}")
 
     def _do_up(self, words, _):
@@ -162,7 +162,7 @@ class Looks:
         self._move(-int(words[0]) if words and words[0].isdecimal() else -1)
 
     def _move(self, by):
-        calls = self._look().calls()
+        calls = self._look().shown()
         self._at = max(0, min(self._at + by, len(calls) - 1))
         say(f"#{self._at}* {Teller(self._sources(), sys.stdout).call(calls[self._at])}")
 

@@ -7,7 +7,7 @@ import re
 
 from saber_look import evaluated
 from saber_replay import SLICE, has_changes, repeat
-from saber_search import COUNTS, OVER, Lost
+from saber_search import COUNTS, OVER, Lost, at_line
 from saber_search import SLICE as SLICE_OF_NOTES
 
 # So many passes of the line are gone through, and so many calls are read there.
@@ -55,11 +55,12 @@ def commands_to(setup, stop, end, calls):
 class Looker:
     """A session that stands at a place of a run, and what leads there: a setup and commands.
 
-    Of a run whose modules were changed only names of the innermost call are known.
+    Of a run whose modules were changed only names of the innermost call are known. `third` is the line of the `for` in whose third
+    part the run ended; its values are as its last line was begun.
     """
 
-    def __init__(self, setup, session, commands, is_changed=False):
-        self._setup, self.session, self._commands, self._is_changed = setup, session, tuple(commands), is_changed
+    def __init__(self, setup, session, commands, is_changed=False, third=0):
+        self._setup, self.session, self._commands, self._is_changed, self._third = setup, session, tuple(commands), is_changed, third
         self._ways, self._asides = {}, {}
 
     def close(self):
@@ -72,6 +73,16 @@ class Looker:
         """The active calls as `where` shows them, the innermost one first; none where the run shows none."""
         answer = self.session.ask("where")
         return () if answer.is_refused else answer.lines
+
+    def shown(self):
+        """The active calls; one in the third part of a `for` is at the line of the `for`."""
+        calls = self.calls()
+        return (at_line(calls[0], self._third), *calls[1:]) if self._third and calls else calls
+
+    def begun(self, at):
+        """The line as which was begun the values of a call are; 0 where the run stands before it."""
+        found = re.fullmatch(r"\S+ at \w+:(\d+)", self.calls()[at])
+        return int(found[1]) if found and (at or self._third) else 0
 
     def values(self, names, at=0):
         """The values of those names that stand for objects in a call: 0 is the innermost one; outer ones are as they last began a line."""

@@ -19,15 +19,23 @@ def has_changes(commands):
     return any(it.split()[0] in CHANGES for it in commands[first:])
 
 
+def go_again(session, commands, passed=""):
+    """Gives a session the commands, each go over as many slices as it takes; gives the last halt. A walk goes through the halt that is passed."""
+    halt = ""
+    for command in commands:
+        answer = session.ask(command)
+        while answer.text.startswith("paused") or answer.text == passed:
+            answer = session.ask(command if answer.text == passed else "cont")
+        if answer.is_refused:
+            raise Lost(f"{command}: {answer.text}")
+        halt = answer.text if is_go(command) else halt
+    return halt
+
+
 def repeat(session, commands):
-    """Gives a new session the commands, each go over as many slices as it takes. A session that is refused one is closed."""
+    """Gives a new session the commands. A session that is refused one is closed."""
     try:
-        for command in commands:
-            answer = session.ask(command)
-            while answer.text.startswith("paused"):
-                answer = session.ask("cont")
-            if answer.is_refused:
-                raise Lost(f"{command}: {answer.text}")
+        go_again(session, commands)
     except BaseException:
         session.close()
         raise

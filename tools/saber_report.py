@@ -5,7 +5,7 @@ from functools import cached_property
 
 from saber_follow import Scene, follow
 from saber_lines import functions_in
-from saber_search import START, Leg, Lost, Search, Step, halt_of, violation_of
+from saber_search import START, Leg, Lost, Search, Step, at_line, halt_of, violation_of
 from saber_session import FAULTS, Trouble
 from saber_source import names_in
 from saber_statements import loops_around
@@ -101,6 +101,16 @@ class Explanation:
         found = [it for it in self._loops if it.line == self._followed.third]
         return found, bool(found)
 
+    @property
+    def third(self):
+        """The line of the `for` in whose third part the run ended; 0 where it ended in none, or where that is not known."""
+        found, is_third = self.thirds()
+        return found[0].line if is_third else 0
+
+    def _shown(self, calls):
+        """The calls where the run ended. The program tells the last line that was begun; of the third part of a `for` it is that of the `for`."""
+        return (at_line(calls[0], self.third), *calls[1:]) if self.third else calls
+
     @cached_property
     def _legs(self):
         """The way to where the run ended: before the line of a violation, or to the last entry of a function."""
@@ -145,15 +155,15 @@ class Explanation:
     def scene(self):
         """The calls and the values where the run ended."""
         if self._followed and self._followed.scene:
-            shown = self._names_of_thirds if self.thirds()[1] else self._names
+            shown = self._names_of_thirds if self.third else self._names
             values = (it for it in self._followed.scene.values if it.partition(" = ")[0] in shown)
-            return Scene(self._followed.scene.calls, tuple(values))
+            return Scene(self._shown(self._followed.scene.calls), tuple(values))
         with self.arrive().session as session:
             calls = session.ask("where").lines
             found = CALL.match(calls[0]) if self.is_aborted else None
             names = names_in(self.sources.statement(found[2], int(found[3]))) if found else self._names
             told = session.ask_all([f"print {it}" for it in names])
-        return Scene(calls, tuple(it.text for it in told if " = " in it.text))
+        return Scene(self._shown(calls), tuple(it.text for it in told if " = " in it.text))
 
     def block(self, number):
         """The heap block of this number, if it is known to be one."""

@@ -13,9 +13,14 @@ from saber_session import status_of
 
 @dataclasses.dataclass(frozen=True)
 class Step:
-    """An undefined step that a run took: its report, its place in the user's file where that is known, and the calls there as they are told."""
+    """An undefined step that a run took: its report, its place in the user's file, and the calls there as they are told.
+
+    `reported` is the place that the report tells: another one where the step is in the third part of a `for`. Both are nothing where
+    they are not known.
+    """
     violation: object
     place: object
+    reported: object
     calls: tuple = ()
 
     @property
@@ -28,7 +33,10 @@ class Step:
 def step_of(explanation):
     """The step in which a run ended."""
     seen = explanation.violation
-    return Step(seen, explanation.sources.place(seen.module, seen.line) if seen.line else None)
+    if not seen.line:
+        return Step(seen, None, None)
+    own, place = explanation.third or seen.line, explanation.sources.place
+    return Step(seen, place(seen.module, own), place(seen.module, seen.line))
 
 
 class Rounds:

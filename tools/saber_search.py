@@ -76,6 +76,11 @@ def violation_of(text):
     return Violation(found[1], found[2], found[3], int(found[4]), tuple(numbers))
 
 
+def at_line(call, line):
+    """A call as `where` shows it, at another line."""
+    return re.sub(r":\d+$", f":{line}", call)
+
+
 def halt_of(answer, report):
     """A halt, by the answer that tells it and a counting probe's report."""
     counts = {kind: int(number) for kind, number in COUNTS.findall(report.text)}

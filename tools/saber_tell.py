@@ -34,11 +34,9 @@ class Teller:
         for line in shown:
             self.say(indent + self.call(line))
 
-    def report(self, violation, thirds, is_third):
-        """What the rule means, and the source line.
-
-        `thirds` are the `for` statements in whose third part the run ended, or may have ended.
-        """
+    def report(self, explanation):
+        """What the rule means, and the source line; those of a `for` in whose third part the run ended, or may have ended."""
+        violation, (thirds, is_third) = explanation.violation, explanation.thirds()
         self.say(f"-- {violation.rule}: {RULES[violation.rule]}")
         if not violation.line:
             self.say(f"-- the line is in compiled code of {violation.module}; leave it in source form to see it")
@@ -88,13 +86,12 @@ class Teller:
 def explain(explanation, teller):
     """Tells all that can be found; what cannot is said too."""
     violation = explanation.violation
-    thirds, is_third = explanation.thirds()
     if violation:
-        teller.report(violation, thirds, is_third)
+        teller.report(explanation)
     elif explanation.is_aborted:
         teller.say("-- a failed assertion and abort end so")
     try:
-        place = teller.sources.place(violation.module, violation.line) if is_third else None
+        place = teller.sources.place(violation.module, violation.line) if explanation.third else None
         teller.scene(explanation.scene(), explanation.when(), place.line if place else 0)
     except Lost as reason:
         teller.say(f"-- the calls were not found: {reason}")

@@ -18,7 +18,67 @@ import common
 
 DAP = common.TOOLS / "saber-dap"
 SECONDS = 120
+# the last statement of the loop is a jump, and the third part reads what is dead
+THIRD = ("#include <stdlib.h>\nstruct n { struct n *next; int v; };\nint main(void)\n{\n    struct n *a = calloc(1, sizeof *a), *p;\n"
+         "    for (p = a; p; p = p->next) {\n        a = 0;\n        free(p);\n        continue;\n    }\n    return 0;\n}\n")
+# each kind of statement, and lines on which more than one is reached
+KINDS = """#include <stdio.h>
+struct s { int a; int v[3]; };
+static int n;
+static void quiet(int k)
+{
+    if (k > 2) {
+        n = k;
+        return;
+    }
+    n = -k;
+    return;
+}
+static int f(int k)
+{
+    int x = k * 2, b[2] = {7, 8}, y = k;
+    char text[] = "abc";
+    struct s v = {1, {2, 3, 4}};
+    struct s w = v;
+
+    switch (k) {
+    case 1:
+        x = 5;
+        break;
+    case 2: x = 6; break;
+    default: goto out;
+    }
+    return x + b[0] + y + w.a;
+out:
+    return text[0];
+}
+int one(int k) { return k + 1; }
+int main(void)
+{
+    int i, t = 0;
+    for (i = 0; i < 4; i++) { if (i == 3) continue; t += f(i); }
+    for (i = 0; i < 4; i++) {
+        if (i == 1)
+            continue;
+        quiet(i);
+    }
+    while (1) {
+        int c = t++;
+        if (c > 100) break; else { continue; }
+    }
+    t = one(2) + one(t);
+    do { t--; if (t < 130) break; } while (t);
+    {
+        static int z[] = {1, 2};
+        int q[2] = {0};
+        q[1] = z[1];
+    }
+    ; return t - t;
+}
+"""
 FILES = {
+    "third.c": THIRD,
+    "kinds.c": KINDS,
     "stack.c": "#include <stdlib.h>\nstatic int *room;\nstatic int used, limit = 9;\n\nvoid push(int n)\n{\n    room[used] = n;\n    used++;\n}\n\n"
                "void begin(int n)\n{\n    room = malloc(n * sizeof(int));\n    limit = n;\n}\n",
     "user.c": "#include <stdio.h>\nextern void push(int n);\nextern void begin(int n);\nstruct pair { int a; int b[2]; };\n\nint main(void)\n{\n"
@@ -48,7 +108,7 @@ class Client:
     def __init__(self, program, room):
         self.child = subprocess.Popen([DAP, "--program", program], cwd=room, stdin=subprocess.PIPE, stdout=subprocess.PIPE,
                                       stderr=subprocess.PIPE)
-        self._told, self._number, self.events = queue.Queue(), 0, []
+        self._told, self._number, self.events, self.is_begun = queue.Queue(), 0, [], False
         threading.Thread(target=self._read, daemon=True).start()
 
     def _read(self):
@@ -245,6 +305,68 @@ def expressions(program, room):
     yield "eval at the prompt", told["body"]["result"] == "value 32", told
 
 
+def stands_at(client):
+    """The line at which the run halted; 0 where it ended."""
+    body = client.event("stopped", "exited")
+    return client.frames()[0][2] if "reason" in body else 0
+
+
+def each_statement(program, room):
+    """Where the run stands at each line in turn, an expression of a name has the value that the name has there.
+
+    An odd one is told for what is no number. No statement is mistaken for another one of its line.
+    """
+    for way, other in (("stepIn", "next"), ("continue", "continue")):
+        client = Client(program, room)
+        client.launched(modules=["kinds"], cwd=str(room), stopOnEntry=True)
+        lines = [8, 10, 11, 15, 16, 17, 18, 23, 24, 25, 27, 31, 35, 38, 42, 43, 49, 52] if way == other else []
+        client.ask("setBreakpoints", source={"path": str(room / "kinds.c")}, breakpoints=[{"line": it} for it in lines])
+        client.ask("configurationDone")
+        wrong, halts = [], 0
+        while line := stands_at(client):
+            halts += 1
+            number = next(((name, it) for name, it in client.values().items() if it.lstrip("-").isdecimal()), ("7", "7"))
+            told = client.ask("evaluate", expression=f"{number[0]} - 1 + 1", frameId=1, context="watch")
+            if not told["success"] or told["body"]["result"] != number[1]:
+                wrong.append((line, number, told))
+            client.ask(way if halts % 3 else other)
+        yield f"each line by {way}", halts > 20 and not wrong, halts, wrong[:3]
+
+
+def before_jumps(program, room):
+    """Expressions in front of what holds none itself, and names that have no values yet."""
+    client = Client(program, room)
+    client.launched(modules=["kinds"], cwd=str(room))
+    for line, wanted in (
+        (11, {"n * 2": "0", "k + 5": "5"}), (23, {"x + v.v[2]": "9"}), (25, {"text[1]": "98", "x + 1": "1"}), (38, {"i * 5": "5"}),
+        (17, {"x + text[2]": "99", "v.a": None}), (16, {"b[1] + y": "8", "text[0]": None}), (49, {"z[1] - t": "-127", "q[0]": None}), (52, {"t - 1": "128"}),
+    ):
+        client.ask("setBreakpoints", source={"path": str(room / "kinds.c")}, breakpoints=[{"line": line}])
+        client.ask("restart" if client.is_begun else "configurationDone")
+        client.is_begun = True
+        client.event("stopped")
+        for text, value in wanted.items():
+            told = client.ask("evaluate", expression=text, frameId=1, context="watch")
+            came = told["body"]["result"] if told["success"] else None
+            yield f"{text} at line {line}", came == value and (told["success"] or "gets its first values on this line" in told["message"]), told
+
+
+def in_third_part(program, room):
+    """An undefined step in the third part of a `for` stands at the `for`; its values are as its last line was begun."""
+    client = Client(program, room)
+    client.launched(modules=["third"], cwd=str(room))
+    client.ask("configurationDone")
+    yield "the report", client.event("stopped")["text"] == "violation U3 in main at third:9 object 3 offset 0 size 4"
+    yield "the line", client.frames() == [("main", "third.c", 6)]
+    told = client.ask("scopes", frameId=1)["body"]["scopes"]
+    yield "the scopes", [it["name"] for it in told] == ["Function, as line 9 was begun", "Module, as line 9 was begun"], told
+    yield "the values", client.values() == {"a": "null", "p": "dead object 3 + 0"}
+    told = client.ask("evaluate", expression="a == 0", frameId=1, context="watch")
+    yield "an expression", told["success"] and told["body"]["result"] == "1", told
+    told = client.ask("evaluate", expression="p->v", frameId=1, context="watch")
+    yield "no value", told.get("message") == "it has no value: violation U3 in main at third:9 object 3 offset 4 size 4", told
+
+
 def conditions(program, room):
     """A breakpoint with a condition is refused, and not taken without it."""
     client = Client(program, room)
@@ -381,4 +503,4 @@ def holds(told, wanted):
 
 if __name__ == "__main__":
     os.environ["PYTHONDONTWRITEBYTECODE"] = "1"
-    sys.exit(common.checked(__doc__, [breakpoints, expressions, conditions, restarts, changes, aborted, pauses, long_steps, denied, replayed], FILES))
+    sys.exit(common.checked(__doc__, [breakpoints, expressions, each_statement, before_jumps, in_third_part, conditions, restarts, changes, aborted, pauses, long_steps, denied, replayed], FILES))

@@ -34,6 +34,10 @@ FILES = {
     "real.c": "double half(double v) { return v / 2; }\nint main(void) { return half(9.0) == 4 ? 0 : 1; }\n",
     "status.c": "int main(void) { return 7; }\n",
     "lone.c": "int lone(void) { return 1; }\n",
+    "third.c": "#include <stdlib.h>\nstruct n { struct n *next; };\nint main(void)\n{\n    struct n *a = calloc(1, sizeof *a), *p;\n"
+               "    for (p = a; p; p = p->next)\n        free(p);\n    return 0;\n}\n",
+    "seventh": "U3 third.c:7\n",
+    "sixth": "U3 third.c:6\n",
     "twice.c": "int main(void) { return 1; }\n",
     # three steps in three modules, the second one only by what the first module leaves behind; the middle one is unharmed
     "one.c": "int one(int n)\n{\n    int table[2], i;\n    table[0] = 1;\n    table[1] = 2;\n    i = n;\n    if (table + 3 == table)\n        return 9;\n    return i;\n}\n",
@@ -93,6 +97,10 @@ CASES = [
         "  known: U6 two.c:1 in two: pointers into different objects are ordered or subtracted"]),
     # without --go-on the first step that is not known ends it
     (["--known", "some", "three.c", "one.c", "two.c"], 1, LIST[:2]),
+    # the step is in the third part of the `for` of line 6
+    (["--brief", "--go-on", "third.c"], 1, ["> violation U3 in main at third:7 object 3 offset 0 size 4", "  U3 third.c:6 in main: the object is dead"]),
+    (["--known", "seventh", "third.c"], 0, ["  known: U3 third.c:6 in main: the object is dead"]),
+    (["--known", "sixth", "third.c"], 0, ["  known: U3 third.c:6 in main: the object is dead"]),
     (["--compiled", "one", "--go-on", "three.c", "one.c", "two.c"], 1, ["-- 2 undefined steps, in the order of their reports",
                                                                      "-- not watched behind their reports: two, three", "-- not watched at all: one"]),
 ]

@@ -150,7 +150,7 @@ CASES = [
     (["wide"], 1, ["> violation U2 in main at wide:6 object 1 offset 4 size 4", "-- at wide.c:6", "    a[i] = s;", "    i = 1", "    s = 40000"]),
     # a is 1, p 2 and the node 3
     (["third"], 1, ["> violation U3 in main at third:11 object 3 offset 0 size 4", "-- at third.c:7, in the third part of the `for`, behind line 11",
-                    "    for (p = a; p; p = p->next)", "-- values, before line 11 is carried out", "    p = object 3 + 0", "-- and it died here",
+                    "    for (p = a; p; p = p->next)", "    main at third:7 third.c:7: for (p = a; p; p = p->next)", "-- values, before line 11 is carried out", "    p = object 3 + 0", "-- and it died here",
                     "    main at third:11 third.c:11: free(p);"]),
     (["nest"], 1, ["> violation U5 in main at nest:6 left object 1 + 0 right 4", "-- at nest.c:4, in the third part of the `for`, behind line 6",
                    "    for (i = 0; i < 3;", "    p += 4, i++)", "    p = object 1 + 0"]),
