@@ -128,6 +128,7 @@ def marked(text, line):
 
 class HeapCopy(View):
     """A view in which the texts are the copy of those of another that is described above. The line, of a module, is that of a report, or 0."""
+    added_lines = ADDED_LINES
 
     def __init__(self, view, module="", line=0):
         modules = view.again()

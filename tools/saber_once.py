@@ -3,6 +3,7 @@ import os
 import sys
 import time
 
+from saber_aside import AsideSetup
 from saber_debug import Debuggee, stands_again
 from saber_follow import Scene
 from saber_report import Explanation
@@ -62,14 +63,15 @@ class Kept(Explanation):
             return ()
 
 
-def run_once(given, modules, show=show_bytes, is_known=None, take=None):
+def run_once(given, modules, show=show_bytes, is_known=None, take=None, asides=()):
     """Runs the modules by the words of a command line, tells how the run ended and why, and returns the status.
 
     An end that `is_known`, as its explanation shows it, is not explained. `take` is given the explanation and the teller
-    before the files of the run are gone.
+    before the files of the run are gone. `asides` are lines that are carried out with other modules compiled.
     """
     with View(modules, given.input) as view:
-        setup = Setup(find_program(given.program), view, sizes_of(vars(given)))
+        words = find_program(given.program), view, sizes_of(vars(given))
+        setup = AsideSetup(*words, asides) if asides else Setup(*words)
         sources = Sources(modules)
         text = ran(setup, sources, given.turns, show)
         print("> " + text, flush=True)

@@ -335,6 +335,8 @@ class View:
     other files by links. Objects of modules that run as such are not shown: `compile` writes them here.
     """
     INPUT = "saber_input"
+    # how many lines the texts of the modules have at their tops that those of the user's files have not
+    added_lines = 0
 
     def __init__(self, modules, given=None, folder="."):
         self._room = tempfile.TemporaryDirectory(prefix="saber-")
@@ -399,6 +401,8 @@ class Setup:
     view: View
     options: tuple = field(default=())
 
+    kind = Session
+
     @property
     def run(self):
         return f"run {View.INPUT}" if self.view.given else "run"
@@ -409,7 +413,7 @@ class Setup:
 
     def empty(self, *options, turns=MOST_TURNS):
         """A session without modules."""
-        return Session(self.program, self.view.folder, (*self.options, "--turns", str(turns), *options))
+        return self.kind(self.program, self.view.folder, (*self.options, "--turns", str(turns), *options))
 
     def start(self, *options, turns=MOST_TURNS):
         """A session with every module loaded in its form."""

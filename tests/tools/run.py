@@ -46,6 +46,11 @@ FILES = {
                "    puts(\"second\");\n    a = a + (two(&a, b) ? 1 : 1);\n    puts(\"third\");\n    b[0] = 2147483647;\n    b[1] = b[0] + a;\n    return 0;\n}\n",
     "known": "# what is known\nU5 one.c:7 a sentinel\n\nU6 two\n* three.c\n",
     "some": "U6 two.c:1\n",
+    # a step that does no harm, twice, and behind it one in the same module that does
+    "store.c": "static int room[4];\nint *below(void) { return room - 1; }\nint last(int n) { return room[n]; }\nint *again(void) { return below() + 1; }\n",
+    "user.c": "#include <stdio.h>\nint *below(void), *again(void);\nint last(int);\nint main(void)\n{\n    int i, n = 0;\n    int *p = below();\n    puts(p ? \"one\" : \"none\");\n"
+              "    for (i = 0; i < TIMES; i++)\n        n += last(i);\n    p = again();\n    puts(\"two\");\n    n += last(4);\n    return n;\n}\n",
+    "often.c": "int *below(void), last(int);\nint main(void)\n{\n    int i, n = 0;\n    for (i = 0; i < 100; i++)\n        n += below() ? 0 : 1;\n    return last(n + 4);\n}\n",
     "bad": "U5 one.c:7\nsomething\n",
     "endless.c": "#include <stdio.h>\nint main(void) { puts(\"begun\"); for (;;) ; }\n",
     "many.c": LARGE + "extern int part(void);\nint main(void) { return part(); }\n",
@@ -61,15 +66,16 @@ ROOM = ["> violation U2 in main at use:9 object 7 offset 3 size 1", "-- at test/
         "-- object 7 is a heap block of 3 bytes, which malloc gave here", "    room at room:7 lib/room.c:7: table[0] = malloc(wanted - 1);",
         "    main at use:6 test/use.c:6: uint8_t *p = room(n);"]
 # three texts come first, then a and b of main, and n of one
-LIST = ["first", "> violation U5 in one at one:7 left object 7 + 0 right 3", "-- one runs compiled from here on, and is no longer watched; the program is run again",
+LIST = ["first", "> violation U5 in one at one:7 left object 7 + 0 right 3",
+        "-- one runs compiled while three.c:7 is carried out, and is not watched there; the program is run again",
         "second", "> violation U6 in two at two:1 left object 4 + 0 right object 5 + 0",
-        "-- two runs compiled from here on, and is no longer watched; the program is run again",
+        "-- two runs compiled while three.c:9 is carried out, and is not watched there; the program is run again",
         "third", "> violation U7 in main at three:12 left 2147483647 right 2",
-        "-- three runs compiled from here on, and is no longer watched; the program is run again", "> exit 0",
+        "-- three, one, two run compiled from here on, and are no longer watched; the program is run again", "> exit 0",
         "-- 3 undefined steps, in the order of their reports",
         "  U5 one.c:7 in one: a pointer leaves its object", "      one at one:7 one.c:7: if (table + 3 == table)", "      main at three:7 three.c:7: a = one(1);",
         "  U6 two.c:1 in two: pointers into different objects are ordered or subtracted",
-        "  U7 three.c:12 in main: a signed result is out of range", "-- not watched behind their reports: one, two, three", "-- the last run: exit 0"]
+        "  U7 three.c:12 in main: a signed result is out of range", "-- not watched behind their reports: three, one, two", "-- the last run: exit 0"]
 # words of the command line, exit status, and lines that the output has to hold in this order
 CASES = [
     (["-I", "lib", "lib/room.c", "test/use.c"], 1, ["begun", *ROOM]),
@@ -97,12 +103,27 @@ CASES = [
         "  known: U6 two.c:1 in two: pointers into different objects are ordered or subtracted"]),
     # without --go-on the first step that is not known ends it
     (["--known", "some", "three.c", "one.c", "two.c"], 1, LIST[:2]),
+    # a module is watched but for the lines that led to its steps
+    (["-DTIMES=3", "--go-on", "user.c", "store.c"], 1, ["> violation U5 in below at store:2 left object 4 + 0 right 1", "-- object 4 is an object of static storage duration or a string literal",
+        "-- store runs compiled while user.c:7 is carried out, and is not watched there; the program is run again", "one",
+        "> violation U5 in below at store:2 left object 4 + 0 right 1", "-- this one is in the list already",
+        "-- store runs compiled while store.c:4 is carried out, and is not watched there; the program is run again",
+        # what is one below the array is a pointer into no object
+        "> violation U5 in again at store:4 left object 4 + 4294967292 right 1", "two",
+        "> violation U2 in last at store:3 object 4 offset 16 size 4", "    main at user:13 user.c:13: n += last(4);",
+        "-- store runs compiled while user.c:13 is carried out, and is not watched there; the program is run again",
+        "-- 3 undefined steps, in the order of their reports", "  U5 store.c:2 in below: a pointer leaves its object", "  U2 store.c:3 in last: the bytes are not inside the object",
+        "-- store was not watched while these lines were carried out: user.c:7, store.c:4, user.c:11, user.c:13"]),
+    # what is called too often has its whole module compiled
+    (["--go-on", "often.c", "store.c"], 1, ["-- store runs compiled while often.c:6 is carried out, and is not watched there; the program is run again",
+        "-- store is called there too often: store runs compiled from here on, and is no longer watched; the program is run again",
+        "  U5 store.c:2 in below: a pointer leaves its object", "-- not watched behind their reports: store"]),
     # the step is in the third part of the `for` of line 6
     (["--brief", "--go-on", "third.c"], 1, ["> violation U3 in main at third:7 object 3 offset 0 size 4", "  U3 third.c:6 in main: the object is dead"]),
     (["--known", "seventh", "third.c"], 0, ["  known: U3 third.c:6 in main: the object is dead"]),
     (["--known", "sixth", "third.c"], 0, ["  known: U3 third.c:6 in main: the object is dead"]),
     (["--compiled", "one", "--go-on", "three.c", "one.c", "two.c"], 1, ["-- 2 undefined steps, in the order of their reports",
-                                                                     "-- not watched behind their reports: two, three", "-- not watched at all: one"]),
+                                                                     "-- not watched behind their reports: three, two", "-- not watched at all: one"]),
 ]
 # words of the command line, and the one line on standard error that a refusal gives at its end
 REFUSED = [
