@@ -199,6 +199,8 @@ class Explanation:
         if track.halts[-1].births < number:
             raise Lost("the object was not born again")
         if track.halts[-2] is START:
+            if not self.setup.view:
+                raise Lost("it was born before the modules were changed, or soon behind that")
             return Birth(STATIC)
         legs = track.legs_to(len(track.halts) - 2)
         before, after, count = self._steps(legs, stops, number, track.halts[-2])

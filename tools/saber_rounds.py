@@ -81,7 +81,7 @@ class Rounds:
                 self._give_up(reason.callees, f"-- {reason}: ")
                 continue
             if self._text.startswith("refused C13"):
-                print("-- no file defines main: give that of a driver too")
+                print("-- no module has a main: give the file of a driver too, or words by which its main is not left out")
             if self._text or not self._goes_on():
                 self._is_over = True
                 return status

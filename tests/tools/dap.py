@@ -90,6 +90,7 @@ FILES = {
               "int main(void)\n{\n    sum = 1;\n    work(250000);\n    sum = 2;\n    return 5;\n}\n",
     "wrong.c": "int main(void)\n{\n    return x;\n}\n",
     "loop.c": "extern int reply(int n);\nint main(void)\n{\n    int i, sum = 0;\n    for (i = 0; i < 4; i++)\n        sum += reply(i);\n    return sum;\n}\n",
+    "held.c": "#include <stdlib.h>\nint reply(int n);\nint main(void)\n{\n    int *p = malloc(4);\n    reply(1);\n    p[1] = 1;\n    return 0;\n}\n",
     "reply.c": "int reply(int n)\n{\n    return n;\n}\n",
     "mended.c": "int reply(int n)\n{\n    n = n + 10;\n    return n;\n}\n",
     "worse.c": "int reply(int n)\n{\n    int two = 2;\n    return n / (two - n);\n}\n",
@@ -444,6 +445,20 @@ def changes(program, room):
     yield "no replay of two texts", not told["success"] and "were changed" in told["message"], told
 
 
+def born_before_change(program, room):
+    """Of an object that was born before modules were changed nothing is claimed."""
+    client = Client(program, room)
+    client.launched(modules=["held", "reply"], cwd=str(room))
+    client.ask("setFunctionBreakpoints", breakpoints=[{"name": "reply"}])
+    client.ask("configurationDone")
+    client.event("stopped")
+    client.ask("evaluate", expression="swap reply object", context="repl")
+    client.ask("continue")
+    yield "an undefined step behind a change", client.event("stopped")["text"] == "violation U2 in main at held:7 object 2 offset 4 size 4"
+    told = client.ask("exceptionInfo", threadId=1)["body"]["details"]["stackTrace"]
+    yield "its object", "-- the birth of object 2 was not found: it was born before the modules were changed" in told, told
+
+
 def aborted(program, room):
     """A failed assertion stops as an exception, with its calls."""
     client = Client(program, room)
@@ -503,4 +518,4 @@ def holds(told, wanted):
 
 if __name__ == "__main__":
     os.environ["PYTHONDONTWRITEBYTECODE"] = "1"
-    sys.exit(common.checked(__doc__, [breakpoints, expressions, each_statement, before_jumps, in_third_part, conditions, restarts, changes, aborted, pauses, long_steps, denied, replayed], FILES))
+    sys.exit(common.checked(__doc__, [breakpoints, expressions, each_statement, before_jumps, in_third_part, conditions, restarts, changes, born_before_change, aborted, pauses, long_steps, denied, replayed], FILES))

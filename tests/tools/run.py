@@ -93,7 +93,7 @@ CASES = [
     (["--narrow", "wide.c"], 0, ["> exit 0"]),
     (["--integers", "real.c"], 0, ["> exit 0"]),
     (["status.c"], 3, ["> exit 7"]),
-    (["lone.c"], 2, ["> refused C13", "-- no file defines main: give that of a driver too"]),
+    (["lone.c"], 2, ["> refused C13", "-- no module has a main: give the file of a driver too, or words by which its main is not left out"]),
     (["--turns", "100000", "endless.c"], 3, ["begun", "> paused after 100000 turns"]),
     (["--go-on", "three.c", "one.c", "two.c"], 1, LIST),
     (["three.c", "one.c", "two.c"], 1, LIST[:2]),
