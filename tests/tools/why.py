@@ -7,6 +7,7 @@ The expected lines are worked out by hand from each C program and docs/COMMANDS.
 """
 import json
 import os
+import pathlib
 import re
 import signal
 import subprocess
@@ -212,11 +213,23 @@ def tells(program, room):
     yield "files of the user", content(room) == before
 
 
+def has_hung(tool):
+    """Whether a program that the tool runs has taken half a second of processor time."""
+    try:
+        children = pathlib.Path(f"/proc/{tool.pid}/task/{tool.pid}/children").read_text().split()
+        fields = [pathlib.Path(f"/proc/{it}/stat").read_text().rpartition(")")[2].split() for it in children]
+    except OSError:
+        return False
+    return any(int(it[11]) + int(it[12]) > os.sysconf("SC_CLK_TCK") / 2 for it in fields)
+
+
 def interrupted(program, room):
     """Ctrl-C of a program that hangs: what it printed, and where it stood."""
     environment = {**os.environ, "SABER_PROGRAM": str(program)}
     child = subprocess.Popen([common.TOOLS / "saber-why", "hang"], cwd=room, env=environment, stdout=subprocess.PIPE, stderr=subprocess.PIPE)
-    time.sleep(3)
+    end = time.monotonic() + 100
+    while not has_hung(child) and time.monotonic() < end:
+        time.sleep(0.2)
     child.send_signal(signal.SIGINT)
     output, said = child.communicate(timeout=120)
     wanted = ["-- ended by Ctrl-C; the run is repeated up to where it stood",
