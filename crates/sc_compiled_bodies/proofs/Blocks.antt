@@ -1,5 +1,5 @@
 -- A block without objects and labels, which compiled code does not enter: it opens and closes in the meaning alone, around its statements.
-use Rattle.std.proofs.Common.{◌≡◌, ℕ, suc, ◌+◌, ◌-◌, ◌*◌, false, if◌then◌else◌, List, [], ◌∷◌, ◌++◌, length, map, Option, Some, None, refl, sym, ap, subst, ◌∙◌, arith, append-nil, append_assoc}
+use Rattle.std.proofs.Common.{◌≡◌, ℕ, suc, ◌+◌, ◌-◌, ◌*◌, ◌==◌, ◌||◌, Bool, true, false, if◌then◌else◌, List, [], ◌∷◌, ◌++◌, length, map, Option, Some, None, refl, sym, ap, subst, ◌∙◌, arith, append-nil, append_assoc}
 use Rattle.sc_core.specs.declared.module.Auto.{Auto}
 use Rattle.sc_core.specs.declared.statement.CoreStmt.{CoreStmt, out-CoreStmt}
 use Rattle.sc_core.specs.declared.statement.CoreStmt.TheOpen.{CoreStmt-F}
@@ -21,7 +21,7 @@ use Rattle.sc_gen_body.specs.Statements as gen
 use Rattle.sc_gen_body.proofs.Arms.{shape}
 use Rattle.sc_compiled_expressions.specs.Parts.{Family, Lags, Means, followed}
 use Rattle.sc_compiled_expressions.proofs.Moving.{lags_on, unseen_means}
-use Rattle.sc_compiled_expressions.specs.Standing.{Home, Stands}
+use Rattle.sc_compiled_expressions.specs.Standing.{is_entered, Home, Stands}
 use Rattle.sc_compiled_expressions.specs.Good.{IsPlaced}
 use Rattle.sc_compiled_expressions.proofs.Standing.{placed_same}
 use Rattle.sc_compiled_bodies.specs.Exits.{Behind, Ended, Jumps, Leaving, Returning, Stays, falls, jump_code, leaves_call, left_block, left_end, within}
@@ -35,7 +35,7 @@ use Rattle.sc_compiled_expressions.proofs.Nodes.{one_less}
 
 -- ---- the meaning of a block without labels
 
-listed : (exec : Exec) (again : Resume) (env : Env) (st : CoreStmt) (l b : ℕ) (ss : List CoreStmt) → out-CoreStmt st ≡ CoreStmt-F.Block l b [] ss → (way : Way) (u : World) → after_list again env st way u ≡ Done way u
+pub listed : (exec : Exec) (again : Resume) (env : Env) (st : CoreStmt) (l b : ℕ) (ss : List CoreStmt) → out-CoreStmt st ≡ CoreStmt-F.Block l b [] ss → (way : Way) (u : World) → after_list again env st way u ≡ Done way u
 listed exec again env st l b ss is Normal u = refl
 listed exec again env st l b ss is Broke u = refl
 listed exec again env st l b ss is Continued u = refl
@@ -47,16 +47,23 @@ closes : (o : Outcome Way) (again : Resume) (env : Env) (st : CoreStmt) → ((wa
 closes (Over e) again env st same rest = refl
 closes (Done way u) again env st same rest = ap (λ q. and_then (and_then q (block_ended [])) rest) (same way u)
 
-no_births : (xs : List Auto) (w : World) → xs ≡ [] → born_autos xs [] w ≡ Done [] w
+pub no_births : (xs : List Auto) (w : World) → xs ≡ [] → born_autos xs [] w ≡ Done [] w
 no_births [] w e = refl
 no_births (x ∷ xs) w e = absurd (cc (e))
 
-module _ (home : Home) (most deep l b : ℕ) (st : CoreStmt) (ss : List CoreStmt) (at : ℕ) (around : Around) (is : out-CoreStmt st ≡ CoreStmt-F.Block l b [] ss) (out : enters home.style home.autos b ≡ false) (none : block_autos home.env b ≡ []) where
+second_false : (p q : Bool) → (p || q) ≡ false → q ≡ false
+second_false true q e = absurd (cc (e))
+second_false false q e = e
+
+module _ (home : Home) (most deep l b : ℕ) (st : CoreStmt) (ss : List CoreStmt) (at : ℕ) (around : Around) (is : out-CoreStmt st ≡ CoreStmt-F.Block l b [] ss) (out : is_entered home.style home.autos b ≡ false) (none : block_autos home.env b ≡ []) where
   abbrev born : Born
   born = record { block = b; ids = [] }
 
   abbrev inner : Home
   inner = within home (born ∷ [])
+
+  no_objects : enters home.style home.autos b ≡ false
+  no_objects = second_false (b == 0) (enters home.style home.autos b) out
 
   -- ---- the code
 
@@ -72,9 +79,9 @@ module _ (home : Home) (most deep l b : ℕ) (st : CoreStmt) (ss : List CoreStmt
   code : code_of_statement home st at around ≡ items at around
   code =
       ap (λ y. whole_by (entry_by (frame_of home) (gen.block_layer y)) (body_of (frame_of home) st) st at around) is
-      ∙ ap (λ t. whole_by (if t then Some b else None) (body_of (frame_of home) st) st at around) out
+      ∙ ap (λ t. whole_by (if t then Some b else None) (body_of (frame_of home) st) st at around) no_objects
       ∙ ap (λ (i : Inner). i.code) (sym (shape (frame_of home) st (CoreStmt-F.Block l b [] ss) is at around))
-      ∙ ap (λ t. items_code (frame_of home) (map (body_of (frame_of home)) ss) ss (at + 0) (inside around (if t then Some b else None) [] at) ++ leaving (if t then Some b else None)) out
+      ∙ ap (λ t. items_code (frame_of home) (map (body_of (frame_of home)) ss) ss (at + 0) (inside around (if t then Some b else None) [] at) ++ leaving (if t then Some b else None)) no_objects
       ∙ append-nil (items (at + 0) (inside around None [] at))
       ∙ ap (λ n. items n (inside around None [] at)) (no_more at)
       ∙ ap (items at) around_is

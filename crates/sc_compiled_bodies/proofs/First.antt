@@ -101,12 +101,12 @@ first_fit s texts image places births there heap stack once stubs few =
 
 -- ---- words of a fit memory
 
-same_cell : (table : List Obj) (c : Stored) → IsCell table c → IsWordCell table c
+pub same_cell : (table : List Obj) (c : Stored) → IsCell table c → IsWordCell table c
 same_cell table Empty x = tt
 same_cell table (Octet b) x = x
 same_cell table (Frag whole tag k) x = x
 
-pub fit_words : (texts : List Text) (image : Image) (places : List (StaticId × ℕ)) (lower : List Lower) (w : World) → IsFit texts image places lower w → HoldsWords w × AreStubs w.beside.functions (stub_of w.beside.functions)
+abbrev pub fit_words : (texts : List Text) (image : Image) (places : List (StaticId × ℕ)) (lower : List Lower) (w : World) → IsFit texts image places lower w → HoldsWords w × AreStubs w.beside.functions (stub_of w.beside.functions)
 fit_words texts image places lower w f = (
   record {
     memory = f.memory;

@@ -20,8 +20,12 @@ pub mod Taking
 pub mod First
 pub mod Entering
 pub mod Returning
-pub mod Storing
+pub mod Begun
 pub mod Meaning
 pub mod Texts
+pub mod Fallen
 pub mod Whole
+pub mod Nothing
+pub mod Steps
+pub mod Storing
 pub mod Small

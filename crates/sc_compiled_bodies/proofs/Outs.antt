@@ -33,16 +33,7 @@ use Rattle.sc_compiled_bodies.specs.Good.{GivesWay, code_of_statement}
 use Rattle.sc_compiled_bodies.proofs.Leaving.{ended_leads}
 use Rattle.sc_compiled_bodies.proofs.Unentered.{closed_code}
 use Rattle.sc_compiled_expressions.proofs.Goes.{first_of, of_type}
-
--- ---- of the meaning
-
-abbrev Brings : World → Outcome Way → Type 0
-Brings v (Done x u) = out_along u.trail 0 ≡ out_along v.trail 0
-Brings v (Over e) = Unit {0}
-
-brings : (v : World) (o : Outcome Way) → Ends (λ a u. Kept calls v u) o → Brings v o
-brings v (Done x u) k = k.out
-brings v (Over e) k = tt
+use Rattle.sc_compiled_expressions.proofs.Passing.{PassesIn}
 
 -- ---- what is left shows nothing, in the same call
 
@@ -137,37 +128,51 @@ same_number n m e = grind (arith, nat_tests, e)
 is_same : (n m : ℕ) → n ≡ m → (n == m) ≡ true
 is_same n m e = grind (arith, nat_tests, e)
 
-module _ (most : ℕ) (s : Stage) (E : Exit Way) (c : Calls) (w v : World) (r : Family Way) (outs : (h : History) (m : ℕ) → Brings v (r h m))
+-- the code of a part ends so that a test holds, if all that the part means does
+module _ (most : ℕ) (s : Stage) (E : Exit Way) (c : Calls) (w v : World) (r : Family Way) (test : Way → World → Bool) (passes : (h : History) (m : ℕ) → PassesIn test (r h m))
     (fits : (t : Stage) (x : Way) (u b : World) (d : Calls) (y : World) → E t x u b d y → Leads b u × Sees b u) where
-  abbrev test : World → Bool
-  test u = out_along u.trail 0 == out_along v.trail 0
-
   abbrev only : (Way → World → Family Answer) → Way → World → Family Answer
-  only rest x u = λ h m. if test u then rest x u h m else lost u
+  only rest x u = λ h m. if test x u then rest x u h m else lost u
 
   leads_only : (b : Bool) (u : World) (o : Outcome Answer) → Leads u (world_after o) → Leads u (world_after (if b then o else lost u))
   leads_only true u o l = l
   leads_only false u o l = here u
 
-  same_only : (rest : Way → World → Family Answer) (h : History) (m : ℕ) (o : Outcome Way) → Brings v o → and_then o (λ x u. rest x u h m) ≡ and_then o (λ x u. only rest x u h m)
-  same_only rest h m (Done x u) p = sym (ap (λ b. if b then rest x u h m else lost u) (is_same (out_along u.trail 0) (out_along v.trail 0) p))
+  same_only : (rest : Way → World → Family Answer) (h : History) (m : ℕ) (o : Outcome Way) → PassesIn test o → and_then o (λ x u. rest x u h m) ≡ and_then o (λ x u. only rest x u h m)
+  same_only rest h m (Done x u) p = sym (ap (λ b. if b then rest x u h m else lost u) p)
   same_only rest h m (Over e) p = refl
 
-  by_test : (k : Bool) (rest : Way → World → Family Answer) (n : ℕ) (t : Stage) (x : Way) (u b : World) (d : Calls) (y : World) → test u ≡ k → E t x u b d y → (test u ≡ true → Means t n d y b (rest x u)) → Means t n d y b (λ h m. if k then rest x u h m else lost u)
+  by_test : (k : Bool) (rest : Way → World → Family Answer) (n : ℕ) (t : Stage) (x : Way) (u b : World) (d : Calls) (y : World) → test x u ≡ k → E t x u b d y → (test x u ≡ true → Means t n d y b (rest x u)) → Means t n d y b (λ h m. if k then rest x u h m else lost u)
   by_test true rest n t x u b d y e end after = after e
   by_test false rest n t x u b d y e end after = let f = fits t x u b d y end in lost_later t n d y b u f.0 f.1
 
-  brought : Runs most s E c w v r → Runs most s (λ t x u b d y. E t x u b d y × (out_along u.trail 0 ≡ out_along v.trail 0)) c w v r
-  brought p = λ rest leads n le after.
-      means_same s n Executes c w v (followed r rest) (followed r (only rest)) (λ h l m. same_only rest h m (r h m) (outs h m))
-      (p (only rest) (λ x u h m. leads_only (test u) u (rest x u h m) (leads x u h m)) n le
-      (λ t x u b d y e. by_test (test u) rest n t x u b d y refl e (λ is. after t x u b d y (e, same_number (out_along u.trail 0) (out_along v.trail 0) is))))
+  passed_way : Runs most s E c w v r → Runs most s (λ t x u b d y. E t x u b d y × (test x u ≡ true)) c w v r
+  passed_way p = λ rest leads n le after.
+      means_same s n Executes c w v (followed r rest) (followed r (only rest)) (λ h l m. same_only rest h m (r h m) (passes h m))
+      (p (only rest) (λ x u h m. leads_only (test x u) u (rest x u h m) (leads x u h m)) n le
+      (λ t x u b d y e. by_test (test x u) rest n t x u b d y refl e (λ is. after t x u b d y (e, is))))
+
+-- so it is where the code of a statement ends
+pub statement_passes : (home : Home) (most deep : ℕ) (st : CoreStmt) (at : ℕ) (around : Around) → GivesWay home most deep st at around → (bound : ℕ → ℕ) → IsDeeper deep bound → (s : Stage) (c : Calls) (w v : World) → c.regs.pc ≡ home.base + 4 * at
+    → IsPlaced home c.regs.pc (code_of_statement home st at around) → Stands home s c w v → (test : Way → World → Bool) → ((h : History) (m : ℕ) → PassesIn test (exec (bound m) h home.env st v))
+    → Runs most s (λ t way u b d y. Ended home around (at + length (code_of_statement home st at around)) c w t way u b d y × (test way u ≡ true)) c w v (λ h m. exec (bound m) h home.env st v)
+statement_passes home most deep st at around gives bound dp s c w v there pl stands test passes =
+    passed_way most s (Ended home around (at + length (code_of_statement home st at around)) c w) c w v (λ h m. exec (bound m) h home.env st v) test passes
+    (λ t x u b d y e. (ended_leads home around (at + length (code_of_statement home st at around)) c w t x u b d y e, ended_sees home around (at + length (code_of_statement home st at around)) c w t x u b d y e))
+    (gives bound dp s c w v there pl stands)
+
+-- ---- as many calls are out
+
+abbrev as_out : World → Way → World → Bool
+as_out v x u = out_along u.trail 0 == out_along v.trail 0
+
+brings : (v : World) (o : Outcome Way) → Ends (λ a u. Kept calls v u) o → PassesIn (as_out v) o
+brings v (Done x u) k = is_same (out_along u.trail 0) (out_along v.trail 0) k.out
+brings v (Over e) k = tt
 
 pub outs_brought : (home : Home) (most deep : ℕ) (st : CoreStmt) (at : ℕ) (around : Around) → GivesWay home most deep st at around → (bound : ℕ → ℕ) → IsDeeper deep bound → (s : Stage) (c : Calls) (w v : World) → c.regs.pc ≡ home.base + 4 * at
     → IsPlaced home c.regs.pc (code_of_statement home st at around) → Stands home s c w v
     → Runs most s (λ t way u b d y. Ended home around (at + length (code_of_statement home st at around)) c w t way u b d y × (out_along u.trail 0 ≡ out_along v.trail 0)) c w v (λ h m. exec (bound m) h home.env st v)
-outs_brought home most deep st at around gives bound dp s c w v there pl stands =
-    brought most s (Ended home around (at + length (code_of_statement home st at around)) c w) c w v (λ h m. exec (bound m) h home.env st v)
-    (λ h m. brings v (exec (bound m) h home.env st v) (exec_keeps h (bound m) home.env st v).keeps)
-    (λ t x u b d y e. (ended_leads home around (at + length (code_of_statement home st at around)) c w t x u b d y e, ended_sees home around (at + length (code_of_statement home st at around)) c w t x u b d y e))
-    (gives bound dp s c w v there pl stands)
+outs_brought home most deep st at around gives bound dp s c w v there pl stands = λ rest leads n le after.
+    statement_passes home most deep st at around gives bound dp s c w v there pl stands (as_out v) (λ h m. brings v (exec (bound m) h home.env st v) (exec_keeps h (bound m) home.env st v).keeps)
+    rest leads n le (λ t x u b d y p. after t x u b d y (p.0, same_number (out_along u.trail 0) (out_along v.trail 0) p.1))

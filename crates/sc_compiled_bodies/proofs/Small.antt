@@ -24,10 +24,11 @@ use Rattle.sc_mixed_means.specs.Owed.{CompiledTextsAreRight}
 use Rattle.sc_mixed_means.specs.Stages.{Look}
 use Rattle.sc_compiled_frames.proofs.Reading.{key_one}
 use Rattle.sc_compiled_expressions.specs.Placing.{CodeAt}
-use Rattle.sc_compiled_bodies.specs.Empty.{IsEmpty, no_targets, text_of}
+use Rattle.sc_compiled_bodies.specs.Empty.{IsEmpty, no_targets}
+use Rattle.sc_compiled_bodies.specs.Procedures.{text_of}
 use Rattle.sc_compiled_bodies.specs.Small as small
-use Rattle.sc_compiled_bodies.proofs.Texts.{text_is, whole}
-use Rattle.sc_compiled_bodies.proofs.Whole.{empty_texts}
+use Rattle.sc_compiled_bodies.proofs.Texts.{whole}
+use Rattle.sc_compiled_bodies.proofs.Nothing.{empty_texts, nothing_text}
 
 module _ (f : Fun) (c : Core) (i : Image) (has : small.HasFunction i) where
   abbrev g : Fun
@@ -60,8 +61,8 @@ module _ (f : Fun) (c : Core) (i : Image) (has : small.HasFunction i) where
 
   -- ---- the image
 
-  whole_code : text_of g ≡ whole 16
-  whole_code = text_is g 1 1 (outs-Block 1 1 [] []) refl (omega arith)
+  whole_code : text_of g ≡ whole 16 []
+  whole_code = nothing_text g 1 1 (outs-Block 1 1 [] []) refl (omega arith)
 
   -- the word that the text has at an address
   abbrev fetched_at : (pc : ℕ) → option_and_then instr_of (text_word i.texts.texts pc) ≡ option_and_then instr_of (text_word (small.placed ∷ []) pc)
@@ -70,7 +71,7 @@ module _ (f : Fun) (c : Core) (i : Image) (has : small.HasFunction i) where
   abbrev stub_at : (pc : ℕ) → option_and_then instr_of (stub_word i.functions.entries pc) ≡ option_and_then instr_of (stub_word ((small.key, small.stub) ∷ []) pc)
   stub_at pc = ap (λ fs. option_and_then instr_of (stub_word fs pc)) has.functions
 
-  code_there : CodeAt i no_targets small.start (whole 16)
+  code_there : CodeAt i no_targets small.start (whole 16 [])
   code_there = (
     record { even = refl; above = omega arith; near = omega arith; fetched = fetched_at 1048576 },
     (

@@ -15,11 +15,10 @@ use Rattle.sc_mixed.specs.declared.calls.Calls.{Calls}
 use Rattle.sc_mixed_means.specs.Owed.{is_calling_out}
 use Rattle.sc_mixed_means.specs.Stages.{Stage}
 use Rattle.sc_gen_code.specs.declared.style.Style.{Style}
-use Rattle.sc_gen_code.specs.Styles.{enters}
 use Rattle.sc_compiled_frames.specs.Frames.{Has, HasFrame, IsOpen}
 use Rattle.sc_compiled_expressions.specs.Parts.{Lags}
 use Rattle.sc_compiled_expressions.proofs.Moving.{unseen_lags}
-use Rattle.sc_compiled_expressions.specs.Standing.{AreTargets, Home, Stands, entered_blocks, slots}
+use Rattle.sc_compiled_expressions.specs.Standing.{is_entered, AreTargets, Home, Stands, entered_blocks, slots}
 use Rattle.sc_compiled_expressions.proofs.Standing.{out_more, stands_lagged}
 use Rattle.sc_compiled_bodies.specs.Exits.{within}
 use Rattle.sc_compiled_expressions.proofs.Goes.{first_of}
@@ -60,7 +59,7 @@ module _ (slots_of : ℕ → List Slot) (cost : ℕ) (bs : List Born) (b : Born)
     high = f.high;
     area = f.area;
     aligned = f.aligned;
-    only = λ id p l. elim (f.only id p l) [
+    only = λ id p l counts. elim (f.only id p l counts) [
       | inl below ↦ inl below
       | inr more ↦ elim more [ inl above ↦ inr (inl above) | inr o ↦ inr (inr (open_more _ id p o)) ]
     ];
@@ -77,7 +76,7 @@ module _ (slots_of : ℕ → List Slot) (cost : ℕ) (bs : List Born) (b : Born)
     high = f.high;
     area = f.area;
     aligned = f.aligned;
-    only = λ id p l. elim (f.only id p l) [
+    only = λ id p l counts. elim (f.only id p l counts) [
       | inl below ↦ inl below
       | inr more ↦ elim more [ inl above ↦ inr (inl above) | inr o ↦ inr (inr (open_less _ id p o)) ]
     ];
@@ -86,9 +85,9 @@ module _ (slots_of : ℕ → List Slot) (cost : ℕ) (bs : List Born) (b : Born)
 
 -- ---- the blocks that are entered are the same
 
-entered_more : (st : Style) (autos : List (List Auto)) (bs : List Born) (b : Born) → enters st autos b.block ≡ false → entered_blocks st autos (bs ++ b ∷ []) ≡ entered_blocks st autos bs
+entered_more : (st : Style) (autos : List (List Auto)) (bs : List Born) (b : Born) → is_entered st autos b.block ≡ false → entered_blocks st autos (bs ++ b ∷ []) ≡ entered_blocks st autos bs
 entered_more st autos [] b e = ap (λ (t : Bool). if t then b ∷ [] else []) e
-entered_more st autos (x ∷ bs) b e = ap (λ (l : List Born). if enters st autos x.block then x ∷ l else l) (entered_more st autos bs b e)
+entered_more st autos (x ∷ bs) b e = ap (λ (l : List Born). if is_entered st autos x.block then x ∷ l else l) (entered_more st autos bs b e)
 
 -- ---- in a compiled call it is not seen
 
@@ -96,11 +95,11 @@ pub by_form : (x : Form) (gs : List Form) → is_object x ≡ true → not (show
 by_form form.Source gs e = absurd (cc (e))
 by_form form.Object gs e = refl
 
-unseen : (fs : List Frame) → is_in_code fs ≡ true → not (shows_lines (map form_of fs)) ≡ true
+pub unseen : (fs : List Frame) → is_in_code fs ≡ true → not (shows_lines (map form_of fs)) ≡ true
 unseen [] e = absurd (cc (e))
 unseen (f ∷ fs) e = by_form f.form (map form_of fs) e
 
-opened_code : (b : Born) (fs : List Frame) → is_in_code (on_innermost (λ f. record f { blocks = f.blocks ++ b ∷ [] }) fs) ≡ is_in_code fs
+pub opened_code : (b : Born) (fs : List Frame) → is_in_code (on_innermost (λ f. record f { blocks = f.blocks ++ b ∷ [] }) fs) ≡ is_in_code fs
 opened_code b [] = refl
 opened_code b (f ∷ fs) = refl
 
@@ -111,7 +110,7 @@ closed_code (f ∷ fs) = refl
 own_on : (fs gs : List Frame) (p q : Bool) → is_in_code gs ≡ is_in_code fs → q ≡ p → (is_in_code fs && not p) ≡ true → (is_in_code gs && not q) ≡ true
 own_on fs gs p q code out e = ap (λ t. t && not q) code ∙ ap (λ b. is_in_code fs && not b) out ∙ e
 
-module _ (home : Home) (b : Born) (none : b.ids ≡ []) (out : enters home.style home.autos b.block ≡ false) (s : Stage) (c : Calls) (w v : World) where
+module _ (home : Home) (b : Born) (none : b.ids ≡ []) (out : is_entered home.style home.autos b.block ≡ false) (s : Stage) (c : Calls) (w v : World) where
   abbrev inside : Home
   inside = within home (b ∷ [])
 
@@ -128,6 +127,7 @@ module _ (home : Home) (b : Born) (none : b.ids ≡ []) (out : enters home.style
     sp = st.sp;
     above = st.above;
     stubs = st.stubs;
+    took = st.took;
     opened = st.opened ∙ sym (entered_more home.style home.autos home.env.blocks b out);
     alike = st.alike;
     late = st.late;
@@ -147,6 +147,7 @@ module _ (home : Home) (b : Born) (none : b.ids ≡ []) (out : enters home.style
     sp = st.sp;
     above = st.above;
     stubs = st.stubs;
+    took = st.took;
     opened = st.opened ∙ entered_more home.style home.autos home.env.blocks b out;
     alike = st.alike;
     late = st.late;

@@ -13,19 +13,14 @@ use Rattle.sc_meaning.specs.Versions.{Text, InText, callee_of}
 use Rattle.sc_services.specs.Blocks.{slots_of}
 use Rattle.sc_services.specs.Frames.{is_object}
 use Rattle.sc_gen_code.specs.declared.symbolic.Target.{Target}
-use Rattle.sc_gen_code.specs.Code.{Code}
 use Rattle.sc_gen_code.specs.Styles.{enters, plain_style}
-use Rattle.sc_gen_body.specs.Functions.{function_code}
+use Rattle.sc_compiled_bodies.specs.Procedures.{text_of}
 use Rattle.sc_compiled_bodies.specs.Ways.{LeadsTo}
 use Rattle.sc_compiled_expressions.specs.Placing.{CodeAt}
 
 -- its code names nothing
 abbrev pub no_targets : Target → ℕ
 no_targets t = 0
-
--- what the generator writes for it
-abbrev pub text_of : Fun → Code
-text_of f = function_code plain_style f
 
 -- Its texts and the image have it: no parameters, a body of no statements, whose block has no objects; a frame within the reach of a load; its stub leads
 -- to its text, which has its key and the cost of its frame.

@@ -1,6 +1,6 @@
 -- Inside: plumbing, a representation, an invariant or a promise beside the claim (docs/TRUST.md).
 -- Where the code of a statement ends: behind it, or at a jump out of blocks that is still to be made, or where its call returns.
-use Rattle.std.specs.Prelude.{◌≡◌, ℕ, ◌+◌, ◌-◌, ◌*◌, ◌≤◌, List, [], ◌∷◌, ◌++◌, map, Option, Some, None}
+use Rattle.std.specs.Prelude.{◌≡◌, ℕ, ◌+◌, ◌-◌, ◌*◌, ◌≤◌, List, [], ◌∷◌, ◌++◌, drop, map, Option, Some, None}
 use Rattle.sc_base.specs.declared.memory.Word.{Word}
 use Rattle.sc_meaning.specs.Expressions.{Answer, Nothing}
 use Rattle.sc_meaning.specs.Statements.{Way, Normal, Broke, Continued, Jumped, Returned, all_dead}
@@ -34,9 +34,9 @@ Runs {X} most s E c w v r =
 abbrev pub within : Home → List Born → Home
 within home extra = record home { env = record home.env { blocks = home.env.blocks ++ extra } }
 
--- the numbers of the blocks that its code has open
+-- the numbers of the blocks that its code has open inside that of the parameters
 abbrev pub open_numbers : Home → List ℕ
-open_numbers home = map (λ (b : Born). b.block) (entered_blocks home.style home.autos home.env.blocks)
+open_numbers home = map (λ (b : Born). b.block) (entered_blocks home.style home.autos (drop 1 home.env.blocks))
 
 -- the meaning has left blocks since a world, the innermost first, and statements have ended
 pub data Left : List Born → World → World → Type 0 where

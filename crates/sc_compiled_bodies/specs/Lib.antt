@@ -5,5 +5,8 @@ pub mod Exits
 pub mod Good
 pub mod Lists
 pub mod Ways
+pub mod Procedures
+pub mod Steps
+pub mod Storing
 pub mod Empty
 pub mod Small

@@ -11,14 +11,20 @@ mod services;
 mod statements;
 mod turns;
 
-pub use empty::{functions_without_statements_are_right, one_function_is_right};
+pub use empty::{
+    functions_that_do_their_bodies_are_right, functions_that_store_are_right,
+    functions_without_statements_are_right, one_function_is_right,
+};
 pub use fit::{first_worlds_are_fit, fit_memories_hold_words, without_stubs_nothing_is_owed};
 pub use functions::{
     entries_and_exits_are_asked_for, epilogues_return, frames_are_taken, stubs_lead_to_texts,
     what_went_out_came_back,
 };
 pub use induction::trees_by_their_depth;
-pub use lists::{blocks_without_objects_are_not_seen, lists_and_blocks_do_what_is_meant};
+pub use lists::{
+    blocks_without_objects_are_not_seen, bodies_of_stores_do_what_is_meant,
+    lists_and_blocks_do_what_is_meant,
+};
 pub use services::services_are_asked_for;
 pub use statements::statements_do_what_is_meant;
 pub use turns::{comparisons_turn_back, loops_turn_as_is_meant, tests_turn_back};

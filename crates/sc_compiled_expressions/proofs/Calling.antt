@@ -41,7 +41,7 @@ use Rattle.sc_compiled_expressions.proofs.Moving.{GoesOneWay, credit_means, fewe
 use Rattle.sc_compiled_expressions.proofs.Ways.{computes_one_way}
 use Rattle.sc_compiled_expressions.specs.Standing.{Home, Keeps, Stands, slots}
 use Rattle.sc_compiled_expressions.specs.Good.{IsDeeper, IsPlaced}
-use Rattle.sc_compiled_expressions.proofs.Standing.{first_at, keeps_then, keeps_with, memory_of, stands_with, zero_stays}
+use Rattle.sc_compiled_expressions.proofs.Standing.{first_at, keeps_then, keeps_with, memory_of, placed_has, stands_with, zero_stays}
 use Rattle.sc_compiled_expressions.specs.Called.{CallsReturn, CameBack, HasArguments, IsAtCall, LooksOn}
 use Rattle.sc_compiled_expressions.proofs.Goes.{call_comes_back}
 
@@ -105,7 +105,7 @@ module _ (home : Home) (most : ℕ) (key : Key) (xs : List Value) (ty : CType) (
   words_there = first_at home s c w v st c.regs.pc (Call (target.Named key)) (Word_of (Jalr ra ra (pos 0)) ∷ []) pl
 
   to_is : to ≡ stub_address number
-  to_is = st.targets.function number key numbered
+  to_is = st.targets.function number key (placed_has home c.regs.pc (Call (target.Named key)) (Word_of (Jalr ra ra (pos 0)) ∷ []) pl) numbered
 
   abbrev first : Registers
   first = writes 1 (plain (sum c.regs.pc (upper_of away * 2 ^ 12))) c.regs

@@ -57,24 +57,22 @@ same_list (y ∷ ys) (c ∷ cs) n e = heads y c (same_list ys cs (omega (arith, 
         one : (y c : Stored) → Some y ≡ Some c → y ≡ c
         one y c g = cc (g)
 
-module _ (home : Home) (most : ℕ) (at : Spot) (few : at.depth ≤ 5) (t : ℕ) (tmp : IsTemporary home at t) (s : Stage) (c : Calls) (w v : World) (st : Stands home s c w v) (x : Word) (wide : x.bits < 2 ^ 32) (waits : WordWaits w (foot w + t) x) where
+-- a word that waits in the frame is read there
+module _ (home : Home) (t : ℕ) (even : t % 4 ≡ 0) (fits : t + 4 ≤ home.cost) (s : Stage) (c : Calls) (w v : World) (st : Stands home s c w v) (x : Word) (wide : x.bits < 2 ^ 32) (waits : WordWaits w (foot w + t) x) where
   abbrev m : Flat
   m = st.frame.holds.memory.flat
 
   abbrev a : ℕ
   a = foot w + t
 
-  fits : t + 4 ≤ home.cost
-  fits = let room = tmp.room in let frame = tmp.frame in omega (arith, room, frame)
-
   abbrev i : ℕ
-  i = framed.place_there (slots home) home.cost home.env.blocks (stub w) w st.stubs st.frame t tmp.even fits
+  i = framed.place_there (slots home) home.cost home.env.blocks (stub w) w st.stubs st.frame t even fits
 
   place_is : place m a 4 ≡ Some i
-  place_is = framed.place_is (slots home) home.cost home.env.blocks (stub w) w st.stubs st.frame t tmp.even fits
+  place_is = framed.place_is (slots home) home.cost home.env.blocks (stub w) w st.stubs st.frame t even fits
 
   aligned : aligned_place m a 4 ≡ Some i
-  aligned = framed.aligned (slots home) home.cost home.env.blocks (stub w) w st.stubs st.frame t tmp.even fits
+  aligned = framed.aligned (slots home) home.cost home.env.blocks (stub w) w st.stubs st.frame t even fits
 
   long : length (range_of m.cells i 4) ≡ 4
   long =
@@ -97,8 +95,15 @@ module _ (home : Home) (most : ℕ) (at : Spot) (few : at.depth ≤ 5) (t : ℕ)
   cells_same : range_of m.cells i 4 ≡ cells_of 4 x
   cells_same = same_list (range_of m.cells i 4) (cells_of 4 x) (long ∙ sym (length_of_word 4 x (inr (inr refl)))) each_same
 
-  read_is : raw_read m a 4 ≡ Some x
-  read_is = ap (option_map (λ k. word_of (range_of m.cells k 4))) aligned ∙ ap (λ cs. Some (word_of cs)) cells_same ∙ ap Some (sym (whole-read (cells_of 4 x) x wide (sym (whole-cells x))))
+  pub word_read : raw_read st.frame.holds.memory.flat (foot w + t) 4 ≡ Some x
+  word_read = ap (option_map (λ k. word_of (range_of m.cells k 4))) aligned ∙ ap (λ cs. Some (word_of cs)) cells_same ∙ ap Some (sym (whole-read (cells_of 4 x) x wide (sym (whole-cells x))))
+
+module _ (home : Home) (most : ℕ) (at : Spot) (few : at.depth ≤ 5) (t : ℕ) (tmp : IsTemporary home at t) (s : Stage) (c : Calls) (w v : World) (st : Stands home s c w v) (x : Word) (wide : x.bits < 2 ^ 32) (waits : WordWaits w (foot w + t) x) where
+  abbrev flat : Flat
+  flat = st.frame.holds.memory.flat
+
+  fits : t + 4 ≤ home.cost
+  fits = let room = tmp.room in let frame = tmp.frame in omega (arith, room, frame)
 
   pub pop_goes : {X : Type 0} (E : End X) (r : Family X) (rd : ℕ) → IsFree rd → (val : Value) → MeansIn w x val → IsPlaced home c.regs.pc (pop rd t) → Leading v r
       → ((d : Calls) → Fetched home rd (c.regs.pc + 4 * length (pop rd t)) c w s val v d w → Meets most s E d w v r) → Meets most s E c w v r
@@ -110,7 +115,7 @@ module _ (home : Home) (most : ℕ) (at : Spot) (few : at.depth ≤ 5) (t : ℕ)
       let file : IsFile (with_word q.regs.words rd x) (with (register q.regs) rd x) = file_with q.regs.words (register q.regs) rd x free.small (record { count = there.regs.count; each = λ j lt. refl }) in
       let are : AreRegisters (with_word q.regs.words rd x) = registers_of (with_word q.regs.words rd x) (with (register q.regs) rd x) file (kept rd (register q.regs) x 0 (not_zero rd free) ∙ index_zero q.regs.words there.regs) in
       behind_load most s st.value E Lw rd there.base there.offset q w v x r (memory_of home s c w v st) there.instr
-      (ap (λ b. raw_read m b 4) (there.there ∙ whole_address home most at few t tmp s c w v st) ∙ read_is) leads
+      (ap (λ b. raw_read flat b 4) (there.there ∙ whole_address home most at few t tmp s c w v st) ∙ word_read home t tmp.even fits s c w v st x wide waits) leads
       (go (with_registers n q) (record {
         there = there.last;
         world = refl;

@@ -12,7 +12,7 @@ use Rattle.sc_meaning.specs.Values.{Value, FunctionAt}
 use Rattle.sc_meaning.specs.Versions.{History, Text}
 use Rattle.sc_meaning.specs.World.{ComesBack, Frame, GoesOut, Item, Work, World, outer, pass, tick}
 use Rattle.sc_meaning.proofs.Steps.{on, one_more}
-use Rattle.sc_services.specs.Blocks.{top_blocks}
+use Rattle.sc_services.specs.Blocks.{top_blocks, top_cost}
 use Rattle.sc_services.specs.Frames.{is_in_code}
 use Rattle.sc_like.proofs.Hiding.{like_on, tells_on}
 use Rattle.sc_mixed.specs.Machine.{depth_of}
@@ -125,6 +125,7 @@ module _ (home : Home) (most : ℕ) (key : Key) (xs : List Value) (ty : CType) (
       above = subst (λ n. AreOver d.lower (n + home.cost)) (sym foot_same) (subst (λ ls. AreOver ls (foot w + home.cost)) (sym ret.lower) st.above);
       stubs = ret.stubs;
       opened = ap top_blocks ret.calls ∙ st.opened;
+      took = ap top_cost ret.calls ∙ st.took;
       alike = like_on y u back ret.alike back_lags.alike;
       late = ret.late;
       forms = tells_on (Work 1) (pass ComesBack u) (tells_on ComesBack u ret.forms);

@@ -26,7 +26,9 @@ use Rattle.sc_compiled_frames.specs.Words.{AreSeated}
 use Rattle.sc_compiled_frames.specs.Frames.{Placed, foot}
 use Rattle.sc_compiled_expressions.specs.Parts.{End, Meets}
 use Rattle.sc_compiled_expressions.proofs.Joining.{in_turn, same_part, undefined_here}
-use Rattle.sc_compiled_expressions.specs.Standing.{Home, MeansIn, Stands, slots, stub, table, table_in}
+use Rattle.sc_gen_code.specs.declared.symbolic.Symbolic.TheVariants.{Upper}
+use Rattle.sc_gen_code.specs.declared.symbolic.Target.TheVariants as target
+use Rattle.sc_compiled_expressions.specs.Standing.{HasWord, Home, MeansIn, Stands, slots, stub, table, table_in}
 use Rattle.sc_compiled_expressions.specs.Good.{IsDeeper}
 use Rattle.sc_compiled_expressions.proofs.Standing.{own_step, seated, stands_worked}
 use Rattle.sc_compiled_expressions.proofs.Nodes.{finish, less, opened}
@@ -100,7 +102,7 @@ module _ (home : Home) (most deep l : ℕ) (t : CType) (e : CoreExpr) where
 
   -- ---- the name of a static object
 
-  module _ (key : Key) (is : out-CoreExpr e ≡ CoreExpr-F.Static l t key) (s : Stage) (c : Calls) (w v : World) (st : Stands home s c w v) where
+  module _ (key : Key) (is : out-CoreExpr e ≡ CoreExpr-F.Static l t key) (has : HasWord home.text (Upper (target.Named key))) (s : Stage) (c : Calls) (w v : World) (st : Stands home s c w v) where
     abbrev E : End Answer
     E = PlaceFound home e c w
 
@@ -113,7 +115,7 @@ module _ (home : Home) (most deep l : ℕ) (t : CType) (e : CoreExpr) where
     by_found : (o : Option ℕ) → named_in v.names (id.Named key) ≡ o → Meets most s E c w v (λ h m. static_at key o v)
     by_found None f = undefined_here most s E c w v (λ h m. undefined (undefined_name key v) v) (undefined_name key v) (own_step (undefined_name key v) v st.own) (λ h m. refl)
     by_found (Some o) f =
-        let lives = st.targets.static key o (named_now o f) in
+        let lives = st.targets.static key o has (named_now o f) in
         let seats : AreSeated (table w) = seated home s c w v st in
         finish home most s E (Place (Pointer o 0)) c w v (record {
           calls = refl;
@@ -123,13 +125,13 @@ module _ (home : Home) (most deep l : ℕ) (t : CType) (e : CoreExpr) where
           word = object_word w o lives.0 seats lives.1.0;
           kind = tt;
           in_slot = λ n g. absurd (cc (sym g ∙ frame_layer home e (CoreExpr-F.Static l t key) is));
-          by_name = λ k none g. (o, refl, ap (λ j. named_in v.names (id.Named j)) (one_key k key (sym g ∙ name_is e (CoreExpr-F.Static l t key) is)) ∙ f);
+          by_name = λ k none g. let one = one_key k key (sym g ∙ name_is e (CoreExpr-F.Static l t key) is) in (o, refl, ap (λ j. named_in v.names (id.Named j)) one ∙ f, subst (λ j. HasWord home.text (Upper (target.Named j))) (sym one) has);
         })
 
-  pub static_found : (key : Key) → out-CoreExpr e ≡ CoreExpr-F.Static l t key → GivesPlace home most (suc deep) e
-  static_found key is = λ bound dp s c w v st.
+  pub static_found : (key : Key) → out-CoreExpr e ≡ CoreExpr-F.Static l t key → HasWord home.text (Upper (target.Named key)) → GivesPlace home most (suc deep) e
+  static_found key is has = λ bound dp s c w v st.
       opened home most deep e (CoreExpr-F.Static l t key) is s (PlaceFound home e c w) bound dp c w v refl
-      (by_found key is s c w (tick v) (stands_worked home s c w v 1 st) (named_in v.names (id.Named key)) refl)
+      (by_found key is has s c w (tick v) (stands_worked home s c w v 1 st) (named_in v.names (id.Named key)) refl)
 
   -- ---- a member of a place without code
 

@@ -92,7 +92,7 @@ module _ (home : Home) (most : ℕ) (s : Stage) (c : Calls) (w v : World) (st : 
   is_kept z u e (InsideObject id off q live at by new) = absurd (not_inside id off at)
   is_kept z u e (OverItsEnd id off at short wr) = absurd (not_inside id off at)
 
-  way : MayGo s c w next behind
+  pub way : MayGo s c w next behind
   way how regs u ins =
       elim (stores_one_way s.image Sw rs base offset c.regs w (memory_of home s c w v st) instr _ (ap (λ b. aligned_place m b 4) there ∙ aligned) how regs u ins) [
         | inl none ↦ inl none
@@ -134,15 +134,18 @@ module _ (home : Home) (most : ℕ) (s : Stage) (c : Calls) (w v : World) (st : 
 
   -- the word is there
   bare_four : (k : ℕ) → k < 4 → IsBare m.objects (a + k)
-  bare_four k lt id p live = elim (st.frame.only id p live) [
-    | inl low ↦ inr (omega (arith, low))
-    | inr o ↦ elim o [
-      | inl high ↦ inl (omega (arith, high, room, lt))
-      | inr own ↦
-          let further = under own.of.block own.index own.slot own.slotted in
-          let at = own.base in
-          inl (omega (arith, further, at, lt))
+  bare_four k lt id p live = elim (framed.bytes_or_none p.size) [
+    | inl some ↦ elim (st.frame.only id p live (inl some)) [
+      | inl low ↦ inr (omega (arith, low))
+      | inr o ↦ elim o [
+        | inl high ↦ inl (omega (arith, high, room, lt))
+        | inr own ↦
+            let further = under own.of.block own.index own.slot own.slotted in
+            let at = own.base in
+            inl (omega (arith, further, at, lt))
+      ]
     ]
+    | inr none ↦ framed.no_bytes (a + k) p.base p.size none
   ]
 
   here_cell : (k : ℕ) → k < 4 → (o : Option Stored) → slice_get (cells_of 4 y) k ≡ o → cell_at (put m a 4 y) (a + k) ≡ o
@@ -175,12 +178,12 @@ module _ (home : Home) (most : ℕ) (s : Stage) (c : Calls) (w v : World) (st : 
 
   targets_behind : AreTargets st.value home behind
   targets_behind = record {
-    static = λ key o e. lives_behind o _ (st.targets.static key o e);
-    literal = λ i bytes o e f. lives_behind o _ (st.targets.literal i bytes o e f);
+    static = λ key o has e. lives_behind o _ (st.targets.static key o has e);
+    literal = λ i bytes o has e f. lives_behind o _ (st.targets.literal i bytes o has e f);
     function = st.targets.function;
   }
 
-  alike_behind : Like behind v
+  pub alike_behind : Like behind v
   alike_behind = record { same = st.alike.same; shown = st.alike.shown }
 
   pub stands_behind : Stands home s (with_registers next c) behind v
@@ -192,6 +195,7 @@ module _ (home : Home) (most : ℕ) (s : Stage) (c : Calls) (w v : World) (st : 
     above = st.above;
     stubs = st.stubs;
     opened = st.opened;
+    took = st.took;
     alike = alike_behind;
     late = st.late;
     forms = st.forms;
@@ -240,7 +244,7 @@ module _ (home : Home) (most : ℕ) (s : Stage) (c : Calls) (w v : World) (st : 
     functions = sym (append-nil w.beside.functions);
   }
 
-  waiting_kept : (ls : List Lower) → AreOver ls (foot w + home.cost) → KeepsWaiting ls w behind
+  pub waiting_kept : (ls : List Lower) → AreOver ls (foot w + home.cost) → KeepsWaiting ls w behind
   waiting_kept [] over = tt
   waiting_kept (InBodies cs sp depth ∷ ls) over = waiting_kept ls over
   waiting_kept (InCode r given ∷ ls) over = (below_kept r over.0, waiting_kept ls over.1)

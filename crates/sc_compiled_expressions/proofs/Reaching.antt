@@ -34,7 +34,7 @@ use Rattle.sc_compiled_expressions.specs.Instructions.{HasMemory, InstrAt}
 use Rattle.sc_compiled_expressions.specs.Placing.{CodeAt, UnlessLink, is_link}
 use Rattle.sc_compiled_expressions.specs.Parts.{End, Family, Leading, Meets}
 use Rattle.sc_compiled_expressions.proofs.Behind.{behind_straight}
-use Rattle.sc_compiled_expressions.specs.Standing.{Home, MeansIn, Stands, stub, table}
+use Rattle.sc_compiled_expressions.specs.Standing.{HasWord, Home, MeansIn, Stands, stub, table}
 use Rattle.sc_compiled_frames.specs.Means.{IsWord}
 use Rattle.sc_compiled_expressions.specs.Good.{IsPlaced}
 use Rattle.sc_compiled_expressions.proofs.Standing.{has_code, memory_of, seated}
@@ -161,10 +161,10 @@ one_object p q f = cc (f)
 same_base : (base size bits : ℕ) → base + size < 4294967296 → bits < 4294967296 → (bits + (4294967296 - base)) % 4294967296 ≡ 0 → base ≡ bits
 same_base base size bits lt small e = omega (arith, lt, small, e)
 
-pub named_at : (home : Home) (s : Stage) (c : Calls) (w v : World) (st : Stands home s c w v) (key : Key) (o : ℕ) (a : Answer) (x : Word) → a ≡ Place (Pointer o 0) → named_in v.names (id.Named key) ≡ Some o → IsWord (stub w) (table w) a x → (st.value (target.Named key) ≡ x.bits) × (x.bits < 2 ^ 32)
-named_at home s c w v st key o a x is name word =
+pub named_at : (home : Home) (s : Stage) (c : Calls) (w v : World) (st : Stands home s c w v) (key : Key) (o : ℕ) (a : Answer) (x : Word) → a ≡ Place (Pointer o 0) → named_in v.names (id.Named key) ≡ Some o → HasWord home.text (Upper (target.Named key)) → IsWord (stub w) (table w) a x → (st.value (target.Named key) ≡ x.bits) × (x.bits < 2 ^ 32)
+named_at home s c w v st key o a x is name has word =
     let m : MeansIn w x (Pointer o 0) = subst (λ b. IsWord (stub w) (table w) b x) is word in
-    let lives = st.targets.static key o (ap (λ (u : World). named_in u.names (id.Named key)) st.alike.same ∙ name) in
+    let lives = st.targets.static key o has (ap (λ (u : World). named_in u.names (id.Named key)) st.alike.same ∙ name) in
     let p : Obj = m.stands.0 in
     let one : lives.0 ≡ p = one_object lives.0 p (sym lives.1.0 ∙ m.stands.2) in
     let seat = seated home s c w v st o p m.stands.2 in
@@ -186,7 +186,7 @@ module _ {X : Type 0} (home : Home) (most : ℕ) (s : Stage) (E : End X) (b c : 
   by_place p alone (Some n) k f g direct pl go = by_kept p n f (kept_at home.style n) (alone n f) pl go
   by_place p alone None (Some key) f g direct pl go =
       let n = p.by_name key f g in
-      let at = named_at home s c w v p.stands key n.0 a p.place n.1 n.2 p.word in
+      let at = named_at home s c w v p.stands key n.0 a p.place n.1 n.2 n.3 p.word in
       reach_target home most s E c w v r p.stands leads what (target.Named key) p.place.bits at.0 at.1 pl go
   by_place p alone None None f g direct pl go = absurd (cc (direct))
 

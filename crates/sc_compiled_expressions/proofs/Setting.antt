@@ -44,7 +44,9 @@ use Rattle.sc_gen_expr.specs.Expressions.{pair, part_of}
 use Rattle.sc_compiled_frames.specs.Frames.{foot}
 use Rattle.sc_compiled_expressions.specs.Parts.{End, Family, Leading, Meets}
 use Rattle.sc_compiled_expressions.proofs.Joining.{in_turn, same_part, undefined_here}
-use Rattle.sc_compiled_expressions.specs.Standing.{Home, Keeps, MeansIn, Stands, stub, table}
+use Rattle.sc_gen_code.specs.declared.symbolic.Symbolic.TheVariants.{Upper}
+use Rattle.sc_gen_code.specs.declared.symbolic.Target.TheVariants as target
+use Rattle.sc_compiled_expressions.specs.Standing.{HasWord, Home, Keeps, MeansIn, Stands, stub, table}
 use Rattle.sc_compiled_expressions.specs.Good.{AnsweredPlain, GivesPlain, GivesValue, IsDeeper, IsPlaced, Valued, code_of}
 use Rattle.sc_compiled_expressions.proofs.Standing.{keeps_then, keeps_with, own_step, placed_back, placed_front, placed_same, stands_with, stands_worked}
 use Rattle.sc_compiled_expressions.proofs.Nodes.{finish, layer_is, less, opened, valued_leads}
@@ -152,7 +154,7 @@ module _ (home : Home) (most deep l : ℕ) (t : CType) (e a b : CoreExpr) (at : 
       abbrev Found : Type 0
       Found = PlaceFound home a f z t2 pa u f z
 
-      found_by : ((key : Key) → in_frame home.autos a ≡ None → named a ≡ Some key → (o : ℕ) × (pa ≡ Place (Pointer o 0)) × (named_in u.names (id.Named key) ≡ Some o)) → Found
+      found_by : ((key : Key) → in_frame home.autos a ≡ None → named a ≡ Some key → (o : ℕ) × (pa ≡ Place (Pointer o 0)) × (named_in u.names (id.Named key) ≡ Some o) × HasWord home.text (Upper (target.Named key))) → Found
       found_by names = record {
         calls = refl;
         world = refl;
@@ -206,7 +208,7 @@ module _ (home : Home) (most deep l : ℕ) (t : CType) (e a b : CoreExpr) (at : 
       by_place None (Some key) g h e =
           let n = p.by_name key g h in
           elim (named_or_dead (named_in u.names (id.Named key)) n.0 (is_dead u.objects (Pointer n.0 0)) (subst (λ o. stays_named_by o key u ≡ true) n.2 e)) [
-            | inl there ↦ writes (found_by (λ j none i. (n.0, n.1, ap (λ k. named_in u.names (id.Named k)) (same_key key j (sym i ∙ h)) ∙ there)))
+            | inl there ↦ writes (found_by (λ j none i. (n.0, n.1, ap (λ k. named_in u.names (id.Named k)) (same_key key j (sym i ∙ h)) ∙ there, subst (λ k. HasWord home.text (Upper (target.Named k))) (sym (same_key key j (sym i ∙ h))) n.3)))
             | inr dead ↦ undefined_there n.0 n.1 dead
           ]
         where

@@ -1,5 +1,5 @@
 -- What standing gives, and what it stays under: another instruction next, another word in a0, and work.
-use Rattle.std.proofs.Common.{◌≡◌, ◌≢◌, ℕ, zero, suc, ◌+◌, ◌*◌, ◌<◌, ◌≤◌, ◌&&◌, ◌||◌, not, Bool, true, false, List, [], ◌∷◌, ◌++◌, length, Option, Some, None, refl, sym, ap, subst, ◌∙◌, arith, append_assoc, length-append, length-set}
+use Rattle.std.proofs.Common.{◌≡◌, ◌≢◌, inl, inr, ℕ, zero, suc, ◌+◌, ◌*◌, ◌<◌, ◌≤◌, ◌&&◌, ◌||◌, not, Bool, true, false, List, [], ◌∷◌, ◌++◌, length, Option, Some, None, refl, sym, ap, subst, ◌∙◌, arith, append_assoc, length-append, length-set}
 use Rattle.std.proofs.lemmas.List.{get_or-set_same, get_or-set_other}
 use Rattle.std.specs.Prelude.{slice_get, slice_set, slice_index_or}
 use Rattle.sc_base.specs.declared.memory.Word.{Word}
@@ -24,7 +24,7 @@ use Rattle.sc_compiled_expressions.specs.Instructions.{HasMemory, goes_to}
 use Rattle.sc_compiled_expressions.specs.Placing.{CodeAt, WordAt}
 use Rattle.sc_compiled_expressions.proofs.Moving.{work_lags}
 use Rattle.sc_compiled_expressions.proofs.Straight.{has_back, has_front}
-use Rattle.sc_compiled_expressions.specs.Standing.{Home, IsWaiting, Keeps, Stands, StaysAbove, table, table_in}
+use Rattle.sc_compiled_expressions.specs.Standing.{HasWord, Home, IsWaiting, Keeps, Stands, StaysAbove, table, table_in}
 use Rattle.sc_compiled_expressions.specs.Good.{IsPlaced}
 
 -- ---- registers
@@ -86,6 +86,11 @@ stays_above_then at w y z p q = record {
   area = let first = p.area in let last = q.area in omega (arith, first, last);
 }
 
+-- a word that stands somewhere in a text
+pub word_behind : (before : Code) (x : Symbolic) (code : Code) → HasWord (before ++ x ∷ code) x
+word_behind [] x code = inl refl
+word_behind (y ∷ before) x code = inr (word_behind before x code)
+
 module _ (home : Home) where
   abbrev pub memory_of : (s : Stage) (c : Calls) (w v : World) → Stands home s c w v → HasMemory w
   memory_of s c w v st = record { memory = st.frame.holds.memory; there = st.frame.holds.there; low = st.frame.holds.words.held.safe.stack; high = st.frame.holds.words.held.safe.heap }
@@ -104,6 +109,7 @@ module _ (home : Home) where
     above = st.above;
     stubs = st.stubs;
     opened = st.opened;
+    took = st.took;
     alike = st.alike;
     late = st.late;
     forms = st.forms;
@@ -130,6 +136,7 @@ module _ (home : Home) where
     above = st.above;
     stubs = st.stubs;
     opened = st.opened;
+    took = st.took;
     alike = like_on w v u st.alike alike;
     late = let late = st.late in omega (arith, late, grew);
     forms = forms;
@@ -211,6 +218,10 @@ module _ (home : Home) where
       subst (λ n. CodeAt s.image st.value n code) (sym p.there)
       (has_front s.image st.value (home.base + 4 * length p.before) code p.behind
       (has_back s.image st.value home.base p.before (code ++ p.behind) (subst (λ t. CodeAt s.image st.value home.base t) p.part st.text)))
+
+  -- and the text has its first word
+  pub placed_has : (pc : ℕ) (x : Symbolic) (code : Code) → IsPlaced home pc (x ∷ code) → HasWord home.text x
+  placed_has pc x code p = subst (λ l. HasWord l x) (sym p.part) (word_behind p.before x (code ++ p.behind))
 
   -- a first word that is an instruction
   pub first_at : (s : Stage) (c : Calls) (w v : World) (st : Stands home s c w v) (pc : ℕ) (x : Symbolic) (code : Code) → IsPlaced home pc (x ∷ code) → WordAt s.image st.value pc x

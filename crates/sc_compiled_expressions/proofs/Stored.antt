@@ -69,7 +69,7 @@ module _ (home : Home) (s : Stage) (c : Calls) (w v : World) (st : Stands home s
     high = st.frame.high;
     area = subst (λ k. 0x20000000 - k ≤ foot w) (sym (puts.stack_is w h st.stubs ty a x y val scalar word_now means_now of rule)) st.frame.area;
     aligned = st.frame.aligned;
-    only = λ id p live. st.frame.only id p (subst (λ l. IsLive l id p) table_is live);
+    only = λ id p live counts. st.frame.only id p (subst (λ l. IsLive l id p) table_is live) counts;
     lives = λ o there i id e. subst (λ l. Placed (slots home) (foot w) l o.block i id) (sym table_is) (st.frame.lives o there i id e);
   }
 
@@ -78,8 +78,8 @@ module _ (home : Home) (s : Stage) (c : Calls) (w v : World) (st : Stands home s
 
   targets_behind : (value : Target → ℕ) → AreTargets value home w → AreTargets value home behind
   targets_behind value t = record {
-    static = λ key o e. lives_behind o _ (t.static key o e);
-    literal = λ i bytes o e f. lives_behind o _ (t.literal i bytes o e f);
+    static = λ key o has e. lives_behind o _ (t.static key o has e);
+    literal = λ i bytes o has e f. lives_behind o _ (t.literal i bytes o has e f);
     function = t.function;
   }
 
@@ -91,6 +91,7 @@ module _ (home : Home) (s : Stage) (c : Calls) (w v : World) (st : Stands home s
     above = st.above;
     stubs = st.stubs;
     opened = st.opened;
+    took = st.took;
     alike = passes item w v st.alike;
     late = st.late;
     forms = tells_on item v st.forms;

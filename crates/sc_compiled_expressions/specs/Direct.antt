@@ -17,6 +17,8 @@ use Rattle.sc_mixed.specs.Bridge.{with_registers}
 use Rattle.sc_mixed.specs.declared.calls.Calls.{Calls}
 use Rattle.sc_mixed_means.specs.Stages.{Stage}
 use Rattle.sc_gen_code.specs.declared.symbolic.Access.{Access}
+use Rattle.sc_gen_code.specs.declared.symbolic.Symbolic.TheVariants.{Upper}
+use Rattle.sc_gen_code.specs.declared.symbolic.Target.TheVariants as target
 use Rattle.sc_program.specs.declared.storage.StaticId.TheVariants as id
 use Rattle.sc_gen_code.specs.Code.{accessed}
 use Rattle.sc_gen_code.specs.Styles.{kept_at}
@@ -28,7 +30,7 @@ use Rattle.sc_compiled_frames.specs.Words.{IsOf}
 use Rattle.sc_compiled_frames.specs.Frames.{Has, foot}
 use Rattle.sc_compiled_expressions.specs.Instructions.{InstrAt}
 use Rattle.sc_compiled_expressions.specs.Parts.{Meets}
-use Rattle.sc_compiled_expressions.specs.Standing.{Home, MeansIn, Stands, stub, table}
+use Rattle.sc_compiled_expressions.specs.Standing.{HasWord, Home, MeansIn, Stands, stub, table}
 use Rattle.sc_compiled_expressions.specs.Good.{IsDeeper, IsPlaced}
 
 -- a name of a block stands for an object of that block, which is open
@@ -51,7 +53,8 @@ IsAtPlace (Place p) = ⊤
 IsAtPlace (Part p n) = ⊤
 IsAtPlace Nothing = ⊥
 
--- The place of an expression that has no code has been found: nothing was done. It stands so many bytes above sp, or it is the object of its name.
+-- The place of an expression that has no code has been found: nothing was done. It stands so many bytes above sp, or it is the object of its name, which
+-- the text reaches.
 pub record PlaceFound (home : Home) (e : CoreExpr) (c : Calls) (w : World) (s : Stage) (a : Answer) (u : World) (d : Calls) (y : World) : Type 0 where
   pub calls : d ≡ c
   pub world : y ≡ w
@@ -60,7 +63,7 @@ pub record PlaceFound (home : Home) (e : CoreExpr) (c : Calls) (w : World) (s : 
   pub word : IsWord (stub y) (table y) a place
   pub kind : IsAtPlace a
   pub in_slot : (n : ℕ) → in_frame home.autos e ≡ Some n → (n < 2 ^ 32) × (sum (foot y) n ≡ place.bits)
-  pub by_name : (key : Key) → in_frame home.autos e ≡ None → named e ≡ Some key → (o : ℕ) × (a ≡ Place (Pointer o 0)) × (named_in u.names (id.Named key) ≡ Some o)
+  pub by_name : (key : Key) → in_frame home.autos e ≡ None → named e ≡ Some key → (o : ℕ) × (a ≡ Place (Pointer o 0)) × (named_in u.names (id.Named key) ≡ Some o) × HasWord home.text (Upper (target.Named key))
 
 abbrev pub GivesPlace : Home → ℕ → ℕ → CoreExpr → Type 0
 GivesPlace home most deep e = (bound : ℕ → ℕ) → IsDeeper deep bound → (s : Stage) (c : Calls) (w v : World) → Stands home s c w v →

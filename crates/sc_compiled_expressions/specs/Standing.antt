@@ -1,6 +1,6 @@
 -- Inside: plumbing, a representation, an invariant or a promise beside the claim (docs/TRUST.md).
 -- How a call of compiled code stands between the parts of its text, and what a part leaves as it was.
-use Rattle.std.specs.Prelude.{◌≡◌, ◌⊎◌, ⊤, ℕ, ◌+◌, ◌<◌, ◌≤◌, ◌&&◌, true, not, if◌then◌else◌, List, [], ◌∷◌, length, map, slice_get, slice_index_or, Option, Some, None}
+use Rattle.std.specs.Prelude.{◌≡◌, ◌⊎◌, ⊤, ℕ, ◌+◌, ◌<◌, ◌≤◌, ◌==◌, ◌&&◌, ◌||◌, Bool, true, not, if◌then◌else◌, List, [], ◌∷◌, length, map, slice_get, slice_index_or, Option, Some, None}
 use Rattle.sc_base.specs.declared.key.Key.{Key}
 use Rattle.sc_base.specs.declared.memory.Word.{Word}
 use Rattle.sc_program.specs.declared.frame.Slot.{Slot}
@@ -15,7 +15,7 @@ use Rattle.sc_core.specs.declared.module.Auto.{Auto}
 use Rattle.sc_meaning.specs.Expressions.{Env}
 use Rattle.sc_meaning.specs.Values.{Value}
 use Rattle.sc_meaning.specs.World.{Born, World, named_in, outer}
-use Rattle.sc_services.specs.Blocks.{top_blocks}
+use Rattle.sc_services.specs.Blocks.{top_blocks, top_cost}
 use Rattle.sc_services.specs.Frames.{is_in_code}
 use Rattle.sc_services.specs.Memory.{IsBareAt}
 use Rattle.sc_like.specs.Alike.{Like}
@@ -29,6 +29,8 @@ use Rattle.sc_mixed_means.specs.Stages.{Stage, since, Look}
 use Rattle.sc_mixed_means.specs.Waiting.{stored_in}
 use Rattle.sc_gen_code.specs.declared.style.Style.{Style}
 use Rattle.sc_gen_code.specs.declared.style.Spot.{Spot}
+use Rattle.sc_gen_code.specs.declared.symbolic.Symbolic.{Symbolic}
+use Rattle.sc_gen_code.specs.declared.symbolic.Symbolic.TheVariants.{Call, Upper}
 use Rattle.sc_gen_code.specs.declared.symbolic.Target.{Target}
 use Rattle.sc_gen_code.specs.declared.symbolic.Target.TheVariants as target
 use Rattle.sc_gen_code.specs.Code.{Code}
@@ -75,11 +77,17 @@ MeansIn w x v = Means (stub w) (table w) x v
 abbrev pub LivesAt : World → ℕ → ℕ → Type 0
 LivesAt w o at = (p : Obj) × IsLive (table w) o p × (p.base ≡ at)
 
--- The targets of a text have the addresses of what they name: of objects with names, of literals, and of stubs.
+-- a text has a word
+abbrev pub HasWord : Code → Symbolic → Type 0
+HasWord [] x = ⊥
+HasWord (y ∷ ys) x = (y ≡ x) ⊎ HasWord ys x
+
+-- The targets of a text have the addresses of what they name: of the objects with names and the literals that it reaches, and of the stubs of the
+-- functions that it calls.
 pub record AreTargets (value : Target → ℕ) (home : Home) (w : World) : Type 0 where
-  pub static : (key : Key) (o : ℕ) → named_in w.names (id.Named key) ≡ Some o → LivesAt w o (value (target.Named key))
-  pub literal : (i : ℕ) (bytes : List ℕ) (o : ℕ) → slice_get home.env.text.core.literals i ≡ Some bytes → named_in w.names (id.Literal home.env.text.core.name bytes) ≡ Some o → LivesAt w o (value (target.Literal i))
-  pub function : (n : ℕ) (key : Key) → slice_get w.beside.functions n ≡ Some key → value (target.Named key) ≡ stub_address n
+  pub static : (key : Key) (o : ℕ) → HasWord home.text (Upper (target.Named key)) → named_in w.names (id.Named key) ≡ Some o → LivesAt w o (value (target.Named key))
+  pub literal : (i : ℕ) (bytes : List ℕ) (o : ℕ) → HasWord home.text (Upper (target.Literal i)) → slice_get home.env.text.core.literals i ≡ Some bytes → named_in w.names (id.Literal home.env.text.core.name bytes) ≡ Some o → LivesAt w o (value (target.Literal i))
+  pub function : (n : ℕ) (key : Key) → HasWord home.text (Call (target.Named key)) → slice_get w.beside.functions n ≡ Some key → value (target.Named key) ≡ stub_address n
 
 -- compiled code that waits does so at an address, or above it
 abbrev pub AreOver : List Lower → ℕ → Type 0
@@ -87,13 +95,17 @@ AreOver [] at = ⊤
 AreOver (InBodies cs sp depth ∷ ls) at = AreOver ls at
 AreOver (InCode r given ∷ ls) at = (at ≤ (register r 2).bits) × AreOver ls at
 
+-- code enters a block: that of the parameters always, with the call
+abbrev pub is_entered : Style → List (List Auto) → ℕ → Bool
+is_entered st autos b = (b == 0) || enters st autos b
+
 -- the blocks that code enters, of those that the meaning has open
 abbrev pub entered_blocks : Style → List (List Auto) → List Born → List Born
 entered_blocks st autos [] = []
-entered_blocks st autos (b ∷ bs) = if enters st autos b.block then b ∷ entered_blocks st autos bs else entered_blocks st autos bs
+entered_blocks st autos (b ∷ bs) = if is_entered st autos b.block then b ∷ entered_blocks st autos bs else entered_blocks st autos bs
 
 -- The meaning looks as deep; its text is there, its frame holds the objects of its open blocks, sp is at the frame's foot, what waits does so above the frame, the run's
--- world is alike the meaning's, and the innermost call is its own, which was not yet active as the innermost compiled code was called.
+-- world is alike the meaning's, and the innermost call is its own, which was not yet active as the innermost compiled code was called; it has taken the frame of the text.
 pub record Stands (home : Home) (s : Stage) (c : Calls) (w v : World) : Type 0 where
   pub look : s.look ≡ home.look
   pub regs : AreRegisters c.regs.words
@@ -101,6 +113,7 @@ pub record Stands (home : Home) (s : Stage) (c : Calls) (w v : World) : Type 0 w
   pub sp : register c.regs 2 ≡ plain (foot w)
   pub above : AreOver c.lower (foot w + home.cost)
   pub stubs : AreStubs w.beside.functions (stub w)
+  pub took : top_cost w.frames ≡ home.cost
   pub opened : top_blocks w.frames ≡ entered_blocks home.style home.autos home.env.blocks
   pub alike : Like w v
   pub late : since s.past ≤ v.count

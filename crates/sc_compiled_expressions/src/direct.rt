@@ -6,20 +6,22 @@ ghost use Rattle.sc_core.specs.declared.expression.CoreExpr.{CoreExpr, out-CoreE
 ghost use Rattle.sc_compiled_expressions.specs.Direct.{Converts, EvaluatesTo, GivesLeaf, GivesPlace, HasNoCopy, IsFree, IsOpenName};
 ghost use Rattle.sc_core.specs.Types.{type_of};
 ghost use Rattle.sc_gen_code.specs.declared.style.Spot.{Spot};
+ghost use Rattle.sc_gen_code.specs.declared.symbolic.Symbolic.TheVariants.{Upper};
+ghost use Rattle.sc_gen_code.specs.declared.symbolic.Target.TheVariants.{Named};
 ghost use Rattle.sc_gen_operand.specs.Places.{constant, fetch, is_direct, is_read};
 ghost use Rattle.sc_compiled_expressions.specs.Good.{GivesPlain, code_of};
-ghost use Rattle.sc_compiled_expressions.specs.Standing.{Home};
+ghost use Rattle.sc_compiled_expressions.specs.Standing.{HasWord, Home};
 ghost use Rattle.sc_gen_code.specs.Operators.{is_scalar};
 ghost use Rattle.sc_meaning.specs.Accesses.{as_type};
 ghost use Rattle.sc_meaning.specs.Values.{Number};
 ghost use Rattle.sc_types.specs.declared.ctype.CType.{CType};
 
-/// The name of an automatic object of an open block, that of a static object, and a member of a place without code of its own, each give their place
+/// The name of an automatic object of an open block, that of a static object which the text reaches, and a member of a place without code of its own, each give their place
 /// without code, or the meaning's next step is an undefined one.
 #[tactic(auto, using(crate::proofs::Places::automatic_found, crate::proofs::Places::static_found, crate::proofs::Places::member_found))]
 pub fn names_give_places()
     ensures automatic { (home : Home) (most deep l : ℕ) (t : CType) (e : CoreExpr) (b i : ℕ) → out-CoreExpr e ≡ CoreExpr-F.Automatic l t b i → IsOpenName home b i → GivesPlace home most (suc deep) e }
-    ensures by_name { (home : Home) (most deep l : ℕ) (t : CType) (e : CoreExpr) (key : Key) → out-CoreExpr e ≡ CoreExpr-F.Static l t key → GivesPlace home most (suc deep) e }
+    ensures by_name { (home : Home) (most deep l : ℕ) (t : CType) (e : CoreExpr) (key : Key) → out-CoreExpr e ≡ CoreExpr-F.Static l t key → HasWord home.text (Upper (Named key)) → GivesPlace home most (suc deep) e }
     ensures member { (home : Home) (most deep l : ℕ) (t : CType) (e : CoreExpr) (n : ℕ) (a : CoreExpr) → out-CoreExpr e ≡ CoreExpr-F.Member l t n a → GivesPlace home most deep a → GivesPlace home most (suc deep) e }
 {}
 

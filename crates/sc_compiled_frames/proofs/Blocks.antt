@@ -25,7 +25,7 @@ module _ (slots : ℕ → List Slot) (cost : ℕ) (bs : List Born) (b : ℕ) (w 
     high = mem.high;
     area = mem.area;
     aligned = mem.aligned;
-    only = λ id p live. elim (mem.only id p live) [
+    only = λ id p live counts. elim (mem.only id p live counts) [
       | inl x ↦ inl x
       | inr y ↦ inr (elim y [ inl z ↦ inl z | inr q ↦ inr (record { of = q.of; open_there = has_front q.of bs (entered b []) q.open_there; index = q.index; slot = q.slot; numbered = q.numbered; slotted = q.slotted; base = q.base; size = q.size }) ])
     ];
@@ -42,7 +42,7 @@ module _ (slots : ℕ → List Slot) (cost : ℕ) (bs : List Born) (b : ℕ) (w 
     high = mem.high;
     area = mem.area;
     aligned = mem.aligned;
-    only = λ id p live. elim (mem.only id p live) [
+    only = λ id p live counts. elim (mem.only id p live counts) [
       | inl x ↦ inl x
       | inr y ↦ inr (elim y [
         | inl z ↦ inl z
@@ -103,7 +103,7 @@ first_frame slots cost s there heap stack le four =
       high = high;
       area = area;
       aligned = aligned;
-      only = λ id p live. absurd (nothing_there id p live.0);
+      only = λ id p live counts. absurd (nothing_there id p live.0);
       lives = λ o has i id e. absurd has;
     }
 

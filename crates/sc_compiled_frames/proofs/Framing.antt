@@ -77,7 +77,7 @@ module _ (slots : ℕ → List Slot) (cost : ℕ) (fits : Fits slots cost) (bs :
     clear : IsClear m.objects base slot.size
     clear id p live =
         let i = inside in
-        elim (mem.only id p live) [
+        elim (mem.only id p live (inr (b, length ids, slot, here))) [
           | inl x ↦ inl (omega (arith, x))
           | inr y ↦ elim y [ inl z ↦ inr (omega (arith, z, i)) | inr q ↦ from_open id p q ]
         ]
@@ -151,8 +151,8 @@ module _ (slots : ℕ → List Slot) (cost : ℕ) (fits : Fits slots cost) (bs :
       high = mem.high;
       area = mem.area;
       aligned = mem.aligned;
-      only = λ id p live. elim (object-born m.objects o id p live.0) [
-        | inl old ↦ elim (mem.only id p (old, live.1)) [ inl x ↦ inl x | inr y ↦ inr (elim y [ inl z ↦ inl z | inr q ↦ inr (still_open id p q) ]) ]
+      only = λ id p live counts. elim (object-born m.objects o id p live.0) [
+        | inl old ↦ elim (mem.only id p (old, live.1) counts) [ inl x ↦ inl x | inr y ↦ inr (elim y [ inl z ↦ inl z | inr q ↦ inr (still_open id p q) ]) ]
         | inr new ↦ inr (inr (record {
           of = entered b more;
           open_there = has_last bs (entered b more);
@@ -275,9 +275,9 @@ module _ (slots : ℕ → List Slot) (cost : ℕ) (fits : Fits slots cost) (bs :
       high = mem.high;
       area = mem.area;
       aligned = mem.aligned;
-      only = λ other p live.
+      only = λ other p live counts.
           let old = live-ended table id dying.object dying.live.0 other p live in
-          elim (mem.only other p old.1) [ inl x ↦ inl x | inr y ↦ inr (elim y [ inl z ↦ inl z | inr q ↦ inr (open_after other p old.0 q) ]) ];
+          elim (mem.only other p old.1 counts) [ inl x ↦ inl x | inr y ↦ inr (elim y [ inl z ↦ inl z | inr q ↦ inr (open_after other p old.0 q) ]) ];
       lives = lives_after;
     }
 

@@ -46,14 +46,18 @@ pub record Placed (slots : ℕ → List Slot) (sp : ℕ) (table : List Obj) (blo
   pub base : object.base ≡ sp + slot.offset
   pub size : object.size ≡ slot.size
 
--- The frame is the lowest part of the stack that is used.
+-- an object that a frame counts: one with bytes, or any, where the frame has a slot
+abbrev pub IsCounted : (ℕ → List Slot) → Obj → Type 0
+IsCounted slots p = (0 < p.size) ⊎ ((b : ℕ) × (i : ℕ) × (s : Slot) × (slice_get (slots b) i ≡ Some s))
+
+-- The frame is the lowest part of the stack that is used. An object without bytes may stand in a frame without slots.
 pub record HasFrame (slots : ℕ → List Slot) (cost : ℕ) (blocks : List Born) (w : World) : Type 0 where
   pub holds : HoldsWords w
   pub low : 0x1F000000 ≤ foot w
   pub high : foot w + cost ≤ 0x20000000
   pub area : 0x20000000 - holds.memory.flat.stack ≤ foot w
   pub aligned : foot w % 4 ≡ 0
-  pub only : (id : ℕ) (p : Obj) → IsLive holds.memory.flat.objects id p → (p.base + p.size < foot w) ⊎ ((foot w + cost ≤ p.base) ⊎ IsOpen slots blocks (foot w) id p)
+  pub only : (id : ℕ) (p : Obj) → IsLive holds.memory.flat.objects id p → IsCounted slots p → (p.base + p.size < foot w) ⊎ ((foot w + cost ≤ p.base) ⊎ IsOpen slots blocks (foot w) id p)
   pub lives : (o : Born) → Has o blocks → (i id : ℕ) → slice_get o.ids i ≡ Some id → Placed slots (foot w) holds.memory.flat.objects o.block i id
 
 -- four bytes at an offset of the frame are below all slots

@@ -16,7 +16,7 @@ ghost use Rattle.sc_compiled_frames.specs.Words.{AreStubs};
 ghost use Rattle.sc_compiled_frames.specs.Frames.{Fits, Has, HasFrame, IsBelow, entered, foot, waiting};
 
 /// Where the slots of a function's blocks fit its frame, and a block is not open yet, the frame holds the block's objects in their slots, and
-/// no other live object, behind its births; and the block's objects no more behind their deaths. So it is of the first frame of a run,
+/// no other live object (but ones without bytes, where it has no slots), behind its births; and the block's objects no more behind their deaths. So it is of the first frame of a run,
 /// and there are slots that fit.
 #[tactic(auto, using(crate::proofs::Blocks::block_entered, crate::proofs::Blocks::block_left, crate::proofs::Blocks::first_frame, crate::proofs::Blocks::one_fits))]
 pub fn blocks_stand_in_their_slots()
