@@ -14,7 +14,7 @@ use std::marker::Model;
 
 /// As many cells as were asked for, seen as the list of them. What writes cells may answer want of memory, and changes
 /// nothing then; what reads or clears them never does. They stand in pages of 4,096, and a page is taken when it is
-/// first written. A cell takes at most 19 bytes.
+/// first written. A cell takes 4 bytes, and 16 more in a page that holds pieces of pointers which are parts of no one word.
 #[derive(Drop)]
 pub struct Cells {
     alloc: Global,

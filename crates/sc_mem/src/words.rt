@@ -203,6 +203,7 @@ pub fn written_word(cells: &Cells, i: u32, n: u32) -> Option<Word>
 }
 
 // The same cell by cell.
+#[inline(never)]
 fn load_cells(cells: &Cells, i: u32, n: u8) -> Word
     requires size { IsSize n }
     requires inside { i + n ≤ length cells.now }

@@ -1,7 +1,6 @@
 use Rattle.std.proofs.Common.{◌+◌, List, length, take, subst, sym, arith}
-use Rattle.sc_base.specs.declared.memory.Cell.{Cell}
-use Rattle.sc_cells.specs.Pages.{Rewritten}
-use Rattle.sc_cells.proofs.Paged.{row-step}
+use Rattle.sc_cells.specs.Pages.{Rewritten, Sheet}
+use Rattle.sc_cells.proofs.Paged.{are-taken, row-step}
 use Rattle.sc_cells.proofs.pages.put_row.Goals as goal
 
 pub putting-preserved : goal.putting-preserved
@@ -9,5 +8,5 @@ putting-preserved c =
     let first = c.args.pages.now.items in
     let row = c.args.row.now in
     let k = c.putting.k in
-    subst (λ (ps : List (List Cell)). Rewritten first ps (c.args.at + length row) c.args.at (λ all. take (k + 1) row)) (sym c.put_at.ensures)
-    (row-step first c.putting.pages.items c.args.at k row c.cell_of.result c.requires.inside c.requires.taken (omega arith) c.cell_of.ensures c.putting.invariant)
+    subst (λ (ps : List Sheet). Rewritten first ps (c.args.at + length row) c.args.at (λ all. take (k + 1) row)) (sym c.put_at.ensures)
+    (row-step first c.putting.pages.items c.args.at k row c.cell_of.result c.requires.inside (are-taken c.args.pages.now.items c.args.at (length row) c.requires.roomy) (omega arith) c.cell_of.ensures c.putting.invariant)

@@ -4,7 +4,6 @@ use Rattle.sc_cells.proofs.page.Page.len.Goals as goal
 
 pub returns : goal.returns
 returns c =
-    let n = seen-length c.self.inside.words.items c.self.inside.cells.items c.args.self.now c.self.view_is in
-    let fits = c.self.invariant in
+    let n = seen-length c.self.inside.quads.items c.self.inside.loose.items c.args.self.now c.self.view_is in
     let count = c.len.ensures in
     omega arith
