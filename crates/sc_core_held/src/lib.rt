@@ -1,5 +1,5 @@
-//! The modules of a program as they are held: a module with its functions by a hash, a text with its number and form,
-//! what a key names in them or in the library, and the numbers of functions (ANSI 3.1.2.2, 3.7, 4.1.6).
+//! The modules of a program as they are held: a module with its functions and objects by hashes, a text with its number
+//! and form, what a key names in them or in the library, and the numbers of functions (ANSI 3.1.2.2, 3.7, 4.1.6).
 #![tactic(auto)]
 
 mod library;

@@ -10,7 +10,6 @@ use crate::module::Module;
 use sc_base::{Duplicate, Form, Key, Name, NoMemory, Shared};
 use sc_core::{Core, Fun, StaticObj};
 use sc_meaning::LibFun;
-use sc_meaning_values::same_key;
 use std::alloc::Global;
 use std::marker::Model;
 
@@ -147,24 +146,12 @@ impl<'a> Model for Definition<'a> {
     ghost view = { λ d. record { text = d.text.now; object = d.object.now } };
 }
 
-// The object of a key among those of a module.
-fn object_by<'a>(objects: &'a [StaticObj], key: &Key) -> Option<&'a StaticObj>
-    ensures { MatchOption result (spec.object_by objects.now key.now ≡ None) (λ o. spec.object_by objects.now key.now ≡ Some o.now) }
-{
-    for o in objects {
-        if same_key(&o.key, key) {
-            return Some(o);
-        }
-    }
-    None
-}
-
 /// The object of the first text that defines the key.
 pub fn object_in<'a>(texts: &'a [Text], key: &Key) -> Option<Definition<'a>>
     ensures { MatchOption result (spec.object_in texts.now key.now ≡ None) (λ d. spec.object_in texts.now key.now ≡ Some d) }
 {
     for text in texts {
-        if let Some(object) = object_by(text.core.get().objects.as_slice(), key) {
+        if let Some(object) = text.core.object(key) {
             return Some(Definition { text, object });
         }
     }
