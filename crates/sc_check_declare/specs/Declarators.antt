@@ -19,6 +19,7 @@ use Rattle.sc_check_declare.specs.declared.derivation.Derived.TheVariants as d
 use Rattle.sc_check_declare.specs.declared.derivation.Parameters.{Parameters}
 use Rattle.sc_check_declare.specs.declared.storage.Place.TheVariants as place
 use Rattle.sc_check_declare.specs.Outcomes.{Outcome, refuse, after}
+use Rattle.sc_check_declare.specs.Counts.{is_small}
 use Rattle.sc_check_declare.specs.Qualifiers.{unqualified}
 use Rattle.sc_check_declare.specs.Storages.{may_stand}
 
@@ -29,12 +30,16 @@ most = 32
 abbrev pub deeper : ℕ → ℕ → Outcome ℕ
 deeper line depth = if nat_lt depth most then Ok (depth + 1) else refuse r.Height line
 
+-- a type that is made is made of so many types at most
+abbrev pub counted : ℕ → DeclaredType → Outcome DeclaredType
+counted line made = if is_small made.of then Ok made else refuse r.Height line
+
 abbrev pub is_complete : List StructDef → CType → Bool
 is_complete structs of = is_some (layout_in structs of)
 
 -- a pointer to a type (3.5.4.1)
 abbrev pub pointer : ℕ → Bool → DeclaredType → Outcome DeclaredType
-pointer line constant base = after (deeper line base.depth) (λ n. Ok (record { of = t.Pointer base.of constant; depth = n }))
+pointer line constant base = after (deeper line base.depth) (λ n. counted line (record { of = t.Pointer base.of constant; depth = n }))
 
 -- a known size gives an object that is not too large
 abbrev pub fits : List StructDef → ℕ → ℕ → DeclaredType → Outcome DeclaredType
@@ -44,7 +49,7 @@ fits structs line length made = if length == 0 || is_object structs made.of then
 abbrev pub array : List StructDef → ℕ → ℕ → DeclaredType → Outcome DeclaredType
 array structs line length base =
     if is_complete structs base.of
-    then after (deeper line base.depth) (λ n. fits structs line length (record { of = t.Array base.of length; depth = n }))
+    then after (deeper line base.depth) (λ n. after (counted line (record { of = t.Array base.of length; depth = n })) (fits structs line length))
     else refuse r.Rule line
 
 -- why a function may not give this: an array, a function, and here a structure too (3.5.4.3)
@@ -61,7 +66,7 @@ function_type result ps = t.Function (record { result = result; params = ps.type
 
 abbrev pub function_of : Option Reason → ℕ → Parameters → DeclaredType → Outcome DeclaredType
 function_of (Some why) line ps base = refuse why line
-function_of None line ps base = after (deeper line (max base.depth ps.depth)) (λ n. Ok (record { of = function_type base.of ps; depth = n }))
+function_of None line ps base = after (deeper line (max base.depth ps.depth)) (λ n. counted line (record { of = function_type base.of ps; depth = n }))
 
 -- a function that gives a type
 abbrev pub function : ℕ → Parameters → DeclaredType → Outcome DeclaredType

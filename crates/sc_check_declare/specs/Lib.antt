@@ -4,6 +4,7 @@ pub mod Words
 pub mod Storages
 pub mod Qualifiers
 pub mod Composites
+pub mod Counts
 pub mod Declarators
 pub mod Contents
 pub mod Spaces

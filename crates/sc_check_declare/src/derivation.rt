@@ -5,6 +5,7 @@ ghost use Rattle.sc_ops.specs.Numbers.{is_signed as has_sign};
 ghost use Rattle.sc_check_declare.specs.Declarators as spec;
 ghost use Rattle.sc_check_declare.specs.Outcomes.{Meets};
 
+use crate::count::is_small;
 use crate::failure::{Failure, Reason, refusal};
 use crate::qualify::unqualified;
 use crate::storage::{Place, may_stand};
@@ -52,6 +53,17 @@ fn deeper(line: u32, depth: u32) -> Result<u32, Failure>
     }
 }
 
+/// Refuses a type that is made of too many types.
+fn counted(line: u32, made: DeclaredType) -> Result<DeclaredType, Failure>
+    ensures { Meets (spec.counted line made) result }
+{
+    if is_small(&made.of) {
+        Ok(made)
+    } else {
+        Err(refusal(Reason::Height, line))
+    }
+}
+
 fn pointer_type(alloc: Global, target: CType, constant: bool) -> Result<CType, NoMemory>
     ensures { IfOk result (λ t. t ≡ CType.Pointer target constant) }
 {
@@ -85,7 +97,7 @@ fn pointer(
 {
     let depth = deeper(line, base.depth)?;
     let of = pointer_type(alloc, base.of, constant)?;
-    Ok(DeclaredType { of, depth })
+    counted(line, DeclaredType { of, depth })
 }
 
 /// Refuses an array that is too large.
@@ -118,7 +130,8 @@ fn array(
     }
     let depth = deeper(line, base.depth)?;
     let of = array_type(alloc, base.of, length)?;
-    fitting(structs, line, length, DeclaredType { of, depth })
+    let made = counted(line, DeclaredType { of, depth })?;
+    fitting(structs, line, length, made)
 }
 
 /// Why a function may not give this type.
@@ -145,7 +158,7 @@ fn function(
     }
     let depth = deeper(line, base.depth.max(params.depth))?;
     let of = function_type(alloc, base.of, params)?;
-    Ok(DeclaredType { of, depth })
+    counted(line, DeclaredType { of, depth })
 }
 
 /// The type that one step of a declarator makes of a type, or its refusal: X7 for an element that is no complete object

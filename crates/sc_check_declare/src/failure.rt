@@ -19,7 +19,7 @@ pub enum Reason {
     Main,
     /// A definition of a library name with external linkage (X9 `libraryname`).
     LibraryName,
-    /// More derivations inside one another than a type may have (X10 `height`).
+    /// More derivations inside one another, or more types in it, than a type may have (X10 `height`).
     Height,
     /// An object that is too large (X10 `size`).
     Size,

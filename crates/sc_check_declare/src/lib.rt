@@ -3,6 +3,7 @@
 #![tactic(auto)]
 
 mod content;
+mod count;
 mod derivation;
 mod failure;
 mod join;
@@ -15,6 +16,7 @@ pub use content::{
     MemberList, StructureTag, Tag, complete, enumeration_tag, enumerator, next_enumerator,
     structure_tag,
 };
+pub use count::MAX_TYPES;
 pub use derivation::{
     DeclaredType, Derived, MAX_DEPTH, Parameters, array_size, declarator, defined_parameter,
     derive, parameter,
