@@ -19,11 +19,12 @@ use Rattle.sc_words.specs.declared.stop.Walk.{Walk}
 use Rattle.sc_words.specs.declared.stop.Walk.TheVariants as walk
 use Rattle.sc_world.specs.declared.halt.Halt.{Halt}
 use Rattle.sc_world.specs.declared.halt.Halt.TheVariants as halt
-use Rattle.sc_world.specs.Goes.{Goes, started}
+use Rattle.sc_world.specs.Goes.{Goes, started, want_of}
 use Rattle.sc_interp.specs.Ends.{start_of}
 use Rattle.sc_world.specs.Meant.{IsRunOf}
 use Rattle.sc_world.specs.Posts.{Posted}
 use Rattle.sc_world.specs.Sends.{LeavesFew, Sends, SendsSome, written}
+use Rattle.sc_world.proofs.Courses.{goes_somewhere}
 use Rattle.sc_world.proofs.Sending.{sends_some}
 use Rattle.sc_world.specs.Standing.{Standing, EndedSo, is_ended, world_in, world_of}
 use Rattle.sc_world.proofs.Posting.{appends_none}
@@ -131,7 +132,7 @@ went_behind sink gained modules stops how turns valued (Some m) first before sen
 -- the first bytes of a go
 pub first_of : (sink gained : Option (List ℕ)) (modules : List Text) (stops : List StopAt) (how : Walk) (turns : ℕ) (r : Option Standing) → SendsSome sink gained modules stops how turns r → Gains sink gained (λ front. IsFirstOf modules stops how turns r front)
 first_of sink gained modules stops how turns None p = ([], p, refl)
-first_of sink gained modules stops how turns (Some m) (front, rest, whole, gains) = (front, gains, (front, rest, whole, refl))
+first_of sink gained modules stops how turns (Some m) (end, last, go, (front, rest, whole, gains)) = (front, gains, (end, last, go, (front, rest, whole, refl)))
 
 -- the same, of bytes that are those of a place to which a go posted
 front_of : (modules : List Text) (stops : List StopAt) (how : Walk) (turns sent : ℕ) (m : Standing) (new : Option Standing) (h : Halt) (sink gained : Option (List ℕ)) (bytes : List ℕ)
@@ -147,11 +148,11 @@ kept_open : (sink gained : Option (List ℕ)) (modules : List Text) (stops : Lis
     → IsWorldOf r first → before ≡ length (output first.trail) → Goes modules stops how turns r h new → Sends sink gained modules stops how turns r sent new
     → sent ≤ before → now ≡ within → Gains sink gained (λ front. IsFirstOf modules stops how turns r front × (now ≡ stays_in_line within front))
 kept_open sink gained modules stops how turns None first before sent h new within now stood at goes sends none same = ([], sends, (refl, same))
-kept_open sink gained modules stops how turns (Some m) first before sent h None within now stood at goes sends none same =
+kept_open sink gained modules stops how turns (Some m) first before sent h None within now stood at goes (end, last, go, posted) none same =
     let from : length (written m) ≡ before = sym (at ∙ ap (λ w. length (output w.trail)) (stood (world_of m.state) refl)) in
-    let reached : sent ≡ length (written m) + length sends.front = posted_length _ sent _ sends.front sends.order sends.inside sends.whole in
-    let empty : sends.front ≡ [] = no_bytes sends.front (omega (arith, reached, none, from)) in
-    (sends.front, sends.gains, (front_of modules stops how turns sent m None h sink gained _ goes (λ a b p. p) sends, same ∙ ap (stays_in_line within) (sym empty)))
+    let reached : sent ≡ length (written m) + length posted.front = posted_length _ sent _ posted.front posted.order posted.inside posted.whole in
+    let empty : posted.front ≡ [] = no_bytes posted.front (omega (arith, reached, none, from)) in
+    (posted.front, posted.gains, (front_of modules stops how turns sent m None h sink gained (written last) goes (λ a b p. (end, last, go, p)) posted, same ∙ ap (stays_in_line within) (sym empty)))
 kept_open sink gained modules stops how turns (Some m) first before sent h (Some n) within now stood at goes sends none same =
     let from : length (written m) ≡ before = sym (at ∙ ap (λ w. length (output w.trail)) (stood (world_of m.state) refl)) in
     let reached : sent ≡ length (written m) + length sends.front = posted_length _ sent (written n) sends.front sends.order sends.inside sends.whole in
@@ -252,7 +253,9 @@ walk_unbegun sink old new how is = ([], appends_none sink, inl (refl, is))
 -- a go may have sent nothing
 first_nothing : (modules : List Text) (stops : List StopAt) (how : Walk) (turns : ℕ) (r : Option Standing) → IsFirstOf modules stops how turns r []
 first_nothing modules stops how turns None = appends_none (Some [])
-first_nothing modules stops how turns (Some m) = ([], _, refl, appends_none (Some []))
+first_nothing modules stops how turns (Some m) =
+    let (end, last, go) = goes_somewhere (want_of stops how turns m) modules m in
+    (end, last, go, ([], _, refl, appends_none (Some [])))
 
 some_run : (s : State) → IsGoing s → (r : Option Standing) × RunsIn s r
 some_run state.Idle going = absurd going

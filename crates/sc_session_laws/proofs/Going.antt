@@ -1,5 +1,7 @@
 -- A go of a session's run, as the meaning has it.
-use Rattle.std.proofs.Common.{◌≡◌, ◌⊎◌, inl, inr, ℕ, zero, suc, ◌-◌, ◌<◌, ◌≤◌, Bool, true, ◌++◌, drop, length, refl, sym, ap, ◌∙◌, subst, arith, List, [], Option, Some, None}
+use Rattle.std.proofs.Common.{◌≡◌, ◌⊎◌, inl, inr, ℕ, zero, suc, ◌-◌, ◌<◌, ◌≤◌, Bool, true, false, ◌++◌, drop, length, refl, sym, ap, ◌∙◌, subst, arith, List, [], Option, Some, None}
+use Rattle.std.specs.Prelude.{nat_le}
+use Rattle.std.proofs.lemmas.Bool.Decides.{nat_tests}
 use Rattle.sc_base.specs.declared.key.Key.{Key}
 use Rattle.sc_meaning.specs.World.{World, Event, events}
 use Rattle.sc_meaning.specs.Behaviour.{Start, ending, events_upto, first_world}
@@ -18,13 +20,13 @@ use Rattle.sc_words.specs.declared.stop.StopAt.{StopAt}
 use Rattle.sc_words.specs.declared.stop.Walk.{Walk}
 use Rattle.sc_world.specs.declared.halt.Halt.{Halt}
 use Rattle.sc_world.specs.declared.halt.Halt.TheVariants as halt
-use Rattle.sc_world.specs.Goes.{Goes, started, want_of}
+use Rattle.sc_world.specs.Goes.{Goes, GoneBy, rests_here, moves_on, closed, seen, started, want_of}
 use Rattle.sc_world_change_laws.specs.Still.{IsStill}
 use Rattle.sc_world_change_laws.specs.Through.{IsRunThrough, HaltsBehind}
 use Rattle.sc_world_change_laws.proofs.Still.{still_here}
 use Rattle.sc_world_change_laws.proofs.Through.{all_events, begins_through, ends_as_meant, first_events, goes_through, through_comes, through_leads}
 use Rattle.sc_world.specs.Standing.{Standing, world_of}
-use Rattle.sc_world.specs.Wants.{Want, wanted, halts, halt_or, taken}
+use Rattle.sc_world.specs.Wants.{Want, wanted, halts, halt_if, halt_or, else_paused, taken}
 use Rattle.sc_world.proofs.Pauses.{pauses}
 use Rattle.sc_world_laws.specs.Told.{HaltsAt, IsAt, event_of, selects}
 use Rattle.sc_world_laws.proofs.Halting.{Chosen, goes_at, goes_halt, goes_last, goes_seen, over_ended, sel, turns_bound, wanted_chosen}
@@ -66,13 +68,39 @@ taken_here want m t (Some h) e p = not_halted want m t (over_ended (wanted want 
 no_fewer : (t : ℕ) → 0 ≤ t
 no_fewer t = omega arith
 
+le_is : (m n : ℕ) → m ≤ n → nat_le m n ≡ true
+le_is m n h = grind (arith, nat_tests)
+
+not_none : {P : Type 0} (b : Bool) (h : Halt) → b ≡ true → halt_if b h ≡ None → P
+not_none true h e p = absurd (cc)
+not_none false h e p = absurd (cc)
+
+none_at_zero : {P : Type 0} (o : Option Halt) (took : ℕ) → else_paused o 0 took ≡ None → P
+none_at_zero (Some h) took p = absurd (cc)
+none_at_zero None took p = not_none (nat_le 0 took) (halt.Paused took) (le_is 0 took (omega arith)) p
+
+paused_if : (b : Bool) (a t : ℕ) → halt_if b (halt.Paused a) ≡ Some (halt.Paused t) → halt.Paused a ≡ halt.Paused t
+paused_if true a t p = cc
+paused_if false a t p = absurd (cc)
+
+paused_at_zero : (o : Option Halt) (took t : ℕ) → else_paused o 0 took ≡ Some (halt.Paused t) → halt_or o (halt.Paused took) ≡ halt.Paused t
+paused_at_zero (Some h) took t p = cc
+paused_at_zero None took t p = paused_if (nat_le 0 took) took t p
+
+rests_at_zero : (texts : List Text) (want : Want) (h : Halt) (last m : Standing) → want.turns ≡ 0 → GoneBy texts want h last m → (else_paused (halts want m) 0 (taken want m) ≡ Some h) × (last ≡ seen m)
+rests_at_zero texts want h last n few (rests_here m e is) = (subst (λ k. else_paused (halts want m) k (taken want m) ≡ Some h) few e, is)
+rests_at_zero texts want h last n few (moves_on m k small none silent rest) = none_at_zero (halts want m) (taken want m) (subst (λ k. else_paused (halts want m) k (taken want m) ≡ None) few none)
+
 enough_turns : (texts : List Text) (stops : List StopAt) (how : Walk) (turns : ℕ) (m n : Standing) (t : ℕ) → Goes texts stops how turns (Some m) (halt.Paused t) (Some n) → (turns ≤ t) × (t ≡ n.turns - m.turns)
 enough_turns texts stops how zero m n t goes =
-    (no_fewer t, taken_here (want_of stops how 0 m) m t (halts (want_of stops how 0 m) m) refl goes.0 ∙ ap (λ k. k.turns - m.turns) goes.1)
+    let (last, go, is) = goes in
+    let want : Want = want_of stops how 0 m in
+    let here = rests_at_zero texts want (halt.Paused t) last m refl go in
+    (no_fewer t, taken_here want m t (halts want m) refl (paused_at_zero (halts want m) (taken want m) t here.0) ∙ ap (λ k. k.turns - m.turns) (sym (ap closed here.1) ∙ is))
 enough_turns texts stops how (suc k) m n t goes =
     let some : 0 < suc k = omega arith in
     let p = pauses texts stops how (suc k) (Some m) (halt.Paused t) (Some n) m n t goes refl refl refl some in
-    (p.enough, p.took ∙ ap (λ q. q.turns - m.turns) (sym p.last_step))
+    (p.enough, p.took ∙ ap (λ q. q.turns - m.turns) (sym p.last_move))
 
 -- ---- a go
 

@@ -17,13 +17,13 @@ use Rattle.sc_words.specs.declared.stop.Walk.{Walk}
 use Rattle.sc_world.specs.declared.halt.Halt.{Halt}
 use Rattle.sc_world.specs.Changing.{changed_standing}
 use Rattle.sc_world.specs.Wants.{Want}
-use Rattle.sc_world.specs.Goes.{Goes, gone, started, want_of, with_status}
+use Rattle.sc_world.specs.Goes.{Goes, started, want_of, with_status}
 use Rattle.sc_world.specs.Standing.{Standing, world_of}
 use Rattle.sc_world_laws.specs.Halts.{total}
 use Rattle.sc_world_laws.specs.Told.{PassedEach}
 use Rattle.sc_world_laws.proofs.Halts.{paused, passed_each}
 use Rattle.sc_world_laws.proofs.Halting.{left_state}
-use Rattle.sc_world_laws.proofs.Pausing.{gone_paid, starts_lean}
+use Rattle.sc_world_laws.proofs.Pausing.{go_paid, starts_lean}
 use Rattle.sc_world_change_laws.proofs.Still.{still, still_near}
 use Rattle.sc_session_laws.specs.Follows.{Earned}
 
@@ -49,9 +49,9 @@ status_earned t (Ends e) p = p
 pub goes_earned : (texts : List Text) (stops : List StopAt) (walk : Walk) (turns : ℕ) (m : Standing) (h : Halt) (n : Standing) → AreLean (alone texts) → IsLean m.state → Earned m → Goes texts stops walk turns (Some m) h (Some n) → Earned n
 goes_earned texts stops walk turns m h n lean p q g =
     let want : Want = want_of stops walk turns m in
-    let l = gone_paid texts lean want turns m p in
+    let l = go_paid texts lean want h g.0 m p g.1 in
     let last : Earned l.0 = earned_on m.turns (near m.state) (done (world_of m.state)) l.0.turns (near l.0.state) (done (world_of l.0.state)) l.3.0 q in
-    subst Earned (left_state l.0 n (gone turns want texts m) l.1 g.1) (status_earned l.0.turns l.0.state last)
+    subst Earned (left_state l.0 g.0 n l.1 g.2) (status_earned l.0.turns l.0.state last)
 
 first_earned : (k d : ℕ) → k ≤ 7 → 0 + k ≤ 7 + 9 * d
 first_earned k d p = omega (arith, p)

@@ -22,8 +22,9 @@ use Rattle.sc_world.specs.declared.halt.Halt.{Halt}
 use Rattle.sc_world.specs.declared.halt.Halt.TheVariants.{Ended, Paused}
 use Rattle.sc_world.specs.Standing.{Standing, state_of, world_of}
 use Rattle.sc_world.specs.Wants.{Want, wanted, else_over, halts, halt_if, halt_or, else_paused, rests, taken}
-use Rattle.sc_world.specs.Goes.{gone, here_or, seen, moved_on, stepped}
+use Rattle.sc_world.specs.Goes.{GoneBy, rests_here, moves_on, seen, moved_on, stepped}
 use Rattle.sc_world.specs.Turns.{Onward, standing_at}
+use Rattle.sc_world.proofs.Moves.{one_step}
 
 not_empty : (c : Caller) (cs : List Caller) → c ∷ cs ≡ [] → ⊥
 not_empty c cs p = cc
@@ -90,25 +91,13 @@ steps_last texts s x c n given last g cs w p same counted = λ e q.
     ∙ counted e q
 
 -- what ends a go where it stands
-if_there : (b : Bool) (a halt : Halt) → halt_if b a ≡ Some halt → a ≡ halt
-if_there true a halt p = cc
-if_there false a halt p = absurd (cc)
-
 if_none : (b : Bool) (a : Halt) → halt_if b a ≡ None → b ≡ false
 if_none true a p = absurd (cc)
 if_none false a p = refl
 
-paused_there : (h : Option Halt) (turns took : ℕ) (halt : Halt) → else_paused h turns took ≡ Some halt → halt_or h (Paused took) ≡ halt
-paused_there (Some h) turns took halt p = cc
-paused_there None turns took halt p = if_there (nat_le turns took) (Paused took) halt p
-
-pub rests_here : (k : ℕ) (halt : Halt) (want : Want) (texts : List Text) (m : Standing) → rests want m ≡ Some halt → gone k want texts m ≡ (halt, seen m)
-rests_here zero halt want texts m p = ap (λ h. (h, seen m)) (paused_there (halts want m) want.turns (taken want m) halt p)
-rests_here (suc k) halt want texts m p = ap (λ h. here_or h m (gone k want texts (stepped texts m))) p
-
 -- a run that is over rests
-pub over_here : (k : ℕ) (want : Want) (texts : List Text) (e : Ending) (c : Count) → gone k want texts (standing_at (Ends e) Nothing c) ≡ (Ended, standing_at (Ends e) Nothing c)
-over_here k want texts e c = rests_here k Ended want texts (standing_at (Ends e) Nothing c) refl
+pub over_here : (want : Want) (texts : List Text) (e : Ending) (c : Count) → GoneBy texts want Ended (standing_at (Ends e) Nothing c) (standing_at (Ends e) Nothing c)
+over_here want texts e c = rests_here (standing_at (Ends e) Nothing c) refl refl
 
 -- turns are left where nothing ends the go
 too_few : (turns took : ℕ) → nat_le turns took ≡ false → took < turns
@@ -121,23 +110,44 @@ none_there None turns took p = too_few turns took (if_none (nat_le turns took) (
 pub turns_left : (want : Want) (m : Standing) → rests want m ≡ None → m.turns < want.before + want.turns
 turns_left want m p = let q = none_there (halts want m) want.turns (taken want m) p in omega arith
 
--- From here on a go comes to what it comes to from its beginning, by a number of steps that is enough for its turns.
-abbrev pub Onto : Want → List Text → Standing → Standing → Type 0
-Onto want texts first m = (k : ℕ) × (want.before + want.turns ≤ m.turns + k) × (gone k want texts m ≡ gone want.turns want texts first)
-
-pub at_first : (want : Want) (texts : List Text) (m : Standing) → want.before ≡ m.turns → Onto want texts m m
-at_first want texts m is = (want.turns, omega arith, refl)
-
-on_by : (k : ℕ) (want : Want) (texts : List Text) (first m next : Standing) → rests want m ≡ None → stepped texts m ≡ next → m.turns < next.turns → want.before + want.turns ≤ m.turns + k → gone k want texts m ≡ gone want.turns want texts first → Onto want texts first next
-on_by zero want texts first m next p is more enough q = let left = turns_left want m p in absurd (omega arith)
-on_by (suc k) want texts first m next p is more enough q =
-    (k, omega arith, sym (ap (gone k want texts) is) ∙ sym (ap (λ h. here_or h m (gone k want texts (stepped texts m))) p) ∙ q)
-
 pub costs_a_turn : (texts : List Text) (m next : Standing) → stepped texts m ≡ next → m.turns < next.turns
 costs_a_turn texts m next is = let q = ap (λ m. m.turns) is in omega arith
 
+-- What a go from here comes to, one from the beginning comes to.
+abbrev pub Onto : Want → List Text → Standing → Standing → Type 0
+Onto want texts first m = (halt : Halt) (last : Standing) → GoneBy texts want halt last m → GoneBy texts want halt last first
+
+pub at_first : (want : Want) (texts : List Text) (m : Standing) → Onto want texts m m
+at_first want texts m = λ halt last go. go
+
+-- a step is a move
+pub step_moves : (want : Want) (texts : List Text) (halt : Halt) (last m next : Standing) → rests want m ≡ None → stepped texts m ≡ next → GoneBy texts want halt last next → GoneBy texts want halt last m
+step_moves want texts halt last m next p is go = moves_on m 0 (omega arith) p tt (subst (GoneBy texts want halt last) (sym (one_step texts m ∙ is)) go)
+
 pub goes_on : (want : Want) (texts : List Text) (first m next : Standing) → rests want m ≡ None → stepped texts m ≡ next → Onto want texts first m → Onto want texts first next
-goes_on want texts first m next p is onto = on_by onto.0 want texts first m next p is (costs_a_turn texts m next is) onto.1 onto.2
+goes_on want texts first m next p is onto = λ halt last go. onto halt last (step_moves want texts halt last m next p is go)
+
+-- there is a go from each place
+is_le : (a b : ℕ) → a ≤ b → nat_le a b ≡ true
+is_le a b p = grind (arith, nat_tests)
+
+at_end : (h : Option Halt) (turns took : ℕ) → turns ≤ took → else_paused h turns took ≡ Some (halt_or h (Paused took))
+at_end (Some h) turns took p = refl
+at_end None turns took p = ap (λ b. halt_if b (Paused took)) (is_le turns took p)
+
+abbrev Somewhere : Want → List Text → Standing → Type 0
+Somewhere want texts m = (halt : Halt) × (last : Standing) × GoneBy texts want halt last m
+
+picked : (want : Want) (texts : List Text) (m : Standing) (r : Option Halt) → rests want m ≡ r → Somewhere want texts (stepped texts m) → Somewhere want texts m
+picked want texts m (Some halt) p later = (halt, seen m, rests_here m p refl)
+picked want texts m None p later = (later.0, later.1, step_moves want texts later.0 later.1 m (stepped texts m) p refl later.2)
+
+goes_for : (k : ℕ) (want : Want) (texts : List Text) (m : Standing) → want.before + want.turns ≤ m.turns + k → Somewhere want texts m
+goes_for zero want texts m p = (halt_or (halts want m) (Paused (taken want m)), seen m, rests_here m (at_end (halts want m) want.turns (taken want m) (omega (arith, p))) refl)
+goes_for (suc k) want texts m p = picked want texts m (rests want m) refl (goes_for k want texts (stepped texts m) (let more = costs_a_turn texts m (stepped texts m) refl in omega (arith, p, more)))
+
+pub goes_somewhere : (want : Want) (texts : List Text) (m : Standing) → Somewhere want texts m
+goes_somewhere want texts m = goes_for (want.before + want.turns) want texts m (omega arith)
 
 -- fewer turns are left behind a step
 pub fewer_left : (want : Want) (texts : List Text) (m next : Standing) → rests want m ≡ None → stepped texts m ≡ next → want.before + want.turns - next.turns < want.before + want.turns - m.turns

@@ -13,8 +13,9 @@ use Rattle.sc_words.specs.declared.stop.StopAt.{StopAt}
 use Rattle.sc_words.specs.declared.stop.Walk.{Walk}
 use Rattle.sc_world.specs.declared.halt.Halt.{Halt}
 use Rattle.sc_world.specs.Standing.{Standing}
-use Rattle.sc_world.specs.Wants.{Want, rests}
-use Rattle.sc_world.specs.Goes.{Gone, gone, here_or, stepped, with_status, Leaves, Goes, want_of, entry_next, started}
+use Rattle.sc_world.specs.Wants.{Want}
+use Rattle.sc_world.specs.Goes.{GoneBy, rests_here, moves_on, with_status, Leaves, Goes, want_of, entry_next, started}
+use Rattle.sc_world.specs.Moves.{moved}
 use Rattle.sc_world.specs.Meant.{IsReached, Stands, IsRunOf}
 
 ran_last : (k : ℕ) (h : History) (texts : List Text) (s : State) → ran (suc k) h texts s ≡ advance h texts (ran k h texts s)
@@ -47,19 +48,26 @@ module _ (s : Start) (texts : List Text) (is : s.history ≡ alone texts) where
   closed_stands k (Answers a (c ∷ cs) w) p = p
   closed_stands k (Ends e) p = p
 
-  here_stands : (h : Option Halt) (m : Standing) (later : Gone) → Stands s texts m.steps m.state → Stands s texts later.1.steps later.1.state → Stands s texts (here_or h m later).1.steps (here_or h m later).1.state
-  here_stands None m later p q = q
-  here_stands (Some halt) m later p q = p
+  ran_stands : (j k : ℕ) (st : State) → Stands s texts k st → Stands s texts (k + j) (ran j (alone texts) texts st)
+  ran_stands zero k st p = let same : k ≡ k + 0 = omega arith in subst (λ n. Stands s texts n st) same p
+  ran_stands (suc j) k st p =
+      let next : State = advance (alone texts) texts st in
+      let same : k + 1 + j ≡ k + suc j = omega arith in
+      subst (λ n. Stands s texts n (ran j (alone texts) texts next)) same (ran_stands j (k + 1) next (step_stands k st p))
 
-  gone_stands : (k : ℕ) (want : Want) (m : Standing) → Stands s texts m.steps m.state → Stands s texts (gone k want texts m).1.steps (gone k want texts m).1.state
-  gone_stands zero want m p = p
-  gone_stands (suc k) want m p =
-      here_stands (rests want m) m (gone k want texts (stepped texts m)) p
-      (gone_stands k want (stepped texts m) (step_stands m.steps m.state p))
+  move_stands : (j k : ℕ) (st : State) → Stands s texts k st → Stands s texts (k + suc j) (advance (alone texts) texts (ran j (alone texts) texts st))
+  move_stands j k st p =
+      let before : State = ran j (alone texts) texts st in
+      let same : k + j + 1 ≡ k + suc j = omega arith in
+      subst (λ n. Stands s texts n (advance (alone texts) texts before)) same (step_stands (k + j) before (ran_stands j k st p))
 
-  leaves_run : (out : Gone) (halt : Halt) (new : Option Standing) → Stands s texts out.1.steps out.1.state → Leaves out halt new → IsRunOf s texts new
-  leaves_run out halt None p q = tt
-  leaves_run out halt (Some m) p q = subst (λ m. IsRunOf s texts (Some m)) q.1 (is, closed_stands out.1.steps out.1.state p)
+  go_stands : (want : Want) (halt : Halt) (last m : Standing) → GoneBy texts want halt last m → Stands s texts m.steps m.state → Stands s texts last.steps last.state
+  go_stands want halt last x (rests_here m e at) p = subst (λ n. Stands s texts n.steps n.state) (sym at) p
+  go_stands want halt last x (moves_on m j small e silent rest) p = go_stands want halt last (moved j texts m) rest (move_stands j m.steps m.state p)
+
+  leaves_run : (want : Want) (m : Standing) (halt : Halt) (new : Option Standing) → Stands s texts m.steps m.state → Leaves texts want m halt new → IsRunOf s texts new
+  leaves_run want m halt None p q = tt
+  leaves_run want m halt (Some n) p q = subst (λ n. IsRunOf s texts (Some n)) q.2 (is, closed_stands q.0.steps q.0.state (go_stands want halt q.0 m q.1 p))
 
   births_stand : (r : Outcome (Unit {0})) → statics_born texts (first_world s) ≡ r → Stands s texts 0 (then_goes r (λ _ born. entry_next texts s.entry [] born))
   births_stand (Done _ w) p = reached 0 (entry_next texts s.entry [] w) (w, p, refl)
@@ -68,9 +76,7 @@ module _ (s : Start) (texts : List Text) (is : s.history ≡ alone texts) where
 -- a go keeps it
 pub keeps : (texts : List Text) (stops : List StopAt) (walk : Walk) (turns : ℕ) (old : Option Standing) (halt : Halt) (new : Option Standing) (s : Start) → Goes texts stops walk turns old halt new → IsRunOf s texts old → IsRunOf s texts new
 keeps texts stops walk turns None halt new s p q = subst (λ r. IsRunOf s texts r) (sym p.1) tt
-keeps texts stops walk turns (Some m) halt new s p q =
-    leaves_run s texts q.0 (gone turns (want_of stops walk turns m) texts m) halt new
-    (gone_stands s texts q.0 turns (want_of stops walk turns m) m q.1) p
+keeps texts stops walk turns (Some m) halt new s p q = leaves_run s texts q.0 (want_of stops walk turns m) m halt new q.1 p
 
 -- a run from its start on
 pub begins : (texts : List Text) (key : Key) (stack heap : ℕ) (input : List ℕ) → IsRunOf (start_of texts key stack heap input) texts (Some (started texts key stack heap input))

@@ -1,6 +1,8 @@
 pub mod Changing
+pub mod Moves
 pub mod Courses
 pub mod Exits
+pub mod Stood
 pub mod Kept
 pub mod Places
 pub mod Pauses

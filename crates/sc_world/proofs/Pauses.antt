@@ -14,9 +14,10 @@ use Rattle.sc_world.specs.declared.halt.Halt.{Halt}
 use Rattle.sc_world.specs.declared.halt.Halt.TheVariants.{Entered, AtLine, Ended, Paused}
 use Rattle.sc_world.specs.Standing.{Standing, world_of}
 use Rattle.sc_world.specs.Wants.{Want, wanted, else_over, halts, halt_if, halt_or, else_paused, rests, taken}
-use Rattle.sc_world.specs.Goes.{Gone, gone, here_or, seen, stepped, closed, with_status, Leaves, Goes, want_of}
+use Rattle.sc_world.specs.Goes.{GoneBy, rests_here, moves_on, seen, closed, with_status, Leaves, Goes, want_of}
+use Rattle.sc_world.specs.Moves.{Silent, moved}
 use Rattle.sc_world.specs.Pauses.{IsPause}
-use Rattle.sc_world.proofs.Courses.{rests_here, costs_a_turn}
+use Rattle.sc_world.proofs.Courses.{turns_left}
 
 -- no event and no end is a pause
 no_pause : (b : Bool) (h : Halt) (n : ℕ) → (h ≡ Paused n → ⊥) → halt_if b h ≡ Some (Paused n) → ⊥
@@ -64,92 +65,60 @@ stays_open : (want : Want) (m : Standing) → halts want m ≡ None → closed (
 stays_open want m p =
     ap (λ s. record (seen m) { state = s }) (not_over m.state (over_none (wanted want m.shown (world_of m.state).frames) (is_over m.state) p))
 
--- where the turns were taken the go ends
-is_le : (a b : ℕ) → a ≤ b → nat_le a b ≡ true
-is_le a b p = grind (arith, nat_tests)
+-- a pause is told by the turns that were taken
+paused_if : (b : Bool) (took n : ℕ) → halt_if b (Paused took) ≡ Some (Paused n) → (b ≡ true) × (took ≡ n)
+paused_if true took n p = (refl, cc)
+paused_if false took n p = absurd (cc)
 
 le_is : (a b : ℕ) → nat_le a b ≡ true → a ≤ b
 le_is a b p = grind (arith, nat_tests)
 
-not_le : (a b : ℕ) → b < a → nat_le a b ≡ false
-not_le a b p = grind (arith, nat_tests)
+rests_paused : (h : Option Halt) (turns took n : ℕ) → (h ≡ Some (Paused n) → ⊥) → else_paused h turns took ≡ Some (Paused n) → (h ≡ None) × (turns ≤ took) × (took ≡ n)
+rests_paused (Some h) turns took n f p = absurd (f p)
+rests_paused None turns took n f p = let q = paused_if (nat_le turns took) took n p in (refl, le_is turns took q.0, q.1)
 
-less_is : (a b : ℕ) → nat_le a b ≡ false → b < a
-less_is a b p = grind (arith, nat_tests)
+pause_there : (want : Want) (m : Standing) (n : ℕ) → rests want m ≡ Some (Paused n) → (halts want m ≡ None) × (want.turns ≤ taken want m) × (taken want m ≡ n)
+pause_there want m n p = rests_paused (halts want m) want.turns (taken want m) n (never_paused want m n) p
 
-used_up : (h : Option Halt) (turns took : ℕ) → nat_le turns took ≡ true → else_paused h turns took ≡ Some (halt_or h (Paused took))
-used_up (Some halt) turns took p = refl
-used_up None turns took p = ap (λ b. halt_if b (Paused took)) p
-
-not_yet : (h : Option Halt) (turns took : ℕ) (halt : Halt) → took < turns → else_paused h turns took ≡ Some halt → h ≡ Some halt
-not_yet (Some h) turns took halt less p = p
-not_yet None turns took halt less p = sym (ap (λ b. halt_if b (Paused took)) (not_le turns took less)) ∙ p
-
--- a pause comes behind a step before which turns were left
+-- a pause comes behind a move before which turns were left
 abbrev Behind : Want → List Text → Standing → ℕ → Type 0
 Behind want texts last n =
-    (before : Standing) × (want.before ≤ before.turns) × (taken want before < want.turns) × (last ≡ seen (stepped texts before))
-    × (halts want (stepped texts before) ≡ None) × (want.turns ≤ n) × (n ≡ taken want (stepped texts before))
+    (before : Standing) × (k : ℕ) × (k ≤ 7) × Silent k texts before.state × (taken want before < want.turns) × (last ≡ seen (moved k texts before))
+    × (halts want (moved k texts before) ≡ None) × (want.turns ≤ n) × (n ≡ taken want (moved k texts before))
 
-abbrev both : Halt → Standing → Gone
-both halt m = (halt, m)
+left_before : (want : Want) (m : Standing) → want.before ≤ m.turns → rests want m ≡ None → taken want m < want.turns
+left_before want m since p = let q = turns_left want m p in omega (arith, since, q)
 
-same_halt : (a b : Halt) (m n : Standing) → both a m ≡ both b n → a ≡ b
-same_halt a b m n p = ap (λ out. out.0) p
+later : (want : Want) (m : Standing) (k : ℕ) (texts : List Text) → want.before ≤ m.turns → want.before ≤ (moved k texts m).turns
+later want m k texts since = omega (arith, since)
 
-same_place : (a b : Halt) (m n : Standing) → both a m ≡ both b n → m ≡ n
-same_place a b m n p = ap (λ out. out.1) p
+behind : (want : Want) (texts : List Text) (last : Standing) (n : ℕ) (before : Standing) (k : ℕ) → k ≤ 7 → Silent k texts before.state → want.before ≤ before.turns → rests want before ≡ None → (next : Standing) → next ≡ moved k texts before → GoneBy texts want (Paused n) last next → Behind want texts last n
+behind want texts last n before k small silent since on next is (rests_here m p at) =
+    let q = pause_there want m n p in
+    (before, k, small, silent, left_before want before since on, at ∙ ap seen is, ap (halts want) (sym is) ∙ q.0, subst (λ t. want.turns ≤ t) q.2 q.1, sym q.2 ∙ ap (taken want) is)
+behind want texts last n before k small silent since on next is (moves_on m j few p quiet rest) =
+    behind want texts last n m j few quiet (subst (λ m. want.before ≤ m.turns) (sym is) (later want before k texts since)) p (moved j texts m) refl rest
 
-same_turns : (a b : ℕ) → Paused a ≡ Paused b → a ≡ b
-same_turns a b p = cc
-
-here : (h : Option Halt) (want : Want) (texts : List Text) (m last : Standing) (n : ℕ) → halts want (stepped texts m) ≡ h → want.before ≤ m.turns → taken want m < want.turns → want.turns ≤ taken want (stepped texts m) → both (halt_or h (Paused (taken want (stepped texts m)))) (seen (stepped texts m)) ≡ both (Paused n) last → Behind want texts last n
-here (Some halt) want texts m last n is since less enough p =
-    absurd (never_paused want (stepped texts m) n (is ∙ ap (λ h. Some h) (same_halt halt (Paused n) (seen (stepped texts m)) last p)))
-here None want texts m last n is since less enough p =
-    let took = same_turns (taken want (stepped texts m)) n (same_halt (Paused (taken want (stepped texts m))) (Paused n) (seen (stepped texts m)) last p) in
-    (m, since, less, sym (same_place (Paused (taken want (stepped texts m))) (Paused n) (seen (stepped texts m)) last p), is, subst (λ k. want.turns ≤ k) took enough, sym took)
-
-abbrev From : ℕ → Want → List Text → Standing → ℕ → Type 0
-From k want texts last n =
-    (m : Standing) → want.before ≤ m.turns → taken want m < want.turns → want.before + want.turns ≤ m.turns + k → gone k want texts m ≡ both (Paused n) last → Behind want texts last n
-
-further : (b : Bool) (k : ℕ) (want : Want) (texts : List Text) (m last : Standing) (n : ℕ) → nat_le want.turns (taken want (stepped texts m)) ≡ b → want.before ≤ m.turns → taken want m < want.turns → want.before + want.turns ≤ m.turns + suc k → gone k want texts (stepped texts m) ≡ both (Paused n) last → From k want texts last n → Behind want texts last n
-further true k want texts m last n is since less enough p from =
-    here (halts want (stepped texts m)) want texts m last n refl since less (le_is want.turns (taken want (stepped texts m)) is)
-    (sym (rests_here k _ want texts (stepped texts m) (used_up (halts want (stepped texts m)) want.turns (taken want (stepped texts m)) is)) ∙ p)
-further false k want texts m last n is since less enough p from =
-    let more = costs_a_turn texts m (stepped texts m) refl in
-    from (stepped texts m) (omega arith) (less_is want.turns (taken want (stepped texts m)) is) (omega arith) p
-
-pause_on : (r : Option Halt) (k : ℕ) (want : Want) (texts : List Text) (m last : Standing) (n : ℕ) → rests want m ≡ r → want.before ≤ m.turns → taken want m < want.turns → want.before + want.turns ≤ m.turns + suc k → here_or r m (gone k want texts (stepped texts m)) ≡ both (Paused n) last → From k want texts last n → Behind want texts last n
-pause_on (Some halt) k want texts m last n is since less enough p from =
-    absurd (never_paused want m n (not_yet (halts want m) want.turns (taken want m) (Paused n) less (is ∙ ap (λ h. Some h) (same_halt halt (Paused n) (seen m) last p))))
-pause_on None k want texts m last n is since less enough p from =
-    further (nat_le want.turns (taken want (stepped texts m))) k want texts m last n refl since less enough p from
-
-pause_from : (k : ℕ) (want : Want) (texts : List Text) (last : Standing) (n : ℕ) → From k want texts last n
-pause_from zero want texts last n = λ m since less enough p. absurd (omega arith)
-pause_from (suc k) want texts last n = λ m since less enough p.
-    pause_on (rests want m) k want texts m last n refl since less enough p (pause_from k want texts last n)
-
-pause_at : (want : Want) (texts : List Text) (first last : Standing) (n : ℕ) → want.before ≡ first.turns → 0 < want.turns → gone want.turns want texts first ≡ both (Paused n) last → Behind want texts last n
-pause_at want texts first last n begins some p = pause_from want.turns want texts last n first (omega arith) (omega arith) (omega arith) p
+pause_at : (want : Want) (texts : List Text) (last : Standing) (n : ℕ) (first : Standing) → want.before ≡ first.turns → 0 < want.turns → GoneBy texts want (Paused n) last first → Behind want texts last n
+pause_at want texts last n first begins some (rests_here m p at) = let q = pause_there want m n p in absurd (omega (arith, begins, some, q.1))
+pause_at want texts last n first begins some (moves_on m j few p quiet rest) = behind want texts last n m j few quiet (omega (arith, begins)) p (moved j texts m) refl rest
 
 pause_of : (want : Want) (texts : List Text) (seen_last last : Standing) (n : ℕ) → closed seen_last ≡ last → Behind want texts seen_last n → IsPause texts want last n
 pause_of want texts seen_last last n is b = record {
   before = b.0;
-  last_step = sym is ∙ ap closed b.3 ∙ stays_open want (stepped texts b.0) b.4;
-  fewer = b.2;
-  took = b.6;
-  enough = b.5;
-  free = b.4;
+  more = b.1;
+  small = b.2;
+  silent = b.3;
+  last_move = sym is ∙ ap closed b.5 ∙ stays_open want (moved b.1 texts b.0) b.6;
+  fewer = b.4;
+  took = b.8;
+  enough = b.7;
+  free = b.6;
 }
 
-leaves_pause : (want : Want) (texts : List Text) (first last : Standing) (halt : Halt) (n : ℕ) → want.before ≡ first.turns → 0 < want.turns → halt ≡ Paused n → Leaves (gone want.turns want texts first) halt (Some last) → IsPause texts want last n
+leaves_pause : (want : Want) (texts : List Text) (first last : Standing) (halt : Halt) (n : ℕ) → want.before ≡ first.turns → 0 < want.turns → halt ≡ Paused n → Leaves texts want first halt (Some last) → IsPause texts want last n
 leaves_pause want texts first last halt n begins some paused left =
-    pause_of want texts (gone want.turns want texts first).1 last n left.1
-    (pause_at want texts first (gone want.turns want texts first).1 n begins some (ap (λ h. both h (gone want.turns want texts first).1) (left.0 ∙ paused)))
+    pause_of want texts left.0 last n left.2 (pause_at want texts left.0 n first begins some (subst (λ h. GoneBy texts want h left.0 first) paused left.1))
 
 -- a go that pauses
 pub pauses : (texts : List Text) (stops : List StopAt) (walk : Walk) (turns : ℕ) (old : Option Standing) (halt : Halt) (new : Option Standing) (first last : Standing) (n : ℕ) → Goes texts stops walk turns old halt new → old ≡ Some first → new ≡ Some last → halt ≡ Paused n → 0 < turns → IsPause texts (want_of stops walk turns first) last n

@@ -25,7 +25,7 @@ use Rattle.sc_world.specs.declared.halt.Halt.{Halt}
 use Rattle.sc_world.specs.declared.halt.Halt.TheVariants as halt
 use Rattle.sc_world.specs.Standing.{Standing, state_of, standing, ended_so, world_in, has_ended, is_ended, EndedSo}
 use Rattle.sc_world.specs.Wants.{Want}
-use Rattle.sc_world.specs.Goes.{gone, closed, Leaves, Goes, want_of, first_from, first_standing, started}
+use Rattle.sc_world.specs.Goes.{Leaves, Goes, want_of, first_from, first_standing, started}
 use Rattle.sc_world.specs.Meant.{IsRunOf}
 use Rattle.sc_world.specs.Turns.{standing_at}
 use Rattle.sc_world.proofs.Courses.{world_there, over_here}
@@ -35,18 +35,16 @@ use Rattle.sc_world.proofs.Kept.{begins}
 abbrev want_there : Want → ℕ → ℕ → Want
 want_there want since before = record want { since = since; before = before }
 
-pub goes_so : (texts : List Text) (want : Want) (course : Course) (g : Going) (x : Shown) (cs : List Caller) (w : World) (c : Count) (h : Halt) (new : Option Standing) → course ≡ On g x → want.since ≡ w.enters → want.before ≡ c.turns → Leaves (gone want.turns want texts (standing_at (state_of g cs w) x c)) h new → Goes texts want.stops want.walk want.turns (standing course cs w c) h new
+pub goes_so : (texts : List Text) (want : Want) (course : Course) (g : Going) (x : Shown) (cs : List Caller) (w : World) (c : Count) (h : Halt) (new : Option Standing) → course ≡ On g x → want.since ≡ w.enters → want.before ≡ c.turns → Leaves texts want (standing_at (state_of g cs w) x c) h new → Goes texts want.stops want.walk want.turns (standing course cs w c) h new
 goes_so texts want course g x cs w c h new is at before p =
     subst (λ course. Goes texts want.stops want.walk want.turns (standing course cs w c) h new) (sym is)
-    (subst (λ n. Leaves (gone want.turns (want_there want n c.turns) texts (standing_at (state_of g cs w) x c)) h new) (at ∙ sym (ap (λ v. v.enters) (world_there g cs w)))
-    (subst (λ n. Leaves (gone want.turns (want_there want want.since n) texts (standing_at (state_of g cs w) x c)) h new) before p))
+    (subst (λ n. Leaves texts (want_there want n c.turns) (standing_at (state_of g cs w) x c) h new) (at ∙ sym (ap (λ v. v.enters) (world_there g cs w)))
+    (subst (λ n. Leaves texts (want_there want want.since n) (standing_at (state_of g cs w) x c) h new) before p))
 
 -- a run that is over stays so
 over_stays : (texts : List Text) (stops : List StopAt) (walk : Walk) (turns : ℕ) (c : Count) (r : Option Ending) → Goes texts stops walk turns (ended_so c r) halt.Ended (ended_so c r)
 over_stays texts stops walk turns c None = (refl, refl)
-over_stays texts stops walk turns c (Some e) =
-    let p = over_here turns (want_of stops walk turns (standing_at (Ends e) Nothing c)) texts e c in
-    (ap (λ out. out.0) p, ap (λ out. closed out.1) p)
+over_stays texts stops walk turns c (Some e) = (standing_at (Ends e) Nothing c, over_here (want_of stops walk turns (standing_at (Ends e) Nothing c)) texts e c, refl)
 
 pub stays_over : (texts : List Text) (stops : List StopAt) (walk : Walk) (turns : ℕ) (course : Course) (x : Ended) (cs : List Caller) (w : World) (c : Count) → course ≡ Over x → Goes texts stops walk turns (standing course cs w c) halt.Ended (standing (Over x) cs w c)
 stays_over texts stops walk turns course x cs w c is =

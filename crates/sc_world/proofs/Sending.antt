@@ -12,7 +12,7 @@ use Rattle.sc_interp_machine.specs.Runs as machine
 use Rattle.sc_interp_machine.specs.Runs.{Caller, State, Runs, Makes, Answers, Ends}
 use Rattle.sc_interp_laws.specs.Worlds as course
 use Rattle.sc_interp_laws.proofs.RunSteps.{advance_leads}
-use Rattle.sc_interp.specs.Steady.{alone, advance}
+use Rattle.sc_interp.specs.Steady.{alone, advance, ran}
 use Rattle.sc_interp.specs.declared.going.Going.{Going}
 use Rattle.sc_interp.specs.declared.stepped.Shown.{Shown}
 use Rattle.sc_interp.specs.declared.stepped.Shown.TheVariants.{Nothing}
@@ -20,6 +20,7 @@ use Rattle.sc_interp_access.specs.declared.ended.Ended.{Ended}
 use Rattle.sc_interp.specs.Ends.{end_of}
 use Rattle.sc_interp.proofs.Unchanged.{quiet, present, same_step}
 use Rattle.sc_interp_access.specs.declared.stop.Stop.{Stop}
+use Rattle.sc_interp_access.specs.Gives.{ending_of}
 use Rattle.sc_interp_world.specs.Outputs.{output, written_by}
 use Rattle.sc_words.specs.declared.stop.StopAt.{StopAt}
 use Rattle.sc_words.specs.declared.stop.Walk.{Walk}
@@ -31,12 +32,13 @@ use Rattle.sc_world.specs.declared.halt.Halt.TheVariants as halting
 use Rattle.sc_world.specs.declared.turn.Turned.{Turned}
 use Rattle.sc_world.specs.declared.turn.Turned.TheVariants as turned
 use Rattle.sc_world.specs.Standing.{Standing, state_of, standing, ended_so, world_in, world_of}
-use Rattle.sc_world.specs.Wants.{Want, rests}
-use Rattle.sc_world.specs.Goes.{Gone, gone, here_or, stepped, with_status, Leaves, Goes, want_of}
+use Rattle.sc_world.specs.Wants.{Want}
+use Rattle.sc_world.specs.Moves.{moved}
+use Rattle.sc_world.specs.Goes.{GoneBy, rests_here, moves_on, Closes, stepped, with_status, Leaves, Goes, want_of}
 use Rattle.sc_world.specs.Posts.{Posted, PostedSome}
-use Rattle.sc_world.specs.Sends.{written, LeavesFew, SendsFirst, SendsTo, Sends, SendsSome}
-use Rattle.sc_world.specs.Turns.{Comes, Onward, WaitsFew, standing_at}
-use Rattle.sc_world.proofs.Courses.{world_there, Onto}
+use Rattle.sc_world.specs.Sends.{written, LeavesFew, SendsFirst, SendsTo, Sends, SendsSome, SomeGo}
+use Rattle.sc_world.specs.Turns.{Comes, IsLeft, Onward, PostsTo, WaitsFew, standing_at}
+use Rattle.sc_world.proofs.Courses.{world_there, goes_somewhere, Onto}
 use Rattle.sc_world.proofs.Places.{in_world}
 use Rattle.sc_world.proofs.Posting.{appends_none, posted_none, posted_grows, posted_some, some_grows}
 
@@ -74,18 +76,24 @@ status_output (Answers a (c ∷ cs) w) = refl
 status_output (Ends e) = refl
 
 -- a go
-rests_lead : (r : Option Halt) (m : Standing) (later : Gone) → Leads (world_of m.state) (world_of later.1.state) → Leads (world_of m.state) (world_of (here_or r m later).1.state)
-rests_lead None m later l = l
-rests_lead (Some halt) m later l = here (world_of m.state)
+ran_leads : (k : ℕ) (texts : List Text) (s : State) → Leads (world_of s) (world_of (ran k (alone texts) texts s))
+ran_leads zero texts s = here (world_of s)
+ran_leads (suc k) texts s =
+    let t : State = advance (alone texts) texts s in
+    on (world_of s) (world_of t) (world_of (ran k (alone texts) texts t)) (step_leads texts s) (ran_leads k texts t)
 
-pub gone_leads : (k : ℕ) (want : Want) (texts : List Text) (m : Standing) → Leads (world_of m.state) (world_of (gone k want texts m).1.state)
-gone_leads zero want texts m = here (world_of m.state)
-gone_leads (suc k) want texts m =
-    rests_lead (rests want m) m (gone k want texts (stepped texts m))
-    (on (world_of m.state) (world_of (stepped texts m).state) (world_of (gone k want texts (stepped texts m)).1.state) (step_leads texts m.state) (gone_leads k want texts (stepped texts m)))
+move_leads : (k : ℕ) (texts : List Text) (m : Standing) → Leads (world_of m.state) (world_of (moved k texts m).state)
+move_leads k texts m =
+    let t : State = ran k (alone texts) texts m.state in
+    on (world_of m.state) (world_of t) (world_of (advance (alone texts) texts t)) (ran_leads k texts m.state) (step_leads texts t)
 
-gone_begins : (k : ℕ) (want : Want) (texts : List Text) (m : Standing) → Begins (written m) (written (gone k want texts m).1)
-gone_begins k want texts m = leads_output (world_of m.state) (world_of (gone k want texts m).1.state) (gone_leads k want texts m)
+pub go_leads : (want : Want) (texts : List Text) (halt : Halt) (last m : Standing) → GoneBy texts want halt last m → Leads (world_of m.state) (world_of last.state)
+go_leads want texts halt last x (rests_here m e at) = subst (λ n. Leads (world_of m.state) (world_of n.state)) (sym at) (here (world_of m.state))
+go_leads want texts halt last x (moves_on m k small e silent rest) =
+    on (world_of m.state) (world_of (moved k texts m).state) (world_of last.state) (move_leads k texts m) (go_leads want texts halt last (moved k texts m) rest)
+
+go_begins : (want : Want) (texts : List Text) (halt : Halt) (last m : Standing) → GoneBy texts want halt last m → Begins (written m) (written last)
+go_begins want texts halt last m go = leads_output (world_of m.state) (world_of last.state) (go_leads want texts halt last m go)
 
 step_begins : (texts : List Text) (m next : Standing) → stepped texts m ≡ next → Begins (written m) (written next)
 step_begins texts m next is = subst (λ n. Begins (written m) (written n)) is (leads_output (world_of m.state) (world_of (advance (alone texts) texts m.state)) (step_leads texts m.state))
@@ -107,6 +115,9 @@ inside old new from to xs p =
 pub written_there : (g : Going) (x : Shown) (cs : List Caller) (w : World) (c : Count) → written (standing_at (state_of g cs w) x c) ≡ output w.trail
 written_there g x cs w c = ap (λ v. output v.trail) (world_there g cs w)
 
+same_standing : (a b : Standing) → Some a ≡ Some b → a ≡ b
+same_standing a b p = cc
+
 -- nothing of it was posted as the go began
 pub posts_first : (known : Option (List ℕ)) (sent : ℕ) (bytes : List ℕ) → sent ≡ length bytes → Posted known known (length bytes) sent bytes
 posts_first known sent bytes is = subst (λ n. Posted known known (length bytes) n bytes) (sym is) (posted_none known (length bytes) bytes (omega arith))
@@ -120,43 +131,76 @@ posts_step old new from to texts g x cs w c given now g2 ds v n p is posted =
     (posted_on old new from to (written m) (written next) (step_begins texts m next (subst (λ r. Onward (stepped texts m) r g2 ds v n) is p))
     (subst (Posted old new from to) (sym (written_there g x cs w c)) posted))
 
--- what all the turns write begins with what was written before they are over
-onto_begins : (want : Want) (texts : List Text) (first m : Standing) → Onto want texts first m → Begins (written m) (written (gone want.turns want texts first).1)
-onto_begins want texts first m onto = subst (λ out. Begins (written m) (written out.1)) onto.2 (gone_begins onto.0 want texts m)
+-- Of some go what was written up to a place that it passes is the first of what it writes.
+pub posts_over : (old new : Option (List ℕ)) (from to : ℕ) (want : Want) (texts : List Text) (first m : Standing) → Onto want texts first m → Posted old new from to (written m) → SomeGo texts want first (λ last. Posted old new from to (written last))
+posts_over old new from to want texts first m onto posted =
+    let go = goes_somewhere want texts m in
+    (go.0, go.1, onto go.0 go.1 go.2, posted_on old new from to (written m) (written go.1) (go_begins want texts go.0 go.1 m go.2) posted)
 
-pub posts_last : (old new : Option (List ℕ)) (from to : ℕ) (want : Want) (texts : List Text) (first : Standing) (g : Going) (x : Shown) (cs : List Caller) (w : World) (c : Count) → Onto want texts first (standing_at (state_of g cs w) x c) → Posted old new from to (output w.trail) → Posted old new from to (written (gone want.turns want texts first).1)
-posts_last old new from to want texts first g x cs w c onto posted =
+some_over : (old new : Option (List ℕ)) (from : ℕ) (want : Want) (texts : List Text) (first m : Standing) → Onto want texts first m → from ≤ length (written m) → PostedSome old new from (written m) → SomeGo texts want first (λ last. PostedSome old new from (written last))
+some_over old new from want texts first m onto le some =
+    let go = goes_somewhere want texts m in
+    (go.0, go.1, onto go.0 go.1 go.2, some_on old new from (written m) (written go.1) (go_begins want texts go.0 go.1 m go.2) le some)
+
+-- the last step ends the run
+pub posts_last : (old new : Option (List ℕ)) (from to : ℕ) (want : Want) (texts : List Text) (first : Standing) (g : Going) (x : Shown) (cs : List Caller) (w : World) (c : Count) (given : Result Shown Stop) (stop : Stop) (g2 : Going) (ds : List Caller) (v : World) (n : Count) → Onto want texts first (standing_at (state_of g cs w) x c) → Onward (stepped texts (standing_at (state_of g cs w) x c)) given g2 ds v n → given ≡ Err stop → Posted old new from to (output w.trail) → PostsTo old new from to want texts first v (Ok (turned.Over stop))
+posts_last old new from to want texts first g x cs w c given stop g2 ds v n onto p is posted =
     let m : Standing = standing_at (state_of g cs w) x c in
-    posted_on old new from to (written m) (written (gone want.turns want texts first).1) (onto_begins want texts first m onto)
-    (subst (Posted old new from to) (sym (written_there g x cs w c)) posted)
+    let there = subst (Posted old new from to) (sym (written_there g x cs w c)) posted in (
+      λ e over. posted_on old new from to (written m) (written (standing_at (Ends e) Nothing n)) (step_begins texts m (standing_at (Ends e) Nothing n) (subst (λ r. Onward (stepped texts m) r g2 ds v n) is p e over)) there,
+      posts_over old new from to want texts first m onto there,
+    )
 
-pub posts_cut : (old mid new : Option (List ℕ)) (from to : ℕ) (want : Want) (texts : List Text) (first : Standing) (g : Going) (x : Shown) (cs : List Caller) (w : World) (c : Count) → Onto want texts first (standing_at (state_of g cs w) x c) → Posted old mid from to (output w.trail) → PostedSome old new from (output w.trail) → PostedSome old new from (written (gone want.turns want texts first).1)
+pub posts_cut : (old mid new : Option (List ℕ)) (from to : ℕ) (want : Want) (texts : List Text) (first : Standing) (g : Going) (x : Shown) (cs : List Caller) (w : World) (c : Count) → Onto want texts first (standing_at (state_of g cs w) x c) → Posted old mid from to (output w.trail) → PostedSome old new from (output w.trail) → SomeGo texts want first (λ last. PostedSome old new from (written last))
 posts_cut old mid new from to want texts first g x cs w c onto posted some =
     let m : Standing = standing_at (state_of g cs w) x c in
-    let le = subst (λ bytes. from ≤ length bytes) (sym (written_there g x cs w c)) (inside old mid from to (output w.trail) posted) in
-    some_on old new from (written m) (written (gone want.turns want texts first).1) (onto_begins want texts first m onto) le
+    some_over old new from want texts first m onto
+    (subst (λ bytes. from ≤ length bytes) (sym (written_there g x cs w c)) (inside old mid from to (output w.trail) posted))
     (subst (PostedSome old new from) (sym (written_there g x cs w c)) some)
 
 -- what a go leaves
-pub leaves_sends : (old new : Option (List ℕ)) (want : Want) (texts : List Text) (m : Standing) (from sent : ℕ) (halt : Halt) (after : Option Standing) → from ≡ length (written m) → Leaves (gone want.turns want texts m) halt after → Posted old new from sent (written (gone want.turns want texts m).1) → SendsTo old new want texts m sent after
-leaves_sends old new want texts m from sent halt None is p posted =
-    subst (λ n. Posted old new n sent (written (gone want.turns want texts m).1)) is posted
-leaves_sends old new want texts m from sent halt (Some n) is p posted =
-    let last : Standing = (gone want.turns want texts m).1 in
-    subst (λ k. Posted old new k sent (written n)) is
-    (subst (λ r. Posted old new from sent (written r)) p.1
-    (subst (Posted old new from sent) (sym (status_output last.state)) posted))
+closed_written : (halt left : Halt) (last n : Standing) → Closes halt last left (Some n) → written n ≡ written last
+closed_written halt left last n p = ap written (sym p.1) ∙ status_output last.state
 
-pub first_sends : (old new : Option (List ℕ)) (want : Want) (texts : List Text) (m : Standing) (from : ℕ) → from ≡ length (written m) → PostedSome old new from (written (gone want.turns want texts m).1) → SendsFirst old new want texts m
-first_sends old new want texts m from is some = subst (λ n. PostedSome old new n (written (gone want.turns want texts m).1)) is some
+ended_written : (r : Option Ending) (c : Count) (n : Standing) → Some n ≡ ended_so c r → (e : Ending) × (r ≡ Some e) × (output (world_at e).trail ≡ written n)
+ended_written None c n p = absurd (cc)
+ended_written (Some e) c n p = (e, refl, sym (ap written (same_standing n (standing_at (Ends e) Nothing c) p)))
+
+pub leaves_by : (want : Want) (texts : List Text) (m : Standing) (t : Turned) (g : Going) (cs : List Caller) (w : World) (c : Count) (left : Halt) (after : Option Standing) → Comes texts want m t g cs w c → IsLeft t g cs w c left after → Leaves texts want m left after
+leaves_by want texts m (turned.Rests halt) g cs w c left None p q = q
+leaves_by want texts m (turned.Rests halt) g cs w c left (Some n) p q =
+    (standing_at (state_of g cs w) Nothing c, subst (λ h. GoneBy texts want h (standing_at (state_of g cs w) Nothing c) m) (sym q.0) p, q.1)
+leaves_by want texts m (turned.Over stop) g cs w c left None p q = q.0
+leaves_by want texts m (turned.Over stop) g cs w c left (Some n) p q = over (ending_of stop w) refl q.1
+  where
+    over : (r : Option Ending) → ending_of stop w ≡ r → Some n ≡ ended_so c r → Leaves texts want m left (Some n)
+    over None is at = absurd (cc)
+    over (Some e) is at =
+        (standing_at (Ends e) Nothing c, subst (λ h. GoneBy texts want h (standing_at (Ends e) Nothing c) m) (sym q.0) (p e is), sym (same_standing n (standing_at (Ends e) Nothing c) at))
+
+pub sends_by : (old new : Option (List ℕ)) (from sent : ℕ) (want : Want) (texts : List Text) (m : Standing) (t : Turned) (g : Going) (cs : List Caller) (w : World) (c : Count) (left : Halt) (after : Option Standing) → from ≡ length (written m) → Comes texts want m t g cs w c → IsLeft t g cs w c left after → PostsTo old new from sent want texts m w (Ok t) → SendsTo old new want texts m sent after
+sends_by old new from sent want texts m (turned.Rests halt) g cs w c left None is comes q posted =
+    let last : Standing = standing_at (state_of g cs w) Nothing c in
+    (halt, last, comes, subst (λ k. Posted old new k sent (written last)) is (subst (Posted old new from sent) (sym (written_there g Nothing cs w c)) posted))
+sends_by old new from sent want texts m (turned.Rests halt) g cs w c left (Some n) is comes q posted =
+    let last : Standing = standing_at (state_of g cs w) Nothing c in
+    subst (λ k. Posted old new k sent (written n)) is
+    (subst (Posted old new from sent) (sym (closed_written halt left last n q ∙ written_there g Nothing cs w c)) posted)
+sends_by old new from sent want texts m (turned.Over stop) g cs w c left None is comes q posted =
+    subst (λ k. SomeGo texts want m (λ last. Posted old new k sent (written last))) is posted.1
+sends_by old new from sent want texts m (turned.Over stop) g cs w c left (Some n) is comes q posted =
+    let e = ended_written (ending_of stop w) c n q.1 in
+    subst (λ k. Posted old new k sent (written n)) is (subst (Posted old new from sent) e.2 (posted.0 e.0 e.1))
+
+pub first_sends : (old new : Option (List ℕ)) (want : Want) (texts : List Text) (m : Standing) (from : ℕ) → from ≡ length (written m) → SomeGo texts want m (λ last. PostedSome old new from (written last)) → SendsFirst old new want texts m
+first_sends old new want texts m from is some = subst (λ n. SomeGo texts want m (λ last. PostedSome old new n (written last))) is some
 
 -- Fewer bytes wait than are posted, where the run is not over.
-pub few_left : (t : Turned) (g : Going) (cs : List Caller) (w : World) (c : Count) (out : Gone) (halt : Halt) (after : Option Standing) (sent : ℕ) → Comes out t g cs w c → Leaves out halt after → ((stop : Stop) → t ≡ turned.Over stop → halt ≡ halting.Ended) → WaitsFew t (output w.trail) sent → LeavesFew halt sent after
-few_left t g cs w c out halt None sent comes p over few = tt
-few_left (turned.Rests h) g cs w c out halt (Some n) sent comes p over few = λ goes_on.
-    let same : written n ≡ output w.trail = ap written (sym p.1) ∙ status_output out.1.state ∙ ap (λ (o : Gone). written o.1) comes ∙ written_there g Nothing cs w c in
-    subst (λ bytes. length bytes < sent + 4096) (sym same) few
-few_left (turned.Over stop) g cs w c out halt (Some n) sent comes p over few = λ goes_on. absurd (goes_on (over stop refl))
+pub few_left : (t : Turned) (g : Going) (cs : List Caller) (w : World) (c : Count) (left : Halt) (after : Option Standing) (sent : ℕ) → IsLeft t g cs w c left after → WaitsFew t (output w.trail) sent → LeavesFew left sent after
+few_left t g cs w c left None sent q few = tt
+few_left (turned.Rests halt) g cs w c left (Some n) sent q few = λ goes_on.
+    subst (λ bytes. length bytes < sent + 4096) (sym (closed_written halt left (standing_at (state_of g cs w) Nothing c) n q ∙ written_there g Nothing cs w c)) few
+few_left (turned.Over stop) g cs w c left (Some n) sent q few = λ goes_on. absurd (goes_on q.0)
 
 pub ended_few : (sent : ℕ) (after : Option Standing) → LeavesFew halting.Ended sent after
 ended_few sent None = tt
@@ -190,11 +234,9 @@ over_sends known texts stops walk turns sent w c (Some e) there is = posts_first
 -- what a go posted is the first of what the program writes in it
 pub sends_some : (old new : Option (List ℕ)) (texts : List Text) (stops : List StopAt) (walk : Walk) (turns sent : ℕ) (r after : Option Standing) (halt : Halt) → Goes texts stops walk turns r halt after → Sends old new texts stops walk turns r sent after → SendsSome old new texts stops walk turns r
 sends_some old new texts stops walk turns sent None after halt p q = q
-sends_some old new texts stops walk turns sent (Some m) None halt p q =
-    posted_some old new (length (written m)) sent (written (gone turns (want_of stops walk turns m) texts m).1) q
+sends_some old new texts stops walk turns sent (Some m) None halt p q = (q.0, q.1, q.2, posted_some old new (length (written m)) sent (written q.1) q.3)
 sends_some old new texts stops walk turns sent (Some m) (Some n) halt p q =
-    let last : Standing = (gone turns (want_of stops walk turns m) texts m).1 in
-    subst (PostedSome old new (length (written m))) (ap written (sym p.1) ∙ status_output last.state) (posted_some old new (length (written m)) sent (written n) q)
+    (halt, p.0, p.1, subst (PostedSome old new (length (written m))) (ap written (sym p.2) ∙ status_output p.0.state) (posted_some old new (length (written m)) sent (written n) q))
 
 -- a run that is over writes nothing
 ending_there : (x : Ended) (cs : List Caller) (w : World) (c : Count) (e : Ending) → end_of x w ≡ Some e → world_at e ≡ w

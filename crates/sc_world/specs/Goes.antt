@@ -1,6 +1,6 @@
 -- Yardstick: to be compared with what it restates (docs/TRUST.md).
--- A go: the steps up to the first place that halts it, or where the turns were taken.
-use Rattle.std.specs.Prelude.{◌≡◌, ℕ, zero, suc, ◌+◌, List, [], ◌∷◌, Option, Some, None}
+-- A go: the moves up to the first place that halts it, or where the turns were taken.
+use Rattle.std.specs.Prelude.{◌≡◌, ℕ, zero, suc, ◌+◌, ◌≤◌, List, [], ◌∷◌, Option, Some, None}
 use Rattle.sc_base.specs.declared.key.Key.{Key}
 use Rattle.sc_meaning.specs.World.{World, GoesOut, ComesBack, pass}
 use Rattle.sc_meaning.specs.Outcomes.{Exit}
@@ -16,9 +16,10 @@ use Rattle.sc_interp.specs.Ends.{start_of}
 use Rattle.sc_words.specs.declared.stop.StopAt.{StopAt}
 use Rattle.sc_words.specs.declared.stop.Walk.{Walk}
 use Rattle.sc_world.specs.declared.halt.Halt.{Halt}
-use Rattle.sc_world.specs.declared.halt.Halt.TheVariants.{Ended, Paused}
+use Rattle.sc_world.specs.declared.halt.Halt.TheVariants.{Ended}
 use Rattle.sc_world.specs.Standing.{Standing, world_of}
-use Rattle.sc_world.specs.Wants.{Want, halt_or, halts, taken, rests}
+use Rattle.sc_world.specs.Wants.{Want, rests}
+use Rattle.sc_world.specs.Moves.{Silent, moved}
 use Rattle.sc_world.specs.Costs.{cost}
 
 -- one step, with its cost
@@ -28,22 +29,19 @@ moved_on m next now = record { state = next; shown = now; steps = m.steps + 1; t
 abbrev pub stepped : List Text → Standing → Standing
 stepped texts m = moved_on m (advance (alone texts) texts m.state) (shown (alone texts) texts m.state)
 
+-- so many steps one after another, wherever a go would halt
+abbrev pub after : ℕ → List Text → Standing → Standing
+after zero texts m = m
+after (suc k) texts m = after k texts (stepped texts m)
+
 -- what was shown is looked at once
 abbrev pub seen : Standing → Standing
 seen m = record m { shown = Nothing }
 
-abbrev pub here_or : Option Halt → Standing → Halt × Standing → Halt × Standing
-here_or None m later = later
-here_or (Some halt) m later = (halt, seen m)
-
--- what comes of a go: why it ends, and where the run stands then
-abbrev pub Gone : Type 0
-Gone = Halt × Standing
-
--- A go of so many steps at most. A step takes one turn at least, so there are no more steps than turns: behind the last one they were taken.
-abbrev pub gone : ℕ → Want → List Text → Standing → Halt × Standing
-gone zero want texts m = (halt_or (halts want m) (Paused (taken want m)), seen m)
-gone (suc k) want texts m = here_or (rests want m) m (gone k want texts (stepped texts m))
+-- A go from a place halts for this and leaves the run there: it rests where it stands, or goes on with a move.
+pub data GoneBy (texts : List Text) (want : Want) (halt : Halt) (last : Standing) : Standing → Type 0 where
+  rests_here : (m : Standing) → rests want m ≡ Some halt → last ≡ seen m → GoneBy texts want halt last m
+  moves_on : (m : Standing) (k : ℕ) → k ≤ 7 → rests want m ≡ None → Silent k texts m.state → GoneBy texts want halt last (moved k texts m) → GoneBy texts want halt last m
 
 -- where the entry came back, the run ends with its status
 abbrev pub with_status : State → State
@@ -56,10 +54,15 @@ with_status (Ends e) = Ends e
 abbrev pub closed : Standing → Standing
 closed m = record m { state = with_status m.state }
 
--- a go leaves this; where no room is left for the run, it is over, and nothing else is said
-abbrev pub Leaves : Halt × Standing → Halt → Option Standing → Type 0
-Leaves out halt None = halt ≡ Ended
-Leaves out halt (Some m) = (out.0 ≡ halt) × (closed out.1 ≡ m)
+-- where it rests the run is left so; where no room is left for the run, it is over, and nothing else is said
+abbrev pub Closes : Halt → Standing → Halt → Option Standing → Type 0
+Closes halt last left None = left ≡ Ended
+Closes halt last left (Some n) = (left ≡ halt) × (closed last ≡ n)
+
+-- a go from a place leaves this; where no room is left for the run, it is over, and nothing else is said
+abbrev pub Leaves : List Text → Want → Standing → Halt → Option Standing → Type 0
+Leaves texts want m halt None = halt ≡ Ended
+Leaves texts want m halt (Some n) = (last : Standing) × GoneBy texts want halt last m × (closed last ≡ n)
 
 abbrev pub want_of : List StopAt → Walk → ℕ → Standing → Want
 want_of stops walk turns m = record { stops = stops; walk = walk; since = (world_of m.state).enters; turns = turns; before = m.turns }
@@ -67,7 +70,7 @@ want_of stops walk turns m = record { stops = stops; walk = walk; since = (world
 -- a go of so many turns, from one place to another
 abbrev pub Goes : List Text → List StopAt → Walk → ℕ → Option Standing → Halt → Option Standing → Type 0
 Goes texts stops walk turns None halt new = (halt ≡ Ended) × (new ≡ None)
-Goes texts stops walk turns (Some m) halt new = Leaves (gone turns (want_of stops walk turns m) texts m) halt new
+Goes texts stops walk turns (Some m) halt new = Leaves texts (want_of stops walk turns m) m halt new
 
 -- the state behind the births, where the call of the entry went out
 abbrev pub entry_next : List Text → Key → List Caller → World → State

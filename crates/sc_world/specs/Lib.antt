@@ -5,6 +5,7 @@ pub mod Declaring
 pub mod Wants
 pub mod Costs
 pub mod Marks
+pub mod Moves
 pub mod Goes
 pub mod Pauses
 pub mod Posts

@@ -9,7 +9,7 @@ use Rattle.sc_words.specs.declared.stop.Walk.{Walk}
 use Rattle.sc_world.specs.declared.halt.Halt.{Halt}
 use Rattle.sc_world.specs.declared.halt.Halt.TheVariants.{Ended}
 use Rattle.sc_world.specs.Standing.{Standing, world_of}
-use Rattle.sc_world.specs.Goes.{gone, want_of}
+use Rattle.sc_world.specs.Goes.{GoneBy, want_of}
 use Rattle.sc_world.specs.Posts.{Posted, PostedSome}
 use Rattle.sc_world.specs.Wants.{Want}
 
@@ -17,13 +17,17 @@ use Rattle.sc_world.specs.Wants.{Want}
 abbrev pub written : Standing → List ℕ
 written m = output (world_of m.state).trail
 
+-- some go from there leaves a run of which this holds
+abbrev pub SomeGo : List Text → Want → Standing → (Standing → Type 0) → Type 0
+SomeGo texts want m P = (halt : Halt) × (last : Standing) × GoneBy texts want halt last m × P last
+
 -- The sink gained the first of what the program writes in a go.
 abbrev pub SendsFirst : Option (List ℕ) → Option (List ℕ) → Want → List Text → Standing → Type 0
-SendsFirst old new want texts m = PostedSome old new (length (written m)) (written (gone want.turns want texts m).1)
+SendsFirst old new want texts m = SomeGo texts want m (λ last. PostedSome old new (length (written m)) (written last))
 
 -- A go posted what the program wrote in it, up to some place. Where no room was left for the run, nothing else is known of it.
 abbrev pub SendsTo : Option (List ℕ) → Option (List ℕ) → Want → List Text → Standing → ℕ → Option Standing → Type 0
-SendsTo old new want texts m sent None = Posted old new (length (written m)) sent (written (gone want.turns want texts m).1)
+SendsTo old new want texts m sent None = SomeGo texts want m (λ last. Posted old new (length (written m)) sent (written last))
 SendsTo old new want texts m sent (Some n) = Posted old new (length (written m)) sent (written n)
 
 -- the same of a run; one for which no room was left before writes nothing

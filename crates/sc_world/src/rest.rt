@@ -10,13 +10,10 @@ ghost use Rattle.sc_outside.specs.Causes.{Rose};
 ghost use Rattle.sc_world.specs.Goes as goes;
 ghost use Rattle.sc_world.specs.Sends.{LeavesFew, Sends, SendsFirst, SendsSome, SendsTo};
 ghost use Rattle.sc_world.specs.Standing as standing;
-ghost use Rattle.sc_world.specs.Turns.{Comes, standing_at};
+ghost use Rattle.sc_world.specs.Turns.{IsLeft, standing_at};
 ghost use Rattle.sc_world.specs.declared.course.Course.TheVariants.{On};
 ghost use Rattle.sc_world.specs.declared.post.Unsent.TheVariants as unsent;
 ghost use Rattle.sc_world.specs.declared.count.Count as counts;
-ghost use Rattle.sc_world.specs.declared.halt.Halt.TheVariants as halting;
-ghost use Rattle.sc_world.specs.declared.turn.Turned.TheVariants as turns;
-ghost use Rattle.sc_interp_access.specs.declared.stop.Stop as stops;
 
 use crate::count::Count;
 use crate::course::Course;
@@ -65,7 +62,7 @@ fn stays(halt: Halt, going: Going) -> Rested
 
 // The answer of `main` ends the run with its status.
 fn came_back(halt: Halt, a: &Answer, world: &mut World) -> Rested
-    ensures { (c : counts.Count) (out : goes.Gone) → out ≡ (halt, standing_at (runs.Answers a.now [] world.old) Nothing c) → goes.Leaves out result.halt (standing.standing result.course [] world.new c) }
+    ensures { (c : counts.Count) → goes.Closes halt (standing_at (runs.Answers a.now [] world.old) Nothing c) result.halt (standing.standing result.course [] world.new c) }
 {
     match world.comes_back() {
         Ok(()) => Rested {
@@ -81,7 +78,7 @@ fn came_back(halt: Halt, a: &Answer, world: &mut World) -> Rested
 
 // An answer is the run's where no caller waits for it.
 fn answered(halt: Halt, a: Answer, callers: &Stack<Caller>, world: &mut World) -> Rested
-    ensures { (c : counts.Count) (out : goes.Gone) → out ≡ (halt, standing_at (runs.Answers a callers.now world.old) Nothing c) → goes.Leaves out result.halt (standing.standing result.course callers.now world.new c) }
+    ensures { (c : counts.Count) → goes.Closes halt (standing_at (runs.Answers a callers.now world.old) Nothing c) result.halt (standing.standing result.course callers.now world.new c) }
 {
     if callers.is_empty() {
         came_back(halt, &a, world)
@@ -92,7 +89,7 @@ fn answered(halt: Halt, a: Answer, callers: &Stack<Caller>, world: &mut World) -
 
 // A run that rests; where `main` came back it is over.
 fn closed(halt: Halt, going: Going, callers: &Stack<Caller>, world: &mut World) -> Rested
-    ensures { (c : counts.Count) (out : goes.Gone) → out ≡ (halt, standing_at (standing.state_of going callers.now world.old) Nothing c) → goes.Leaves out result.halt (standing.standing result.course callers.now world.new c) }
+    ensures { (c : counts.Count) → goes.Closes halt (standing_at (standing.state_of going callers.now world.old) Nothing c) result.halt (standing.standing result.course callers.now world.new c) }
 {
     match going {
         Going::Answers(a) => answered(halt, a, callers, world),
@@ -105,8 +102,7 @@ fn closed(halt: Halt, going: Going, callers: &Stack<Caller>, world: &mut World) 
 
 // What the turns of a go came to.
 fn left_by(turned: Turned, going: Going, callers: &Stack<Caller>, world: &mut World) -> Rested
-    ensures leaves { (c : counts.Count) (out : goes.Gone) → Comes out turned going callers.now world.old c → goes.Leaves out result.halt (standing.standing result.course callers.now world.new c) }
-    ensures over { (stop : stops.Stop) → turned ≡ turns.Over stop → result.halt ≡ halting.Ended }
+    ensures { (c : counts.Count) → IsLeft turned going callers.now world.old c result.halt (standing.standing result.course callers.now world.new c) }
 {
     match turned {
         Turned::Rests(halt) => closed(halt, going, callers, world),
@@ -132,9 +128,9 @@ fn goes_on<K: Sink>(
     sent: &mut usize,
     out: &mut K,
 ) -> Result<Rested, Unsent>
-    ensures goes { want.now.before ≡ count.old.turns → IfOk result (λ r. goes.Leaves (goes.gone want.now.turns want.now texts.now (standing_at (standing.state_of going callers.old world.old) shown count.old)) r.halt (standing.standing r.course callers.new world.new count.new)) }
-    ensures sends { want.now.before ≡ count.old.turns → sent.old ≡ length (output world.old.trail) → MatchResult result (λ r. SendsTo (K.written out.old) (K.written out.new) want.now texts.now (standing_at (standing.state_of going callers.old world.old) shown count.old) sent.new (standing.standing r.course callers.new world.new count.new)) (λ _. SendsFirst (K.written out.old) (K.written out.new) want.now texts.now (standing_at (standing.state_of going callers.old world.old) shown count.old)) }
-    ensures few { want.now.before ≡ count.old.turns → sent.old ≡ length (output world.old.trail) → IfOk result (λ r. LeavesFew r.halt sent.new (standing.standing r.course callers.new world.new count.new)) }
+    ensures goes { IfOk result (λ r. goes.Leaves texts.now want.now (standing_at (standing.state_of going callers.old world.old) shown count.old) r.halt (standing.standing r.course callers.new world.new count.new)) }
+    ensures sends { sent.old ≡ length (output world.old.trail) → MatchResult result (λ r. SendsTo (K.written out.old) (K.written out.new) want.now texts.now (standing_at (standing.state_of going callers.old world.old) shown count.old) sent.new (standing.standing r.course callers.new world.new count.new)) (λ _. SendsFirst (K.written out.old) (K.written out.new) want.now texts.now (standing_at (standing.state_of going callers.old world.old) shown count.old)) }
+    ensures few { sent.old ≡ length (output world.old.trail) → IfOk result (λ r. LeavesFew r.halt sent.new (standing.standing r.course callers.new world.new count.new)) }
     ensures later { K.faults out.old ≤ K.faults out.new }
     ensures failed { result ≡ Err unsent.Failed → Rose (K.faults out.old) (K.faults out.new) }
 {
@@ -166,7 +162,7 @@ pub fn goes_from<K: Sink>(
 ) -> Result<Rested, Unsent>
     ensures goes { want.now.since ≡ world.old.enters → want.now.before ≡ count.old.turns → IfOk result (λ r. goes.Goes texts.now want.now.stops want.now.walk want.now.turns (standing.standing course callers.old world.old count.old) r.halt (standing.standing r.course callers.new world.new count.new)) }
     ensures sends { want.now.since ≡ world.old.enters → want.now.before ≡ count.old.turns → sent.old ≡ length (output world.old.trail) → MatchResult result (λ r. Sends (K.written out.old) (K.written out.new) texts.now want.now.stops want.now.walk want.now.turns (standing.standing course callers.old world.old count.old) sent.new (standing.standing r.course callers.new world.new count.new)) (λ _. SendsSome (K.written out.old) (K.written out.new) texts.now want.now.stops want.now.walk want.now.turns (standing.standing course callers.old world.old count.old)) }
-    ensures few { want.now.before ≡ count.old.turns → sent.old ≡ length (output world.old.trail) → IfOk result (λ r. LeavesFew r.halt sent.new (standing.standing r.course callers.new world.new count.new)) }
+    ensures few { sent.old ≡ length (output world.old.trail) → IfOk result (λ r. LeavesFew r.halt sent.new (standing.standing r.course callers.new world.new count.new)) }
     ensures later { K.faults out.old ≤ K.faults out.new }
     ensures failed { result ≡ Err unsent.Failed → Rose (K.faults out.old) (K.faults out.new) }
 {

@@ -10,10 +10,8 @@ ghost use Rattle.sc_interp_access.specs.Gives.{ending_of};
 ghost use Rattle.sc_interp_world.specs.Outputs.{output};
 ghost use Rattle.sc_outside.specs.Causes.{Rose};
 ghost use Rattle.sc_world.specs.Goes as goes;
-ghost use Rattle.sc_world.specs.Posts.{Posts};
-ghost use Rattle.sc_world.specs.Sends.{written};
 ghost use Rattle.sc_world.specs.Standing.{state_of};
-ghost use Rattle.sc_world.specs.Turns.{Comes, IsBefore, Onward, WaitsFew, standing_at};
+ghost use Rattle.sc_world.specs.Turns.{Comes, IsBefore, Onward, PostsTo, WaitsFew, standing_at};
 ghost use Rattle.sc_world.specs.Wants as spec;
 ghost use Rattle.sc_world.specs.declared.post.Unsent.TheVariants as unsent;
 
@@ -153,8 +151,8 @@ pub fn turns_taken<K: Sink>(
     sent: &mut usize,
     out: &mut K,
 ) -> Result<Turned, Unsent>
-    ensures comes { want.now.before ≡ count.old.turns → IfOk result (λ turned. Comes (goes.gone want.now.turns want.now texts.now (standing_at (state_of going.old callers.old world.old) first count.old)) turned going.new callers.new world.new count.new) }
-    ensures sends { want.now.before ≡ count.old.turns → sent.old ≡ length (output world.old.trail) → Posts (K.written out.old) (K.written out.new) (length (output world.old.trail)) sent.new (written (goes.gone want.now.turns want.now texts.now (standing_at (state_of going.old callers.old world.old) first count.old)).1) result }
+    ensures comes { IfOk result (λ turned. Comes texts.now want.now (standing_at (state_of going.old callers.old world.old) first count.old) turned going.new callers.new world.new count.new) }
+    ensures sends { sent.old ≡ length (output world.old.trail) → PostsTo (K.written out.old) (K.written out.new) (length (output world.old.trail)) sent.new want.now texts.now (standing_at (state_of going.old callers.old world.old) first count.old) world.new result }
     ensures few { sent.old ≡ length (output world.old.trail) → IfOk result (λ turned. WaitsFew turned (output world.new.trail) sent.new) }
     ensures later { K.faults out.old ≤ K.faults out.new }
     ensures failed { result ≡ Err unsent.Failed → Rose (K.faults out.old) (K.faults out.new) }

@@ -1,5 +1,5 @@
 -- A change of the texts leaves a run where it stands.
-use Rattle.std.proofs.Common.{◌≡◌, ℕ, ◌+◌, ◌≤◌, nat_le, Bool, true, false, if◌then◌else◌, List, [], ◌∷◌, ◌++◌, length, append_assoc, refl, sym, ap, ◌∙◌, subst, arith, Option, Some, None}
+use Rattle.std.proofs.Common.{◌≡◌, ℕ, ◌+◌, ◌≤◌, nat_le, Bool, true, false, if◌then◌else◌, List, [], ◌∷◌, ◌++◌, length, append_assoc, refl, sym, ap, ◌∙◌, subst, arith, Option, Some, None, ◌*◌}
 use Rattle.std.proofs.lemmas.List.{append-nil}
 use Rattle.sc_program.specs.declared.storage.StaticId.{StaticId}
 use Rattle.sc_program.specs.declared.storage.StaticId.TheVariants.{Named, Literal}
@@ -252,7 +252,7 @@ module _ (old new : List Text) where
           framed = k.0 p.framed;
           passed = s.told ∙ p.passed ∙ ap (λ fs. es ++ fs) (none ∙ sym quiet);
           last = ((world_of n.state).trail, sym (append-nil (world_of n.state).trail) ∙ ap (λ fs. (world_of n.state).trail ++ happening fs) (sym quiet));
-          counted = subst (λ k. k ≤ n.turns) (sym s.steps) (subst (λ k. m.steps ≤ k) (sym s.turns) p.counted);
+          counted = subst (λ k. k ≤ 8 * n.turns) (sym s.steps) (subst (λ k. m.steps ≤ 8 * k) (sym s.turns) p.counted);
         },
         quiet,
       )

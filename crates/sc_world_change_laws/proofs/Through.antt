@@ -46,8 +46,9 @@ use Rattle.sc_world.specs.declared.halt.Halt.TheVariants.{Entered, AtLine, Ended
 use Rattle.sc_world.specs.Changing.{in_world, changed_to, changed_standing}
 use Rattle.sc_world.specs.Standing as standings
 use Rattle.sc_world.specs.Standing.{Standing}
-use Rattle.sc_world.specs.Wants.{Want, wanted, else_over, halt_or, else_paused, rests, taken}
-use Rattle.sc_world.specs.Goes.{Gone, gone, here_or, stepped, with_status, closed, Leaves, Goes, want_of, entry_next, started}
+use Rattle.sc_world.specs.Wants.{Want, wanted, else_over, else_paused, rests, taken}
+use Rattle.sc_world.specs.Moves.{moved}
+use Rattle.sc_world.specs.Goes.{GoneBy, rests_here, moves_on, with_status, closed, Leaves, Goes, want_of, entry_next, started}
 use Rattle.sc_world_change_laws.specs.Through.{IsAt, StandsIn, IsBehind, IsBehindEvent, IsRunThrough, HaltsBehind, with_version}
 use Rattle.sc_world_change_laws.proofs.Still.{leads_output, still}
 
@@ -144,8 +145,18 @@ module _ (s : Start) (h : History) (texts : List Text) where
   step_behind k (Answers a cs w) p e = absurd e
   step_behind k (Ends x) p e = absurd e
 
-  step_through : (m : Standing) → IsRunThrough s h texts (Some m) → IsRunThrough s h texts (Some (stepped texts m))
-  step_through m p = (step_stands m.steps m.state p.0, λ e. step_behind m.steps m.state p.0 e)
+  ran_stands : (j k : ℕ) (st : State) → StandsIn s h texts k st → StandsIn s h texts (k + j) (steady.ran j (alone texts) texts st)
+  ran_stands zero k st p = let same : k ≡ k + 0 = omega arith in subst (λ n. StandsIn s h texts n st) same p
+  ran_stands (suc j) k st p =
+      let same : k + 1 + j ≡ k + suc j = omega arith in
+      subst (λ n. StandsIn s h texts n (steady.ran j (alone texts) texts (next st))) same (ran_stands j (k + 1) (next st) (step_stands k st p))
+
+  move_through : (j : ℕ) (m : Standing) → IsRunThrough s h texts (Some m) → IsRunThrough s h texts (Some (moved j texts m))
+  move_through j m p =
+      let st : State = steady.ran j (alone texts) texts m.state in
+      let q : StandsIn s h texts (m.steps + j) st = ran_stands j m.steps m.state p.0 in
+      let one : m.steps + j + 1 ≡ m.steps + suc j = omega arith in
+      (subst (λ n. StandsIn s h texts n (next st)) one (step_stands (m.steps + j) st q), λ e. subst (λ n. IsBehind s h texts n (next st) (standings.world_of (next st)).count) one (step_behind (m.steps + j) st q e))
 
 -- ---- behind an event
 
@@ -232,54 +243,38 @@ event_seen want now.Nothing fs over took halt e p = overs_not over want.turns to
 event_seen want (now.Line l) fs over took halt e p = tt
 event_seen want now.Entered fs over took halt e p = tt
 
-lasts_not : (over : Bool) (took : ℕ) → IsStop (halt_or (if over then Some Ended else None) (Paused took)) → ⊥
-lasts_not true took p = p
-lasts_not false took p = p
-
-last_seen : (want : Want) (x : Shown) (fs : List Frame) (over : Bool) (took : ℕ) → IsStop (halt_or (else_over (wanted want x fs) over) (Paused took)) → IsEvent x
-last_seen want now.Nothing fs over took p = lasts_not over took p
-last_seen want (now.Line l) fs over took p = tt
-last_seen want now.Entered fs over took p = tt
-
 module _ (s : Start) (h : History) (texts : List Text) where
   -- where a go leads
-  abbrev Led : Gone → Type 0
-  Led out = StandsIn s h texts out.1.steps out.1.state × (IsStop out.0 → IsBehindEvent s h texts out.1) × (out.1.shown ≡ now.Nothing)
+  abbrev Led : Halt → Standing → Type 0
+  Led halt left = StandsIn s h texts left.steps left.state × (IsStop halt → IsBehindEvent s h texts left) × (left.shown ≡ now.Nothing)
 
-  here_led : (want : Want) (m : Standing) (r : Option Halt) (later : Gone) → rests want m ≡ r → IsRunThrough s h texts (Some m) → Led later → Led (here_or r m later)
-  here_led want m None later e p q = q
-  here_led want m (Some halt) later e p q =
-      (p.0, (λ x. p.1 (event_seen want m.shown (standings.world_of m.state).frames (is_over m.state) (taken want m) halt e x)), refl)
-
-  gone_led : (k : ℕ) (want : Want) (m : Standing) → IsRunThrough s h texts (Some m) → Led (gone k want texts m)
-  gone_led zero want m p =
-      (p.0, (λ x. p.1 (last_seen want m.shown (standings.world_of m.state).frames (is_over m.state) (taken want m) x)), refl)
-  gone_led (suc k) want m p =
-      here_led want m (rests want m) (gone k want texts (stepped texts m)) refl p (gone_led k want (stepped texts m) (step_through s h texts m p))
+  go_led : (want : Want) (halt : Halt) (left m : Standing) → GoneBy texts want halt left m → IsRunThrough s h texts (Some m) → Led halt left
+  go_led want halt left x (rests_here m e at) p =
+      subst (Led halt) (sym at) (p.0, (λ x. p.1 (event_seen want m.shown (standings.world_of m.state).frames (is_over m.state) (taken want m) halt e x)), refl)
+  go_led want halt left x (moves_on m k small e silent rest) p = go_led want halt left (moved k texts m) rest (move_through s h texts k m p)
 
   no_event : (x : Shown) → x ≡ now.Nothing → IsEvent x → ⊥
   no_event x e p = subst IsEvent e p
 
-  closed_led : (out : Gone) → Led out → IsRunThrough s h texts (Some (closed out.1))
-  closed_led out p = (closed_stands s h texts out.1.steps out.1.state p.0, λ e. absurd (no_event out.1.shown p.2 e))
+  closed_led : (halt : Halt) (left : Standing) → Led halt left → IsRunThrough s h texts (Some (closed left))
+  closed_led halt left p = (closed_stands s h texts left.steps left.state p.0, λ e. absurd (no_event left.shown p.2 e))
 
-  closed_halts : (halt : Halt) (out : Gone) → out.0 ≡ halt → Led out → HaltsBehind s h texts halt (Some (closed out.1))
-  closed_halts Entered out e p =
-      behind_closed s h texts out.1.steps out.1.state (p.1 (subst IsStop (sym e) tt))
-  closed_halts AtLine out e p =
-      behind_closed s h texts out.1.steps out.1.state (p.1 (subst IsStop (sym e) tt))
-  closed_halts Ended out e p = tt
-  closed_halts (Paused n) out e p = tt
+  closed_halts : (halt : Halt) (left : Standing) → Led halt left → HaltsBehind s h texts halt (Some (closed left))
+  closed_halts Entered left p = behind_closed s h texts left.steps left.state (p.1 tt)
+  closed_halts AtLine left p = behind_closed s h texts left.steps left.state (p.1 tt)
+  closed_halts Ended left p = tt
+  closed_halts (Paused n) left p = tt
 
-  leaves_through : (out : Gone) (halt : Halt) (new : Option Standing) → Led out → Leaves out halt new → IsRunThrough s h texts new × HaltsBehind s h texts halt new
-  leaves_through out halt None p q = (tt, subst (λ x. HaltsBehind s h texts x None) (sym q) tt)
-  leaves_through out halt (Some m) p q =
-      subst (λ m. IsRunThrough s h texts (Some m) × HaltsBehind s h texts halt (Some m)) q.1 (closed_led out p, closed_halts halt out q.0 p)
+  leaves_through : (want : Want) (m : Standing) (halt : Halt) (new : Option Standing) → IsRunThrough s h texts (Some m) → Leaves texts want m halt new → IsRunThrough s h texts new × HaltsBehind s h texts halt new
+  leaves_through want m halt None p q = (tt, subst (λ x. HaltsBehind s h texts x None) (sym q) tt)
+  leaves_through want m halt (Some n) p q =
+      let led = go_led want halt q.0 m q.1 p in
+      subst (λ n. IsRunThrough s h texts (Some n) × HaltsBehind s h texts halt (Some n)) q.2 (closed_led halt q.0 led, closed_halts halt q.0 led)
 
   pub goes_through : (stops : List StopAt) (walk : Walk) (turns : ℕ) (old : Option Standing) (halt : Halt) (new : Option Standing) → Goes texts stops walk turns old halt new → IsRunThrough s h texts old → IsRunThrough s h texts new × HaltsBehind s h texts halt new
   goes_through stops walk turns None halt new p q =
       subst (λ r. IsRunThrough s h texts r × HaltsBehind s h texts halt r) (sym p.1) (tt, subst (λ x. HaltsBehind s h texts x None) (sym p.0) tt)
-  goes_through stops walk turns (Some m) halt new p q = leaves_through (gone turns (want_of stops walk turns m) texts m) halt new (gone_led turns (want_of stops walk turns m) m q) p
+  goes_through stops walk turns (Some m) halt new p q = leaves_through (want_of stops walk turns m) m halt new q p
 
 -- ---- a change
 

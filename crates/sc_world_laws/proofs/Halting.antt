@@ -35,10 +35,12 @@ use Rattle.sc_words.specs.Stops.{is_matched}
 use Rattle.sc_world.specs.declared.halt.Halt.{Halt}
 use Rattle.sc_world.specs.declared.halt.Halt.TheVariants as halt
 use Rattle.sc_world.specs.Standing.{Standing, world_of, has_ended}
-use Rattle.sc_world.specs.Wants.{Want, walks, halt_if, wanted, else_over, halts, taken, halt_or, else_paused, rests}
+use Rattle.sc_world.specs.Wants.{Want, walks, halt_if, wanted, else_over, halts, taken, else_paused, rests}
+use Rattle.sc_world.specs.Moves.{Silent, moved}
 use Rattle.sc_world.specs.Costs.{bytes_touched}
-use Rattle.sc_world.specs.Goes.{stepped, seen, here_or, gone, with_status, closed, want_of, Goes, entry_next, first_standing, started}
-use Rattle.sc_world_laws.specs.Halts.{Free, GoesFree}
+use Rattle.sc_world.specs.Goes.{GoneBy, rests_here, moves_on, after, stepped, seen, with_status, closed, want_of, Goes, entry_next, first_standing, started}
+use Rattle.sc_world.proofs.Moves.{Same, moved_after, moved_counted}
+use Rattle.sc_world_laws.specs.Halts.{first_of, Free, GoesFree}
 use Rattle.sc_world_laws.specs.Told.{walks_to, selects, event_of, happening, Tells, IsFramed, now, IsAt, is_entry, IsFirst, HaltsAt, IsLastAt}
 use Rattle.sc_world_laws.proofs.Halts.{free_on, goes_here, goes_on, halts_first, halts_free, bound}
 use Rattle.sc_world_laws.proofs.Tells.{step_tells, step_framed, callee_tells, callee_framed, framed_on}
@@ -78,7 +80,7 @@ told_events w v es p =
 told_last : (w v : World) (es : List Event) → Tells es w v → (front : List Item) × (v.trail ≡ front ++ happening es)
 told_last w v es p = (w.trail ++ p.0, p.1 ∙ sym (append_assoc w.trail p.0 (happening es)))
 
-one_more_step : (k t b : ℕ) → k ≤ t → k + 1 ≤ t + (1 + b)
+one_more_step : (k t b : ℕ) → k ≤ 8 * t → k + 1 ≤ 8 * (t + (1 + b))
 one_more_step k t b p = omega (arith, p)
 
 -- where the run stands behind a step
@@ -96,6 +98,18 @@ step_at texts m old p =
       last = told_last (world_of m.state) (world_of t) es told;
       counted = one_more_step m.steps m.turns (bytes_touched m.state t) p.counted;
     }
+
+-- where a place stands, one that differs from it in its turns alone stands too
+same_at : (m n : Standing) (old : List Event) → Same n m → n.steps ≤ 8 * n.turns → IsAt m old → IsAt n old
+same_at m n old e few p = record {
+  framed = subst IsFramed (sym e.0) p.framed;
+  passed = ap (λ s. events (world_of s).trail) e.0 ∙ p.passed ∙ ap (λ es. old ++ es) (sym same);
+  last = (p.last.0, ap (λ s. (world_of s).trail) e.0 ∙ p.last.1 ∙ ap (λ es. p.last.0 ++ happening es) (sym same));
+  counted = few;
+}
+  where
+    same : now n ≡ now m
+    same = ap (λ x. event_of x (world_of n.state).frames) e.1 ∙ ap (λ s. event_of m.shown (world_of s).frames) e.0
 
 -- ---- what is wanted is what is selected
 
@@ -159,10 +173,6 @@ module _ (want : Want) where
   abbrev pub Why : Halt → Standing → Type 0
   Why h m = (halts want m ≡ Some h) ⊎ ((halts want m ≡ None) × (h ≡ halt.Paused (taken want m)))
 
-  pub why_last : (o : Option Halt) (m : Standing) → halts want m ≡ o → Why (halt_or o (halt.Paused (taken want m))) m
-  why_last (Some h) m e = inl e
-  why_last None m e = inr (e, refl)
-
   why_paused : (b : Bool) (m : Standing) (h : Halt) → halts want m ≡ None → halt_if b (halt.Paused (taken want m)) ≡ Some h → Why h m
   why_paused true m h e p = inr (e, cc)
   why_paused false m h e p = absurd (cc)
@@ -185,8 +195,8 @@ module _ (want : Want) where
       (over_none (wanted want m.shown (world_of m.state).frames) (is_over m.state) (paused_none (halts want m) want.turns (taken want m) p))
 
   -- the last place of a go, and the events that were looked at before it
-  abbrev pub IsLast : List Text → List Event → Halt × Standing → Type 0
-  IsLast texts old out = (last : Standing) × (past : List Event) × (out.1 ≡ seen last) × IsAt last past × GoesFree sel old past × Why out.0 last
+  abbrev pub IsLast : List Event → Halt → Standing → Type 0
+  IsLast old h left = (last : Standing) × (past : List Event) × (left ≡ seen last) × IsAt last past × GoesFree sel old past × Why h last
 
   module _ (texts : List Text) where
     step_free : (m : Standing) (old : List Event) (p : IsAt m old) → Free sel (now m) → GoesFree sel old (behind texts m old p)
@@ -194,14 +204,28 @@ module _ (want : Want) where
         let told = step_told texts m.state p.framed in
         (now m ++ events told.0, append_assoc old (now m) (events told.0), free_on Event sel (now m) (events told.0) f (hidden_free want.stops want.walk want.since (events told.0) told.2))
 
-    picked : (o : Option Halt) (m : Standing) (old : List Event) (p : IsAt m old) (out : Halt × Standing) → rests want m ≡ o → IsLast texts (behind texts m old p) out → IsLast texts old (here_or o m out)
-    picked (Some h) m old p out e l = (m, old, refl, p, goes_here Event sel old, why_rests (halts want m) m h refl e)
-    picked None m old p out e l = (l.0, l.1, l.2, l.3, goes_on Event sel old (behind texts m old p) l.1 (step_free m old p (rests_free m e)) l.4, l.5)
+    silent_free : (m : Standing) → m.shown ≡ shown.Nothing → Free sel (now m)
+    silent_free m e = ap (λ x. first_of sel (event_of x (world_of m.state).frames)) e
 
-    pub gone_last : (k : ℕ) (m : Standing) (old : List Event) → IsAt m old → IsLast texts old (gone k want texts m)
-    gone_last zero m old p = (m, old, refl, p, goes_here Event sel old, why_last (halts want m) m refl)
-    gone_last (suc k) m old p =
-        picked (rests want m) m old p (gone k want texts (stepped texts m)) refl (gone_last k (stepped texts m) (behind texts m old p) (step_at texts m old p))
+    -- behind the steps of a move
+    steps_at : (k : ℕ) (m : Standing) (old : List Event) → IsAt m old → Free sel (now m) → Silent k texts m.state → (past : List Event) × IsAt (after (suc k) texts m) past × GoesFree sel old past
+    steps_at zero m old p f s = (behind texts m old p, step_at texts m old p, step_free m old p f)
+    steps_at (suc k) m old p f s =
+        let n : Standing = stepped texts m in
+        let q = steps_at k n (behind texts m old p) (step_at texts m old p) (silent_free n s.0) s.2 in
+        (q.0, q.1, goes_on Event sel old (behind texts m old p) q.0 (step_free m old p f) q.2)
+
+    move_at : (k : ℕ) (m : Standing) (old : List Event) → k ≤ 7 → IsAt m old → Free sel (now m) → Silent k texts m.state → (past : List Event) × IsAt (moved k texts m) past × GoesFree sel old past
+    move_at k m old small p f s =
+        let q = steps_at k m old p f s in
+        (q.0, same_at (after (suc k) texts m) (moved k texts m) q.0 (moved_after texts k m) (moved_counted texts k m small p.counted) q.1, q.2)
+
+    pub go_last : (h : Halt) (left m : Standing) (old : List Event) → IsAt m old → GoneBy texts want h left m → IsLast old h left
+    go_last h left x old p (rests_here m e at) = (m, old, at, p, goes_here Event sel old, why_rests (halts want m) m h refl e)
+    go_last h left x old p (moves_on m k small e silent rest) =
+        let q = move_at k m old small p (rests_free m e) silent in
+        let l = go_last h left (moved k texts m) q.0 q.1 rest in
+        (l.0, l.1, l.2, l.3, goes_on Event sel old q.0 l.1 q.2 l.4, l.5)
 
 -- ---- behind a go
 
@@ -283,24 +307,24 @@ module _ (want : Want) (old past : List Event) (last : Standing) (n : Standing) 
       paused_there h (taken want last) e (unwanted_free want last.shown (world_of last.state).frames (over_none want (wanted want last.shown (world_of last.state).frames) (is_over last.state) none))
 
 -- the state behind the last place of a go
-pub left_state : (last n : Standing) (out : Halt × Standing) → out.1 ≡ seen last → closed out.1 ≡ n → closed (seen last) ≡ n
-left_state last n out e c = ap closed (sym e) ∙ c
+pub left_state : (last left n : Standing) → left ≡ seen last → closed left ≡ n → closed (seen last) ≡ n
+left_state last left n e c = ap closed (sym e) ∙ c
 
 pub goes_at : (texts : List Text) (stops : List StopAt) (walk : Walk) (turns : ℕ) (m : Standing) (old : List Event) (h : Halt) (n : Standing) → IsAt m old → Goes texts stops walk turns (Some m) h (Some n) → IsAt n (events (world_of n.state).trail)
 goes_at texts stops walk turns m old h n p g =
     let want : Want = want_of stops walk turns m in
-    let l = gone_last want texts turns m old p in
-    subst (λ k. IsAt k (events (world_of k.state).trail)) (left_state l.0 n (gone turns want texts m) l.2 g.1) (closed_at l.0 l.1 l.3)
+    let l = go_last want texts h g.0 m old p g.1 in
+    subst (λ k. IsAt k (events (world_of k.state).trail)) (left_state l.0 g.0 n l.2 g.2) (closed_at l.0 l.1 l.3)
 
 pub goes_halt : (texts : List Text) (stops : List StopAt) (walk : Walk) (turns : ℕ) (m : Standing) (old : List Event) (h : Halt) (n : Standing) (all : List Event) → IsAt m old → Goes texts stops walk turns (Some m) h (Some n)
     → IsPrefix (events (world_of n.state).trail) all → (has_ended n.state ≡ true → events (world_of n.state).trail ≡ all) → HaltsAt (selects stops walk (world_of m.state).enters) h old all (events (world_of n.state).trail)
 goes_halt texts stops walk turns m old h n all p g first whole =
     let want : Want = want_of stops walk turns m in
-    let l = gone_last want texts turns m old p in
-    let same : closed (seen l.0) ≡ n = left_state l.0 n (gone turns want texts m) l.2 g.1 in
+    let l = go_last want texts h g.0 m old p g.1 in
+    let same : closed (seen l.0) ≡ n = left_state l.0 g.0 n l.2 g.2 in
     let passed : events (world_of n.state).trail ≡ l.1 ++ now l.0 = ap (λ k. events (world_of k.state).trail) (sym same) ∙ closed_events l.0 ∙ l.3.passed in
     let over : is_over l.0.state ≡ true → events (world_of n.state).trail ≡ all = λ o. whole (ap (λ k. has_ended k.state) (sym same) ∙ status_ended l.0.state o) in
-    why_there want old l.1 l.0 n all l.3 l.4 passed first h (subst (λ k. Why want k l.0) g.0 l.5) over
+    why_there want old l.1 l.0 n all l.3 l.4 passed first h l.5 over
 
 -- ---- where a go halts at an event, it is the last thing that happened
 
@@ -403,19 +427,18 @@ module _ (want : Want) (last : Standing) (past : List Event) (here : IsAt last p
 pub goes_seen : (texts : List Text) (stops : List StopAt) (walk : Walk) (turns : ℕ) (m : Standing) (old : List Event) (h : Halt) (n : Standing) → IsAt m old → Goes texts stops walk turns (Some m) h (Some n) → now n ≡ []
 goes_seen texts stops walk turns m old h n p g =
     let want : Want = want_of stops walk turns m in
-    let l = gone_last want texts turns m old p in
-    subst (λ k. now k ≡ []) (left_state l.0 n (gone turns want texts m) l.2 g.1) refl
+    let l = go_last want texts h g.0 m old p g.1 in
+    subst (λ k. now k ≡ []) (left_state l.0 g.0 n l.2 g.2) refl
 
 pub goes_last : (texts : List Text) (stops : List StopAt) (walk : Walk) (turns : ℕ) (m : Standing) (old : List Event) (h : Halt) (n : Standing) (v : World) → IsAt m old → Goes texts stops walk turns (Some m) h (Some n) → v.trail ≡ [] → Leads v (world_of n.state) → IsLastAt h (world_of n.state)
 goes_last texts stops walk turns m old h n v p g none leads =
     let want : Want = want_of stops walk turns m in
-    let l = gone_last want texts turns m old p in
-    let same : closed (seen l.0) ≡ n = left_state l.0 n (gone turns want texts m) l.2 g.1 in
-    let why : Why want h l.0 = subst (λ k. Why want k l.0) g.0 l.5 in
-    subst (λ k. IsLastAt h (world_of k.state)) same (last_there want l.0 l.1 l.3 v h none (subst (λ k. Leads v (world_of k.state)) (sym same) leads) why)
+    let l = go_last want texts h g.0 m old p g.1 in
+    let same : closed (seen l.0) ≡ n = left_state l.0 g.0 n l.2 g.2 in
+    subst (λ k. IsLastAt h (world_of k.state)) same (last_there want l.0 l.1 l.3 v h none (subst (λ k. Leads v (world_of k.state)) (sym same) leads) l.5)
 
 pub turns_bound : (m : Standing) (old : List Event) (nodes : ℕ) → IsAt m old → m.steps < 8 * (m.turns + 1) * (nodes + 1)
-turns_bound m old nodes p = omega (arith, p.counted, bound m.turns nodes)
+turns_bound m old nodes p = bound m.steps m.turns nodes p.counted
 
 -- ---- the start
 

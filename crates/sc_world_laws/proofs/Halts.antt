@@ -42,8 +42,8 @@ module _ (E : Type 0) (sel : E → Bool) where
       (p.0 ++ q.0, q.1 ∙ ap (λ x. x ++ q.0) p.1 ∙ append_assoc a p.0 q.0, free_on p.0 q.0 p.2 q.2)
 
 -- more than the turns is enough of n
-pub bound : (t s : ℕ) → t < 8 * (t + 1) * (s + 1)
-bound t s = omega (arith, mul-le (8 * (t + 1)) 1 (8 * (t + 1)) (s + 1) (omega arith) (omega arith))
+pub bound : (k t s : ℕ) → k ≤ 8 * t → k < 8 * (t + 1) * (s + 1)
+bound k t s p = omega (arith, p, mul-le (8 * (t + 1)) 1 (8 * (t + 1)) (s + 1) (omega arith) (omega arith))
 
 -- turns that are paid by work, but for what was paid before
 pub paused : (t near w : ℕ) → near ≤ 63 → t ≤ near + 64 * w → t / 64 ≤ w

@@ -31,12 +31,14 @@ use Rattle.sc_world.specs.declared.halt.Halt.TheVariants as halt
 use Rattle.sc_world.specs.Standing.{Standing, world_of}
 use Rattle.sc_world.specs.Wants.{Want, wanted, else_over, halts, taken, rests}
 use Rattle.sc_world.specs.Costs.{bytes_touched}
-use Rattle.sc_world.specs.Goes.{stepped, seen, here_or, gone, with_status, want_of, Goes, entry_next, started}
+use Rattle.sc_world.specs.Goes.{GoneBy, rests_here, moves_on, after, stepped, seen, with_status, want_of, Goes, entry_next, started}
+use Rattle.sc_world.specs.Moves.{Silent, moved}
+use Rattle.sc_world.proofs.Moves.{moved_after, moved_turns}
 use Rattle.sc_world_laws.specs.Halts.{total}
 use Rattle.sc_world_laws.specs.Told.{event_of, PassedEach}
 use Rattle.sc_world_laws.proofs.Halts.{paused, passed_each}
 use Rattle.sc_world_laws.proofs.Turns.{same_world, there, touched_there}
-use Rattle.sc_world_laws.proofs.Halting.{sel, Chosen, Why, wanted_chosen, why_last, why_rests, paused_none, over_ended, left_state}
+use Rattle.sc_world_laws.proofs.Halting.{sel, Chosen, Why, wanted_chosen, why_rests, paused_none, over_ended, left_state}
 
 -- ---- one step
 
@@ -49,6 +51,9 @@ sum_one turns touched n0 n1 ws wt vs vt p q e f = (omega (arith, p, q, e, f), om
 
 sum_on : (t0 n0 d0 t1 n1 d1 t2 n2 d2 : ℕ) → (t1 + n1 + 9 * d0 ≤ t0 + n0 + 9 * d1) × (d0 ≤ d1) → (t2 + n2 + 9 * d1 ≤ t1 + n1 + 9 * d2) × (d1 ≤ d2) → (t2 + n2 + 9 * d0 ≤ t0 + n0 + 9 * d2) × (d0 ≤ d2)
 sum_on t0 n0 d0 t1 n1 d1 t2 n2 d2 p q = let a = p.0 in let b = p.1 in let c = q.0 in let d = q.1 in (omega (arith, a, c), omega (arith, b, d))
+
+less_on : (t u n d e m : ℕ) → u ≤ t → (t + n + 9 * d ≤ m + 9 * e) × (d ≤ e) → (u + n + 9 * d ≤ m + 9 * e) × (d ≤ e)
+less_on t u n d e m p q = let a = q.0 in (omega (arith, p, a), q.1)
 
 over_on : (s : State) → is_over s ≡ false → goes_on s ≡ true
 over_on (Runs doing ss env a cs w) e = refl
@@ -76,21 +81,37 @@ module _ (texts : List Text) (lean : AreLean (alone texts)) where
     rests_on : (m : Standing) → rests want m ≡ None → goes_on m.state ≡ true
     rests_on m p = over_on m.state (over_false (wanted want m.shown (world_of m.state).frames) (is_over m.state) (paused_none want (halts want m) want.turns (taken want m) p))
 
-    -- the last place of a go
-    abbrev pub IsPaid : Standing → Halt × Standing → Type 0
-    IsPaid m out = (last : Standing) × (out.1 ≡ seen last) × IsLean last.state × Paid m last × Why want out.0 last
-
-    picked : (o : Option Halt) (m : Standing) (out : Halt × Standing) → IsLean m.state → rests want m ≡ o → (IsLean (stepped texts m).state → IsPaid (stepped texts m) out) → IsPaid m (here_or o m out)
-    picked (Some h) m out p e f = (m, refl, p, (omega arith, omega arith), why_rests want (halts want m) m h refl e)
-    picked None m out p e f =
+    -- the steps of a move
+    after_paid : (k : ℕ) (m : Standing) → IsLean m.state → goes_on m.state ≡ true → Silent k texts m.state → IsLean (after (suc k) texts m).state × Paid m (after (suc k) texts m)
+    after_paid zero m p g s = step_paid m p g
+    after_paid (suc k) m p g s =
         let n : Standing = stepped texts m in
-        let one = step_paid m p (rests_on m e) in
-        let l = f one.0 in
-        (l.0, l.1, l.2, sum_on m.turns (near m.state) (done (world_of m.state)) n.turns (near n.state) (done (world_of n.state)) l.0.turns (near l.0.state) (done (world_of l.0.state)) one.1 l.3, l.4)
+        let o : Standing = after (suc k) texts n in
+        let one = step_paid m p g in
+        let rest = after_paid k n one.0 (over_on n.state s.1) s.2 in
+        (rest.0, sum_on m.turns (near m.state) (done (world_of m.state)) n.turns (near n.state) (done (world_of n.state)) o.turns (near o.state) (done (world_of o.state)) one.1 rest.1)
 
-    pub gone_paid : (k : ℕ) (m : Standing) → IsLean m.state → IsPaid m (gone k want texts m)
-    gone_paid zero m p = (m, refl, p, (omega arith, omega arith), why_last want (halts want m) m refl)
-    gone_paid (suc k) m p = picked (rests want m) m (gone k want texts (stepped texts m)) p refl (λ q. gone_paid k (stepped texts m) q)
+    move_paid : (k : ℕ) (m : Standing) → IsLean m.state → goes_on m.state ≡ true → Silent k texts m.state → IsLean (moved k texts m).state × Paid m (moved k texts m)
+    move_paid k m p g s =
+        let r = after_paid k m p g s in
+        let n : Standing = after (suc k) texts m in
+        let same : n.state ≡ (moved k texts m).state = sym (moved_after texts k m).0 in (
+          subst IsLean same r.0,
+          subst (λ x. ((moved k texts m).turns + near x + 9 * done (world_of m.state) ≤ m.turns + near m.state + 9 * done (world_of x)) × (done (world_of m.state) ≤ done (world_of x))) same
+              (less_on n.turns (moved k texts m).turns (near n.state) (done (world_of m.state)) (done (world_of n.state)) (m.turns + near m.state) (moved_turns texts k m) r.1),
+        )
+
+    -- the last place of a go
+    abbrev pub IsPaid : Standing → Halt → Standing → Type 0
+    IsPaid m h left = (last : Standing) × (left ≡ seen last) × IsLean last.state × Paid m last × Why want h last
+
+    pub go_paid : (h : Halt) (left m : Standing) → IsLean m.state → GoneBy texts want h left m → IsPaid m h left
+    go_paid h left x p (rests_here m e at) = (m, at, p, (omega arith, omega arith), why_rests want (halts want m) m h refl e)
+    go_paid h left x p (moves_on m k small e silent rest) =
+        let n : Standing = moved k texts m in
+        let one = move_paid k m p (rests_on m e) silent in
+        let l = go_paid h left n one.0 rest in
+        (l.0, l.1, l.2, sum_on m.turns (near m.state) (done (world_of m.state)) n.turns (near n.state) (done (world_of n.state)) l.0.turns (near l.0.state) (done (world_of l.0.state)) one.1 l.3, l.4)
 
 -- ---- behind a go
 
@@ -146,15 +167,15 @@ paused_at want m last t b p paid (inr (none, e)) =
 pub goes_lean : (texts : List Text) (stops : List StopAt) (walk : Walk) (turns : ℕ) (m : Standing) (h : Halt) (n : Standing) → AreLean (alone texts) → IsLean m.state → Goes texts stops walk turns (Some m) h (Some n) → IsLean n.state
 goes_lean texts stops walk turns m h n lean p g =
     let want : Want = want_of stops walk turns m in
-    let l = gone_paid texts lean want turns m p in
-    subst (λ k. IsLean k.state) (left_state l.0 n (gone turns want texts m) l.1 g.1) (status_lean l.0.state l.2)
+    let l = go_paid texts lean want h g.0 m p g.1 in
+    subst (λ k. IsLean k.state) (left_state l.0 g.0 n l.1 g.2) (status_lean l.0.state l.2)
 
 late : (texts : List Text) (stops : List StopAt) (walk : Walk) (turns : ℕ) (m : Standing) (t : ℕ) (n : Standing) → AreLean (alone texts) → IsLean m.state → Goes texts stops walk turns (Some m) (halt.Paused t) (Some n) → (t / 64 ≤ done (world_of n.state) - done (world_of m.state)) × (done (world_of m.state) ≤ done (world_of n.state))
 late texts stops walk turns m t n lean p g =
     let want : Want = want_of stops walk turns m in
-    let l = gone_paid texts lean want turns m p in
-    let q : IsLate m l.0 t = paused_at want m l.0 t refl p l.3 (subst (λ k. Why want k l.0) g.0 l.4) in
-    let same : with_status l.0.state ≡ n.state = ap (λ k. k.state) (left_state l.0 n (gone turns want texts m) l.1 g.1) in
+    let l = go_paid texts lean want (halt.Paused t) g.0 m p g.1 in
+    let q : IsLate m l.0 t = paused_at want m l.0 t refl p l.3 l.4 in
+    let same : with_status l.0.state ≡ n.state = ap (λ k. k.state) (left_state l.0 g.0 n l.1 g.2) in
     let there : l.0.state ≡ n.state = sym (status_same l.0.state q.2) ∙ same in
     (subst (λ s. t / 64 ≤ done (world_of s) - done (world_of m.state)) there q.0, subst (λ s. done (world_of m.state) ≤ done (world_of s)) there q.1)
 

@@ -15,8 +15,7 @@ use Rattle.sc_interp.specs.Steady.{alone, advance}
 use Rattle.sc_interp.proofs.Unchanged.{quiet, present, same_step}
 use Rattle.sc_world.specs.Costs.{bytes_touched, statements_ended}
 use Rattle.sc_world.specs.Standing.{Standing, world_of}
-use Rattle.sc_world.specs.Goes.{stepped}
-use Rattle.sc_world_laws.specs.Turns.{after}
+use Rattle.sc_world.specs.Goes.{after, stepped}
 
 pub same_world : (s : State) → done (world_of s) ≡ done (course.world_of s)
 same_world (Runs mode ss env a cs w) = refl

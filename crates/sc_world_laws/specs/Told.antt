@@ -1,6 +1,6 @@
 -- Yardstick: to be compared with what it restates (docs/TRUST.md).
 -- What a step of a run tells, as an event of the meaning; where a run stands among its events; and where a go halts there.
-use Rattle.std.specs.Prelude.{◌≡◌, ℕ, suc, ◌+◌, ◌≤◌, ◌<◌, ◌/◌, nat_le, Bool, true, false, ◌||◌, List, [], ◌∷◌, ◌++◌, length, take, drop, Some}
+use Rattle.std.specs.Prelude.{◌≡◌, ℕ, suc, ◌+◌, ◌*◌, ◌≤◌, ◌<◌, ◌/◌, nat_le, Bool, true, false, ◌||◌, List, [], ◌∷◌, ◌++◌, length, take, drop, Some}
 use Rattle.sc_meaning.specs.World.{World, Frame, Event, Enter, Leave, At, Out, Item, Happens, events, work}
 use Rattle.sc_interp_laws.specs.Inside.{AreHidden}
 use Rattle.sc_interp_laws.specs.Events.{IsPrefix}
@@ -69,7 +69,7 @@ pub record IsAt (m : Standing) (old : List Event) : Type 0 where
   pub framed : IsFramed m.state
   pub passed : events (world_of m.state).trail ≡ old ++ now m
   pub last : (front : List Item) × ((world_of m.state).trail ≡ front ++ happening (now m))
-  pub counted : m.steps ≤ m.turns
+  pub counted : m.steps ≤ 8 * m.turns
 
 -- ---- where a go halts
 

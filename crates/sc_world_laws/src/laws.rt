@@ -1,5 +1,5 @@
 // What holds of every run that is kept between goes. Each function here does nothing: its contract is the law.
-ghost use Rattle.std.specs.Prelude.{◌≡◌, ◌+◌, ◌*◌, ◌<◌, ◌≤◌, ◌-◌, ◌/◌, List, Some, [], true, ℕ};
+ghost use Rattle.std.specs.Prelude.{◌≡◌, ◌+◌, ◌*◌, ◌<◌, ◌≤◌, ◌-◌, ◌/◌, List, None, Some, [], true, ℕ};
 ghost use Rattle.sc_base.specs.declared.key.Key.{Key};
 ghost use Rattle.sc_words.specs.declared.stop.StopAt.{StopAt};
 ghost use Rattle.sc_words.specs.declared.stop.Walk.{Walk};
@@ -13,13 +13,13 @@ ghost use Rattle.sc_interp.specs.Steady.{alone, advance};
 ghost use Rattle.sc_interp.specs.Shows.{shown};
 ghost use Rattle.sc_interp_machine.specs.Runs.{State};
 ghost use Rattle.sc_world_laws.specs.Formed.{AreFormed};
-ghost use Rattle.sc_world_laws.specs.Turns.{after};
 ghost use Rattle.sc_world_laws.specs.Told.{HaltsAt, IsAt, IsFramed, IsLastAt, PassedEach, Tells, event_of, now, selects};
 ghost use Rattle.sc_world.specs.declared.halt.Halt.{Halt};
 ghost use Rattle.sc_world.specs.declared.halt.Halt.TheVariants.{Paused};
 ghost use Rattle.sc_interp_laws.specs.Lean.{AreLean, IsLean};
-ghost use Rattle.sc_world.specs.Goes.{Goes, started, stepped};
+ghost use Rattle.sc_world.specs.Goes.{GoneBy, Goes, after, started, stepped};
 ghost use Rattle.sc_world.specs.Standing.{Standing, has_ended, world_of};
+ghost use Rattle.sc_world.specs.Wants.{Want, rests};
 
 /// The turns that a step takes, its bytes among them, are paid by credit that it uses up and by work, of which a unit pays five turns;
 /// and so are those of any number of steps. It may only not be a step that is made for nothing (`pays`), and a run
@@ -59,6 +59,14 @@ pub fn goes_halt_at_the_first_selected_event()
 pub fn goes_halt_right_behind_events()
     ensures seen { (texts : List Text) (stops : List StopAt) (walk : Walk) (turns : ℕ) (m : Standing) (old : List Event) (halt : Halt) (n : Standing) → IsAt m old → Goes texts stops walk turns (Some m) halt (Some n) → now n ≡ [] }
     ensures last { (texts : List Text) (stops : List StopAt) (walk : Walk) (turns : ℕ) (m : Standing) (old : List Event) (halt : Halt) (n : Standing) (v : World) → IsAt m old → Goes texts stops walk turns (Some m) halt (Some n) → v.trail ≡ [] → Leads v (world_of n.state) → IsLastAt halt (world_of n.state) }
+{}
+
+/// A single step is a move. In whatever moves goes are made, two from one place that halt before their turns are taken halt for one reason at
+/// one place, behind as many steps.
+#[tactic(auto, using(crate::proofs::Moving::one_move, crate::proofs::Moving::one_place))]
+pub fn moves_leave_where_a_go_halts()
+    ensures one { (texts : List Text) (want : Want) (h : Halt) (last : Standing) (m : Standing) → rests want m ≡ None → GoneBy texts want h last (stepped texts m) → GoneBy texts want h last m }
+    ensures place { (texts : List Text) (want : Want) (g : Halt) (h : Halt) (last : Standing) (end : Standing) (m : Standing) → GoneBy texts want g last m → GoneBy texts want h end m → ((t : ℕ) → g ≡ Paused t → ⊥) → ((t : ℕ) → h ≡ Paused t → ⊥) → (g ≡ h) × (last.state ≡ end.state) × (last.steps ≡ end.steps) }
 {}
 
 /// A bound on the meaning that is enough for a run's turns, whatever number of nodes its program is said to have.
