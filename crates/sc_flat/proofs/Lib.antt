@@ -1,0 +1,5 @@
+pub mod Moves
+pub mod Drafts
+pub mod Singles
+pub mod Choices
+pub mod Nodes

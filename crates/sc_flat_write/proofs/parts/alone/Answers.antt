@@ -1,0 +1,11 @@
+-- The instruction is the one that is named.
+use Rattle.std.proofs.Common.{rules, ◌≡◌, subst}
+use Rattle.sc_flat.specs.declared.instruction.Instruction.{Instruction}
+use Rattle.sc_flat.specs.declared.instruction.Operation.TheVariants as operation
+use Rattle.sc_flat.specs.Written.{Pushed, plainly}
+use Rattle.sc_flat_write.proofs.parts.alone.Goals as goal
+
+pub returns-clause-pushed : goal.returns-clause-pushed
+returns-clause-pushed c =
+    let is : c.next-instruction.result ≡ plainly 0 (operation.Alone c.args.register c.args.single c.args.x.held) = search rules in
+    λ texts. subst (λ (i : Instruction). Pushed texts c.args.draft.now c.fill.new.draft i) is (c.in_ok-w.ensures.pushed texts)

@@ -1,0 +1,2 @@
+-- Inside: plumbing, a representation, an invariant or a promise beside the claim (docs/TRUST.md).
+pub mod Parts
