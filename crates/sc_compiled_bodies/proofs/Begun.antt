@@ -2,13 +2,12 @@
 use Rattle.std.proofs.Common.{◌≡◌, ◌⊎◌, inl, inr, ℕ, suc, ◌+◌, ◌-◌, ◌<◌, ◌≤◌, ◌&&◌, not, Bool, true, false, List, [], ◌∷◌, length, map, Some, arith, refl, sym, ap, ◌∙◌, subst}
 use Rattle.std.proofs.lemmas.Bool.Decides.{nat_tests}
 use Rattle.std.specs.Option.{IsSome}
-use Rattle.std.specs.Prelude.{IfSome, slice_get, slice_index_or}
+use Rattle.std.specs.Prelude.{slice_get, slice_index_or}
 use Rattle.sc_base.specs.declared.key.Key.{Key}
 use Rattle.sc_program.specs.declared.frame.Slot.{Slot}
 use Rattle.sc_objects.specs.declared.objects.Obj.{Obj}
 use Rattle.sc_objects.specs.Numbered.{IsLive}
 use Rattle.sc_mem.specs.Flat.{place_in}
-use Rattle.sc_mem_store.specs.Living.{IsBare}
 use Rattle.sc_emu.specs.Operations.{plain}
 use Rattle.sc_emu.specs.Registers.{AreRegisters, register}
 use Rattle.sc_meaning.specs.World.{Born, Enter, Happens, OpenBlock, Push, Stack, World, pass}
@@ -24,11 +23,12 @@ use Rattle.sc_mixed.specs.Machine.{depth_of}
 use Rattle.sc_mixed_means.specs.Owed.{is_calling_out}
 use Rattle.sc_mixed_means.specs.Stages.{Stage, since, texts_of}
 use Rattle.sc_mixed_means.specs.Waiting.{AreAbove, IsFit}
-use Rattle.sc_compiled_frames.specs.Frames.{Has, HasFrame, IsCounted, IsOpen, Placed, foot}
+use Rattle.sc_compiled_frames.specs.Frames.{Has, HasFrame, IsOpen, Placed, foot}
 use Rattle.sc_compiled_frames.specs.Words.{AreStubs}
 use Rattle.sc_compiled_frames.specs.Worlds.{HoldsWords}
 use Rattle.sc_compiled_frames.specs.Stubs.{stub_of}
 use Rattle.sc_compiled_frames.proofs.Waiting.{below_or_not}
+use Rattle.sc_compiled_expressions.specs.Coming.{comes_now}
 use Rattle.sc_compiled_expressions.specs.Standing.{AreOver, AreTargets, Home, Stands, slots}
 use Rattle.sc_compiled_expressions.proofs.Standing.{out_more}
 use Rattle.sc_compiled_bodies.specs.Procedures.{IsProcedure, first, home_of}
@@ -37,17 +37,9 @@ use Rattle.sc_compiled_bodies.proofs.First.{fit_forms, fit_words}
 
 -- ---- numbers
 
--- an object with bytes does not end where the stack's area begins
-not_under : (heap stack base size : ℕ) → heap ≤ 67108864 → stack ≤ 16777216 → 0 < size → base + size ≡ 536870912 - stack → IsSome (place_in heap stack base size) → ⊥
-not_under heap stack base size h g some ends there = grind (arith, nat_tests)
-
-first_byte : (base size : ℕ) → 0 < size → (base < base) ⊎ (base + size ≤ base) → ⊥
-first_byte base size some (inl lt) = omega (arith, lt)
-first_byte base size some (inr le) = omega (arith, le, some)
-
-last_byte : (base size end : ℕ) → 0 < size → base + size ≡ end → (end - 1 < base) ⊎ (base + size ≤ end - 1) → ⊥
-last_byte base size end some is (inl lt) = omega (arith, lt, is, some)
-last_byte base size end some is (inr le) = omega (arith, le, is, some)
+-- an object that begins below the stack's area ends below each frame
+not_in_stack : (heap stack base size : ℕ) → heap ≤ 67108864 → stack ≤ 16777216 → base < 536870912 - stack → IsSome (place_in heap stack base size) → base + size ≤ 335544320
+not_in_stack heap stack base size h g lt there = grind (arith, nat_tests)
 
 both : (p q : Bool) → p ≡ true → q ≡ false → (p && not q) ≡ true
 both p q e f = ap (λ b. b && not q) e ∙ ap (λ b. not b) f
@@ -71,9 +63,9 @@ above_is_over [] w at e p = tt
 above_is_over (InBodies cs sp depth ∷ ls) w at e p = above_is_over ls w at e p.1
 above_is_over (InCode r given ∷ ls) w at e p = (let le = p.0 in omega (arith, e, le), above_is_over ls w at e p.1)
 
-module _ (s : Stage) (key : Key) (e : IsProcedure s.look (texts_of s.past) s.image s.places key) (v : World) (late : since s.past ≤ v.count) (lower : List Lower) (u : World) (fit : IsFit (texts_of s.past) s.image s.places lower u) (like : Like u v) (room : u.used + e.fun.cost ≤ u.stack) where
+module _ (s : Stage) (key : Key) (e : IsProcedure s key) (v : World) (late : since s.past ≤ v.count) (lower : List Lower) (u : World) (fit : IsFit (texts_of s.past) s.image s.places lower u) (like : Like u v) (room : u.used + e.fun.cost ≤ u.stack) where
   abbrev pub home : Home
-  home = home_of s.look e.text e.fun e.autos e.place.start
+  home = home_of s e.text e.fun e.autos e.place.start
 
   abbrev cost : ℕ
   cost = e.fun.cost
@@ -105,52 +97,18 @@ module _ (s : Stage) (key : Key) (e : IsProcedure s.look (texts_of s.past) s.ima
 
   -- ---- the frame
 
-  -- bytes that the stack has not used are no object's
-  is_free : (at : ℕ) → 0x20000000 - u.stack ≤ at → at < stack_top u → IsBare fit.memory.flat.objects at
-  is_free at low high = subst (λ o. IfSome o (λ q. IsBare q.flat.objects at)) fit.is (fit.free at low high)
-
-  module _ (id : ℕ) (p : Obj) (live : IsLive fit.memory.flat.objects id p) (some : 0 < p.size) where
-    abbrev IsThere : Type 0
-    IsThere = (p.base + p.size < foot in_u) ⊎ ((foot in_u + cost ≤ p.base) ⊎ IsOpen (slots home) home.env.blocks (foot in_u) id p)
-
-    begins_above : foot in_u < p.base → IsThere
-    begins_above lt =
-        let n = used in
-        let stack = small in
-        elim (below_or_not p.base (stack_top u)) [
-          | inl low ↦ absurd (first_byte p.base p.size some (is_free p.base (omega (arith, lt, n, room, stack)) low id p live))
-          | inr high ↦ inr (inl (omega (arith, high, n, stack, room)))
-        ]
-
-    ends_at : p.base + p.size ≡ foot in_u → ⊥
-    ends_at is =
-        let n = used in
-        let least = e.least in
-        let stack = small in
-        let size = fit.of.stack in
-        elim (below_or_not (0x20000000 - u.stack) (foot in_u)) [
-          | inl low ↦ last_byte p.base p.size (foot in_u) some is (is_free (foot in_u - 1) (omega (arith, low)) (omega (arith, n, least, stack, room)) id p live)
-          | inr high ↦
-              let first : foot in_u ≡ 0x20000000 - fit.memory.flat.stack = omega (arith, high, n, room, stack, size) in
-              not_under fit.memory.flat.heap fit.memory.flat.stack p.base p.size fit.of.safe.heap fit.of.safe.stack some (is ∙ first) (fit.of.safe.within id p live)
-        ]
-
-    is_there : IsThere
-    is_there =
-        let n = used in
-        let least = e.least in
-        let stack = small in
-        elim (is_free (foot in_u) (omega (arith, n, room, stack)) (omega (arith, n, least, stack, room)) id p live) [
-          | inl lt ↦ begins_above lt
-          | inr le ↦ elim (below_or_not (p.base + p.size) (foot in_u)) [
-            | inl lt ↦ inl lt
-            | inr ge ↦ absurd (ends_at (omega (arith, le, ge)))
-          ]
-        ]
-
-  counted : (id : ℕ) (p : Obj) → IsLive fit.memory.flat.objects id p → IsCounted (slots home) p → (p.base + p.size < foot in_u) ⊎ ((foot in_u + cost ≤ p.base) ⊎ IsOpen (slots home) home.env.blocks (foot in_u) id p)
-  counted id p live (inl some) = is_there id p live some
-  counted id p live (inr (b, i, slot, is)) = absurd (none_slotted home e.none b i slot is)
+  is_there : (id : ℕ) (p : Obj) → IsLive fit.memory.flat.objects id p → (p.base + p.size < foot in_u) ⊎ ((foot in_u + cost ≤ p.base) ⊎ IsOpen (slots home) home.env.blocks (foot in_u) id p)
+  is_there id p live =
+      let n = used in
+      let stack = small in
+      let size = fit.of.stack in
+      let top = top_is in
+      elim (below_or_not p.base (0x20000000 - u.stack)) [
+        | inl outside ↦
+            let low = not_in_stack fit.memory.flat.heap fit.memory.flat.stack p.base p.size fit.of.safe.heap fit.of.safe.stack (omega (arith, outside, size)) (fit.of.safe.within id p live) in
+            inl (omega (arith, low, n, stack, room))
+        | inr inside ↦ let framed = fit.framed id p live inside in inr (inl (omega (arith, framed, top)))
+      ]
 
   nothing_lives : (o : Born) → Has o home.env.blocks → (i id : ℕ) → slice_get o.ids i ≡ Some id → Placed (slots home) (foot in_u) fit.memory.flat.objects o.block i id
   nothing_lives o (inl same) i id is = absurd (no_number i id (sym (ap (λ (b : Born). slice_get b.ids i) same) ∙ is))
@@ -169,7 +127,7 @@ module _ (s : Stage) (key : Key) (e : IsProcedure s.look (texts_of s.past) s.ima
         high = omega (arith, n, stack, room);
         area = omega (arith, n, size, stack, room);
         aligned = omega (arith, n, even, four, stack, room);
-        only = counted;
+        only = is_there;
         lives = nothing_lives;
       }
 
@@ -190,7 +148,7 @@ module _ (s : Stage) (key : Key) (e : IsProcedure s.look (texts_of s.past) s.ima
       (out_more o.trail (Happens (Enter key e.text.core.name)) false ∙ out_more b.trail (OpenBlock first) false ∙ out_more a.trail (Push (frame_of key e.text v)) false)
 
   targets_there : AreTargets e.value home in_u
-  targets_there = let ts = e.targets lower u fit in record { static = ts.static; literal = ts.literal; function = ts.function }
+  targets_there = let ts = e.targets lower u fit in record { static = ts.static; literal = ts.literal; function = ts.function; numbered = ts.numbered }
 
   -- where sp is at the foot of the frame
   pub stands_begun : (c : Calls) → c.lower ≡ lower → AreRegisters c.regs.words → register c.regs 2 ≡ plain (stack_top u - cost) → Stands home s c in_u inside
@@ -198,13 +156,14 @@ module _ (s : Stage) (key : Key) (e : IsProcedure s.look (texts_of s.past) s.ima
       let count : inside.count ≡ v.count + 1 = refl in
       let deep = fit.inner in
       record {
-        look = refl;
+        comes = comes_now s;
         regs = are;
         frame = frame_there;
         sp = sp ∙ ap plain (sym foot_is);
         above = subst (λ ls. AreOver ls (foot in_u + cost)) (sym same) (above_is_over lower u (foot in_u + cost) top_is fit.above);
         stubs = stubs_u;
         took = e.costs;
+        starts = refl;
         opened = refl;
         alike = entering.behind_alike s key e.text e.fun e.place e.found e.keyed e.slots e.costs u v like;
         late = omega (arith, late, count);
@@ -214,4 +173,5 @@ module _ (s : Stage) (key : Key) (e : IsProcedure s.look (texts_of s.past) s.ima
         value = e.value;
         text = e.code;
         targets = targets_there;
+        fixed = e.targets;
       }

@@ -76,7 +76,7 @@ module _ (home : Home) (most deep l b : ℕ) (st : CoreStmt) (ss : List CoreStmt
   abbrev items : ℕ → Around → Code
   items n out2 = code_of_list home ss n out2
 
-  code : code_of_statement home st at around ≡ items at around
+  pub code : code_of_statement home st at around ≡ items at around
   code =
       ap (λ y. whole_by (entry_by (frame_of home) (gen.block_layer y)) (body_of (frame_of home) st) st at around) is
       ∙ ap (λ t. whole_by (if t then Some b else None) (body_of (frame_of home) st) st at around) no_objects

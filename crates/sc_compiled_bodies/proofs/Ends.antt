@@ -48,8 +48,21 @@ stub_leads s n number at c w v r mem l are there leads go =
 
 -- ---- what asks for a service
 
-zero_is : (c : Calls) → AreRegisters c.regs.words → register c.regs 0 ≡ plain 0
+pub zero_is : (c : Calls) → AreRegisters c.regs.words → register c.regs 0 ≡ plain 0
 zero_is c are = index_zero c.regs.words are
+
+-- the number of a block is put into t1 by one word, where it is small
+abbrev pub block_code : ℕ → ℕ → Bool → Code
+block_code k b short = addi 5 0 (pos k) ∷ (if short then addi 6 0 (cast_signed w32 b) ∷ [] else Word_of (Lui 6 (upper_of b)) ∷ addi 6 6 (lower_of b) ∷ []) ++ ecall ∷ []
+
+pub is_short : (b : ℕ) → b < 2048 → (nat_lt b 2048 || nat_le 4294965248 b) ≡ true
+is_short b lt = grind (arith, nat_tests, lt)
+
+wide : (b : ℕ) → b < 2048 → b < 2 ^ 32
+wide b lt = omega (arith, lt)
+
+zero_sum : (k : ℕ) → k < 2 ^ 32 → sum 0 k ≡ k
+zero_sum k lt = omega (arith, lt)
 
 module _ (s : Stage) (value : Target → ℕ) (n : ℕ) (c : Calls) (w v : World) (r : Family Answer) (mem : HasMemory w) (are : AreRegisters c.regs.words) (leads : Leading v r) where
   asks : (code : Code) (k : ℕ) → AreStraight code → CodeAt s.image value c.regs.pc (code ++ ecall ∷ []) → (after code (register c.regs) 5).bits ≡ k → MeansHolding s n (Serves k) (c.regs.pc + 4 * length code + 4) (after code (register c.regs)) c w v r → Means s n c w v r
@@ -103,6 +116,26 @@ module _ (s : Stage) (value : Target → ℕ) (n : ℕ) (c : Calls) (w v : World
     where
       eight : (p : ℕ) → p + 8 ≡ p + 4 + 4
       eight p = omega arith
+
+  -- of a block whose number is small
+  block_file : (k b : ℕ) → b < 2048 → sum 0 (bits_of (pos k)) ≡ k → CodeAt s.image value c.regs.pc (block_service k b) → MeansHolding s n (Serves k) (c.regs.pc + 12) (with (with file 5 (plain k)) 6 (plain b)) c w v r → Means s n c w v r
+  block_file k b near is has go =
+      let z = zero_is c are in
+      let code : Code = addi 5 0 (pos k) ∷ addi 6 0 (cast_signed w32 b) ∷ [] in
+      let first : with_constant imm.Addi (file 0) (bits_of (pos k)) ≡ plain k = ap (λ x. with_constant imm.Addi x (bits_of (pos k))) z ∙ ap plain is in
+      let second : with_constant imm.Addi (file 0) (bits_of (cast_signed w32 b)) ≡ plain b = ap₂ (with_constant imm.Addi) z (of_z-to_z w32 b (wide b near)) ∙ ap plain (zero_sum b (wide b near)) in
+      asks code k ((omega arith, omega arith), ((omega arith, omega arith), tt)) (subst (λ l. CodeAt s.image value c.regs.pc l) (ap (λ t. block_code k b t) (is_short b near)) has) (ap (λ (x : Word). x.bits) first)
+      (λ zs h. subst (λ p. MeansAt s n (Serves k) (with_registers (record { pc = p; words = zs }) c) w v r) (twelve c.regs.pc)
+      (go zs (same_file zs (after code file) (with (with file 5 (plain k)) 6 (plain b)) (λ j. ap (λ x. with (with file 5 x) 6 (with_constant imm.Addi (file 0) (bits_of (cast_signed w32 b))) j) first ∙ ap (λ y. with (with file 5 (plain k)) 6 y j) second) h)))
+    where
+      twelve : (p : ℕ) → p + 12 ≡ p + 8 + 4
+      twelve p = omega arith
+
+  pub block_entry_asked : (b : ℕ) → b < 2048 → CodeAt s.image value c.regs.pc (block_service 2 b) → MeansHolding s n (Serves 2) (c.regs.pc + 12) (with (with file 5 (plain 2)) 6 (plain b)) c w v r → Means s n c w v r
+  block_entry_asked b near = block_file 2 b near refl
+
+  pub block_exit_asked : (b : ℕ) → b < 2048 → CodeAt s.image value c.regs.pc (block_service 3 b) → MeansHolding s n (Serves 3) (c.regs.pc + 12) (with (with file 5 (plain 3)) 6 (plain b)) c w v r → Means s n c w v r
+  block_exit_asked b near = block_file 3 b near refl
 
 -- ---- the epilogue
 

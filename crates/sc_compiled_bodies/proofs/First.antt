@@ -1,6 +1,6 @@
 -- The memory of a world as a run begins has nothing in it, so all that is asked of it holds; and where there is no stub no call crosses.
-use Rattle.std.proofs.Common.{◌≡◌, ℕ, zero, suc, ◌+◌, ◌^◌, ◌≤◌, true, List, [], ◌∷◌, replicate, None, Some, Option, refl, sym, ap, subst, ◌∙◌, arith}
-use Rattle.std.specs.Prelude.{Contains, IfSome, length, map, slice_index, slice_index_or}
+use Rattle.std.proofs.Common.{◌≡◌, ℕ, zero, suc, ◌+◌, ◌^◌, ◌≤◌, true, List, [], ◌∷◌, replicate, None, Some, refl, sym, ap, subst, ◌∙◌, arith}
+use Rattle.std.specs.Prelude.{Contains, length, map, slice_index, slice_index_or}
 use Rattle.sc_base.specs.declared.key.Key.{Key}
 use Rattle.sc_base.specs.declared.memory.Cell.{Cell as Stored}
 use Rattle.sc_base.specs.declared.memory.Cell.TheVariants.{Unwritten as Empty, Byte as Octet, Frag}
@@ -10,7 +10,6 @@ use Rattle.sc_isa_image.specs.declared.image.Image.{Image}
 use Rattle.sc_objects.specs.declared.objects.Obj.{Obj}
 use Rattle.sc_mem.specs.Flat.{place}
 use Rattle.sc_mem.specs.Flat.{fresh as empty}
-use Rattle.sc_mem.specs.Safe.{Store}
 use Rattle.sc_meaning.specs.Behaviour.{Start, first_world}
 use Rattle.sc_meaning.specs.Beside.{empty_memory}
 use Rattle.sc_meaning.specs.Versions.{Text, births_of, callee_of}
@@ -18,7 +17,6 @@ use Rattle.sc_meaning.specs.World.{Frame, GoesOut, World, pass}
 use Rattle.sc_like.specs.Alike.{Like, Shown, lineless}
 use Rattle.sc_like.specs.Unseen.{TellsForms, form_of}
 use Rattle.sc_mem_store.specs.Apart.{AreOnce}
-use Rattle.sc_mem_store.specs.Living.{IsBare}
 use Rattle.sc_mixed.specs.Bridge.{is_code}
 use Rattle.sc_mixed.specs.declared.calls.Lower.{Lower}
 use Rattle.sc_mixed_means.specs.Owed.{CallsMean}
@@ -53,9 +51,6 @@ none_born id ids e x = no (subst (λ l. Contains l id) e x)
   where
     no : Contains [] id → ⊥
     no x = absurd (omega (arith, x.1))
-
-abbrev bare_in : Option Store → ℕ → Type 0
-bare_in m at = IfSome m (λ m. IsBare m.flat.objects at)
 
 -- ---- a first world
 
@@ -96,7 +91,7 @@ first_fit s texts image places births there heap stack once stubs few =
       inner = omega arith;
       forms = refl;
       aligned = refl;
-      free = λ at low high. subst (λ m. bare_in m at) (sym there) (λ id p l. absurd (nothing_there id p l.0));
+      framed = λ id p l low. absurd (nothing_there id p l.0);
     }
 
 -- ---- words of a fit memory

@@ -19,6 +19,10 @@ pub mod Outs
 pub mod Taking
 pub mod First
 pub mod Entering
+pub mod BlockEntry
+pub mod BlockExit
+pub mod BlockStanding
+pub mod EnteredBlocks
 pub mod Returning
 pub mod Begun
 pub mod Meaning
@@ -27,5 +31,9 @@ pub mod Fallen
 pub mod Whole
 pub mod Nothing
 pub mod Steps
+pub mod Callings
 pub mod Storing
+pub mod Wording
 pub mod Small
+pub mod Needing
+pub mod Caller

@@ -5,9 +5,9 @@ use Rattle.sc_core.specs.declared.module.Auto.{Auto}
 use Rattle.sc_core.specs.declared.module.Fun.{Fun}
 use Rattle.sc_meaning.specs.Calls.{answer_of, body_of, call, call_of, entered, exec, full, left, parameters}
 use Rattle.sc_meaning.specs.Changes.{happened}
-use Rattle.sc_meaning.specs.Expressions.{Answer, Env, Nothing, Part, Place, Plain, either}
+use Rattle.sc_meaning.specs.Expressions.{Answer, Env, either}
 use Rattle.sc_meaning.specs.Outcomes.{Outcome, Done, Over, StackFull, and_then, world_after}
-use Rattle.sc_meaning.specs.Statements.{Way, Normal, Broke, Continued, Jumped, Returned}
+use Rattle.sc_meaning.specs.Statements.{Way}
 use Rattle.sc_meaning.specs.Values.{Value}
 use Rattle.sc_meaning.specs.Versions.{Callee, History, InText, Text, callee_of, version_at}
 use Rattle.sc_meaning.specs.World.{Enter, Happens, Leave, OpenBlock, Pop, Stack, World, pass}
@@ -15,14 +15,14 @@ use Rattle.sc_meaning.proofs.Changing.{happened_goes}
 use Rattle.sc_meaning.proofs.Growing.{Going, exec_leads, leads_then}
 use Rattle.sc_meaning.proofs.Steps.{here, on, one_more}
 use Rattle.sc_services.specs.Blocks.{left_by}
-use Rattle.sc_mixed_means.specs.Stages.{Live, Stage, since, texts_of}
+use Rattle.sc_mixed_means.specs.Stages.{Live, Stage, since}
 use Rattle.sc_mixed_means.proofs.Moves.{there}
 use Rattle.sc_compiled_expressions.specs.Called.{LooksOn}
 use Rattle.sc_compiled_expressions.specs.Good.{IsDeeper}
 use Rattle.sc_compiled_expressions.specs.Parts.{Family, Leading, followed}
 use Rattle.sc_compiled_expressions.proofs.Joining.{leading_then}
 use Rattle.sc_compiled_bodies.proofs.Entering.{called_with}
-use Rattle.sc_compiled_bodies.specs.Procedures.{IsProcedure, env_of, first, gives_nothing}
+use Rattle.sc_compiled_bodies.specs.Procedures.{IsProcedure, env_of, first}
 use Rattle.sc_compiled_bodies.proofs.Unseen.{still_passes}
 
 call_opens : (k : ℕ) (h : History) (key : Key) (xs : List Value) (w : World) → call (suc k) h key xs w ≡ call_of h (exec k h) key xs (callee_of (version_at h w.count) key) w
@@ -37,23 +37,13 @@ left_leads cost way u = λ h m.
     on u last (world_after (left h [] cost way u)) (on u (pass Pop u) last (one_more Pop u) (one_more (Stack (u.used - cost)) (pass Pop u)))
     (leads_then last (happened h Leave last) (λ _ w. Done (answer_of way) w) (happened_goes Going h Leave last) (λ _ w. here w))
 
-no_answer : (way : Way) → gives_nothing way ≡ true → answer_of way ≡ Nothing
-no_answer Normal e = refl
-no_answer Broke e = absurd (cc (e))
-no_answer Continued e = absurd (cc (e))
-no_answer (Jumped k) e = absurd (cc (e))
-no_answer (Returned Nothing) e = refl
-no_answer (Returned (Plain v)) e = absurd (cc (e))
-no_answer (Returned (Place p)) e = absurd (cc (e))
-no_answer (Returned (Part p n)) e = absurd (cc (e))
-
-pub is_left : (t : Stage) (cost : ℕ) (way : Way) (u : World) → gives_nothing way ≡ true → since t.past ≤ u.count → (h : History) → Live t.past (left_by cost u) h → left h [] cost way u ≡ Done Nothing (left_by cost u)
-is_left t cost way u nothing late h l =
+pub is_left : (t : Stage) (cost : ℕ) (way : Way) (u : World) → since t.past ≤ u.count → (h : History) → Live t.past (left_by cost u) h → left h [] cost way u ≡ Done (answer_of way) (left_by cost u)
+is_left t cost way u late h l =
     let last : World = pass (Stack (u.used - cost)) (pass Pop u) in
     let lt = l.2 in
     let grown : (left_by cost u).count ≡ u.count + 1 = refl in
     let held : last.count ≡ u.count = refl in
-    ap (λ o. and_then o (λ _ w. Done (answer_of way) w)) (still_passes t.past h l.0 l.1 Leave last (omega (arith, late, held)) (omega (arith, lt, grown, held))) ∙ ap (λ a. Done a (left_by cost u)) (no_answer way nothing)
+    ap (λ o. and_then o (λ _ w. Done (answer_of way) w)) (still_passes t.past h l.0 l.1 Leave last (omega (arith, late, held)) (omega (arith, lt, grown, held)))
 
 -- ---- the call
 
@@ -66,7 +56,7 @@ looks_deeper deep step m bound le on = omega (arith, le, on)
 looks_on : (deep step m bound : ℕ) → suc deep ≤ step → step + m ≤ bound → suc 0 ≤ bound
 looks_on deep step m bound le on = omega (arith, le, on)
 
-module _ (s : Stage) (key : Key) (xs : List Value) (e : IsProcedure s.look (texts_of s.past) s.image s.places key) (bound : ℕ → ℕ) (looks : LooksOn bound) (v : World) (late : since s.past ≤ v.count) where
+module _ (s : Stage) (key : Key) (xs : List Value) (e : IsProcedure s key) (bound : ℕ → ℕ) (looks : LooksOn bound) (v : World) (late : since s.past ≤ v.count) where
   abbrev f : Fun
   f = e.fun
 

@@ -7,13 +7,11 @@ use Rattle.sc_core.specs.declared.module.Fun.{Fun}
 use Rattle.sc_core.specs.declared.statement.CoreStmt.{CoreStmt, out-CoreStmt}
 use Rattle.sc_core.specs.declared.statement.CoreStmt.TheOpen.{CoreStmt-F}
 use Rattle.sc_isa_image.specs.Stubs.{lower_of, upper_of}
-use Rattle.sc_isa_image.specs.declared.image.Image.{Image}
-use Rattle.sc_program.specs.declared.storage.StaticId.{StaticId}
 use Rattle.sc_meaning.specs.Calls.{eval, exec, resume, turn}
 use Rattle.sc_meaning.specs.Expressions.{Env}
 use Rattle.sc_meaning.specs.Outcomes.{Done, and_then}
 use Rattle.sc_meaning.specs.Statements.{Normal, block_with, born_autos, stmt_begun, stmt_of}
-use Rattle.sc_meaning.specs.Versions.{History, Text, callee_of}
+use Rattle.sc_meaning.specs.Versions.{History, callee_of}
 use Rattle.sc_meaning.specs.World.{Begin, Born, CloseBlock, End, OpenBlock, World, pass}
 use Rattle.sc_like.specs.Unseen.{TellsForms}
 use Rattle.sc_like.proofs.Hiding.{tells_on}
@@ -22,7 +20,7 @@ use Rattle.sc_mixed.specs.Bridge.{is_code}
 use Rattle.sc_mixed.specs.declared.calls.Calls.{Calls}
 use Rattle.sc_mixed.specs.declared.calls.Next.TheVariants.{Executes}
 use Rattle.sc_mixed_means.specs.Owed.{CompiledTextsAreRight, is_calling_out}
-use Rattle.sc_mixed_means.specs.Stages.{Build, Look, Stage}
+use Rattle.sc_mixed_means.specs.Stages.{Build, Look, Stage, texts_of}
 use Rattle.sc_isa.specs.declared.instruction.Instr.TheVariants.{Jalr, Lui}
 use Rattle.sc_isa.specs.declared.instruction.LoadOp.TheVariants.{Lw}
 use Rattle.sc_isa.specs.declared.instruction.RegOp.TheVariants as reg
@@ -43,7 +41,7 @@ use Rattle.sc_compiled_expressions.proofs.Goes.{first_of}
 use Rattle.sc_compiled_expressions.proofs.Standing.{out_more, stands_lagged}
 use Rattle.sc_compiled_bodies.specs.Empty.{IsEmpty, no_targets}
 use Rattle.sc_compiled_bodies.specs.Good.{GivesWay, frame_of}
-use Rattle.sc_compiled_bodies.specs.Procedures.{GivesNothing, IsProcedure, body_at, body_code, home_of, text_of}
+use Rattle.sc_compiled_bodies.specs.Procedures.{GivesBack, IsProcedure, body_at, body_code, home_of, last_stage, text_of}
 use Rattle.sc_compiled_bodies.proofs.Leaving.{stays_here}
 use Rattle.sc_compiled_bodies.proofs.Loops.{exec_opens}
 use Rattle.sc_compiled_bodies.proofs.Texts.{body_none, entry, place_kept, text_is, whole}
@@ -126,13 +124,13 @@ module _ (f : Fun) (line block : ℕ) (body : out-CoreStmt f.body ≡ CoreStmt-F
 
 -- ---- its body
 
-never : (h : History) (env : Env) (st : CoreStmt) (w : World) → GivesNothing (exec 0 h env st w)
+never : (h : History) (env : Env) (st : CoreStmt) (w : World) → GivesBack (exec 0 h env st w)
 unfolding exec
 never h env st w = tt
 
-module _ (look : Look) (texts : List Text) (image : Image) (places : List (StaticId × ℕ)) (key : Key) (e : IsEmpty texts image key) (steps : 2 ≤ look.step) where
+module _ (from : Stage) (key : Key) (e : IsEmpty (texts_of from.past) from.image key) (steps : 2 ≤ from.look.step) where
   abbrev home : Home
-  home = home_of look e.text e.fun [] e.place.start
+  home = home_of from e.text e.fun [] e.place.start
 
   abbrev inner : Born
   inner = record { block = e.block; ids = [] }
@@ -199,14 +197,14 @@ module _ (look : Look) (texts : List Text) (image : Image) (places : List (Stati
       (after s Normal (ended s c w v st) (ended s c w v st) c w
       (record { here = refl; there = there ∙ behind_none home.base (body_at e.fun) (body_code home e.fun) body_is; stands = stands_behind s c w v st; stays = stays_here home c w }))
 
-  body_ends : (k : ℕ) (h : History) (w : World) → GivesNothing (exec k h home.env e.fun.body w)
+  body_ends : (k : ℕ) (h : History) (w : World) → GivesBack (exec k h home.env e.fun.body w)
   body_ends zero h w = never h home.env e.fun.body w
-  body_ends (suc k) h w = subst GivesNothing (sym (body_done k h w)) refl
+  body_ends (suc k) h w = subst GivesBack (sym (body_done k h w)) refl
 
   text_plain : ArePlain (text_of e.fun)
   text_plain = subst ArePlain (sym (nothing_text e.fun e.line e.block e.body e.unentered e.most)) (whole_plain e.fun.cost)
 
-  pub procedure : IsProcedure look texts image places key
+  pub procedure : IsProcedure from key
   procedure = record {
     text = e.text;
     fun = e.fun;
@@ -233,15 +231,17 @@ module _ (look : Look) (texts : List Text) (image : Image) (places : List (Stati
       static = λ k o has is. absurd (no_other (text_of e.fun) (Upper (target.Named k)) text_plain tt has);
       literal = λ i bytes o has is f. absurd (no_other (text_of e.fun) (Upper (target.Literal i)) text_plain tt has);
       function = λ n k has is. absurd (no_other (text_of e.fun) (Call (target.Named k)) text_plain tt has);
+      numbered = λ k has. absurd (no_other (text_of e.fun) (Call (target.Named k)) text_plain tt has);
     };
+    callees = λ k has. absurd (no_other (text_of e.fun) (Call (target.Named k)) text_plain tt has);
     holds = e.holds;
     near = e.near;
     short = let n : length (body_code home e.fun) ≡ 0 = ap length body_is in omega (arith, n);
     part = ap (λ c. before_body plain_style e.fun ++ (c ++ (service 6 ++ epilogue e.fun.cost))) (no_word e.fun e.line e.block e.body e.unentered ∙ sym body_is);
     steps = steps;
-    body = body_gives;
+    body = λ most calls. body_gives (suc most);
     ends = body_ends;
   }
 
 pub empty_texts : (look : Look) (b : Build) → 2 ≤ look.step → ((key : Key) → is_code (callee_of b.texts key) ≡ true → IsEmpty b.texts b.image key) → CompiledTextsAreRight look (b ∷ [])
-empty_texts look b steps all = procedures_right look b (λ key code. procedure look b.texts b.image b.places key (all key code) steps)
+empty_texts look b steps all = procedures_right look b (λ p present key code. procedure (last_stage look b p) key (subst (λ ts. IsEmpty ts b.image key) (sym present) (all key code)) steps)

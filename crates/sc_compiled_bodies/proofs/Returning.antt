@@ -20,9 +20,11 @@ use Rattle.sc_isa_image.specs.Lookups.{word_at}
 use Rattle.sc_isa_image.specs.declared.image.Image.{Image}
 use Rattle.sc_interp.specs.declared.going.Going.TheVariants as going
 use Rattle.sc_interp_access.specs.Gives.{ending_of}
+use Rattle.sc_interp_access.specs.declared.stop.Stop.{Stop}
+use Rattle.sc_interp_access.specs.declared.stop.Stop.TheVariants as stops
 use Rattle.sc_interp_change_laws.specs.Showing.{IsEvent}
 use Rattle.sc_interp_machine.specs.Runs.{Caller}
-use Rattle.sc_meaning.specs.Expressions.{Answer, Nothing}
+use Rattle.sc_meaning.specs.Expressions.{Answer}
 use Rattle.sc_meaning.specs.Laws.{Leads}
 use Rattle.sc_meaning.specs.Outcomes.{Done}
 use Rattle.sc_meaning.specs.Versions.{History}
@@ -36,7 +38,7 @@ use Rattle.sc_services.specs.declared.leaving.Left.{Left}
 use Rattle.sc_services.specs.declared.leaving.Left.TheVariants as how
 use Rattle.sc_mixed.specs.Bridge.{ReturnsTo, Returns as ReturnsBack, is_as_called, with_given, with_registers, without_top}
 use Rattle.sc_mixed.specs.Instructions.{EndsSo, Instruction, told}
-use Rattle.sc_mixed.specs.Machine.{Fails, Follows, IsLeft, depth_of, given_by, left_calls}
+use Rattle.sc_mixed.specs.Machine.{Fails, Follows, IsLeft, LeavesWith, Moves, depth_of, given_by, left_calls}
 use Rattle.sc_mixed.specs.declared.calls.Calls.{Calls}
 use Rattle.sc_mixed.specs.declared.calls.Lower.{Lower}
 use Rattle.sc_mixed.specs.declared.calls.Lower.TheVariants.{InBodies}
@@ -44,11 +46,11 @@ use Rattle.sc_mixed.specs.declared.calls.Moved.{Moved}
 use Rattle.sc_mixed.specs.declared.calls.Next.{Next}
 use Rattle.sc_mixed.specs.declared.calls.Next.TheVariants.{Executes, Serves, Steps}
 use Rattle.sc_mixed.specs.declared.broken.Break.{Break}
-use Rattle.sc_mixed.specs.declared.broken.Break.TheVariants.{Crashed}
+use Rattle.sc_mixed.specs.declared.broken.Break.TheVariants.{Crashed, Meant}
 use Rattle.sc_mixed.specs.declared.execute.Went.{Went}
 use Rattle.sc_mixed.specs.declared.execute.Went.TheVariants as went
 use Rattle.sc_mixed_means.specs.Owed.{IsCode}
-use Rattle.sc_mixed_means.specs.Stages.{Live, Stage}
+use Rattle.sc_mixed_means.specs.Stages.{Live, Stage, texts_of}
 use Rattle.sc_mixed_means.specs.Waiting.{KeepsWaiting}
 use Rattle.sc_compiled_expressions.specs.Parts.{Family, Leading, Means, MeansAt}
 use Rattle.sc_compiled_expressions.proofs.Moving.{keeps_waiting, one_move}
@@ -58,6 +60,18 @@ is_same : (n m : ℕ) → n ≡ m → (n == m) ≡ true
 is_same n m e = grind (arith, nat_tests, e)
 
 -- ---- the call is left
+
+-- what the outermost call gives is kept as it leaves
+abbrev pub kept_if : Answer → Bool → Option Answer → Option Answer
+kept_if a true given = Some a
+kept_if a false given = given
+
+abbrev pub given_now : Answer → Calls → World → Option Answer
+given_now a c x = kept_if a (length x.frames == depth_of c.lower) c.given
+
+given_if : (a : Answer) (c : Calls) (b : Bool) → (if b then with_given (Some a) c else c) ≡ with_given (kept_if a b c.given) c
+given_if a c true = refl
+given_if a c false = refl
 
 module _ (s : Stage) (f : Fun) where
   abbrev pub behind : World → World
@@ -76,15 +90,13 @@ module _ (s : Stage) (f : Fun) where
       let b : World = pass (Stack (v.used - f.cost)) a in
       on v a (behind v) (one_more Pop v) (on a b (behind v) (one_more (Stack (v.used - f.cost)) a) (one_more (Happens Leave) b))
 
-  module _ (n : ℕ) (c : Calls) (w v : World) (r rest : Family Answer) (leads : Leading v r) (leading : Leading (behind v) rest) (took : top_cost w.frames ≡ f.cost)
-      (may : may_leave 0 w ≡ true) (left : block_left 0 w ≡ w) (callers : List Caller) (sp depth : ℕ) (below : List Lower) (lower : c.lower ≡ InBodies callers sp depth ∷ below) (deep : length (behind w).frames ≡ depth)
-      (same : (h : History) → Live s.past (behind v) h → (m : ℕ) → r h (s.look.step + m) ≡ rest h m) (means : Means s n (with_given (Some Nothing) c) (behind w) (behind v) rest) where
-    given_so : (x : World) → x ≡ behind w → given_by Nothing c x ≡ with_given (Some Nothing) c
-    given_so x e =
-        ap (λ (y : World). given_by Nothing c y) e
-        ∙ ap (λ b. if b then with_given (Some Nothing) c else c) (ap (λ ls. length (behind w).frames == depth_of ls) lower ∙ is_same (length (behind w).frames) depth deep)
+  module _ (a : Answer) (n : ℕ) (c : Calls) (w v : World) (r rest : Family Answer) (leads : Leading v r) (leading : Leading (behind v) rest) (took : top_cost w.frames ≡ f.cost)
+      (may : may_leave 0 w ≡ true) (left : block_left 0 w ≡ w)
+      (same : (h : History) → Live s.past (behind v) h → (m : ℕ) → r h (s.look.step + m) ≡ rest h m) (means : Means s n (with_given (given_now a c (behind w)) c) (behind w) (behind v) rest) where
+    given_so : (x : World) → x ≡ behind w → given_by a c x ≡ with_given (given_now a c (behind w)) c
+    given_so x e = ap (λ (y : World). given_by a c y) e ∙ given_if a c (length (behind w).frames == depth_of c.lower)
 
-    by_left : (l : Left) (x : World) (d : Calls) → Leaves 0 w l x → IsLeft l → d ≡ left_calls l Nothing c x → (x ≡ behind w) × (d ≡ with_given (Some Nothing) c)
+    by_left : (l : Left) (x : World) (d : Calls) → Leaves 0 w l x → IsLeft l → d ≡ left_calls l a c x → (x ≡ behind w) × (d ≡ with_given (given_now a c (behind w)) c)
     by_left how.Refused x d p i e = absurd i
     by_left how.Block x d p i e = absurd (p.1 refl)
     by_left how.Call x d p i e =
@@ -94,10 +106,15 @@ module _ (s : Stage) (f : Fun) where
     not_refused : may_leave 0 w ≡ false → ⊥
     not_refused e = cc (sym may ∙ e)
 
-    pub fall_means : MeansAt s (suc n) (Serves 6) c w v r
-    fall_means =
-        one_move s n (Serves 6) c w v r leads
-        (λ after d x moved fit like mv.
+    -- a service that leaves the call with this answer, and does nothing else
+    pub leave_means : (k : ℕ)
+        → ((after : Next) (d : Calls) (x : World) (moved : Moved) → Moves (texts_of s.past) s.image (Serves k) c w (Ok moved) after d x → LeavesWith 0 a c w (Ok moved) d x × (after ≡ Executes))
+        → ((after : Next) (d : Calls) (x : World) (stop : Stop) → Moves (texts_of s.past) s.image (Serves k) c w (Err (Meant stop)) after d x → stop ≡ stops.NoRoom)
+        → ((after : Next) (d : Calls) (x : World) (pc : ℕ) (cause : Crash) → Moves (texts_of s.past) s.image (Serves k) c w (Err (Crashed pc cause)) after d x → may_leave 0 w ≡ false) → MeansAt s (suc n) (Serves k) c w v r
+    leave_means k leaves stopped crashes =
+        one_move s n (Serves k) c w v r leads
+        (λ after d x moved fit like move.
+        let mv = leaves after d x moved move in
         let o = by_left mv.0.1.0 x d mv.0.1.1 mv.0.1.2 mv.0.1.3 in
         inl (record {
           stands = behind v;
@@ -108,12 +125,12 @@ module _ (s : Stage) (f : Fun) where
           waits = subst (λ z. KeepsWaiting c.lower w z) (sym o.0) (waits_same c.lower w (behind w) refl);
           rest = rest;
           leading = leading;
-          means = subst (λ z. MeansAt s n after d z (behind v) rest) (sym o.0) (subst (λ e. MeansAt s n after e (behind w) (behind v) rest) (sym o.1) (subst (λ a. MeansAt s n a (with_given (Some Nothing) c) (behind w) (behind v) rest) (sym mv.1) means));
+          means = subst (λ z. MeansAt s n after d z (behind v) rest) (sym o.0) (subst (λ e. MeansAt s n after e (behind w) (behind v) rest) (sym o.1) (subst (λ q. MeansAt s n q (with_given (given_now a c (behind w)) c) (behind w) (behind v) rest) (sym mv.1) means));
           same = same;
           due = λ e. absurd (subst IsEvent (ap (λ (q : Moved). q.shown) mv.0.0) e);
         }))
-        (λ after d x stop fit like mv. λ e told. absurd (cc (sym (ap (λ t. ending_of t x) mv.0) ∙ told)))
-        (λ after d x pc cause fit like mv. not_refused mv.0.0.0)
+        (λ after d x stop fit like move. λ e told. absurd (cc (sym (ap (λ t. ending_of t x) (stopped after d x stop move)) ∙ told)))
+        (λ after d x pc cause fit like move. not_refused (crashes after d x pc cause move))
 
 -- ---- it returns
 

@@ -15,6 +15,7 @@ use Rattle.sc_mixed.specs.declared.calls.Calls.{Calls}
 use Rattle.sc_mixed_means.specs.Owed.{is_calling_out}
 use Rattle.sc_mixed_means.specs.Stages.{Stage}
 use Rattle.sc_gen_code.specs.declared.style.Style.{Style}
+use Rattle.sc_gen_code.specs.declared.symbolic.Target.{Target}
 use Rattle.sc_compiled_frames.specs.Frames.{Has, HasFrame, IsOpen}
 use Rattle.sc_compiled_expressions.specs.Parts.{Lags}
 use Rattle.sc_compiled_expressions.proofs.Moving.{unseen_lags}
@@ -59,7 +60,7 @@ module _ (slots_of : ℕ → List Slot) (cost : ℕ) (bs : List Born) (b : Born)
     high = f.high;
     area = f.area;
     aligned = f.aligned;
-    only = λ id p l counts. elim (f.only id p l counts) [
+    only = λ id p l. elim (f.only id p l) [
       | inl below ↦ inl below
       | inr more ↦ elim more [ inl above ↦ inr (inl above) | inr o ↦ inr (inr (open_more _ id p o)) ]
     ];
@@ -76,7 +77,7 @@ module _ (slots_of : ℕ → List Slot) (cost : ℕ) (bs : List Born) (b : Born)
     high = f.high;
     area = f.area;
     aligned = f.aligned;
-    only = λ id p l counts. elim (f.only id p l counts) [
+    only = λ id p l. elim (f.only id p l) [
       | inl below ↦ inl below
       | inr more ↦ elim more [ inl above ↦ inr (inl above) | inr o ↦ inr (inr (open_less _ id p o)) ]
     ];
@@ -114,11 +115,11 @@ module _ (home : Home) (b : Born) (none : b.ids ≡ []) (out : is_entered home.s
   abbrev inside : Home
   inside = within home (b ∷ [])
 
-  targets_in : (st : Stands home s c w v) → AreTargets st.value inside w
-  targets_in st = record { static = st.targets.static; literal = st.targets.literal; function = st.targets.function }
+  targets_in : (value : Target → ℕ) (y : World) → AreTargets value home y → AreTargets value inside y
+  targets_in value y t = record { static = t.static; literal = t.literal; function = t.function; numbered = t.numbered }
 
-  targets_out : (st : Stands inside s c w v) → AreTargets st.value home w
-  targets_out st = record { static = st.targets.static; literal = st.targets.literal; function = st.targets.function }
+  targets_out : (value : Target → ℕ) (y : World) → AreTargets value inside y → AreTargets value home y
+  targets_out value y t = record { static = t.static; literal = t.literal; function = t.function; numbered = t.numbered }
 
   stands_in : Stands home s c w v → Stands inside s c w v
   stands_in st = record {
@@ -128,16 +129,18 @@ module _ (home : Home) (b : Born) (none : b.ids ≡ []) (out : is_entered home.s
     above = st.above;
     stubs = st.stubs;
     took = st.took;
+    starts = st.starts;
     opened = st.opened ∙ sym (entered_more home.style home.autos home.env.blocks b out);
     alike = st.alike;
     late = st.late;
     forms = st.forms;
     inner = st.inner;
     own = st.own;
-    look = st.look;
+    comes = st.comes;
     value = st.value;
     text = st.text;
-    targets = targets_in st;
+    targets = targets_in st.value w st.targets;
+    fixed = λ lower y fit. targets_in st.value y (st.fixed lower y fit);
   }
 
   stands_out : Stands inside s c w v → Stands home s c w v
@@ -148,16 +151,18 @@ module _ (home : Home) (b : Born) (none : b.ids ≡ []) (out : is_entered home.s
     above = st.above;
     stubs = st.stubs;
     took = st.took;
+    starts = st.starts;
     opened = st.opened ∙ entered_more home.style home.autos home.env.blocks b out;
     alike = st.alike;
     late = st.late;
     forms = st.forms;
     inner = st.inner;
     own = st.own;
-    look = st.look;
+    comes = st.comes;
     value = st.value;
     text = st.text;
-    targets = targets_out st;
+    targets = targets_out st.value w st.targets;
+    fixed = λ lower y fit. targets_out st.value y (st.fixed lower y fit);
   }
 
   pub block_opened : Stands home s c w v → Lags v (pass (OpenBlock b) v) × Stands inside s c w (pass (OpenBlock b) v)

@@ -1,6 +1,6 @@
 -- From the stub of a function without automatic objects to its return: each place means what the meaning's call gives, if its body's code does what the
--- body means. So the premise on compiled texts holds.
-use Rattle.std.proofs.Common.{◌≡◌, ◌≢◌, ℕ, zero, suc, ◌+◌, ◌-◌, ◌*◌, ◌%◌, ◌^◌, ◌<◌, ◌≤◌, ◌==◌, Bool, true, false, nat_lt, List, [], ◌∷◌, ◌++◌, length, Option, Some, None, arith, refl, sym, ap, ◌∙◌, subst, pos, length-append, length-set}
+-- body means. So it returns to compiled code and to interpreted calls, and the premise on compiled texts holds.
+use Rattle.std.proofs.Common.{◌≡◌, ◌≢◌, inr, ℕ, zero, suc, ◌+◌, ◌-◌, ◌*◌, ◌/◌, ◌%◌, ◌^◌, ◌<◌, ◌≤◌, ◌==◌, Bool, true, false, nat_lt, List, [], ◌∷◌, ◌++◌, length, Option, Some, None, arith, refl, sym, ap, ◌∙◌, subst, pos, length-append, length-set}
 use Rattle.std.proofs.lemmas.Bool.Decides.{nat_tests}
 use Rattle.std.proofs.lemmas.List.{get_or-set_same, get_or-set_other}
 use Rattle.std.specs.Prelude.{slice_get, slice_index_or, slice_set}
@@ -15,50 +15,56 @@ use Rattle.sc_emu.specs.Machine.{return_address}
 use Rattle.sc_emu.specs.Operations.{bits_of, difference, plain, sum}
 use Rattle.sc_emu.specs.Registers.{AreRegisters, Registers, register}
 use Rattle.sc_interp_machine.specs.Runs.{Caller}
-use Rattle.sc_meaning.specs.Calls.{call, exec, left}
+use Rattle.sc_meaning.specs.Calls.{answer_of, call, exec, left}
 use Rattle.sc_meaning.specs.Expressions.{Answer, Nothing, Part, Place, Plain}
-use Rattle.sc_meaning.specs.Outcomes.{Done, Outcome, Over}
+use Rattle.sc_meaning.specs.Outcomes.{Done, Outcome, Over, StackFull, and_then}
 use Rattle.sc_meaning.specs.Statements.{Way, Normal, Broke, Continued, Jumped, Returned}
 use Rattle.sc_meaning.specs.Values.{Number, Value}
-use Rattle.sc_meaning.specs.Versions.{callee_of}
+use Rattle.sc_meaning.specs.Versions.{History, callee_of}
 use Rattle.sc_meaning.specs.World.{Born, World, outer}
-use Rattle.sc_meaning.proofs.Growing.{call_leads}
+use Rattle.sc_meaning.proofs.Growing.{call_leads, exec_leads}
 use Rattle.sc_meaning.proofs.Steps.{here}
 use Rattle.sc_like.specs.Alike.{Like}
+use Rattle.sc_services.specs.Blocks.{left_by}
 use Rattle.sc_services.specs.Entering.{is_first, leads_to}
 use Rattle.sc_services.specs.Frames.{is_on_stack, stack_top}
 use Rattle.sc_services.specs.Memory.{IsBareAt}
-use Rattle.sc_mixed.specs.Bridge.{is_code, with_registers}
+use Rattle.sc_mixed.specs.Bridge.{is_code, with_given, with_registers}
+use Rattle.sc_mixed.specs.Machine.{depth_of}
 use Rattle.sc_mixed.specs.declared.calls.Calls.{Calls}
 use Rattle.sc_mixed.specs.declared.calls.Lower.{Lower}
 use Rattle.sc_mixed.specs.declared.calls.Lower.TheVariants.{InBodies}
 use Rattle.sc_mixed.specs.declared.calls.Next.TheVariants.{Executes, Serves}
 use Rattle.sc_mixed_means.specs.Owed.{CallsMean, CodeMeans, CompiledTextsAreRight}
-use Rattle.sc_mixed_means.specs.Stages.{Build, Look, Stage, since, texts_of}
+use Rattle.sc_mixed_means.specs.Stages.{Build, Live, Look, Past, Stage, since, texts_of}
 use Rattle.sc_mixed_means.specs.Waiting.{IsFit, stored_in}
-use Rattle.sc_gen_code.specs.Code.{Code, service}
+use Rattle.sc_gen_code.specs.Code.{Code, block_service, service}
 use Rattle.sc_gen_code.specs.Styles.{plain_style}
+use Rattle.sc_gen_code.specs.declared.symbolic.Symbolic.TheVariants.{Call}
+use Rattle.sc_gen_code.specs.declared.symbolic.Target.TheVariants.{Named}
 use Rattle.sc_gen_body.specs.Functions.{before_body, frame_taken}
 use Rattle.sc_gen_body.specs.Jumps.{nowhere}
 use Rattle.sc_gen_body.specs.Statements.{epilogue}
 use Rattle.sc_compiled_frames.specs.Frames.{IsBelow, foot}
 use Rattle.sc_compiled_values.specs.Straight.{IsFile, Words, with}
-use Rattle.sc_compiled_expressions.specs.Called.{LooksOn}
+use Rattle.sc_compiled_expressions.specs.Called.{Called, IsResultIn, LooksOn, Returned as Came, ReturnsFrom}
 use Rattle.sc_compiled_expressions.specs.Good.{IsPlaced}
 use Rattle.sc_compiled_expressions.specs.Instructions.{HasMemory, InstrAt}
-use Rattle.sc_compiled_expressions.specs.Parts.{Family, Leading, Means, MeansAt}
+use Rattle.sc_compiled_expressions.specs.Parts.{Family, Leading, Means, MeansAt, Meets, followed, looking}
 use Rattle.sc_compiled_expressions.specs.Placing.{CodeAt}
-use Rattle.sc_compiled_expressions.specs.Standing.{Home, MeansIn, Stands, slots}
+use Rattle.sc_compiled_expressions.specs.Standing.{AreFixed, HasWord, Home, MeansIn, Stands, StaysAbove, slots}
 use Rattle.sc_compiled_expressions.specs.Waits.{WordWaits}
 use Rattle.sc_compiled_expressions.proofs.Loading.{registers_of}
-use Rattle.sc_compiled_expressions.proofs.Moving.{changing_means, no_lag, no_moves, with_fit}
+use Rattle.sc_compiled_expressions.proofs.Moving.{changing_means, fewer_moves, means_later, means_same, no_lag, no_moves, with_fit}
+use Rattle.sc_compiled_expressions.proofs.Coming.{comes_to_itself}
+use Rattle.sc_compiled_expressions.proofs.Joining.{leading_then, regroup}
 use Rattle.sc_compiled_expressions.proofs.Numbers.{index_zero}
 use Rattle.sc_compiled_expressions.proofs.Passing.{PassesIn}
 use Rattle.sc_compiled_expressions.proofs.Putting as putting
-use Rattle.sc_compiled_expressions.proofs.Standing.{has_code, placed_same}
+use Rattle.sc_compiled_expressions.proofs.Standing.{has_code, placed_same, stays_above_then}
 use Rattle.sc_compiled_expressions.proofs.Straight.{has_back, has_front, near_next}
 use Rattle.sc_compiled_bodies.specs.Exits.{Ended, Left, Stays, left_none, within}
-use Rattle.sc_compiled_bodies.specs.Procedures.{GivesNothing, IsProcedure, body_at, body_code, gives_nothing, home_of, text_of}
+use Rattle.sc_compiled_bodies.specs.Procedures.{GivesBack, IsProcedure, body_at, body_code, gives_back, home_of, last_stage, text_of}
 use Rattle.sc_compiled_bodies.proofs.Begun as begun
 use Rattle.sc_compiled_bodies.proofs.Begun.{none_slotted}
 use Rattle.sc_compiled_bodies.proofs.Ends.{entry_asked, near_sum, stub_leads}
@@ -67,7 +73,8 @@ use Rattle.sc_compiled_bodies.proofs.Fallen as fallen
 use Rattle.sc_compiled_bodies.proofs.Meaning as meaning
 use Rattle.sc_compiled_bodies.proofs.Meaning.{left_leads}
 use Rattle.sc_compiled_bodies.proofs.Outs.{statement_passes}
-use Rattle.sc_compiled_bodies.proofs.Returning.{both}
+use Rattle.sc_compiled_bodies.proofs.Returning as leaving
+use Rattle.sc_compiled_bodies.proofs.Returning.{both, given_now, kept_if}
 use Rattle.sc_compiled_bodies.proofs.Taking.{frame_goes}
 use Rattle.sc_compiled_bodies.proofs.Texts.{before_is, entry, place_kept, text_is, whole}
 
@@ -80,12 +87,20 @@ before p k lt = omega (arith, lt)
 not_less : (n m : ℕ) → nat_lt n m ≡ false → m ≤ n
 not_less n m e = grind (arith, nat_tests, e)
 
-abbrev back : Word
-back = plain return_address
+not_same : (n m : ℕ) → m < n → (n == m) ≡ false
+not_same n m lt = grind (arith, nat_tests, lt)
 
-module _ (s : Stage) (later : s.later ≡ []) (key : Key) (xs : List Value) (e : IsProcedure s.look (texts_of s.past) s.image s.places key) (bound : ℕ → ℕ) (looks : LooksOn bound) (v : World) (late : since s.past ≤ v.count) (callers : List Caller) (below : List Lower)
-    (d : Calls) (u : World) (there : d.regs.pc ≡ stub_address e.number) (are : AreRegisters d.regs.words) (sp : register d.regs 2 ≡ plain (stack_top u)) (ra : register d.regs 1 ≡ back)
-    (lower : d.lower ≡ InBodies callers (stack_top u) (length u.frames) ∷ below) (fit : IsFit (texts_of s.past) s.image s.places d.lower u) (like : Like u v) where
+is_same : (n m : ℕ) → n ≡ m → (n == m) ≡ true
+is_same n m e = grind (arith, nat_tests, e)
+
+top_back : (used cost foot : ℕ) → foot ≡ 0x20000000 - used → 0x1F000000 ≤ foot → foot + cost ≤ 0x20000000 → 0x20000000 - (used - cost) ≡ foot + cost
+top_back used cost foot is low high = omega (arith, is, low, high)
+
+module _ (s : Stage) (later : s.later ≡ []) (key : Key) (xs : List Value) (e : IsProcedure s key) (most : ℕ) (calls : (k : Key) → HasWord (text_of e.fun) (Call (Named k)) → ReturnsFrom s most k)
+    (bound : ℕ → ℕ) (looks : LooksOn bound) (v : World) (late : since s.past ≤ v.count)
+    (d : Calls) (u : World) (there : d.regs.pc ≡ stub_address e.number) (are : AreRegisters d.regs.words) (sp : register d.regs 2 ≡ plain (stack_top u)) (back : ℕ) (ra : register d.regs 1 ≡ plain back) (near_back : back < 2 ^ 32) (even_back : back / 2 * 2 ≡ back)
+    (fit : IsFit (texts_of s.past) s.image s.places d.lower u) (like : Like u v) (rest : Answer → World → Family Answer) (on_to : (a : Answer) (o : World) → Leading o (rest a o))
+    (count : ℕ) (enough : count ≤ suc most) (onwards : (t : Stage) (a : Answer) (o : World) (d2 : Calls) (y : World) → Came d u v s t a o d2 y → Means t count d2 y o (rest a o)) where
   abbrev cost : ℕ
   cost = e.fun.cost
 
@@ -96,25 +111,56 @@ module _ (s : Stage) (later : s.later ≡ []) (key : Key) (xs : List Value) (e :
   top = stack_top u
 
   abbrev home : Home
-  home = home_of s.look e.text e.fun e.autos e.place.start
+  home = home_of s e.text e.fun e.autos e.place.start
+
+  -- the call, and what comes behind it
+  abbrev call_alone : Family Answer
+  call_alone = λ h m. call (bound m) h key xs v
 
   abbrev r : Family Answer
-  r = λ h m. call (bound m) h key xs v
+  r = followed call_alone rest
 
   leads : Leading v r
-  leads = λ h m. call_leads (bound m) h key xs v
+  leads = leading_then v call_alone rest (λ h m. call_leads (bound m) h key xs v) on_to
+
+  -- the entry has taken a step of how deep the meaning looks
+  abbrev rest_less : Answer → World → Family Answer
+  rest_less a o = looking s.look.step (rest a o)
+
+  on_to_less : (a : Answer) (o : World) → Leading o (rest_less a o)
+  on_to_less a o = λ h m. on_to a o h (s.look.step + m)
 
   abbrev inside : World
   inside = meaning.inside s key xs e bound looks v late
 
+  abbrev leaves_alone : Way → World → Family Answer
+  leaves_alone way o = λ h m. left h [] cost way o
+
   abbrev leaves : Way → World → Family Answer
-  leaves way u = λ h m. left h [] cost way u
+  leaves way o = followed (leaves_alone way o) rest_less
+
+  leaves_lead : (way : Way) (o : World) → Leading o (leaves way o)
+  leaves_lead way o = leading_then o (leaves_alone way o) rest_less (left_leads cost way o) on_to_less
+
+  abbrev less : ℕ → ℕ
+  less = meaning.less s key xs e bound looks v late
+
+  abbrev does : Family Way
+  does = λ h m. exec (less m) h home.env e.fun.body inside
 
   abbrev closing : Family Answer
-  closing = meaning.closing s key xs e bound looks v late
+  closing = followed does leaves
 
   closing_leads : Leading inside closing
-  closing_leads = meaning.closing_leads s key xs e bound looks v late
+  closing_leads = leading_then inside does leaves (λ h m. exec_leads (less m) h home.env e.fun.body inside) leaves_lead
+
+  is_begun : nat_lt v.stack (v.used + cost) ≡ false → (h : History) → Live s.past inside h → (m : ℕ) → r h (s.look.step + m) ≡ closing h m
+  is_begun room h l m =
+      ap (λ o. and_then o (λ a x. rest a x h (s.look.step + m))) (meaning.is_begun s key xs e bound looks v late room h l m)
+      ∙ regroup (does h m) (λ way x. leaves_alone way x h m) (λ a x. rest a x h (s.look.step + m))
+
+  is_over : nat_lt v.stack (v.used + cost) ≡ true → (h : History) → Live s.past v h → (m : ℕ) → r h (s.look.step + m) ≡ Over (StackFull key v)
+  is_over full h l m = ap (λ o. and_then o (λ a x. rest a x h (s.look.step + m))) (meaning.is_over s key xs e bound looks v late full h l m)
 
   abbrev in_u : World
   in_u = entering.behind s key e.text e.fun e.place e.found e.keyed e.slots e.costs u
@@ -230,7 +276,7 @@ module _ (s : Stage) (later : s.later ≡ []) (key : Key) (xs : List Value) (e :
 
     -- ---- the place of return is kept
 
-    module _ (n : ℕ) (h : Words) (h0 : h 0 ≡ plain 0) (h1 : h 1 ≡ back) (h2 : h 2 ≡ plain (top - cost)) (zs : List Word) (file : IsFile zs h) where
+    module _ (n : ℕ) (le : n ≤ count) (h : Words) (h0 : h 0 ≡ plain 0) (h1 : h 1 ≡ plain back) (h2 : h 2 ≡ plain (top - cost)) (zs : List Word) (file : IsFile zs h) where
       abbrev c3 : Calls
       c3 = with_registers (record { pc = pc2; words = zs }) d
 
@@ -243,7 +289,7 @@ module _ (s : Stage) (later : s.later ≡ []) (key : Key) (xs : List Value) (e :
       base_is : register c3.regs 2 ≡ plain (top - cost)
       base_is = file.each 2 (omega arith) ∙ h2
 
-      word_is : register c3.regs 1 ≡ back
+      word_is : register c3.regs 1 ≡ plain back
       word_is = file.each 1 (omega arith) ∙ h1
 
       stands3 : Stands home s c3 in_u inside
@@ -256,25 +302,25 @@ module _ (s : Stage) (later : s.later ≡ []) (key : Key) (xs : List Value) (e :
           let high = stands3.frame.high in
           ap (λ k. sum k (bits_of (pos (cost - 4)))) f ∙ near_sum (foot in_u) (cost - 4) (omega (arith, high, l))
 
-      means3 : MeansIn in_u (register c3.regs 1) (Number return_address)
+      means3 : MeansIn in_u (register c3.regs 1) (Number back)
       means3 =
-          let m : MeansIn in_u back (Number return_address) = record { stands = (refl, refl); wide = omega arith; within = tt } in
-          subst (λ (z : Word). MeansIn in_u z (Number return_address)) (sym word_is) m
+          let m : MeansIn in_u (plain back) (Number back) = record { stands = (refl, refl); wide = near_back; within = tt } in
+          subst (λ (z : Word). MeansIn in_u z (Number back)) (sym word_is) m
 
       abbrev x : World
-      x = putting.behind home n s c3 in_u inside stands3 1 2 (pos (cost - 4)) (cost - 4) (Number return_address) instr address fours fits under means3
+      x = putting.behind home n s c3 in_u inside stands3 1 2 (pos (cost - 4)) (cost - 4) (Number back) instr address fours fits under means3
 
       abbrev next : Registers
-      next = putting.next home n s c3 in_u inside stands3 1 2 (pos (cost - 4)) (cost - 4) (Number return_address) instr address fours fits under means3
+      next = putting.next home n s c3 in_u inside stands3 1 2 (pos (cost - 4)) (cost - 4) (Number back) instr address fours fits under means3
 
       abbrev c4 : Calls
       c4 = with_registers next c3
 
       stands4 : Stands home s c4 x inside
-      stands4 = putting.stands_behind home n s c3 in_u inside stands3 1 2 (pos (cost - 4)) (cost - 4) (Number return_address) instr address fours fits under means3
+      stands4 = putting.stands_behind home n s c3 in_u inside stands3 1 2 (pos (cost - 4)) (cost - 4) (Number back) instr address fours fits under means3
 
-      waits4 : WordWaits x (foot x + (cost - 4)) back
-      waits4 = subst (λ z. WordWaits x (foot x + (cost - 4)) z) word_is (putting.waits_there home n s c3 in_u inside stands3 1 2 (pos (cost - 4)) (cost - 4) (Number return_address) instr address fours fits under means3)
+      waits4 : WordWaits x (foot x + (cost - 4)) (plain back)
+      waits4 = subst (λ z. WordWaits x (foot x + (cost - 4)) z) word_is (putting.waits_there home n s c3 in_u inside stands3 1 2 (pos (cost - 4)) (cost - 4) (Number back) instr address fours fits under means3)
 
       pc4 : c4.regs.pc ≡ pc3
       pc4 = near_next pc2 instr.near
@@ -284,12 +330,12 @@ module _ (s : Stage) (later : s.later ≡ []) (key : Key) (xs : List Value) (e :
 
       -- where the body has ended
       module _ (t : Stage) (d2 : Calls) (y : World) (stays : Stays home c4 x d2 y) where
-        waits_on : WordWaits y (foot y + (cost - 4)) back
+        waits_on : WordWaits y (foot y + (cost - 4)) (plain back)
         waits_on k lt =
             let old = waits4 k lt in
             let same = stays.foot in
             let new = stays.bytes (foot x + (cost - 4) + k) (omega arith) old.0 in
-            subst (λ (sp : ℕ). IsBareAt y (sp + (cost - 4) + k) × (stored_in y.beside.memory (sp + (cost - 4) + k) ≡ slice_get (cells_of 4 back) k)) (sym same) (new.0, new.1 ∙ old.1)
+            subst (λ (sp : ℕ). IsBareAt y (sp + (cost - 4) + k) × (stored_in y.beside.memory (sp + (cost - 4) + k) ≡ slice_get (cells_of 4 (plain back)) k)) (sym same) (new.0, new.1 ∙ old.1)
 
         top_now : foot y + cost ≡ top
         top_now = let same = stays.foot in let first = stands3.sp in let is = base_is in let f : foot x ≡ foot in_u = refl in let g : foot in_u ≡ top - cost = ap (λ (z : Word). z.bits) (sym first ∙ is) in let b = sum_back in omega (arith, same, f, g, b)
@@ -297,51 +343,132 @@ module _ (s : Stage) (later : s.later ≡ []) (key : Key) (xs : List Value) (e :
         deep_now : length (outer y.frames) ≡ length u.frames
         deep_now = ap length stays.callers
 
-        falls_on : (extra : List Born) (b o : World) (stands : Stands (within home extra) t d2 y b) → Left extra b o → CodeAt t.image stands.value d2.regs.pc behind_body → (way : Way) → gives_nothing way ≡ true → Means t n d2 y b (leaves way o)
-        falls_on extra b o stands gone has way nothing =
-            fallen.falls s.look e.text e.fun e.autos e.place.start e.none e.least e.even extra t d2 y b o stands gone has waits_on way nothing callers (length u.frames) below top (stays.lower ∙ lower) top_now deep_now n
+        -- at the caller
+        module _ (extra : List Born) (b o : World) (stands : Stands (within home extra) t d2 y b) (gone : Left extra b o) (way : Way) (word : IsResultIn y (answer_of way) (register d2.regs 10)) where
+          abbrev given : Answer
+          given = answer_of way
 
-      by_way : (t : Stage) (way : Way) (o b : World) (d2 : Calls) (y : World) → Ended home nowhere end c4 x t way o b d2 y → gives_nothing way ≡ true → Means t n d2 y b (leaves way o)
-      by_way t Normal o b d2 y p nothing =
-          subst (λ z. Means t n d2 y z (leaves Normal o)) (sym p.here) (falls_on t d2 y p.stays [] o o p.stands (left_none o) (code_end t d2 y o p.stands p.there) Normal nothing)
-      by_way t Broke o b d2 y p nothing = absurd (cc (nothing))
-      by_way t Continued o b d2 y p nothing = absurd (cc (nothing))
-      by_way t (Jumped k) o b d2 y p nothing = absurd (cc (nothing))
-      by_way t (Returned Nothing) o b d2 y p nothing = falls_on t d2 y p.stays p.extra b o p.stands p.left (has_code (within home p.extra) t d2 y b p.stands d2.regs.pc behind_body (placed_in p.extra d2.regs.pc behind_body p.placed)) (Returned Nothing) nothing
-      by_way t (Returned (Plain z)) o b d2 y p nothing = absurd (cc (nothing))
-      by_way t (Returned (Place z)) o b d2 y p nothing = absurd (cc (nothing))
-      by_way t (Returned (Part z k)) o b d2 y p nothing = absurd (cc (nothing))
+          abbrev behind : World
+          behind = left_by cost y
 
-      abbrev less : ℕ → ℕ
-      less = meaning.less s key xs e bound looks v late
+          abbrev final : World
+          final = left_by cost o
 
-      ends_so : (o : Outcome Way) → GivesNothing o → PassesIn (λ way z. gives_nothing way) o
+          abbrev d3 : List Word → Calls
+          d3 zs = with_registers (record { pc = back; words = zs }) (with_given (given_now given d2 behind) d2)
+
+          given_is : given_now given d2 behind ≡ kept_if given (length u.frames == depth_of d.lower) d.given
+          given_is =
+              ap (λ k. kept_if given (k == depth_of d2.lower) d2.given) deep_now ∙ ap (λ ls. kept_if given (length u.frames == depth_of ls) d2.given) stays.lower
+              ∙ ap (λ g. kept_if given (length u.frames == depth_of d.lower) g) stays.given
+
+          foot_first : foot x + cost ≡ top
+          foot_first = let first = stands3.sp in let is = base_is in let f : foot x ≡ foot in_u = refl in let g : foot in_u ≡ top - cost = ap (λ (z : Word). z.bits) (sym first ∙ is) in let b = sum_back in omega (arith, f, g, b)
+
+          first_objects : StaysAbove top u x
+          first_objects =
+              let put = putting.objects_behind home n s c3 in_u inside stands3 1 2 (pos (cost - 4)) (cost - 4) (Number back) instr address fours fits under means3 top in
+              record { lives = put.lives; only = put.only; area = put.area }
+
+          last_objects : StaysAbove top x behind
+          last_objects = let body = subst (λ k. StaysAbove k x y) foot_first stays.objects in record { lives = body.lives; only = body.only; area = body.area }
+
+          over_place : (p : ℕ) → top ≤ p → foot in_u + (cost - 4) + 4 ≤ p
+          over_place p le = let f : foot x ≡ foot in_u = refl in let full = foot_first in let l = e.least in omega (arith, f, full, l, le)
+
+          in_frame : (p : ℕ) → top ≤ p → foot x + (cost - 4) ≤ p
+          in_frame p le = let full = foot_first in omega (arith, full, le)
+
+          same_stage : t ≡ s
+          same_stage = comes_to_itself s t later stands.comes
+
+          -- the worlds have the same objects and functions
+          same_word : (a : Answer) → IsResultIn y a (register d2.regs 10) → IsResultIn behind a (register d2.regs 10)
+          same_word a p = p
+
+          came : (zs : List Word) → AreRegisters zs → slice_index_or zs 2 (plain 0) ≡ plain (foot y + cost) → slice_index_or zs 10 (plain 0) ≡ register d2.regs 10 → IsFit (texts_of t.past) t.image t.places (d3 zs).lower behind → Came d u v s t given final (d3 zs) behind
+          came zs are3 is a0 fit3 = record {
+            comes = stands.comes;
+            there = sym (ap (λ (z : Word). z.bits) ra);
+            regs = are3;
+            sp = is ∙ ap plain top_now ∙ sym sp;
+            word = subst (λ z. IsResultIn behind given z) (sym a0) (same_word given word);
+            lower = stays.lower;
+            inner = λ lt. given_is ∙ ap (λ q. kept_if given q d.given) (not_same (length u.frames) (depth_of d.lower) lt);
+            outermost = λ deep. given_is ∙ ap (λ q. kept_if given q d.given) (is_same (length u.frames) (depth_of d.lower) deep);
+            words = λ z val m. stays.words z val (putting.words_behind home n s c3 in_u inside stands3 1 2 (pos (cost - 4)) (cost - 4) (Number back) instr address fours fits under means3 z val m);
+            bytes = λ p le bare.
+                let old = putting.other_byte home n s c3 in_u inside stands3 1 2 (pos (cost - 4)) (cost - 4) (Number back) instr address fours fits under means3 p (inr (over_place p le)) bare in
+                let new = stays.bytes p (in_frame p le) old.0 in
+                (new.0, new.1 ∙ old.1);
+            objects = stays_above_then top u x behind first_objects last_objects;
+            top = let low = stands.frame.low in let high = stands.frame.high in top_back y.used cost (foot y) refl low high ∙ top_now;
+            calls = stays.callers;
+            holds = record { memory = stands.frame.holds.memory; there = stands.frame.holds.there; words = stands.frame.holds.words };
+            stubs = stands.stubs;
+            alike = fallen.alike_final s e.text e.fun e.autos e.place.start e.none e.least e.even extra t d2 y b o stands gone back near_back even_back waits_on way rest_less on_to_less;
+            late = fallen.late_final s e.text e.fun e.autos e.place.start e.none e.least e.even extra t d2 y b o stands gone back near_back even_back waits_on way rest_less on_to_less;
+            forms = fallen.forms_final s e.text e.fun e.autos e.place.start e.none e.least e.even extra t d2 y b o stands gone back near_back even_back waits_on way rest_less on_to_less;
+            texts = λ h2 value code fixed.
+                let now : AreFixed value h2 t = subst (λ z. AreFixed value h2 z) (sym same_stage) fixed in
+                (value, subst (λ (z : Stage). CodeAt z.image value h2.base h2.text) (sym same_stage) code, now, now (d3 zs).lower behind fit3);
+          }
+
+          at_caller : (zs : List Word) → AreRegisters zs → slice_index_or zs 2 (plain 0) ≡ plain (foot y + cost) → slice_index_or zs 10 (plain 0) ≡ register d2.regs 10 → Means t n (d3 zs) behind final (rest_less given final)
+          at_caller zs are3 is a0 =
+              means_later t n s.look.step Executes (d3 zs) behind final (rest given final) (on_to given final)
+              (with_fit t n Executes (d3 zs) behind final (rest given final)
+              (λ fit3 like3. fewer_moves t count n Executes (d3 zs) behind final (rest given final) le (onwards t given final (d3 zs) behind (came zs are3 is a0 fit3))))
+
+          -- behind a body that gives no value, and one that gives one
+          falls_on : answer_of way ≡ Nothing → CodeAt t.image stands.value d2.regs.pc behind_body → Means t n d2 y b (leaves way o)
+          falls_on none has =
+              fallen.falls s e.text e.fun e.autos e.place.start e.none e.least e.even extra t d2 y b o stands gone back near_back even_back waits_on way rest_less on_to_less none has n at_caller
+
+          gives_on : (z : Value) → answer_of way ≡ Plain z → MeansIn y (register d2.regs 10) z → CodeAt t.image stands.value d2.regs.pc (block_service 3 0 ++ epilogue cost) → Means t n d2 y b (leaves way o)
+          gives_on z is means has =
+              fallen.gives s e.text e.fun e.autos e.place.start e.none e.least e.even extra t d2 y b o stands gone back near_back even_back waits_on way rest_less on_to_less z is means has n at_caller
+
+      by_way : (t : Stage) (way : Way) (o b : World) (d2 : Calls) (y : World) → Ended home nowhere end c4 x t way o b d2 y → gives_back way ≡ true → Means t n d2 y b (leaves way o)
+      by_way t Normal o b d2 y p so = subst (λ z. Means t n d2 y z (leaves Normal o)) (sym p.here) (falls_on t d2 y p.stays [] o o p.stands (left_none o) Normal tt refl (code_end t d2 y o p.stands p.there))
+      by_way t Broke o b d2 y p so = absurd (cc (so))
+      by_way t Continued o b d2 y p so = absurd (cc (so))
+      by_way t (Jumped k) o b d2 y p so = absurd (cc (so))
+      by_way t (Returned Nothing) o b d2 y p so = falls_on t d2 y p.stays p.extra b o p.stands p.left (Returned Nothing) tt refl (has_code (within home p.extra) t d2 y b p.stands d2.regs.pc behind_body (placed_in p.extra d2.regs.pc behind_body p.placed))
+      by_way t (Returned (Plain z)) o b d2 y p so =
+          let q = p.0 in
+          let given_code : Code = block_service 3 0 ++ epilogue cost in
+          gives_on t d2 y q.stays q.extra b o q.stands q.left (Returned (Plain z)) p.1 z refl p.1 (has_code (within home q.extra) t d2 y b q.stands d2.regs.pc given_code (placed_in q.extra d2.regs.pc given_code q.placed))
+      by_way t (Returned (Place z)) o b d2 y p so = absurd (cc (so))
+      by_way t (Returned (Part z k)) o b d2 y p so = absurd (cc (so))
+
+      ends_so : (o : Outcome Way) → GivesBack o → PassesIn (λ way z. gives_back way) o
       ends_so (Done way z) p = p
       ends_so (Over z) p = tt
 
       -- the body
       done : Means s n c4 x inside closing
       done =
-          statement_passes home n e.deep e.fun.body (body_at e.fun) nowhere (e.body n) less (meaning.less_deep s key xs e bound looks v late) s c4 x inside (let m = before_long in let p = pc4 in omega (arith, m, p))
-          (placed_same home pc3 c4.regs.pc body body (sym pc4) refl placed_body) stands4 (λ way z. gives_nothing way) (λ h m. ends_so (exec (less m) h home.env e.fun.body inside) (e.ends (less m) h inside))
-          leaves (λ way o. left_leads cost way o) n (omega arith) (λ t way o b d2 y p. by_way t way o b d2 y p.0 p.1)
+          statement_passes home (suc most) e.deep e.fun.body (body_at e.fun) nowhere (e.body most calls) less (meaning.less_deep s key xs e bound looks v late) s c4 x inside (let m = before_long in let p = pc4 in omega (arith, m, p))
+          (placed_same home pc3 c4.regs.pc body body (sym pc4) refl placed_body) stands4 (λ way z. gives_back way) (λ h m. ends_so (exec (less m) h home.env e.fun.body inside) (e.ends (less m) h inside))
+          leaves leaves_lead n (omega (arith, le, enough)) (λ t way o b d2 y p. by_way t way o b d2 y p.0 p.1)
 
       stored : Means s n c3 in_u inside closing
       stored =
           changing_means s c3 next in_u x inside inside closing closing
-          (putting.way home n s c3 in_u inside stands3 1 2 (pos (cost - 4)) (cost - 4) (Number return_address) instr address fours fits under means3) closing_leads closing_leads (here inside)
-          (putting.alike_behind home n s c3 in_u inside stands3 1 2 (pos (cost - 4)) (cost - 4) (Number return_address) instr address fours fits under means3)
-          (putting.waiting_kept home n s c3 in_u inside stands3 1 2 (pos (cost - 4)) (cost - 4) (Number return_address) instr address fours fits under means3 c3.lower stands3.above) (λ h l m. refl) n done
+          (putting.way home n s c3 in_u inside stands3 1 2 (pos (cost - 4)) (cost - 4) (Number back) instr address fours fits under means3) closing_leads closing_leads (here inside)
+          (putting.alike_behind home n s c3 in_u inside stands3 1 2 (pos (cost - 4)) (cost - 4) (Number back) instr address fours fits under means3)
+          (putting.waiting_kept home n s c3 in_u inside stands3 1 2 (pos (cost - 4)) (cost - 4) (Number back) instr address fours fits under means3 c3.lower stands3.above) (λ h l m. refl) n done
 
     -- ---- the frame is taken
 
-    framed : (n : ℕ) (g : Words) → g 0 ≡ plain 0 → g 1 ≡ back → g 2 ≡ plain top → (zs : List Word) → IsFile zs g → Means s n (with_registers (record { pc = start + 12; words = zs }) d) in_u inside closing
-    framed n g g0 g1 g2 zs file =
+    framed : (n : ℕ) → n ≤ count → (g : Words) → g 0 ≡ plain 0 → g 1 ≡ plain back → g 2 ≡ plain top → (zs : List Word) → IsFile zs g → Means s n (with_registers (record { pc = start + 12; words = zs }) d) in_u inside closing
+    framed n le g g0 g1 g2 zs file =
         let fits = room_here room in
         let stack = small in
         frame_goes s e.value n d in_u inside closing memory_in closing_leads cost (start + 12) top g
         (has_front s.image e.value (start + 12) (frame_taken cost) behind_frame code2) g0 g2 (omega (arith, fits, stack)) (omega (arith, stack))
-        (λ h h0 h1 h2 hs zs2 file2. stored n h h0 (h1 ∙ g1) h2 zs2 file2) zs file
+        (λ h h0 h1 h2 hs zs2 file2. stored n le h h0 (h1 ∙ g1) h2 zs2 file2) zs file
 
   -- ---- the call is entered
 
@@ -376,19 +503,47 @@ module _ (s : Stage) (later : s.later ≡ []) (key : Key) (xs : List Value) (e :
       block : ((register c2.regs 6).bits == 0) ≡ true
       block = ap (λ (z : Word). z.bits == 0) (file2.each 6 (omega arith))
 
-      entered : (n : ℕ) → MeansAt s n (Serves 2) c2 u v r
-      entered zero = no_moves s (Serves 2) c2 u v r
-      entered (suc n) =
+      entered : (n : ℕ) → n ≤ count → MeansAt s n (Serves 2) c2 u v r
+      entered zero le = no_moves s (Serves 2) c2 u v r
+      entered (suc n) le =
           entering.entry_means s key e.text e.fun e.place e.found e.keyed e.slots e.costs later n c2 u v r closing leads closing_leads on_stack text first block
-          (λ room h l m. meaning.is_begun s key xs e bound looks v late room h l m)
-          (λ full h l m. meaning.is_over s key xs e bound looks v late full h l m)
-          (λ room. framed room n g (file.each 0 (omega arith) ∙ zero_here) (file.each 1 (omega arith) ∙ ra) (file.each 2 (omega arith) ∙ sp) zs2 file2)
+          is_begun is_over
+          (λ room. framed room n (omega (arith, le)) g (file.each 0 (omega arith) ∙ zero_here) (file.each 1 (omega arith) ∙ ra) (file.each 2 (omega arith) ∙ sp) zs2 file2)
 
   -- from the stub on
-  pub from_stub : (n : ℕ) → Means s n d u v r
-  from_stub n =
-      stub_leads s n e.number start d u v r memory_u e.stub are there leads
-      (λ zs file. entry_asked s e.value n (c1 zs file) u v r memory_u (stub_registers zs file) leads code1 (λ zs2 file2. entered zs file zs2 file2 n))
+  pub from_stub : Means s count d u v r
+  from_stub =
+      stub_leads s count e.number start d u v r memory_u e.stub are there leads
+      (λ zs file. entry_asked s e.value count (c1 zs file) u v r memory_u (stub_registers zs file) leads code1 (λ zs2 file2. entered zs file zs2 file2 count (omega arith)))
+
+-- ---- it returns to compiled code
+
+-- the number by which a function is called is that of its stub
+its_number : (s : Stage) (key : Key) (e : IsProcedure s key) (lower : List Lower) (w : World) → IsFit (texts_of s.past) s.image s.places lower w → (n : ℕ) → slice_get w.beside.functions n ≡ Some key → stub_address n ≡ stub_address e.number
+its_number s key e lower w fit n is =
+    let own = fit.stubs key (stub_address e.number) e.valued in
+    ap stub_address (fit.once n own.0 key is own.1) ∙ sym own.2
+
+pub procedure_returns : (s : Stage) → s.later ≡ [] → (key : Key) (e : IsProcedure s key) (most : ℕ) → ((k : Key) → HasWord (text_of e.fun) (Call (Named k)) → ReturnsFrom s most k) → ReturnsFrom s (suc most) key
+procedure_returns s later key e most calls = λ t xs c w v comes called bound looks.
+    subst (λ z. Called z key xs c w v → Meets (suc most) z (λ t a u d y. Came c w v z t a u d y) c w v (λ h m. call (bound m) h key xs v)) (sym (comes_to_itself s t later comes))
+    (λ called. λ rest on_to n le after.
+    with_fit s n Executes c w v (followed (λ h m. call (bound m) h key xs v) rest)
+    (λ fit like. from_stub s later key xs e most calls bound looks v called.late c w (called.there ∙ its_number s key e c.lower w fit called.number called.numbered) called.regs called.sp (register c.regs 1).bits called.back called.near called.even
+    fit like rest on_to n le after))
+    called
+
+no_move : (s : Stage) (n : ℕ) (c : Calls) (w v : World) (r : Family Answer) → n ≤ 0 → Means s n c w v r
+no_move s zero c w v r le = no_moves s Executes c w v r
+no_move s (suc n) c w v r le = absurd (omega (arith, le))
+
+abbrev AreProcedures : Stage → Type 0
+AreProcedures s = (key : Key) → is_code (callee_of (texts_of s.past) key) ≡ true → IsProcedure s key
+
+-- each of them returns, whatever the others do that it calls
+pub procedures_return : (s : Stage) → s.later ≡ [] → AreProcedures s → (most : ℕ) (key : Key) → is_code (callee_of (texts_of s.past) key) ≡ true → ReturnsFrom s most key
+procedures_return s later all zero key compiled = λ t xs c w v comes called bound looks. λ rest on_to n le after. no_move t n c w v (followed (λ h m. call (bound m) h key xs v) rest) le
+procedures_return s later all (suc most) key compiled = procedure_returns s later key (all key compiled) most (λ k has. procedures_return s later all most k ((all key compiled).callees k has))
 
 -- ---- the premise
 
@@ -399,9 +554,24 @@ value_or_none d (Some n) = n
 not_one : ◌≢◌ {A = ℕ} 2 1
 not_one e = omega (arith, e)
 
-pub procedures_mean : (s : Stage) → s.later ≡ [] → ((key : Key) → is_code (callee_of (texts_of s.past) key) ≡ true → IsProcedure s.look (texts_of s.past) s.image s.places key) → CallsMean s
+abbrev answered : Answer → World → Family Answer
+answered a u = λ h m. Done a u
+
+nothing_more : (o : Outcome Answer) → o ≡ and_then o (λ a u. Done a u)
+nothing_more (Done a u) = refl
+nothing_more (Over e) = refl
+
+-- back at the interpreted calls that wait
+at_bodies : (s : Stage) (n : ℕ) (callers : List Caller) (below : List Lower) (d : Calls) (u v : World) → register d.regs 1 ≡ plain return_address → register d.regs 2 ≡ plain (stack_top u) → d.lower ≡ InBodies callers (stack_top u) (length u.frames) ∷ below
+    → (t : Stage) (a : Answer) (o : World) (c : Calls) (y : World) → Came d u v s t a o c y → Means t n c y o (answered a o)
+at_bodies s zero callers below d u v ra sp lower t a o c y ret = no_moves t Executes c y o (answered a o)
+at_bodies s (suc n) callers below d u v ra sp lower t a o c y ret =
+    leaving.return_means t n c y o (answered a o) a (λ h m. here o) (ret.there ∙ ap (λ (z : Word). z.bits) ra) (ret.outermost (sym (ap depth_of lower))) callers (stack_top u) (length u.frames) below (ret.lower ∙ lower)
+    (ap (λ (z : Word). z.bits) (ret.sp ∙ sp)) (ap length ret.calls) (λ h l m. refl)
+
+pub procedures_mean : (s : Stage) → s.later ≡ [] → AreProcedures s → CallsMean s
 procedures_mean s later all n key xs c d w u v next code fit0 like0 x are like late q given =
-    let e : IsProcedure s.look (texts_of s.past) s.image s.places key = all key code in
+    let e : IsProcedure s key = all key code in
     let stub : x.stub ≡ stub_address e.number = ap (value_or_none x.stub) (sym x.stands ∙ e.valued) in
     let words : d.regs.words ≡ slice_set (slice_set x.regs.words 2 (plain (stack_top u))) 1 (plain return_address) = ap (λ (y : Calls). y.regs.words) x.calls in
     let long = ap length words ∙ length-set (slice_set x.regs.words 2 (plain (stack_top u))) 1 (plain return_address) in
@@ -410,16 +580,18 @@ procedures_mean s later all n key xs c d w u v next code fit0 like0 x are like l
     let sp : register d.regs 2 ≡ plain (stack_top u) =
     ap (λ ws. slice_index_or ws 2 (plain 0)) words ∙ get_or-set_other (slice_set x.regs.words 2 (plain (stack_top u))) 1 2 (plain return_address) (plain 0) not_one
     ∙ get_or-set_same x.regs.words 2 (plain (stack_top u)) (plain 0) (omega (arith, longer, count)) in
-    let ra : register d.regs 1 ≡ back =
+    let ra : register d.regs 1 ≡ plain return_address =
     ap (λ ws. slice_index_or ws 1 (plain 0)) words ∙ get_or-set_same (slice_set x.regs.words 2 (plain (stack_top u))) 1 (plain return_address) (plain 0) (omega (arith, long, count)) in
+    let lower : d.lower ≡ InBodies c.callers (stack_top u) (length u.frames) ∷ c.lower = ap (λ (y : Calls). y.lower) x.calls in
     subst (λ k. CodeMeans n s k d u v q) (sym x.goes)
-    (with_fit s n Executes d u v (λ h m. call m h key xs v)
-    (λ fit alike. from_stub s later key xs e (λ m. m) (λ m. omega arith) v late c.callers c.lower d u (ap (λ (y : Calls). y.regs.pc) x.calls ∙ stub) are sp ra (ap (λ (y : Calls). y.lower) x.calls) fit alike n)
+    (means_same s n Executes d u v (λ h m. call m h key xs v) (followed (λ h m. call m h key xs v) answered) (λ h l m. nothing_more (call m h key xs v))
+    (with_fit s n Executes d u v (followed (λ h m. call m h key xs v) answered)
+    (λ fit alike. from_stub s later key xs e n (λ k has. procedures_return s later all n k (e.callees k has)) (λ m. m) (λ m. omega arith) v late d u (ap (λ (y : Calls). y.regs.pc) x.calls ∙ stub) are sp return_address ra (omega arith) refl
+    fit alike answered (λ a o h m. here o) n (omega arith) (at_bodies s n c.callers c.lower d u v ra sp lower)))
     n (omega arith) v (no_lag v) (λ h m. call m h key xs v) (λ h m. call_leads m h key xs v) (λ h l m. refl) q given)
 
-pub procedures_right : (look : Look) (b : Build) → ((key : Key) → is_code (callee_of b.texts key) ≡ true → IsProcedure look b.texts b.image b.places key) → CompiledTextsAreRight look (b ∷ [])
+pub procedures_right : (look : Look) (b : Build) → ((p : Past) → texts_of p ≡ b.texts → (key : Key) → is_code (callee_of b.texts key) ≡ true → IsProcedure (last_stage look b p) key) → CompiledTextsAreRight look (b ∷ [])
 procedures_right look b all = (
-  λ p present. procedures_mean (record { look = look; past = p; image = b.image; places = b.places; later = [] }) refl
-      (λ key code. subst (λ ts. IsProcedure look ts b.image b.places key) (sym present) (all key (subst (λ ts. is_code (callee_of ts key) ≡ true) present code))),
+  λ p present. procedures_mean (last_stage look b p) refl (λ key code. all p present key (subst (λ ts. is_code (callee_of ts key) ≡ true) present code)),
   tt,
 )

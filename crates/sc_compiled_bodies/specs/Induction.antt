@@ -34,4 +34,4 @@ StatementsGive IsFormedAt most deep = (home : Home) (around : List ℕ) (st : Co
 
 -- One step of the induction on moves: where calls return within so many moves, expressions, statements and with them calls do within one more.
 abbrev pub ExpressionStep : Home → List ℕ → ℕ → ℕ → Type 0
-ExpressionStep home around most deep = CallsReturn home.look most → ExpressionsGive home around (suc most) deep → ExpressionsGive home around (suc most) (suc deep)
+ExpressionStep home around most deep = CallsReturn home.from most → ExpressionsGive home around (suc most) deep → ExpressionsGive home around (suc most) (suc deep)

@@ -10,3 +10,5 @@ pub mod Steps
 pub mod Storing
 pub mod Empty
 pub mod Small
+pub mod Caller
+pub mod Blocks

@@ -7,5 +7,5 @@ ghost use Rattle.sc_compiled_bodies.specs.Induction.{ExpressionStep, Expressions
 /// What holds of all trees of one depth if it holds of those that are less deep, and of calls that return sooner, holds of all trees.
 #[tactic(auto, using(crate::proofs::Trees::trees))]
 pub fn trees_by_their_depth()
-    ensures { (home : Home) (around : List ℕ) (most : ℕ) → ((deep : ℕ) → ExpressionStep home around most deep) → CallsReturn home.look most → (deep : ℕ) → ExpressionsGive home around (suc most) deep }
+    ensures { (home : Home) (around : List ℕ) (most : ℕ) → ((deep : ℕ) → ExpressionStep home around most deep) → CallsReturn home.from most → (deep : ℕ) → ExpressionsGive home around (suc most) deep }
 {}

@@ -28,9 +28,9 @@ use Rattle.sc_compiled_expressions.specs.Parts.{End, Family, Meets}
 use Rattle.sc_compiled_expressions.proofs.Joining.{behind_work, in_turn, same_part, weaker_end}
 use Rattle.sc_compiled_expressions.specs.Standing.{Home, Keeps, MeansIn, Stands, slots}
 use Rattle.sc_compiled_expressions.specs.Good.{Answered, GivesAnswer, GivesValue, IsDeeper, IsPlaced, Valued, code_of}
-use Rattle.sc_compiled_expressions.proofs.Standing.{keeps_then, placed_back, placed_front, placed_same, stands_worked}
+use Rattle.sc_compiled_expressions.proofs.Standing.{keeps_then, placed_back, placed_has, placed_front, placed_same, stands_worked}
 use Rattle.sc_compiled_expressions.proofs.Nodes.{family_opens, less, opened}
-use Rattle.sc_compiled_expressions.specs.Called.{CallsReturn, CameBack, HasArguments, HasNumber, FitsType}
+use Rattle.sc_compiled_expressions.specs.Called.{CameBack, FitsType, HasArguments, ReturnsFrom}
 use Rattle.sc_compiled_expressions.proofs.Calling.{called_leads, direct_call}
 
 -- ---- arguments
@@ -69,8 +69,8 @@ keeps_nearer home at small c w d y k = record {
   nearer a (inr le) = inr le
 
 module _ (home : Home) (most deep l lf lg : ℕ) (t tf tg : CType) (key : Key) (e f g : CoreExpr) (at : Spot) (is_f : out-CoreExpr f ≡ CoreExpr-F.Convert lf tf g) (is_g : out-CoreExpr g ≡ CoreExpr-F.Function lg tg key)
-    (decays : (w : World) → conversion (type_of g) tf (Place (FunctionAt key)) w ≡ Done (Plain (FunctionAt key)) w) (calm : at.depth ≡ 0) (fits : Fits (slots home) home.cost) (calls : CallsReturn home.look most)
-    (numbered : HasNumber home key) (typed : FitsType home (type_of f) key) where
+    (decays : (w : World) → conversion (type_of g) tf (Place (FunctionAt key)) w ≡ Done (Plain (FunctionAt key)) w) (calm : at.depth ≡ 0) (fits : Fits (slots home) home.cost) (calls : ReturnsFrom home.from most key)
+    (typed : FitsType home (type_of f) key) where
   abbrev pub call_words : Code
   call_words = Call (target.Named key) ∷ Word_of (Jalr ra ra (pos 0)) ∷ []
 
@@ -103,7 +103,7 @@ module _ (home : Home) (most deep l lf lg : ℕ) (t tf tg : CType) (key : Key) (
         → ((r : Stage) (a : Answer) (x : World) (d : Calls) (z : World) → CameBack home at (q.regs.pc + 8) q y r a x d z → E r a x d z)
         → Meets (suc most) t2 E q y u (λ h m. called h (call (bound m - 1) h) home.env.text (type_of f) (FunctionAt key) xs u)
     called_here E xs q y u t2 args stands placed ends =
-        let number = numbered t2 q y u stands in
+        let number = stands.targets.numbered key (placed_has home q.regs.pc (Call (target.Named key)) (Word_of (Jalr ra ra (pos 0)) ∷ []) placed) in
         weaker_end (suc most) t2 (CameBack home at (q.regs.pc + 8) q y) E q y u (λ h m. called h (call (bound m - 1) h) home.env.text (type_of f) (FunctionAt key) xs u) ends
         (direct_call home most (suc (suc deep)) key xs (type_of f) at calm fits calls (λ m. bound m - 1) deep_less t2 q y u args stands placed number.0 number.1 (typed t2 q y u stands))
 
@@ -149,11 +149,11 @@ module _ (home : Home) (most deep l lf lg : ℕ) (t tf tg : CType) (key : Key) (
       record { there = omega (arith, long, both, here, back); word = p2.word; stands = p2.stands; keeps = keeps_then home at c d k w y o (keeps_nearer home at small c w d y p.keeps) p2.keeps }))))))
 
 pub call_without : (home : Home) (most deep l lf lg : ℕ) (t tf tg : CType) (key : Key) (e f g : CoreExpr) (at : Spot) → out-CoreExpr e ≡ CoreExpr-F.Call l t f [] → out-CoreExpr f ≡ CoreExpr-F.Convert lf tf g → out-CoreExpr g ≡ CoreExpr-F.Function lg tg key
-    → ((w : World) → conversion (type_of g) tf (Place (FunctionAt key)) w ≡ Done (Plain (FunctionAt key)) w) → at.depth ≡ 0 → Fits (slots home) home.cost → CallsReturn home.look most → HasNumber home key → FitsType home (type_of f) key
+    → ((w : World) → conversion (type_of g) tf (Place (FunctionAt key)) w ≡ Done (Plain (FunctionAt key)) w) → at.depth ≡ 0 → Fits (slots home) home.cost → ReturnsFrom home.from most key → FitsType home (type_of f) key
     → code_of home e at ≡ Call (target.Named key) ∷ Word_of (Jalr ra ra (pos 0)) ∷ [] → GivesAnswer home (suc most) (suc (suc (suc deep))) e at
-call_without home most deep l lf lg t tf tg key e f g at is is_f is_g decays calm fits calls numbered typed code = call_none home most deep l lf lg t tf tg key e f g at is_f is_g decays calm fits calls numbered typed is code
+call_without home most deep l lf lg t tf tg key e f g at is is_f is_g decays calm fits calls typed code = call_none home most deep l lf lg t tf tg key e f g at is_f is_g decays calm fits calls typed is code
 
 pub call_with_one : (home : Home) (most deep l lf lg : ℕ) (t tf tg : CType) (key : Key) (e f g x : CoreExpr) (at : Spot) → out-CoreExpr e ≡ CoreExpr-F.Call l t f (x ∷ []) → out-CoreExpr f ≡ CoreExpr-F.Convert lf tf g → out-CoreExpr g ≡ CoreExpr-F.Function lg tg key
-    → ((w : World) → conversion (type_of g) tf (Place (FunctionAt key)) w ≡ Done (Plain (FunctionAt key)) w) → at.depth ≡ 0 → at.low + 4 < 2 ^ 32 → Fits (slots home) home.cost → CallsReturn home.look most → HasNumber home key → FitsType home (type_of f) key
+    → ((w : World) → conversion (type_of g) tf (Place (FunctionAt key)) w ≡ Done (Plain (FunctionAt key)) w) → at.depth ≡ 0 → at.low + 4 < 2 ^ 32 → Fits (slots home) home.cost → ReturnsFrom home.from most key → FitsType home (type_of f) key
     → code_of home e at ≡ code_of home x (behind at) ++ (Call (target.Named key) ∷ Word_of (Jalr ra ra (pos 0)) ∷ []) → GivesValue home (suc most) (suc (suc deep)) x (behind at) → GivesAnswer home (suc most) (suc (suc (suc deep))) e at
-call_with_one home most deep l lf lg t tf tg key e f g x at is is_f is_g decays calm small fits calls numbered typed code good = call_one home most deep l lf lg t tf tg key e f g at is_f is_g decays calm fits calls numbered typed x is code small good
+call_with_one home most deep l lf lg t tf tg key e f g x at is is_f is_g decays calm small fits calls typed code good = call_one home most deep l lf lg t tf tg key e f g at is_f is_g decays calm fits calls typed x is code small good

@@ -42,7 +42,7 @@ use Rattle.sc_compiled_expressions.proofs.Ways.{computes_one_way}
 use Rattle.sc_compiled_expressions.specs.Standing.{Home, Keeps, Stands, slots}
 use Rattle.sc_compiled_expressions.specs.Good.{IsDeeper, IsPlaced}
 use Rattle.sc_compiled_expressions.proofs.Standing.{first_at, keeps_then, keeps_with, memory_of, placed_has, stands_with, zero_stays}
-use Rattle.sc_compiled_expressions.specs.Called.{CallsReturn, CameBack, HasArguments, IsAtCall, LooksOn}
+use Rattle.sc_compiled_expressions.specs.Called.{CameBack, HasArguments, IsAtCall, LooksOn, ReturnsFrom}
 use Rattle.sc_compiled_expressions.proofs.Goes.{call_comes_back}
 
 -- ---- numbers
@@ -92,7 +92,7 @@ called_leads n h text ty key xs v =
     leads_then v (unless o (call_breach (FunctionAt key) v) (call_value (call n h) (FunctionAt key) xs) (pass GoesOut v)) (λ a u. finished a (pass ComesBack u)) (rule_leads o (call_breach (FunctionAt key) v) n h key xs v)
     (λ a u. on u (pass ComesBack u) (tick (pass ComesBack u)) (one_more ComesBack u) (one_more (Work 1) (pass ComesBack u)))
 
-module _ (home : Home) (most : ℕ) (key : Key) (xs : List Value) (ty : CType) (at : Spot) (calm : at.depth ≡ 0) (fits : Fits (slots home) home.cost) (calls : CallsReturn home.look most)
+module _ (home : Home) (most : ℕ) (key : Key) (xs : List Value) (ty : CType) (at : Spot) (calm : at.depth ≡ 0) (fits : Fits (slots home) home.cost) (calls : ReturnsFrom home.from most key)
     (deep : ℕ) (bound : ℕ → ℕ) (dp : IsDeeper deep bound) (s : Stage) (c : Calls) (w v : World) (args : HasArguments xs c w) (st : Stands home s c w v)
     (pl : IsPlaced home c.regs.pc (Call (target.Named key) ∷ Word_of (Jalr ra ra (pos 0)) ∷ [])) (number : ℕ) (numbered : slice_get w.beside.functions number ≡ Some key) where
   abbrev to : ℕ
@@ -140,11 +140,11 @@ module _ (home : Home) (most : ℕ) (key : Key) (xs : List Value) (ty : CType) (
       (ap (λ n. difference n c.regs.pc) to_is) (parts-add away (below to (2 ^ 32 - c.regs.pc))))
       ∙ even_stub number
 
-  back_is : (register second 1).bits ≡ c.regs.pc + 8
+  back_is : register second 1 ≡ plain (c.regs.pc + 8)
   back_is =
       let near = words_there.1.near in
       let pc = first_pc in
-      ap (λ (x : Word). x.bits) second_ra ∙ next_two c.regs.pc first.pc pc near
+      second_ra ∙ ap plain (next_two c.regs.pc first.pc pc near)
     where
       next_two : (a b : ℕ) → b ≡ a + 4 → a + 4 + 4 < 2 ^ 32 → (b + 4) % 2 ^ 32 ≡ a + 8
       next_two a b is near = omega (arith, is, near)
@@ -164,6 +164,7 @@ module _ (home : Home) (most : ℕ) (key : Key) (xs : List Value) (ty : CType) (
     numbered = numbered;
     there = second_pc;
     back = back_is;
+    near = let near = words_there.1.near in let pc = first_pc in omega (arith, near, pc);
     even = let even = words_there.0.even in even_back c.regs.pc even;
     inside = args.inside;
     arguments = λ k x e. let a = args.arguments k x e in (a.0, argument_same k ∙ a.1, a.2);
@@ -205,7 +206,7 @@ module _ (home : Home) (most : ℕ) (key : Key) (xs : List Value) (ty : CType) (
       (call_comes_back home most key xs ty (c.regs.pc + 8) at calm fits calls (λ m. bound (s.look.step + m)) looks s gone w v at_call stands_gone rule)))
 
 -- a call by name, that moves at least once before its function does
-pub direct_call : (home : Home) (most deep : ℕ) (key : Key) (xs : List Value) (ty : CType) (at : Spot) → at.depth ≡ 0 → Fits (slots home) home.cost → CallsReturn home.look most → (bound : ℕ → ℕ) → IsDeeper deep bound
+pub direct_call : (home : Home) (most deep : ℕ) (key : Key) (xs : List Value) (ty : CType) (at : Spot) → at.depth ≡ 0 → Fits (slots home) home.cost → ReturnsFrom home.from most key → (bound : ℕ → ℕ) → IsDeeper deep bound
     → (s : Stage) (c : Calls) (w v : World) → HasArguments xs c w → Stands home s c w v → IsPlaced home c.regs.pc (Call (target.Named key) ∷ Word_of (Jalr ra ra (pos 0)) ∷ []) → (number : ℕ) → slice_get w.beside.functions number ≡ Some key
     → (value_rule (texts_of s.past) home.env.text ty (FunctionAt key) ≡ None) ⊎ (value_rule (texts_of s.past) home.env.text ty (FunctionAt key) ≡ Some U12)
     → Meets (suc most) s (CameBack home at (c.regs.pc + 8) c w) c w v (λ h m. called h (call (bound m) h) home.env.text ty (FunctionAt key) xs v)

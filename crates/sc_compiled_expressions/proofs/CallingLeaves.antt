@@ -33,7 +33,7 @@ use Rattle.sc_compiled_expressions.specs.Standing.{Home, MeansIn, Stands, slots}
 use Rattle.sc_compiled_expressions.specs.Good.{Answered, GivesAnswer, IsDeeper, IsPlaced, code_of}
 use Rattle.sc_compiled_expressions.proofs.Standing.{keeps_then, placed_back, placed_front, placed_same}
 use Rattle.sc_compiled_expressions.proofs.Nodes.{opened}
-use Rattle.sc_compiled_expressions.specs.Called.{CallsReturn, FitsType, HasArguments, HasNumber}
+use Rattle.sc_compiled_expressions.specs.Called.{FitsType, HasArguments, ReturnsFrom}
 use Rattle.sc_compiled_expressions.proofs.Call as one
 use Rattle.sc_compiled_expressions.proofs.Calling.{called_leads}
 use Rattle.sc_compiled_expressions.specs.Leaves.{AreLeaves, Hold}
@@ -58,9 +58,9 @@ holds_arguments xs d y few hold = record {
 }
 
 pub call_of_leaves : (home : Home) (most deep l lf lg : ℕ) (t tf tg : CType) (key : Key) (e f g : CoreExpr) (at : Spot) (es : List CoreExpr) → out-CoreExpr e ≡ CoreExpr-F.Call l t f es → out-CoreExpr f ≡ CoreExpr-F.Convert lf tf g → out-CoreExpr g ≡ CoreExpr-F.Function lg tg key
-    → ((w : World) → conversion (type_of g) tf (Place (FunctionAt key)) w ≡ Done (Plain (FunctionAt key)) w) → at.depth ≡ 0 → Fits (slots home) home.cost → CallsReturn home.look most → HasNumber home key → FitsType home (type_of f) key
+    → ((w : World) → conversion (type_of g) tf (Place (FunctionAt key)) w ≡ Done (Plain (FunctionAt key)) w) → at.depth ≡ 0 → Fits (slots home) home.cost → ReturnsFrom home.from most key → FitsType home (type_of f) key
     → code_of home e at ≡ fetched home.style home.autos 0 es ++ (Call (target.Named key) ∷ Word_of (Jalr ra ra (pos 0)) ∷ []) → length es ≤ 8 → AreLeaves home (suc most) (suc (suc deep)) 0 es → GivesAnswer home (suc most) (suc (suc (suc deep))) e at
-call_of_leaves home most deep l lf lg t tf tg key e f g at es is is_f is_g decays calm fits calls numbered typed code few leaves = λ bound dp s c w v pl st.
+call_of_leaves home most deep l lf lg t tf tg key e f g at es is is_f is_g decays calm fits calls typed code few leaves = λ bound dp s c w v pl st.
     let words : Code = Call (target.Named key) ∷ Word_of (Jalr ra ra (pos 0)) ∷ [] in
     let ca : Code = fetched home.style home.autos 0 es in
     let E : End Answer = Answered home at (c.regs.pc + 4 * length (code_of home e at)) c w in
@@ -72,13 +72,13 @@ call_of_leaves home most deep l lf lg t tf tg key e f g at es is is_f is_g decay
     let both = length-append ca words in
     opened home (suc most) (suc (suc deep)) e (CoreExpr-F.Call l t f es) is s E bound dp c w v refl
     (same_part (suc most) s E c w (tick v) (λ h m. expr_of h (eval (bound m - 1) h) (call (bound m - 1) h) home.env (CoreExpr-F.Call l t f es) (tick v)) q
-    (λ h m. ap (λ o. and_then o (λ fv u. args_then (eval (bound m - 1) h) home.env es [] u (called h (call (bound m - 1) h) home.env.text (type_of f) fv))) (one.name_is home most deep l lf lg t tf tg key e f g at is_f is_g decays calm fits calls numbered typed bound dp s c w v st h m))
+    (λ h m. ap (λ o. and_then o (λ fv u. args_then (eval (bound m - 1) h) home.env es [] u (called h (call (bound m - 1) h) home.env.text (type_of f) fv))) (one.name_is home most deep l lf lg t tf tg key e f g at is_f is_g decays calm fits calls typed bound dp s c w v st h m))
     (behind_work (suc most) s E c 1 w (tick v) q (behind_work (suc most) s E c 1 w (tick (tick v)) q
-    (fetched_go home (suc most) (suc (suc deep)) at calm E (λ m. bound m - 1) (one.deep_less home most deep l lf lg t tf tg key e f g at is_f is_g decays calm fits calls numbered typed bound dp s c w v st) go
+    (fetched_go home (suc most) (suc (suc deep)) at calm E (λ m. bound m - 1) (one.deep_less home most deep l lf lg t tf tg key e f g at is_f is_g decays calm fits calls typed bound dp s c w v st) go
     (λ xs u h m. called_leads (bound m - 1) h home.env.text (type_of f) key xs u) es [] (omega (arith, few)) leaves s c w now
-    (one.stands_ready home most deep l lf lg t tf tg key e f g at is_f is_g decays calm fits calls numbered typed bound dp s c w v st) (λ k x i. absurd (cc (i))) (placed_front home c.regs.pc ca words all)
+    (one.stands_ready home most deep l lf lg t tf tg key e f g at is_f is_g decays calm fits calls typed bound dp s c w v st) (λ k x i. absurd (cc (i))) (placed_front home c.regs.pc ca words all)
     (λ t2 xs u d y count st2 hold kept there.
-    one.called_here home most deep l lf lg t tf tg key e f g at is_f is_g decays calm fits calls numbered typed bound dp s c w v st E xs d y u t2 (holds_arguments xs d y (omega (arith, count, few)) hold) st2
+    one.called_here home most deep l lf lg t tf tg key e f g at is_f is_g decays calm fits calls typed bound dp s c w v st E xs d y u t2 (holds_arguments xs d y (omega (arith, count, few)) hold) st2
     (placed_same home (c.regs.pc + 4 * length ca) d.regs.pc words words (sym there) refl (placed_back home c.regs.pc ca words all))
     (λ r a z k o p.
     let back = p.there in

@@ -8,7 +8,7 @@ use Rattle.sc_meaning.specs.World.{Born, World}
 use Rattle.sc_mixed.specs.declared.calls.Lower.{Lower}
 use Rattle.sc_mixed.specs.declared.calls.Lower.TheVariants.{InBodies, InCode}
 use Rattle.sc_compiled_frames.specs.Worlds.{HoldsWords}
-use Rattle.sc_compiled_frames.specs.Frames.{IsCounted, Fits, Has, HasFrame, IsOpen, Placed, foot}
+use Rattle.sc_compiled_frames.specs.Frames.{Fits, Has, HasFrame, IsOpen, Placed, foot}
 use Rattle.sc_compiled_expressions.specs.Standing.{AreOver, StaysAbove, area_in, table, table_in}
 
 either_way : (a b : ℕ) → (a < b) ⊎ (b ≤ a)
@@ -47,11 +47,11 @@ module _ (slots : ℕ → List Slot) (cost : ℕ) (blocks : List Born) (w y : Wo
   abbrev IsThere : ℕ → ℕ → Obj → Type 0
   IsThere sp id p = (p.base + p.size < sp) ⊎ ((sp + cost ≤ p.base) ⊎ IsOpen slots blocks sp id p)
 
-  only_there : (id : ℕ) (p : Obj) → IsLive holds_now.memory.flat.objects id p → IsCounted slots p → IsThere (foot w) id p
-  only_there id p l counts = elim (either_way (p.base + p.size) (foot w)) [
+  only_there : (id : ℕ) (p : Obj) → IsLive holds_now.memory.flat.objects id p → IsThere (foot w) id p
+  only_there id p l = elim (either_way (p.base + p.size) (foot w)) [
     | inl below ↦ inl below
     | inr above ↦ elim (either_way p.base 0x20000000) [
-      | inl in_stack ↦ f.only id p (from_then id p (stays.only id p (from_now id p l) above in_stack)) counts
+      | inl in_stack ↦ f.only id p (from_then id p (stays.only id p (from_now id p l) above in_stack))
       | inr beyond ↦ inr (inl (let high = f.high in omega (arith, high, beyond)))
     ]
   ]
@@ -84,6 +84,6 @@ module _ (slots : ℕ → List Slot) (cost : ℕ) (blocks : List Born) (w y : Wo
         (area_there f.holds.memory.flat.stack holds_now.memory.flat.stack (foot w)
         (subst (λ n. n ≤ holds_now.memory.flat.stack) (ap area_in f.holds.there) (subst (λ n. area_in w.beside.memory ≤ n) (ap area_in holds_now.there) stays.area)) f.area);
     aligned = subst (λ n. n % 4 ≡ 0) (sym same) f.aligned;
-    only = λ id p l counts. subst (λ n. IsThere n id p) (sym same) (only_there id p l counts);
+    only = λ id p l. subst (λ n. IsThere n id p) (sym same) (only_there id p l);
     lives = λ o has i id e. subst (λ n. Placed slots n holds_now.memory.flat.objects o.block i id) (sym same) (lives_there o has i id e);
   }

@@ -32,6 +32,7 @@ pub mod Comparing
 pub mod Converting
 pub mod Feet
 pub mod Reading
+pub mod Coming
 pub mod Framed
 pub mod Goes
 pub mod Calling

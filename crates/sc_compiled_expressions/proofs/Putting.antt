@@ -41,7 +41,7 @@ use Rattle.sc_compiled_expressions.proofs.Joining.{leading_then}
 use Rattle.sc_compiled_expressions.proofs.Moving.{MayGo, changing_means}
 use Rattle.sc_compiled_expressions.proofs.Stores.{stores_one_way}
 use Rattle.sc_compiled_expressions.proofs.Stores as machine
-use Rattle.sc_compiled_expressions.specs.Standing.{AreOver, AreTargets, Home, IsWaiting, Keeps, LivesAt, MeansIn, Stands, area_in, slots, stub, table, table_in}
+use Rattle.sc_compiled_expressions.specs.Standing.{AreOver, AreTargets, Home, IsWaiting, Keeps, LivesAt, MeansIn, Stands, StaysAbove, area_in, slots, stub, table, table_in}
 use Rattle.sc_compiled_expressions.proofs.Standing.{memory_of}
 use Rattle.sc_compiled_expressions.specs.Waits.{WordWaits}
 
@@ -134,18 +134,15 @@ module _ (home : Home) (most : ℕ) (s : Stage) (c : Calls) (w v : World) (st : 
 
   -- the word is there
   bare_four : (k : ℕ) → k < 4 → IsBare m.objects (a + k)
-  bare_four k lt id p live = elim (framed.bytes_or_none p.size) [
-    | inl some ↦ elim (st.frame.only id p live (inl some)) [
-      | inl low ↦ inr (omega (arith, low))
-      | inr o ↦ elim o [
-        | inl high ↦ inl (omega (arith, high, room, lt))
-        | inr own ↦
-            let further = under own.of.block own.index own.slot own.slotted in
-            let at = own.base in
-            inl (omega (arith, further, at, lt))
-      ]
+  bare_four k lt id p live = elim (st.frame.only id p live) [
+    | inl low ↦ inr (omega (arith, low))
+    | inr o ↦ elim o [
+      | inl high ↦ inl (omega (arith, high, room, lt))
+      | inr own ↦
+          let further = under own.of.block own.index own.slot own.slotted in
+          let at = own.base in
+          inl (omega (arith, further, at, lt))
     ]
-    | inr none ↦ framed.no_bytes (a + k) p.base p.size none
   ]
 
   here_cell : (k : ℕ) → k < 4 → (o : Option Stored) → slice_get (cells_of 4 y) k ≡ o → cell_at (put m a 4 y) (a + k) ≡ o
@@ -181,6 +178,7 @@ module _ (home : Home) (most : ℕ) (s : Stage) (c : Calls) (w v : World) (st : 
     static = λ key o has e. lives_behind o _ (st.targets.static key o has e);
     literal = λ i bytes o has e f. lives_behind o _ (st.targets.literal i bytes o has e f);
     function = st.targets.function;
+    numbered = st.targets.numbered;
   }
 
   pub alike_behind : Like behind v
@@ -188,7 +186,7 @@ module _ (home : Home) (most : ℕ) (s : Stage) (c : Calls) (w v : World) (st : 
 
   pub stands_behind : Stands home s (with_registers next c) behind v
   stands_behind = record {
-    look = st.look;
+    comes = st.comes;
     regs = st.regs;
     frame = framed.word_waits (slots home) home.cost home.env.blocks (stub w) w st.stubs st.frame t even room y x under means_now;
     sp = st.sp;
@@ -196,6 +194,7 @@ module _ (home : Home) (most : ℕ) (s : Stage) (c : Calls) (w v : World) (st : 
     stubs = st.stubs;
     opened = st.opened;
     took = st.took;
+    starts = st.starts;
     alike = alike_behind;
     late = st.late;
     forms = st.forms;
@@ -204,6 +203,7 @@ module _ (home : Home) (most : ℕ) (s : Stage) (c : Calls) (w v : World) (st : 
     value = st.value;
     text = st.text;
     targets = targets_behind;
+    fixed = st.fixed;
   }
 
   stack_kept : (put m a 4 y).stack ≡ m.stack
@@ -215,18 +215,24 @@ module _ (home : Home) (most : ℕ) (s : Stage) (c : Calls) (w v : World) (st : 
       let old = ap area_in st.frame.holds.there in
       omega (arith, now, old)
 
+  pub words_behind : (z : Word) (u : Value) → MeansIn w z u → MeansIn behind z u
+  words_behind z u p = subst (λ q. Means (stub w) q z u) (sym table_same) p
+
+  pub objects_behind : (at : ℕ) → StaysAbove at w behind
+  objects_behind at = record {
+    lives = λ id o l le lt. subst (λ q. IsLive q id o) (sym table_same) l;
+    only = λ id o l le lt. subst (λ q. IsLive q id o) table_same l;
+    area = area_stays;
+  }
+
   pub keeps_behind : (at : Spot) → at.low ≤ t → t + 4 ≤ home.room → Keeps home at c w (with_registers next c) behind
   keeps_behind at low fits = record {
     waits = λ j lt. refl;
     lower = refl;
     given = refl;
-    words = λ z u p. subst (λ q. Means (stub w) q z u) (sym table_same) p;
+    words = words_behind;
     bytes = λ b wait at_b. other_byte b (apart b wait.1) at_b;
-    objects = record {
-      lives = λ id o l le lt. subst (λ q. IsLive q id o) (sym table_same) l;
-      only = λ id o l le lt. subst (λ q. IsLive q id o) table_same l;
-      area = area_stays;
-    };
+    objects = objects_behind (foot w + home.cost);
     callers = refl;
     foot = refl;
   }

@@ -116,7 +116,7 @@ module _ (home : Home) (most deep l : ℕ) (t : CType) (e a b : CoreExpr) (at : 
   abbrev cs : Code
   cs = reach home.style home.autos (access.Store op 10) a
 
-  code : code_of home e at ≡ cb ++ cs
+  pub code : code_of home e at ≡ cb ++ cs
   code =
       layer_is home word e (CoreExpr-F.Assign l t a b) at is
       ∙ ap (λ d. pair home.style home.autos (part_of home.style home.autos a) (part_of home.style home.autos b) a b at (if d then two OnRight Foot AsWord else two (waiting_plan at b) Foot AsWord) (λ how. if d then written home.style home.autos a 10 else stored_code a (plans.pair_of home.style home.autos how a b).left)) direct

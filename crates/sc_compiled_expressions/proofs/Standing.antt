@@ -110,15 +110,17 @@ module _ (home : Home) where
     stubs = st.stubs;
     opened = st.opened;
     took = st.took;
+    starts = st.starts;
     alike = st.alike;
     late = st.late;
     forms = st.forms;
     inner = st.inner;
     own = st.own;
-    look = st.look;
+    comes = st.comes;
     value = st.value;
     text = st.text;
     targets = st.targets;
+    fixed = st.fixed;
   }
 
   pub stands_at : (s : Stage) (c : Calls) (w v : World) (pc : ℕ) → Stands home s c w v → Stands home s (with_registers (goes_to pc c.regs) c) w v
@@ -137,15 +139,17 @@ module _ (home : Home) where
     stubs = st.stubs;
     opened = st.opened;
     took = st.took;
+    starts = st.starts;
     alike = like_on w v u st.alike alike;
     late = let late = st.late in omega (arith, late, grew);
     forms = forms;
     inner = st.inner;
     own = own;
-    look = st.look;
+    comes = st.comes;
     value = st.value;
     text = st.text;
     targets = st.targets;
+    fixed = st.fixed;
   }
 
   pub stands_worked : (s : Stage) (c : Calls) (w v : World) (z : ℕ) → Stands home s c w v → Stands home s c w (pass (Work z) v)

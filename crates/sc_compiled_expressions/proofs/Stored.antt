@@ -69,7 +69,7 @@ module _ (home : Home) (s : Stage) (c : Calls) (w v : World) (st : Stands home s
     high = st.frame.high;
     area = subst (λ k. 0x20000000 - k ≤ foot w) (sym (puts.stack_is w h st.stubs ty a x y val scalar word_now means_now of rule)) st.frame.area;
     aligned = st.frame.aligned;
-    only = λ id p live counts. st.frame.only id p (subst (λ l. IsLive l id p) table_is live) counts;
+    only = λ id p live. st.frame.only id p (subst (λ l. IsLive l id p) table_is live);
     lives = λ o there i id e. subst (λ l. Placed (slots home) (foot w) l o.block i id) (sym table_is) (st.frame.lives o there i id e);
   }
 
@@ -81,6 +81,7 @@ module _ (home : Home) (s : Stage) (c : Calls) (w v : World) (st : Stands home s
     static = λ key o has e. lives_behind o _ (t.static key o has e);
     literal = λ i bytes o has e f. lives_behind o _ (t.literal i bytes o has e f);
     function = t.function;
+    numbered = t.numbered;
   }
 
   pub stands_behind : (r : Registers) → AreRegisters r.words → register r 2 ≡ register c.regs 2 → Stands home s (with_registers r c) behind (pass item v)
@@ -92,15 +93,17 @@ module _ (home : Home) (s : Stage) (c : Calls) (w v : World) (st : Stands home s
     stubs = st.stubs;
     opened = st.opened;
     took = st.took;
+    starts = st.starts;
     alike = passes item w v st.alike;
     late = st.late;
     forms = tells_on item v st.forms;
     inner = st.inner;
     own = ap (λ b. is_in_code v.frames && not b) (out_more v.trail item false) ∙ st.own;
-    look = st.look;
+    comes = st.comes;
     value = st.value;
     text = st.text;
     targets = targets_behind st.value st.targets;
+    fixed = st.fixed;
   }
 
   area_stays : area_in w.beside.memory ≤ area_in behind.beside.memory

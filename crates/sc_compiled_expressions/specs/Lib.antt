@@ -3,6 +3,7 @@ pub mod Instructions
 pub mod Placing
 pub mod Parts
 pub mod Moves
+pub mod Coming
 pub mod Standing
 pub mod Good
 pub mod Stored

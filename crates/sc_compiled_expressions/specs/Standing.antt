@@ -14,7 +14,7 @@ use Rattle.sc_emu.specs.Registers.{AreRegisters, register}
 use Rattle.sc_core.specs.declared.module.Auto.{Auto}
 use Rattle.sc_meaning.specs.Expressions.{Env}
 use Rattle.sc_meaning.specs.Values.{Value}
-use Rattle.sc_meaning.specs.World.{Born, World, named_in, outer}
+use Rattle.sc_meaning.specs.World.{Born, Frame, World, named_in, outer}
 use Rattle.sc_services.specs.Blocks.{top_blocks, top_cost}
 use Rattle.sc_services.specs.Frames.{is_in_code}
 use Rattle.sc_services.specs.Memory.{IsBareAt}
@@ -25,8 +25,8 @@ use Rattle.sc_mixed.specs.declared.calls.Lower.{Lower}
 use Rattle.sc_mixed.specs.declared.calls.Lower.TheVariants.{InBodies, InCode}
 use Rattle.sc_mixed.specs.Machine.{depth_of}
 use Rattle.sc_mixed_means.specs.Owed.{is_calling_out}
-use Rattle.sc_mixed_means.specs.Stages.{Stage, since, Look}
-use Rattle.sc_mixed_means.specs.Waiting.{stored_in}
+use Rattle.sc_mixed_means.specs.Stages.{Stage, since, texts_of}
+use Rattle.sc_mixed_means.specs.Waiting.{IsFit, stored_in}
 use Rattle.sc_gen_code.specs.declared.style.Style.{Style}
 use Rattle.sc_gen_code.specs.declared.style.Spot.{Spot}
 use Rattle.sc_gen_code.specs.declared.symbolic.Symbolic.{Symbolic}
@@ -39,10 +39,11 @@ use Rattle.sc_compiled_frames.specs.Means.{Means}
 use Rattle.sc_compiled_frames.specs.Stubs.{stub_of}
 use Rattle.sc_compiled_frames.specs.Words.{AreStubs}
 use Rattle.sc_compiled_frames.specs.Frames.{HasFrame, foot}
+use Rattle.sc_compiled_expressions.specs.Coming.{Comes}
 use Rattle.sc_compiled_expressions.specs.Placing.{CodeAt}
 
 -- What a text is translated by, and where it stands: the style, the function's slots and the cost of its frame, the address of its first word and its
--- words, what its names stand for; where temporaries begin and end above sp; and how deep the meaning looks for the moves of a run.
+-- words, what its names stand for; where temporaries begin and end above sp; and the stage from which on a run is spoken of.
 pub record Home : Type 0 where
   pub style : Style
   pub autos : List (List Auto)
@@ -52,7 +53,7 @@ pub record Home : Type 0 where
   pub env : Env
   pub outgoing : ℕ
   pub room : ℕ
-  pub look : Look
+  pub from : Stage
 
 abbrev pub slots : Home → ℕ → List Slot
 slots home b = map (λ (x : Auto). x.slot) (slice_index_or home.autos b [])
@@ -83,11 +84,16 @@ HasWord [] x = ⊥
 HasWord (y ∷ ys) x = (y ≡ x) ⊎ HasWord ys x
 
 -- The targets of a text have the addresses of what they name: of the objects with names and the literals that it reaches, and of the stubs of the
--- functions that it calls.
+-- functions that it calls, which have numbers.
 pub record AreTargets (value : Target → ℕ) (home : Home) (w : World) : Type 0 where
   pub static : (key : Key) (o : ℕ) → HasWord home.text (Upper (target.Named key)) → named_in w.names (id.Named key) ≡ Some o → LivesAt w o (value (target.Named key))
   pub literal : (i : ℕ) (bytes : List ℕ) (o : ℕ) → HasWord home.text (Upper (target.Literal i)) → slice_get home.env.text.core.literals i ≡ Some bytes → named_in w.names (id.Literal home.env.text.core.name bytes) ≡ Some o → LivesAt w o (value (target.Literal i))
   pub function : (n : ℕ) (key : Key) → HasWord home.text (Call (target.Named key)) → slice_get w.beside.functions n ≡ Some key → value (target.Named key) ≡ stub_address n
+  pub numbered : (key : Key) → HasWord home.text (Call (target.Named key)) → (n : ℕ) × (slice_get w.beside.functions n ≡ Some key)
+
+-- so it is in each fit memory of a stage
+abbrev pub AreFixed : (Target → ℕ) → Home → Stage → Type 0
+AreFixed value home s = (lower : List Lower) (w : World) → IsFit (texts_of s.past) s.image s.places lower w → AreTargets value home w
 
 -- compiled code that waits does so at an address, or above it
 abbrev pub AreOver : List Lower → ℕ → Type 0
@@ -104,16 +110,22 @@ abbrev pub entered_blocks : Style → List (List Auto) → List Born → List Bo
 entered_blocks st autos [] = []
 entered_blocks st autos (b ∷ bs) = if is_entered st autos b.block then b ∷ entered_blocks st autos bs else entered_blocks st autos bs
 
--- The meaning looks as deep; its text is there, its frame holds the objects of its open blocks, sp is at the frame's foot, what waits does so above the frame, the run's
--- world is alike the meaning's, and the innermost call is its own, which was not yet active as the innermost compiled code was called; it has taken the frame of the text.
+-- where the text of the innermost call begins
+abbrev pub top_start : List Frame → ℕ
+top_start [] = 0
+top_start (f ∷ fs) = f.start
+
+-- The stage is one that the text's own has come to; the text is there, its frame holds the objects of its open blocks, sp is at the frame's foot, what waits does so above the frame, the run's
+-- world is alike the meaning's, and the innermost call is its own, which was not yet active as the innermost compiled code was called; it has taken the frame of the text, and begins with it.
 pub record Stands (home : Home) (s : Stage) (c : Calls) (w v : World) : Type 0 where
-  pub look : s.look ≡ home.look
+  pub comes : Comes home.from s
   pub regs : AreRegisters c.regs.words
   pub frame : HasFrame (slots home) home.cost home.env.blocks w
   pub sp : register c.regs 2 ≡ plain (foot w)
   pub above : AreOver c.lower (foot w + home.cost)
   pub stubs : AreStubs w.beside.functions (stub w)
   pub took : top_cost w.frames ≡ home.cost
+  pub starts : top_start w.frames ≡ home.base
   pub opened : top_blocks w.frames ≡ entered_blocks home.style home.autos home.env.blocks
   pub alike : Like w v
   pub late : since s.past ≤ v.count
@@ -123,6 +135,7 @@ pub record Stands (home : Home) (s : Stage) (c : Calls) (w v : World) : Type 0 w
   pub value : Target → ℕ
   pub text : CodeAt s.image value home.base home.text
   pub targets : AreTargets value home w
+  pub fixed : AreFixed value home s
 
 -- words at these addresses wait: temporaries of operands, what stands above all slots, and the frames above
 abbrev pub IsWaiting : Home → Spot → ℕ → ℕ → Type 0

@@ -23,7 +23,7 @@ ghost use Rattle.sc_compiled_expressions.specs.Direct.{IsFree};
 ghost use Rattle.sc_compiled_expressions.specs.Good.{GivesAnswer, GivesPlain, GivesValue, code_of};
 ghost use Rattle.sc_compiled_expressions.specs.Standing.{Home, slots};
 ghost use Rattle.sc_compiled_frames.specs.Frames.{Fits};
-ghost use Rattle.sc_compiled_expressions.specs.Called.{CallsReturn, FitsType, HasNumber};
+ghost use Rattle.sc_compiled_expressions.specs.Called.{FitsType, ReturnsFrom};
 ghost use Rattle.sc_compiled_values.specs.Operators.{IsOperator};
 ghost use Rattle.sc_meaning.specs.Expressions.{Place, conversion, Plain as Answered};
 ghost use Rattle.sc_meaning.specs.Outcomes.{Done};
@@ -50,8 +50,8 @@ pub fn operands_wait_in_the_frame()
 {}
 
 /// A call by name of at most eight arguments, each of which is a leaf that is fetched into its own register, gives the word of what the function gives,
-/// if calls return within fewer moves.
+/// if it returns within fewer moves.
 #[tactic(auto, using(crate::proofs::CallingLeaves::call_of_leaves))]
 pub fn calls_of_leaves_give_answers()
-    ensures { (home : Home) (most deep l lf lg : ℕ) (t tf tg : CType) (key : Key) (e f g : CoreExpr) (at : Spot) (es : List CoreExpr) → out-CoreExpr e ≡ CoreExpr-F.Call l t f es → out-CoreExpr f ≡ CoreExpr-F.Convert lf tf g → out-CoreExpr g ≡ CoreExpr-F.Function lg tg key → ((w : World) → conversion (type_of g) tf (Place (FunctionAt key)) w ≡ Done (Answered (FunctionAt key)) w) → at.depth ≡ 0 → Fits (slots home) home.cost → CallsReturn home.look most → HasNumber home key → FitsType home (type_of f) key → code_of home e at ≡ fetched home.style home.autos 0 es ++ (Call (Named key) ∷ Plain (Jalr ra ra (pos 0)) ∷ []) → length es ≤ 8 → AreLeaves home (suc most) (suc (suc deep)) 0 es → GivesAnswer home (suc most) (suc (suc (suc deep))) e at }
+    ensures { (home : Home) (most deep l lf lg : ℕ) (t tf tg : CType) (key : Key) (e f g : CoreExpr) (at : Spot) (es : List CoreExpr) → out-CoreExpr e ≡ CoreExpr-F.Call l t f es → out-CoreExpr f ≡ CoreExpr-F.Convert lf tf g → out-CoreExpr g ≡ CoreExpr-F.Function lg tg key → ((w : World) → conversion (type_of g) tf (Place (FunctionAt key)) w ≡ Done (Answered (FunctionAt key)) w) → at.depth ≡ 0 → Fits (slots home) home.cost → ReturnsFrom home.from most key → FitsType home (type_of f) key → code_of home e at ≡ fetched home.style home.autos 0 es ++ (Call (Named key) ∷ Plain (Jalr ra ra (pos 0)) ∷ []) → length es ≤ 8 → AreLeaves home (suc most) (suc (suc deep)) 0 es → GivesAnswer home (suc most) (suc (suc (suc deep))) e at }
 {}

@@ -3,6 +3,7 @@ use Rattle.std.proofs.Common.{◌≡◌, ◌≢◌, inl, inr, ℕ, zero, suc, �
 use Rattle.std.specs.Prelude.{slice_get}
 use Rattle.sc_program.specs.declared.frame.Slot.{Slot}
 use Rattle.sc_core.specs.declared.module.Auto.{Auto}
+use Rattle.sc_mem.specs.Safe.{Store}
 use Rattle.sc_meaning.specs.Behaviour.{Start, first_world}
 use Rattle.sc_meaning.specs.Beside.{empty_memory}
 use Rattle.sc_meaning.specs.Outcomes.{Done}
@@ -10,8 +11,8 @@ use Rattle.sc_meaning.specs.Statements.{all_dead, born_autos}
 use Rattle.sc_meaning.specs.World.{Born, CloseBlock, OpenBlock, Stack, World, pass}
 use Rattle.sc_compiled_frames.proofs.Living.{begins, nothing_there}
 use Rattle.sc_compiled_frames.proofs.Worlds.{no_blocks, tiled}
-use Rattle.sc_compiled_frames.specs.Frames.{Fits, Has, HasFrame, entered}
-use Rattle.sc_compiled_frames.proofs.Framing.{all_births, all_deaths, has_front, has_or}
+use Rattle.sc_compiled_frames.specs.Frames.{Fits, Has, HasFrame, LeavesRest, entered, foot}
+use Rattle.sc_compiled_frames.proofs.Framing.{all_births, all_deaths, births_rest, deaths_rest, has_front, has_or}
 
 nothing_at : (i id : ℕ) → slice_get {X = ℕ} [] i ≡ Some id → ⊥
 nothing_at i id e = cc (e)
@@ -25,7 +26,7 @@ module _ (slots : ℕ → List Slot) (cost : ℕ) (bs : List Born) (b : ℕ) (w 
     high = mem.high;
     area = mem.area;
     aligned = mem.aligned;
-    only = λ id p live counts. elim (mem.only id p live counts) [
+    only = λ id p live. elim (mem.only id p live) [
       | inl x ↦ inl x
       | inr y ↦ inr (elim y [ inl z ↦ inl z | inr q ↦ inr (record { of = q.of; open_there = has_front q.of bs (entered b []) q.open_there; index = q.index; slot = q.slot; numbered = q.numbered; slotted = q.slotted; base = q.base; size = q.size }) ])
     ];
@@ -42,7 +43,7 @@ module _ (slots : ℕ → List Slot) (cost : ℕ) (bs : List Born) (b : ℕ) (w 
     high = mem.high;
     area = mem.area;
     aligned = mem.aligned;
-    only = λ id p live counts. elim (mem.only id p live counts) [
+    only = λ id p live. elim (mem.only id p live) [
       | inl x ↦ inl x
       | inr y ↦ inr (elim y [
         | inl z ↦ inl z
@@ -89,6 +90,19 @@ pub block_left : (slots : ℕ → List Slot) (cost : ℕ) → Fits slots cost �
 block_left slots cost fits bs b other ids w mem =
     told_closed slots cost bs (all_dead ids w) (closed_empty slots cost bs b (all_dead ids w) (all_deaths slots cost fits bs b other [] ids w mem))
 
+-- ---- what is left as it was
+
+pub births_leave : (slots : ℕ → List Slot) (cost : ℕ) → Fits slots cost → (bs : List Born) (b : ℕ) → ((o : Born) → Has o bs → o.block ≢ b) → (autos : List Auto) → ((j : ℕ) (x : Auto) → slice_get autos j ≡ Some x → slice_get (slots b) j ≡ Some x.slot)
+    → (depth : ℕ) → ((i : ℕ) (s : Slot) → slice_get (slots b) i ≡ Some s → s.offset + s.size ≤ depth) → (ids : List ℕ) (w v : World) → HasFrame slots cost bs w → born_autos autos [] w ≡ Done ids v
+    → (x y : Store) → w.beside.memory ≡ Some x → v.beside.memory ≡ Some y → LeavesRest (foot w + depth) (foot w + cost) x y
+births_leave slots cost fits bs b other autos table depth deep ids w v mem born x y xs ys =
+    let rest : (j : ℕ) (x : Auto) → slice_get autos j ≡ Some x → slice_get (slots b) (0 + j) ≡ Some x.slot = λ j x e. let n : j ≡ 0 + j = omega arith in subst (λ k. slice_get (slots b) k ≡ Some x.slot) n (table j x e) in
+    births_rest slots cost fits bs b other depth deep autos [] ids w v (opened_empty slots cost bs b w mem) rest born x y xs ys
+
+pub deaths_leave : (slots : ℕ → List Slot) (cost : ℕ) → Fits slots cost → (bs : List Born) (b : ℕ) → ((o : Born) → Has o bs → o.block ≢ b) → (ids : List ℕ) (w : World) → HasFrame slots cost (bs ++ entered b ids ∷ []) w
+    → (x y : Store) → w.beside.memory ≡ Some x → (all_dead ids w).beside.memory ≡ Some y → LeavesRest 0 (foot w + cost) x y
+deaths_leave slots cost fits bs b other ids w mem x y xs ys = deaths_rest slots cost fits bs b other [] ids w mem x y xs ys
+
 -- ---- the first frame of a run
 
 pub first_frame : (slots : ℕ → List Slot) (cost : ℕ) (s : Start) → s.beside.memory ≡ Some (empty_memory s.stack s.heap) → s.heap ≤ 67108864 → s.stack ≤ 16777216 → cost ≤ s.stack → cost % 4 ≡ 0 → HasFrame slots cost [] (pass (Stack cost) (first_world s))
@@ -103,7 +117,7 @@ first_frame slots cost s there heap stack le four =
       high = high;
       area = area;
       aligned = aligned;
-      only = λ id p live counts. absurd (nothing_there id p live.0);
+      only = λ id p live. absurd (nothing_there id p live.0);
       lives = λ o has i id e. absurd has;
     }
 

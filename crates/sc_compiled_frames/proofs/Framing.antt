@@ -1,5 +1,5 @@
 -- A block's objects are born in its slots, and die: the frame stays a frame.
-use Rattle.std.proofs.Common.{◌≡◌, ◌≢◌, inl, inr, ℕ, zero, suc, ◌+◌, ◌%◌, ◌<◌, ◌⊎◌, Bool, true, false, List, [], ◌∷◌, ◌++◌, length, Some, refl, sym, ap, subst, ◌∙◌, arith, append_assoc}
+use Rattle.std.proofs.Common.{◌≡◌, ◌≢◌, inl, inr, ℕ, zero, suc, ◌+◌, ◌-◌, ◌%◌, ◌<◌, ◌≤◌, ◌⊎◌, Bool, true, false, List, [], ◌∷◌, ◌++◌, length, set, Some, refl, sym, ap, subst, ◌∙◌, arith, append_assoc}
 use Rattle.std.specs.Option.{IsSome}
 use Rattle.std.specs.Prelude.{slice_get, nat_le, if◌then◌else◌, option_map}
 use Rattle.std.proofs.lemmas.List.{length-append, append-nil}
@@ -7,9 +7,14 @@ use Rattle.std.proofs.lemmas.Bool.Decides.{nat_tests}
 use Rattle.sc_program.specs.declared.frame.Slot.{Slot}
 use Rattle.sc_objects.specs.declared.objects.Obj.{Obj}
 use Rattle.sc_objects.specs.Numbered.{IsClear, Apart, object_of, born, ended}
-use Rattle.sc_objects.proofs.Lists.{slice_get-front, slice_get-last, slice_get-push}
-use Rattle.sc_objects.proofs.Births.{object-born, born-object, born-new, live-ended, ended-live}
+use Rattle.sc_objects.proofs.Lists.{slice_get-front, slice_get-last, slice_get-push, slice_get-set_same}
+use Rattle.sc_objects.proofs.Births.{object-born, object-within, object_of-at, born-object, born-new, ended-is, live-ended, ended-live}
 use Rattle.sc_mem.specs.Flat.{Flat, place, with_birth}
+use Rattle.sc_mem.specs.Safe.{Store}
+use Rattle.sc_mem_store.proofs.Cells.{birth-other}
+use Rattle.sc_mem_store.proofs.Lists.{get-other}
+use Rattle.std.proofs.lemmas.Bool.{cases_eq}
+use Rattle.std.proofs.lemmas.Option.{slice_get_within}
 use Rattle.sc_meaning.specs.Beside.{born_in, died_in}
 use Rattle.sc_core.specs.declared.module.Auto.{Auto}
 use Rattle.sc_meaning.specs.World.{World, Born, Item, Birth, Death, pass}
@@ -17,7 +22,7 @@ use Rattle.sc_meaning.specs.Outcomes.{Outcome, Done, Over, BirthLimit, and_then}
 use Rattle.sc_meaning.specs.Statements.{auto_kind, born_autos, all_dead}
 use Rattle.sc_meaning.specs.declared.spot.Spot.TheVariants.{Slot as SlotSpot}
 use Rattle.sc_compiled_frames.proofs.Living.{birth_in_stack, death}
-use Rattle.sc_compiled_frames.specs.Frames.{Fits, Has, HasFrame, IsOpen, Placed, entered, foot}
+use Rattle.sc_compiled_frames.specs.Frames.{Fits, Has, HasFrame, IsOpen, LeavesRest, Placed, entered, foot}
 use Rattle.sc_compiled_frames.proofs.Near.{near_stack}
 
 pub has_or : (o : Born) (bs : List Born) (x : Born) → Has o (bs ++ x ∷ []) → Has o bs ⊎ (o ≡ x)
@@ -42,6 +47,40 @@ within (y ∷ ys) (suc i) x e = let h = within ys i x e in omega (arith, h)
 
 few_objects : (n k : ℕ) → nat_le 4000000000 n ≡ false → k ≡ n → k < 4294967294
 few_objects n k e is = grind (arith, nat_tests, e, is)
+
+-- ---- what is left
+
+one_store : (x y : Store) → Some x ≡ Some y → x ≡ y
+one_store x y e = cc (e)
+
+rest_same : (bound top : ℕ) (x : Store) → LeavesRest bound top x x
+rest_same bound top x = record { objects = λ id p e. (p, e, refl, refl); lives = λ id p le l. l; only = λ id p le l. l; bare = λ at le none. none; cells = λ at le. refl; stack = refl }
+
+rest_then : (bound top : ℕ) (x y z : Store) → LeavesRest bound top x y → LeavesRest bound top y z → LeavesRest bound top x z
+rest_then bound top x y z p q = record {
+  objects = λ id o e. let a = p.objects id o e in let c = q.objects id a.0 a.1 in (c.0, c.1, c.2 ∙ a.2, c.3 ∙ a.3);
+  lives = λ id o le l. q.lives id o le (p.lives id o le l);
+  only = λ id o le l. p.only id o le (q.only id o le l);
+  bare = λ at le none. q.bare at le (p.bare at le none);
+  cells = λ at le. q.cells at le ∙ p.cells at le;
+  stack = q.stack ∙ p.stack;
+}
+
+-- an object that dies stands where it stood, as do all others
+ended_kept : (t : List Obj) (k : ℕ) (p q : Obj) (id : ℕ) → slice_get t k ≡ Some p → object_of t id ≡ Some q → (r : Obj) × (object_of (set t k (record p { live = false })) id ≡ Some r) × (r.base ≡ q.base) × (r.size ≡ q.size)
+ended_kept t k p q zero e f = absurd (cc (f))
+ended_kept t k p q (suc j) e f =
+    elim (cases_eq j k) [
+      | inl same ↦
+          let one : Some p ≡ Some q = sym e ∙ (ap (slice_get t) (sym same) ∙ f) in
+          let eq : p ≡ q = cc (one) in
+          (record p { live = false }, ap (slice_get (set t k (record p { live = false }))) same ∙ slice_get-set_same t k (record p { live = false }) (slice_get_within t k p e), ap (λ (r : Obj). r.base) eq, ap (λ (r : Obj). r.size) eq)
+      | inr n ↦ (q, get-other t k j (record p { live = false }) n ∙ f, refl, refl)
+    ]
+
+dead_used : (ids : List ℕ) (w : World) → (all_dead ids w).used ≡ w.used
+dead_used [] w = refl
+dead_used (id ∷ ids) w = dead_used ids w
 
 module _ (slots : ℕ → List Slot) (cost : ℕ) (fits : Fits slots cost) (bs : List Born) (b : ℕ) (fresh : (o : Born) → Has o bs → o.block ≢ b) where
   -- one object more of the block that is being entered
@@ -77,7 +116,7 @@ module _ (slots : ℕ → List Slot) (cost : ℕ) (fits : Fits slots cost) (bs :
     clear : IsClear m.objects base slot.size
     clear id p live =
         let i = inside in
-        elim (mem.only id p live (inr (b, length ids, slot, here))) [
+        elim (mem.only id p live) [
           | inl x ↦ inl (omega (arith, x))
           | inr y ↦ elim y [ inl z ↦ inr (omega (arith, z, i)) | inr q ↦ from_open id p q ]
         ]
@@ -151,8 +190,8 @@ module _ (slots : ℕ → List Slot) (cost : ℕ) (fits : Fits slots cost) (bs :
       high = mem.high;
       area = mem.area;
       aligned = mem.aligned;
-      only = λ id p live counts. elim (object-born m.objects o id p live.0) [
-        | inl old ↦ elim (mem.only id p (old, live.1) counts) [ inl x ↦ inl x | inr y ↦ inr (elim y [ inl z ↦ inl z | inr q ↦ inr (still_open id p q) ]) ]
+      only = λ id p live. elim (object-born m.objects o id p live.0) [
+        | inl old ↦ elim (mem.only id p (old, live.1)) [ inl x ↦ inl x | inr y ↦ inr (elim y [ inl z ↦ inl z | inr q ↦ inr (still_open id p q) ]) ]
         | inr new ↦ inr (inr (record {
           of = entered b more;
           open_there = has_last bs (entered b more);
@@ -166,6 +205,23 @@ module _ (slots : ℕ → List Slot) (cost : ℕ) (fits : Fits slots cost) (bs :
       ];
       lives = lives_now;
     }
+
+    -- the rest is as it was
+    pub birth_rest : (depth : ℕ) → slot.offset + slot.size ≤ depth → LeavesRest (sp + depth) (sp + cost) mem.holds.memory (record { flat = with_birth m o; blocks = mem.holds.memory.blocks })
+    birth_rest depth deep = record {
+      objects = λ id p e. (p, born-object m.objects o id p e, refl, refl);
+      lives = λ id p le l. (born-object m.objects o id p l.0, l.1);
+      only = λ id p le l. elim (object-born m.objects o id p l.0) [ inl old ↦ (old, l.1) | inr new ↦ absurd (outside (p.base + p.size) le (ap (λ (x : Obj). x.base + x.size) new.1)) ];
+      bare = λ at le none id p l. elim (object-born m.objects o id p l.0) [ inl old ↦ none id p (old, l.1) | inr new ↦ inr (under at (p.base + p.size) le (ap (λ (x : Obj). x.base + x.size) new.1)) ];
+      cells = λ at le. birth-other (record { flat = m; blocks = mem.holds.words.held.blocks }) o at mem.holds.words.held.safe room (inr (omega (arith, le, deep)));
+      stack = refl;
+    }
+      where
+        outside : (end : ℕ) → sp + cost ≤ end → end ≡ base + slot.size → ⊥
+        outside end le is = let i = inside in omega (arith, le, is, i)
+
+        under : (at end : ℕ) → sp + depth ≤ at → end ≡ base + slot.size → end ≤ at
+        under at end le is = omega (arith, le, is, deep)
 
   -- all objects of a block
   abbrev Rest : List ℕ → List Auto → Type 0
@@ -197,6 +253,43 @@ module _ (slots : ℕ → List Slot) (cost : ℕ) (fits : Fits slots cost) (bs :
           next (length w.objects + 1) mem2
           (λ j x q. let l = length-append ids ((length w.objects + 1) ∷ []) in let r = rest (suc j) x q in subst (λ n. slice_get (slots b) n ≡ Some x.slot) (omega (arith, l)) r)
           e
+
+  -- they leave the rest
+  module _ (depth : ℕ) (deep : (i : ℕ) (s : Slot) → slice_get (slots b) i ≡ Some s → s.offset + s.size ≤ depth) where
+    pub births_rest : (todo : List Auto) (ids more : List ℕ) (w v : World) → HasFrame slots cost (bs ++ entered b ids ∷ []) w → Rest ids todo → born_autos todo ids w ≡ Done more v
+        → (x y : Store) → w.beside.memory ≡ Some x → v.beside.memory ≡ Some y → LeavesRest (foot w + depth) (foot w + cost) x y
+    births_rest [] ids more w v mem rest e x y xs ys =
+        let world : w ≡ v = cc (e) in
+        subst (λ z. LeavesRest (foot w + depth) (foot w + cost) x z) (one_store x y (sym xs ∙ ap (λ (u : World). u.beside.memory) world ∙ ys)) (rest_same (foot w + depth) (foot w + cost) x)
+    births_rest (a ∷ todo) ids more w v mem rest e x y xs ys = by_room (nat_le 4000000000 (length w.objects)) refl (λ n mem2 rest2 e2 z zs. births_rest todo (ids ++ n ∷ []) more (pass (birth_of a) w) v mem2 rest2 e2 z y zs ys) e
+      where
+        birth_of : Auto → Item
+        birth_of a = Birth a.slot.size (auto_kind a.slot.constant) (SlotSpot a.slot.offset)
+
+        go_on : Outcome ℕ → Outcome (List ℕ)
+        go_on r = and_then r (λ id u. born_autos todo (ids ++ id ∷ []) u)
+
+        by_room : (full : Bool) → nat_le 4000000000 (length w.objects) ≡ full
+            → ((n : ℕ) → HasFrame slots cost (bs ++ entered b (ids ++ n ∷ []) ∷ []) (pass (birth_of a) w) → Rest (ids ++ n ∷ []) todo → born_autos todo (ids ++ n ∷ []) (pass (birth_of a) w) ≡ Done more v
+            → (z : Store) → (pass (birth_of a) w).beside.memory ≡ Some z → LeavesRest (foot w + depth) (foot w + cost) z y)
+            → go_on (if full then Over (BirthLimit w) else Done (length w.objects + 1) (pass (birth_of a) w)) ≡ Done more v
+            → LeavesRest (foot w + depth) (foot w + cost) x y
+        by_room true is next e = absurd (cc (e))
+        by_room false is next e =
+            let first : slice_get (slots b) (length ids) ≡ Some a.slot = subst (λ n. slice_get (slots b) n ≡ Some a.slot) (omega arith) (rest 0 a refl) in
+            let count = mem.holds.words.held.holds.count in
+            let few = few_objects (length w.objects) (length mem.holds.memory.flat.objects) is count in
+            let one = slot_birth ids w a.slot a.slot.constant mem first few in
+            let mem2 = subst (λ n. HasFrame slots cost (bs ++ entered b (ids ++ (n + 1) ∷ []) ∷ []) (pass (birth_of a) w)) count one in
+            let base : ℕ = foot w + a.slot.offset in
+            let now : Store = record { flat = with_birth mem.holds.memory.flat (record { size = a.slot.size; kind = auto_kind a.slot.constant; base = foot w + a.slot.offset; live = true }); blocks = mem.holds.memory.blocks } in
+            let there : (pass (birth_of a) w).beside.memory ≡ Some now = ap (option_map (born_in a.slot.size (auto_kind a.slot.constant) (Some base))) mem.holds.there in
+            let born_first = birth_rest ids w a.slot a.slot.constant mem first few depth (deep (length ids) a.slot first) in
+            let born_last = next (length w.objects + 1) mem2
+            (λ j q r. let l = length-append ids ((length w.objects + 1) ∷ []) in let s = rest (suc j) q r in subst (λ n. slice_get (slots b) n ≡ Some q.slot) (omega (arith, l)) s)
+            e now there in
+            subst (λ z. LeavesRest (foot w + depth) (foot w + cost) z y) (one_store mem.holds.memory x (sym mem.holds.there ∙ xs))
+            (rest_then (foot w + depth) (foot w + cost) mem.holds.memory now y born_first born_last)
 
   -- ---- deaths, the last born first
 
@@ -275,11 +368,41 @@ module _ (slots : ℕ → List Slot) (cost : ℕ) (fits : Fits slots cost) (bs :
       high = mem.high;
       area = mem.area;
       aligned = mem.aligned;
-      only = λ other p live counts.
+      only = λ other p live.
           let old = live-ended table id dying.object dying.live.0 other p live in
-          elim (mem.only other p old.1 counts) [ inl x ↦ inl x | inr y ↦ inr (elim y [ inl z ↦ inl z | inr q ↦ inr (open_after other p old.0 q) ]) ];
+          elim (mem.only other p old.1) [ inl x ↦ inl x | inr y ↦ inr (elim y [ inl z ↦ inl z | inr q ↦ inr (open_after other p old.0 q) ]) ];
       lives = lives_after;
     }
+
+    -- the rest is as it was
+    pub death_rest : LeavesRest 0 (under + cost) mem.holds.memory (died_in id mem.holds.memory)
+    death_rest = record {
+      objects = λ other p e. moved other p e;
+      lives = λ other p le l. ended-live table id dying.object dying.live.0 other p (λ same. in_it p le (sym l.0 ∙ ap (object_of table) same ∙ dying.live.0)) l;
+      only = λ other p le l. (live-ended table id dying.object dying.live.0 other p l).1;
+      bare = λ at le none other p l. none other p (live-ended table id dying.object dying.live.0 other p l).1;
+      cells = λ at le. refl;
+      stack = refl;
+    }
+      where
+        in_it : (p : Obj) → under + cost ≤ p.base → Some p ≡ Some dying.object → ⊥
+        in_it p le e =
+            let same : p.base ≡ dying.object.base = base_of p dying.object e in
+            let at = dying.base in
+            let i = fits.inside b (length front) dying.slot dying.slotted in
+            omega (arith, le, same, at, i)
+          where
+            base_of : (x y : Obj) → Some x ≡ Some y → x.base ≡ y.base
+            base_of x y e = cc (e)
+
+        some_place : object_of table id ≡ Some dying.object
+        some_place = dying.live.0
+
+        moved : (other : ℕ) (p : Obj) → object_of table other ≡ Some p → (q : Obj) × (object_of (ended table id) other ≡ Some q) × (q.base ≡ p.base) × (q.size ≡ p.size)
+        moved other p e =
+            let first = object-within table id dying.object some_place in
+            let there = sym (object_of-at table id first.0) ∙ some_place in
+            subst (λ l. (q : Obj) × (object_of l other ≡ Some q) × (q.base ≡ p.base) × (q.size ≡ p.size)) (sym (ended-is table id dying.object some_place)) (ended_kept table (id - 1) dying.object p other there e)
 
   -- all objects of a block die
   pub all_deaths : (front tail : List ℕ) (w : World) → HasFrame slots cost (bs ++ entered b (front ++ tail) ∷ []) w → HasFrame slots cost (bs ++ entered b front ∷ []) (all_dead tail w)
@@ -287,3 +410,15 @@ module _ (slots : ℕ → List Slot) (cost : ℕ) (fits : Fits slots cost) (bs :
   all_deaths front (id ∷ tail) w mem =
       let inner = all_deaths (front ++ id ∷ []) tail w (subst (λ l. HasFrame slots cost (bs ++ entered b l ∷ []) w) (sym (append_assoc front (id ∷ []) tail)) mem) in
       slot_death front id (all_dead tail w) inner
+
+  -- they leave the rest
+  pub deaths_rest : (front tail : List ℕ) (w : World) → HasFrame slots cost (bs ++ entered b (front ++ tail) ∷ []) w → (x y : Store) → w.beside.memory ≡ Some x → (all_dead tail w).beside.memory ≡ Some y → LeavesRest 0 (foot w + cost) x y
+  deaths_rest front [] w mem x y xs ys = subst (λ z. LeavesRest 0 (foot w + cost) x z) (one_store x y (sym xs ∙ ys)) (rest_same 0 (foot w + cost) x)
+  deaths_rest front (id ∷ tail) w mem x y xs ys =
+      let mem1 = subst (λ l. HasFrame slots cost (bs ++ entered b l ∷ []) w) (sym (append_assoc front (id ∷ []) tail)) mem in
+      let inner = all_deaths (front ++ id ∷ []) tail w mem1 in
+      let first = deaths_rest (front ++ id ∷ []) tail w mem1 x inner.holds.memory xs inner.holds.there in
+      let last = death_rest front id (all_dead tail w) inner in
+      let there : (all_dead (id ∷ tail) w).beside.memory ≡ Some (died_in id inner.holds.memory) = ap (option_map (died_in id)) inner.holds.there in
+      rest_then 0 (foot w + cost) x inner.holds.memory y first
+      (subst (λ z. LeavesRest 0 (foot w + cost) inner.holds.memory z) (one_store (died_in id inner.holds.memory) y (sym there ∙ ys)) (subst (λ n. LeavesRest 0 (0x20000000 - n + cost) inner.holds.memory (died_in id inner.holds.memory)) (dead_used tail w) last))

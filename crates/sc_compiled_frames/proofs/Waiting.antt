@@ -23,19 +23,12 @@ use Rattle.sc_compiled_frames.proofs.Beside.{words_beside}
 use Rattle.sc_compiled_frames.specs.Frames.{HasFrame, IsBelow, Placed, foot, waiting}
 use Rattle.sc_compiled_frames.proofs.Near.{near_stack}
 
--- ---- an object without bytes is in no byte's way
-
-pub bytes_or_none : (n : ℕ) → (0 < n) ⊎ (n ≡ 0)
-bytes_or_none zero = inr refl
-bytes_or_none (suc n) = inl (omega arith)
+-- ---- one of two
 
 pub below_or_not : (n m : ℕ) → (n < m) ⊎ (m ≤ n)
 below_or_not n zero = inr (omega arith)
 below_or_not zero (suc m) = inl (omega arith)
 below_or_not (suc n) (suc m) = elim (below_or_not n m) [ inl lt ↦ inl (omega (arith, lt)) | inr le ↦ inr (omega (arith, le)) ]
-
-pub no_bytes : (at base size : ℕ) → size ≡ 0 → (at < base) ⊎ (base + size ≤ at)
-no_bytes at base size none = elim (below_or_not at base) [ inl lt ↦ inl lt | inr le ↦ inr (omega (arith, le, none)) ]
 
 -- ---- what is written is read
 pub drop_front : {A : Type 0} (n : ℕ) (xs ys : List A) → n ≤ length xs → drop n (take n xs ++ ys) ≡ ys
@@ -97,18 +90,15 @@ module _ (slots : ℕ → List Slot) (cost : ℕ) (bs : List Born) (f : Key → 
       ap (λ b. if b then place m at 4 else None) (test_holds at fours) ∙ place_is
 
   pub bare : IsBelow slots t → IsBare m.objects at
-  bare under id p live = elim (bytes_or_none p.size) [
-    | inl some ↦ elim (mem.only id p live (inl some)) [
-      | inl x ↦ inr (omega (arith, x))
-      | inr y ↦ elim y [
-        | inl z ↦ inl (omega (arith, z, room))
-        | inr q ↦
-            let further = under q.of.block q.index q.slot q.slotted in
-            let base = q.base in
-            inl (omega (arith, further, base))
-      ]
+  bare under id p live = elim (mem.only id p live) [
+    | inl x ↦ inr (omega (arith, x))
+    | inr y ↦ elim y [
+      | inl z ↦ inl (omega (arith, z, room))
+      | inr q ↦
+          let further = under q.of.block q.index q.slot q.slotted in
+          let base = q.base in
+          inl (omega (arith, further, base))
     ]
-    | inr none ↦ no_bytes at p.base p.size none
   ]
 
   pub word_waits : (x : Word) (v : Value) → IsBelow slots t → Means f m.objects x v → HasFrame slots cost bs (waiting at x w)
@@ -125,7 +115,7 @@ module _ (slots : ℕ → List Slot) (cost : ℕ) (bs : List Born) (f : Key → 
         high = mem.high;
         area = subst (λ k. 0x20000000 - k ≤ foot w) (sym (stack_same m q part)) mem.area;
         aligned = mem.aligned;
-        only = λ id p live counts. mem.only id p (subst (λ l. IsLive l id p) (table_same m q part) live) counts;
+        only = λ id p live. mem.only id p (subst (λ l. IsLive l id p) (table_same m q part) live);
         lives = λ o h i id e. subst (λ l. Placed slots (foot w) l o.block i id) (sym (table_same m q part)) (mem.lives o h i id e);
       }
 

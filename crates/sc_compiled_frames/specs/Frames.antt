@@ -4,7 +4,10 @@ use Rattle.std.specs.Prelude.{◌≡◌, ◌≢◌, ◌⊎◌, ℕ, ◌+◌, ◌
 use Rattle.sc_base.specs.declared.memory.Word.{Word}
 use Rattle.sc_program.specs.declared.frame.Slot.{Slot}
 use Rattle.sc_objects.specs.declared.objects.Obj.{Obj}
-use Rattle.sc_objects.specs.Numbered.{IsLive}
+use Rattle.sc_objects.specs.Numbered.{IsLive, object_of}
+use Rattle.sc_mem.specs.Flat.{cell_at}
+use Rattle.sc_mem.specs.Safe.{Store}
+use Rattle.sc_mem_store.specs.Living.{IsBare}
 use Rattle.sc_meaning.specs.Beside.{kept_in, with_memory}
 use Rattle.sc_meaning.specs.World.{Born, World}
 use Rattle.sc_compiled_frames.specs.Worlds.{HoldsWords}
@@ -46,19 +49,25 @@ pub record Placed (slots : ℕ → List Slot) (sp : ℕ) (table : List Obj) (blo
   pub base : object.base ≡ sp + slot.offset
   pub size : object.size ≡ slot.size
 
--- an object that a frame counts: one with bytes, or any, where the frame has a slot
-abbrev pub IsCounted : (ℕ → List Slot) → Obj → Type 0
-IsCounted slots p = (0 < p.size) ⊎ ((b : ℕ) × (i : ℕ) × (s : Slot) × (slice_get (slots b) i ≡ Some s))
-
--- The frame is the lowest part of the stack that is used. An object without bytes may stand in a frame without slots.
+-- The frame is the lowest part of the stack that is used.
 pub record HasFrame (slots : ℕ → List Slot) (cost : ℕ) (blocks : List Born) (w : World) : Type 0 where
   pub holds : HoldsWords w
   pub low : 0x1F000000 ≤ foot w
   pub high : foot w + cost ≤ 0x20000000
   pub area : 0x20000000 - holds.memory.flat.stack ≤ foot w
   pub aligned : foot w % 4 ≡ 0
-  pub only : (id : ℕ) (p : Obj) → IsLive holds.memory.flat.objects id p → IsCounted slots p → (p.base + p.size < foot w) ⊎ ((foot w + cost ≤ p.base) ⊎ IsOpen slots blocks (foot w) id p)
+  pub only : (id : ℕ) (p : Obj) → IsLive holds.memory.flat.objects id p → (p.base + p.size < foot w) ⊎ ((foot w + cost ≤ p.base) ⊎ IsOpen slots blocks (foot w) id p)
   pub lives : (o : Born) → Has o blocks → (i id : ℕ) → slice_get o.ids i ≡ Some id → Placed slots (foot w) holds.memory.flat.objects o.block i id
+
+-- What births and deaths in a frame leave: each object where it stands, those above the frame as live as they were, and from one address on what stands
+-- beside all objects.
+pub record LeavesRest (bound top : ℕ) (old new : Store) : Type 0 where
+  pub objects : (id : ℕ) (p : Obj) → object_of old.flat.objects id ≡ Some p → (q : Obj) × (object_of new.flat.objects id ≡ Some q) × (q.base ≡ p.base) × (q.size ≡ p.size)
+  pub lives : (id : ℕ) (p : Obj) → top ≤ p.base → IsLive old.flat.objects id p → IsLive new.flat.objects id p
+  pub only : (id : ℕ) (p : Obj) → top ≤ p.base + p.size → IsLive new.flat.objects id p → IsLive old.flat.objects id p
+  pub bare : (at : ℕ) → bound ≤ at → IsBare old.flat.objects at → IsBare new.flat.objects at
+  pub cells : (at : ℕ) → bound ≤ at → cell_at new.flat at ≡ cell_at old.flat at
+  pub stack : new.flat.stack ≡ old.flat.stack
 
 -- four bytes at an offset of the frame are below all slots
 abbrev pub IsBelow : (ℕ → List Slot) → ℕ → Type 0

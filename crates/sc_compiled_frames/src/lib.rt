@@ -8,7 +8,9 @@ mod slots;
 mod words;
 
 pub use calls::{calls_leave_frames, open_blocks_stand};
-pub use frames::{blocks_stand_in_their_slots, words_wait_in_the_frame};
+pub use frames::{
+    births_and_deaths_leave_the_rest, blocks_stand_in_their_slots, words_wait_in_the_frame,
+};
 pub use slots::formed_slots_fit_their_frame;
 pub use words::{
     conversions_give_values_of_the_type, loads_read_what_is_meant, memory_goes_on_to_hold_words,

@@ -1,6 +1,6 @@
 -- Yardstick: to be compared with what it restates (docs/TRUST.md).
 -- The memory of a run, as compiled code relies on it: it has the objects of the world, those of static storage duration where the code has them, and below
--- the stack's top nothing; and what compiled code that waits keeps in its frame beside all objects stays as it is.
+-- the stack's top no object of the stack; and what compiled code that waits keeps in its frame beside all objects stays as it is.
 use Rattle.std.specs.Prelude.{◌≡◌, ⊤, ℕ, ◌-◌, ◌%◌, ◌^◌, ◌+◌, ◌<◌, ◌≤◌, List, [], ◌∷◌, ◌++◌, length, slice_get, Contains, Option, Some, None}
 use Rattle.sc_base.specs.declared.memory.Cell.TheVariants as stored
 use Rattle.sc_isa_image.specs.Lookups.{value_of}
@@ -58,7 +58,7 @@ abbrev pub AreStubsOf : Image → List Key → Type 0
 AreStubsOf i functions = (key : Key) (at : ℕ) → value_of i key ≡ Some at → (n : ℕ) × (slice_get functions n ≡ Some key) × (at ≡ stub_address n)
 
 -- The memory of a run has the objects of its world, each at its own place; those of static storage duration are born and stand where the code of these
--- texts has them; the stack is used up to a multiple of 4, and free below the frames; what waits does so above, and inside calls that are active; and what happened tells their forms.
+-- texts has them; the stack is used up to a multiple of 4, and its objects stand in the frames; what waits does so above, and inside calls that are active; and what happened tells their forms.
 pub record IsFit (texts : List Text) (image : Image) (places : List (StaticId × ℕ)) (lower : List Lower) (w : World) : Type 0 where
   pub memory : Store
   pub is : w.beside.memory ≡ Some memory
@@ -75,7 +75,7 @@ pub record IsFit (texts : List Text) (image : Image) (places : List (StaticId ×
   pub inner : depth_of lower ≤ length w.frames
   pub forms : TellsForms w
   pub aligned : w.used % 4 ≡ 0
-  pub free : (at : ℕ) → 0x20000000 - w.stack ≤ at → at < stack_top w → IsBareAt w at
+  pub framed : (id : ℕ) (p : Obj) → IsLive memory.flat.objects id p → 0x20000000 - w.stack ≤ p.base → stack_top w ≤ p.base
 
 -- what is stored at an address
 abbrev pub stored_in : Option Store → ℕ → Option Stored
