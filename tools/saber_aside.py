@@ -5,7 +5,7 @@ goes over between its forms at a stop: a session halts before the line, changes 
 or of one further out, and changes it back. Whoever asks the session sees none of these halts.
 """
 import re
-from dataclasses import dataclass, replace
+from dataclasses import dataclass, field, replace
 
 from saber_lines import Lines
 from saber_replay import is_go
@@ -18,10 +18,11 @@ MOST_TIMES = 32
 
 @dataclass(frozen=True)
 class Aside:
-    """A line of a module, and a module that runs compiled while it is carried out."""
+    """A line of a module, and a module that runs compiled while it is carried out; `third` is the line of the `for` whose third part follows and calls it."""
     module: str
     line: int
     callee: str
+    third: int = field(default=0, compare=False)
 
     @property
     def stop(self):

@@ -10,7 +10,7 @@ from dataclasses import dataclass
 from saber_lines import Lines
 from saber_outer import Looker
 from saber_replay import SLICE, has_changes, setup_of
-from saber_search import OVER, at_line, functions_of
+from saber_search import OVER, functions_of
 
 # A place that was seen so often is no rare one.
 OFTEN = 3
@@ -28,8 +28,8 @@ class Frame:
 
 
 def frame_of(text):
-    """The call that a line of `where` tells."""
-    found = re.fullmatch(r"(\S+) at (\w+):(\d+)", text)
+    """The call that a line of `where` tells; of more lines than one at which it may stand the first is taken."""
+    found = re.fullmatch(r"(\S+) at (\w+):(\d+)(?: or .*)?", text)
     if found:
         return Frame(found[1], found[2], int(found[3]), False)
     found = re.fullmatch(r"(\S+) in (\w+) object block (\d+)", text)
@@ -102,7 +102,7 @@ class Debuggee:
         """What looks at the run where it stands."""
         if not self._looker or self._looker.session is not self.session:
             self._look_no_more()
-            self._looker = Looker(self._setup, self.session, self._past, self.is_changed, self._third)
+            self._looker = Looker(self._setup, self.session, self._past, self.lines, self.is_changed, self._third)
         return self._looker
 
     def take(self, past):
@@ -139,7 +139,7 @@ class Debuggee:
         """Begins a go: `run`, `cont`, `step`, `next`, or `out`, which leaves the present call."""
         self._look_no_more()
         if command == "out":
-            frames = self.frames()
+            frames = self._frames()
             self._go_by_stops(frames[1:], len(frames) - 1)
         else:
             self._goal, self._slices = Goal(self._setup.run if command == "run" else command), 0
@@ -165,7 +165,7 @@ class Debuggee:
     def _is_reached(self, text):
         """Whether a halt ends the go."""
         is_helper = text.replace("entered ", "in ") in self._goal.helpers
-        return not is_helper or len(self.frames()) <= self._goal.depth
+        return not is_helper or len(self._frames()) <= self._goal.depth
 
     def _end_goal(self):
         helpers, self._goal, self._slices = self._goal.helpers, None, 0
@@ -175,7 +175,7 @@ class Debuggee:
         """A walk that took more than a slice is lost. It is begun again, by stops at all lines of the calls' functions."""
         is_step = self._goal.first == "step"
         self._come_again()
-        frames = self.frames()
+        frames = self._frames()
         self._go_by_stops(frames, ANY if is_step else len(frames), self.functions if is_step else ())
 
     def _go_by_stops(self, frames, depth, functions=()):
@@ -296,12 +296,13 @@ class Debuggee:
         self.session, self._past = way.session, way.commands
 
     def frames(self):
-        """The active calls, the innermost one first; none where the run shows none."""
+        """The active calls where they stand, the innermost one first; none where the run shows none."""
+        return [it for it in map(frame_of, self.looker.shown()) if it]
+
+    def _frames(self):
+        """The same in the midst of a go, each at the line that it began last."""
         answer = self.session.ask("where")
-        calls = [] if answer.is_refused else list(answer.lines)
-        if self._third and calls:
-            calls[0] = at_line(calls[0], self._third)
-        return [it for it in map(frame_of, calls) if it]
+        return [] if answer.is_refused else [it for it in map(frame_of, answer.lines) if it]
 
 
 def stands_again(debuggee, past, command, seconds):

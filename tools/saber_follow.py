@@ -24,9 +24,10 @@ MOST_OF_ONE = 200
 
 @dataclass(frozen=True)
 class Scene:
-    """A place of a run: the calls, the innermost one first, and the values of names there."""
+    """A place of a run: the calls, the innermost one first, and the values of names there; `begun` are the calls at the lines that they began last."""
     calls: tuple
     values: tuple = ()
+    begun: tuple = ()
 
 
 @dataclass

@@ -1,4 +1,4 @@
-"""The lines of a module on which a statement begins, as docs/COMMANDS.md says where a line is reached.
+"""The lines of a module on which a statement begins, as docs/COMMANDS.md says where a line is reached, and what is called there.
 
 The text is preprocessed by `gcc -E` and parsed by pycparser, which knows where each statement stands. What a header
 gives lies on the line of its #include, as it does for the program.
@@ -9,8 +9,10 @@ import tempfile
 from dataclasses import dataclass
 from pathlib import Path
 
+from saber_search import at_line
 from saber_session import Trouble, refused
 from saber_source import TOKEN, block_around, lines_of
+from saber_statements import loops_around
 
 # The types and macros of the library's headers; what they declare is of no use to a parser.
 SIZES = "typedef unsigned int size_t;\n#define NULL 0\n"
@@ -30,11 +32,23 @@ FRONTS = ("(", "*", "&", "-", "+", "!", "~", "sizeof")
 
 
 @dataclass(frozen=True)
+class Piece:
+    """A statement without those in it, or the third part of a `for`: where it stands, and the lines one of which was begun last as it is carried out.
+
+    `called` are the functions that it calls by their names; `is_open` tells whether it calls others, over pointers.
+    """
+    line: int
+    begun: frozenset
+    called: frozenset
+    is_open: bool
+
+
+@dataclass(frozen=True)
 class Function:
     """A function's name, the line of its name, the lines on which its statements begin, and that of the first one.
 
     `parameters` and `objects` are the names of what is born as it is entered, in the order of births: its parameters, and
-    the objects of its outermost block.
+    the objects of its outermost block. `pieces` are what it carries out.
     `first` is 0 if that line may be reached more often than the function is entered: a loop, or more than one statement.
     """
     name: str
@@ -43,43 +57,67 @@ class Function:
     first: int
     parameters: tuple
     objects: tuple
+    pieces: tuple
 
 
-def functions_in(folder, name, file=""):
-    """The functions that the module's text defines, in their order. The text is in a file of the folder, `NAME.c` if none is named."""
+@dataclass(frozen=True)
+class Text:
+    """What a module's text defines: its functions and the lines of all their statements in their order, and the names that stand for values and not only in calls."""
+    functions: tuple
+    lines: tuple
+    values: frozenset
+
+
+def functions_in(folder, name):
+    """The functions that the module's text in a folder defines, in their order."""
+    return text_in(folder, f"{name}.c").functions
+
+
+def text_in(folder, file):
+    """What the text in a file of the folder defines."""
     try:
         from pycparser import c_parser
     except ImportError:
         raise refused("pycparser is not installed (Debian: python3-pycparser)") from None
-    file = file or f"{name}.c"
     text = preprocessed(folder, file)
     try:
         unit = c_parser.CParser().parse(text, file)
     except Exception as error:  # its class has moved between versions
         raise refused(f"pycparser cannot read {file}: {error}") from error
-    return [Statements(text).function(it) for it in unit.ext if type(it).__name__ == "FuncDef"]
+    statements = Statements(text, frozenset(it.name for it in unit.ext if is_object(it)))
+    functions = tuple(statements.function(it) for it in unit.ext if type(it).__name__ == "FuncDef")
+    values = frozenset(it.name for it in parts_of(unit, is_value_of) if type(it).__name__ == "ID")
+    return Text(functions, tuple(sorted(set().union(*(it.lines for it in functions)))), values)
 
 
 class Lines:
-    """The lines of modules on which statements begin; all lines where a text cannot be parsed here."""
+    """The lines of modules on which statements begin, or all lines where a text cannot be parsed here; and where calls stand."""
 
     def __init__(self, folder):
-        self._folder, self._known, self._files = folder, {}, {}
+        self._folder, self._known, self._files, self._stands = folder, {}, {}, {}
 
     def edited(self, name, file):
         """Takes another file of the folder as the text of a module."""
-        self._known.pop(name, None)
+        self._known.pop(file, None)
         self._files[name] = file
+        self._stands.clear()
+
+    def _known_of(self, file):
+        """What the text of a file defines; nothing where it cannot be parsed here."""
+        if file not in self._known:
+            try:
+                self._known[file] = text_in(self._folder, file)
+            except Trouble:
+                self._known[file] = None
+        return self._known[file]
+
+    def _file(self, name):
+        return self._files.get(name, f"{name}.c")
 
     def of(self, name):
         """The lines of a module, in their order."""
-        if name not in self._known:
-            try:
-                found = sorted(set().union(*(it.lines for it in functions_in(self._folder, name, self._files.get(name)))))
-            except Trouble:
-                found = range(1, len(self._text(name)) + 1)
-            self._known[name] = found
-        return self._known[name]
+        known = self._known_of(self._file(name))
+        return known.lines if known else range(1, len(self._text(name)) + 1)
 
     def around(self, name, line):
         """Those of the definition that a line belongs to."""
@@ -87,7 +125,33 @@ class Lines:
         return [it for it in self.of(name) if it in block]
 
     def _text(self, name):
-        return lines_of(self._folder / self._files.get(name, f"{name}.c"))
+        return lines_of(self._folder / self._file(name))
+
+    def standing(self, calls, called=()):
+        """The calls as `where` shows them, each where it stands; the innermost one has called one of the named functions, if any are named.
+
+        `where` shows the line that a call began last, and the third part of a `for` begins none. A call is in one if the statements on the line
+        do not call what it has called. Where both may have called it, both lines are named.
+        """
+        names = [tuple(called), *((it.split()[0].rpartition(":")[2],) for it in calls)]
+        return tuple(self._stands.get(it) or self._stands.setdefault(it, self._found(*it)) for it in zip(calls, names))
+
+    def _found(self, call, called):
+        found = called and re.fullmatch(r"\S+ at (\w+):(\d+)", call)
+        if not found or not any("(" in [it.text for it in loop.parts[2]] for loop in loops_around(self._text(found[1]), int(found[2]))):
+            return call
+        line, known = int(found[2]), self._known_of(self._file(found[1]))
+        pieces = [it for function in known.functions for it in function.pieces if line in it.begun] if known else []
+        callers = [it for it in pieces if it.called.intersection(called) or it.is_open and any(map(self._is_value, called))]
+        first, *others = sorted({it.line for it in callers}, key=lambda it: (it != line, it)) or [line]
+        return at_line(call, first) + "".join(f" or {found[1]}:{it}" for it in others)
+
+    def _is_value(self, name):
+        """Whether a function's name may stand for a pointer to it somewhere."""
+        named = {it for it in self._folder.glob("*.[ch]") if re.search(rf"\b{name}\b(?!\s*\()", "\n".join(lines_of(it)))}
+        in_header = any(it.suffix == ".h" for it in named)
+        texts = [self._known_of(it.name) for it in self._folder.glob("*.c") if in_header or it in named]
+        return any(it is None or name in it.values for it in texts)
 
 
 def preprocessed(folder, file):
@@ -129,8 +193,9 @@ def own_lines(text, file):
 class Statements:
     """Finds the first tokens of statements. A node of the parser may begin behind them, as behind a bracket."""
 
-    def __init__(self, text):
-        self._tokens, self._at = [], {}
+    def __init__(self, text, pointers=frozenset()):
+        """`pointers` are names of objects at file scope: a call of one is over a pointer."""
+        self._tokens, self._at, self._pointers = [], {}, pointers
         line = 1
         for it in text.split("\n"):
             mark = re.match(r"# (\d+) ", it)
@@ -149,20 +214,29 @@ class Statements:
         """What is to be known of a definition."""
         items = node.body.block_items or []
         lines = [line for it in items for line in self._statement(it)]
+        pointers = self._pointers | {it.name for it in parts_of(node) if is_object(it)}
         begin = next((it for it in items if any(True for _ in self._statement(it))), None)
         is_once = begin is not None and type(begin).__name__ not in ("For", "While", "DoWhile", "Label", "Compound")
         first = lines[0] if is_once and lines.count(lines[0]) == 1 else 0
         return Function(node.decl.name, self._name_line(node.decl), frozenset(lines), first,
                         tuple(it.name for it in getattr(node.decl.type.args, "params", None) or [] if getattr(it, "name", None)),
-                        tuple(it.name for it in items if is_object(it)))
+                        tuple(it.name for it in items if is_born(it)),
+                        tuple(it for item in items for it in self._pieces(item, pointers)))
 
     def _statement(self, node):
         """The lines that a statement or declaration reaches, its parts among them, in their order."""
         yield from self._lines_of_one(node)
-        for part in ("block_items", "iftrue", "iffalse", "stmt", "stmts"):
-            inner = getattr(node, part, None)
-            for it in inner if isinstance(inner, list) else [inner] if inner is not None else []:
-                yield from self._statement(it)
+        for it in statements_in(node):
+            yield from self._statement(it)
+
+    def _pieces(self, node, pointers):
+        """What a statement or declaration carries out, its parts among it."""
+        for line in self._lines_of_one(node):
+            yield Piece(line, frozenset([line]), *called_in(expressions_of(node), pointers))
+        if type(node).__name__ == "For" and node.next is not None:
+            yield Piece(node.coord.line, frozenset(self._statement(node)), *called_in([node.next], pointers))
+        for it in statements_in(node):
+            yield from self._pieces(it, pointers)
 
     def _lines_of_one(self, node):
         """The lines of a statement alone, or of the initialised declarator."""
@@ -210,13 +284,49 @@ class Statements:
 
 
 def is_object(node):
+    """Whether a node declares an object."""
+    return type(node).__name__ == "Decl" and bool(node.name) and type(node.type).__name__ != "FuncDecl"
+
+
+def is_born(node):
     """Whether an item of a block is the declaration of an object that is born with the block."""
-    is_declared = type(node).__name__ == "Decl" and node.name and type(node.type).__name__ != "FuncDecl"
-    return is_declared and not {"static", "extern"} & set(node.storage)
+    return is_object(node) and not {"static", "extern"} & set(node.storage)
 
 
-def parts_of(node):
-    """A node and all below it."""
-    yield node
-    for _, it in node.children():
-        yield from parts_of(it)
+def statements_in(node):
+    """The statements and declarations right in a statement."""
+    for part in ("block_items", "iftrue", "iffalse", "stmt", "stmts"):
+        inner = getattr(node, part, None)
+        yield from inner if isinstance(inner, list) else [inner] if inner is not None else []
+
+
+def expressions_of(node):
+    """What a statement or declaration evaluates itself, without the third part of a `for`."""
+    kind = type(node).__name__
+    if kind in ("If", "While", "DoWhile", "Switch"):
+        return [node.cond]
+    if kind == "For":
+        return [it for it in (node.init, node.cond) if it is not None]
+    return [] if kind in ("Compound", "Label", "Case", "Default") else [node]
+
+
+def called_in(expressions, pointers):
+    """The names of the functions that expressions call, and whether they call others over pointers."""
+    callees = [it.name for expression in expressions for it in parts_of(expression) if type(it).__name__ == "FuncCall"]
+    names = {it.name if type(it).__name__ == "ID" else None for it in callees}
+    return frozenset(names - pointers - {None}), bool(names & {None, *pointers})
+
+
+def parts_of(node, is_wanted=lambda node, part: True):
+    """A node and all below it, in the order of the text, but for those parts of a node that are not wanted, and what is below them."""
+    waiting = [node]
+    while waiting:
+        at = waiting.pop()
+        yield at
+        waiting += [it for part, it in reversed(at.children()) if is_wanted(at, part)]
+
+
+def is_value_of(node, part):
+    """Whether a part of a node is no mere name of a function that is called, or of a member."""
+    left = {"FuncCall": "name", "StructRef": "field"}.get(type(node).__name__)
+    return part != left or type(getattr(node, part)).__name__ != "ID"

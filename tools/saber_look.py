@@ -10,7 +10,7 @@ import re
 from saber_moved import Moved
 from saber_replay import go_again, has_changes, without_stops
 from saber_search import Lost, violation_of
-from saber_session import Module, View
+from saber_session import Module, View, loaded
 from saber_source import TOKEN, block_around, lines_of, names_in, parts_of
 from saber_spots import spots_at
 from saber_statements import HEADS, tokens_of
@@ -28,8 +28,9 @@ KINDS = (
 # a structure is copied to an object of its type, which `print` shows
 STRUCTURE = "saber_value = ({0}), saber_look.pointer = &saber_value"
 LAST_KINDS = (("saber_look.pointer = &({0})", "place"), ("(void) ({0})", "nothing"))
-# so many types are tried
+# so many types are tried, and no more behind so many seconds of processor time
 MOST_TYPES = 64
+MOST_SECONDS = 10
 NULLS = ("0", "NULL")
 # the turns that an expression may take
 TURNS = 4_000_000
@@ -116,14 +117,17 @@ class Look(View):
         hidden = [it for it in names_in([expression]) if it in spot.names]
         if hidden:
             raise Elsewhere(f"{hidden[0]} gets its first values on this line: step on to see them, or use its name alone")
-        why = ""
+        why, spent = "", 0
         for text, member, moved in self.texts(spot, expression):
             self.replace(f"{self.module}.c", text.encode(errors="surrogateescape"))
             with setup.empty() as session:
-                answer = session.ask(f"load {self.module}")
+                answer = loaded(session, f"load {self.module}")
+                spent += session.seconds()
             if not answer.is_refused:
                 return member, moved
             why = why or moved.original(answer.text)
+            if spent > MOST_SECONDS:
+                break
         raise Elsewhere(f"{expression} is no expression here ({why})")
 
 
@@ -141,7 +145,7 @@ def evaluated(setup, commands, calls, expression):
         for spot in view.spots:
             if len(view.spots) == 1 or is_next(view, own, spot, commands, calls):
                 return evaluated_before(view, own, spot, commands, calls, expression)
-    raise Lost("what is next here is not seen in the text: a macro has written it, or nothing stands behind values in braces")
+    raise Lost("what is next here is not seen in the text: a macro has written it, too much stands on the line, or nothing stands behind values in braces")
 
 
 def is_next(view, setup, spot, commands, calls):

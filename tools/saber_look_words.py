@@ -68,9 +68,9 @@ class Looks:
             say("-- the run is repeated up to where it ended")
             way = self._explanation().arrive()
             self._own = way.session
-            self._looker = Looker(shell.run.base, way.session, way.commands, shell.run.is_changed, self._explanation().third)
+            self._looker = Looker(shell.run.base, way.session, way.commands, shell.run.lines, shell.run.is_changed, self._explanation().third)
         elif not self._looker and shell.run and not self.ending:
-            self._looker = Looker(shell.run.base, shell.session, shell.run.commands, shell.run.is_changed)
+            self._looker = Looker(shell.run.base, shell.session, shell.run.commands, shell.run.lines, shell.run.is_changed)
         if not self._looker or not self._looker.calls():
             raise Lost("no run stands here")
         return self._looker

@@ -37,7 +37,7 @@ def ran(setup, sources, turns, show):
         if debuggee.is_over:
             teller.say(f"-- it came to an end: {text}")
         else:
-            teller.scene(Scene(debuggee.looker.calls()), ", where it stood or came by last")
+            teller.scene(Scene(debuggee.looker.shown()), ", where it stood or came by last")
     finally:
         debuggee.close()
     raise Trouble("the run was ended by Ctrl-C", 3)
@@ -55,12 +55,12 @@ class Kept(Explanation):
             self._scene = super().scene()
         return self._scene
 
-    def calls(self):
-        """The calls where the run ended; none where they are not found."""
+    def found_scene(self):
+        """The calls and values where the run ended; none where they are not found."""
         try:
-            return self.scene().calls
+            return self.scene()
         except Lost:
-            return ()
+            return Scene(())
 
 
 def run_once(given, modules, show=show_bytes, is_known=None, take=None, asides=()):

@@ -55,13 +55,13 @@ def commands_to(setup, stop, end, calls):
 class Looker:
     """A session that stands at a place of a run, and what leads there: a setup and commands.
 
-    Of a run whose modules were changed only names of the innermost call are known. `third` is the line of the `for` in whose third
-    part the run ended; its values are as its last line was begun.
+    Of a run whose modules were changed only names of the innermost call are known. `lines` are those of the modules. `third` is the line of
+    the `for` in whose third part the run ended; its values are as its last line was begun.
     """
 
-    def __init__(self, setup, session, commands, is_changed=False, third=0):
-        self._setup, self.session, self._commands, self._is_changed, self._third = setup, session, tuple(commands), is_changed, third
-        self._ways, self._asides = {}, {}
+    def __init__(self, setup, session, commands, lines, is_changed=False, third=0):
+        self._setup, self.session, self._commands, self._lines, self._is_changed = setup, session, tuple(commands), lines, is_changed
+        self._third, self._ways, self._asides = third, {}, {}
 
     def close(self):
         """Ends the sessions that stand in outer calls; the given one stays."""
@@ -75,8 +75,9 @@ class Looker:
         return () if answer.is_refused else answer.lines
 
     def shown(self):
-        """The active calls; one in the third part of a `for` is at the line of the `for`."""
-        calls = self.calls()
+        """The active calls; one in the third part of a `for` is at the line of the `for`, if the modules are those with which the run began."""
+        is_changed = self._is_changed or has_changes(self._commands)
+        calls = self.calls() if is_changed else self._lines.standing(self.calls())
         return (at_line(calls[0], self._third), *calls[1:]) if self._third and calls else calls
 
     def begun(self, at):

@@ -19,8 +19,8 @@ MOST_SHOWN = 100
 class NotReady(Trouble):
     """A file that the pre-pass cannot write so that `load` takes it; `has_words` tells whether words of a command line may help."""
 
-    def __init__(self, text, has_words):
-        super().__init__(text, 2)
+    def __init__(self, text, has_words, status=2):
+        super().__init__(text, status)
         self.has_words = has_words
 
 
@@ -60,7 +60,8 @@ class Ready:
             for line in lines_of(self._project, is_quiet, is_verbose):
                 print(line, file=sys.stderr)
             if failures:
-                raise NotReady("; ".join(map(str, failures)), any("not found" in str(it) for it in failures))
+                told = list(dict.fromkeys(map(str, failures)))
+                raise NotReady("; ".join(told), any("not found" in it for it in told), 4 if any(it.status == 4 for it in failures) else 2)
             if self._project.has_problems:
                 raise NotReady("what is named `not taken` cannot be loaded; its lines say which words or edits help", True)
         except BaseException:

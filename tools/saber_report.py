@@ -1,10 +1,10 @@
 """Explains how a run ended: the calls, the values on the line, and the life of the object that the report names."""
 import re
-from dataclasses import dataclass
+from dataclasses import dataclass, replace
 from functools import cached_property
 
 from saber_follow import Scene, follow
-from saber_lines import functions_in
+from saber_lines import Lines, functions_in
 from saber_search import START, Leg, Lost, Search, Step, at_line, halt_of, violation_of
 from saber_session import FAULTS, Trouble
 from saber_source import names_in
@@ -107,9 +107,20 @@ class Explanation:
         found, is_third = self.thirds()
         return found[0].line if is_third else 0
 
-    def _shown(self, calls):
-        """The calls where the run ended. The program tells the last line that was begun; of the third part of a `for` it is that of the `for`."""
-        return (at_line(calls[0], self.third), *calls[1:]) if self.third else calls
+    @cached_property
+    def _lines(self):
+        """The lines of the modules, if they are those with which the run began."""
+        return Lines(self.setup.view.folder) if self.setup.view else None
+
+    def _standing(self, calls, *called):
+        """Calls where they stand; the innermost one has called one of these functions, if it is known."""
+        return self._lines.standing(calls, called) if self._lines else calls
+
+    def _ended_at(self, calls, values):
+        """The scene where the run ended. One that could not enter a function has called it."""
+        entered = re.fullmatch(r"stack full entering (\S+)", self.text)
+        shown = self._standing(calls, *([entered[1].rpartition(":")[2]] if entered else []))
+        return Scene((at_line(shown[0], self.third), *shown[1:]) if self.third else shown, tuple(values), calls)
 
     @cached_property
     def _legs(self):
@@ -157,23 +168,25 @@ class Explanation:
         if self._followed and self._followed.scene:
             shown = self._names_of_thirds if self.third else self._names
             values = (it for it in self._followed.scene.values if it.partition(" = ")[0] in shown)
-            return Scene(self._shown(self._followed.scene.calls), tuple(values))
+            return self._ended_at(self._followed.scene.calls, values)
         with self.arrive().session as session:
             calls = session.ask("where").lines
             found = CALL.match(calls[0]) if self.is_aborted else None
             names = names_in(self.sources.statement(found[2], int(found[3]))) if found else self._names
             told = session.ask_all([f"print {it}" for it in names])
-        return Scene(self._shown(calls), tuple(it.text for it in told if " = " in it.text))
+        return self._ended_at(calls, (it.text for it in told if " = " in it.text))
 
     def block(self, number):
         """The heap block of this number, if it is known to be one."""
-        return self._followed.blocks.get(number) if self._followed else None
+        found = self._followed.blocks.get(number) if self._followed else None
+        return found and replace(found, born=self._standing(found.born, found.caller), died=self._standing(found.died, "free", "realloc"))
 
     def birth(self, number, is_dead):
         """Where an object that is no heap block was born, and for a dead one when its call was left."""
         entries = self._followed and self._followed.entries.get(number)
         found = entries and self._birth_by_entry(number, *entries)
-        return found if found and not is_dead else self._birth_by_steps(number, is_dead)
+        found = found if found and not is_dead else self._birth_by_steps(number, is_dead)
+        return replace(found, calls=self._standing(found.calls))
 
     def _birth_by_entry(self, number, before, after):
         """The birth of an object that was born as the run began or as a function was entered, by entries around it; else nothing."""

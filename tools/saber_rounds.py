@@ -8,7 +8,8 @@ import dataclasses
 import re
 
 from saber_aside import Aside, TooOften
-from saber_debug import Echo
+from saber_debug import Echo, frame_of
+from saber_follow import Scene
 from saber_once import run_once, show_bytes
 from saber_report import RULES
 from saber_session import status_of
@@ -19,7 +20,7 @@ MOST_LINES = 8
 
 @dataclasses.dataclass(frozen=True)
 class Step:
-    """An undefined step that a run took: its report, its place in the user's file, the calls there, and those as they are told.
+    """An undefined step that a run took: its report, its place in the user's file, the scene there, and its calls as they are told.
 
     `reported` is the place that the report tells: another one where the step is in the third part of a `for`. Both are nothing where
     they are not known.
@@ -27,7 +28,7 @@ class Step:
     violation: object
     place: object
     reported: object
-    calls: tuple = ()
+    scene: Scene = Scene(())
     told: tuple = ()
 
     @property
@@ -39,8 +40,11 @@ class Step:
     @property
     def aside(self):
         """The innermost interpreted line that led into the step's own call, as one to be carried out aside; nothing where there is none."""
-        found = next((it for it in map(re.compile(r"\S+ at (\w+):(\d+)").fullmatch, self.calls[1:]) if it), None)
-        return Aside(found[1], int(found[2]), self.violation.module) if found else None
+        for begun, call in zip(self.scene.begun[1:], self.scene.calls[1:]):
+            if found := re.fullmatch(r"\S+ at (\w+):(\d+)", begun):
+                third = frame_of(call).line
+                return Aside(found[1], int(found[2]), self.violation.module, third if third != int(found[2]) else 0)
+        return None
 
 
 def step_of(explanation):
@@ -108,9 +112,9 @@ class Rounds:
             return
         step = step_of(explanation)
         goes_on = self._given.go_on or self._is_known(step)
-        calls = explanation.calls() if goes_on or not self._given.brief else ()
-        told = () if self._given.brief or self._is_known(step) else tuple(map(teller.call, calls))
-        self._last = dataclasses.replace(step, calls=calls, told=told)
+        scene = explanation.found_scene() if goes_on or not self._given.brief else Scene(())
+        told = () if self._given.brief or self._is_known(step) else tuple(map(teller.call, scene.calls))
+        self._last = dataclasses.replace(step, scene=scene, told=told)
         if self._is_listed(step):
             print("-- this one is in the list already")
         else:
@@ -135,8 +139,8 @@ class Rounds:
         return True
 
     def _called(self, aside):
-        place = self._sources.place(aside.module, aside.line)
-        return f"{place.file}:{place.line}"
+        place, third = (self._sources.place(aside.module, it) for it in (aside.line, aside.third))
+        return f"{place.file}:{place.line}" + (f" with the third part of {third.file}:{third.line}" if aside.third else "")
 
     def _give_up(self, names, why):
         """Has modules run compiled from the start on, and with them those that ran so only where their lines were carried out."""

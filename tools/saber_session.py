@@ -60,6 +60,13 @@ class NotTaken(Trouble):
         self.line = int(line) if line.isdigit() else 0
 
 
+class TooLong(Trouble):
+    """A text on which the program works for too long."""
+
+    def __init__(self, text):
+        super().__init__(text, 4)
+
+
 class TwoHeaders(Trouble):
     """Headers of one name in two folders of modules."""
 
@@ -252,7 +259,7 @@ class Session:
         before = self.seconds() if self._is_bounded else 0
         while self._is_bounded and not select.select([self.child.stdout], [], [], 1)[0]:
             if self.seconds() - before > MOST_SECONDS:
-                raise refused(f"no answer after {MOST_SECONDS} s of processor time")
+                raise TooLong(f"no answer after {MOST_SECONDS} s of processor time")
 
     def _told(self, show):
         """The bytes up to the next mark, which is taken off, and how many of them were shown."""
@@ -431,10 +438,8 @@ def loaded(session, command):
     """The answer to a command that translates a text."""
     try:
         return session.ask_bounded(command)
-    except Early:
-        raise
-    except Trouble as trouble:
-        raise refused(f"{command}: {trouble}") from None
+    except TooLong as trouble:
+        raise TooLong(f"{command}: {trouble}") from None
 
 
 def load(session, module):

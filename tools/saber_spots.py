@@ -9,6 +9,8 @@ from saber_statements import Statement, body_around
 
 TYPE_WORDS = frozenset("auto char const enum extern int long register short signed static struct typedef union unsigned void".split())
 NAME = re.compile(r"[A-Za-z_]\w*")
+# of more places on a line none is given
+MOST_ON_A_LINE = 32
 
 
 @dataclass(frozen=True)
@@ -109,7 +111,10 @@ def spots_at(lines, line):
     if not body:
         return []
     found = [it for statement in body.all() for it in reached(statement)]
-    own = [spot for it in found if line_of(*it) == line and (spot := spot_at(*it, body))]
+    there = [it for it in found if line_of(*it) == line]
+    if len(there) > MOST_ON_A_LINE:
+        return []
+    own = [spot for it in there if (spot := spot_at(*it, body))]
     if line > body.first.line or not found:
         return own
     first = spot_at(*found[0], body)

@@ -19,12 +19,13 @@ class Teller:
         print(text, file=self._sink, flush=True)
 
     def call(self, line):
-        """A line of `where`, with the text of its source line."""
-        found = re.search(r" at (\w+):(\d+)$", line)
-        if not found or found[2] == "0":
+        """A call, with the text of its source line, or of each line at which it may stand."""
+        found = re.search(r" at (\w+:\d+(?: or \w+:\d+)*)$", line)
+        places = [(it[1], int(it[2])) for it in re.finditer(r"(\w+):(\d+)", found[1])] if found else []
+        if not any(number for _, number in places):
             return line
-        place = self.sources.place(found[1], int(found[2]))
-        return f"{line:<32} {place.file}:{place.line}: {place.text}"
+        told = (self.sources.place(*it) for it in places)
+        return f"{line:<32} " + " or ".join(f"{it.file}:{it.line}: {it.text}" for it in told)
 
     def calls(self, lines, indent="    "):
         shown = list(lines)

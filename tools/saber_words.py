@@ -34,6 +34,12 @@ OWN_HELP = {
     "why": "explains the undefined step in which the run ended",
 }
 OWN = ("help", "p", "bt", "up", "down", "info", "finish", "why")
+# words of other debuggers, and what does the same here
+OTHERS = {
+    **dict.fromkeys(("b", "br", "break", "tbreak"), "stop in F, or stop at M:N,"), **dict.fromkeys(("c", "continue"), "cont"), **dict.fromkeys(("n", "ni"), "next"),
+    **dict.fromkeys(("s", "si"), "step"), **dict.fromkeys(("r", "start"), "run"), "backtrace": "bt", "frame": "up, or down,", "clear": "delete K",
+    **dict.fromkeys(("q", "exit"), "quit"), **dict.fromkeys(("x", "display", "call"), "p EXPRESSION"), "ptype": "whatis NAME", "disassemble": "disas F",
+}
 REFUSALS = {
     "C1": "there is no such command; help lists them",
     "C2": "other words than those of the command, or too long a line; help lists them",
@@ -73,5 +79,11 @@ def meaning(line, answer):
         return None
     if answer == "refused C2" and words[0] in ("load", "unload", "swap", "edit", "compile") and words[1:2] and words[1].endswith(".c"):
         return f"C2: {words[0]} takes the name of a module: {' '.join([words[0], words[1][:-2], *words[2:]])}"
+    if answer == "refused C2" and words[0] == "print" and len(words) > 1:
+        return f"C2: print takes a name alone, and p an expression: p {' '.join(words[1:])}"
+    if answer == "refused C1" and words[0] in OTHERS:
+        return f"C1: there is no such command; {OTHERS[words[0]]} does that here"
+    if answer.startswith("refused C8 ") and words[0] == "swap":
+        return f"C8: there is no such file; compile {words[1]}{' fast' if words[2] == 'fast' else ''} writes it"
     code = answer.split()[1]
     return f"{code}: {REFUSALS[code]}" if code in REFUSALS else None

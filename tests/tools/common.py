@@ -9,6 +9,20 @@ HERE = pathlib.Path(__file__).resolve().parent
 ROOT = HERE.parent.parent
 TOOLS = ROOT / "tools"
 PREP = TOOLS / "saber-prep"
+# Hostile sources. Beside each is what `load` answers by docs/LANGUAGE.md, as an expression; nothing where it takes the text.
+HOSTILE = {
+    "brackets": ("int main(void) { return " + "(" * 3000 + "0" + ")" * 3000 + "; }\n", "refused C5 X10 height brackets.c:1"),
+    # nearly as many blocks inside each other as there may be
+    "blocks": ("int main(void)\n" + "{" * 120 + " return 0; " + "}" * 120 + "\n", None),
+    "wide": ("int main(void)\n{\n    int s = 0;\n    " + "s += 1; " * 20_000 + "\n    return s - s;\n}\n", None),
+    "chain": ("int main(void)\n{\n    int s = 0;\n    return s" + " + s" * 198 + ";\n}\n", None),
+    "cut": ("int main(void)\n{\n    return 0;\n}", None),
+    "bytes": ("".join(map(chr, range(256))), "refused C5 X.* bytes.c:1"),
+    "itself": ("#include \"itself.c\"\n", "refused C5 X.* itself.c:1"),
+    # the types grow by a factor of eight from one line to the next; what gives them up in time says so
+    "types": ("typedef int T0;\n" + "".join(f"typedef void (*T{it})({', '.join([f'T{it - 1}'] * 8)});\n" for it in range(1, 13)) + "extern T12 v;\n",
+              "(refused C5 X10 .*|no answer after .*)"),
+}
 COMPILER = ["gcc", "-m32", "-std=gnu11", "-funsigned-char", "-w"]
 
 
@@ -34,6 +48,14 @@ def checked(usage, parts, files):
                     print(f"FAIL {check}", *told, sep="\n")
     print(f"{passed} passed, {failed} failed")
     return 1 if failed or not passed else 0
+
+
+def spinning(folder):
+    """A program that takes processor time and never answers."""
+    path = folder / "spins.sh"
+    path.write_text("#!/bin/sh\nwhile :; do :; done\n")
+    path.chmod(0o755)
+    return path
 
 
 def one_check(name, test):

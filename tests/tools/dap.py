@@ -10,6 +10,7 @@ import json
 import os
 import pathlib
 import queue
+import re
 import subprocess
 import sys
 import threading
@@ -78,6 +79,8 @@ int main(void)
 """
 FILES = {
     "third.c": THIRD,
+    "outer.c": "static int n;\nstatic int up(int i)\n{\n    return i + 1;\n}\nint main(void)\n{\n    int i;\n    for (i = 0; i < 2; i = up(i)) {\n        n += i;\n"
+               "        n++;\n    }\n    return n;\n}\n",
     "kinds.c": KINDS,
     "stack.c": "#include <stdlib.h>\nstatic int *room;\nstatic int used, limit = 9;\n\nvoid push(int n)\n{\n    room[used] = n;\n    used++;\n}\n\n"
                "void begin(int n)\n{\n    room = malloc(n * sizeof(int));\n    limit = n;\n}\n",
@@ -304,6 +307,10 @@ def expressions(program, room):
     yield "the run is where it was", told["body"]["result"] == "14"
     told = client.ask("evaluate", expression="eval list sizeof(struct node) * 2", frameId=1, context="repl")
     yield "eval at the prompt", told["body"]["result"] == "value 32", told
+    told = client.ask("evaluate", expression="p s + 1", frameId=1, context="repl")
+    yield "p at the prompt", told["success"] and told["body"]["result"] == "15", told
+    told = client.ask("evaluate", expression="help", frameId=1, context="repl")
+    yield "help at the prompt", told["success"] and all(f"{it}" in told["body"]["result"] for it in ("print", "where", "eval M E", "swap M", "edit M")), told
 
 
 def stands_at(client):
@@ -366,6 +373,24 @@ def in_third_part(program, room):
     yield "an expression", told["success"] and told["body"]["result"] == "1", told
     told = client.ask("evaluate", expression="p->v", frameId=1, context="watch")
     yield "no value", told.get("message") == "it has no value: violation U3 in main at third:9 object 3 offset 4 size 4", told
+
+
+def call_in_third_part(program, room):
+    """A call that is made in the third part of a `for` stands at the `for`; its values are as its last line was begun."""
+    client = Client(program, room)
+    client.launched(modules=["outer"], cwd=str(room))
+    client.ask("setFunctionBreakpoints", breakpoints=[{"name": "up"}])
+    client.ask("configurationDone")
+    client.event("stopped")
+    yield "the lines", client.frames() == [("outer:up", "outer.c", 2), ("main", "outer.c", 9)], client.frames()
+    told = client.ask("scopes", frameId=2)["body"]["scopes"]
+    yield "the scopes of the outer call", [it["name"] for it in told] == ["Function, as line 11 was begun", "Module, as line 11 was begun"], told
+    told = client.ask("evaluate", expression="n + i + 5", frameId=2, context="watch")
+    yield "an expression in it", told["success"] and told["body"]["result"] == "5", told
+    client.ask("stepOut")
+    client.event("stopped")
+    # the loop's test is next
+    yield "out", client.frames() == [("main", "outer.c", 9)], client.frames()
 
 
 def conditions(program, room):
@@ -491,6 +516,43 @@ def denied(program, room):
     yield "a session that ends", not told["success"] and told["message"].startswith("the session ended early with status 6")
 
 
+def hostile(program, room):
+    """Hostile sources: a run that is looked at as another one is, or a refusal that says what and where; and the session goes on."""
+    for name, (text, refusal) in common.HOSTILE.items():
+        (room / f"{name}.c").write_text(text)
+        client = Client(program, room)
+        client.ask("initialize", adapterID="saber")
+        told = client.ask("launch", modules=[name], cwd=str(room), stopOnEntry=True)
+        if refusal:
+            yield name, not told["success"] and re.fullmatch(f"load {name}: {refusal}", told["message"]), told
+        else:
+            client.ask("setBreakpoints", source={"path": str(room / f"{name}.c")}, breakpoints=[{"line": 2}])
+            client.ask("configurationDone")
+            # its first statement
+            client.event("stopped")
+            client.ask("next")
+            client.event("stopped")
+            told = client.ask("evaluate", expression="6 * 7", frameId=1, context="watch")
+            yield name, told["success"] and told["body"]["result"] == "42", told
+            client.ask("setBreakpoints", source={"path": str(room / f"{name}.c")}, breakpoints=[])
+            client.ask("continue")
+            yield f"the end of {name}", client.event("exited") == {"exitCode": 0}
+        client.ask("disconnect")
+        yield f"the editor ends {name}", client.status() == 0
+    client = Client(program, room)
+    client.launched(modules=["wide"], cwd=str(room))
+    client.ask("setBreakpoints", source={"path": str(room / "wide.c")}, breakpoints=[{"line": 4}])
+    client.ask("configurationDone")
+    client.event("stopped")
+    told = client.ask("evaluate", expression="s + 1", frameId=1, context="watch")
+    yield "a line with too much on it", not told["success"] and "too much stands on the line" in told["message"], told
+    yield "a name on it", client.ask("evaluate", expression="s", frameId=1, context="watch")["body"]["result"] == "0"
+    client = Client(common.spinning(room), room)
+    client.ask("initialize", adapterID="saber")
+    told = client.ask("launch", modules=["cut"], cwd=str(room))
+    yield "a program that does not answer", told.get("message") == "load cut: no answer after 5 s of processor time", told
+
+
 def replayed(program, room):
     """Sends what real clients sent; each answer has to hold what was answered then. A text ROOM stands for the folder."""
     for path in sorted(common.HERE.glob("*.dap")):
@@ -518,4 +580,4 @@ def holds(told, wanted):
 
 if __name__ == "__main__":
     os.environ["PYTHONDONTWRITEBYTECODE"] = "1"
-    sys.exit(common.checked(__doc__, [breakpoints, expressions, each_statement, before_jumps, in_third_part, conditions, restarts, changes, born_before_change, aborted, pauses, long_steps, denied, replayed], FILES))
+    sys.exit(common.checked(__doc__, [breakpoints, expressions, each_statement, before_jumps, in_third_part, call_in_third_part, conditions, restarts, changes, born_before_change, aborted, pauses, long_steps, denied, hostile, replayed], FILES))

@@ -7,6 +7,7 @@ genhtml (Debian package lcov) has to take a tracefile, if it is installed; it is
 'N passed, M failed'.
 """
 import json
+import re
 import shutil
 import subprocess
 import sys
@@ -92,6 +93,33 @@ def checks(program, room):
     yield "without pycparser", ran.returncode == 2 and ran.stderr.decode() == said, common.told_by(ran)
 
 
+# the functions (line, name, calls) and the lines (line, count) of the hostile sources that are taken
+TAKEN = {
+    "blocks": ([(1, "main", 1)], [(2, 1)]),
+    "wide": ([(1, "main", 1)], [(3, 1), (4, 20_000), (5, 1)]),
+    "chain": ([(1, "main", 1)], [(3, 1), (4, 1)]),
+    "cut": ([(1, "main", 1)], [(3, 1)]),
+}
+
+
+def hostile(program, room):
+    """Hostile sources: a tracefile, or one line that says what and where, and a status; and a program that never ends."""
+    for name, (text, refusal) in common.HOSTILE.items():
+        (room / f"{name}.c").write_text(text)
+        ran = common.tool_run("saber-lcov", program, room, [name])
+        if refusal:
+            lines = ran.stderr.decode().splitlines()
+            told = len(lines) == 1 and re.fullmatch(rf"saber-lcov: load {name}: {refusal}(;.*)?", lines[0])
+            yield name, told and ran.returncode == (4 if "no answer" in lines[0] else 2), common.told_by(ran)
+        else:
+            yield name, ran.returncode == 0 and ran.stdout.decode() == text_of(room, {f"{name}.c": TAKEN[name]}), common.told_by(ran)
+    (room / "spin.c").write_text("int main(void)\n{\n    for (;;)\n        ;\n}\n")
+    ran = common.tool_run("saber-lcov", program, room, ["--turns", "5000", "spin"])
+    yield "a loop without an end", ran.returncode == 3 and ran.stderr.startswith(b"saber-lcov: paused after ") and b"\nDA:4," in ran.stdout, common.told_by(ran)
+    ran = common.tool_run("saber-lcov", common.spinning(room), room, ["cut"])
+    yield "a program that does not answer", ran.returncode == 4 and ran.stderr == b"saber-lcov: load cut: no answer after 5 s of processor time\n", common.told_by(ran)
+
+
 def shown(program, room):
     """genhtml takes a tracefile."""
     if not shutil.which("genhtml"):
@@ -104,4 +132,4 @@ def shown(program, room):
 
 
 if __name__ == "__main__":
-    sys.exit(common.checked(__doc__, [checks, shown], FILES))
+    sys.exit(common.checked(__doc__, [checks, hostile, shown], FILES))

@@ -195,15 +195,16 @@ FAULTS = {
     "no such file": (["nowhere.c"], 2, "nowhere.c: there is no such file"),
     "a folder": (["folder"], 2, "folder: this is no file"),
     "no header": (["header.c"], 3, "header.c:2: 'nowhere.h' file not found; give its folder by -I"),
+    "no config.h": (["config.c"], 3, "config.c:2: use of undeclared identifier 'VALUE'; config.h was not there, and an empty one was taken: give the folder of yours by -I"),
     "an #error": (["error.c"], 3, "error.c:1: wrong machine"),
     "no C": (["text.c"], 3, "text.c:1: unknown type name 'This'"),
     "a bracket": (["open.c"], 3, "open.c:1: expected '}'"),
     "bytes": (["bytes.c"], 3, "bytes.c:1: "),
-    "macros without end": (["bomb.c"], 3, "bomb.c:1: clang makes more of it than can be worked on"),
+    "macros without end": (["bomb.c"], 4, "bomb.c:1: clang makes more of it than can be worked on"),
     "a header of itself": (["itself.c"], 3, "itself.c:1: #include nested too deeply"),
 }
 FILES = {
-    "header.c": b"int x;\n#include \"nowhere.h\"\n", "error.c": b"#error wrong machine\n", "text.c": b"This is no C.\n",
+    "header.c": b"int x;\n#include \"nowhere.h\"\n", "config.c": b"#include <config.h>\nint x = VALUE;\n", "error.c": b"#error wrong machine\n", "text.c": b"This is no C.\n",
     "open.c": b"int main(void) { return 0;\n", "bytes.c": bytes(range(1, 256)),
     "bomb.c": b"#define M0 int a; int a;\n" + b"".join(b"#define M%d M%d M%d\n" % (it, it - 1, it - 1) for it in range(1, 40)) + b"M39\n",
     "itself.c": b"#include \"itself.c\"\n",
@@ -222,6 +223,20 @@ def faults(program, folder):
             return f"{case}: status {ran.returncode}, {lines}"
     changed = [name for name, content in FILES.items() if (folder / name).read_bytes() != content]
     return f"changed: {changed}" if changed or (folder / "out").exists() else None
+
+
+def hostile(program, folder):
+    """A hostile source is written so that it runs, or refused in one line, and soon. clang takes 256 brackets inside each other."""
+    wanted = {"brackets": 3, "bytes": 3, "itself": 3, "types": 4}
+    for name, (text, _) in common.HOSTILE.items():
+        (folder / f"{name}.c").write_text(text)
+        ran = common.prepared([folder / f"{name}.c"], folder / name)
+        lines = [it for it in ran.stderr.splitlines() if it.startswith("saber-prep: ")]
+        if ran.returncode != wanted.get(name, 0) or len(lines) != (name in wanted):
+            return f"{name}: status {ran.returncode}, {ran.stderr[:500]}"
+        if name not in wanted and (came := common.run_of(program, folder / name, [name])) != "> exit 0\n":
+            return f"{name}: {came[:500]}"
+    return None
 
 
 def keeps_the_source(program, folder):
@@ -248,8 +263,24 @@ def own_functions(program, folder):
     return None if came == "wn\n> exit 0\n" else f"{came} {ran.stderr}"
 
 
+def library_without_headers(program, folder):
+    """A function of the library that no header declares is declared as its header has it; a call that does not fit is one of a function of the user's."""
+    (folder / "m.c").write_text(
+        "#include <stdio.h>\nstatic char *twice(char *t)\n{\n    char *made = malloc(2 * strlen(t) + 1);\n    strcpy(made, t);\n    return strcat(made, t);\n}\n"
+        "int main(void)\n{\n    char *t = twice(\"ab\");\n    char *getenv();\n    printf(\"%s %d\\n\", t, getenv(\"NONE\") == NULL);\n    free(t);\n    return other(2) - 4;\n}\n"
+        "int other(int n) { return n + n; }\n")
+    (folder / "n.c").write_text("int main(void) { exit(); return 0; }\n")
+    ran = common.prepared([folder / "m.c"], folder / "out")
+    came, told = common.run_of(program, folder / "out", ["m", *(["saberlib"] if (folder / "out" / "saberlib.c").exists() else [])]), ran.stderr.replace(f"{folder}/", "")
+    wanted = "m.c:4: told: call of malloc without a declaration: it is declared as void *malloc(unsigned int) (the first of 6 places)\n"
+    if (came, told) != ("abab 1\n> exit 0\n", wanted):
+        return f"{came} {told}"
+    ran = common.prepared([folder / "n.c"], folder / "other")
+    return None if (ran.returncode, "call of exit without a declaration: it is declared as int exit(void)" in ran.stderr) == (0, True) else ran.stderr
+
+
 TESTS = [lines_of_own_code, lines_of_headers, names_what_stays, leaves_out, tells_of_narrow, tells_what_changes, tells_by_weight, reads_integers, tells_limits, own_printf,
-         names_of_modules, faults, keeps_the_source, own_functions]
+         names_of_modules, faults, hostile, keeps_the_source, own_functions, library_without_headers]
 
 
 def main():

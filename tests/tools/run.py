@@ -51,14 +51,16 @@ FILES = {
     "user.c": "#include <stdio.h>\nint *below(void), *again(void);\nint last(int);\nint main(void)\n{\n    int i, n = 0;\n    int *p = below();\n    puts(p ? \"one\" : \"none\");\n"
               "    for (i = 0; i < TIMES; i++)\n        n += last(i);\n    p = again();\n    puts(\"two\");\n    n += last(4);\n    return n;\n}\n",
     "often.c": "int *below(void), last(int);\nint main(void)\n{\n    int i, n = 0;\n    for (i = 0; i < 100; i++)\n        n += below() ? 0 : 1;\n    return last(n + 4);\n}\n",
+    # the step is in what the third part of line 5 calls
+    "links.c": "static int room[4];\nint next(int n)\n{\n    return room - n == room ? 0 : 4;\n}\n",
+    "chain.c": "int next(int);\nint main(void)\n{\n    int i, n = 0;\n    for (i = 1; i < 4; i = next(i))\n        n++;\n    return n - 1;\n}\n",
     "bad": "U5 one.c:7\nsomething\n",
     "endless.c": "#include <stdio.h>\nint main(void) { puts(\"begun\"); for (;;) ; }\n",
     "many.c": LARGE + "extern int part(void);\nint main(void) { return part(); }\n",
     "part.c": "int part(void) { return 0; }\n",
     "huge.c": "char all[] = {" + "1," * 600_000 + "};\n",
-    "deep.c": "int main(void) { return " + "(" * 3000 + "0" + ")" * 3000 + "; }\n",
-    # the types grow by a factor of eight from one line to the next
-    "types.c": "typedef int T0;\n" + "".join(f"typedef void (*T{it})({', '.join([f'T{it - 1}'] * 8)});\n" for it in range(1, 13)) + "extern T12 v;\n",
+    "deep.c": common.HOSTILE["brackets"][0],
+    "types.c": common.HOSTILE["types"][0],
     "noise.c": "".join(chr(it % 94 + 33) for it in range(7, 9000, 13)),
 }
 ROOM = ["> violation U2 in main at use:9 object 7 offset 3 size 1", "-- at test/use.c:9", "    p[i] = (uint8_t)i;", "-- calls, the innermost one first",
@@ -118,6 +120,10 @@ CASES = [
     (["--go-on", "often.c", "store.c"], 1, ["-- store runs compiled while often.c:6 is carried out, and is not watched there; the program is run again",
         "-- store is called there too often: store runs compiled from here on, and is no longer watched; the program is run again",
         "  U5 store.c:2 in below: a pointer leaves its object", "-- not watched behind their reports: store"]),
+    (["--go-on", "chain.c", "links.c"], 1, ["> violation U5 in next at links:4 left object 1 + 0 right 1", "    main at chain:5 chain.c:5: for (i = 1; i < 4; i = next(i))",
+        "-- links runs compiled while chain.c:6 with the third part of chain.c:5 is carried out, and is not watched there; the program is run again", "> exit 0",
+        "  U5 links.c:4 in next: a pointer leaves its object", "      main at chain:5 chain.c:5: for (i = 1; i < 4; i = next(i))",
+        "-- links was not watched while these lines were carried out: chain.c:6 with the third part of chain.c:5"]),
     # the step is in the third part of the `for` of line 6
     (["--brief", "--go-on", "third.c"], 1, ["> violation U3 in main at third:7 object 3 offset 0 size 4", "  U3 third.c:6 in main: the object is dead"]),
     (["--known", "seventh", "third.c"], 0, ["  known: U3 third.c:6 in main: the object is dead"]),
@@ -140,8 +146,6 @@ REFUSED = [
     (["huge.c"], "saber-run: huge.c:1: its own text has 1200013 bytes without blanks and comments, and load takes 1048576: cut the file into two"),
     (["deep.c"], None),
     (["noise.c"], None),
-    # a program that takes too long for it is not waited for; one that does not finds no main
-    (["types.c"], None),
 ]
 
 
@@ -161,6 +165,13 @@ def refuses(program, room):
         last = ran.stderr.decode(errors="replace").strip().splitlines()[-1:]
         right = last == [line] if line else last and last[0].startswith("saber-run: ") or b"> refused C13" in ran.stdout
         yield " ".join(words), ran.returncode == 2 and right, common.told_by(ran)
+    # whether the program gives it up or is not waited for, clang makes too much of it
+    for words in (["types.c"], ["-DTYPES", "types.c"]):
+        ran = common.tool_run("saber-run", program, room, words)
+        yield " ".join(words), ran.returncode == 4 and ran.stderr.startswith(b"saber-run: "), common.told_by(ran)
+    spins = common.spinning(room)
+    ran = common.tool_run("saber-run", spins, room, ["plain.c"])
+    yield "a program that does not answer", ran.returncode == 4 and ran.stderr == b"saber-run: load plain: no answer after 5 s of processor time\n", common.told_by(ran)
 
 
 def proposes(program, room):

@@ -26,6 +26,8 @@ FILES = {
                "    struct pair one = { 1, { 2, 3 } };\n    int i, sum = 0;\n    for (i = 0; i < 3; i++)\n        sum += at(&one, i);\n    return sum;\n}\n",
     "say.c": "#include <stdio.h>\nstatic int turns;\nstatic void spin(int n)\n{\n    while (n)\n        turns = 1;\n}\n"
              "int main(void)\n{\n    puts(\"before\");\n    spin(3);\n    return 0;\n}\n",
+    "outer.c": "static int n;\nstatic int up(int i)\n{\n    return i + 1;\n}\nint main(void)\n{\n    int i;\n    for (i = 0; i < 2; i = up(i)) {\n        n += i;\n"
+               "        n++;\n    }\n    return n;\n}\n",
     "even.c": "#include <assert.h>\nint main(void)\n{\n    int seven = 7;\n    assert(seven == 8);\n    return 0;\n}\n",
 }
 
@@ -159,7 +161,8 @@ def words(program, room):
     yield "help", all(it in told for it in ("load M", "stop in F", "print NAME", "whatis NAME", "p NAME", "info locals", "finish")), told
     for line, answer in (
         ("bt", "-- no run stands here"), ("load fault.c", "> refused C2\n-- C2: load takes the name of a module: load fault"),
-        ("lode fault", "> refused C1\n-- C1: there is no such command; help lists them"), ("run", "> refused C13\n-- C13: no module defines main"),
+        ("lode fault", "> refused C1\n-- C1: there is no such command; help lists them"),
+        ("b at", "> refused C1\n-- C1: there is no such command; stop in F, or stop at M:N, does that here"), ("run", "> refused C13\n-- C13: no module defines main"),
         ("load fault", "> loaded fault"), ("stop in at", "> stop 1 in at\n-- no module defines at yet; there is fault:at"),
         ("stop at fault:3", "> stop 2 at fault:3\n-- nothing stands on line 3 of fault, so that this stop never comes; the next such line is 4"),
         ("stop at fault:99", "> stop 3 at fault:99\n-- nothing stands on line 99 of fault, so that this stop never comes"),
@@ -167,6 +170,8 @@ def words(program, room):
         ("bt", "#0* fault:at at fault:2             fault.c:2: static int at(struct pair *p, int n)\n"
                "#1  main at fault:11                 fault.c:11: sum += at(&one, i);"),
         ("p n", "n = 0"), ("p n * 10 - 1", "n * 10 - 1 = -1"), ("p p->b[1]", "p->b[1] = 3"),
+        ("print p->b[1]", "> refused C2\n-- C2: print takes a name alone, and p an expression: p p->b[1]"),
+        ("swap fault fast", "> refused C8 fault.fast.o\n-- C8: there is no such file; compile fault fast writes it"),
         ("p m", "-- m is no expression here (refused C5 X6 fault.c:4)"),
         ("up", "#1* main at fault:11                 fault.c:11: sum += at(&one, i);"), ("p one.b[1]", "one.b[1] = 3   (as line 11 was begun)"),
         ("info locals", "one = {1, {2, 3}}\ni = 0\nsum = 0   (as line 11 was begun)"),
@@ -186,6 +191,20 @@ def words(program, room):
     told = terminal.say("why")
     yield "why", "-- object 1 is one, an object of main's outermost block, born here" in told, told
     yield "another run", terminal.say("reset") == "> reset\n" and terminal.say("bt") == "-- no run stands here\n"
+    terminal.keys("\x04")
+    yield "the end", terminal.status() == 0
+
+
+def in_third_part(program, room):
+    """A call that is made in the third part of a `for` stands at the `for`."""
+    terminal = Terminal([SHELL, "--program", program], room)
+    terminal.shown()
+    for line in ("load outer", "stop in outer:up", "run"):
+        terminal.say(line)
+    told = terminal.say("bt")
+    yield "bt", "#1  main at outer:9 " in told and "outer.c:9: for (i = 0; i < 2; i = up(i)) {" in told, told
+    told = terminal.say("up")
+    yield "up", told.startswith("#1* main at outer:9 ") and terminal.say("p n") == "n = 0   (as line 11 was begun)\n", told
     terminal.keys("\x04")
     yield "the end", terminal.status() == 0
 
@@ -231,4 +250,4 @@ def ends(program, room):
 
 
 if __name__ == "__main__":
-    sys.exit(common.checked(__doc__, [session, edited_between, completion, words, hung, ends], FILES))
+    sys.exit(common.checked(__doc__, [session, edited_between, completion, words, in_third_part, hung, ends], FILES))

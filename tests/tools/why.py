@@ -70,6 +70,18 @@ FILES = {
     "nest.c": "int main(void)\n{\n    int a[3], i, j, *p = a;\n    for (i = 0; i < 3;\n         p += 4, i++)\n        for (j = 0; j < 2; j++)\n"
               "            a[i] = j;\n    return 0;\n}\n",
     "body.c": "int main(void)\n{\n    int a[3], i;\n    for (i = 0; i < 9; i++)\n        a[i] = i;\n    return 0;\n}\n",
+    # the outer call is in the third part, behind a statement that calls something else
+    "outer.c": "#include <stdlib.h>\nstruct n { struct n *next; };\nstatic struct n *next(struct n *p)\n{\n    return p->next;\n}\n"
+               "static void drop(struct n *p)\n{\n    free(p);\n}\nstatic void walk(struct n *p, void (*each)(struct n *))\n{\n    for (; p; p = next(p)) {\n"
+               "        int i = 0;\n        i++;\n        each(p);\n    }\n}\nint main(void)\n{\n    struct n *a = calloc(1, sizeof *a);\n    walk(a, drop);\n    return 0;\n}\n",
+    # both may have called it
+    "either.c": "#include <stdlib.h>\nstruct n { struct n *next; };\nstatic struct n *next(struct n *p)\n{\n    return p->next;\n}\n"
+                "int main(void)\n{\n    struct n *a = calloc(1, sizeof *a), *p;\n    for (p = a; p; p = next(p))\n        next(p), free(p);\n    return 0;\n}\n",
+    # a block that is given in a third part, and given back in another one
+    "parts.c": "#include <stdlib.h>\nint main(void)\n{\n    char *p = 0;\n    int i;\n    for (i = 0; i < 1; p = malloc(2))\n        i++;\n"
+               "    for (i = 0; i < 1; free(p))\n        i++;\n    return p[0];\n}\n",
+    # a depth of calls that the stack does not hold, from a third part
+    "sinks.c": "static int sink(int n)\n{\n    int k = 0;\n    for (; n; n = sink(n))\n        k++;\n    return k;\n}\nint main(void)\n{\n    return sink(1);\n}\n",
     # the third part is carried out more often than is waited for
     "over.c": "int main(void)\n{\n    int i, sum;\n    for (i = 2147453647; i > 0; i++)\n        sum = i;\n    return sum;\n}\n",
     "assert.c": "#include <assert.h>\nstatic int half(int n)\n{\n    assert(n % 2 == 0);\n    return n / 2;\n}\nint main(void)\n{\n    int i;\n"
@@ -155,6 +167,16 @@ CASES = [
                     "    main at third:11 third.c:11: free(p);"]),
     (["nest"], 1, ["> violation U5 in main at nest:6 left object 1 + 0 right 4", "-- at nest.c:4, in the third part of the `for`, behind line 6",
                    "    for (i = 0; i < 3;", "    p += 4, i++)", "    p = object 1 + 0"]),
+    # a is 1, and the node 2
+    (["outer"], 1, ["> violation U3 in outer:next at outer:5 object 2 offset 0 size 4", "    outer:next at outer:5 outer.c:5: return p->next;",
+                    "    outer:walk at outer:13 outer.c:13: for (; p; p = next(p)) {", "    main at outer:22 outer.c:22: walk(a, drop);", "-- and it died here",
+                    "    outer:drop at outer:9 outer.c:9: free(p);", "    outer:walk at outer:16 outer.c:16: each(p);"]),
+    # a is 1, p 2 and the node 3
+    (["either"], 1, ["> violation U3 in either:next at either:5 object 3 offset 0 size 4",
+                     "    main at either:11 or either:10 either.c:11: next(p), free(p); or either.c:10: for (p = a; p; p = next(p))"]),
+    (["parts"], 1, ["> violation U3 in main at parts:10 left dead object 3 + 0 right 0", "-- object 3 is a heap block of 2 bytes, which malloc gave here",
+                    "    main at parts:6 parts.c:6: for (i = 0; i < 1; p = malloc(2))", "-- and it died here", "    main at parts:8 parts.c:8: for (i = 0; i < 1; free(p))"]),
+    (["--stack", "4096", "sinks"], 1, ["> stack full entering sinks:sink", "    sinks:sink at sinks:4 sinks.c:4: for (; n; n = sink(n))", "    main at sinks:10 sinks.c:10: return sink(1);"]),
     (["body"], 1, ["> violation U2 in main at body:5 object 1 offset 12 size 4", "-- at body.c:5", "    i = 3"]),
     (["over"], 1, ["> violation U7 in main at over:5 left 2147483647 right 1", "-- at over.c:5", "    sum = i;",
                    "-- or at over.c:4, in the third part of the `for`, behind line 5", "    for (i = 2147453647; i > 0; i++)"]),

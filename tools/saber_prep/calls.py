@@ -152,7 +152,7 @@ def undeclared(unit: Unit) -> None:
         if it.kind == "FunctionDecl" and it.place >= 0:
             first.setdefault(it.name, it)
     done: set[str] = set()
-    for node in reversed(unit.inner_first()):
+    for node in (it for root in unit.nodes for it in root.walk()):
         named = callee(node) if node.kind == "CallExpr" else None
         if named is None or named.data["referencedDecl"].get("kind") != "FunctionDecl":
             continue

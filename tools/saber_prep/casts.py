@@ -33,7 +33,7 @@ def casts(unit: Unit) -> None:
 
 def implicit(unit: Unit, node: Node) -> None:
     """Writes a cast where a pointer becomes one to another type, or loses `const`."""
-    source, wanted = node.inner[0].plain, node.plain
+    source, wanted = unit.written_out(node.inner[0].plain), unit.written_out(node.plain)
     if is_null(node.inner[0]):
         return
     if is_function(source) != is_function(wanted):
@@ -91,7 +91,7 @@ def between_numbers(unit: Unit, node: Node, kind: str) -> None:
         return
     if kind == "IntegralToPointer" and small_number(unit, node, inner):
         return
-    if is_function(node.plain) or is_function(node.inner[-1].plain) or not in_function(node):
+    if is_function(unit.written_out(node.plain)) or is_function(unit.written_out(node.inner[-1].plain)) or not in_function(node):
         what = "number to pointer" if kind == "IntegralToPointer" else "pointer to number"
         unit.note(Weight.PROBLEM, node.first, f"conversion from {what}", "keep the pointer")
         return
@@ -117,7 +117,7 @@ def small_number(unit: Unit, node: Node, inner: Node) -> bool:
     sign = ""
     if inner.kind == "UnaryOperator" and inner.data.get("opcode") == "-":
         sign, inner = "-", inner.inner[0]
-    if inner.kind != "IntegerLiteral" or pointee(node.plain) is None:
+    if inner.kind != "IntegerLiteral" or pointee(unit.written_out(node.plain)) is None:
         return False
     value = int(sign + inner.data.get("value", "999"))
     if not -1 <= value <= 255:
@@ -130,7 +130,7 @@ def small_number(unit: Unit, node: Node, inner: Node) -> bool:
 
 def functions(unit: Unit, node: Node) -> None:
     """A cast between a function's address and an object's."""
-    source, wanted = node.inner[-1].plain, node.plain
+    source, wanted = unit.written_out(node.inner[-1].plain), unit.written_out(node.plain)
     if is_function(source) != is_function(wanted) and not is_null(node.inner[-1]):
         unit.note(Weight.PROBLEM, node.first, "conversion between a function's address and an object's", "keep it in a pointer to functions")
 

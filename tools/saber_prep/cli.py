@@ -13,7 +13,8 @@ from .telling import lines_of
 
 TEXT = """Writes a form of each C file that `load` takes, with the line numbers of the original, to a folder."""
 STATUS = """exit status: 0 each file is written and nothing is left that is named `not taken`; 1 such constructs are left;
-2 wrong words, or a file that cannot be read or written; 3 a file that the preprocessor or the parser refuses"""
+2 wrong words, or a file that cannot be read or written; 3 a file that the preprocessor or the parser refuses;
+4 a file of which too much is made, or for too long"""
 
 
 @dataclass(frozen=True)

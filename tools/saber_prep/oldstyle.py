@@ -40,8 +40,8 @@ def empty_parentheses(unit: Unit) -> None:
     for node in unit.nodes:
         if node.kind == "FunctionDecl" and any(it.kind == "ParmVarDecl" for it in node.inner):
             whole[node.name] = node
-    for node in unit.nodes:
-        if node.kind != "FunctionDecl" or node.body() is not None or node.name not in whole:
+    for node in unit.declared.values():
+        if node.kind != "FunctionDecl" or node.data.get("isImplicit") or node.body() is not None or node.name not in whole:
             continue
         opening = parameters_at(unit, node)
         if opening >= 0 and unit.text(opening + 1) == ")":

@@ -3,7 +3,7 @@ from __future__ import annotations
 
 import pathlib
 
-from . import bits, calls, casts, flatten, initialisers, integers, keep, members, oldstyle, problems, statements, structs, types, words
+from . import bits, calls, casts, flatten, initialisers, integers, keep, library, members, oldstyle, problems, statements, structs, types, words
 from .notes import Notes, Weight
 from .source import Options, read
 from .tree import deep, parsed
@@ -18,8 +18,11 @@ def unit_of(path: pathlib.Path, options: Options) -> Unit:
     notes = Notes()
     if not source.tokens:
         return Unit(source, options, [], None, notes)
-    nodes, flat = parsed(source)
+    nodes, flat, declared = library.declared(source, *parsed(source))
     unit = Unit(source, options, nodes, flat, notes)
+    library.tell(unit, declared)
+    if source.lacks_config:
+        unit.note(Weight.TOLD, 0, "config.h is not there", "an empty one is taken; -I with the folder of yours goes first")
     for origin in source.pragmas:
         if not origin.header:
             place = next((it for it, token in enumerate(unit.tokens) if token.origin.own >= origin.line), 0)

@@ -75,6 +75,7 @@ class Source:
     tokens: list[Token] = field(default_factory=list)
     pragmas: list[Origin] = field(default_factory=list)
     last_line: int = 0
+    lacks_config: bool = False
 
 
 def preprocessed(path: pathlib.Path, options: Options) -> str:
@@ -106,7 +107,7 @@ def run(words: list[str], given: bytes, path: pathlib.Path, most: int) -> subpro
         out.seek(0)
         ran.stdout = out.read()
     if len(ran.stdout) >= most or ran.returncode in (-signal.SIGXCPU, -signal.SIGXFSZ, -signal.SIGKILL):
-        raise Failure(f"{path}:1: clang makes more of it than can be worked on ({most >> 20} MiB, {MOST_SECONDS} s): cut the file into two", 3)
+        raise Failure(f"{path}:1: clang makes more of it than can be worked on ({most >> 20} MiB, {MOST_SECONDS} s): cut the file into two", 4)
     return ran
 
 
@@ -129,6 +130,7 @@ def read(path: pathlib.Path, options: Options) -> Source:
         found = MARKER.match(text)
         if found:
             file, line = found[2].replace('\\"', '"').replace("\\\\", "\\"), int(found[1])
+            source.lacks_config |= file == str(INCLUDE / "config.h")
             continue
         header = file != str(path)
         own = own if header else line

@@ -1,6 +1,8 @@
 """Structures as parameters and results: a pointer to one is passed instead, and the callee copies."""
 from __future__ import annotations
 
+from collections.abc import Iterator
+
 from .calls import callee
 from .edits import Part, Span
 from .initialisers import is_constant_member
@@ -10,6 +12,7 @@ from .tree import Node
 from .unit import UNNAMED, Unit
 
 STORAGE = {"static", "extern", "inline", "__inline", "__inline__", "__extension__", "_Noreturn"}
+QUALIFIERS = {"const", "volatile", "register"}
 RESULT = "saber_result"
 
 
@@ -18,6 +21,9 @@ def structures(unit: Unit) -> None:
     for node in unit.nodes:
         if node.kind == "FunctionDecl" and node.place >= 0:
             declaration(unit, node)
+    for node in unit.declared.values():
+        if node.kind in ("FieldDecl", "VarDecl", "ParmVarDecl", "TypedefDecl") and node.place >= 0 and node.name:
+            pointed(unit, node)
     for node in unit.inner_first():
         if node.kind == "CallExpr":
             call(unit, node)
@@ -46,6 +52,48 @@ def declaration(unit: Unit, node: Node) -> None:
     for parameter in taken(unit, node):
         pointer(unit, parameter, body)
         unit.note(Weight.PLAIN, node.place, "structure as a parameter")
+
+
+def pointed(unit: Unit, node: Node) -> None:
+    """The parameters in a declaration of a pointer to functions, or of a type of functions."""
+    opening = node.place + 1
+    while unit.text(opening) in (")", "["):
+        opening = unit.closing(opening) + 1 if unit.text(opening) == "[" else opening + 1
+    if unit.text(opening) != "(" or "(" not in node.type:
+        return
+    if gives_structure(unit, node):
+        unit.note(Weight.PROBLEM, node.place, "structure as a result through a pointer to functions", "give it a pointer to one to fill")
+    unnamed(unit, opening)
+
+
+def unnamed(unit: Unit, opening: int) -> None:
+    """`( struct s x , int )` becomes `( const struct s * , int )`; a parameter that is such a pointer itself has a list of its own."""
+    for first, last in listed(unit, opening):
+        at = first
+        while unit.text(at) in QUALIFIERS:
+            at += 1
+        end = at + (unit.text(at) in ("struct", "union"))
+        inner = next((it for it in range(end + 1, last + 1) if unit.text(it) == "("), -1)
+        if inner >= 0 and unit.text(unit.closing(inner) + 1) == "(":
+            unnamed(unit, unit.closing(inner) + 1)
+        elif all(unit.text(it).isidentifier() for it in range(end, last + 1)) and unit.record_of(unit.texts(at, end)) is not None:
+            unit.edits.replace(first, last, "const", Span(at, end), "*")
+            unit.note(Weight.PLAIN, first, "structure as a parameter")
+
+
+def listed(unit: Unit, opening: int) -> Iterator[tuple[int, int]]:
+    """The first and the last token of each parameter behind a bracket."""
+    first = place = opening + 1
+    closing = unit.closing(opening)
+    while place < closing:
+        if unit.text(place) in ("(", "["):
+            place = unit.closing(place)
+        elif unit.text(place) == ",":
+            yield first, place - 1
+            first = place + 1
+        place += 1
+    if first < closing:
+        yield first, closing - 1
 
 
 def result(unit: Unit, node: Node, opening: int) -> None:
@@ -117,8 +165,10 @@ def call(unit: Unit, node: Node) -> None:
     if not passed and not gives:
         return
     function = next((it for it in node.above() if it.kind == "FunctionDecl"), None)
-    if target is None or target.kind != "FunctionDecl" or function is None or UNNAMED.search(node.type):
-        unit.note(Weight.PROBLEM, node.first, "structure through a pointer to functions", "pass a pointer to one")
+    if gives and (target is None or target.kind != "FunctionDecl" or UNNAMED.search(node.type)):
+        unit.note(Weight.PROBLEM, node.first, "structure as a result through a pointer to functions", "give it a pointer to one to fill")
+        return
+    if function is None:
         return
     for argument in passed:
         address(unit, function, argument)

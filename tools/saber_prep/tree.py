@@ -127,7 +127,8 @@ def error_of(text: str, source: Source, made: Flat) -> str:
         return f"{source.path}: clang gives up"
     line = min(int(found[1]), len(made.lines)) - 1
     origin = source.tokens[made.lines[line]].origin
-    return f"{origin.file}:{origin.line}: {found[2]}"
+    advice = "; config.h was not there, and an empty one was taken: give the folder of yours by -I" if source.lacks_config else ""
+    return f"{origin.file}:{origin.line}: {found[2]}{advice}"
 
 
 def deep(work: Callable):

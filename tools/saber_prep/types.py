@@ -138,12 +138,15 @@ def is_truth(node: Node) -> bool:
 
 
 def type_of(unit: Unit) -> None:
-    """Writes the type that `typeof` means, where it stands before a name, `*` and a name, or a type."""
+    """Writes the type that `typeof` means, where it stands before a name, `*` and a name, or a type, or alone in a cast or before an object."""
+    casts = {it.first: it for it in unit.declared.values() if it.kind == "CStyleCastExpr"}
+    objects = {it.place: it for it in unit.declared.values() if it.kind == "VarDecl"}
     for place, token in enumerate(unit.tokens):
         if token.text not in ("typeof", "__typeof", "__typeof__") or unit.text(place + 1) != "(":
             continue
         end = unit.closing(place + 1)
-        meant = meant_type(unit, place + 2, end - 1)
+        used = casts.get(place - 1) if unit.text(end + 1) == ")" else objects.get(end + 1) if unit.text(place - 1) not in ("const", "volatile") else None
+        meant = meant_type(unit, place + 2, end - 1) or used and plain_type(used)
         declared = next((it for it in unit.nodes if it.kind == "FunctionDecl" and it.first <= place < it.place), None)
         if meant is None:
             unit.note(Weight.PROBLEM, place, "typeof", "write the type")
@@ -155,6 +158,11 @@ def type_of(unit: Unit) -> None:
         else:
             unit.edits.replace(place, end, unit.spelled(meant))
             unit.note(Weight.PLAIN, place, "typeof")
+
+
+def plain_type(node: Node) -> str | None:
+    """The type of a cast or an object, if it can be written in front."""
+    return None if "[" in node.plain or "(" in node.plain else node.plain
 
 
 def meant_type(unit: Unit, first: int, last: int) -> str | None:

@@ -129,6 +129,17 @@ class Unit:
         return [it for root in self.nodes for it in reversed(list(root.walk()))]
 
     @cached_property
+    def _function_types(self) -> dict[str, str]:
+        """The types of functions that have a name, by it."""
+        return {it.name: it.plain for it in self.declared.values() if it.kind == "TypedefDecl" and re.match(r"[^(]*\((?!\*)", it.plain)}
+
+    def written_out(self, type_text: str) -> str:
+        """A type; one of pointers to functions of a named type as if it were written without the name."""
+        text = QUALIFIERS.sub(" ", type_text).strip()
+        named = self._function_types.get(text[:-1].strip()) if text.endswith("*") else None
+        return named.replace("(", "(*)(", 1) if named else type_text
+
+    @cached_property
     def statics(self) -> set[str]:
         """The names of file scope that are the file's own."""
         return {it.name for it in self.nodes if it.data.get("storageClass") == "static" or it.kind == "FunctionDecl" and it.data.get("inline")}

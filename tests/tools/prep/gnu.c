@@ -66,6 +66,8 @@ int main(void)
     printf("%c %d %s\n", *(char *)skip(bytes, 1), signs(bytes, "q"), class_of('7'));
     printf("%s %s %d %d\n", class_of('c'), class_of('g'), again(4), twice(again(1)));
     printf("%d %.3s\n", packet->length, packet->data);
+    __typeof__(packet->length) kept = packet->length + 300;
+    printf("%d %d\n", kept, (__typeof__(packet->data[0]))kept);
     outer(0);
     outer(1);
     ;

@@ -9,6 +9,9 @@
 
 static void *answer(int kind) { return kind == 0 ? NULL : kind < 0 ? FAILED : (void *)(intptr_t)kind; }
 static int order(const void *a, const void *b) { return *(const int *)a - *(const int *)b; }
+static int by_int(const int *a, const int *b) { return *b - *a; }
+typedef int (comparing)(const void *, const void *);
+static comparing *chosen = (comparing *)order;
 static void *const marks[2] = { (void *)1, (void *)7 };
 
 int main(void)
@@ -17,6 +20,8 @@ int main(void)
     qsort(values, 7, sizeof *values, order);
     for (int i = 0; i < 7; i++)
         printf("%d ", values[i]);
+    comparing *other = (comparing *)by_int;
+    printf("%d %d\n", chosen(values, values + 1), ((int (*)(const int *, const int *))other)(values, values + 1));
     int *found = bsearch(&wanted, values, 7, sizeof *values, order);
     printf("%d %d\n", (int)(found - values), bsearch(&errno, values, 7, sizeof *values, order) == NULL);
     printf("%d %d %d\n", answer(0) == NULL, answer(-2) == FAILED, (int)(intptr_t)answer(42));

@@ -48,6 +48,17 @@ static struct list none(void)
 extern struct list nothing(void) __attribute__((alias("none")));
 extern struct list with(const struct list l, int item) __attribute__((alias("pushed")));
 
+/* the same through pointers to functions */
+typedef int (*measure)(struct list, void *user);
+typedef long twice(complex c, long (*inner)(complex, long), long n);
+static struct { long (*first)(complex); measure second; void (*table[2])(const complex c, long); } calls;
+
+static long sum(complex c) { c.real += c.imaginary; return c.real; }
+static int counted(struct list l, void *user) { *(int *)user += l.count; l.count = 0; return l.items[1]; }
+static void show(const complex c, long n) { printf("%ld %ld %ld\n", c.real, c.imaginary, n); }
+static long scaled(complex c, long n) { return (c.real + c.imaginary) * n; }
+static long both(complex c, long (*inner)(complex, long), long n) { return inner(c, n) + (*inner)(c, n + 1); }
+
 static complex *at(complex *all, int n) { return &all[n]; }
 
 int main(void)
@@ -67,5 +78,13 @@ int main(void)
     div_t d = div(-17, 5);
     ldiv_t e = ldiv(17L, -5L);
     printf("%d %d %ld %ld\n", d.quot, d.rem, e.quot, e.rem);
+    twice *f = both;
+    int count = 4;
+    calls.first = sum;
+    calls.second = counted;
+    calls.table[0] = calls.table[1] = show;
+    printf("%ld %d\n", calls.first(made(3, 4)), (*calls.second)(l, &count));
+    calls.table[l.count - 2](times(all[1], made(1, 0)), count);
+    printf("%ld\n", f(all[0], scaled, 2));
     return 0;
 }
